@@ -1,0 +1,9 @@
+pub mod Tests
+pub mod Loops
+pub mod Entries
+pub mod Segments
+pub mod Each
+pub mod Lows
+pub mod Fields
+pub mod Whole
+pub mod Procedures

@@ -1,0 +1,150 @@
+-- A code file, read by its checks in their order.
+use Rattle.std.specs.Prelude.{◌≡◌, ℕ, zero, suc, ◌+◌, ◌-◌, ◌*◌, ◌/◌, ◌%◌, max, nat_lt, nat_le, ◌==◌, ◌&&◌, ◌||◌, not, if◌then◌else◌, Bool, ◌⊎◌, List, [], ◌∷◌, length, Option, Some, None, Result, Ok, Err, IsOk, slice_index, slice_range}
+use Rattle.pcode_file.specs.declared.fault.FileFault.{FileFault}
+use Rattle.pcode_file.specs.declared.fault.FileFault.TheVariants.{Short, NoSegment, SeveralSegments, Unlinked, SegmentRange, DictionaryRange, AttributeRange, Native, Level, OddSize, Memory}
+use Rattle.pcode_file.specs.declared.file.Proc.{Proc}
+use Rattle.pcode_file.specs.Parts.{Parts, word, name_at}
+
+-- the first fault, or what comes of the value
+infixl 10 ◌>>=◌
+abbrev pub ◌>>=◌ : {A B : Type 0} → Result A FileFault → (A → Result B FileFault) → Result B FileFault
+(Ok x) >>= f = f x
+(Err e) >>= f = Err e
+
+-- an answer, seen by a view of its value
+abbrev pub seen : {A B : Type 0} → (A → B) → Result A FileFault → Result B FileFault
+seen view (Ok x) = Ok (view x)
+seen view (Err e) = Err e
+
+-- ---- the first and second check: the one entry in use, and the segment's bytes
+
+-- the first entry in use among n from k on
+unfoldable pub used_from : List ℕ → ℕ → ℕ → Option ℕ
+used_from bytes k zero = None
+used_from bytes k (suc n) = if word bytes (4 * k + 2) == 0 then used_from bytes (k + 1) n else Some k
+
+abbrev pub alone : ℕ → Option ℕ → Result ℕ FileFault
+alone k None = Ok k
+alone k (Some j) = Err SeveralSegments
+
+abbrev pub first_alone : List ℕ → Option ℕ → Result ℕ FileFault
+first_alone bytes None = Err NoSegment
+first_alone bytes (Some k) = alone k (used_from bytes (k + 1) (16 - (k + 1)))
+
+unfoldable pub entry_of : List ℕ → Result ℕ FileFault
+entry_of bytes = first_alone bytes (used_from bytes 0 16)
+
+abbrev pub bytes_of : List ℕ → ℕ → ℕ → ℕ → Result (ℕ × List ℕ) FileFault
+bytes_of bytes k start len =
+    if (start == 0) || nat_lt (length bytes) (start + len) then Err SegmentRange
+    else if len % 2 == 0 then Ok (k, slice_range bytes start (start + len))
+    else Err (OddSize 0)
+
+abbrev pub linked : List ℕ → ℕ → Result (ℕ × List ℕ) FileFault
+linked bytes k = if word bytes (192 + 2 * k) == 0 then bytes_of bytes k (512 * word bytes (4 * k)) (word bytes (4 * k + 2)) else Err Unlinked
+
+unfoldable pub segment_of : List ℕ → Result (ℕ × List ℕ) FileFault
+segment_of bytes = if nat_lt (length bytes) 512 then Err Short else (entry_of bytes >>= linked bytes)
+
+-- ---- the third check: how many procedures; more than one are not read yet
+
+abbrev pub count_of : List ℕ → Result ℕ FileFault
+count_of segment =
+    let n = slice_index segment (length segment - 1) in
+    if (n == 0) || nat_lt 1 n || nat_lt (length segment) (2 + 2 * n) then Err DictionaryRange else Ok n
+
+-- ---- the fourth check of procedure i, which answers its table's place
+
+-- a place that leads below the segment is 0, which no table's place is
+abbrev pub table_of : List ℕ → ℕ → ℕ
+table_of segment i = length segment - 2 - 2 * i - word segment (length segment - 2 - 2 * i)
+
+abbrev pub is_level : ℕ → ℕ → Bool
+is_level i level = if i == 1 then level == 0 else (nat_lt 0 level && nat_le level 127)
+
+abbrev pub table_from : List ℕ → ℕ → ℕ → ℕ → Result ℕ FileFault
+table_from segment n i t =
+    if not (t % 2 == 0) || nat_lt t 8 || nat_lt (length segment - 2 - 2 * n) (t + 2) then Err (AttributeRange i)
+    else if slice_index segment t == 0 then Err (Native i)
+    else if not (slice_index segment t == i) then Err (AttributeRange i)
+    else if not (is_level i (slice_index segment (t + 1))) then Err (Level i)
+    else if not (word segment (t - 6) % 2 == 0) || not (word segment (t - 8) % 2 == 0) then Err (OddSize i)
+    else Ok t
+
+unfoldable pub table_at : List ℕ → ℕ → ℕ → Result ℕ FileFault
+table_at segment n i = table_from segment n i (table_of segment i)
+
+-- ---- the fifth check of procedure i, which answers the procedure
+
+abbrev pub behind_table : ℕ → ℕ → ℕ
+behind_table table at = if nat_lt table at then table + 2 else 0
+
+-- two above the greatest table below `at` among those of n procedures from i on, or 0
+abbrev pub low_from : List ℕ → ℕ → ℕ → ℕ → ℕ
+low_from segment at i zero = 0
+low_from segment at i (suc n) = max (behind_table (table_of segment i) at) (low_from segment at (i + 1) n)
+
+abbrev pub low_of : List ℕ → ℕ → ℕ → ℕ
+low_of segment n at = low_from segment at 1 n
+
+-- what the self-relative pointer at a place leads to, if that lies from low up to end
+abbrev pub inside : List ℕ → ℕ → ℕ → ℕ → Option ℕ
+inside segment place low end =
+    if nat_lt place (word segment place) then None
+    else if nat_lt (place - word segment place) low then None
+    else if nat_le end (place - word segment place) then None
+    else Some (place - word segment place)
+
+abbrev pub within_part : ℕ → Option ℕ → Result ℕ FileFault
+within_part i None = Err (AttributeRange i)
+within_part i (Some x) = Ok x
+
+abbrev pub proc_from : List ℕ → ℕ → ℕ → ℕ → Result Proc FileFault
+proc_from segment i at low =
+    if nat_lt (at - 8) low then Err (AttributeRange i) else
+    (within_part i (inside segment (at - 2) low (at - 8)) >>= λ enter.
+    within_part i (inside segment (at - 4) low (at - 8)) >>= λ exit.
+    Ok (record {
+      number = i;
+      level = slice_index segment (at + 1);
+      enter = enter;
+      exit = exit;
+      jtab = at;
+      low = low;
+      params = word segment (at - 6) / 2;
+      vars = word segment (at - 8) / 2;
+    }))
+
+unfoldable pub proc_at : List ℕ → ℕ → ℕ → Result Proc FileFault
+proc_at segment n i = table_at segment n i >>= λ at. proc_from segment i at (low_of segment n at)
+
+-- ---- over n procedures from i on: the first fault, or all answers
+
+unfoldable pub all_of : {A : Type 0} → (ℕ → Result A FileFault) → ℕ → ℕ → Result (List A) FileFault
+all_of f i zero = Ok []
+all_of f i (suc n) = f i >>= λ x. all_of f (i + 1) n >>= λ xs. Ok (x ∷ xs)
+
+unfoldable pub first_of : {A : Type 0} → (ℕ → Result A FileFault) → ℕ → ℕ → Result Unit FileFault
+first_of f i zero = Ok tt
+first_of f i (suc n) = f i >>= λ x. first_of f (i + 1) n
+
+-- ---- the whole file
+
+-- the fourth check goes over all procedures before the fifth begins
+unfoldable pub read_from : List ℕ → Result Parts FileFault
+read_from bytes =
+    segment_of bytes >>= λ s.
+    count_of s.1 >>= λ n.
+    first_of (table_at s.1 n) 1 n >>= λ _.
+    all_of (proc_at s.1 n) 1 n >>= λ procs.
+    Ok (record {
+      name = name_at bytes s.0;
+      segment = s.1;
+      number = slice_index s.1 (length s.1 - 2);
+      procs = procs;
+    })
+
+-- what was answered is what reading gives, unless memory ran out for what would be read
+abbrev pub Gives : {X : Type 0} → Result X FileFault → Result X FileFault → Type 0
+Gives (Ok x) read = read ≡ Ok x
+Gives (Err e) read = ((e ≡ Memory) × IsOk read) ⊎ (read ≡ Err e)

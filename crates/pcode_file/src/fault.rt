@@ -1,0 +1,54 @@
+//! Why a code file is refused.
+ghost use Rattle.std.specs.Prelude.{◌≡◌};
+ghost use Rattle.pcode_file.specs.declared.fault.FileFault.TheVariants.{Memory};
+
+use std::alloc::AllocError;
+use thiserror::Error;
+
+/// The first check that a file fails, in the order of the checks. Its text is the refusal's code,
+/// with the procedure where there is one: `F3`, `F7 procedure 2`.
+#[derive(Clone, Copy, Debug, PartialEq, Eq, Error)]
+pub enum FileFault {
+    /// The file is shorter than block 0, which has 512 bytes.
+    #[error("F1")]
+    Short,
+    /// No entry of block 0 has a length.
+    #[error("F2")]
+    NoSegment,
+    /// More than one entry of block 0 has a length.
+    #[error("F3")]
+    SeveralSegments,
+    /// The segment's kind is not linked, which is 0.
+    #[error("F4")]
+    Unlinked,
+    /// The segment begins in block 0 or ends behind the file.
+    #[error("F5")]
+    SegmentRange,
+    /// The segment has no procedures, more than its dictionary has room for, or more than one.
+    #[error("F6")]
+    DictionaryRange,
+    /// A pointer or a number in the attribute table of this procedure is out of range.
+    #[error("F7 procedure {0}")]
+    AttributeRange(u8),
+    /// This procedure is native code.
+    #[error("F8 procedure {0}")]
+    Native(u8),
+    /// The lex level of this procedure is out of range.
+    #[error("F9 procedure {0}")]
+    Level(u8),
+    /// The size of the parameters or of the data of this procedure is an odd number of bytes; of
+    /// procedure 0, the segment's length is.
+    #[error("F10 procedure {0}")]
+    OddSize(u8),
+    /// There is no memory. All checks have passed by then.
+    #[error("F11")]
+    Memory,
+}
+
+impl From<AllocError> for FileFault {
+    ghost from_gives = { λ _ fault. fault ≡ Memory };
+
+    fn from(_error: AllocError) -> FileFault {
+        FileFault::Memory
+    }
+}

@@ -1,0 +1,177 @@
+//! Code files and procedures.
+ghost use Rattle.std.specs.Prelude.{◌≡◌, ℕ, ◌<◌, ◌≤◌, ◌+◌, ◌*◌, ◌^◌, length, IfOk, IfSome, Ok};
+ghost use Rattle.pcode_file.specs.InFile.{InFile, HasProc, AreProcs};
+ghost use Rattle.pcode_file.specs.Parts.{Parts, procedure_of, name_at};
+ghost use Rattle.pcode_file.specs.Checks.{Gives, seen, all_of, proc_at, first_of, read_from};
+
+use crate::checks::{check_procedures, check_tables, count, procedure, segment};
+use crate::fault::FileFault;
+use std::alloc::Global;
+use std::marker::Model;
+
+/// A procedure of a segment. Offsets are in bytes from the segment's start.
+#[derive(Clone, Copy, Debug, PartialEq, Eq)]
+pub struct Proc {
+    /// Its number, from 1 on.
+    pub number: u8,
+    /// Its lex level: 0 for procedure 1, otherwise 1 to 127.
+    pub level: u8,
+    /// The offset of its first instruction.
+    pub enter: u32,
+    /// The offset of the code that leaves it.
+    pub exit: u32,
+    /// The offset of its attribute table's highest word. The part ends 8 bytes below.
+    pub jtab: u32,
+    /// The offset at which its part begins.
+    pub low: u32,
+    /// The size of its parameters in words.
+    pub params: u16,
+    /// The size of its data in words.
+    pub vars: u16,
+}
+
+/// A code file that passed all checks.
+#[derive(Drop)]
+pub struct CodeFile {
+    name: [u8; 8],
+    segment: Vec<u8>,
+    number: u8,
+    procs: Vec<Proc>,
+}
+
+impl Model for CodeFile {
+    ghost use Rattle.pcode_file.specs.Parts.{Parts};
+
+    ghost Value = { Parts };
+
+    ghost use Rattle.pcode_file.specs.InFile.{IsWhole};
+
+    ghost view = { λ f. record { name = f.name; segment = f.segment.items; number = f.number; procs = f.procs.items } };
+
+    ghost invariant = { λ f. IsWhole (record { name = f.name; segment = f.segment.items; number = f.number; procs = f.procs.items }) };
+}
+
+/// The procedure with a number from 1 on.
+fn numbered(procs: &[Proc], i: u8) -> Option<Proc>
+    ensures { result ≡ procedure_of procs.now i }
+{
+    if i == 0 {
+        return None;
+    }
+    procs.get(usize::from(i) - 1).copied()
+}
+
+/// The procedures of a segment, in the order of their numbers.
+fn collected(alloc: Global, segment: &[u8], n: u8) -> Result<Vec<Proc>, FileFault>
+    requires dictionary { 2 + 2 * n ≤ length segment.now }
+    requires size { length segment.now < 2 ^ 16 }
+    requires checked { first_of (proc_at segment.now n) 1 n ≡ Ok tt }
+    ensures { Gives (seen (λ v. v.items) result) (all_of (proc_at segment.now n) 1 n) }
+{
+    let mut procs = Vec::with_capacity(alloc, usize::from(n))?;
+    for k in 0..n {
+        let found = procedure(segment, n, k + 1)?;
+        if procs.push(found).is_err() {
+            return Err(FileFault::Memory);
+        }
+    }
+    Ok(procs)
+}
+
+/// The name in entry `k` of block 0, where the names of 8 bytes stand from byte 64 on.
+fn name_of(bytes: &[u8], k: usize) -> [u8; 8]
+    requires long { 512 ≤ length bytes.now }
+    requires k { k < 16 }
+    ensures { result ≡ name_at bytes.now k }
+{
+    let at = 64 + 8 * k;
+    [
+        bytes[at],
+        bytes[at + 1],
+        bytes[at + 2],
+        bytes[at + 3],
+        bytes[at + 4],
+        bytes[at + 5],
+        bytes[at + 6],
+        bytes[at + 7],
+    ]
+}
+
+/// All checks in their order; then memory is taken.
+#[tactic(auto, unfolding(crate::specs::Checks::read_from))]
+fn read_checked(alloc: Global, bytes: &[u8]) -> Result<CodeFile, FileFault>
+    ensures { Gives result (read_from bytes.now) }
+{
+    let (k, part) = segment(bytes)?;
+    let n = count(part)?;
+    check_tables(part, n)?;
+    check_procedures(part, n)?;
+    let procs = collected(alloc, part, n)?;
+    let segment = Vec::from_slice(alloc, part)?;
+    Ok(CodeFile {
+        name: name_of(bytes, k),
+        segment,
+        number: part[part.len() - 2],
+        procs,
+    })
+}
+
+impl CodeFile {
+    /// Reads a whole file. All checks come before memory is taken.
+    pub fn read(alloc: Global, bytes: &[u8]) -> Result<CodeFile, FileFault>
+        // What is read is in the grammar.
+        ensures found { IfOk result (InFile bytes.now) }
+        // What is in the grammar is read, unless memory runs out; more than one procedure is not read yet.
+        ensures only { (p : Parts) → InFile bytes.now p → length p.procs ≤ 1 → Gives result (Ok p) }
+        // Which fault is the first.
+        ensures exact { Gives result (read_from bytes.now) }
+    {
+        read_checked(alloc, bytes)
+    }
+
+    /// The segment's bytes.
+    pub fn segment(&self) -> &[u8]
+        ensures value { result.now ≡ self.now.segment }
+        ensures size { length result.now < 2 ^ 16 }
+    {
+        self.segment.as_slice()
+    }
+
+    /// The segment's name, as it stands in block 0.
+    pub fn name(&self) -> [u8; 8]
+        ensures { result ≡ self.now.name }
+    {
+        self.name
+    }
+
+    /// The segment's number.
+    pub fn number(&self) -> u8
+        ensures { result ≡ self.now.number }
+    {
+        self.number
+    }
+
+    /// How many procedures there are, at least one.
+    pub fn count(&self) -> u8
+        ensures value { result ≡ length self.now.procs }
+        ensures some { 0 < result }
+    {
+        self.procs.len() as u8
+    }
+
+    /// A procedure by its number, from 1 to the count.
+    pub fn procedure(&self, i: u8) -> Option<Proc>
+        ensures value { result ≡ procedure_of self.now.procs i }
+        ensures part { IfSome result (HasProc self.now.segment (length self.now.procs) i) }
+    {
+        numbered(self.procs.as_slice(), i)
+    }
+
+    /// All procedures, in the order of their numbers.
+    pub fn procedures(&self) -> &[Proc]
+        ensures value { result.now ≡ self.now.procs }
+        ensures parts { AreProcs self.now.segment self.now.procs }
+    {
+        self.procs.as_slice()
+    }
+}

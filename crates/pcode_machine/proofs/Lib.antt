@@ -1,0 +1,5 @@
+pub mod Inputs
+pub mod Longer
+pub mod Waits
+pub mod Related
+pub mod Steps

@@ -1,0 +1,53 @@
+-- What a machine is made of, and where a program begins.
+use Rattle.std.specs.Prelude.{ℕ, ◌+◌, ◌-◌, nat_le, if◌then◌else◌, List, [], ◌∷◌, length, replicate, slice_get, Option, Some, None}
+use Rattle.pcode_file.specs.declared.file.Proc.{Proc}
+use Rattle.pcode_file.specs.Parts.{Parts, procedure_of}
+use Rattle.pcode_machine.specs.declared.turn.Frame.{Frame}
+use Rattle.pcode_machine.specs.declared.turn.Transfer.{Transfer}
+
+-- What the machine keeps: the live words from word 1 on; the frames, the main frame first and the current
+-- one last; the evaluation stack, its top first; the next offset; IORESULT; and the bytes still to be moved.
+pub record State : Type 0 where
+  pub words : List ℕ
+  pub frames : List Frame
+  pub stack : List ℕ
+  pub next : ℕ
+  pub io_result : ℕ
+  pub transfer : Option Transfer
+
+-- a configuration: a state, the number of input bytes read, and the output
+pub record Configuration : Type 0 where
+  pub state : State
+  pub read : ℕ
+  pub output : List ℕ
+
+abbrev pub joined : State → ℕ → List ℕ → Configuration
+joined s n output = record { state = s; read = n; output = output }
+
+-- the frame that is executed, if there is one
+abbrev pub current_of : List Frame → Option Frame
+current_of frames = slice_get frames (length frames - 1)
+
+-- a state without a frame, where the main frame does not fit
+abbrev pub unframed : ℕ → State
+unframed enter = record { words = []; frames = []; stack = []; next = enter; io_result = 0; transfer = None }
+
+-- a state at ENTER with a main frame of so many words, all zero
+abbrev pub framed : ℕ → ℕ → State
+framed enter size = record {
+  words = replicate size 0;
+  frames = (record { procedure = 1; base = 0; size = size; link = 0; back = 0 }) ∷ [];
+  stack = [];
+  next = enter;
+  io_result = 0;
+  transfer = None;
+}
+
+-- the start of procedure 1, which every file has
+abbrev pub start_of : Option Proc → State
+start_of None = unframed 0
+start_of (Some q) = if nat_le (q.params + q.vars) 16383 then framed q.enter (q.params + q.vars) else unframed q.enter
+
+-- the state at the start of a program
+abbrev pub start : Parts → State
+start p = start_of (procedure_of p.procs 1)

@@ -1,0 +1,11 @@
+pub mod Words
+pub mod Configuration
+pub mod Loads
+pub mod Stores
+pub mod Transfers
+pub mod Execute
+pub mod Outcome
+pub mod Step
+pub mod Runs
+pub mod Turns
+pub mod Ready

@@ -1,0 +1,34 @@
+-- Transfers between memory and a unit: the call that begins one, and each byte.
+use Rattle.std.specs.Prelude.{ℕ, ◌-◌, nat_lt, ◌==◌, ◌||◌, if◌then◌else◌, Bool, List, ◌∷◌, Option, Some, None, Result, Ok, Err, pos, ◌+ℤ◌}
+use Rattle.std.specs.Int.{w16, cast_signed}
+use Rattle.pcode_machine.specs.declared.turn.Direction.{Direction}
+use Rattle.pcode_machine.specs.declared.turn.Transfer.{Transfer}
+use Rattle.pcode_machine.specs.declared.turn.Stop.{Stop}
+use Rattle.pcode_machine.specs.declared.turn.Stop.TheVariants.{Error}
+use Rattle.pcode_machine.specs.Configuration.{State}
+
+-- units 1 (CONSOLE:) and 2 (SYSTERM:)
+abbrev pub is_console : ℕ → Bool
+is_console unit = (unit == 1) || (unit == 2)
+
+-- the transfer that a call begins, if there is a byte to move: a length is signed, a byte address is the
+-- base plus the signed index
+abbrev pub begun : Direction → ℕ → ℕ → ℕ → ℕ → ℕ → Option Transfer
+begun direction unit base index len at =
+    if is_console unit then
+    if nat_lt 0 len then
+    if nat_lt len 32768 then
+    Some (record { direction = direction; unit = unit; address = pos base +ℤ cast_signed w16 index; left = len; at = at })
+    else None
+    else None
+    else None
+
+-- the call pops mode, block, length, index, base and unit, the last pushed first; mode and block are ignored
+abbrev pub called : Direction → ℕ → State → List ℕ → Result State Stop
+called direction j s (mode ∷ block ∷ len ∷ index ∷ base ∷ unit ∷ rest) =
+    Ok (record s { stack = rest; next = j; io_result = if is_console unit then 0 else 2; transfer = begun direction unit base index len s.next })
+called direction j s _ = Err (Error 0)
+
+-- what is left of a transfer after one byte
+abbrev pub later : Transfer → Option Transfer
+later t = if nat_lt 1 t.left then Some (record t { address = t.address +ℤ pos 1; left = t.left - 1 }) else None

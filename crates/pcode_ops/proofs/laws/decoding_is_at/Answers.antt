@@ -1,0 +1,5 @@
+use Rattle.pcode_ops.proofs.Decoding.{at_decoded, decoded_at}
+use Rattle.pcode_ops.proofs.laws.decoding_is_at.Goals as goal
+
+pub returns : goal.returns
+returns c = λ code i instr j. (decoded_at code i instr j, at_decoded code i instr j)

@@ -1,0 +1,5 @@
+use Rattle.pcode_ops.proofs.Longer.{decoded_longer}
+use Rattle.pcode_ops.proofs.laws.same_in_longer_code.Goals as goal
+
+pub returns : goal.returns
+returns c = decoded_longer

@@ -1,0 +1,4 @@
+pub mod At
+pub mod Loading
+pub mod Reach
+pub mod Walks

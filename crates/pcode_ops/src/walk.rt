@@ -1,0 +1,160 @@
+//! The search over offsets: which are reached.
+ghost use Rattle.std.specs.Prelude.{◌≡◌, ◌+◌, ◌*◌, ◌<◌, ◌≤◌, ◌↔◌, [], length, replicate, slice_get, Some, IsTrue, IfOk, IfSome, false};
+ghost use Rattle.pcode_file.specs.Parts.{word};
+ghost use Rattle.pcode_ops.specs.Loading.{IsEntry, LeadsTo};
+ghost use Rattle.pcode_ops.specs.Walks.{Marks, IsMarked, IsListing, IsWithin, Adds, IsStarted, IsExact};
+
+use crate::look::{Onward, examine, parts};
+use pcode_file::CodeFile;
+use std::alloc::{AllocError, Global};
+use std::marker::Model;
+
+/// A flag for each offset, and the flagged offsets in the order in which they were found.
+#[derive(Drop)]
+pub(crate) struct Walk {
+    flags: Vec<bool>,
+    found: Vec<u32>,
+}
+
+impl Model for Walk {
+    ghost use Rattle.std.specs.Prelude.{vec_len, vec_capacity};
+    ghost use Rattle.pcode_ops.specs.Walks.{Marks, IsRoomy};
+
+    ghost Value = { Marks };
+
+    ghost view = { λ w. record { flags = w.flags.items; found = w.found.items } };
+
+    ghost invariant = { λ w. IsRoomy (record { flags = w.flags.items; found = w.found.items }) (vec_len w.flags) (vec_capacity w.found) };
+}
+
+impl Walk {
+    /// Nothing is found yet, and there is room for as many offsets as the size.
+    pub(crate) fn new(alloc: Global, size: usize) -> Result<Walk, AllocError>
+        ensures { IfOk result (λ w. w ≡ record { flags = replicate size false; found = [] }) }
+    {
+        let flags = vec![in alloc; false; size]?;
+        let found = Vec::with_capacity(alloc, size)?;
+        Ok(Walk { flags, found })
+    }
+
+    /// Whether an offset is found.
+    pub(crate) fn has(&self, at: u32) -> bool
+        ensures { IsTrue result ↔ IsMarked self.now at }
+    {
+        match self.flags.get(at as usize) {
+            Some(flag) => *flag,
+            None => false,
+        }
+    }
+
+    /// How many offsets are found.
+    pub(crate) fn len(&self) -> usize
+        ensures value { result ≡ length self.now.found }
+        ensures listing { IsListing self.now }
+        ensures fits { result ≤ length self.now.flags }
+    {
+        self.found.len()
+    }
+
+    /// The offset that was found after `k` others.
+    pub(crate) fn get(&self, k: usize) -> u32
+        requires { k < length self.now.found }
+        ensures { slice_get self.now.found k ≡ Some result }
+    {
+        self.found[k]
+    }
+
+    /// Marks an offset.
+    fn mark(&mut self, at: u32)
+        requires { at < length self.old.flags }
+        ensures { Adds (λ i. i ≡ at) self.old self.new }
+    {
+        if self.flags[at as usize] {
+            return;
+        }
+        self.flags[at as usize] = true;
+        self.found.push(at).unwrap();
+    }
+}
+
+/// The word at an offset, its low byte first.
+fn word_at(segment: &[u8], at: usize) -> u16
+    requires { at + 1 < length segment.now }
+    ensures { result ≡ word segment.now at }
+{
+    u16::from(segment[at]) + 256 * u16::from(segment[at + 1])
+}
+
+/// Marks an offset, if there is one.
+fn mark_some(walk: &mut Walk, at: Option<u32>)
+    requires { IfSome at (λ i. i < length walk.old.flags) }
+    ensures { Adds (λ i. at ≡ Some i) walk.old walk.new }
+{
+    if let Some(i) = at {
+        walk.mark(i);
+    }
+}
+
+/// Marks what the entries of a case table point to.
+fn mark_entries(file: &CodeFile, walk: &mut Walk, table: u32, count: u32)
+    requires table { table + 2 * count ≤ length file.now.segment }
+    requires size { length walk.old.flags ≡ length file.now.segment }
+    ensures { Adds (IsEntry file.now.segment table count) walk.old walk.new }
+{
+    let segment = file.segment();
+    for k in 0..count {
+        let place = table + 2 * k;
+        let word = word_at(segment, place as usize);
+        walk.mark(place.saturating_sub(u32::from(word)));
+    }
+}
+
+/// Marks where an offset leads.
+fn mark_onward(file: &CodeFile, walk: &mut Walk, onward: Onward)
+    requires within { IsWithin (length file.now.segment) onward }
+    requires size { length walk.old.flags ≡ length file.now.segment }
+    ensures { Adds (LeadsTo file.now.segment onward) walk.old walk.new }
+{
+    mark_some(walk, onward.next);
+    mark_some(walk, onward.target);
+    mark_entries(file, walk, onward.table, onward.count);
+}
+
+/// Marks each ENTER and EXIT.
+fn mark_starts(file: &CodeFile, walk: &mut Walk)
+    requires { IsStarted file.now 0 walk.old }
+    ensures { IsStarted file.now (length file.now.procs) walk.new }
+{
+    for part in parts(file) {
+        walk.mark(part.enter);
+        walk.mark(part.exit);
+    }
+}
+
+/// Looks at what is found until nothing more is.
+fn search_on(file: &CodeFile, walk: &mut Walk)
+    requires { IsStarted file.now (length file.now.procs) walk.old }
+    ensures exact { IsExact file.now walk.new }
+    ensures size { length walk.new.flags ≡ length file.now.segment }
+{
+    let mut done = 0;
+    while done < walk.len() {
+        let at = walk.get(done);
+        match examine(file, at) {
+            Ok(onward) => mark_onward(file, walk, onward),
+            Err(_) => {}
+        }
+        done += 1;
+    }
+}
+
+/// The reached offsets; only memory is a reason for none.
+pub(crate) fn walk_over(alloc: Global, file: &CodeFile) -> Result<Walk, AllocError>
+    ensures exact { IfOk result (IsExact file.now) }
+    ensures size { IfOk result (λ w. length w.flags ≡ length file.now.segment) }
+{
+    let mut walk = Walk::new(alloc, file.segment().len())?;
+    mark_starts(file, &mut walk);
+    search_on(file, &mut walk);
+    Ok(walk)
+}

@@ -1,0 +1,172 @@
+//! What the program does with its words.
+use crate::files::{FileError, read_file};
+use crate::run::{Finish, RunIo, run_program};
+use crate::streams::{CountingReader, CountingWriter};
+use crate::words::{Asked, NotAsked, STEPS, read_words};
+use pcode_file::{CodeFile, FileFault};
+use pcode_machine::End;
+use pcode_ops::{LoadFault, Program};
+use std::alloc::Global;
+use std::io::{Read, Write};
+use std::rt::Files;
+use thiserror::Error;
+
+/// The code file of the built-in program's segment, which writes one letter: an entry of block 0 says that
+/// it has 28 bytes and begins in block 1.
+static SEGMENT: [u8; 28] = [
+    0x41, 0xab, 0x03, 0x01, 0xa5, 0x03, 0x00, 0x01, 0x00, 0x00, 0x9e, 0x06, 0xc1, 0x00, 0x02, 0x00,
+    0x04, 0x00, 0x06, 0x00, 0x14, 0x00, 0x01, 0x00, 0x02, 0x00, 0x01, 0x01,
+];
+
+/// What is refused, with status 1. Its text stands behind the word `refused`.
+#[derive(Clone, Copy, Debug, Error)]
+pub enum Refusal {
+    #[error("file")]
+    File,
+    #[error(transparent)]
+    CodeFile(FileFault),
+    #[error("{0}")]
+    Load(LoadFault),
+    #[error(transparent)]
+    Run(RunIo),
+}
+
+impl From<FileError> for Refusal {
+    fn from(error: FileError) -> Refusal {
+        match error {
+            FileError::Unreadable => Refusal::File,
+            FileError::Memory => Refusal::Run(RunIo::Memory),
+        }
+    }
+}
+
+impl From<FileFault> for Refusal {
+    fn from(fault: FileFault) -> Refusal {
+        Refusal::CodeFile(fault)
+    }
+}
+
+impl From<RunIo> for Refusal {
+    fn from(fault: RunIo) -> Refusal {
+        Refusal::Run(fault)
+    }
+}
+
+/// The built-in code file: block 0, then the segment.
+fn built_in() -> [u8; 540] {
+    let mut bytes = [0u8; 540];
+    bytes[4] = 1;
+    bytes[6] = 28;
+    bytes[512..].copy_from_slice(&SEGMENT);
+    bytes
+}
+
+/// The program of a code file's bytes.
+fn load(alloc: Global, bytes: &[u8]) -> Result<Program, Refusal> {
+    let file = CodeFile::read(alloc, bytes)?;
+    match Program::check(alloc, file) {
+        Ok(program) => Ok(program),
+        Err(refused) => Err(Refusal::Load(refused.fault)),
+    }
+}
+
+/// Runs the program of a code file's bytes.
+fn run_bytes<R: Read, W: Write>(
+    alloc: Global,
+    bytes: &[u8],
+    steps: u32,
+    reader: &mut R,
+    writer: &mut W,
+) -> Result<Finish, Refusal> {
+    let program = load(alloc, bytes)?;
+    let mut reader = CountingReader::new(reader);
+    let mut writer = CountingWriter::new(writer);
+    Ok(run_program(alloc, &mut reader, &mut writer, &program, steps)?)
+}
+
+/// Does what was asked for.
+fn perform<H: Files + AllocGlobal, R: Read, W: Write>(
+    rt: &H,
+    asked: Asked<'_>,
+    reader: &mut R,
+    writer: &mut W,
+) -> Result<Finish, Refusal> {
+    match asked {
+        Asked::BuiltIn => {
+            let mut nothing: &[u8] = &[];
+            run_bytes(rt.alloc(), &built_in(), STEPS, &mut nothing, writer)
+        }
+        Asked::Run { file, steps } => {
+            let bytes = read_file(rt, file)?;
+            run_bytes(rt.alloc(), bytes.as_slice(), steps, reader, writer)
+        }
+    }
+}
+
+/// Tells a refusal, and gives its status.
+fn refuse<E: Write>(errors: &mut E, refusal: Refusal) -> u8 {
+    let _ = writeln!(errors, "refused {refusal}");
+    1
+}
+
+/// Tells how a run was over, and gives its status.
+fn tell<E: Write>(errors: &mut E, finish: Finish) -> u8 {
+    match finish {
+        Finish::Normal | Finish::Error(End::Normal) => 0,
+        Finish::Error(
+            End::Error {
+                number,
+                procedure,
+                at,
+            },
+        ) => {
+            let _ = writeln!(
+                errors,
+                "execution error {number} in procedure {procedure} at {at}"
+            );
+            3
+        }
+        Finish::Waits => {
+            let _ = writeln!(errors, "waits");
+            0
+        }
+        Finish::Steps => {
+            let _ = writeln!(errors, "steps");
+            4
+        }
+    }
+}
+
+/// Tells why the words ask for nothing that is done, and gives the status.
+fn explain<W: Write, E: Write>(writer: &mut W, errors: &mut E, reason: NotAsked) -> u8 {
+    match reason {
+        NotAsked::Help(help) => match write!(writer, "{help}") {
+            Ok(()) => 0,
+            Err(_) => refuse(errors, Refusal::Run(RunIo::Write)),
+        },
+        NotAsked::Fault(fault) => {
+            let _ = write!(errors, "{fault}");
+            2
+        }
+        NotAsked::Memory => refuse(errors, Refusal::Run(RunIo::Memory)),
+    }
+}
+
+/// Does what the program does with these words, which are without its own name, on an input, an output
+/// and an error stream, and gives the status: 0; 1 refused; 2 a fault of the command line; 3 an execution
+/// error; 4 the steps are spent. A fault of the error stream is passed over.
+pub fn command<H: Files + AllocGlobal, R: Read, W: Write, E: Write>(
+    rt: &H,
+    words: &[String],
+    reader: &mut R,
+    writer: &mut W,
+    errors: &mut E,
+) -> u8 {
+    match read_words(rt.alloc(), words) {
+        Ok(asked) => match perform(rt, asked, reader, writer) {
+            Ok(finish) => tell(errors, finish),
+            Err(refusal) => refuse(errors, refusal),
+        },
+        Err(reason) => explain(writer, errors, reason),
+    }
+}

@@ -1,0 +1,122 @@
+//! Readers and writers of single bytes, which count their faults.
+//!
+//! std's `Read` and `Write` have no word for "this call failed", so that no clause can say that a
+//! fault was really met. These two traits have a count of faults for it; the wrappers below make
+//! one of any `Read` or `Write`, and raise the count where a call of theirs answers an error.
+ghost use Rattle.std.specs.Prelude.{◌≡◌, ℕ, List, [], ◌∷◌, Option, IsNone, MatchResult};
+ghost use Rattle.std.specs.Option.{option_to_list};
+ghost use Rattle.std.specs.Io.KnownBytes.{Keeps, Appends, Consumes, IsAtEnd};
+ghost use Rattle.pgroup.specs.Streams.{HasRisen};
+
+use std::io::{Read, Write};
+
+/// A read failed.
+#[derive(Clone, Copy, Debug, PartialEq, Eq)]
+pub struct ReadFault;
+
+/// A write failed, or took nothing.
+#[derive(Clone, Copy, Debug, PartialEq, Eq)]
+pub struct WriteFault;
+
+/// What gives one byte after another.
+pub trait ByteReader {
+    /// The bytes that it has left, where they are known.
+    ghost remaining: { Self → Option (List ℕ) };
+
+    /// How many of its reads failed.
+    ghost read_faults: { Self → ℕ };
+
+    /// The next byte, or nothing at the end.
+    fn read_byte(&mut self) -> Result<Option<u8>, ReadFault>
+        ensures bytes { MatchResult result
+            (λ found. Consumes (remaining self.old) (remaining self.new) (option_to_list found)
+            × (IsNone found → IsAtEnd (remaining self.new)))
+            (λ _. Consumes (remaining self.old) (remaining self.new) []) }
+        ensures faults { MatchResult result
+            (λ _. read_faults self.new ≡ read_faults self.old)
+            (λ _. HasRisen (read_faults self.old) (read_faults self.new)) };
+}
+
+/// What takes one byte after another.
+pub trait ByteWriter {
+    /// The bytes that it holds, where they are known.
+    ghost contents: { Self → Option (List ℕ) };
+
+    /// How many of its writes failed or took nothing.
+    ghost write_faults: { Self → ℕ };
+
+    /// Takes a byte.
+    fn write_byte(&mut self, byte: u8) -> Result<(), WriteFault>
+        ensures bytes { MatchResult result
+            (λ _. Appends (contents self.old) (contents self.new) (byte ∷ []))
+            (λ _. Keeps (contents self.old) (contents self.new)) }
+        ensures faults { MatchResult result
+            (λ _. write_faults self.new ≡ write_faults self.old)
+            (λ _. HasRisen (write_faults self.old) (write_faults self.new)) };
+}
+
+/// A reader that counts its faults, up to `u64::MAX`.
+#[derive(Drop)]
+pub struct CountingReader<R: Read> {
+    pub inner: R,
+    pub faults: u64,
+}
+
+impl<R: Read> CountingReader<R> {
+    pub fn new(inner: R) -> CountingReader<R>
+        ensures inner { result.inner ≡ inner }
+        ensures faults { result.faults ≡ 0 }
+    {
+        CountingReader { inner, faults: 0 }
+    }
+}
+
+impl<R: Read> ByteReader for CountingReader<R> {
+    ghost remaining = { λ r. R.remaining r.inner };
+
+    ghost read_faults = { λ r. r.faults };
+
+    fn read_byte(&mut self) -> Result<Option<u8>, ReadFault> {
+        let mut buffer = [0u8; 1];
+        match self.inner.read(&mut buffer) {
+            Ok(0) => Ok(None),
+            Ok(_) => Ok(Some(buffer[0])),
+            Err(_) => {
+                self.faults = self.faults.saturating_add(1);
+                Err(ReadFault)
+            }
+        }
+    }
+}
+
+/// A writer that counts its faults, up to `u64::MAX`.
+#[derive(Drop)]
+pub struct CountingWriter<W: Write> {
+    pub inner: W,
+    pub faults: u64,
+}
+
+impl<W: Write> CountingWriter<W> {
+    pub fn new(inner: W) -> CountingWriter<W>
+        ensures inner { result.inner ≡ inner }
+        ensures faults { result.faults ≡ 0 }
+    {
+        CountingWriter { inner, faults: 0 }
+    }
+}
+
+impl<W: Write> ByteWriter for CountingWriter<W> {
+    ghost contents = { λ w. W.contents w.inner };
+
+    ghost write_faults = { λ w. w.faults };
+
+    fn write_byte(&mut self, byte: u8) -> Result<(), WriteFault> {
+        match self.inner.write(&[byte]) {
+            Ok(1) => Ok(()),
+            _ => {
+                self.faults = self.faults.saturating_add(1);
+                Err(WriteFault)
+            }
+        }
+    }
+}
