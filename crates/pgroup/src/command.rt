@@ -1,8 +1,15 @@
 //! What the program does with its words.
+ghost use Rattle.std.specs.Prelude.{IfOk};
+ghost use Rattle.pcode_file.specs.InFile.{InFile};
+ghost use Rattle.pcode_ops.specs.Reach.{IsLoadable};
+
 use crate::files::{FileError, read_file};
+use crate::hex::{HexError, bytes_of};
 use crate::run::{Finish, RunIo, run_program};
+use crate::show::write_message;
 use crate::streams::{CountingReader, CountingWriter};
 use crate::words::{Asked, NotAsked, STEPS, read_words};
+use paxos_msg::{Group, WireFault, decode};
 use pcode_file::{CodeFile, FileFault};
 use pcode_machine::End;
 use pcode_ops::{LoadFault, Program};
@@ -29,9 +36,18 @@ pub enum Refusal {
     Load(LoadFault),
     #[error(transparent)]
     Run(RunIo),
+    #[error(transparent)]
+    Datagram(WireFault),
 }
 
 impl From<FileError> for Refusal {
+    ghost use Rattle.std.specs.Prelude.{◌≡◌};
+    ghost use Rattle.pgroup.specs.declared.command.Refusal.TheVariants.{File, Run};
+    ghost use Rattle.pgroup.specs.declared.files.FileError.TheVariants as file;
+    ghost use Rattle.pgroup.specs.declared.run.RunIo.TheVariants as run;
+
+    ghost from_gives = { λ error r. (error ≡ file.Unreadable → r ≡ File) × (error ≡ file.Memory → r ≡ Run run.Memory) };
+
     fn from(error: FileError) -> Refusal {
         match error {
             FileError::Unreadable => Refusal::File,
@@ -41,12 +57,22 @@ impl From<FileError> for Refusal {
 }
 
 impl From<FileFault> for Refusal {
+    ghost use Rattle.std.specs.Prelude.{◌≡◌};
+    ghost use Rattle.pgroup.specs.declared.command.Refusal.TheVariants.{CodeFile};
+
+    ghost from_gives = { λ fault r. r ≡ CodeFile fault };
+
     fn from(fault: FileFault) -> Refusal {
         Refusal::CodeFile(fault)
     }
 }
 
 impl From<RunIo> for Refusal {
+    ghost use Rattle.std.specs.Prelude.{◌≡◌};
+    ghost use Rattle.pgroup.specs.declared.command.Refusal.TheVariants.{Run};
+
+    ghost from_gives = { λ fault r. r ≡ Run fault };
+
     fn from(fault: RunIo) -> Refusal {
         Refusal::Run(fault)
     }
@@ -62,7 +88,9 @@ fn built_in() -> [u8; 540] {
 }
 
 /// The program of a code file's bytes.
-fn load(alloc: Global, bytes: &[u8]) -> Result<Program, Refusal> {
+fn load(alloc: Global, bytes: &[u8]) -> Result<Program, Refusal>
+    ensures { IfOk result (λ program. InFile bytes.now program × IsLoadable program) }
+{
     let file = CodeFile::read(alloc, bytes)?;
     match Program::check(alloc, file) {
         Ok(program) => Ok(program),
@@ -84,23 +112,16 @@ fn run_bytes<R: Read, W: Write>(
     Ok(run_program(alloc, &mut reader, &mut writer, &program, steps)?)
 }
 
-/// Does what was asked for.
-fn perform<H: Files + AllocGlobal, R: Read, W: Write>(
+/// Runs the program of a code file.
+fn run_file<H: Files + AllocGlobal, R: Read, W: Write>(
     rt: &H,
-    asked: Asked<'_>,
+    file: &str,
+    steps: u32,
     reader: &mut R,
     writer: &mut W,
 ) -> Result<Finish, Refusal> {
-    match asked {
-        Asked::BuiltIn => {
-            let mut nothing: &[u8] = &[];
-            run_bytes(rt.alloc(), &built_in(), STEPS, &mut nothing, writer)
-        }
-        Asked::Run { file, steps } => {
-            let bytes = read_file(rt, file)?;
-            run_bytes(rt.alloc(), bytes.as_slice(), steps, reader, writer)
-        }
-    }
+    let bytes = read_file(rt, file)?;
+    run_bytes(rt.alloc(), bytes.as_slice(), steps, reader, writer)
 }
 
 /// Tells a refusal, and gives its status.
@@ -110,7 +131,7 @@ fn refuse<E: Write>(errors: &mut E, refusal: Refusal) -> u8 {
 }
 
 /// Tells how a run was over, and gives its status.
-fn tell<E: Write>(errors: &mut E, finish: Finish) -> u8 {
+fn tell_finish<E: Write>(errors: &mut E, finish: Finish) -> u8 {
     match finish {
         Finish::Normal | Finish::Error(End::Normal) => 0,
         Finish::Error(
@@ -134,6 +155,39 @@ fn tell<E: Write>(errors: &mut E, finish: Finish) -> u8 {
             let _ = writeln!(errors, "steps");
             4
         }
+    }
+}
+
+/// Tells what came of a run, and gives its status.
+fn tell<E: Write>(errors: &mut E, ran: Result<Finish, Refusal>) -> u8 {
+    match ran {
+        Ok(finish) => tell_finish(errors, finish),
+        Err(refusal) => refuse(errors, refusal),
+    }
+}
+
+/// Prints the datagram of hexadecimal digits, and gives the status.
+fn show<W: Write, E: Write>(
+    alloc: Global,
+    group: Group,
+    digits: &str,
+    writer: &mut W,
+    errors: &mut E,
+) -> u8 {
+    let bytes = match bytes_of(alloc, digits) {
+        Ok(bytes) => bytes,
+        Err(HexError::Memory) => return refuse(errors, Refusal::Run(RunIo::Memory)),
+        Err(HexError::Bad) => {
+            let _ = writeln!(errors, "bad hex");
+            return 2;
+        }
+    };
+    match decode(bytes.as_slice(), group) {
+        Err(fault) => refuse(errors, Refusal::Datagram(fault)),
+        Ok(view) => match write_message(writer, &view) {
+            Ok(()) => 0,
+            Err(_) => refuse(errors, Refusal::Run(RunIo::Write)),
+        },
     }
 }
 
@@ -163,10 +217,13 @@ pub fn command<H: Files + AllocGlobal, R: Read, W: Write, E: Write>(
     errors: &mut E,
 ) -> u8 {
     match read_words(rt.alloc(), words) {
-        Ok(asked) => match perform(rt, asked, reader, writer) {
-            Ok(finish) => tell(errors, finish),
-            Err(refusal) => refuse(errors, refusal),
-        },
+        Ok(Asked::BuiltIn) => {
+            let mut nothing: &[u8] = &[];
+            let ran = run_bytes(rt.alloc(), &built_in(), STEPS, &mut nothing, writer);
+            tell(errors, ran)
+        }
+        Ok(Asked::Run { file, steps }) => tell(errors, run_file(rt, file, steps, reader, writer)),
+        Ok(Asked::Show { group, digits }) => show(rt.alloc(), group, digits, writer, errors),
         Err(reason) => explain(writer, errors, reason),
     }
 }

@@ -3,7 +3,9 @@
 
 mod command;
 mod files;
+mod hex;
 mod run;
+mod show;
 mod streams;
 #[cfg(test)]
 mod tests;

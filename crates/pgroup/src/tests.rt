@@ -1,4 +1,7 @@
 //! The command on whole files, with its texts and statuses.
+mod choosing;
+mod datagrams;
+
 use crate::command::command;
 use pcode_file::CodeFile;
 use pcode_machine::{End, Machine, Turn};

@@ -1,6 +1,7 @@
 //! The words of the command line.
 use clap::error::ErrorKind;
-use clap::{Arg, Command, Error};
+use clap::{Arg, ArgMatches, Command, Error};
+use paxos_msg::Group;
 use std::alloc::{AllocError, Global};
 use std::string::String;
 
@@ -14,6 +15,8 @@ pub enum Asked<'a> {
     BuiltIn,
     /// To run the program of a code file.
     Run { file: &'a str, steps: u32 },
+    /// To print the datagram of these hexadecimal digits, sent in this group.
+    Show { group: Group, digits: &'a str },
 }
 
 /// Why the words ask for nothing that is done: help, a fault in them, or no memory.
@@ -54,6 +57,24 @@ fn run_command<'a>(alloc: Global) -> Result<Command<'a>, AllocError> {
         .arg(steps)
 }
 
+/// The subcommand `show SIZE SESSION HEX`.
+fn show_command<'a>(alloc: Global) -> Result<Command<'a>, AllocError> {
+    let size = Arg::new(alloc, "SIZE")
+        .required(true)
+        .help("The number of the group's nodes, 0 to 255");
+    let session = Arg::new(alloc, "SESSION")
+        .required(true)
+        .help("The group's session, 0 to 4294967295");
+    let digits = Arg::new(alloc, "HEX")
+        .required(true)
+        .help("The bytes in hexadecimal digits, two for each byte");
+    Command::new(alloc, "show")
+        .about("Prints a datagram")
+        .arg(size)?
+        .arg(session)?
+        .arg(digits)
+}
+
 /// All commands, with their help.
 fn commands<'a>(alloc: Global) -> Result<Command<'a>, AllocError> {
     Command::new(alloc, "pgroup")
@@ -62,7 +83,8 @@ fn commands<'a>(alloc: Global) -> Result<Command<'a>, AllocError> {
         .about(
             "Runs UCSD Pascal II.0 p-code programs. Without words it runs a built-in program, which prints A.",
         )
-        .subcommand(run_command(alloc)?)
+        .subcommand(run_command(alloc)?)?
+        .subcommand(show_command(alloc)?)
 }
 
 /// A number in decimal digits alone.
@@ -73,6 +95,34 @@ fn decimal(text: &str) -> Option<u32> {
     text.parse::<u32>().ok()
 }
 
+/// What `run` asks for, or what is wrong with its words.
+fn read_run<'a>(matches: &ArgMatches<'a>) -> Result<Asked<'a>, &'static str> {
+    let file = matches.get_str("FILE").ok_or("FILE is missing")?;
+    let steps = match matches.get_str("steps") {
+        None => STEPS,
+        Some(text) => {
+            decimal(text).ok_or("--steps takes a number from 0 to 4294967295 in decimal digits")?
+        }
+    };
+    Ok(Asked::Run { file, steps })
+}
+
+/// What `show` asks for, or what is wrong with its words.
+fn read_show<'a>(matches: &ArgMatches<'a>) -> Result<Asked<'a>, &'static str> {
+    let size = matches
+        .get_str("SIZE")
+        .and_then(|text| decimal(text))
+        .and_then(|number| u8::try_from(number).ok())
+        .ok_or("SIZE is a number from 0 to 255 in decimal digits")?;
+    let session = matches
+        .get_str("SESSION")
+        .and_then(|text| decimal(text))
+        .ok_or("SESSION is a number from 0 to 4294967295 in decimal digits")?;
+    let digits = matches.get_str("HEX").ok_or("HEX is missing")?;
+    let group = Group { size, session };
+    Ok(Asked::Show { group, digits })
+}
+
 /// What the words, without the program's own name, ask for.
 pub fn read_words<'a>(alloc: Global, words: &'a [String]) -> Result<Asked<'a>, NotAsked> {
     if words.is_empty() {
@@ -80,20 +130,13 @@ pub fn read_words<'a>(alloc: Global, words: &'a [String]) -> Result<Asked<'a>, N
     }
     let mut command = commands(alloc)?;
     let matches = command.try_get_matches_from_mut(words)?;
-    let Some((_, run)) = matches.subcommand() else {
-        return Err(NotAsked::Fault(command.error(ErrorKind::MissingSubcommand, "no command")?));
+    let asked = match matches.subcommand() {
+        Some(("run", run)) => read_run(run),
+        Some(("show", show)) => read_show(show),
+        _ => Err("a command is missing"),
     };
-    let Some(file) = run.get_str("FILE") else {
-        return Err(NotAsked::Fault(command.error(ErrorKind::MissingRequiredArgument, "no FILE")?));
-    };
-    let Some(text) = run.get_str("steps") else {
-        return Ok(Asked::Run { file, steps: STEPS });
-    };
-    match decimal(text) {
-        Some(steps) => Ok(Asked::Run { file, steps }),
-        None => Err(NotAsked::Fault(command.error(
-            ErrorKind::ValueValidation,
-            "--steps takes a number from 0 to 4294967295 in decimal digits",
-        )?)),
+    match asked {
+        Ok(asked) => Ok(asked),
+        Err(text) => Err(NotAsked::Fault(command.error(ErrorKind::ValueValidation, text)?)),
     }
 }

@@ -1,0 +1,43 @@
+-- What is chosen, by a count of those who accepted it.
+use Rattle.std.specs.Prelude.{slice_index_or}
+use Rattle.std.proofs.Common.{◌≡◌, ℕ, ◌*◌, ◌<◌, ◌≤◌, ◌↔◌, length, arith}
+use Rattle.paxos_msg.specs.declared.ballot.Ballot.{Ballot}
+use Rattle.paxos_msg.specs.declared.value.Value.{Value}
+use Rattle.paxos_msg.specs.declared.message.Body.TheVariants.{Accepted}
+use Rattle.paxos_msg.specs.declared.message.Msg.{Msg}
+use Rattle.paxos_msg.specs.Messages.{Sent, IsSent}
+use Rattle.paxos_msg.specs.Chosen.{IsChosen, IsChosenBy}
+use Rattle.paxos_msg.proofs.Meeting.{majorities_meet}
+use Rattle.paxos_msg.proofs.Counting.{IsCounted, count_grows}
+
+-- node i has sent that it accepted v at s under b
+abbrev pub HasAccepted : Sent → Ballot → ℕ → Value → ℕ → Type 0
+HasAccepted sent b s v i = IsSent sent i (Accepted b s v)
+
+-- none of the messages below n is m
+abbrev pub IsAway : Sent → ℕ → Msg → Type 0
+IsAway sent n m = (k : ℕ) → k < n → ¬ (slice_index_or sent k m ≡ m)
+
+pub chosen_from_count : (size : ℕ) (sent : Sent) (b : Ballot) (s : ℕ) (v : Value) (count : ℕ) → IsCounted (HasAccepted sent b s v) size count → size < 2 * count → IsChosenBy size sent b s v
+chosen_from_count size sent b s v count counted more = (counted.members, rw counted.counted at more, counted.sound)
+
+pub count_from_chosen : (size : ℕ) (sent : Sent) (b : Ballot) (s : ℕ) (v : Value) (count : ℕ) → IsCounted (HasAccepted sent b s v) size count → IsChosenBy size sent b s v → size < 2 * count
+count_from_chosen size sent b s v count counted (members, majority, accepted) =
+    omega (arith, counted.counted, count_grows members counted.members size (λ i low high member. counted.complete i low high (accepted i member)))
+
+-- no ballot that one of the messages below n accepts v under at s has chosen it
+abbrev pub IsUnchosen : ℕ → Sent → ℕ → ℕ → Value → Type 0
+IsUnchosen size sent n s v = (i : ℕ) (b : Ballot) → IsChosenBy size sent b s v → IsAway sent n (record { sender = i; body = Accepted b s v })
+
+-- who has accepted is a majority exactly if the count of all nodes is more than half
+pub chosen_by_count : (size n : ℕ) (sent : Sent) (b : Ballot) (s : ℕ) (v : Value) (count : ℕ) → n ≡ size → IsCounted (HasAccepted sent b s v) n count → IsChosenBy size sent b s v ↔ (size < 2 * count)
+chosen_by_count size n sent b s v count e counted =
+    let all : IsCounted (HasAccepted sent b s v) size count = rw e at counted in
+    (count_from_chosen size sent b s v count all, chosen_from_count size sent b s v count all)
+
+-- what is chosen was accepted by one of the messages
+pub all_unchosen : (size n s : ℕ) (sent : Sent) (v : Value) → length sent ≤ n → IsUnchosen size sent n s v → ¬ IsChosen size sent s v
+all_unchosen size n s sent v long unchosen (b, (members, majority, accepted)) =
+    let (i, low, high, here, there) = majorities_meet size members members majority majority in
+    let (k, below, e) = accepted i here in
+    unchosen i b (members, majority, accepted) k (omega arith) e

@@ -1,0 +1,54 @@
+-- What goes on with a growth: more messages, a call of a node, and a restart.
+use Rattle.std.proofs.Common.{◌≡◌, ◌≢◌, ℕ, inl, inr, List, [], ◌∷◌, ◌++◌, Option, Contains, subst, sym}
+use Rattle.std.proofs.lemmas.Bool.{cases_eq}
+use Rattle.std.proofs.lemmas.List.{append-nil, append_assoc}
+use Rattle.std.proofs.lemmas.List.Elements.{Contains-append_left}
+use Rattle.paxos_msg.specs.declared.value.Value.{Value}
+use Rattle.paxos_msg.specs.declared.record.Change.{Change}
+use Rattle.paxos_msg.specs.declared.record.Change.TheVariants.{Start, Promise, Ballotted}
+use Rattle.paxos_msg.specs.declared.record.Record.{Record}
+use Rattle.paxos_msg.specs.declared.message.Body.{Body}
+use Rattle.paxos_msg.specs.declared.message.Body.TheVariants.{Accept, Accepted}
+use Rattle.paxos_msg.specs.declared.message.Msg.{Msg}
+use Rattle.paxos_msg.specs.Keys.{Key}
+use Rattle.paxos_msg.specs.Messages.{Sent, IsSaid, messages_of}
+use Rattle.paxos_msg.specs.Records.{MaySave, Stored}
+use Rattle.paxos_msg.specs.Sending.{MaySendAll}
+use Rattle.paxos_msg.specs.Chosen.{IsChosen}
+use Rattle.paxos_msg.specs.Growth.{Grew, sends, saves}
+
+-- ---- more messages
+
+stays_said : (sent more : Sent) (body : Body) → IsSaid sent body → IsSaid (sent ++ more) body
+stays_said sent more body (i, h) = (i, Contains-append_left sent more (record { sender = i; body = body }) h)
+
+pub stays_chosen : (size s : ℕ) (sent more : Sent) (v : Value) → IsChosen size sent s v → IsChosen size (sent ++ more) s v
+stays_chosen size s sent more v (b, (members, majority, accepted)) =
+    (b, (members, majority, λ i member. Contains-append_left sent more (record { sender = i; body = Accepted b s v }) (accepted i member)))
+
+pub may_still_save : (sent more : Sent) (r : Record) (change : Change) → MaySave sent r change → MaySave (sent ++ more) r change
+may_still_save sent more r Start may = may
+may_still_save sent more r (Promise b) may = may
+may_still_save sent more r (Ballotted s b v) (said, open_to) = (stays_said sent more (Accept b s v) said, open_to)
+
+-- ---- a call
+
+pub calls : (size i : ℕ) (typed : List Key) (learned : ℕ → Option Value) (sent : Sent) (records : ℕ → Record) (bodies : List Body) → Grew size sent records → MaySendAll size typed learned sent i (records i) bodies → Grew size (sent ++ messages_of i bodies) records
+calls size i typed learned sent records [] grew may = rw (append-nil sent) grew
+calls size i typed learned sent records (body ∷ more) grew (may, rest) =
+    let m : Msg = record { sender = i; body = body } in
+    let now : Grew size (sent ++ m ∷ []) records = sends sent records typed learned i body grew may in
+    rw (append_assoc sent (m ∷ []) (messages_of i more)) at (calls size i typed learned (sent ++ m ∷ []) records more now rest)
+
+-- ---- a restart
+
+-- records that are the same at each node are the same
+same_records : (records next : ℕ → Record) → ((j : ℕ) → next j ≡ records j) → records ≡ next
+same_records records next same = λ k j. sym (same j) k
+
+pub restarts : (size i : ℕ) (sent : Sent) (records next : ℕ → Record) (failed : List Change) → Grew size sent records → ((change : Change) → Contains failed change → MaySave sent (records i) change) → Stored (records i) failed (next i) → ((j : ℕ) → j ≢ i → next j ≡ records j) → Grew size sent next
+restarts size i sent records next failed grew may (inl same) others =
+    let each : (j : ℕ) → next j ≡ records j = λ j. elim (cases_eq j i) [ inl e ↦ rw e same | inr ne ↦ others j ne ] in
+    subst (λ (r : ℕ → Record). Grew size sent r) (same_records records next each) grew
+restarts size i sent records next failed grew may (inr (change, tried, e)) others =
+    saves sent records next i change grew (may change tried) (record { own = e; others = others })

@@ -1,0 +1,79 @@
+-- The header: what is read was written, and what is written is read.
+use Rattle.std.proofs.Common.{◌≡◌, ℕ, suc, ◌<◌, ◌≤◌, true, false, not, ◌&&◌, ◌||◌, eqb, ltb, List, [], ◌∷◌, ◌++◌, length, Ok, refl, sym, ap, subst, arith}
+use Rattle.std.proofs.lemmas.Bool.{eq-eqb, eqb-true, le-ltb, ltb-false}
+use Rattle.byteorder.specs.Endian.{big_number}
+use Rattle.byteorder.specs.Numbers.{big_number-reads_back}
+use Rattle.paxos_msg.specs.declared.message.Group.{Group}
+use Rattle.paxos_msg.specs.declared.fault.WireFault.TheVariants as fault
+use Rattle.paxos_msg.specs.Fits.{IsNode}
+use Rattle.paxos_msg.specs.Spelling.{number_bytes, header_bytes}
+use Rattle.paxos_msg.specs.Reading.{is_node, header_at}
+use Rattle.paxos_msg.specs.Grammar.{AreBytes, IsGroup}
+use Rattle.paxos_msg.proofs.Guards.{unless_ok, ok_is, Takes, or_false, and_true, not_false, zero_false, false_zero, node_found, node_again}
+use Rattle.paxos_msg.proofs.Numbers.{four_again}
+
+-- a header of the group was read
+pub record IsHeader (group : Group) (bytes : List ℕ) (p : (ℕ × ℕ) × List ℕ) : Type 0 where
+  pub takes : Takes bytes (header_bytes group p.0.0 p.0.1) p.1
+  pub above : 0 < p.0.0
+  pub below : p.0.0 ≤ 8
+  pub sender : IsNode group.size p.0.1
+
+short_refused : (group : Group) (bytes : List ℕ) (p : (ℕ × ℕ) × List ℕ) → length bytes < 10 → header_at group bytes ≡ Ok p → ⊥
+unfolding header_at
+short_refused group bytes p lt e =
+    let a = unless_ok fault.Short (ltb (length bytes) 10) bytes _ p e in
+    let b = ltb-false (length bytes) 10 a.0 in
+    omega arith
+
+-- ten bytes that pass the tests are a header
+ten_are : (group : Group) (a b c kind sender size g h i j : ℕ) (rest : List ℕ) → AreBytes (g ∷ h ∷ i ∷ j ∷ rest) → a ≡ 80 → b ≡ 71 → c ≡ 1 → size ≡ group.size → big_number 4 (g ∷ h ∷ i ∷ j ∷ []) ≡ group.session
+    → Takes (a ∷ b ∷ c ∷ kind ∷ sender ∷ size ∷ g ∷ h ∷ i ∷ j ∷ rest) (header_bytes group kind sender) rest
+ten_are group a b c kind sender size g h i j rest are ea eb ec es en =
+    let four = four_again g h i j (are 0) (are 1) (are 2) (are 3) in
+    let session : number_bytes group.session ≡ g ∷ h ∷ i ∷ j ∷ [] = rw (← en) four in
+    record { parts = rw (ea, eb, ec, es) (ap (λ (t : List ℕ). 80 ∷ 71 ∷ 1 ∷ kind ∷ sender ∷ group.size ∷ (t ++ rest)) (sym session)); others = λ k. are (suc (suc (suc (suc k)))) }
+
+ten_found : (group : Group) (a b c kind sender size g h i j : ℕ) (rest : List ℕ) (p : (ℕ × ℕ) × List ℕ) → AreBytes (g ∷ h ∷ i ∷ j ∷ rest)
+    → header_at group (a ∷ b ∷ c ∷ kind ∷ sender ∷ size ∷ g ∷ h ∷ i ∷ j ∷ rest) ≡ Ok p → IsHeader group (a ∷ b ∷ c ∷ kind ∷ sender ∷ size ∷ g ∷ h ∷ i ∷ j ∷ rest) p
+unfolding header_at
+ten_found group a b c kind sender size g h i j rest p are e =
+    let bytes = a ∷ b ∷ c ∷ kind ∷ sender ∷ size ∷ g ∷ h ∷ i ∷ j ∷ rest in
+    let long = unless_ok fault.Short (ltb (length bytes) 10) bytes _ p e in
+    let ours = unless_ok fault.Magic (not (eqb a 80 && eqb b 71)) bytes _ p long.1 in
+    let version = unless_ok fault.Version (not (eqb c 1)) bytes _ p ours.1 in
+    let known = unless_ok fault.Kind (eqb kind 0 || ltb 8 kind) bytes _ p version.1 in
+    let here = unless_ok fault.Group (not (eqb size group.size && eqb (big_number 4 (g ∷ h ∷ i ∷ j ∷ [])) group.session)) bytes _ p known.1 in
+    let node = unless_ok fault.Sender (not (is_node group.size sender)) bytes _ p here.1 in
+    let magic = and_true (eqb a 80) (eqb b 71) (not_false _ ours.0) in
+    let range = or_false (eqb kind 0) (ltb 8 kind) known.0 in
+    let same = and_true (eqb size group.size) (eqb (big_number 4 (g ∷ h ∷ i ∷ j ∷ [])) group.session) (not_false _ here.0) in
+    let takes = ten_are group a b c kind sender size g h i j rest are (eqb-true a 80 magic.0) (eqb-true b 71 magic.1) (eqb-true c 1 (not_false _ version.0)) (eqb-true size group.size same.0) (eqb-true _ group.session same.1) in
+    subst (λ (q : (ℕ × ℕ) × List ℕ). IsHeader group bytes q) (ok_is ((kind, sender), rest) p node.1)
+    (record { takes = takes; above = zero_false kind range.0; below = ltb-false 8 kind range.1; sender = node_found group.size sender (not_false _ node.0) })
+
+pub header_found : (group : Group) (bytes : List ℕ) (p : (ℕ × ℕ) × List ℕ) → AreBytes bytes → header_at group bytes ≡ Ok p → IsHeader group bytes p
+header_found group [] p are e = absurd (short_refused group [] p (omega arith) e)
+header_found group (a ∷ []) p are e = absurd (short_refused group (a ∷ []) p (omega arith) e)
+header_found group (a ∷ b ∷ []) p are e = absurd (short_refused group (a ∷ b ∷ []) p (omega arith) e)
+header_found group (a ∷ b ∷ c ∷ []) p are e = absurd (short_refused group (a ∷ b ∷ c ∷ []) p (omega arith) e)
+header_found group (a ∷ b ∷ c ∷ k ∷ []) p are e = absurd (short_refused group (a ∷ b ∷ c ∷ k ∷ []) p (omega arith) e)
+header_found group (a ∷ b ∷ c ∷ k ∷ s ∷ []) p are e = absurd (short_refused group (a ∷ b ∷ c ∷ k ∷ s ∷ []) p (omega arith) e)
+header_found group (a ∷ b ∷ c ∷ k ∷ s ∷ z ∷ []) p are e = absurd (short_refused group (a ∷ b ∷ c ∷ k ∷ s ∷ z ∷ []) p (omega arith) e)
+header_found group (a ∷ b ∷ c ∷ k ∷ s ∷ z ∷ g ∷ []) p are e = absurd (short_refused group (a ∷ b ∷ c ∷ k ∷ s ∷ z ∷ g ∷ []) p (omega arith) e)
+header_found group (a ∷ b ∷ c ∷ k ∷ s ∷ z ∷ g ∷ h ∷ []) p are e = absurd (short_refused group (a ∷ b ∷ c ∷ k ∷ s ∷ z ∷ g ∷ h ∷ []) p (omega arith) e)
+header_found group (a ∷ b ∷ c ∷ k ∷ s ∷ z ∷ g ∷ h ∷ i ∷ []) p are e = absurd (short_refused group (a ∷ b ∷ c ∷ k ∷ s ∷ z ∷ g ∷ h ∷ i ∷ []) p (omega arith) e)
+header_found group (a ∷ b ∷ c ∷ k ∷ s ∷ z ∷ g ∷ h ∷ i ∷ j ∷ rest) p are e =
+    ten_found group a b c k s z g h i j rest p (λ n. are (suc (suc (suc (suc (suc (suc n))))))) e
+
+pub header_again : (group : Group) (kind sender : ℕ) (rest : List ℕ) → IsGroup group → 0 < kind → kind ≤ 8 → IsNode group.size sender
+    → header_at group (header_bytes group kind sender ++ rest) ≡ Ok ((kind, sender), rest)
+unfolding header_at
+header_again group kind sender rest small above below node =
+    let long : ltb (length (header_bytes group kind sender ++ rest)) 10 ≡ false = le-ltb _ _ (omega arith) in
+    let some : eqb kind 0 ≡ false = false_zero kind above in
+    let few : ltb 8 kind ≡ false = le-ltb 8 kind below in
+    let size : eqb group.size group.size ≡ true = eq-eqb _ _ refl in
+    let session : eqb (big_number 4 (number_bytes group.session ++ rest)) group.session ≡ true = eq-eqb _ _ (big_number-reads_back 4 group.session rest small) in
+    let there : is_node group.size sender ≡ true = node_again group.size sender node in
+    rw (long, some, few, size, session, there) refl

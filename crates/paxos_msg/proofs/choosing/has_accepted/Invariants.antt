@@ -1,0 +1,7 @@
+-- None of the messages up to here is the one.
+use Rattle.paxos_msg.specs.declared.message.Body.TheVariants.{Accepted}
+use Rattle.paxos_msg.proofs.AcceptedCount.{IsAway}
+use Rattle.paxos_msg.proofs.choosing.has_accepted.Given as goal
+
+abbrev pub invariant-loop-i : goal.invariant-loop-i
+invariant-loop-i l = IsAway l.sent l.i (record { sender = l.node; body = Accepted l.vote.ballot l.vote.place l.vote.value })

@@ -1,0 +1,11 @@
+-- Where no message's ballot has chosen the value, none has.
+use Rattle.std.proofs.Common.{arith}
+use Rattle.paxos_msg.proofs.AcceptedCount.{all_unchosen}
+use Rattle.paxos_msg.proofs.Counting.{not_true}
+use Rattle.paxos_msg.proofs.choosing.is_chosen.Goals as goal
+
+pub returns : goal.returns
+returns c = (
+  λ h. absurd (not_true h),
+  λ chosen. absurd (all_unchosen c.args.size c.loop-i.i c.args.place c.args.sent.now c.args.value (omega arith) c.loop-i.invariant chosen),
+)

@@ -1,0 +1,29 @@
+-- The count goes on, and tells whether they are a majority.
+use Rattle.std.proofs.Common.{◌≡◌, ◌∙◌, ◌↔◌, ◌*◌, ◌<◌, sym, arith}
+use Rattle.std.proofs.lemmas.Bool.Decides.{nat_tests}
+use Rattle.paxos_msg.specs.Chosen.{IsChosenBy}
+use Rattle.paxos_msg.proofs.AcceptedCount.{HasAccepted, chosen_by_count}
+use Rattle.paxos_msg.proofs.Counting.{not_true, counted_in, counted_out}
+use Rattle.paxos_msg.proofs.choosing.is_chosen_by.Goals.{then-has_accepted, else-has_accepted}
+use Rattle.paxos_msg.proofs.choosing.is_chosen_by.Goals as goal
+
+pub loop-before-preserved : goal.loop-before-preserved
+loop-before-preserved c =
+    let P = HasAccepted c.args.sent.now c.args.vote.ballot c.args.vote.place c.args.vote.value in
+    elim c.if-has_accepted.branch [
+      | then-has_accepted w ↦ record {
+        counted = rw w.accepted-is (counted_in P c.loop-before.before c.loop-before.accepted c.loop-before.invariant.counted (c.has_accepted.ensures.0 w.if-has_accepted.true));
+        few = omega arith;
+      }
+      | else-has_accepted w ↦ record {
+        counted = rw w.accepted-is (counted_out P c.loop-before.before c.loop-before.accepted c.loop-before.invariant.counted (λ h. not_true (sym w.if-has_accepted.false ∙ c.has_accepted.ensures.1 h)));
+        few = omega arith;
+      }
+    ]
+
+pub returns : goal.returns
+returns c =
+    let all : c.loop-before.before ≡ c.args.size = omega arith in
+    let by_count : IsChosenBy c.args.size c.args.sent.now c.args.vote.ballot c.args.vote.place c.args.vote.value ↔ (c.args.size < 2 * c.loop-before.accepted)
+    = chosen_by_count c.args.size c.loop-before.before c.args.sent.now c.args.vote.ballot c.args.vote.place c.args.vote.value c.loop-before.accepted all c.loop-before.invariant.counted in
+    (λ t. by_count.1 (grind (arith, nat_tests)), λ h. grind (arith, nat_tests, by_count.0 h))

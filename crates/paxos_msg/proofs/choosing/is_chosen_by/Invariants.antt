@@ -1,0 +1,11 @@
+-- So many of the nodes up to here have accepted it.
+use Rattle.std.proofs.Common.{◌≤◌}
+use Rattle.paxos_msg.proofs.Counting.{IsCounted}
+use Rattle.paxos_msg.proofs.AcceptedCount.{HasAccepted}
+use Rattle.paxos_msg.proofs.choosing.is_chosen_by.Given as goal
+
+abbrev pub invariant-loop-before : goal.invariant-loop-before
+invariant-loop-before l = record {
+  counted : IsCounted (HasAccepted l.sent l.vote.ballot l.vote.place l.vote.value) l.before l.accepted;
+  few : l.accepted ≤ l.before;
+}

@@ -1,0 +1,6 @@
+-- The theorem of `Meeting`.
+use Rattle.paxos_msg.proofs.Meeting.{majorities_meet}
+use Rattle.paxos_msg.proofs.laws.majorities_meet.Goals as goal
+
+pub returns : goal.returns
+returns c = majorities_meet

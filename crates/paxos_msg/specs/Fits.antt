@@ -1,0 +1,63 @@
+-- Which messages have a spelling: the ranges of each field.
+use Rattle.std.specs.Prelude.{◌≡◌, ℕ, ◌+◌, ◌^◌, ◌<◌, ◌≤◌, List, [], ◌∷◌, length}
+use Rattle.paxos_msg.specs.declared.ballot.Ballot.{Ballot}
+use Rattle.paxos_msg.specs.declared.value.Value.{Value}
+use Rattle.paxos_msg.specs.declared.value.Value.TheVariants as value
+use Rattle.paxos_msg.specs.declared.value.Vote.{Vote}
+use Rattle.paxos_msg.specs.declared.message.Group.{Group}
+use Rattle.paxos_msg.specs.declared.message.Body.{Body}
+use Rattle.paxos_msg.specs.declared.message.Body.TheVariants as body
+use Rattle.paxos_msg.specs.declared.message.Msg.{Msg}
+use Rattle.paxos_msg.specs.Ballots.{IsBelow, IsAtMost}
+
+-- a node of a group of that size
+abbrev pub IsNode : ℕ → ℕ → Type 0
+IsNode size node = (0 < node) × (node ≤ size)
+
+-- a number from 1 on that fits four bytes
+abbrev pub IsCount : ℕ → Type 0
+IsCount n = (0 < n) × (n < 2 ^ 32)
+
+abbrev pub IsBallot : ℕ → Ballot → Type 0
+IsBallot size b = IsCount b.round × IsNode size b.node
+
+abbrev pub IsPlace : ℕ → Type 0
+IsPlace s = s ≤ 65535
+
+abbrev pub IsValue : ℕ → Value → Type 0
+IsValue size value.Noop = Unit {0}
+IsValue size (value.Key node start serial byte) = IsNode size node × IsCount start × IsCount serial × (byte < 256)
+
+-- a key that was typed at the node
+abbrev pub IsOwnKey : ℕ → Value → Type 0
+IsOwnKey i value.Noop = ⊥
+IsOwnKey i (value.Key node start serial byte) = node ≡ i
+
+-- a vote at a place from low up to upto, under a ballot that is not above b
+pub record IsVote (size : ℕ) (b : Ballot) (low upto : ℕ) (vote : Vote) : Type 0 where
+  pub from_low : low ≤ vote.place
+  pub below_upto : vote.place < upto
+  pub ballot : IsBallot size vote.ballot
+  pub not_above : IsAtMost vote.ballot b
+  pub value : IsValue size vote.value
+
+-- votes whose places ascend from low on, up to upto
+abbrev pub AreVotes : ℕ → Ballot → ℕ → ℕ → List Vote → Type 0
+AreVotes size b low upto [] = Unit {0}
+AreVotes size b low upto (vote ∷ votes) = IsVote size b low upto vote × AreVotes size b (vote.place + 1) upto votes
+
+-- the ranges of a body that node i sends
+abbrev pub IsBody : ℕ → ℕ → Body → Type 0
+IsBody size i (body.Prepare b from) = IsBallot size b × (b.node ≡ i) × IsPlace from
+IsBody size i (body.Promise b first upto votes) =
+    IsBallot size b × IsPlace first × (upto ≤ 65536) × (first < upto) × (length votes ≤ 64) × AreVotes size b first upto votes
+IsBody size i (body.Accept b s v) = IsBallot size b × (b.node ≡ i) × IsPlace s × IsValue size v
+IsBody size i (body.Accepted b s v) = IsBallot size b × IsPlace s × IsValue size v
+IsBody size i (body.Refused b promised) = IsBallot size b × IsBallot size promised × IsBelow b promised
+IsBody size i (body.Submit v) = IsValue size v × IsOwnKey i v
+IsBody size i (body.Ask from) = from ≤ 65536
+IsBody size i (body.Tell s v) = IsPlace s × IsValue size v
+
+-- whether the message has a spelling in the group
+abbrev pub Fits : Group → Msg → Type 0
+Fits group m = IsNode group.size m.sender × IsBody group.size m.sender m.body

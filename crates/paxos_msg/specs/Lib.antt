@@ -1,0 +1,15 @@
+pub mod Ballots
+pub mod Keys
+pub mod Fits
+pub mod Spelling
+pub mod Reading
+pub mod Raw
+pub mod Views
+pub mod Messages
+pub mod Records
+pub mod Sending
+pub mod Chosen
+pub mod Growth
+pub mod Nodes
+pub mod Grammar
+pub mod Lengths

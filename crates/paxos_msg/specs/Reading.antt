@@ -1,0 +1,192 @@
+-- Reading a datagram from left to right: the message, or the first fault that is met.
+use Rattle.std.specs.Prelude.{◌≡◌, ℕ, zero, suc, ◌+◌, List, [], ◌∷◌, length, drop, slice_index, Result, Ok, Err, nat_lt, nat_le, ◌==◌, ◌&&◌, ◌||◌, not, Bool, if◌then◌else◌}
+use Rattle.byteorder.specs.Endian.{big_number}
+use Rattle.paxos_msg.specs.declared.ballot.Ballot.{Ballot}
+use Rattle.paxos_msg.specs.declared.value.Value.{Value}
+use Rattle.paxos_msg.specs.declared.value.Value.TheVariants.{Noop, Key}
+use Rattle.paxos_msg.specs.declared.value.Vote.{Vote}
+use Rattle.paxos_msg.specs.declared.message.Group.{Group}
+use Rattle.paxos_msg.specs.declared.message.Body.{Body}
+use Rattle.paxos_msg.specs.declared.message.Body.TheVariants.{Prepare, Promise, Accept, Accepted, Refused, Submit, Ask, Tell}
+use Rattle.paxos_msg.specs.declared.message.Msg.{Msg}
+use Rattle.paxos_msg.specs.declared.fault.WireFault.{WireFault}
+use Rattle.paxos_msg.specs.declared.fault.WireFault.TheVariants as fault
+
+infixl 10 ◌>>=◌
+abbrev pub ◌>>=◌ : {A B : Type 0} → Result A WireFault → (A → Result B WireFault) → Result B WireFault
+(Ok x) >>= f = f x
+(Err e) >>= f = Err e
+
+-- what a function answered, seen by view, is what reading gives
+abbrev pub Gives : {X Y : Type 0} → (X → Y) → Result X WireFault → Result Y WireFault → Type 0
+Gives view (Ok x) read = read ≡ Ok (view x)
+Gives view (Err e) read = read ≡ Err e
+
+-- x, unless this is a fault
+abbrev pub unless : {A : Type 0} → WireFault → Bool → A → Result A WireFault
+unless e b x = if b then Err e else Ok x
+
+-- ---- fields: the value, and the bytes behind it
+
+abbrev pub byte_at : List ℕ → Result (ℕ × List ℕ) WireFault
+byte_at [] = Err fault.Short
+byte_at (b ∷ bytes) = Ok (b, bytes)
+
+abbrev pub number_at : List ℕ → Result (ℕ × List ℕ) WireFault
+number_at bytes = if nat_lt (length bytes) 4 then Err fault.Short else Ok (big_number 4 bytes, drop 4 bytes)
+
+-- a node of a group of that size
+abbrev pub is_node : ℕ → ℕ → Bool
+is_node size node = nat_lt 0 node && nat_le node size
+
+unfoldable pub ballot_at : ℕ → List ℕ → Result (Ballot × List ℕ) WireFault
+ballot_at size bytes = do
+  round ← number_at bytes
+  begun ← unless fault.Ballot (round.0 == 0) round
+  node ← byte_at begun.1
+  there ← unless fault.Ballot (not (is_node size node.0)) node
+  Ok (record { round = begun.0; node = there.0 }, there.1)
+
+-- a ballot of the sender's own
+unfoldable pub own_ballot_at : ℕ → ℕ → List ℕ → Result (Ballot × List ℕ) WireFault
+own_ballot_at size sender bytes = do
+  b ← ballot_at size bytes
+  unless fault.Ballot (not (b.0.node == sender)) b
+
+abbrev pub ballot_lt : Ballot → Ballot → Bool
+ballot_lt a b = nat_lt a.round b.round || ((a.round == b.round) && nat_lt a.node b.node)
+
+unfoldable pub place_at : ℕ → List ℕ → Result (ℕ × List ℕ) WireFault
+place_at most bytes = do
+  place ← number_at bytes
+  unless fault.Place (nat_lt most place.0) place
+
+-- the fields of a key behind its tag; its node has to pass the test
+unfoldable pub key_at : (ℕ → Bool) → List ℕ → Result (Value × List ℕ) WireFault
+key_at is_good bytes = do
+  node ← byte_at bytes
+  there ← unless fault.Value (not (is_good node.0)) node
+  start ← number_at there.1
+  started ← unless fault.Value (start.0 == 0) start
+  serial ← number_at started.1
+  counted ← unless fault.Value (serial.0 == 0) serial
+  byte ← byte_at counted.1
+  Ok (Key there.0 started.0 counted.0 byte.0, byte.1)
+
+abbrev pub tagged : ℕ → ℕ → List ℕ → Result (Value × List ℕ) WireFault
+tagged size tag bytes =
+    if tag == 0 then Ok (Noop, bytes)
+    else (if tag == 1 then key_at (is_node size) bytes else Err fault.Value)
+
+unfoldable pub value_at : ℕ → List ℕ → Result (Value × List ℕ) WireFault
+value_at size bytes = byte_at bytes >>= λ tag. tagged size tag.0 tag.1
+
+-- a key that was typed at the sender
+unfoldable pub own_key_at : ℕ → ℕ → List ℕ → Result (Value × List ℕ) WireFault
+own_key_at size sender bytes = do
+  tag ← byte_at bytes
+  key ← unless fault.Value (not (tag.0 == 1)) tag
+  key_at (λ node. is_node size node && (node == sender)) key.1
+
+-- ---- the votes of a promise under ballot b, from first up to upto
+
+-- a vote at a place from low on; low is one above the place of the vote before
+unfoldable pub vote_at : ℕ → Ballot → ℕ → ℕ → ℕ → List ℕ → Result (Vote × List ℕ) WireFault
+vote_at size b first upto low bytes = do
+  place ← number_at bytes
+  above ← unless fault.Order (nat_lt place.0 low) place
+  there ← unless fault.Place (nat_lt above.0 first || nat_le upto above.0) above
+  ballot ← ballot_at size there.1
+  not_above ← unless fault.Ballot (ballot_lt b ballot.0) ballot
+  value ← value_at size not_above.1
+  Ok (record { place = there.0; ballot = not_above.0; value = value.0 }, value.1)
+
+unfoldable pub votes_at : ℕ → Ballot → ℕ → ℕ → ℕ → ℕ → List ℕ → Result (List Vote × List ℕ) WireFault
+votes_at size b first upto low zero bytes = Ok ([], bytes)
+votes_at size b first upto low (suc n) bytes = do
+  vote ← vote_at size b first upto low bytes
+  others ← votes_at size b first upto (vote.0.place + 1) n vote.1
+  Ok (vote.0 ∷ others.0, others.1)
+
+-- ---- bodies
+
+unfoldable pub prepare_at : ℕ → ℕ → List ℕ → Result (Body × List ℕ) WireFault
+prepare_at size sender bytes = do
+  b ← own_ballot_at size sender bytes
+  from ← place_at 65535 b.1
+  Ok (Prepare b.0 from.0, from.1)
+
+unfoldable pub promise_at : ℕ → List ℕ → Result (Body × List ℕ) WireFault
+promise_at size bytes = do
+  b ← ballot_at size bytes
+  first ← place_at 65535 b.1
+  upto ← place_at 65536 first.1
+  above ← unless fault.Place (nat_le upto.0 first.0) upto
+  count ← byte_at above.1
+  few ← unless fault.Count (nat_lt 64 count.0) count
+  votes ← votes_at size b.0 first.0 above.0 0 few.0 few.1
+  Ok (Promise b.0 first.0 above.0 votes.0, votes.1)
+
+unfoldable pub accept_at : ℕ → ℕ → List ℕ → Result (Body × List ℕ) WireFault
+accept_at size sender bytes = do
+  b ← own_ballot_at size sender bytes
+  place ← place_at 65535 b.1
+  value ← value_at size place.1
+  Ok (Accept b.0 place.0 value.0, value.1)
+
+unfoldable pub accepted_at : ℕ → List ℕ → Result (Body × List ℕ) WireFault
+accepted_at size bytes = do
+  b ← ballot_at size bytes
+  place ← place_at 65535 b.1
+  value ← value_at size place.1
+  Ok (Accepted b.0 place.0 value.0, value.1)
+
+unfoldable pub refused_at : ℕ → List ℕ → Result (Body × List ℕ) WireFault
+refused_at size bytes = do
+  b ← ballot_at size bytes
+  promised ← ballot_at size b.1
+  above ← unless fault.Ballot (not (ballot_lt b.0 promised.0)) promised
+  Ok (Refused b.0 above.0, above.1)
+
+unfoldable pub submit_at : ℕ → ℕ → List ℕ → Result (Body × List ℕ) WireFault
+submit_at size sender bytes = own_key_at size sender bytes >>= λ key. Ok (Submit key.0, key.1)
+
+unfoldable pub ask_at : List ℕ → Result (Body × List ℕ) WireFault
+ask_at bytes = place_at 65536 bytes >>= λ from. Ok (Ask from.0, from.1)
+
+unfoldable pub tell_at : ℕ → List ℕ → Result (Body × List ℕ) WireFault
+tell_at size bytes = do
+  place ← place_at 65535 bytes
+  value ← value_at size place.1
+  Ok (Tell place.0 value.0, value.1)
+
+unfoldable pub body_at : ℕ → ℕ → ℕ → List ℕ → Result (Body × List ℕ) WireFault
+body_at size kind sender bytes =
+    if kind == 1 then prepare_at size sender bytes
+    else if kind == 2 then promise_at size bytes
+    else if kind == 3 then accept_at size sender bytes
+    else if kind == 4 then accepted_at size bytes
+    else if kind == 5 then refused_at size bytes
+    else if kind == 6 then submit_at size sender bytes
+    else if kind == 7 then ask_at bytes
+    else tell_at size bytes
+
+-- ---- the whole datagram
+
+-- kind and sender, of a header in the group
+unfoldable pub header_at : Group → List ℕ → Result ((ℕ × ℕ) × List ℕ) WireFault
+header_at group bytes = do
+  long ← unless fault.Short (nat_lt (length bytes) 10) bytes
+  ours ← unless fault.Magic (not ((slice_index long 0 == 80) && (slice_index long 1 == 71))) long
+  version ← unless fault.Version (not (slice_index ours 2 == 1)) ours
+  kind ← unless fault.Kind ((slice_index version 3 == 0) || nat_lt 8 (slice_index version 3)) version
+  here ← unless fault.Group (not ((slice_index kind 5 == group.size) && (big_number 4 (drop 6 kind) == group.session))) kind
+  sender ← unless fault.Sender (not (is_node group.size (slice_index here 4))) here
+  Ok ((slice_index sender 3, slice_index sender 4), drop 10 sender)
+
+-- the message that is all of the bytes
+unfoldable pub message_at : Group → List ℕ → Result Msg WireFault
+message_at group bytes = do
+  header ← header_at group bytes
+  body ← body_at group.size header.0.0 header.0.1 header.1
+  unless fault.Trailing (not (length body.1 == 0)) (record { sender = header.0.1; body = body.0 })

@@ -1,0 +1,77 @@
+-- What a node may send.
+use Rattle.std.specs.Prelude.{◌≡◌, ◌≢◌, ℕ, ◌<◌, ◌≤◌, ◌⊎◌, Bool, IsTrue, List, [], ◌∷◌, ◌++◌, Option, Some, None, IfSome, IsSomeAnd, MatchOption, Contains}
+use Rattle.paxos_msg.specs.declared.ballot.Ballot.{Ballot}
+use Rattle.paxos_msg.specs.declared.value.Value.{Value}
+use Rattle.paxos_msg.specs.declared.value.Value.TheVariants.{Noop}
+use Rattle.paxos_msg.specs.declared.value.Vote.{Vote}
+use Rattle.paxos_msg.specs.declared.record.Record.{Record}
+use Rattle.paxos_msg.specs.declared.message.Body.{Body}
+use Rattle.paxos_msg.specs.declared.message.Body.TheVariants.{Prepare, Promise, Accept, Accepted, Refused, Submit, Ask, Tell}
+use Rattle.paxos_msg.specs.Ballots.{IsBelow, IsAtMost, IsMajority}
+use Rattle.paxos_msg.specs.Keys.{Key, keys_of}
+use Rattle.paxos_msg.specs.Messages.{Sent, IsSent, IsSaid, IsPromised, vote_at}
+
+-- a member reported this vote, and no member one of a greater ballot
+pub record IsGreatest (members : ℕ → Bool) (reported : ℕ → Option Vote) (vote : Vote) : Type 0 where
+  pub reporter : ℕ
+  pub is_member : IsTrue (members reporter)
+  pub reports : reported reporter ≡ Some vote
+  pub greatest : (i : ℕ) → IsTrue (members i) → IfSome (reported i) (λ other. IsAtMost other.ballot vote.ballot)
+
+-- the vote of the greatest ballot among those that the members reported, or none if they reported none
+abbrev pub IsBest : (ℕ → Bool) → (ℕ → Option Vote) → Option Vote → Type 0
+IsBest members reported None = (i : ℕ) → IsTrue (members i) → reported i ≡ None
+IsBest members reported (Some vote) = IsGreatest members reported vote
+
+-- v is a no-op or was submitted
+abbrev pub IsFree : Sent → Value → Type 0
+IsFree sent v = (v ≡ Noop) ⊎ IsSaid sent (Submit v)
+
+-- A majority has single promises for ballot b and place s, one each. If they report votes, v is the value of the
+-- one with the greatest ballot; if they report none, v is a no-op or was submitted.
+pub record IsSafe (size : ℕ) (sent : Sent) (b : Ballot) (s : ℕ) (v : Value) : Type 0 where
+  pub members : ℕ → Bool
+  pub reported : ℕ → Option Vote
+  pub best : Option Vote
+  pub majority : IsMajority size members
+  pub promised : (i : ℕ) → IsTrue (members i) → IsPromised sent i b s (reported i)
+  pub is_best : IsBest members reported best
+  pub value : MatchOption best (IsFree sent v) (λ vote. v ≡ vote.value)
+
+-- nothing was proposed under ballot b at place s
+abbrev pub IsUnproposed : Sent → Ballot → ℕ → Type 0
+IsUnproposed sent b s = (v : Value) → ¬ IsSaid sent (Accept b s v)
+
+-- The votes report record r from first up to upto: each is one of its votes and lies there, and at each place there
+-- they have the vote that the record has, or none if it has none.
+pub record IsReport (r : Record) (first upto : ℕ) (votes : List Vote) : Type 0 where
+  pub own : (vote : Vote) → Contains votes vote → Contains r.votes vote
+  pub within : (vote : Vote) → Contains votes vote → (first ≤ vote.place) × (vote.place < upto)
+  pub whole : (s : ℕ) → first ≤ s → s < upto → vote_at votes s ≡ vote_at r.votes s
+
+-- each key of v is among the typed keys and was typed at node i, and there is such a key
+pub record IsTyped (typed : List Key) (i : ℕ) (v : Value) : Type 0 where
+  pub has_key : keys_of v ≢ []
+  pub at_node : (key : Key) → Contains (keys_of v) key → key.node ≡ i
+  pub known : (key : Key) → Contains (keys_of v) key → Contains typed key
+
+-- Whether node i may send this after what was sent, where these keys were typed, it has learned these values, and its
+-- stored record is r.
+abbrev pub MaySend : ℕ → List Key → (ℕ → Option Value) → Sent → ℕ → Record → Body → Type 0
+MaySend size typed learned sent i r (Prepare b from) = (b.node ≡ i) × IsSomeAnd r.promised (λ p. IsAtMost b p)
+MaySend size typed learned sent i r (Promise b first upto votes) = (r.promised ≡ Some b) × IsReport r first upto votes
+MaySend size typed learned sent i r (Accept b s v) =
+    (b.node ≡ i) × (IsSent sent i (Accept b s v) ⊎ (IsUnproposed sent b s × IsSafe size sent b s v))
+MaySend size typed learned sent i r (Accepted b s v) =
+    IsSaid sent (Accept b s v) × (vote_at r.votes s ≡ Some (record { place = s; ballot = b; value = v })) × (r.promised ≡ Some b)
+MaySend size typed learned sent i r (Refused b promised) = (r.promised ≡ Some promised) × IsBelow b promised
+MaySend size typed learned sent i r (Submit v) = IsTyped typed i v
+MaySend size typed learned sent i r (Ask from) = Unit {0}
+MaySend size typed learned sent i r (Tell s v) = learned s ≡ Some v
+
+-- whether node i may send these in one call, each after the earlier ones
+abbrev pub MaySendAll : ℕ → List Key → (ℕ → Option Value) → Sent → ℕ → Record → List Body → Type 0
+MaySendAll size typed learned sent i r [] = Unit {0}
+MaySendAll size typed learned sent i r (body ∷ more) =
+    MaySend size typed learned sent i r body
+    × MaySendAll size typed learned (sent ++ record { sender = i; body = body } ∷ []) i r more

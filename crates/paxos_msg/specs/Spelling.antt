@@ -1,0 +1,62 @@
+-- The bytes of a message. Numbers have their high byte first.
+use Rattle.std.specs.Prelude.{◌≡◌, ℕ, List, [], ◌∷◌, ◌++◌, length}
+use Rattle.byteorder.specs.Endian.{big_bytes}
+use Rattle.paxos_msg.specs.declared.ballot.Ballot.{Ballot}
+use Rattle.paxos_msg.specs.declared.value.Value.{Value}
+use Rattle.paxos_msg.specs.declared.value.Value.TheVariants.{Noop, Key}
+use Rattle.paxos_msg.specs.declared.value.Vote.{Vote}
+use Rattle.paxos_msg.specs.declared.message.Group.{Group}
+use Rattle.paxos_msg.specs.declared.message.Body.{Body}
+use Rattle.paxos_msg.specs.declared.message.Body.TheVariants.{Prepare, Promise, Accept, Accepted, Refused, Submit, Ask, Tell}
+use Rattle.paxos_msg.specs.declared.message.Msg.{Msg}
+use Rattle.paxos_msg.specs.Fits.{Fits}
+
+-- four bytes
+abbrev pub number_bytes : ℕ → List ℕ
+number_bytes n = big_bytes 4 n
+
+abbrev pub ballot_bytes : Ballot → List ℕ
+ballot_bytes b = number_bytes b.round ++ b.node ∷ []
+
+abbrev pub value_bytes : Value → List ℕ
+value_bytes Noop = 0 ∷ []
+value_bytes (Key node start serial byte) = 1 ∷ node ∷ (number_bytes start ++ number_bytes serial ++ byte ∷ [])
+
+abbrev pub vote_bytes : Vote → List ℕ
+vote_bytes v = number_bytes v.place ++ ballot_bytes v.ballot ++ value_bytes v.value
+
+abbrev pub votes_bytes : List Vote → List ℕ
+votes_bytes [] = []
+votes_bytes (v ∷ vs) = vote_bytes v ++ votes_bytes vs
+
+abbrev pub kind_of : Body → ℕ
+kind_of (Prepare b from) = 1
+kind_of (Promise b first upto votes) = 2
+kind_of (Accept b s v) = 3
+kind_of (Accepted b s v) = 4
+kind_of (Refused b promised) = 5
+kind_of (Submit v) = 6
+kind_of (Ask from) = 7
+kind_of (Tell s v) = 8
+
+abbrev pub body_bytes : Body → List ℕ
+body_bytes (Prepare b from) = ballot_bytes b ++ number_bytes from
+body_bytes (Promise b first upto votes) = ballot_bytes b ++ number_bytes first ++ number_bytes upto ++ length votes ∷ [] ++ votes_bytes votes
+body_bytes (Accept b s v) = ballot_bytes b ++ number_bytes s ++ value_bytes v
+body_bytes (Accepted b s v) = ballot_bytes b ++ number_bytes s ++ value_bytes v
+body_bytes (Refused b promised) = ballot_bytes b ++ ballot_bytes promised
+body_bytes (Submit v) = value_bytes v
+body_bytes (Ask from) = number_bytes from
+body_bytes (Tell s v) = number_bytes s ++ value_bytes v
+
+-- `PG`, version 1, kind, sender, and the group
+abbrev pub header_bytes : Group → ℕ → ℕ → List ℕ
+header_bytes group kind sender = 80 ∷ 71 ∷ 1 ∷ kind ∷ sender ∷ group.size ∷ number_bytes group.session
+
+abbrev pub spelling : Group → Msg → List ℕ
+spelling group m = header_bytes group (kind_of m.body) m.sender ++ body_bytes m.body
+
+-- the whole datagram is the message's spelling
+pub record Msgs (group : Group) (bytes : List ℕ) (m : Msg) : Type 0 where
+  pub fits : Fits group m
+  pub spelled : bytes ≡ spelling group m

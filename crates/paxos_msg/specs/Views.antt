@@ -1,0 +1,34 @@
+-- What a message that lies in a datagram says, and a field that is read alone.
+use Rattle.std.specs.Prelude.{◌≡◌, ◌≤◌, ℕ, List, length, drop, Result, Ok, Err}
+use Rattle.paxos_msg.specs.declared.message.Body.{Body}
+use Rattle.paxos_msg.specs.declared.message.Body.TheVariants.{Prepare, Promise, Accept, Accepted, Refused, Submit, Ask, Tell}
+use Rattle.paxos_msg.specs.declared.view.BodyView.{BodyView}
+use Rattle.paxos_msg.specs.declared.view.BodyView.TheVariants as body
+use Rattle.paxos_msg.specs.declared.fault.WireFault.{WireFault}
+
+-- the body that a body in a datagram is
+abbrev pub said : BodyView → Body
+said (body.Prepare b from) = Prepare b from
+said (body.Promise b first upto votes) = Promise b first upto votes
+said (body.Accept b s v) = Accept b s v
+said (body.Accepted b s v) = Accepted b s v
+said (body.Refused b promised) = Refused b promised
+said (body.Submit key) = Submit key
+said (body.Ask from) = Ask from
+said (body.Tell s v) = Tell s v
+
+-- a body reports at most so many votes
+abbrev pub HasUpTo : ℕ → Body → Type 0
+HasUpTo most (Prepare b from) = Unit {0}
+HasUpTo most (Promise b first upto votes) = length votes ≤ most
+HasUpTo most (Accept b s v) = Unit {0}
+HasUpTo most (Accepted b s v) = Unit {0}
+HasUpTo most (Refused b promised) = Unit {0}
+HasUpTo most (Submit key) = Unit {0}
+HasUpTo most (Ask from) = Unit {0}
+HasUpTo most (Tell s v) = Unit {0}
+
+-- an answer of a field at the front of the bytes, and of how many bytes it takes, is what reading gives
+abbrev pub GivesField : {A : Type 0} → List ℕ → Result (A × ℕ) WireFault → Result (A × List ℕ) WireFault → Type 0
+GivesField bytes (Ok x) read = (x.1 ≤ length bytes) × (read ≡ Ok (x.0, drop x.1 bytes))
+GivesField bytes (Err e) read = read ≡ Err e

@@ -1,0 +1,257 @@
+//! Reading a datagram.
+ghost use Rattle.std.specs.Prelude.{◌≡◌, ◌≤◌, IfOk, Ok, length};
+ghost use Rattle.paxos_msg.specs.Reading.{Gives, ballot_at, value_at, votes_at, prepare_at, promise_at, accept_at, accepted_at, refused_at, submit_at, ask_at, tell_at, body_at, header_at, message_at};
+ghost use Rattle.paxos_msg.specs.declared.message.Msg.{Msg};
+ghost use Rattle.paxos_msg.specs.Raw.{votes_left};
+ghost use Rattle.paxos_msg.specs.Spelling.{Msgs};
+ghost use Rattle.paxos_msg.specs.Views.{GivesField, HasUpTo, said};
+
+use crate::ballot::Ballot;
+use crate::fault::WireFault;
+use crate::lent::LentVotes;
+use crate::message::Group;
+use crate::reading::{
+    Part, ballot_of, byte_of, own_ballot_of, own_key_of, place_of, value_of, vote_of,
+};
+use crate::value::Value;
+use crate::view::{BodyView, View};
+use byteorder::{BigEndian, ByteOrder};
+
+/// Goes over that many votes of a promise, and answers the bytes behind them. The faults are those of
+/// the first vote that has one.
+#[tactic(auto, using(crate::proofs::VotesLeft::few_left))]
+fn after_votes(part: Part, count: u8, bytes: &[u8]) -> Result<&[u8], WireFault>
+    requires { part.upto ≤ 65536 }
+    ensures exact { Gives (λ rest. (votes_left count bytes.now, rest.now)) result (votes_at part.size part.ballot part.first part.upto 0 count bytes.now) }
+    ensures few { length (votes_left count bytes.now) ≤ count }
+{
+    let mut rest = bytes;
+    let mut low = 0;
+    for _ in 0..count {
+        let (vote, behind) = vote_of(part, low, rest)?;
+        rest = behind;
+        low = vote.place + 1;
+    }
+    Ok(rest)
+}
+
+/// The body of a Prepare: a ballot of the sender's own, and the place from which on.
+#[tactic(auto, unfolding(crate::specs::Reading::prepare_at))]
+fn prepare_of(size: u8, sender: u8, bytes: &[u8]) -> Result<(BodyView<'_>, &[u8]), WireFault>
+    ensures exact { Gives (λ x. (said x.0, x.1.now)) result (prepare_at size sender bytes.now) }
+    ensures few { IfOk result (λ x. HasUpTo 64 (said x.0)) }
+{
+    let (ballot, rest) = own_ballot_of(size, sender, bytes)?;
+    let (from, rest) = place_of(65_535, rest)?;
+    Ok((BodyView::Prepare { ballot, from }, rest))
+}
+
+/// The body of a Promise. Place where `upto` is above 65,536 or not above `first`, Count where there are
+/// more than 64 votes.
+#[tactic(auto, unfolding(crate::specs::Reading::promise_at))]
+fn promise_of(size: u8, bytes: &[u8]) -> Result<(BodyView<'_>, &[u8]), WireFault>
+    ensures exact { Gives (λ x. (said x.0, x.1.now)) result (promise_at size bytes.now) }
+    ensures few { IfOk result (λ x. HasUpTo 64 (said x.0)) }
+{
+    let (ballot, rest) = ballot_of(size, bytes)?;
+    let (first, rest) = place_of(65_535, rest)?;
+    let (upto, rest) = place_of(65_536, rest)?;
+    if upto <= first {
+        return Err(WireFault::Place);
+    }
+    let (count, rest) = byte_of(rest)?;
+    if count > 64 {
+        return Err(WireFault::Count);
+    }
+    let part = Part {
+        size,
+        ballot,
+        first,
+        upto,
+    };
+    let behind = after_votes(part, count, rest)?;
+    let body = BodyView::Promise {
+        ballot,
+        first,
+        upto,
+        votes: LentVotes::new(rest, count),
+    };
+    Ok((body, behind))
+}
+
+/// The body of an Accept: a ballot of the sender's own, a place and a value.
+#[tactic(auto, unfolding(crate::specs::Reading::accept_at))]
+fn accept_of(size: u8, sender: u8, bytes: &[u8]) -> Result<(BodyView<'_>, &[u8]), WireFault>
+    ensures exact { Gives (λ x. (said x.0, x.1.now)) result (accept_at size sender bytes.now) }
+    ensures few { IfOk result (λ x. HasUpTo 64 (said x.0)) }
+{
+    let (ballot, rest) = own_ballot_of(size, sender, bytes)?;
+    let (place, rest) = place_of(65_535, rest)?;
+    let (value, rest) = value_of(size, rest)?;
+    let body = BodyView::Accept {
+        ballot,
+        place,
+        value,
+    };
+    Ok((body, rest))
+}
+
+/// The body of an Accepted: a ballot, a place and a value.
+#[tactic(auto, unfolding(crate::specs::Reading::accepted_at))]
+fn accepted_of(size: u8, bytes: &[u8]) -> Result<(BodyView<'_>, &[u8]), WireFault>
+    ensures exact { Gives (λ x. (said x.0, x.1.now)) result (accepted_at size bytes.now) }
+    ensures few { IfOk result (λ x. HasUpTo 64 (said x.0)) }
+{
+    let (ballot, rest) = ballot_of(size, bytes)?;
+    let (place, rest) = place_of(65_535, rest)?;
+    let (value, rest) = value_of(size, rest)?;
+    let body = BodyView::Accepted {
+        ballot,
+        place,
+        value,
+    };
+    Ok((body, rest))
+}
+
+/// The body of a Refused. Ballot also where what was promised is not above the refused ballot.
+#[tactic(auto, unfolding(crate::specs::Reading::refused_at))]
+fn refused_of(size: u8, bytes: &[u8]) -> Result<(BodyView<'_>, &[u8]), WireFault>
+    ensures exact { Gives (λ x. (said x.0, x.1.now)) result (refused_at size bytes.now) }
+    ensures few { IfOk result (λ x. HasUpTo 64 (said x.0)) }
+{
+    let (ballot, rest) = ballot_of(size, bytes)?;
+    let (promised, rest) = ballot_of(size, rest)?;
+    if promised <= ballot {
+        return Err(WireFault::Ballot);
+    }
+    Ok((BodyView::Refused { ballot, promised }, rest))
+}
+
+/// The body of a Submit: a key that was typed at the sender.
+#[tactic(auto, unfolding(crate::specs::Reading::submit_at))]
+fn submit_of(size: u8, sender: u8, bytes: &[u8]) -> Result<(BodyView<'_>, &[u8]), WireFault>
+    ensures exact { Gives (λ x. (said x.0, x.1.now)) result (submit_at size sender bytes.now) }
+    ensures few { IfOk result (λ x. HasUpTo 64 (said x.0)) }
+{
+    let (key, rest) = own_key_of(size, sender, bytes)?;
+    Ok((BodyView::Submit { key }, rest))
+}
+
+/// The body of an Ask: a place, which is at most 65,536.
+#[tactic(auto, unfolding(crate::specs::Reading::ask_at))]
+fn ask_of(bytes: &[u8]) -> Result<(BodyView<'_>, &[u8]), WireFault>
+    ensures exact { Gives (λ x. (said x.0, x.1.now)) result (ask_at bytes.now) }
+    ensures few { IfOk result (λ x. HasUpTo 64 (said x.0)) }
+{
+    let (from, rest) = place_of(65_536, bytes)?;
+    Ok((BodyView::Ask { from }, rest))
+}
+
+/// The body of a Tell: a place and a value.
+#[tactic(auto, unfolding(crate::specs::Reading::tell_at))]
+fn tell_of(size: u8, bytes: &[u8]) -> Result<(BodyView<'_>, &[u8]), WireFault>
+    ensures exact { Gives (λ x. (said x.0, x.1.now)) result (tell_at size bytes.now) }
+    ensures few { IfOk result (λ x. HasUpTo 64 (said x.0)) }
+{
+    let (place, rest) = place_of(65_535, bytes)?;
+    let (value, rest) = value_of(size, rest)?;
+    Ok((BodyView::Tell { place, value }, rest))
+}
+
+/// The body of a message of that kind from that sender, and the bytes behind it.
+#[tactic(auto, unfolding(crate::specs::Reading::body_at))]
+fn body_of(size: u8, kind: u8, sender: u8, bytes: &[u8]) -> Result<(BodyView<'_>, &[u8]), WireFault>
+    ensures exact { Gives (λ x. (said x.0, x.1.now)) result (body_at size kind sender bytes.now) }
+    ensures few { IfOk result (λ x. HasUpTo 64 (said x.0)) }
+{
+    match kind {
+        1 => prepare_of(size, sender, bytes),
+        2 => promise_of(size, bytes),
+        3 => accept_of(size, sender, bytes),
+        4 => accepted_of(size, bytes),
+        5 => refused_of(size, bytes),
+        6 => submit_of(size, sender, bytes),
+        7 => ask_of(bytes),
+        _ => tell_of(size, bytes),
+    }
+}
+
+/// The kind and the sender of a datagram of the group, and the bytes behind the header, which is 10
+/// bytes long. Short where there are fewer, then Magic, Version, Kind, Group and Sender.
+#[tactic(auto, unfolding(crate::specs::Reading::header_at))]
+fn header_of(group: Group, bytes: &[u8]) -> Result<((u8, u8), &[u8]), WireFault>
+    ensures { Gives (λ x. (x.0, x.1.now)) result (header_at group bytes.now) }
+{
+    if bytes.len() < 10 {
+        return Err(WireFault::Short);
+    }
+    if !(bytes[0] == 80 && bytes[1] == 71) {
+        return Err(WireFault::Magic);
+    }
+    if bytes[2] != 1 {
+        return Err(WireFault::Version);
+    }
+    if bytes[3] == 0 || bytes[3] > 8 {
+        return Err(WireFault::Kind);
+    }
+    if !(bytes[5] == group.size && BigEndian::read_u32(&bytes[6..]) == group.session) {
+        return Err(WireFault::Group);
+    }
+    if !(0 < bytes[4] && bytes[4] <= group.size) {
+        return Err(WireFault::Sender);
+    }
+    Ok(((bytes[3], bytes[4]), &bytes[10..]))
+}
+
+/// The message that is all of the datagram, or the first fault from the left; Trailing where bytes are
+/// left over.
+#[tactic(auto, unfolding(crate::specs::Reading::message_at))]
+fn message_of(bytes: &[u8], group: Group) -> Result<View<'_>, WireFault>
+    ensures exact { Gives (λ view. view) result (message_at group bytes.now) }
+    ensures few { IfOk result (λ view. HasUpTo 64 view.body) }
+{
+    let ((kind, sender), rest) = header_of(group, bytes)?;
+    let (body, rest) = body_of(group.size, kind, sender, rest)?;
+    if !rest.is_empty() {
+        return Err(WireFault::Trailing);
+    }
+    Ok(View { sender, body })
+}
+
+/// The message that is all of the datagram, or the first fault from the left. Its votes stay in the
+/// datagram, at most 64. No memory is taken, so Memory is never answered.
+pub fn decode(bytes: &[u8], group: Group) -> Result<View<'_>, WireFault>
+    // What is read is spelled so.
+    ensures found { IfOk result (λ view. Msgs group bytes.now view) }
+    // What is spelled is read.
+    ensures only { (m : Msg) → Msgs group bytes.now m → Gives (λ view. view) result (Ok m) }
+    // Which check is the first that fails.
+    ensures exact { Gives (λ view. view) result (message_at group bytes.now) }
+    // At most 64 votes may be counted or collected.
+    ensures few { IfOk result (λ view. HasUpTo 64 view.body) }
+{
+    message_of(bytes, group)
+}
+
+/// The ballot at the front of the bytes, and how many bytes it takes: 5. Ballot where the round is 0 or
+/// the node is not of the group, Short where it ends too soon.
+pub fn read_ballot(bytes: &[u8], group: Group) -> Result<(Ballot, usize), WireFault>
+    ensures exact { GivesField bytes.now result (ballot_at group.size bytes.now) }
+{
+    let (ballot, _) = ballot_of(group.size, bytes)?;
+    Ok((ballot, 5))
+}
+
+/// The value at the front of the bytes, and how many bytes it takes: 1 where it is no key, 11 for a key.
+/// Value where its tag is neither 0 nor 1, its node is not of the group, or its start or its serial is
+/// 0; Short where it ends too soon.
+pub fn read_value(bytes: &[u8], group: Group) -> Result<(Value, usize), WireFault>
+    ensures exact { GivesField bytes.now result (value_at group.size bytes.now) }
+{
+    let (value, _) = value_of(group.size, bytes)?;
+    let length = match value {
+        Value::Noop => 1,
+        Value::Key { .. } => 11,
+    };
+    Ok((value, length))
+}

@@ -1,0 +1,81 @@
+//! Datagrams of messages.
+ghost use Rattle.std.specs.Prelude.{◌≡◌, ◌+◌, ◌≤◌, ◌++◌, [], length, vec_len, vec_capacity, IfOk, IfErr};
+ghost use Rattle.paxos_msg.specs.declared.fault.WireFault.TheVariants as fault;
+ghost use Rattle.paxos_msg.specs.Fits.{Fits};
+ghost use Rattle.paxos_msg.specs.Lengths.{IsCounted};
+ghost use Rattle.paxos_msg.specs.Spelling.{body_bytes, spelling};
+
+use crate::fault::WireFault;
+use crate::message::{Body, Group, Msg};
+use crate::spelling::{
+    kind, put_ballot, put_header, put_number, put_promise, put_proposal, put_value,
+};
+use std::alloc::Global;
+
+/// Writes a body behind what the vector holds. A promise has at most 64 votes.
+fn put_body(body: &Body, out: &mut Vec<u8>)
+    requires few { IsCounted body.now }
+    requires room { vec_len out.old + length (body_bytes body.now) ≤ vec_capacity out.old }
+    ensures items { out.new.items ≡ out.old.items ++ body_bytes body.now }
+    ensures capacity { vec_capacity out.new ≡ vec_capacity out.old }
+{
+    match body {
+        Body::Prepare { ballot, from } => {
+            put_ballot(*ballot, out);
+            put_number(*from, out);
+        }
+        Body::Promise {
+            ballot,
+            first,
+            upto,
+            votes,
+        } => put_promise(*ballot, *first, *upto, votes.as_slice(), out),
+        Body::Accept {
+            ballot,
+            place,
+            value,
+        }
+        | Body::Accepted {
+            ballot,
+            place,
+            value,
+        } => put_proposal(*ballot, *place, *value, out),
+        Body::Refused { ballot, promised } => {
+            put_ballot(*ballot, out);
+            put_ballot(*promised, out);
+        }
+        Body::Submit { key } => put_value(*key, out),
+        Body::Ask { from } => put_number(*from, out),
+        Body::Tell { place, value } => {
+            put_number(*place, out);
+            put_value(*value, out);
+        }
+    }
+}
+
+/// Writes the datagram of a message that fits, at most 1,304 bytes, into an empty vector with room for
+/// 1,400. It takes no memory.
+pub fn encode_into(message: &Msg, group: Group, out: &mut Vec<u8>)
+    requires fits { Fits group message.now }
+    requires empty { vec_len out.old ≡ 0 }
+    requires room { 1400 ≤ vec_capacity out.old }
+    ensures items { out.new.items ≡ spelling group message.now }
+    ensures capacity { vec_capacity out.new ≡ vec_capacity out.old }
+{
+    put_header(group, kind(&message.body), message.sender, out);
+    put_body(&message.body, out);
+}
+
+/// The datagram of a message that fits, at most 1,304 bytes. The refusal is `Memory`, and comes where
+/// there is no memory for 1,400 bytes.
+pub fn encode(alloc: Global, message: &Msg, group: Group) -> Result<Vec<u8>, WireFault>
+    requires fits { Fits group message.now }
+    ensures ok { IfOk result (λ bytes. bytes.items ≡ spelling group message.now) }
+    ensures err { IfErr result (λ e. e ≡ fault.Memory) }
+{
+    let Ok(mut out) = Vec::with_capacity(alloc, 1400) else {
+        return Err(WireFault::Memory);
+    };
+    encode_into(message, group, &mut out);
+    Ok(out)
+}

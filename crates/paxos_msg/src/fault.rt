@@ -1,0 +1,47 @@
+//! Why a datagram is refused.
+use thiserror::Error;
+
+/// The first check that a datagram fails, from the left. Its text is the refusal's code.
+#[derive(Clone, Copy, Debug, PartialEq, Eq, Error)]
+pub enum WireFault {
+    /// The datagram has fewer than 10 bytes, or ends before a field does.
+    #[error("G1")]
+    Short,
+    /// It does not begin with the bytes `PG`.
+    #[error("G2")]
+    Magic,
+    /// Its version is not 1.
+    #[error("G3")]
+    Version,
+    /// Its kind is not 1 to 8.
+    #[error("G4")]
+    Kind,
+    /// Its size or its session is not the group's.
+    #[error("G5")]
+    Group,
+    /// Its sender is 0 or above the group's size.
+    #[error("G6")]
+    Sender,
+    /// A ballot is out of range, is not the sender's where it has to be, or stands in the wrong order to
+    /// another.
+    #[error("G7")]
+    Ballot,
+    /// A place is out of range.
+    #[error("G8")]
+    Place,
+    /// A value is out of range, or a submitted one is not a key of the sender.
+    #[error("G9")]
+    Value,
+    /// A vote's place is not above the one before.
+    #[error("G10")]
+    Order,
+    /// A promise has more than 64 votes.
+    #[error("G11")]
+    Count,
+    /// Bytes are left over.
+    #[error("G12")]
+    Trailing,
+    /// There is no memory.
+    #[error("G13")]
+    Memory,
+}

@@ -1,0 +1,85 @@
+//! The votes of a promise that lies in a datagram.
+use crate::reading::raw_vote_of;
+use crate::value::Vote;
+use std::alloc::AllocError;
+use std::marker::Model;
+
+/// Votes that lie in a datagram, in ascending order of place: an iterator that reads each as it gives
+/// it. `iter` goes over the same votes again.
+#[derive(Drop)]
+pub struct LentVotes<'a> {
+    bytes: &'a [u8],
+    count: u8,
+}
+
+impl<'a> Model for LentVotes<'a> {
+    ghost use Rattle.std.specs.Prelude.{List};
+    ghost use Rattle.paxos_msg.specs.declared.value.Vote.{Vote};
+    ghost use Rattle.paxos_msg.specs.Raw.{votes_left};
+
+    ghost Value = { List Vote };
+
+    ghost view = { λ v. votes_left v.count v.bytes.now };
+}
+
+impl<'a> LentVotes<'a> {
+    ghost use Rattle.std.specs.Prelude.{◌≡◌};
+    ghost use Rattle.paxos_msg.specs.Raw.{votes_left};
+
+    /// The votes at the front of the bytes, that many.
+    pub(crate) fn new(bytes: &'a [u8], count: u8) -> LentVotes<'a>
+        ensures { result ≡ votes_left count bytes.now }
+    {
+        LentVotes { bytes, count }
+    }
+
+    /// The same votes once more, from the first one that is still to be given.
+    pub fn iter(&self) -> LentVotes<'a>
+        ensures { result ≡ self.now }
+    {
+        LentVotes {
+            bytes: self.bytes,
+            count: self.count,
+        }
+    }
+}
+
+impl<'a> Clone for LentVotes<'a> {
+    ghost use Rattle.std.specs.Prelude.{◌≡◌, ⊤};
+
+    ghost is_clone = { λ s r. r ≡ s };
+
+    ghost is_infallible = { λ _. ⊤ };
+
+    fn clone(&self) -> Result<LentVotes<'a>, AllocError> {
+        Ok(self.iter())
+    }
+}
+
+impl<'a> Iterator for LentVotes<'a> {
+    ghost use Rattle.std.specs.Iterator.{YieldsFirst, item_count};
+
+    type Item = Vote;
+
+    ghost next_gives = { YieldsFirst (λ votes. votes) };
+
+    ghost remaining = { item_count (λ votes. votes) };
+
+    #[tactic(auto, using(crate::proofs::VotesLeft::none_left, crate::proofs::VotesLeft::first_left, crate::proofs::VotesLeft::none_more))]
+    fn next(&mut self) -> Option<Vote> {
+        if self.count == 0 {
+            return None;
+        }
+        match raw_vote_of(self.bytes) {
+            Ok((vote, rest)) => {
+                self.bytes = rest;
+                self.count -= 1;
+                Some(vote)
+            }
+            Err(_) => {
+                self.count = 0;
+                None
+            }
+        }
+    }
+}

@@ -1,0 +1,33 @@
+//! The messages of the group and the records of its acceptors: their types, the bytes of a datagram,
+//! and the laws of the protocol.
+#![tactic(auto)]
+
+mod ballot;
+pub mod choosing;
+mod decoding;
+mod encoding;
+mod fault;
+pub mod grammar;
+pub mod laws;
+mod lent;
+mod message;
+mod ranges;
+mod reading;
+mod record;
+mod spelling;
+mod value;
+mod view;
+mod votes;
+
+pub use ballot::Ballot;
+pub use decoding::{decode, read_ballot, read_value};
+pub use encoding::{encode, encode_into};
+pub use fault::WireFault;
+pub use lent::LentVotes;
+pub use message::{Body, Group, Msg};
+pub use ranges::fits;
+pub use record::{Change, Record};
+pub use spelling::{put_ballot, put_value};
+pub use value::{Value, Vote};
+pub use view::{BodyView, View};
+pub use votes::Votes;

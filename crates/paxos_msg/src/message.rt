@@ -1,0 +1,69 @@
+//! Messages.
+use crate::ballot::Ballot;
+use crate::value::Value;
+use crate::votes::Votes;
+
+/// A group of nodes.
+#[derive(Clone, Copy, Debug, PartialEq, Eq, Hash)]
+pub struct Group {
+    /// Its nodes are 1 to `size`.
+    pub size: u8,
+    /// A number that tells groups apart.
+    pub session: u32,
+}
+
+/// What a message says. Places are 0 to 65,535.
+#[derive(Drop)]
+pub enum Body {
+    /// The proposer asks for promises under its ballot, for places from `from` on.
+    Prepare {
+        ballot: Ballot,
+        from: u32,
+    },
+    /// An acceptor promises to accept nothing below the ballot, and reports its votes at the places
+    /// from `first` up to, and without, `upto`, which is at most 65,536.
+    Promise {
+        ballot: Ballot,
+        first: u32,
+        upto: u32,
+        votes: Votes,
+    },
+    /// The proposer asks to accept a value at a place.
+    Accept {
+        ballot: Ballot,
+        place: u32,
+        value: Value,
+    },
+    /// An acceptor has accepted it.
+    Accepted {
+        ballot: Ballot,
+        place: u32,
+        value: Value,
+    },
+    /// An acceptor has promised a greater ballot.
+    Refused {
+        ballot: Ballot,
+        promised: Ballot,
+    },
+    /// A node asks the leader to put its key at a place.
+    Submit {
+        key: Value,
+    },
+    /// A node asks for what is learned from a place on, which is at most 65,536.
+    Ask {
+        from: u32,
+    },
+    /// A node tells what it has learned at a place.
+    Tell {
+        place: u32,
+        value: Value,
+    },
+}
+
+/// A message and the node that sent it.
+#[derive(Drop)]
+pub struct Msg {
+    /// From 1 to the group's size.
+    pub sender: u8,
+    pub body: Body,
+}

@@ -1,0 +1,151 @@
+//! Whether a message has a spelling.
+ghost use Rattle.std.specs.Prelude.{◌≡◌, ◌↔◌, ◌≤◌, ◌<◌, IsTrue};
+ghost use Rattle.paxos_msg.specs.declared.message.Body.TheVariants as body;
+ghost use Rattle.paxos_msg.specs.Ballots.{IsBelow, IsAtMost};
+ghost use Rattle.paxos_msg.specs.Fits.{IsNode, IsBallot, IsValue, IsOwnKey, IsVote, AreVotes, IsBody, Fits};
+
+use crate::ballot::Ballot;
+use crate::message::{Body, Group, Msg};
+use crate::value::{Value, Vote};
+
+/// Whether a group of that size has the node.
+fn is_node(size: u8, node: u8) -> bool
+    ensures { IsTrue result ↔ IsNode size node }
+{
+    0 < node && node <= size
+}
+
+/// Whether a ballot's round is at least 1 and its node is one of a group of that size.
+fn fits_ballot(size: u8, ballot: Ballot) -> bool
+    ensures { IsTrue result ↔ IsBallot size ballot }
+{
+    0 < ballot.round && is_node(size, ballot.node)
+}
+
+/// Whether a value is no key, or one of a node of a group of that size, whose start and serial are at
+/// least 1.
+fn fits_value(size: u8, value: Value) -> bool
+    ensures { IsTrue result ↔ IsValue size value }
+{
+    match value {
+        Value::Noop => true,
+        Value::Key {
+            node,
+            start,
+            serial,
+            byte: _,
+        } => is_node(size, node) && 0 < start && 0 < serial,
+    }
+}
+
+/// Whether a value is a key that was typed at the node.
+fn is_own_key(node: u8, value: Value) -> bool
+    ensures { IsTrue result ↔ IsOwnKey node value }
+{
+    match value {
+        Value::Noop => false,
+        Value::Key { node: typed, .. } => typed == node,
+    }
+}
+
+/// Whether a ballot is below another.
+fn is_below(ballot: Ballot, other: Ballot) -> bool
+    ensures { IsTrue result ↔ IsBelow ballot other }
+{
+    ballot.round < other.round || (ballot.round == other.round && ballot.node < other.node)
+}
+
+/// Whether a ballot is not above another.
+fn is_at_most(ballot: Ballot, other: Ballot) -> bool
+    ensures { IsTrue result ↔ IsAtMost ballot other }
+{
+    ballot.round < other.round || (ballot.round == other.round && ballot.node <= other.node)
+}
+
+/// Whether a vote may stand in a promise under the ballot, at a place from `low` up to, and without,
+/// `upto`.
+fn fits_vote(size: u8, ballot: Ballot, low: u32, upto: u32, vote: Vote) -> bool
+    ensures { IsTrue result ↔ IsVote size ballot low upto vote }
+{
+    low <= vote.place
+        && vote.place < upto
+        && fits_ballot(size, vote.ballot)
+        && is_at_most(vote.ballot, ballot)
+        && fits_value(size, vote.value)
+}
+
+/// Whether votes may stand in a promise under the ballot: their places ascend from `first` on up to, and
+/// without, `upto`.
+fn fits_votes(size: u8, ballot: Ballot, first: u32, upto: u32, votes: &[Vote]) -> bool
+    ensures { IsTrue result ↔ AreVotes size ballot first upto votes.now }
+{
+    let mut low = first;
+    for vote in votes {
+        if !fits_vote(size, ballot, low, upto, *vote) {
+            return false;
+        }
+        low = vote.place + 1;
+    }
+    true
+}
+
+/// Whether a promise is in its ranges: `upto` is at most 65,536, `first` is below it, and there are at
+/// most 64 votes, each in order.
+fn fits_promise(size: u8, ballot: Ballot, first: u32, upto: u32, votes: &[Vote]) -> bool
+    ensures { IsTrue result ↔ IsBody size 0 (body.Promise ballot first upto votes.now) }
+{
+    fits_ballot(size, ballot)
+        && first <= 65535
+        && upto <= 65536
+        && first < upto
+        && votes.len() <= 64
+        && fits_votes(size, ballot, first, upto, votes)
+}
+
+/// Whether a body that the node sends is in its ranges.
+fn fits_body(size: u8, sender: u8, body: &Body) -> bool
+    ensures { IsTrue result ↔ IsBody size sender body.now }
+{
+    match body {
+        Body::Prepare { ballot, from } => {
+            fits_ballot(size, *ballot) && ballot.node == sender && *from <= 65535
+        }
+        Body::Promise {
+            ballot,
+            first,
+            upto,
+            votes,
+        } => fits_promise(size, *ballot, *first, *upto, votes.as_slice()),
+        Body::Accept {
+            ballot,
+            place,
+            value,
+        } => {
+            fits_ballot(size, *ballot)
+                && ballot.node == sender
+                && *place <= 65535
+                && fits_value(size, *value)
+        }
+        Body::Accepted {
+            ballot,
+            place,
+            value,
+        } => fits_ballot(size, *ballot) && *place <= 65535 && fits_value(size, *value),
+        Body::Refused { ballot, promised } => {
+            fits_ballot(size, *ballot)
+                && fits_ballot(size, *promised)
+                && is_below(*ballot, *promised)
+        }
+        Body::Submit { key } => fits_value(size, *key) && is_own_key(sender, *key),
+        Body::Ask { from } => *from <= 65536,
+        Body::Tell { place, value } => *place <= 65535 && fits_value(size, *value),
+    }
+}
+
+/// Whether a message has a spelling in the group: its sender is a node of it, and its body is in its
+/// ranges.
+pub fn fits(message: &Msg, group: Group) -> bool
+    ensures { IsTrue result ↔ Fits group message.now }
+{
+    is_node(group.size, message.sender) && fits_body(group.size, message.sender, &message.body)
+}

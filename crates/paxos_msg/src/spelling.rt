@@ -1,0 +1,153 @@
+//! Writing the parts of a datagram behind what a vector holds. Each needs the room to be there, and so
+//! takes no memory and cannot fail.
+ghost use Rattle.std.specs.Prelude.{◌≡◌, ◌+◌, ◌≤◌, ◌++◌, ◌∷◌, [], length, vec_len, vec_capacity};
+ghost use Rattle.paxos_msg.specs.Spelling.{number_bytes, ballot_bytes, value_bytes, vote_bytes, votes_bytes, kind_of, header_bytes};
+
+use crate::ballot::Ballot;
+use crate::message::{Body, Group};
+use crate::value::{Value, Vote};
+
+/// Writes a byte.
+fn put_byte(byte: u8, out: &mut Vec<u8>)
+    requires room { vec_len out.old + 1 ≤ vec_capacity out.old }
+    ensures items { out.new.items ≡ out.old.items ++ byte ∷ [] }
+    ensures len { vec_len out.new ≡ vec_len out.old + 1 }
+    ensures capacity { vec_capacity out.new ≡ vec_capacity out.old }
+{
+    out.push_reserved(byte);
+}
+
+/// Writes a number as four bytes, its high byte first.
+pub(crate) fn put_number(number: u32, out: &mut Vec<u8>)
+    requires room { vec_len out.old + 4 ≤ vec_capacity out.old }
+    ensures items { out.new.items ≡ out.old.items ++ number_bytes number }
+    ensures len { vec_len out.new ≡ vec_len out.old + 4 }
+    ensures capacity { vec_capacity out.new ≡ vec_capacity out.old }
+{
+    let [first, second, third, fourth] = number.to_be_bytes();
+    out.push_reserved(first);
+    out.push_reserved(second);
+    out.push_reserved(third);
+    out.push_reserved(fourth);
+}
+
+/// Writes a ballot behind what the vector holds: its round and its node, five bytes, for which it has to
+/// have room.
+pub fn put_ballot(ballot: Ballot, out: &mut Vec<u8>)
+    requires room { vec_len out.old + 5 ≤ vec_capacity out.old }
+    ensures items { out.new.items ≡ out.old.items ++ ballot_bytes ballot }
+    ensures len { vec_len out.new ≡ vec_len out.old + 5 }
+    ensures capacity { vec_capacity out.new ≡ vec_capacity out.old }
+{
+    put_number(ballot.round, out);
+    put_byte(ballot.node, out);
+}
+
+/// Writes a value behind what the vector holds: a 0 for no key; or a 1, and the key's node, start, serial
+/// and byte, eleven bytes. The vector has to have room for them.
+pub fn put_value(value: Value, out: &mut Vec<u8>)
+    requires room { vec_len out.old + length (value_bytes value) ≤ vec_capacity out.old }
+    ensures items { out.new.items ≡ out.old.items ++ value_bytes value }
+    ensures len { vec_len out.new ≡ vec_len out.old + length (value_bytes value) }
+    ensures capacity { vec_capacity out.new ≡ vec_capacity out.old }
+{
+    match value {
+        Value::Noop => put_byte(0, out),
+        Value::Key {
+            node,
+            start,
+            serial,
+            byte,
+        } => {
+            put_byte(1, out);
+            put_byte(node, out);
+            put_number(start, out);
+            put_number(serial, out);
+            put_byte(byte, out);
+        }
+    }
+}
+
+/// Writes a vote: its place, ballot and value.
+fn put_vote(vote: Vote, out: &mut Vec<u8>)
+    requires room { vec_len out.old + length (vote_bytes vote) ≤ vec_capacity out.old }
+    ensures items { out.new.items ≡ out.old.items ++ vote_bytes vote }
+    ensures len { vec_len out.new ≡ vec_len out.old + length (vote_bytes vote) }
+    ensures capacity { vec_capacity out.new ≡ vec_capacity out.old }
+{
+    put_number(vote.place, out);
+    put_ballot(vote.ballot, out);
+    put_value(vote.value, out);
+}
+
+/// Writes votes one after the other.
+fn put_votes(votes: &[Vote], out: &mut Vec<u8>)
+    requires room { vec_len out.old + length (votes_bytes votes.now) ≤ vec_capacity out.old }
+    ensures items { out.new.items ≡ out.old.items ++ votes_bytes votes.now }
+    ensures len { vec_len out.new ≡ vec_len out.old + length (votes_bytes votes.now) }
+    ensures capacity { vec_capacity out.new ≡ vec_capacity out.old }
+{
+    for vote in votes {
+        put_vote(*vote, out);
+    }
+}
+
+/// Writes what is in a promise: its ballot, the places from `first` up to `upto`, how many votes there
+/// are, in a byte, and the votes.
+pub(crate) fn put_promise(ballot: Ballot, first: u32, upto: u32, votes: &[Vote], out: &mut Vec<u8>)
+    requires few { length votes.now ≤ 64 }
+    requires room { vec_len out.old + 14 + length (votes_bytes votes.now) ≤ vec_capacity out.old }
+    ensures items { out.new.items ≡ out.old.items ++ (ballot_bytes ballot ++ number_bytes first ++ number_bytes upto ++ length votes.now ∷ votes_bytes votes.now) }
+    ensures len { vec_len out.new ≡ vec_len out.old + 14 + length (votes_bytes votes.now) }
+    ensures capacity { vec_capacity out.new ≡ vec_capacity out.old }
+{
+    put_ballot(ballot, out);
+    put_number(first, out);
+    put_number(upto, out);
+    put_byte(votes.len() as u8, out);
+    put_votes(votes, out);
+}
+
+/// Writes a ballot, a place and a value.
+pub(crate) fn put_proposal(ballot: Ballot, place: u32, value: Value, out: &mut Vec<u8>)
+    requires room { vec_len out.old + 9 + length (value_bytes value) ≤ vec_capacity out.old }
+    ensures items { out.new.items ≡ out.old.items ++ (ballot_bytes ballot ++ number_bytes place ++ value_bytes value) }
+    ensures len { vec_len out.new ≡ vec_len out.old + 9 + length (value_bytes value) }
+    ensures capacity { vec_capacity out.new ≡ vec_capacity out.old }
+{
+    put_ballot(ballot, out);
+    put_number(place, out);
+    put_value(value, out);
+}
+
+/// Writes the header of a datagram, ten bytes. The kind is 1 to 8.
+pub(crate) fn put_header(group: Group, kind: u8, sender: u8, out: &mut Vec<u8>)
+    requires room { vec_len out.old + 10 ≤ vec_capacity out.old }
+    ensures items { out.new.items ≡ out.old.items ++ header_bytes group kind sender }
+    ensures len { vec_len out.new ≡ vec_len out.old + 10 }
+    ensures capacity { vec_capacity out.new ≡ vec_capacity out.old }
+{
+    put_byte(b'P', out);
+    put_byte(b'G', out);
+    put_byte(1, out);
+    put_byte(kind, out);
+    put_byte(sender, out);
+    put_byte(group.size, out);
+    put_number(group.session, out);
+}
+
+/// The number of a body's kind, 1 to 8.
+pub(crate) fn kind(body: &Body) -> u8
+    ensures { result ≡ kind_of body.now }
+{
+    match body {
+        Body::Prepare { .. } => 1,
+        Body::Promise { .. } => 2,
+        Body::Accept { .. } => 3,
+        Body::Accepted { .. } => 4,
+        Body::Refused { .. } => 5,
+        Body::Submit { .. } => 6,
+        Body::Ask { .. } => 7,
+        Body::Tell { .. } => 8,
+    }
+}

@@ -1,0 +1,123 @@
+//! Which values are chosen by what was sent.
+use paxos_msg::choosing::{is_chosen, is_majority};
+use paxos_msg::{Ballot, Body, Msg, Value, Votes};
+use std::alloc::{AllocError, Global};
+use std::test::Fail;
+
+const FIRST: Ballot = Ballot { round: 1, node: 1 };
+
+const SECOND: Ballot = Ballot { round: 2, node: 2 };
+
+const KEY: Value = Value::Key {
+    node: 2,
+    start: 1,
+    serial: 1,
+    byte: 0x48,
+};
+
+/// Node `sender` says that it has accepted the key at place 0 under a ballot.
+fn accepted(sender: u8, ballot: Ballot) -> Msg {
+    Msg {
+        sender,
+        body: Body::Accepted {
+            ballot,
+            place: 0,
+            value: KEY,
+        },
+    }
+}
+
+/// A campaign of node 1 in a group of three that all nodes promise to follow, the key of node 2, and the
+/// leader's Accept of it, which the leader accepts.
+fn led(alloc: Global) -> Result<Vec<Msg>, AllocError> {
+    let mut sent = Vec::new(alloc);
+    sent.push(Msg {
+        sender: 1,
+        body: Body::Prepare {
+            ballot: FIRST,
+            from: 0,
+        },
+    })?;
+    for sender in 1..=3u8 {
+        sent.push(Msg {
+            sender,
+            body: Body::Promise {
+                ballot: FIRST,
+                first: 0,
+                upto: 65536,
+                votes: Votes::new(Vec::new(alloc)),
+            },
+        })?;
+    }
+    sent.push(Msg {
+        sender: 2,
+        body: Body::Submit { key: KEY },
+    })?;
+    sent.push(Msg {
+        sender: 1,
+        body: Body::Accept {
+            ballot: FIRST,
+            place: 0,
+            value: KEY,
+        },
+    })?;
+    sent.push(accepted(1, FIRST))?;
+    Ok(sent)
+}
+
+#[test]
+fn repeats_are_one_vote(rt: HostRuntime) -> Result<(), Fail> {
+    let mut sent = led(rt.alloc())?;
+    for _ in 0..5 {
+        sent.push(accepted(1, FIRST))?;
+    }
+    assert!(rt; !is_chosen(3, sent.as_slice(), 0, KEY));
+    sent.push(accepted(2, FIRST))?;
+    assert!(rt; is_chosen(3, sent.as_slice(), 0, KEY));
+    assert!(rt; !is_chosen(3, sent.as_slice(), 0, Value::Noop));
+    assert!(rt; !is_chosen(3, sent.as_slice(), 1, KEY));
+    // Two of four are no majority.
+    assert!(rt; !is_chosen(4, sent.as_slice(), 0, KEY));
+    Ok(())
+}
+
+#[test]
+fn ballots_after_restart(rt: HostRuntime) -> Result<(), Fail> {
+    // Node 1 begins a second ballot of its own, and nobody accepts under either.
+    let mut sent = Vec::new(rt.alloc());
+    for round in 1..=2u32 {
+        sent.push(Msg {
+            sender: 1,
+            body: Body::Prepare {
+                ballot: Ballot { round, node: 1 },
+                from: 0,
+            },
+        })?;
+    }
+    assert!(rt; !is_chosen(3, sent.as_slice(), 0, KEY));
+    // Acceptances under two ballots are not added.
+    sent.push(accepted(1, FIRST))?;
+    sent.push(accepted(2, SECOND))?;
+    assert!(rt; !is_chosen(3, sent.as_slice(), 0, KEY));
+    sent.push(accepted(3, SECOND))?;
+    assert!(rt; is_chosen(3, sent.as_slice(), 0, KEY));
+    Ok(())
+}
+
+#[test]
+fn majorities(rt: HostRuntime) {
+    for (size, members, answer) in [
+        (1, [1u8].as_slice(), true),
+        (1, [].as_slice(), false),
+        (2, [1].as_slice(), false),
+        (2, [1, 2].as_slice(), true),
+        (3, [1, 1, 1].as_slice(), false),
+        (3, [1, 3].as_slice(), true),
+        (3, [1, 4, 0].as_slice(), false),
+        (4, [1, 2].as_slice(), false),
+        (8, [1, 2, 3, 4].as_slice(), false),
+        (9, [9, 8, 7, 6, 5].as_slice(), true),
+    ] {
+        assert_eq!(rt; is_majority(size, members), answer, "{size} {members:?}");
+    }
+}
