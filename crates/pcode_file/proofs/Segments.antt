@@ -63,18 +63,16 @@ segment_again bytes k p h =
 pub count_found : (segment : List ℕ) (n : ℕ) → count_of segment ≡ Ok n → (n ≡ slice_index segment (length segment - 1)) × (0 < n) × (2 + 2 * n ≤ length segment)
 count_found segment n h =
     let m = slice_index segment (length segment - 1) in
-    let a = guard_ok (((eqb m 0) || ltb 1 m) || ltb (length segment) (2 + 2 * m)) DictionaryRange (Ok m) n h in
-    let b = or_false ((eqb m 0) || ltb 1 m) (ltb (length segment) (2 + 2 * m)) a.0 in
-    let d = or_false (eqb m 0) (ltb 1 m) b.0 in
+    let a = guard_ok ((eqb m 0) || ltb (length segment) (2 + 2 * m)) DictionaryRange (Ok m) n h in
+    let b = or_false (eqb m 0) (ltb (length segment) (2 + 2 * m)) a.0 in
     let same : m ≡ n = cc (a.1) in
-    let above : 0 < m = zero_false m d.0 in
+    let above : 0 < m = zero_false m b.0 in
     let fits : 2 + 2 * m ≤ length segment = lt_false _ _ b.1 in
     (sym same, omega arith, omega arith)
 
--- the count that is there is read, if it is one
-pub count_again : (segment : List ℕ) (n : ℕ) → n ≡ slice_index segment (length segment - 1) → 0 < n → n ≤ 1 → 2 + 2 * n ≤ length segment → count_of segment ≡ Ok n
-count_again segment n e above few fits =
+-- the count that is there is read
+pub count_again : (segment : List ℕ) (n : ℕ) → n ≡ slice_index segment (length segment - 1) → 0 < n → 2 + 2 * n ≤ length segment → count_of segment ≡ Ok n
+count_again segment n e above fits =
     let one : eqb n 0 ≡ false = false_zero n above in
-    let two : ltb 1 n ≡ false = false_lt _ _ few in
-    let three : ltb (length segment) (2 + 2 * n) ≡ false = false_lt _ _ fits in
-    rw (← e, one, two, three) refl
+    let two : ltb (length segment) (2 + 2 * n) ≡ false = false_lt _ _ fits in
+    rw (← e, one, two) refl

@@ -74,15 +74,15 @@ read_found bytes p h =
     let P : Parts → Type 0 = λ x. InEntry bytes s.0 x in
     (s.0, subst P same made)
 
--- what is in the grammar is read, if it has one procedure
-read_again : (bytes : List ℕ) (p : Parts) → InFile bytes p → length p.procs ≤ 1 → read_from bytes ≡ Ok p
+-- what is in the grammar is read
+read_again : (bytes : List ℕ) (p : Parts) → InFile bytes p → read_from bytes ≡ Ok p
 unfolding read_from
-read_again bytes p f few =
+read_again bytes p f =
     let h = f.1 in
     let n = length p.procs in
     let tables = first_again (table_at p.segment n) 1 p.procs (λ k q g. (q.jtab, table_again p.segment n (1 + k) q.jtab (h.procs.each k q g).table)) in
     let procs = all_again (proc_at p.segment n) 1 p.procs (λ k q g. proc_read p.segment p.procs k q h.procs g) in
-    rw (segment_again bytes f.0 p h, count_again p.segment n h.count h.procs.some few h.procs.dictionary, tables, procs, ← h.name, ← h.number) refl
+    rw (segment_again bytes f.0 p h, count_again p.segment n h.count h.procs.some h.procs.dictionary, tables, procs, ← h.name, ← h.number) refl
 
 -- what was answered is in the grammar
 pub found_of : (bytes : List ℕ) (r : Result Parts FileFault) → Gives r (read_from bytes) → IfOk r (InFile bytes)
@@ -90,8 +90,8 @@ found_of bytes (Ok p) h = read_found bytes p h
 found_of bytes (Err e) h = tt
 
 -- what is in the grammar was answered, unless memory ran out
-pub only_of : (bytes : List ℕ) (r : Result Parts FileFault) (p : Parts) → InFile bytes p → length p.procs ≤ 1 → Gives r (read_from bytes) → Gives r (Ok p)
-only_of bytes r p f few h = let P : Result Parts FileFault → Type 0 = λ x. Gives r x in subst P (read_again bytes p f few) h
+pub only_of : (bytes : List ℕ) (r : Result Parts FileFault) (p : Parts) → InFile bytes p → Gives r (read_from bytes) → Gives r (Ok p)
+only_of bytes r p f h = let P : Result Parts FileFault → Type 0 = λ x. Gives r x in subst P (read_again bytes p f) h
 
 -- what reading makes is whole
 pub whole_by : (p : Parts) (segment : List ℕ) (n : ℕ) → p.segment ≡ segment → length segment < 2 ^ 16 → n < 256 → 0 < n → 2 + 2 * n ≤ length segment → all_of (proc_at segment n) 1 n ≡ Ok p.procs → IsWhole p

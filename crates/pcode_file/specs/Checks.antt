@@ -46,12 +46,12 @@ linked bytes k = if word bytes (192 + 2 * k) == 0 then bytes_of bytes k (512 * w
 unfoldable pub segment_of : List ℕ → Result (ℕ × List ℕ) FileFault
 segment_of bytes = if nat_lt (length bytes) 512 then Err Short else (entry_of bytes >>= linked bytes)
 
--- ---- the third check: how many procedures; more than one are not read yet
+-- ---- the third check: how many procedures
 
 abbrev pub count_of : List ℕ → Result ℕ FileFault
 count_of segment =
     let n = slice_index segment (length segment - 1) in
-    if (n == 0) || nat_lt 1 n || nat_lt (length segment) (2 + 2 * n) then Err DictionaryRange else Ok n
+    if (n == 0) || nat_lt (length segment) (2 + 2 * n) then Err DictionaryRange else Ok n
 
 -- ---- the fourth check of procedure i, which answers its table's place
 

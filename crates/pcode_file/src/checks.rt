@@ -17,9 +17,6 @@ use crate::fault::FileFault;
 use crate::file::Proc;
 use byteorder::{ByteOrder, LittleEndian};
 
-/// How many procedures a segment may have: several are not read yet.
-const MOST_PROCEDURES: u8 = 1;
-
 /// The word of 16 bits at a place, its low byte first.
 fn word_at(bytes: &[u8], at: usize) -> u16
     requires { at + 1 < length bytes.now }
@@ -101,7 +98,7 @@ pub(crate) fn count(segment: &[u8]) -> Result<u8, FileFault>
     ensures within { IfOk result (λ n. (0 < n) × (2 + 2 * n ≤ length segment.now)) }
 {
     let n = segment[segment.len() - 1];
-    if n == 0 || n > MOST_PROCEDURES || segment.len() < 2 + 2 * usize::from(n) {
+    if n == 0 || segment.len() < 2 + 2 * usize::from(n) {
         return Err(FileFault::DictionaryRange);
     }
     Ok(n)

@@ -24,7 +24,7 @@ pub enum FileFault {
     /// The segment begins in block 0 or ends behind the file.
     #[error("F5")]
     SegmentRange,
-    /// The segment has no procedures, more than its dictionary has room for, or more than one.
+    /// The segment has no procedures, or more than its dictionary has room for.
     #[error("F6")]
     DictionaryRange,
     /// A pointer or a number in the attribute table of this procedure is out of range.

@@ -121,8 +121,8 @@ impl CodeFile {
     pub fn read(alloc: Global, bytes: &[u8]) -> Result<CodeFile, FileFault>
         // What is read is in the grammar.
         ensures found { IfOk result (InFile bytes.now) }
-        // What is in the grammar is read, unless memory runs out; more than one procedure is not read yet.
-        ensures only { (p : Parts) → InFile bytes.now p → length p.procs ≤ 1 → Gives result (Ok p) }
+        // What is in the grammar is read, unless memory runs out.
+        ensures only { (p : Parts) → InFile bytes.now p → Gives result (Ok p) }
         // Which fault is the first.
         ensures exact { Gives result (read_from bytes.now) }
     {

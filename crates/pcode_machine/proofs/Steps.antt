@@ -3,7 +3,8 @@ use Rattle.std.proofs.Common.{◌≡◌, ◌↔◌, ℕ, List, Option, Some, Non
 use Rattle.pcode_file.specs.Parts.{Parts}
 use Rattle.pcode_ops.specs.declared.instr.Instr.{Instr}
 use Rattle.pcode_ops.specs.declared.fault.OpFault.{OpFault}
-use Rattle.pcode_ops.specs.At.{At, instr_at}
+use Rattle.pcode_ops.specs.At.{At}
+use Rattle.pcode_ops.specs.Decoding.{instr_at}
 use Rattle.pcode_machine.specs.declared.turn.Direction.{Direction}
 use Rattle.pcode_machine.specs.declared.turn.Direction.TheVariants.{Reading, Writing}
 use Rattle.pcode_machine.specs.declared.turn.Frame.{Frame}
@@ -17,7 +18,7 @@ use Rattle.pcode_machine.specs.Configuration.{State, Configuration, current_of}
 use Rattle.pcode_machine.specs.Execute.{execute}
 use Rattle.pcode_machine.specs.Outcome.{Outcome, Goes, Stops, Waiting, Stuck, outcome, in_frame, pending, moved, decoded, after_effect, on_some, written, taken}
 use Rattle.pcode_machine.specs.Step.{Executes, Moves, Acts, Step, StopsBy, StopsIn, EndsIn, Ends}
-use Rattle.pcode_machine.proofs.Related.{Fails, executes_is, execute_holds, execute_fails}
+use Rattle.pcode_machine.proofs.Related.{Fails, execute_agrees}
 
 -- an instruction is decoded exactly where it stands
 abbrev pub Decodes : List ℕ → Type 0
@@ -30,7 +31,7 @@ moves_is Writing x c f t d h = rw (h.1, h.2) refl
 moves_is Reading x c f t d h = rw (h.2, h.3, h.4) refl
 
 acts_is : (p : Parts) → Decodes p.segment → (x : List ℕ) (c : Configuration) (f : Frame) (o : Option Transfer) (d : Configuration) → Acts p x c o d → pending p x c f o ≡ Goes d
-acts_is p known x c f None d h = rw ((known c.state.next h.0 h.1).1 h.3, executes_is h.0 h.1 c.state h.2 h.4, h.5) refl
+acts_is p known x c f None d h = rw ((known c.state.next h.0 h.1).1 h.3, (execute_agrees h.0 h.1 c.state).goes h.2 h.4, h.5) refl
 acts_is p known x c f (Some t) d h = moves_is t.direction x c f t d h
 
 step_in : (p : Parts) → Decodes p.segment → (x : List ℕ) (c : Configuration) (o : Option Frame) (f : Frame) (d : Configuration) → o ≡ Some f
@@ -44,7 +45,7 @@ step_is p known x c d h = step_in p known x c (current_of c.state.frames) h.0 d 
 
 instruction_stops : (c : Configuration) (f : Frame) (i : Instr) (j : ℕ) (e : End) → StopsBy c f i e → after_effect c f (execute i j c.state) ≡ Stops e
 instruction_stops c f i j ends.Normal h = rw h.1 refl
-instruction_stops c f i j (ends.Error n procedure at) h = rw (execute_fails i j c.state n h.0, h.1, h.2) refl
+instruction_stops c f i j (ends.Error n procedure at) h = rw ((execute_agrees i j c.state).fails n h.0, h.1, h.2) refl
 
 moved_stops : (dir : Direction) (x : List ℕ) (c : Configuration) (f : Frame) (t : Transfer) → byte_at c.state.words t.address ≡ None → moved dir x c f t ≡ Stops (ends.Error 7 f.procedure t.at)
 moved_stops Writing x c f t h = rw h refl
@@ -99,7 +100,7 @@ instruction_meets : (p : Parts) → Decodes p.segment → (x : List ℕ) (c : Co
     → Meets p x c f None (decoded c f r)
 instruction_meets p known x c f (Err fault) e = tt
 instruction_meets p known x c f (Ok found) e =
-    effect_meets p x c f found.0 found.1 (execute found.0 found.1 c.state) ((known c.state.next found.0 found.1).0 e) (execute_holds found.0 found.1 c.state)
+    effect_meets p x c f found.0 found.1 (execute found.0 found.1 c.state) ((known c.state.next found.0 found.1).0 e) (execute_agrees found.0 found.1 c.state).holds
 
 pending_meets : (p : Parts) → Decodes p.segment → (x : List ℕ) (c : Configuration) (f : Frame) (o : Option Transfer) → Meets p x c f o (pending p x c f o)
 pending_meets p known x c f None = instruction_meets p known x c f (instr_at p.segment c.state.next) refl

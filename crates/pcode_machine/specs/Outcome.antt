@@ -3,7 +3,7 @@ use Rattle.std.specs.Prelude.{ℕ, ◌+◌, ◌==◌, if◌then◌else◌, List,
 use Rattle.pcode_file.specs.Parts.{Parts}
 use Rattle.pcode_ops.specs.declared.instr.Instr.{Instr}
 use Rattle.pcode_ops.specs.declared.fault.OpFault.{OpFault}
-use Rattle.pcode_ops.specs.At.{instr_at}
+use Rattle.pcode_ops.specs.Decoding.{instr_at}
 use Rattle.pcode_machine.specs.declared.turn.Frame.{Frame}
 use Rattle.pcode_machine.specs.declared.turn.Transfer.{Transfer}
 use Rattle.pcode_machine.specs.declared.turn.Direction.{Direction}

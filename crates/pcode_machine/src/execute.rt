@@ -9,6 +9,10 @@ use crate::parts::MachineParts;
 use crate::turn::{Direction, Stop};
 use pcode_ops::{Instr, StandardProcedure};
 
+/// The error of an instruction or standard procedure that loading lets pass and the machine does not
+/// execute yet.
+const UNIMPLEMENTED: u8 = 11;
+
 impl MachineParts {
     /// Calls a standard procedure, and goes on at an offset.
     fn standard(&mut self, procedure: StandardProcedure, next: u32) -> Result<(), Stop>
@@ -19,6 +23,7 @@ impl MachineParts {
     {
         match procedure {
             StandardProcedure::UnitWrite => self.call(Direction::Writing, next),
+            _ => Err(Stop::Error(UNIMPLEMENTED)),
         }
     }
 
@@ -37,6 +42,7 @@ impl MachineParts {
             Instr::Lao(word) => self.push(address_of(word), next),
             Instr::Csp(procedure) => self.standard(procedure, next),
             Instr::Rbp(_) => Err(Stop::Normal),
+            _ => Err(Stop::Error(UNIMPLEMENTED)),
         }
     }
 }

@@ -5,10 +5,10 @@ use Rattle.pcode_file.specs.Parts.{Parts, end_of}
 use Rattle.pcode_ops.specs.declared.fault.OpFault.{OpFault}
 use Rattle.pcode_ops.specs.declared.fault.OpFault.TheVariants.{Cut}
 use Rattle.pcode_ops.specs.declared.instr.Instr.{Instr}
-use Rattle.pcode_ops.specs.declared.instr.Instr.TheVariants.{Sldc, Sro, Lao, Csp, Rbp}
+use Rattle.pcode_ops.specs.declared.instr.Instr.TheVariants.{Sldc, Ldcn, Ldci, Sldl, Ldl, Stl, Lla, Sldo, Ldo, Sro, Lao, Lod, Str, Lda, Sto, Sind, Ind, Inc, Ixa, Mov, Ldm, Stm, Ldb, Stb, Adi, Sbi, Mpi, Dvi, Modi, Abi, Ngi, Sqi, Chk, Land, Lor, Lnot, Equi, Neqi, Leqi, Lesi, Geqi, Grti, Equ, Neq, Leq, Les, Geq, Grt, Ujp, Fjp, Efj, Nfj, Xjp, Clp, Cgp, Cip, Csp, Rnp, Rbp, Nop}
 use Rattle.pcode_ops.specs.declared.look.Onward.{Onward}
-use Rattle.pcode_ops.specs.At.{◌>>=◌, instr_at}
-use Rattle.pcode_ops.specs.Loading.{is_in, owner, legal, onward, look, IsFine, HasNext}
+use Rattle.pcode_ops.specs.Decoding.{◌>>=◌, instr_at}
+use Rattle.pcode_ops.specs.Loading.{is_in, owner, legal, jump_to, goes, onward, look, IsFine, HasNext}
 use Rattle.pcode_ops.specs.Reach.{Reach, followed}
 use Rattle.pcode_ops.proofs.Longer.{decoded_longer}
 
@@ -18,11 +18,71 @@ goes_by : (b : Bool) (j : ℕ) (target : Option ℕ) (o : Onward) → cond b (Ok
 goes_by true j target o e = cc
 goes_by false j target o e = absurd cc
 
+-- a jump that may also go on behind itself
+branch_by : (q : Proc) (j : ℕ) (r : Result ℕ OpFault) (o : Onward) → (r >>= λ t. goes q j (Some t)) ≡ Ok o → o.next ≡ Some j
+branch_by q j (Ok t) o e = goes_by (is_in q j) j (Some t) o e
+branch_by q j (Err f) o e = absurd cc
+
 next_is : (segment : List ℕ) (q : Proc) (instr : Instr) (j : ℕ) (o : Onward) → HasNext instr → onward segment q instr j ≡ Ok o → o.next ≡ Some j
 next_is segment q (Sldc n) j o h e = goes_by (is_in q j) j None o e
+next_is segment q (Ldci n) j o h e = goes_by (is_in q j) j None o e
+next_is segment q (Sldl n) j o h e = goes_by (is_in q j) j None o e
+next_is segment q (Sldo n) j o h e = goes_by (is_in q j) j None o e
+next_is segment q (Sind n) j o h e = goes_by (is_in q j) j None o e
+next_is segment q (Ldl n) j o h e = goes_by (is_in q j) j None o e
+next_is segment q (Stl n) j o h e = goes_by (is_in q j) j None o e
+next_is segment q (Lla n) j o h e = goes_by (is_in q j) j None o e
+next_is segment q (Ldo n) j o h e = goes_by (is_in q j) j None o e
 next_is segment q (Sro n) j o h e = goes_by (is_in q j) j None o e
 next_is segment q (Lao n) j o h e = goes_by (is_in q j) j None o e
-next_is segment q (Csp p) j o h e = goes_by (is_in q j) j None o e
+next_is segment q (Ind n) j o h e = goes_by (is_in q j) j None o e
+next_is segment q (Inc n) j o h e = goes_by (is_in q j) j None o e
+next_is segment q (Ixa n) j o h e = goes_by (is_in q j) j None o e
+next_is segment q (Mov n) j o h e = goes_by (is_in q j) j None o e
+next_is segment q (Ldm n) j o h e = goes_by (is_in q j) j None o e
+next_is segment q (Stm n) j o h e = goes_by (is_in q j) j None o e
+next_is segment q (Clp n) j o h e = goes_by (is_in q j) j None o e
+next_is segment q (Cgp n) j o h e = goes_by (is_in q j) j None o e
+next_is segment q (Cip n) j o h e = goes_by (is_in q j) j None o e
+next_is segment q (Csp n) j o h e = goes_by (is_in q j) j None o e
+next_is segment q Ldcn j o h e = goes_by (is_in q j) j None o e
+next_is segment q Sto j o h e = goes_by (is_in q j) j None o e
+next_is segment q Ldb j o h e = goes_by (is_in q j) j None o e
+next_is segment q Stb j o h e = goes_by (is_in q j) j None o e
+next_is segment q Nop j o h e = goes_by (is_in q j) j None o e
+next_is segment q Adi j o h e = goes_by (is_in q j) j None o e
+next_is segment q Sbi j o h e = goes_by (is_in q j) j None o e
+next_is segment q Mpi j o h e = goes_by (is_in q j) j None o e
+next_is segment q Dvi j o h e = goes_by (is_in q j) j None o e
+next_is segment q Modi j o h e = goes_by (is_in q j) j None o e
+next_is segment q Abi j o h e = goes_by (is_in q j) j None o e
+next_is segment q Ngi j o h e = goes_by (is_in q j) j None o e
+next_is segment q Sqi j o h e = goes_by (is_in q j) j None o e
+next_is segment q Chk j o h e = goes_by (is_in q j) j None o e
+next_is segment q Land j o h e = goes_by (is_in q j) j None o e
+next_is segment q Lor j o h e = goes_by (is_in q j) j None o e
+next_is segment q Lnot j o h e = goes_by (is_in q j) j None o e
+next_is segment q Equi j o h e = goes_by (is_in q j) j None o e
+next_is segment q Neqi j o h e = goes_by (is_in q j) j None o e
+next_is segment q Leqi j o h e = goes_by (is_in q j) j None o e
+next_is segment q Lesi j o h e = goes_by (is_in q j) j None o e
+next_is segment q Geqi j o h e = goes_by (is_in q j) j None o e
+next_is segment q Grti j o h e = goes_by (is_in q j) j None o e
+next_is segment q Equ j o h e = goes_by (is_in q j) j None o e
+next_is segment q Neq j o h e = goes_by (is_in q j) j None o e
+next_is segment q Leq j o h e = goes_by (is_in q j) j None o e
+next_is segment q Les j o h e = goes_by (is_in q j) j None o e
+next_is segment q Geq j o h e = goes_by (is_in q j) j None o e
+next_is segment q Grt j o h e = goes_by (is_in q j) j None o e
+next_is segment q (Lod levels n) j o h e = goes_by (is_in q j) j None o e
+next_is segment q (Str levels n) j o h e = goes_by (is_in q j) j None o e
+next_is segment q (Lda levels n) j o h e = goes_by (is_in q j) j None o e
+next_is segment q (Fjp sb) j o h e = branch_by q j (jump_to segment q sb j) o e
+next_is segment q (Efj sb) j o h e = branch_by q j (jump_to segment q sb j) o e
+next_is segment q (Nfj sb) j o h e = branch_by q j (jump_to segment q sb j) o e
+next_is segment q (Ujp sb) j o h e = absurd h
+next_is segment q (Xjp low high sb table) j o h e = absurd h
+next_is segment q (Rnp n) j o h e = absurd h
 next_is segment q (Rbp n) j o h e = absurd h
 
 -- ---- the checks of an offset, one after the other

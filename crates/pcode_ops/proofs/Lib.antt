@@ -1,6 +1,12 @@
-pub mod Decoding
+pub mod CaseJumps
+pub mod Entries
+pub mod Finding
 pub mod Following
 pub mod Longer
 pub mod Marking
 pub mod Procedures
 pub mod Searching
+pub mod Standing
+pub mod Ending
+pub mod Leading
+pub mod Staying

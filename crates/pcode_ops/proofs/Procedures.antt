@@ -8,7 +8,7 @@ use Rattle.pcode_file.specs.InFile.{HasProc, AreProcs}
 use Rattle.pcode_ops.specs.Loading.{is_in}
 use Rattle.pcode_ops.specs.Walks.{IsPart, AreParts}
 
-is_inside : (q : Proc) (i : ℕ) → q.low ≤ i → i < end_of q → is_in q i ≡ true
+pub is_inside : (q : Proc) (i : ℕ) → q.low ≤ i → i < end_of q → is_in q i ≡ true
 is_inside q i from below =
     let one : leb q.low i ≡ true = grind (arith, nat_tests) in
     let two : ltb i (end_of q) ≡ true = grind (arith, nat_tests) in

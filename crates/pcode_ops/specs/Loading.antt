@@ -1,13 +1,14 @@
 -- All checks of an offset in their order: the first fault, or where the offset leads.
-use Rattle.std.specs.Prelude.{◌≡◌, ◌≢◌, ℕ, ◌+◌, ◌-◌, ◌*◌, ◌<◌, nat_lt, nat_le, ◌==◌, ◌&&◌, if◌then◌else◌, Bool, ◌⊎◌, List, [], ◌∷◌, take, Option, Some, None, Result, Ok, Err}
+use Rattle.std.specs.Prelude.{◌≡◌, ◌≢◌, ℕ, zero, suc, ◌+◌, ◌-◌, ◌*◌, ◌%◌, ◌<◌, nat_lt, nat_le, ◌==◌, ◌&&◌, ◌||◌, if◌then◌else◌, Bool, true, ◌⊎◌, List, [], ◌∷◌, take, Option, Some, None, Result, Ok, Err, ℤ, pos, int_le, unsigned_abs}
 use Rattle.pcode_file.specs.declared.file.Proc.{Proc}
-use Rattle.pcode_file.specs.Parts.{Parts, word, end_of}
+use Rattle.pcode_file.specs.Parts.{Parts, word, procedure_of, end_of}
 use Rattle.pcode_ops.specs.declared.instr.Instr.{Instr}
-use Rattle.pcode_ops.specs.declared.instr.Instr.TheVariants.{Sldc, Sro, Lao, Csp, Rbp}
+use Rattle.pcode_ops.specs.declared.instr.Instr.TheVariants.{Lod, Str, Lda, Ujp, Fjp, Efj, Nfj, Xjp, Clp, Cgp, Cip, Rnp, Rbp}
 use Rattle.pcode_ops.specs.declared.fault.OpFault.{OpFault}
-use Rattle.pcode_ops.specs.declared.fault.OpFault.TheVariants.{Cut, ReturnForm}
+use Rattle.pcode_ops.specs.declared.fault.OpFault.TheVariants.{Cut, NoProcedure, CallLevel, LinkDepth, ReturnForm, JumpRange}
 use Rattle.pcode_ops.specs.declared.look.Onward.{Onward}
-use Rattle.pcode_ops.specs.At.{◌>>=◌, instr_at}
+use Rattle.pcode_ops.specs.At.{cases}
+use Rattle.pcode_ops.specs.Decoding.{◌>>=◌, instr_at}
 
 abbrev pub is_in : Proc → ℕ → Bool
 is_in q i = nat_le q.low i && nat_lt i (end_of q)
@@ -17,25 +18,74 @@ abbrev pub owner : List Proc → ℕ → Result Proc OpFault
 owner [] i = Err Cut
 owner (q ∷ qs) i = if is_in q i then Ok q else owner qs i
 
+-- procedure n of these is there, and its lex level passes the test
+abbrev pub callee_by : Option Proc → (ℕ → Bool) → Result Unit OpFault
+callee_by None is_good = Err NoProcedure
+callee_by (Some callee) is_good = if is_good callee.level then Ok tt else Err CallLevel
+
+abbrev pub called : List Proc → ℕ → (ℕ → Bool) → Result Unit OpFault
+called procs n is_good = callee_by (procedure_of procs n) is_good
+
+-- so many static links up there is a frame
+abbrev pub linked : Proc → ℕ → Result Unit OpFault
+linked q levels = if nat_lt q.level levels then Err LinkDepth else Ok tt
+
 -- whether procedure q of these may hold the instruction: calls, links and returns
 abbrev pub legal : List Proc → Proc → Instr → Result Unit OpFault
-legal procs q (Sldc n) = Ok tt
-legal procs q (Sro n) = Ok tt
-legal procs q (Lao n) = Ok tt
-legal procs q (Csp p) = Ok tt
+legal procs q (Clp n) = called procs n (λ level. level == q.level + 1)
+legal procs q (Cgp n) = called procs n (λ level. level == 1)
+legal procs q (Cip n) = called procs n (λ level. nat_le 1 level && nat_le level (q.level + 1))
+legal procs q (Lod levels n) = linked q levels
+legal procs q (Str levels n) = linked q levels
+legal procs q (Lda levels n) = linked q levels
+legal procs q (Rnp n) = if (q.number == 1) || nat_lt 2 n then Err ReturnForm else Ok tt
 legal procs q (Rbp n) = if q.number == 1 then Ok tt else Err ReturnForm
+legal procs q _ = Ok tt
+
+-- ---- where jumps lead
+
+-- the self-relative pointer at a place leads into the part
+abbrev pub leads_in : List ℕ → Proc → ℕ → Bool
+leads_in segment q place = nat_le (word segment place) place && is_in q (place - word segment place)
+
+-- through the word at a place of the jump table
+abbrev pub through : List ℕ → Proc → ℕ → Result ℕ OpFault
+through segment q place = if leads_in segment q place then Ok (place - word segment place) else Err JumpRange
+
+-- A jump that ends at j: forward by SB, or where SB is below 0, through the word of the jump table at JTAB + SB,
+-- which lies in the part: SB is even and at most -10 then.
+abbrev pub jump_to : List ℕ → Proc → ℤ → ℕ → Result ℕ OpFault
+jump_to segment q sb j =
+    if int_le (pos 0) sb then (if is_in q (j + unsigned_abs sb) then Ok (j + unsigned_abs sb) else Err JumpRange)
+    else if (unsigned_abs sb % 2 == 0) && nat_le 10 (unsigned_abs sb) && nat_le (q.low + unsigned_abs sb) q.jtab then through segment q (q.jtab - unsigned_abs sb)
+    else Err JumpRange
+
+-- so many entries of a case table from a place on lead into the part
+unfoldable pub entries_in : List ℕ → Proc → ℕ → ℕ → Bool
+entries_in segment q place zero = true
+entries_in segment q place (suc n) = leads_in segment q place && entries_in segment q (place + 2) n
 
 -- the next offset, which has to lie in the part, beside a jump's target
 abbrev pub goes : Proc → ℕ → Option ℕ → Result Onward OpFault
 goes q j target = if is_in q j then Ok (record { next = Some j; target = target; table = 0; count = 0 }) else Err Cut
 
+-- a jump that may also go on behind itself
+abbrev pub branch_to : List ℕ → Proc → ℤ → ℕ → Result Onward OpFault
+branch_to segment q sb j = jump_to segment q sb j >>= λ t. goes q j (Some t)
+
 -- where an instruction of procedure q leads that ends at j: targets first, then the next offset
 abbrev pub onward : List ℕ → Proc → Instr → ℕ → Result Onward OpFault
-onward segment q (Sldc n) j = goes q j None
-onward segment q (Sro n) j = goes q j None
-onward segment q (Lao n) j = goes q j None
-onward segment q (Csp p) j = goes q j None
+onward segment q (Ujp sb) j = jump_to segment q sb j >>= λ t. Ok (record { next = None; target = Some t; table = 0; count = 0 })
+onward segment q (Fjp sb) j = branch_to segment q sb j
+onward segment q (Efj sb) j = branch_to segment q sb j
+onward segment q (Nfj sb) j = branch_to segment q sb j
+onward segment q (Xjp low high sb table) j =
+    if entries_in segment q table (cases low high)
+    then Ok (record { next = Some (table - 2); target = None; table = table; count = cases low high })
+    else Err JumpRange
+onward segment q (Rnp n) j = Ok (record { next = None; target = None; table = 0; count = 0 })
 onward segment q (Rbp n) j = Ok (record { next = None; target = None; table = 0; count = 0 })
+onward segment q _ j = goes q j None
 
 -- the instruction's own checks see the bytes up to the end of the part
 unfoldable pub look : Parts → ℕ → Result Onward OpFault
@@ -60,10 +110,10 @@ IsEntry segment table count j = (k : ℕ) × (k < count) × (j ≡ table + 2 * k
 abbrev pub LeadsTo : List ℕ → Onward → ℕ → Type 0
 LeadsTo segment o j = (o.next ≡ Some j) ⊎ (o.target ≡ Some j) ⊎ IsEntry segment o.table o.count j
 
--- whether the next offset is reached from an instruction
+-- whether the offset behind an instruction is reached from it
 abbrev pub HasNext : Instr → Type 0
-HasNext (Sldc n) = Unit {0}
-HasNext (Sro n) = Unit {0}
-HasNext (Lao n) = Unit {0}
-HasNext (Csp p) = Unit {0}
+HasNext (Ujp sb) = ⊥
+HasNext (Xjp low high sb table) = ⊥
+HasNext (Rnp n) = ⊥
 HasNext (Rbp n) = ⊥
+HasNext _ = Unit {0}

@@ -4,6 +4,9 @@ use Rattle.pcode_file.specs.declared.file.Proc.{Proc}
 use Rattle.pcode_file.specs.Parts.{Parts}
 use Rattle.pcode_ops.specs.declared.fault.LoadFault.{LoadFault}
 use Rattle.pcode_ops.specs.declared.look.Onward.{Onward}
+use Rattle.pcode_ops.specs.declared.instr.Instr.{Instr}
+use Rattle.pcode_ops.specs.declared.instr.Instr.TheVariants.{Xjp}
+use Rattle.pcode_ops.specs.At.{cases}
 use Rattle.pcode_ops.specs.Loading.{is_in, look, LeadsTo, IsFaulty, IsFine}
 use Rattle.pcode_ops.specs.Reach.{Reach, IsLoadable}
 
@@ -22,6 +25,11 @@ pub record IsWithin (size : ℕ) (o : Onward) : Type 0 where
   pub next : IfSome o.next (λ j. j < size)
   pub target : IfSome o.target (λ j. j < size)
   pub table : o.table + 2 * o.count ≤ size
+
+-- a case table lies in so many bytes, behind its UJP
+abbrev pub IsTableIn : ℕ → Instr → Type 0
+IsTableIn size (Xjp low high sb table) = (2 ≤ table) × (table + 2 * cases low high ≤ size)
+IsTableIn size _ = Unit {0}
 
 pub record Marks : Type 0 where
   pub flags : List Bool

@@ -58,7 +58,9 @@ pub enum OpFault {
 /// offset is 0.
 #[derive(Clone, Copy, Debug, PartialEq, Eq)]
 pub struct LoadFault {
+    /// The faulty offset.
     pub at: u32,
+    /// The first check that it fails.
     pub fault: OpFault,
 }
 
@@ -76,6 +78,8 @@ impl fmt::Display for LoadFault {
 /// A refusal, which hands the file back.
 #[derive(Drop)]
 pub struct LoadRefused {
+    /// Why the file is refused.
     pub fault: LoadFault,
+    /// The file that was given.
     pub file: CodeFile,
 }

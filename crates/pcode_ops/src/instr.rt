@@ -1,106 +1,186 @@
-//! Instructions, and how they stand in bytes.
-ghost use Rattle.std.specs.Prelude.{◌≡◌, ℕ, ◌<◌, ◌≤◌, length, IfOk, Ok};
-ghost use Rattle.pcode_ops.specs.declared.instr.Instr.{Instr};
-ghost use Rattle.pcode_ops.specs.At.{At, byte_at, big_at, standard_of, instr_of, instr_at};
-
-use crate::fault::OpFault;
+//! Instructions.
+ghost use Rattle.std.specs.Prelude.{◌≡◌};
 
 /// A standard procedure.
 #[derive(Clone, Copy, Debug, PartialEq, Eq)]
 pub enum StandardProcedure {
+    /// Number 0, IOCHECK: an error if the last transfer had one.
+    IoCheck,
+    /// Number 5: bytes go from a unit to memory.
+    UnitRead,
     /// Number 6: bytes go from memory to a unit.
     UnitWrite,
+    /// Number 34: pushes the result of the last transfer.
+    IoResult,
+    /// Number 39: ends the program with an error.
+    Halt,
 }
 
-/// An instruction with its operands as they stand.
+impl StandardProcedure {
+    ghost use Rattle.pcode_ops.specs.At.{number_of};
+
+    /// Its number.
+    pub fn number(self) -> u8
+        ensures { result ≡ number_of self }
+    {
+        match self {
+            StandardProcedure::IoCheck => 0,
+            StandardProcedure::UnitRead => 5,
+            StandardProcedure::UnitWrite => 6,
+            StandardProcedure::IoResult => 34,
+            StandardProcedure::Halt => 39,
+        }
+    }
+}
+
+/// An instruction with its operands as they stand. Counts and places in a frame are in words; a frame's
+/// words are counted from 1. A pointer is an address in bytes. A jump has its operand SB, in bytes: from
+/// 0 on a distance behind the instruction, below 0 a place of the jump table.
 #[derive(Clone, Copy, Debug, PartialEq, Eq)]
 pub enum Instr {
+    // Constants.
     /// Pushes a constant of 0 to 127, which is its opcode.
     Sldc(u8),
-    /// Stores to a word of the main frame.
+    /// Pushes NIL, which is 0.
+    Ldcn,
+    /// Pushes a word.
+    Ldci(u16),
+
+    // Words of the current frame, of the main frame, and of a frame so many static links up.
+    /// Pushes word 1 to 16 of the current frame.
+    Sldl(u8),
+    /// Pushes a word of the current frame.
+    Ldl(u16),
+    /// Pops a word into a word of the current frame.
+    Stl(u16),
+    /// Pushes a pointer to a word of the current frame.
+    Lla(u16),
+    /// Pushes word 1 to 16 of the main frame.
+    Sldo(u8),
+    /// Pushes a word of the main frame.
+    Ldo(u16),
+    /// Pops a word into a word of the main frame.
     Sro(u16),
-    /// Pushes the address of a word of the main frame.
+    /// Pushes a pointer to a word of the main frame.
     Lao(u16),
+    /// Pushes a word of the frame so many static links up: the links, then the word.
+    Lod(u8, u16),
+    /// Pops a word into a word of the frame so many static links up: the links, then the word.
+    Str(u8, u16),
+    /// Pushes a pointer to a word of the frame so many static links up: the links, then the word.
+    Lda(u8, u16),
+
+    // Words and bytes at pointers.
+    /// Pops a word and a pointer, and stores the word there.
+    Sto,
+    /// Pops a pointer and pushes the word 0 to 7 words behind it.
+    Sind(u8),
+    /// Pops a pointer and pushes the word so many words behind it.
+    Ind(u16),
+    /// Moves the pointer on top of the stack on by so many words.
+    Inc(u16),
+    /// Pops an index and moves the pointer below it on by so many elements of this size in words.
+    Ixa(u16),
+    /// Pops two pointers and copies so many words from the upper one to the lower one.
+    Mov(u16),
+    /// Pops a pointer and pushes so many words from there on, the first one last.
+    Ldm(u8),
+    /// Pops so many words and a pointer, and stores the words from there on, the top one first.
+    Stm(u8),
+    /// Pops an index in bytes and a base, and pushes the byte there.
+    Ldb,
+    /// Pops a word, an index in bytes and a base, and stores the word's low byte there.
+    Stb,
+
+    // Arithmetic and logic, on signed words unless it says otherwise.
+    /// Adds two words.
+    Adi,
+    /// Subtracts the top word from the one below it.
+    Sbi,
+    /// Multiplies two words.
+    Mpi,
+    /// Divides by the top word, towards zero.
+    Dvi,
+    /// The remainder of dividing by the top word, with the sign of the dividend.
+    Modi,
+    /// The absolute value of a word.
+    Abi,
+    /// The negative of a word.
+    Ngi,
+    /// The square of a word.
+    Sqi,
+    /// Pops an upper and a lower bound; it is an error if the word below them does not lie between them.
+    Chk,
+    /// The bits that two words both have.
+    Land,
+    /// The bits that at least one of two words has.
+    Lor,
+    /// The bits that a word does not have.
+    Lnot,
+
+    // Comparisons of two signed words, which push 1 or 0.
+    /// Whether they are equal.
+    Equi,
+    /// Whether they differ.
+    Neqi,
+    /// Whether the lower one is at most the top one.
+    Leqi,
+    /// Whether the lower one is less than the top one.
+    Lesi,
+    /// Whether the lower one is at least the top one.
+    Geqi,
+    /// Whether the lower one is greater than the top one.
+    Grti,
+
+    // Comparisons of Booleans, which are the low bits of two words (type byte 6).
+    /// Whether they are equal.
+    Equ,
+    /// Whether they differ.
+    Neq,
+    /// Whether the lower one is at most the top one.
+    Leq,
+    /// Whether the lower one is less than the top one.
+    Les,
+    /// Whether the lower one is at least the top one.
+    Geq,
+    /// Whether the lower one is greater than the top one.
+    Grt,
+
+    // Jumps.
+    /// Jumps.
+    Ujp(i8),
+    /// Pops a word and jumps if its low bit is 0.
+    Fjp(i8),
+    /// Pops two words and jumps if they differ.
+    Efj(i8),
+    /// Pops two words and jumps if they are equal.
+    Nfj(i8),
+    /// Pops an index and jumps to its entry of a table, or where the index has none, to the UJP in front
+    /// of the table.
+    Xjp {
+        /// The index of the first entry.
+        low: i16,
+        /// The index of the last entry.
+        high: i16,
+        /// The operand of the UJP.
+        sb: i8,
+        /// The offset at which the table begins, in bytes.
+        table: usize,
+    },
+
+    // Calls, and what ends a procedure or the program.
+    /// Calls a procedure of the lex level one more than the caller's, by its number.
+    Clp(u8),
+    /// Calls a procedure of lex level 1, by its number.
+    Cgp(u8),
+    /// Calls a procedure of a lex level from 1 to one more than the caller's, by its number.
+    Cip(u8),
     /// Calls a standard procedure.
     Csp(StandardProcedure),
+    /// Returns from a procedure and pushes so many of its words, at most 2.
+    Rnp(u8),
     /// Ends the program; the operand is not looked at.
     Rbp(u8),
-}
-
-/// The byte at an offset.
-fn byte(code: &[u8], at: usize) -> Result<u8, OpFault>
-    ensures value { result ≡ byte_at code.now at }
-    ensures within { IfOk result (λ _. at < length code.now) }
-{
-    match code.get(at) {
-        Some(b) => Ok(*b),
-        None => Err(OpFault::Cut),
-    }
-}
-
-/// The operand of one or two bytes at an offset, and the offset after it.
-fn big(code: &[u8], at: usize) -> Result<(u16, usize), OpFault>
-    ensures value { result ≡ big_at code.now at }
-    ensures within { IfOk result (λ r. r.1 ≤ length code.now) }
-{
-    let first = byte(code, at)?;
-    if first < 128 {
-        return Ok((u16::from(first), at + 1));
-    }
-    let second = byte(code, at + 1)?;
-    Ok((u16::from(first - 128) * 256 + u16::from(second), at + 2))
-}
-
-/// The call of a standard procedure by its number.
-fn standard(next: usize, number: u8) -> Result<(Instr, usize), OpFault>
-    ensures value { result ≡ standard_of next number }
-    ensures within { IfOk result (λ r. r.1 ≡ next) }
-{
-    match number {
-        6 => Ok((Instr::Csp(StandardProcedure::UnitWrite), next)),
-        _ => Err(OpFault::StandardProcedure(number)),
-    }
-}
-
-/// The instruction with an opcode that stands at an offset, and the offset after it.
-fn with_operands(code: &[u8], at: usize, opcode: u8) -> Result<(Instr, usize), OpFault>
-    requires { at < length code.now }
-    ensures value { result ≡ instr_of code.now at opcode }
-    ensures within { IfOk result (λ r. r.1 ≤ length code.now) }
-{
-    if opcode < 128 {
-        return Ok((Instr::Sldc(opcode), at + 1));
-    }
-    if opcode == 171 {
-        let (word, next) = big(code, at + 1)?;
-        return Ok((Instr::Sro(word), next));
-    }
-    if opcode == 165 {
-        let (word, next) = big(code, at + 1)?;
-        return Ok((Instr::Lao(word), next));
-    }
-    if opcode == 158 {
-        let number = byte(code, at + 1)?;
-        return standard(at + 2, number);
-    }
-    if opcode == 193 {
-        let operand = byte(code, at + 1)?;
-        return Ok((Instr::Rbp(operand), at + 2));
-    }
-    Err(OpFault::Unsupported(opcode))
-}
-
-/// The instruction at an offset of a code, and the offset after it. It sees the bytes up to the
-/// code's end.
-pub fn decode(code: &[u8], at: usize) -> Result<(Instr, usize), OpFault>
-    // What is answered stands there.
-    ensures found { IfOk result (λ r. At code.now at r.0 r.1) }
-    // What stands there is answered.
-    ensures only { (instr : Instr) (j : ℕ) → At code.now at instr j → result ≡ Ok (instr, j) }
-    // Which check is the first that fails.
-    ensures exact { result ≡ instr_at code.now at }
-    ensures within { IfOk result (λ r. r.1 ≤ length code.now) }
-{
-    let opcode = byte(code, at)?;
-    with_operands(code, at, opcode)
+    /// Does nothing.
+    Nop,
 }

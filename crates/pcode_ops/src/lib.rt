@@ -2,13 +2,17 @@
 //! of them holds an instruction that may stand there.
 #![tactic(auto)]
 
+mod decoding;
 mod fault;
 mod instr;
 pub mod laws;
+mod listing;
 mod look;
+mod opcodes;
 mod program;
 mod walk;
 
+pub use decoding::decode;
 pub use fault::{LoadFault, LoadRefused, OpFault};
-pub use instr::{Instr, StandardProcedure, decode};
+pub use instr::{Instr, StandardProcedure};
 pub use program::Program;

@@ -1,11 +1,14 @@
 //! What stands at an offset, and where it leads.
-ghost use Rattle.std.specs.Prelude.{◌≡◌, length, IfOk, IsTrue, Contains};
-ghost use Rattle.pcode_file.specs.Parts.{end_of};
-ghost use Rattle.pcode_ops.specs.Loading.{is_in, owner, legal, goes, onward, look};
-ghost use Rattle.pcode_ops.specs.Walks.{IsPart, AreParts, IsWithin};
+ghost use Rattle.std.specs.Prelude.{◌≡◌, ◌+◌, ◌-◌, ◌*◌, ◌^◌, ◌<◌, ◌≤◌, if◌then◌else◌, IsTrue, length, Contains, Some, None, Ok, Err, IfOk};
+ghost use Rattle.pcode_file.specs.Parts.{procedure_of, end_of};
+ghost use Rattle.pcode_ops.specs.Loading.{is_in, owner, called, linked, legal, leads_in, jump_to, entries_in, goes, branch_to, onward, look};
+ghost use Rattle.pcode_ops.specs.declared.fault.OpFault.TheVariants.{JumpRange};
+ghost use Rattle.pcode_ops.specs.Calls.{is_callable};
+ghost use Rattle.pcode_ops.specs.Walks.{IsPart, AreParts, IsWithin, IsTableIn};
 
+use crate::decoding::{count_cases, decode, get_word};
 use crate::fault::OpFault;
-use crate::instr::{Instr, decode};
+use crate::instr::Instr;
 use pcode_file::{CodeFile, Proc};
 
 /// Where an offset without fault leads: to the next offset, to a jump's target, and to the `count`
@@ -27,7 +30,7 @@ pub(crate) fn parts(file: &CodeFile) -> &[Proc]
 }
 
 /// The offset at which a procedure's part ends.
-fn end(part: Proc) -> u32
+pub(crate) fn end(part: Proc) -> u32
     ensures { result ≡ end_of part }
 {
     part.jtab.saturating_sub(8)
@@ -53,11 +56,81 @@ fn find_owner(procs: &[Proc], at: u32) -> Result<Proc, OpFault>
     Err(OpFault::Cut)
 }
 
+/// The procedure with a number from 1 on.
+fn callee(procs: &[Proc], n: u8) -> Option<Proc>
+    ensures { result ≡ procedure_of procs.now n }
+{
+    if n == 0 {
+        return None;
+    }
+    procs.get(usize::from(n) - 1).copied()
+}
+
+/// Which lex levels a call may lead to.
+#[derive(Clone, Copy, Debug, PartialEq, Eq)]
+enum Levels {
+    /// One more than the caller's.
+    Below,
+    /// Level 1.
+    First,
+    /// From level 1 to one more than the caller's.
+    Reachable,
+}
+
+/// Whether a procedure may call one at a lex level.
+fn may_call(levels: Levels, part: Proc, level: u8) -> bool
+    ensures { result ≡ is_callable levels part level }
+{
+    match levels {
+        Levels::Below => u16::from(level) == u16::from(part.level) + 1,
+        Levels::First => level == 1,
+        Levels::Reachable => level >= 1 && u16::from(level) <= u16::from(part.level) + 1,
+    }
+}
+
+/// Whether a procedure may call procedure `n`.
+fn call(procs: &[Proc], part: Proc, n: u8, levels: Levels) -> Result<(), OpFault>
+    ensures { result ≡ called procs.now n (is_callable levels part) }
+{
+    match callee(procs, n) {
+        None => Err(OpFault::NoProcedure),
+        Some(found) => {
+            if may_call(levels, part, found.level) {
+                Ok(())
+            } else {
+                Err(OpFault::CallLevel)
+            }
+        }
+    }
+}
+
+/// Whether a procedure has so many static links.
+fn links(part: Proc, levels: u8) -> Result<(), OpFault>
+    ensures { result ≡ linked part levels }
+{
+    if part.level < levels {
+        return Err(OpFault::LinkDepth);
+    }
+    Ok(())
+}
+
 /// Whether a procedure may hold an instruction.
 fn allowed(procs: &[Proc], part: Proc, instr: Instr) -> Result<(), OpFault>
     ensures { result ≡ legal procs.now part instr }
 {
     match instr {
+        Instr::Clp(n) => call(procs, part, n, Levels::Below),
+        Instr::Cgp(n) => call(procs, part, n, Levels::First),
+        Instr::Cip(n) => call(procs, part, n, Levels::Reachable),
+        Instr::Lod(levels, _) => links(part, levels),
+        Instr::Str(levels, _) => links(part, levels),
+        Instr::Lda(levels, _) => links(part, levels),
+        Instr::Rnp(n) => {
+            if part.number == 1 || n > 2 {
+                return Err(OpFault::ReturnForm);
+            }
+            Ok(())
+        }
         Instr::Rbp(_) => {
             if part.number == 1 {
                 Ok(())
@@ -67,6 +140,65 @@ fn allowed(procs: &[Proc], part: Proc, instr: Instr) -> Result<(), OpFault>
         }
         _ => Ok(()),
     }
+}
+
+/// Whether the self-relative pointer at a place leads into a part.
+fn is_led_in(segment: &[u8], part: Proc, place: u32) -> bool
+    requires place { place + 1 < length segment.now }
+    ensures { result ≡ leads_in segment.now part place }
+{
+    let word = u32::from(get_word(segment, place as usize));
+    word <= place && is_within(part, place - word)
+}
+
+/// The target of a jump at the end of which `next` stands.
+fn jump(segment: &[u8], part: Proc, sb: i8, next: u32) -> Result<u32, OpFault>
+    requires part { IsPart (length segment.now) part }
+    requires next { next ≤ length segment.now }
+    requires size { length segment.now < 2 ^ 16 }
+    ensures value { result ≡ jump_to segment.now part sb next }
+    ensures within { IfOk result (λ t. IsTrue (is_in part t)) }
+{
+    let by = u32::from(sb.unsigned_abs());
+    if sb >= 0 {
+        let target = next + by;
+        if !is_within(part, target) {
+            return Err(OpFault::JumpRange);
+        }
+        return Ok(target);
+    }
+    if by % 2 != 0 {
+        return Err(OpFault::JumpRange);
+    }
+    if by < 10 {
+        return Err(OpFault::JumpRange);
+    }
+    if part.jtab < part.low + by {
+        return Err(OpFault::JumpRange);
+    }
+    let place = part.jtab - by;
+    let word = u32::from(get_word(segment, place as usize));
+    if place < word {
+        return Err(OpFault::JumpRange);
+    }
+    if !is_within(part, place - word) {
+        return Err(OpFault::JumpRange);
+    }
+    Ok(place - word)
+}
+
+/// Whether each pointer of a case table leads into a part.
+fn are_led_in(segment: &[u8], part: Proc, table: u32, count: u32) -> bool
+    requires table { table + 2 * count ≤ length segment.now }
+    requires size { length segment.now < 2 ^ 16 }
+    ensures { result ≡ entries_in segment.now part table count }
+{
+    for k in 0..count {
+        if !is_led_in(segment, part, table + 2 * k) {
+            return false;
+        }
+    }
+    true
 }
 
 /// The next offset, which has to lie in the part, beside a jump's target.
@@ -85,23 +217,73 @@ fn goes_on(part: Proc, next: u32, target: Option<u32>) -> Result<Onward, OpFault
     })
 }
 
+/// No offset is reached behind the instruction but a jump's target.
+fn ends_at(target: Option<u32>) -> Onward
+    ensures { result ≡ record { next = None; target = target; table = 0; count = 0 } }
+{
+    Onward {
+        next: None,
+        target,
+        table: 0,
+        count: 0,
+    }
+}
+
+/// Where a jump leads that may also go on behind itself.
+fn branches(segment: &[u8], part: Proc, sb: i8, next: u32) -> Result<Onward, OpFault>
+    requires part { IsPart (length segment.now) part }
+    requires next { next ≤ length segment.now }
+    requires size { length segment.now < 2 ^ 16 }
+    ensures value { result ≡ branch_to segment.now part sb next }
+    ensures within { IfOk result (IsWithin (length segment.now)) }
+{
+    let target = jump(segment, part, sb, next)?;
+    goes_on(part, next, Some(target))
+}
+
+/// Where a case jump leads: to its UJP, and to the entries of its table.
+fn cases(segment: &[u8], part: Proc, table: u32, count: u32) -> Result<Onward, OpFault>
+    requires table { table + 2 * count ≤ length segment.now }
+    requires behind { 2 ≤ table }
+    requires size { length segment.now < 2 ^ 16 }
+    ensures value { result ≡ (if entries_in segment.now part table count
+        then Ok (record { next = Some (table - 2); target = None; table = table; count = count })
+        else Err JumpRange) }
+    ensures within { IfOk result (IsWithin (length segment.now)) }
+{
+    if !are_led_in(segment, part, table, count) {
+        return Err(OpFault::JumpRange);
+    }
+    Ok(Onward {
+        next: Some(table - 2),
+        target: None,
+        table,
+        count,
+    })
+}
+
 /// Where an instruction of a procedure leads that ends at `next`: targets first, then the next offset.
 fn lead(segment: &[u8], part: Proc, instr: Instr, next: u32) -> Result<Onward, OpFault>
-    requires { IsPart (length segment.now) part }
+    requires part { IsPart (length segment.now) part }
+    requires next { next ≤ length segment.now }
+    requires size { length segment.now < 2 ^ 16 }
+    requires table { IsTableIn (length segment.now) instr }
     ensures value { result ≡ onward segment.now part instr next }
     ensures within { IfOk result (IsWithin (length segment.now)) }
 {
     match instr {
-        Instr::Sldc(_) => goes_on(part, next, None),
-        Instr::Sro(_) => goes_on(part, next, None),
-        Instr::Lao(_) => goes_on(part, next, None),
-        Instr::Csp(_) => goes_on(part, next, None),
-        Instr::Rbp(_) => Ok(Onward {
-            next: None,
-            target: None,
-            table: 0,
-            count: 0,
-        }),
+        Instr::Ujp(sb) => Ok(ends_at(Some(jump(segment, part, sb, next)?))),
+        Instr::Fjp(sb) => branches(segment, part, sb, next),
+        Instr::Efj(sb) => branches(segment, part, sb, next),
+        Instr::Nfj(sb) => branches(segment, part, sb, next),
+        Instr::Xjp {
+            low,
+            high,
+            sb: _,
+            table,
+        } => cases(segment, part, table as u32, count_cases(low, high)),
+        Instr::Rnp(_) | Instr::Rbp(_) => Ok(ends_at(None)),
+        _ => goes_on(part, next, None),
     }
 }
 

@@ -1,9 +1,9 @@
 //! The search over offsets: which are reached.
 ghost use Rattle.std.specs.Prelude.{◌≡◌, ◌+◌, ◌*◌, ◌<◌, ◌≤◌, ◌↔◌, [], length, replicate, slice_get, Some, IsTrue, IfOk, IfSome, false};
-ghost use Rattle.pcode_file.specs.Parts.{word};
 ghost use Rattle.pcode_ops.specs.Loading.{IsEntry, LeadsTo};
 ghost use Rattle.pcode_ops.specs.Walks.{Marks, IsMarked, IsListing, IsWithin, Adds, IsStarted, IsExact};
 
+use crate::decoding::get_word;
 use crate::look::{Onward, examine, parts};
 use pcode_file::CodeFile;
 use std::alloc::{AllocError, Global};
@@ -77,14 +77,6 @@ impl Walk {
     }
 }
 
-/// The word at an offset, its low byte first.
-fn word_at(segment: &[u8], at: usize) -> u16
-    requires { at + 1 < length segment.now }
-    ensures { result ≡ word segment.now at }
-{
-    u16::from(segment[at]) + 256 * u16::from(segment[at + 1])
-}
-
 /// Marks an offset, if there is one.
 fn mark_some(walk: &mut Walk, at: Option<u32>)
     requires { IfSome at (λ i. i < length walk.old.flags) }
@@ -104,7 +96,7 @@ fn mark_entries(file: &CodeFile, walk: &mut Walk, table: u32, count: u32)
     let segment = file.segment();
     for k in 0..count {
         let place = table + 2 * k;
-        let word = word_at(segment, place as usize);
+        let word = get_word(segment, place as usize);
         walk.mark(place.saturating_sub(u32::from(word)));
     }
 }

@@ -14,7 +14,7 @@ use pcode_file::{CodeFile, FileFault};
 use pcode_machine::End;
 use pcode_ops::{LoadFault, Program};
 use std::alloc::Global;
-use std::io::{Read, Write};
+use std::io::{self, Read, Write};
 use std::rt::Files;
 use thiserror::Error;
 
@@ -124,6 +124,45 @@ fn run_file<H: Files + AllocGlobal, R: Read, W: Write>(
     run_bytes(rt.alloc(), bytes.as_slice(), steps, reader, writer)
 }
 
+/// The program of a code file.
+fn load_file<H: Files + AllocGlobal>(rt: &H, file: &str) -> Result<Program, Refusal> {
+    let bytes = read_file(rt, file)?;
+    load(rt.alloc(), bytes.as_slice())
+}
+
+/// Writes the line of a checked program.
+fn write_checked<W: Write>(writer: &mut W, program: &Program) -> io::Result<()> {
+    let segment = program.file().number();
+    let count = program.file().count();
+    let reached = program.reached();
+    writeln!(
+        writer,
+        "ok segment {segment} procedures {count} reached {reached}"
+    )
+}
+
+/// Checks a code file and tells its numbers.
+fn check_file<H: Files + AllocGlobal, W: Write>(
+    rt: &H,
+    file: &str,
+    writer: &mut W,
+) -> Result<(), Refusal> {
+    let program = load_file(rt, file)?;
+    write_checked(writer, &program).or(Err(Refusal::Run(RunIo::Write)))
+}
+
+/// Lists the program of a code file.
+fn list_file<H: Files + AllocGlobal, W: Write>(
+    rt: &H,
+    file: &str,
+    writer: &mut W,
+) -> Result<(), Refusal> {
+    let program = load_file(rt, file)?;
+    program
+        .write_listing(writer)
+        .or(Err(Refusal::Run(RunIo::Write)))
+}
+
 /// Tells a refusal, and gives its status.
 fn refuse<E: Write>(errors: &mut E, refusal: Refusal) -> u8 {
     let _ = writeln!(errors, "refused {refusal}");
@@ -155,6 +194,14 @@ fn tell_finish<E: Write>(errors: &mut E, finish: Finish) -> u8 {
             let _ = writeln!(errors, "steps");
             4
         }
+    }
+}
+
+/// Tells what came of a command that was done or refused, and gives its status.
+fn tell_done<E: Write>(errors: &mut E, done: Result<(), Refusal>) -> u8 {
+    match done {
+        Ok(()) => 0,
+        Err(refusal) => refuse(errors, refusal),
     }
 }
 
@@ -222,6 +269,8 @@ pub fn command<H: Files + AllocGlobal, R: Read, W: Write, E: Write>(
             let ran = run_bytes(rt.alloc(), &built_in(), STEPS, &mut nothing, writer);
             tell(errors, ran)
         }
+        Ok(Asked::Check { file }) => tell_done(errors, check_file(rt, file, writer)),
+        Ok(Asked::List { file }) => tell_done(errors, list_file(rt, file, writer)),
         Ok(Asked::Run { file, steps }) => tell(errors, run_file(rt, file, steps, reader, writer)),
         Ok(Asked::Show { group, digits }) => show(rt.alloc(), group, digits, writer, errors),
         Err(reason) => explain(writer, errors, reason),

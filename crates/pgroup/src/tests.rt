@@ -1,6 +1,8 @@
 //! The command on whole files, with its texts and statuses.
 mod choosing;
 mod datagrams;
+mod loading;
+mod opcodes;
 
 use crate::command::command;
 use pcode_file::CodeFile;
@@ -18,36 +20,34 @@ const PRINTS_A: [u8; 28] = [
     0x04, 0x00, 0x06, 0x00, 0x14, 0x00, 0x01, 0x00, 0x02, 0x00, 0x01, 0x01,
 ];
 
-/// A code file of 1,024 bytes with this segment as its entry 1.
-fn code_file(alloc: Global, segment: &[u8; 28]) -> Result<Vec<u8>, AllocError> {
-    let mut bytes = vec![in alloc; 0u8; 1024]?;
-    bytes[4] = 1;
-    bytes[6] = 28;
-    for (k, byte) in segment.iter().enumerate() {
-        bytes[512 + k] = *byte;
+/// Replaces bytes from an offset on.
+fn replace(bytes: &mut Vec<u8>, at: usize, edit: &[u8]) {
+    for (k, byte) in edit.iter().enumerate() {
+        if let Some(place) = bytes.get_mut(at.saturating_add(k)) {
+            *place = *byte;
+        }
     }
+}
+
+/// A code file of 1,024 bytes with this segment as its entry 1.
+fn code_file(alloc: Global, segment: &[u8]) -> Result<Vec<u8>, AllocError> {
+    let mut bytes = vec![in alloc; 0u8; 1024]?;
+    let length = u16::try_from(segment.len()).unwrap_or(0);
+    replace(&mut bytes, 4, &[1]);
+    replace(&mut bytes, 6, &length.to_le_bytes());
+    replace(&mut bytes, 512, segment);
     Ok(bytes)
 }
 
 /// The code file that prints A, with bytes of its segment replaced from an offset on.
-fn with_segment(alloc: Global, at: usize, bytes: &[u8]) -> Result<Vec<u8>, AllocError> {
-    let mut segment = PRINTS_A;
-    for (k, byte) in bytes.iter().enumerate() {
-        if let Some(place) = segment.get_mut(at.saturating_add(k)) {
-            *place = *byte;
-        }
-    }
-    code_file(alloc, &segment)
+fn with_segment(alloc: Global, at: usize, edit: &[u8]) -> Result<Vec<u8>, AllocError> {
+    with_file(alloc, at.saturating_add(512), edit)
 }
 
 /// The code file that prints A, with bytes of the file replaced from an offset on.
-fn with_file(alloc: Global, at: usize, bytes: &[u8]) -> Result<Vec<u8>, AllocError> {
+fn with_file(alloc: Global, at: usize, edit: &[u8]) -> Result<Vec<u8>, AllocError> {
     let mut file = code_file(alloc, &PRINTS_A)?;
-    for (k, byte) in bytes.iter().enumerate() {
-        if let Some(place) = file.get_mut(at.saturating_add(k)) {
-            *place = *byte;
-        }
-    }
+    replace(&mut file, at, edit);
     Ok(file)
 }
 
@@ -98,12 +98,12 @@ fn path_of(rt: &HostRuntime, name: &str) -> io::Result<String> {
     Ok(format!(in rt.alloc(); "{text}/pgroup_{number}_{name}")?)
 }
 
-/// Does `run` on a file of these bytes, with further words.
-fn run_file(rt: &HostRuntime, name: &str, bytes: &[u8], more: &[&str]) -> io::Result<Done> {
+/// Does a command on a file of these bytes, with further words.
+fn perform_on(rt: &HostRuntime, name: &str, bytes: &[u8], more: &[&str]) -> io::Result<Done> {
     let path = path_of(rt, name)?;
     fs::write(rt, path.as_str(), bytes)?;
     let mut words = Vec::new(rt.alloc());
-    words.push("run")?;
+    words.push(name)?;
     words.push(path.as_str())?;
     words.extend_from_slice(more)?;
     let result = perform(rt, words.as_slice());
@@ -116,21 +116,21 @@ fn prints_a(rt: HostRuntime) -> io::Result<()> {
     let file = code_file(rt.alloc(), &PRINTS_A)?;
     let bytes = file.as_slice();
     assert!(rt; perform(&rt, &[])?.is(0, "A", ""));
-    assert!(rt; run_file(&rt, "a", bytes, &[])?.is(0, "A", ""));
-    assert!(rt; run_file(&rt, "a", bytes, &["--steps", "3"])?.is(4, "", "steps\n"));
-    assert!(rt; run_file(&rt, "a", bytes, &["--steps", "10"])?.is(4, "A", "steps\n"));
-    assert!(rt; run_file(&rt, "a", bytes, &["--steps", "11"])?.is(0, "A", ""));
-    assert!(rt; run_file(&rt, "a", bytes, &["--steps=0"])?.is(4, "", "steps\n"));
-    assert!(rt; run_file(&rt, "a", bytes, &["--steps", "0011"])?.is(0, "A", ""));
+    assert!(rt; perform_on(&rt, "run", bytes, &[])?.is(0, "A", ""));
+    assert!(rt; perform_on(&rt, "run", bytes, &["--steps", "3"])?.is(4, "", "steps\n"));
+    assert!(rt; perform_on(&rt, "run", bytes, &["--steps", "10"])?.is(4, "A", "steps\n"));
+    assert!(rt; perform_on(&rt, "run", bytes, &["--steps", "11"])?.is(0, "A", ""));
+    assert!(rt; perform_on(&rt, "run", bytes, &["--steps=0"])?.is(4, "", "steps\n"));
+    assert!(rt; perform_on(&rt, "run", bytes, &["--steps", "0011"])?.is(0, "A", ""));
     Ok(())
 }
 
 #[test]
 fn unit_three_and_no_length(rt: HostRuntime) -> io::Result<()> {
     let unit_three = with_segment(rt.alloc(), 3, &[0x03])?;
-    assert!(rt; run_file(&rt, "unit", unit_three.as_slice(), &[])?.is(0, "", ""));
+    assert!(rt; perform_on(&rt, "run", unit_three.as_slice(), &[])?.is(0, "", ""));
     let no_length = with_segment(rt.alloc(), 7, &[0x00])?;
-    assert!(rt; run_file(&rt, "length", no_length.as_slice(), &[])?.is(0, "", ""));
+    assert!(rt; perform_on(&rt, "run", no_length.as_slice(), &[])?.is(0, "", ""));
     Ok(())
 }
 
@@ -139,7 +139,7 @@ fn bad_files(rt: HostRuntime) -> io::Result<()> {
     let alloc = rt.alloc();
     let whole = code_file(alloc, &PRINTS_A)?;
     let short = whole.as_slice().get(..511).unwrap_or(&[]);
-    assert!(rt; run_file(&rt, "short", short, &[])?.is(1, "", "refused F1\n"));
+    assert!(rt; perform_on(&rt, "run", short, &[])?.is(1, "", "refused F1\n"));
     for (at, edit, text) in [
         (6, [0x00, 0x00], "refused F2\n"),
         (10, [0x1c, 0x00], "refused F3\n"),
@@ -150,13 +150,13 @@ fn bad_files(rt: HostRuntime) -> io::Result<()> {
     ] {
         let file = with_file(alloc, at, &edit)?;
         assert!(rt;
-            run_file(&rt, "file", file.as_slice(), &[])?.is(1, "", text),
+            perform_on(&rt, "run", file.as_slice(), &[])?.is(1, "", text),
             "{text}"
         );
     }
     for (at, edit, text) in [
         (27, 0x0e, "refused F6\n"),
-        (27, 0x02, "refused F6\n"),
+        (27, 0x02, "refused F7 procedure 1\n"),
         (24, 0x03, "refused F7 procedure 1\n"),
         (20, 0x16, "refused F7 procedure 1\n"),
         (22, 0x02, "refused F7 procedure 1\n"),
@@ -166,7 +166,7 @@ fn bad_files(rt: HostRuntime) -> io::Result<()> {
     ] {
         let file = with_segment(alloc, at, &[edit])?;
         assert!(rt;
-            run_file(&rt, "segment", file.as_slice(), &[])?.is(1, "", text),
+            perform_on(&rt, "run", file.as_slice(), &[])?.is(1, "", text),
             "{at} {text}"
         );
     }
@@ -184,7 +184,7 @@ fn bad_opcodes(rt: HostRuntime) -> io::Result<()> {
     ] {
         let file = with_segment(alloc, at, &edit)?;
         assert!(rt;
-            run_file(&rt, "opcode", file.as_slice(), &[])?.is(1, "", text),
+            perform_on(&rt, "run", file.as_slice(), &[])?.is(1, "", text),
             "{text}"
         );
     }
@@ -195,10 +195,10 @@ fn bad_opcodes(rt: HostRuntime) -> io::Result<()> {
 fn main_frame_boundary(rt: HostRuntime) -> io::Result<()> {
     // 16,383 words fit, and 16,384 do not.
     let fits = with_segment(rt.alloc(), 14, &[0xfa, 0x7f])?;
-    assert!(rt; run_file(&rt, "fits", fits.as_slice(), &[])?.is(0, "A", ""));
+    assert!(rt; perform_on(&rt, "run", fits.as_slice(), &[])?.is(0, "A", ""));
     let too_large = with_segment(rt.alloc(), 14, &[0xfc, 0x7f])?;
     let text = "execution error 4 in procedure 1 at 0\n";
-    assert!(rt; run_file(&rt, "large", too_large.as_slice(), &[])?.is(3, "", text));
+    assert!(rt; perform_on(&rt, "run", too_large.as_slice(), &[])?.is(3, "", text));
     Ok(())
 }
 
@@ -212,7 +212,7 @@ fn execution_errors(rt: HostRuntime) -> io::Result<()> {
     ] {
         let file = with_segment(rt.alloc(), at, &edit)?;
         assert!(rt;
-            run_file(&rt, "error", file.as_slice(), &[])?.is(3, "", text),
+            perform_on(&rt, "run", file.as_slice(), &[])?.is(3, "", text),
             "{text}"
         );
     }

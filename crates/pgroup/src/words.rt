@@ -13,6 +13,10 @@ pub const STEPS: u32 = 1_000_000;
 pub enum Asked<'a> {
     /// To run the built-in program, on no input.
     BuiltIn,
+    /// To check a code file.
+    Check { file: &'a str },
+    /// To list the program of a code file.
+    List { file: &'a str },
     /// To run the program of a code file.
     Run { file: &'a str, steps: u32 },
     /// To print the datagram of these hexadecimal digits, sent in this group.
@@ -43,17 +47,30 @@ impl From<Error> for NotAsked {
     }
 }
 
+/// The word FILE.
+fn file_arg<'a>(alloc: Global) -> Arg<'a> {
+    Arg::new(alloc, "FILE")
+        .required(true)
+        .help("A UCSD II.0 code file with one linked segment")
+}
+
+/// A subcommand with the one word FILE.
+fn file_command<'a>(
+    alloc: Global,
+    name: &'static str,
+    about: &'static str,
+) -> Result<Command<'a>, AllocError> {
+    Command::new(alloc, name).about(about).arg(file_arg(alloc))
+}
+
 /// The subcommand `run FILE [--steps N]`.
 fn run_command<'a>(alloc: Global) -> Result<Command<'a>, AllocError> {
-    let file = Arg::new(alloc, "FILE")
-        .required(true)
-        .help("A UCSD II.0 code file with one linked segment");
     let steps = Arg::new(alloc, "steps").long("steps").value_name("N").help(
         "How many steps at most, in decimal digits [default: 1000000]",
     );
     Command::new(alloc, "run")
         .about("Runs a code file on standard input and output")
-        .arg(file)?
+        .arg(file_arg(alloc))?
         .arg(steps)
 }
 
@@ -83,6 +100,16 @@ fn commands<'a>(alloc: Global) -> Result<Command<'a>, AllocError> {
         .about(
             "Runs UCSD Pascal II.0 p-code programs. Without words it runs a built-in program, which prints A.",
         )
+        .subcommand(file_command(
+            alloc,
+            "check",
+            "Checks a code file, and counts its reached offsets",
+        )?)?
+        .subcommand(file_command(
+            alloc,
+            "list",
+            "Lists the reached instructions of a code file",
+        )?)?
         .subcommand(run_command(alloc)?)?
         .subcommand(show_command(alloc)?)
 }
@@ -95,9 +122,26 @@ fn decimal(text: &str) -> Option<u32> {
     text.parse::<u32>().ok()
 }
 
+/// The word FILE.
+fn read_file_word<'a>(matches: &ArgMatches<'a>) -> Result<&'a str, &'static str> {
+    matches.get_str("FILE").ok_or("FILE is missing")
+}
+
+/// What `check` asks for, or what is wrong with its words.
+fn read_check<'a>(matches: &ArgMatches<'a>) -> Result<Asked<'a>, &'static str> {
+    let file = read_file_word(matches)?;
+    Ok(Asked::Check { file })
+}
+
+/// What `list` asks for, or what is wrong with its words.
+fn read_list<'a>(matches: &ArgMatches<'a>) -> Result<Asked<'a>, &'static str> {
+    let file = read_file_word(matches)?;
+    Ok(Asked::List { file })
+}
+
 /// What `run` asks for, or what is wrong with its words.
 fn read_run<'a>(matches: &ArgMatches<'a>) -> Result<Asked<'a>, &'static str> {
-    let file = matches.get_str("FILE").ok_or("FILE is missing")?;
+    let file = read_file_word(matches)?;
     let steps = match matches.get_str("steps") {
         None => STEPS,
         Some(text) => {
@@ -131,6 +175,8 @@ pub fn read_words<'a>(alloc: Global, words: &'a [String]) -> Result<Asked<'a>, N
     let mut command = commands(alloc)?;
     let matches = command.try_get_matches_from_mut(words)?;
     let asked = match matches.subcommand() {
+        Some(("check", check)) => read_check(check),
+        Some(("list", list)) => read_list(list),
         Some(("run", run)) => read_run(run),
         Some(("show", show)) => read_show(show),
         _ => Err("a command is missing"),

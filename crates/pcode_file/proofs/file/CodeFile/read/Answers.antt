@@ -5,4 +5,4 @@ pub returns-clause-found : goal.returns-clause-found
 returns-clause-found c = found_of _ _ c.read_checked.ensures
 
 pub returns-clause-only : goal.returns-clause-only
-returns-clause-only c = λ p f few. only_of _ _ p f few c.read_checked.ensures
+returns-clause-only c = λ p f. only_of _ _ p f c.read_checked.ensures

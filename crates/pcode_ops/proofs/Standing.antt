@@ -1,0 +1,274 @@
+-- From the function to the relation: what is decoded stands in the code.
+use Rattle.std.proofs.Common.{◌≡◌, ℕ, ◌+◌, ◌-◌, ◌*◌, ◌<◌, ◌≤◌, Bool, true, false, cond, ltb, leb, eqb, ◌&&◌, List, [], ◌∷◌, Option, Some, None, Result, Ok, Err, IfOk, slice_get, refl, ◌∙◌, ap, subst, arith, inl, inr, ℤ}
+use Rattle.std.proofs.lemmas.Bool.Decides.{nat_tests}
+use Rattle.std.specs.Int.{w8, cast_signed}
+use Rattle.pcode_ops.specs.declared.instr.Instr.{Instr}
+use Rattle.pcode_ops.specs.declared.instr.Instr.TheVariants.{Sldc, Ldcn, Ldci, Sldl, Ldl, Stl, Lla, Sldo, Ldo, Sro, Lao, Lod, Str, Lda, Sto, Sind, Ind, Inc, Ixa, Mov, Ldm, Stm, Ldb, Stb, Adi, Sbi, Mpi, Dvi, Modi, Abi, Ngi, Sqi, Chk, Land, Lor, Lnot, Equi, Neqi, Leqi, Lesi, Geqi, Grti, Equ, Neq, Leq, Les, Geq, Grt, Ujp, Fjp, Efj, Nfj, Clp, Cgp, Cip, Rnp, Rbp, Nop}
+use Rattle.pcode_ops.specs.declared.fault.OpFault.{OpFault}
+use Rattle.pcode_ops.specs.declared.fault.OpFault.TheVariants as fault
+use Rattle.pcode_ops.specs.At.{HasByte, Big, At}
+use Rattle.pcode_ops.specs.Decoding.{◌>>=◌, or_cut, byte_at, word_at, big_at, short_of, pointer_of, arithmetic_of, comparison_of, plain_of, typed_of, with_byte_of, with_big_of, with_levels_of, jump_of, is_in, standard_of, or_next, or_else, special_at, jump_or_typed_at, with_operands_at, instr_of, instr_at}
+use Rattle.pcode_ops.proofs.CaseJumps.{case_jump_stands}
+
+true_below : (n m : ℕ) → ltb n m ≡ true → n < m
+true_below n m h = grind (arith, nat_tests)
+
+pub false_above : (n m : ℕ) → ltb n m ≡ false → m ≤ n
+false_above n m h = grind (arith, nat_tests)
+
+true_same : (n m : ℕ) → eqb n m ≡ true → n ≡ m
+true_same n m h = grind (arith, nat_tests)
+
+pub true_both : (a b : Bool) → (a && b) ≡ true → (a ≡ true) × (b ≡ true)
+true_both true b h = (refl, h)
+true_both false b h = absurd cc
+
+true_le : (n m : ℕ) → leb n m ≡ true → n ≤ m
+true_le n m h = grind (arith, nat_tests)
+
+-- ---- what is answered stands there
+
+abbrev pub Stands : List ℕ → ℕ → Result (Instr × ℕ) OpFault → Type 0
+Stands code i r = IfOk r (λ found. At code i found.0 found.1)
+
+by_if : (code : List ℕ) (i : ℕ) (b : Bool) (x y : Result (Instr × ℕ) OpFault) → (b ≡ true → Stands code i x) → (b ≡ false → Stands code i y) → Stands code i (cond b x y)
+by_if code i true x y f g = f refl
+by_if code i false x y f g = g refl
+
+-- what a table has for an opcode meets the rule
+abbrev OnForm : {A : Type 0} → (A → Type 0) → Option A → Type 0
+OnForm R None = Unit {0}
+OnForm R (Some x) = R x
+
+-- a line of a table, and the lines below it
+line : {A : Type 0} (R : A → Type 0) (b : Bool) (x : A) (rest : Option A) → (b ≡ true → R x) → OnForm R rest → OnForm R (cond b (Some x) rest)
+line R true x rest f g = f refl
+line R false x rest f g = g
+
+-- the first of two tables
+either : (R : Instr → Type 0) (o next : Option Instr) → OnForm R o → OnForm R next → OnForm R (or_else o next)
+either R None next f g = g
+either R (Some x) next f g = f
+
+form_stands : {A : Type 0} (code : List ℕ) (i : ℕ) (R : A → Type 0) (o : Option A) (f : A → Result (Instr × ℕ) OpFault) (rest : Result (Instr × ℕ) OpFault)
+    → OnForm R o → ((x : A) → R x → Stands code i (f x)) → Stands code i rest → Stands code i (or_next o f rest)
+form_stands code i R None f rest h g k = k
+form_stands code i R (Some x) f rest h g k = g x h
+
+-- the byte at i is the opcode that a test names
+opcode : (code : List ℕ) (i op n : ℕ) → HasByte code i op → eqb op n ≡ true → HasByte code i n
+opcode code i op n e t = e ∙ ap Some (true_same op n t)
+
+-- ---- operands
+
+abbrev IsBig : List ℕ → ℕ → Result (ℕ × ℕ) OpFault → Type 0
+IsBig code i r = IfOk r (λ found. Big code i found.0 found.1)
+
+big_chosen : (code : List ℕ) (i b : ℕ) (test : Bool) (second : Option ℕ) → ltb b 128 ≡ test → slice_get code i ≡ Some b → slice_get code (i + 1) ≡ second
+    → IsBig code i (cond test (Ok (b, i + 1)) (or_cut second >>= λ low. Ok ((b - 128) * 256 + low, i + 2)))
+big_chosen code i b true second t e f = inl (e, true_below b 128 t, refl)
+big_chosen code i b false None t e f = tt
+big_chosen code i b false (Some low) t e f =
+    let least = false_above b 128 t in
+    let whole : b ≡ b - 128 + 128 = omega arith in
+    inr (b - 128, low, e ∙ ap Some whole, f, refl, refl)
+
+big_read : (code : List ℕ) (i : ℕ) (first : Option ℕ) → slice_get code i ≡ first
+    → IsBig code i (or_cut first >>= λ b. cond (ltb b 128) (Ok (b, i + 1)) (or_cut (slice_get code (i + 1)) >>= λ low. Ok ((b - 128) * 256 + low, i + 2)))
+big_read code i None e = tt
+big_read code i (Some b) e = big_chosen code i b (ltb b 128) (slice_get code (i + 1)) refl e refl
+
+big_made : (code : List ℕ) (i at : ℕ) (make : ℕ → Instr) → ((n j : ℕ) → Big code at n j → At code i (make n) j)
+    → (r : Result (ℕ × ℕ) OpFault) → IsBig code at r → Stands code i (r >>= λ b. Ok (make b.0, b.1))
+big_made code i at make f (Err e) h = tt
+big_made code i at make f (Ok b) h = f b.0 b.1 h
+
+big_stands : (code : List ℕ) (i at : ℕ) (make : ℕ → Instr) → ((n j : ℕ) → Big code at n j → At code i (make n) j)
+    → Stands code i (big_at code at >>= λ b. Ok (make b.0, b.1))
+big_stands code i at make f = big_made code i at make f (big_at code at) (big_read code at (slice_get code at) refl)
+
+byte_made : (code : List ℕ) (i at : ℕ) (make : ℕ → Result (Instr × ℕ) OpFault) → ((n : ℕ) → HasByte code at n → Stands code i (make n))
+    → (o : Option ℕ) → slice_get code at ≡ o → Stands code i (or_cut o >>= make)
+byte_made code i at make f None e = tt
+byte_made code i at make f (Some n) e = f n e
+
+byte_stands : (code : List ℕ) (i at : ℕ) (make : ℕ → Result (Instr × ℕ) OpFault) → ((n : ℕ) → HasByte code at n → Stands code i (make n))
+    → Stands code i (byte_at code at >>= make)
+byte_stands code i at make f = byte_made code i at make f (slice_get code at) refl
+
+word_made : (code : List ℕ) (i at : ℕ) (make : ℕ → Result (Instr × ℕ) OpFault) → ((low high : ℕ) → HasByte code at low → HasByte code (at + 1) high → Stands code i (make (low + 256 * high)))
+    → (a b : Option ℕ) → slice_get code at ≡ a → slice_get code (at + 1) ≡ b → Stands code i ((or_cut a >>= λ low. or_cut b >>= λ high. Ok (low + 256 * high)) >>= make)
+word_made code i at make f None b e g = tt
+word_made code i at make f (Some low) None e g = tt
+word_made code i at make f (Some low) (Some high) e g = f low high e g
+
+word_stands : (code : List ℕ) (i at : ℕ) (make : ℕ → Result (Instr × ℕ) OpFault) → ((low high : ℕ) → HasByte code at low → HasByte code (at + 1) high → Stands code i (make (low + 256 * high)))
+    → Stands code i (word_at code at >>= make)
+word_stands code i at make f = word_made code i at make f (slice_get code at) (slice_get code (at + 1)) refl refl
+
+next_end : (i : ℕ) → i + 2 ≡ i + 1 + 1
+next_end i = omega arith
+
+-- ---- the tables
+
+-- the instruction is its opcode alone
+abbrev IsPlain : List ℕ → ℕ → Instr → Type 0
+IsPlain code i instr = At code i instr (i + 1)
+
+short_form : (code : List ℕ) (i op : ℕ) → HasByte code i op → OnForm (IsPlain code i) (short_of op)
+short_form code i op e =
+    line (IsPlain code i) (ltb op 128) (Sldc op) _ (λ t. let same : op ≡ 0 + op - 0 = omega arith in (omega arith, true_below op 128 t, (e ∙ ap Some same, refl)))
+    (line (IsPlain code i) (leb 216 op && leb op 231) (Sldl (op - 215)) _ (λ t. let a = true_both (leb 216 op) (leb op 231) t in let b = true_le 216 op a.0 in let c = true_le op 231 a.1 in
+    let same : op ≡ 216 + (op - 215) - 1 = omega arith in (omega arith, omega arith, (e ∙ ap Some same, refl)))
+    (line (IsPlain code i) (leb 232 op && leb op 247) (Sldo (op - 231)) _ (λ t. let a = true_both (leb 232 op) (leb op 247) t in let b = true_le 232 op a.0 in let c = true_le op 247 a.1 in
+    let same : op ≡ 232 + (op - 231) - 1 = omega arith in (omega arith, omega arith, (e ∙ ap Some same, refl)))
+    (line (IsPlain code i) (leb 248 op && leb op 255) (Sind (op - 248)) _ (λ t. let a = true_both (leb 248 op) (leb op 255) t in let b = true_le 248 op a.0 in let c = true_le op 255 a.1 in
+    let same : op ≡ 248 + (op - 248) - 0 = omega arith in (omega arith, omega arith, (e ∙ ap Some same, refl))) tt)))
+
+pointer_form : (code : List ℕ) (i op : ℕ) → HasByte code i op → OnForm (IsPlain code i) (pointer_of op)
+pointer_form code i op e =
+    line (IsPlain code i) (eqb op 159) Ldcn _ (λ t. (opcode code i op 159 e t, refl))
+    (line (IsPlain code i) (eqb op 154) Sto _ (λ t. (opcode code i op 154 e t, refl))
+    (line (IsPlain code i) (eqb op 190) Ldb _ (λ t. (opcode code i op 190 e t, refl))
+    (line (IsPlain code i) (eqb op 191) Stb _ (λ t. (opcode code i op 191 e t, refl))
+    (line (IsPlain code i) (eqb op 215) Nop _ (λ t. (opcode code i op 215 e t, refl)) tt))))
+
+arithmetic_form : (code : List ℕ) (i op : ℕ) → HasByte code i op → OnForm (IsPlain code i) (arithmetic_of op)
+arithmetic_form code i op e =
+    line (IsPlain code i) (eqb op 130) Adi _ (λ t. (opcode code i op 130 e t, refl))
+    (line (IsPlain code i) (eqb op 149) Sbi _ (λ t. (opcode code i op 149 e t, refl))
+    (line (IsPlain code i) (eqb op 143) Mpi _ (λ t. (opcode code i op 143 e t, refl))
+    (line (IsPlain code i) (eqb op 134) Dvi _ (λ t. (opcode code i op 134 e t, refl))
+    (line (IsPlain code i) (eqb op 142) Modi _ (λ t. (opcode code i op 142 e t, refl))
+    (line (IsPlain code i) (eqb op 128) Abi _ (λ t. (opcode code i op 128 e t, refl))
+    (line (IsPlain code i) (eqb op 145) Ngi _ (λ t. (opcode code i op 145 e t, refl))
+    (line (IsPlain code i) (eqb op 152) Sqi _ (λ t. (opcode code i op 152 e t, refl))
+    (line (IsPlain code i) (eqb op 136) Chk _ (λ t. (opcode code i op 136 e t, refl))
+    (line (IsPlain code i) (eqb op 132) Land _ (λ t. (opcode code i op 132 e t, refl))
+    (line (IsPlain code i) (eqb op 141) Lor _ (λ t. (opcode code i op 141 e t, refl))
+    (line (IsPlain code i) (eqb op 147) Lnot _ (λ t. (opcode code i op 147 e t, refl)) tt)))))))))))
+
+comparison_form : (code : List ℕ) (i op : ℕ) → HasByte code i op → OnForm (IsPlain code i) (comparison_of op)
+comparison_form code i op e =
+    line (IsPlain code i) (eqb op 195) Equi _ (λ t. (opcode code i op 195 e t, refl))
+    (line (IsPlain code i) (eqb op 203) Neqi _ (λ t. (opcode code i op 203 e t, refl))
+    (line (IsPlain code i) (eqb op 200) Leqi _ (λ t. (opcode code i op 200 e t, refl))
+    (line (IsPlain code i) (eqb op 201) Lesi _ (λ t. (opcode code i op 201 e t, refl))
+    (line (IsPlain code i) (eqb op 196) Geqi _ (λ t. (opcode code i op 196 e t, refl))
+    (line (IsPlain code i) (eqb op 197) Grti _ (λ t. (opcode code i op 197 e t, refl)) tt)))))
+
+-- the instruction is its opcode and the type byte 6
+abbrev IsTyped : List ℕ → ℕ → Instr → Type 0
+IsTyped code i instr = HasByte code (i + 1) 6 → At code i instr (i + 2)
+
+typed_form : (code : List ℕ) (i op : ℕ) → HasByte code i op → OnForm (IsTyped code i) (typed_of op)
+typed_form code i op e =
+    line (IsTyped code i) (eqb op 175) Equ _ (λ t. λ h. (opcode code i op 175 e t, (h, next_end i)))
+    (line (IsTyped code i) (eqb op 183) Neq _ (λ t. λ h. (opcode code i op 183 e t, (h, next_end i)))
+    (line (IsTyped code i) (eqb op 180) Leq _ (λ t. λ h. (opcode code i op 180 e t, (h, next_end i)))
+    (line (IsTyped code i) (eqb op 181) Les _ (λ t. λ h. (opcode code i op 181 e t, (h, next_end i)))
+    (line (IsTyped code i) (eqb op 176) Geq _ (λ t. λ h. (opcode code i op 176 e t, (h, next_end i)))
+    (line (IsTyped code i) (eqb op 177) Grt _ (λ t. λ h. (opcode code i op 177 e t, (h, next_end i))) tt)))))
+
+abbrev TakesByte : List ℕ → ℕ → (ℕ → Instr) → Type 0
+TakesByte code i make = (n : ℕ) → HasByte code (i + 1) n → At code i (make n) (i + 2)
+
+byte_form : (code : List ℕ) (i op : ℕ) → HasByte code i op → OnForm (TakesByte code i) (with_byte_of op)
+byte_form code i op e =
+    line (TakesByte code i) (eqb op 188) (λ n. Ldm n) _ (λ t. λ n h. (opcode code i op 188 e t, (h, next_end i)))
+    (line (TakesByte code i) (eqb op 189) (λ n. Stm n) _ (λ t. λ n h. (opcode code i op 189 e t, (h, next_end i)))
+    (line (TakesByte code i) (eqb op 206) (λ n. Clp n) _ (λ t. λ n h. (opcode code i op 206 e t, (h, next_end i)))
+    (line (TakesByte code i) (eqb op 207) (λ n. Cgp n) _ (λ t. λ n h. (opcode code i op 207 e t, (h, next_end i)))
+    (line (TakesByte code i) (eqb op 174) (λ n. Cip n) _ (λ t. λ n h. (opcode code i op 174 e t, (h, next_end i)))
+    (line (TakesByte code i) (eqb op 173) (λ n. Rnp n) _ (λ t. λ n h. (opcode code i op 173 e t, (h, next_end i)))
+    (line (TakesByte code i) (eqb op 193) (λ n. Rbp n) _ (λ t. λ n h. (opcode code i op 193 e t, (h, next_end i))) tt))))))
+
+abbrev TakesBig : List ℕ → ℕ → (ℕ → Instr) → Type 0
+TakesBig code i make = (n j : ℕ) → Big code (i + 1) n j → At code i (make n) j
+
+big_form : (code : List ℕ) (i op : ℕ) → HasByte code i op → OnForm (TakesBig code i) (with_big_of op)
+big_form code i op e =
+    line (TakesBig code i) (eqb op 202) (λ n. Ldl n) _ (λ t. λ n j h. (opcode code i op 202 e t, h))
+    (line (TakesBig code i) (eqb op 204) (λ n. Stl n) _ (λ t. λ n j h. (opcode code i op 204 e t, h))
+    (line (TakesBig code i) (eqb op 198) (λ n. Lla n) _ (λ t. λ n j h. (opcode code i op 198 e t, h))
+    (line (TakesBig code i) (eqb op 169) (λ n. Ldo n) _ (λ t. λ n j h. (opcode code i op 169 e t, h))
+    (line (TakesBig code i) (eqb op 171) (λ n. Sro n) _ (λ t. λ n j h. (opcode code i op 171 e t, h))
+    (line (TakesBig code i) (eqb op 165) (λ n. Lao n) _ (λ t. λ n j h. (opcode code i op 165 e t, h))
+    (line (TakesBig code i) (eqb op 163) (λ n. Ind n) _ (λ t. λ n j h. (opcode code i op 163 e t, h))
+    (line (TakesBig code i) (eqb op 162) (λ n. Inc n) _ (λ t. λ n j h. (opcode code i op 162 e t, h))
+    (line (TakesBig code i) (eqb op 164) (λ n. Ixa n) _ (λ t. λ n j h. (opcode code i op 164 e t, h))
+    (line (TakesBig code i) (eqb op 168) (λ n. Mov n) _ (λ t. λ n j h. (opcode code i op 168 e t, h)) tt)))))))))
+
+abbrev TakesLevels : List ℕ → ℕ → (ℕ → ℕ → Instr) → Type 0
+TakesLevels code i make = (levels n j : ℕ) → HasByte code (i + 1) levels → Big code (i + 2) n j → At code i (make levels n) j
+
+levels_form : (code : List ℕ) (i op : ℕ) → HasByte code i op → OnForm (TakesLevels code i) (with_levels_of op)
+levels_form code i op e =
+    line (TakesLevels code i) (eqb op 182) (λ levels n. Lod levels n) _ (λ t. λ levels n j g h. (opcode code i op 182 e t, g, h))
+    (line (TakesLevels code i) (eqb op 184) (λ levels n. Str levels n) _ (λ t. λ levels n j g h. (opcode code i op 184 e t, g, h))
+    (line (TakesLevels code i) (eqb op 178) (λ levels n. Lda levels n) _ (λ t. λ levels n j g h. (opcode code i op 178 e t, g, h)) tt))
+
+abbrev TakesSigned : List ℕ → ℕ → (ℤ → Instr) → Type 0
+TakesSigned code i make = (b : ℕ) → HasByte code (i + 1) b → At code i (make (cast_signed w8 b)) (i + 2)
+
+jump_form : (code : List ℕ) (i op : ℕ) → HasByte code i op → OnForm (TakesSigned code i) (jump_of op)
+jump_form code i op e =
+    line (TakesSigned code i) (eqb op 185) (λ sb. Ujp sb) _ (λ t. λ b h. (opcode code i op 185 e t, (b, h, refl, next_end i)))
+    (line (TakesSigned code i) (eqb op 161) (λ sb. Fjp sb) _ (λ t. λ b h. (opcode code i op 161 e t, (b, h, refl, next_end i)))
+    (line (TakesSigned code i) (eqb op 211) (λ sb. Efj sb) _ (λ t. λ b h. (opcode code i op 211 e t, (b, h, refl, next_end i)))
+    (line (TakesSigned code i) (eqb op 212) (λ sb. Nfj sb) _ (λ t. λ b h. (opcode code i op 212 e t, (b, h, refl, next_end i))) tt)))
+
+-- ---- instructions
+
+standard_stands : (code : List ℕ) (i n : ℕ) → HasByte code i 158 → HasByte code (i + 1) n → Stands code i (standard_of (i + 2) n)
+standard_stands code i n e h =
+    by_if code i (eqb n 0) _ _ (λ t. (e, (opcode code (i + 1) n 0 h t, next_end i)))
+    (λ _. by_if code i (eqb n 5) _ _ (λ t. (e, (opcode code (i + 1) n 5 h t, next_end i)))
+    (λ _. by_if code i (eqb n 6) _ _ (λ t. (e, (opcode code (i + 1) n 6 h t, next_end i)))
+    (λ _. by_if code i (eqb n 34) _ _ (λ t. (e, (opcode code (i + 1) n 34 h t, next_end i)))
+    (λ _. by_if code i (eqb n 39) _ _ (λ t. (e, (opcode code (i + 1) n 39 h t, next_end i)))
+    (λ _. by_if code i (is_in n (1 ∷ 32 ∷ 33 ∷ [])) (Err fault.Heap) (Err (fault.StandardProcedure n)) (λ _. tt) (λ _. tt))))))
+
+special_stands : (code : List ℕ) (i op : ℕ) → HasByte code i op → Stands code i (special_at code i op)
+special_stands code i op e =
+    by_if code i (eqb op 199) _ _ (λ t. word_stands code i (i + 1) (λ n. Ok (Ldci n, i + 3)) (λ low high g h. (opcode code i op 199 e t, (low, high, g, h, refl, omega arith))))
+    (λ _. by_if code i (eqb op 158) _ _ (λ t. byte_stands code i (i + 1) (standard_of (i + 2)) (λ n h. standard_stands code i n (opcode code i op 158 e t) h))
+    (λ _. by_if code i (eqb op 172) _ _ (λ t. case_jump_stands code i (opcode code i op 172 e t)) (λ _. tt)))
+
+-- a type byte other than 6 is refused
+typed_by : (code : List ℕ) (i op n : ℕ) (instr : Instr) → IsTyped code i instr → HasByte code (i + 1) n → Stands code i (cond (eqb n 6) (Ok (instr, i + 2)) (Err (fault.Unsupported op)))
+typed_by code i op n instr f h = by_if code i (eqb n 6) _ _ (λ t. f (opcode code (i + 1) n 6 h t)) (λ _. tt)
+
+jump_or_typed_stands : (code : List ℕ) (i op : ℕ) → HasByte code i op → Stands code i (jump_or_typed_at code i op)
+jump_or_typed_stands code i op e =
+    form_stands code i (TakesSigned code i) (jump_of op) _ _ (jump_form code i op e) (λ make f. byte_stands code i (i + 1) (λ b. Ok (make (cast_signed w8 b), i + 2)) (λ b h. f b h))
+    (form_stands code i (IsTyped code i) (typed_of op) _ _ (typed_form code i op e) (λ instr f. byte_stands code i (i + 1) (λ n. cond (eqb n 6) (Ok (instr, i + 2)) (Err (fault.Unsupported op))) (λ n h. typed_by code i op n instr f h))
+    (special_stands code i op e))
+
+with_operands_stands : (code : List ℕ) (i op : ℕ) → HasByte code i op → Stands code i (with_operands_at code i op)
+with_operands_stands code i op e =
+    form_stands code i (TakesByte code i) (with_byte_of op) _ _ (byte_form code i op e) (λ make f. byte_stands code i (i + 1) (λ n. Ok (make n, i + 2)) (λ n h. f n h))
+    (form_stands code i (TakesBig code i) (with_big_of op) _ _ (big_form code i op e) (λ make f. big_stands code i (i + 1) make f)
+    (form_stands code i (TakesLevels code i) (with_levels_of op) _ _ (levels_form code i op e)
+    (λ make f. byte_stands code i (i + 1) (λ levels. big_at code (i + 2) >>= λ n. Ok (make levels n.0, n.1)) (λ levels g. big_stands code i (i + 2) (make levels) (λ n j h. f levels n j g h)))
+    (jump_or_typed_stands code i op e)))
+
+plain_form : (code : List ℕ) (i op : ℕ) → HasByte code i op → OnForm (IsPlain code i) (plain_of op)
+plain_form code i op e =
+    either (IsPlain code i) (short_of op) _ (short_form code i op e)
+    (either (IsPlain code i) (pointer_of op) _ (pointer_form code i op e)
+    (either (IsPlain code i) (arithmetic_of op) _ (arithmetic_form code i op e) (comparison_form code i op e)))
+
+instr_stands : (code : List ℕ) (i op : ℕ) → HasByte code i op → Stands code i (instr_of code i op)
+instr_stands code i op e =
+    form_stands code i (IsPlain code i) (plain_of op) _ _ (plain_form code i op e) (λ instr h. h) (with_operands_stands code i op e)
+
+all_stands : (code : List ℕ) (i : ℕ) (o : Option ℕ) → slice_get code i ≡ o → Stands code i (or_cut o >>= instr_of code i)
+all_stands code i None e = tt
+all_stands code i (Some op) e = instr_stands code i op e
+
+pub decoded_at : (code : List ℕ) (i : ℕ) (instr : Instr) (j : ℕ) → instr_at code i ≡ Ok (instr, j) → At code i instr j
+decoded_at code i instr j e = let P : Result (Instr × ℕ) OpFault → Type 0 = Stands code i in subst P e (all_stands code i (slice_get code i) refl)
+
+pub answer_stands : (code : List ℕ) (i : ℕ) (r : Result (Instr × ℕ) OpFault) → r ≡ instr_at code i → IfOk r (λ found. At code i found.0 found.1)
+answer_stands code i r e = rw e (all_stands code i (slice_get code i) refl)
