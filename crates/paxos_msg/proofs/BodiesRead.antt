@@ -7,7 +7,8 @@ use Rattle.paxos_msg.specs.declared.fault.WireFault.{WireFault}
 use Rattle.paxos_msg.specs.declared.fault.WireFault.TheVariants as fault
 use Rattle.paxos_msg.specs.Fits.{IsBody}
 use Rattle.paxos_msg.specs.Spelling.{number_bytes, ballot_bytes, value_bytes, votes_bytes, kind_of, body_bytes}
-use Rattle.paxos_msg.specs.Reading.{byte_at, ballot_at, own_ballot_at, ballot_lt, place_at, value_at, own_key_at, votes_at, prepare_at, promise_at, accept_at, accepted_at, refused_at, submit_at, ask_at, tell_at, body_at}
+use Rattle.paxos_msg.specs.Reading.{byte_at, ballot_at, own_ballot_at, place_at, value_at, own_key_at, votes_at, prepare_at, promise_at, accept_at, accepted_at, refused_at, submit_at, ask_at, tell_at, body_at}
+use Rattle.paxos_msg.specs.Tests.{ballot_lt}
 use Rattle.paxos_msg.specs.Grammar.{AreBytes}
 use Rattle.paxos_msg.proofs.Guards.{bind_ok, unless_ok, ok_is, Takes, takes_then, not_false}
 use Rattle.paxos_msg.proofs.Numbers.{byte_found}

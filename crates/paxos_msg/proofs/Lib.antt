@@ -21,3 +21,4 @@ pub mod HeaderRead
 pub mod MessagesRead
 pub mod SpellingLengths
 pub mod Answered
+mod Ascending

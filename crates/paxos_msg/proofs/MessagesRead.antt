@@ -4,17 +4,19 @@ use Rattle.std.proofs.lemmas.Bool.{eqb-true}
 use Rattle.std.proofs.lemmas.List.{append-nil, nil_from_length}
 use Rattle.paxos_msg.specs.declared.ballot.Ballot.{Ballot}
 use Rattle.paxos_msg.specs.declared.value.Value.{Value}
+use Rattle.paxos_msg.specs.declared.value.Vote.{Vote}
 use Rattle.paxos_msg.specs.declared.message.Group.{Group}
 use Rattle.paxos_msg.specs.declared.message.Body.{Body}
 use Rattle.paxos_msg.specs.declared.message.Body.TheVariants.{Prepare, Promise, Accept, Accepted, Refused, Submit, Ask, Tell}
 use Rattle.paxos_msg.specs.declared.message.Msg.{Msg}
 use Rattle.paxos_msg.specs.declared.fault.WireFault.TheVariants as fault
-use Rattle.paxos_msg.specs.Fits.{IsBallot, IsValue, Fits}
-use Rattle.paxos_msg.specs.Spelling.{ballot_bytes, value_bytes, kind_of, body_bytes, header_bytes, spelling, Msgs}
-use Rattle.paxos_msg.specs.Reading.{ballot_at, value_at, header_at, body_at, message_at}
+use Rattle.paxos_msg.specs.Fits.{AreVotes, IsBallot, IsValue, Fits}
+use Rattle.paxos_msg.specs.Spelling.{ballot_bytes, value_bytes, votes_bytes, kind_of, body_bytes, header_bytes, spelling, Msgs}
+use Rattle.paxos_msg.specs.Reading.{ballot_at, value_at, votes_at, header_at, body_at, message_at}
 use Rattle.paxos_msg.specs.Grammar.{AreBytes, IsGroup}
 use Rattle.paxos_msg.proofs.Guards.{bind_ok, last_ok, ok_is, takes_then, not_false}
 use Rattle.paxos_msg.proofs.FieldsRead.{ballot_found, ballot_again, value_found, value_again}
+use Rattle.paxos_msg.proofs.VotesRead.{votes_found, votes_again}
 use Rattle.paxos_msg.proofs.BodiesRead.{body_found, body_again}
 use Rattle.paxos_msg.proofs.HeaderRead.{header_found, header_again}
 
@@ -33,6 +35,13 @@ value_there size bytes v rest h = rw (h.1) (value_again size v rest h.0)
 pub value_is_spelling : (size : ℕ) (bytes : List ℕ) (v : Value) (rest : List ℕ) → AreBytes bytes → (value_at size bytes ≡ Ok (v, rest)) ↔ (IsValue size v × (bytes ≡ value_bytes v ++ rest))
 value_is_spelling size bytes v rest are =
     (λ e. (let f = value_found size bytes (v, rest) are e in (f.1, f.0.parts)), λ h. value_there size bytes v rest h)
+
+votes_there : (size n : ℕ) (b : Ballot) (bytes : List ℕ) (votes : List Vote) (rest : List ℕ) → AreVotes size b 0 65536 votes × (length votes ≡ n) × (bytes ≡ votes_bytes votes ++ rest) → votes_at size b 0 65536 0 n bytes ≡ Ok (votes, rest)
+votes_there size n b bytes votes rest h = rw (h.2, ← h.1) (votes_again size b 0 65536 0 0 votes rest (omega arith) (omega arith) (omega arith) h.0)
+
+pub votes_are_spelling : (size n : ℕ) (b : Ballot) (bytes : List ℕ) (votes : List Vote) (rest : List ℕ) → AreBytes bytes → (votes_at size b 0 65536 0 n bytes ≡ Ok (votes, rest)) ↔ (AreVotes size b 0 65536 votes × (length votes ≡ n) × (bytes ≡ votes_bytes votes ++ rest))
+votes_are_spelling size n b bytes votes rest are =
+    (λ e. (let f = votes_found size b 0 65536 0 0 n bytes (votes, rest) are (λ k x y. x) e in (f.1, f.2, f.0.parts)), λ h. votes_there size n b bytes votes rest h)
 
 -- ---- the message
 

@@ -7,7 +7,8 @@ use Rattle.paxos_msg.specs.declared.fault.WireFault.TheVariants as fault
 use Rattle.paxos_msg.specs.Ballots.{IsBelow, IsAtMost}
 use Rattle.paxos_msg.specs.Fits.{IsVote, AreVotes}
 use Rattle.paxos_msg.specs.Spelling.{number_bytes, ballot_bytes, value_bytes, vote_bytes, votes_bytes}
-use Rattle.paxos_msg.specs.Reading.{number_at, ballot_at, value_at, ballot_lt, vote_at, votes_at}
+use Rattle.paxos_msg.specs.Reading.{number_at, ballot_at, value_at, vote_at, votes_at}
+use Rattle.paxos_msg.specs.Tests.{ballot_lt}
 use Rattle.paxos_msg.specs.Grammar.{AreBytes}
 use Rattle.paxos_msg.proofs.Guards.{bind_ok, unless_ok, ok_is, Takes, takes_then, or_false}
 use Rattle.paxos_msg.proofs.Numbers.{number_found, number_again}

@@ -1,6 +1,6 @@
 -- The votes after one more.
-use Rattle.std.proofs.Common.{◌≡◌, ◌≢◌, ℕ, List, [], ◌∷◌, Some, refl, sym, arith}
-use Rattle.std.proofs.lemmas.Bool.{eq-eqb, ne_eqb}
+use Rattle.std.proofs.Common.{◌≡◌, ◌≢◌, ℕ, suc, ◌∙◌, List, [], ◌∷◌, Some, Contains, refl, sym, inl, inr, arith}
+use Rattle.std.proofs.lemmas.Bool.{cases_eq, eq-eqb, ne_eqb}
 use Rattle.std.proofs.lemmas.Bool.Decides.{nat_tests}
 use Rattle.paxos_msg.specs.declared.value.Vote.{Vote}
 use Rattle.paxos_msg.specs.Messages.{vote_at}
@@ -25,3 +25,20 @@ other_step x vote xs s ne ih = grind (arith, nat_tests)
 pub vote_at-with_vote_other : (votes : List Vote) (vote : Vote) (s : ℕ) → s ≢ vote.place → vote_at (with_vote votes vote) s ≡ vote_at votes s
 vote_at-with_vote_other [] vote s ne = found_later vote [] s (λ e. ne (sym e))
 vote_at-with_vote_other (x ∷ xs) vote s ne = other_step x vote xs s ne (vote_at-with_vote_other xs vote s ne)
+
+-- what is further back in a list is in the list
+behind : (x vote : Vote) (xs : List Vote) → Contains xs vote → Contains (x ∷ xs) vote
+behind x vote xs (k, in_range, is) = (suc k, omega arith, is)
+
+-- a vote that is found is one of the votes, and at the place
+pub vote_found : (votes : List Vote) (s : ℕ) (vote : Vote) → vote_at votes s ≡ Some vote → Contains votes vote × (vote.place ≡ s)
+vote_found [] s vote e = cc
+vote_found (x ∷ xs) s vote e =
+    elim (cases_eq x.place s) [
+      | inl same ↦
+          let here : Some x ≡ Some vote = sym (found_first x xs s same) ∙ e in
+          ((0, omega arith, (cc)), (cc))
+      | inr other ↦
+          let later = vote_found xs s vote (sym (found_later x xs s other) ∙ e) in
+          (behind x vote xs later.0, later.1)
+    ]

@@ -1,4 +1,5 @@
 pub mod Ballots
+pub mod Tests
 pub mod Keys
 pub mod Fits
 pub mod Spelling
@@ -6,6 +7,7 @@ pub mod Reading
 pub mod Raw
 pub mod Views
 pub mod Messages
+pub mod Places
 pub mod Records
 pub mod Sending
 pub mod Chosen

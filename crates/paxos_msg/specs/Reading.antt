@@ -11,6 +11,7 @@ use Rattle.paxos_msg.specs.declared.message.Body.TheVariants.{Prepare, Promise, 
 use Rattle.paxos_msg.specs.declared.message.Msg.{Msg}
 use Rattle.paxos_msg.specs.declared.fault.WireFault.{WireFault}
 use Rattle.paxos_msg.specs.declared.fault.WireFault.TheVariants as fault
+use Rattle.paxos_msg.specs.Tests.{ballot_lt}
 
 infixl 10 ◌>>=◌
 abbrev pub ◌>>=◌ : {A B : Type 0} → Result A WireFault → (A → Result B WireFault) → Result B WireFault
@@ -52,9 +53,6 @@ unfoldable pub own_ballot_at : ℕ → ℕ → List ℕ → Result (Ballot × Li
 own_ballot_at size sender bytes = do
   b ← ballot_at size bytes
   unless fault.Ballot (not (b.0.node == sender)) b
-
-abbrev pub ballot_lt : Ballot → Ballot → Bool
-ballot_lt a b = nat_lt a.round b.round || ((a.round == b.round) && nat_lt a.node b.node)
 
 unfoldable pub place_at : ℕ → List ℕ → Result (ℕ × List ℕ) WireFault
 place_at most bytes = do

@@ -1,6 +1,6 @@
 //! Reading a datagram.
 ghost use Rattle.std.specs.Prelude.{◌≡◌, ◌≤◌, IfOk, Ok, length};
-ghost use Rattle.paxos_msg.specs.Reading.{Gives, ballot_at, value_at, votes_at, prepare_at, promise_at, accept_at, accepted_at, refused_at, submit_at, ask_at, tell_at, body_at, header_at, message_at};
+ghost use Rattle.paxos_msg.specs.Reading.{Gives, number_at, ballot_at, value_at, votes_at, prepare_at, promise_at, accept_at, accepted_at, refused_at, submit_at, ask_at, tell_at, body_at, header_at, message_at};
 ghost use Rattle.paxos_msg.specs.declared.message.Msg.{Msg};
 ghost use Rattle.paxos_msg.specs.Raw.{votes_left};
 ghost use Rattle.paxos_msg.specs.Spelling.{Msgs};
@@ -11,7 +11,7 @@ use crate::fault::WireFault;
 use crate::lent::LentVotes;
 use crate::message::Group;
 use crate::reading::{
-    Part, ballot_of, byte_of, own_ballot_of, own_key_of, place_of, value_of, vote_of,
+    Part, ballot_of, byte_of, number_of, own_ballot_of, own_key_of, place_of, value_of, vote_of,
 };
 use crate::value::Value;
 use crate::view::{BodyView, View};
@@ -20,7 +20,7 @@ use byteorder::{BigEndian, ByteOrder};
 /// Goes over that many votes of a promise, and answers the bytes behind them. The faults are those of
 /// the first vote that has one.
 #[tactic(auto, using(crate::proofs::VotesLeft::few_left))]
-fn after_votes(part: Part, count: u8, bytes: &[u8]) -> Result<&[u8], WireFault>
+fn after_votes(part: Part, count: u32, bytes: &[u8]) -> Result<&[u8], WireFault>
     requires { part.upto ≤ 65536 }
     ensures exact { Gives (λ rest. (votes_left count bytes.now, rest.now)) result (votes_at part.size part.ballot part.first part.upto 0 count bytes.now) }
     ensures few { length (votes_left count bytes.now) ≤ count }
@@ -69,6 +69,7 @@ fn promise_of(size: u8, bytes: &[u8]) -> Result<(BodyView<'_>, &[u8]), WireFault
         first,
         upto,
     };
+    let count = u32::from(count);
     let behind = after_votes(part, count, rest)?;
     let body = BodyView::Promise {
         ballot,
@@ -254,4 +255,34 @@ pub fn read_value(bytes: &[u8], group: Group) -> Result<(Value, usize), WireFaul
         Value::Key { .. } => 11,
     };
     Ok((value, length))
+}
+
+/// The votes at the front of the bytes, so many of them, and the bytes behind them: at places that ascend,
+/// none under a greater ballot than this one. Place, Order, Ballot and Value as in a Promise of all places;
+/// Short where they end too soon. The votes stay in the bytes.
+pub fn read_votes(
+    bytes: &[u8],
+    group: Group,
+    ballot: Ballot,
+    count: u32,
+) -> Result<(LentVotes<'_>, &[u8]), WireFault>
+    ensures exact { Gives (λ x. (x.0, x.1.now)) result (votes_at group.size ballot 0 65536 0 count bytes.now) }
+    ensures few { IfOk result (λ x. length x.0 ≤ count) }
+{
+    let part = Part {
+        size: group.size,
+        ballot,
+        first: 0,
+        upto: 65_536,
+    };
+    let behind = after_votes(part, count, bytes)?;
+    Ok((LentVotes::new(bytes, count), behind))
+}
+
+/// The number at the front of the bytes, and how many bytes it takes: 4. Short where there are fewer.
+pub fn read_number(bytes: &[u8]) -> Result<(u32, usize), WireFault>
+    ensures exact { GivesField bytes.now result (number_at bytes.now) }
+{
+    let (number, _) = number_of(bytes)?;
+    Ok((number, 4))
 }

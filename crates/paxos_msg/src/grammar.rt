@@ -1,13 +1,14 @@
 //! The laws that tie the reading of bytes to their spelling. Each function is empty: its contract is
 //! the law.
-ghost use Rattle.std.specs.Prelude.{◌≡◌, ◌↔◌, ◌++◌, ◌≤◌, ℕ, List, length, Ok};
+ghost use Rattle.std.specs.Prelude.{◌≡◌, ◌↔◌, ◌++◌, ◌<◌, ◌≤◌, ◌*◌, ◌^◌, ℕ, List, length, Ok};
 ghost use Rattle.paxos_msg.specs.declared.ballot.Ballot.{Ballot};
 ghost use Rattle.paxos_msg.specs.declared.value.Value.{Value};
+ghost use Rattle.paxos_msg.specs.declared.value.Vote.{Vote};
 ghost use Rattle.paxos_msg.specs.declared.message.Group.{Group};
 ghost use Rattle.paxos_msg.specs.declared.message.Msg.{Msg};
-ghost use Rattle.paxos_msg.specs.Fits.{IsBallot, IsValue, Fits};
-ghost use Rattle.paxos_msg.specs.Spelling.{Msgs, ballot_bytes, value_bytes, spelling};
-ghost use Rattle.paxos_msg.specs.Reading.{ballot_at, value_at, message_at};
+ghost use Rattle.paxos_msg.specs.Fits.{AreVotes, IsBallot, IsValue, Fits};
+ghost use Rattle.paxos_msg.specs.Spelling.{Msgs, ballot_bytes, number_bytes, value_bytes, votes_bytes, spelling};
+ghost use Rattle.paxos_msg.specs.Reading.{ballot_at, number_at, value_at, votes_at, message_at};
 ghost use Rattle.paxos_msg.specs.Grammar.{AreBytes, IsGroup};
 
 /// A datagram is read as a message just where the message fits and the datagram is its spelling.
@@ -39,4 +40,21 @@ pub fn spelling_is_short()
 /// The spelling of a value has at most 11 bytes.
 pub fn value_is_short()
     ensures short { (v : Value) → length (value_bytes v) ≤ 11 }
+{}
+
+/// A number is read from the front of bytes just where they begin with its spelling.
+pub fn number_is_spelling()
+    ensures read { (bytes : List ℕ) (n : ℕ) (rest : List ℕ) → AreBytes bytes → (number_at bytes ≡ Ok (n, rest)) ↔ ((n < 2 ^ 32) × (bytes ≡ number_bytes n ++ rest)) }
+{}
+
+/// So many votes are read from the front of bytes just where they fit, under the ballot, and the bytes begin
+/// with their spelling.
+pub fn votes_are_spelling()
+    ensures read { (size n : ℕ) (b : Ballot) (bytes : List ℕ) (votes : List Vote) (rest : List ℕ) → AreBytes bytes →
+        (votes_at size b 0 65536 0 n bytes ≡ Ok (votes, rest)) ↔ (AreVotes size b 0 65536 votes × (length votes ≡ n) × (bytes ≡ votes_bytes votes ++ rest)) }
+{}
+
+/// The spelling of votes has at most 20 bytes for each.
+pub fn votes_are_short()
+    ensures short { (votes : List Vote) → length (votes_bytes votes) ≤ 20 * length votes }
 {}

@@ -1,18 +1,19 @@
 //! The laws of the protocol, over its definitions alone.
 
-ghost use Rattle.std.specs.Prelude.{◌≡◌, ◌≢◌, ◌↔◌, ◌⊎◌, ◌<◌, ◌≤◌, ◌+◌, ◌*◌, ◌++◌, ℕ, Bool, IsTrue, List, Option, Contains};
+ghost use Rattle.std.specs.Prelude.{◌≡◌, ◌≢◌, ◌↔◌, ◌⊎◌, ◌<◌, ◌≤◌, ◌+◌, ◌*◌, ◌++◌, ℕ, Bool, IsTrue, List, Option, Some, Contains};
 ghost use Rattle.paxos_msg.specs.declared.ballot.Ballot.{Ballot};
 ghost use Rattle.paxos_msg.specs.declared.message.Body.TheVariants.{Accept};
 ghost use Rattle.paxos_msg.specs.declared.message.Body.{Body};
 ghost use Rattle.paxos_msg.specs.declared.record.Change.{Change};
 ghost use Rattle.paxos_msg.specs.declared.record.Record.{Record};
 ghost use Rattle.paxos_msg.specs.declared.value.Value.{Value};
+ghost use Rattle.paxos_msg.specs.declared.value.Vote.{Vote};
 ghost use Rattle.paxos_msg.specs.Ballots.{count_of, IsAtMost, IsBelow, IsMajority};
 ghost use Rattle.paxos_msg.specs.Chosen.{IsChosen, IsChosenBy};
 ghost use Rattle.paxos_msg.specs.Growth.{Grew};
 ghost use Rattle.paxos_msg.specs.Keys.{Key};
-ghost use Rattle.paxos_msg.specs.Messages.{IsSaid, messages_of, Sent};
-ghost use Rattle.paxos_msg.specs.Records.{MaySave, Stored};
+ghost use Rattle.paxos_msg.specs.Messages.{IsAscending, IsSaid, messages_of, Sent, vote_at};
+ghost use Rattle.paxos_msg.specs.Records.{MaySave, Stored, with_vote};
 ghost use Rattle.paxos_msg.specs.Sending.{IsFree, MaySendAll};
 
 use crate::ballot::Ballot;
@@ -57,6 +58,17 @@ pub fn half_is_no_majority()
     ensures half { (half : ℕ) (members : ℕ → Bool) → count_of members (2 * half) ≡ half → ¬ IsMajority (2 * half) members }
     ensures odd { (half : ℕ) (members : ℕ → Bool) →
         IsMajority (2 * half + 1) members ↔ (half + 1 ≤ count_of members (2 * half + 1)) }
+{}
+
+/// Votes by place: what is put at a place is found there, and nothing else changes; votes that ascend do
+/// so after it. A vote that is found is one of the votes, at that place.
+pub fn votes_are_by_place()
+    ensures there { (votes : List Vote) (vote : Vote) → vote_at (with_vote votes vote) vote.place ≡ Some vote }
+    ensures elsewhere { (votes : List Vote) (vote : Vote) (s : ℕ) → s ≢ vote.place →
+        vote_at (with_vote votes vote) s ≡ vote_at votes s }
+    ensures ascending { (votes : List Vote) (vote : Vote) → IsAscending votes → IsAscending (with_vote votes vote) }
+    ensures found { (votes : List Vote) (s : ℕ) (vote : Vote) → vote_at votes s ≡ Some vote →
+        Contains votes vote × (vote.place ≡ s) }
 {}
 
 /// As more is sent, what is chosen stays chosen, and what may be saved may still be saved.

@@ -9,7 +9,7 @@ use std::marker::Model;
 #[derive(Drop)]
 pub struct LentVotes<'a> {
     bytes: &'a [u8],
-    count: u8,
+    count: u32,
 }
 
 impl<'a> Model for LentVotes<'a> {
@@ -27,7 +27,7 @@ impl<'a> LentVotes<'a> {
     ghost use Rattle.paxos_msg.specs.Raw.{votes_left};
 
     /// The votes at the front of the bytes, that many.
-    pub(crate) fn new(bytes: &'a [u8], count: u8) -> LentVotes<'a>
+    pub(crate) fn new(bytes: &'a [u8], count: u32) -> LentVotes<'a>
         ensures { result ≡ votes_left count bytes.now }
     {
         LentVotes { bytes, count }

@@ -16,7 +16,7 @@ fn is_node(size: u8, node: u8) -> bool
 }
 
 /// Whether a ballot's round is at least 1 and its node is one of a group of that size.
-fn fits_ballot(size: u8, ballot: Ballot) -> bool
+pub fn fits_ballot(size: u8, ballot: Ballot) -> bool
     ensures { IsTrue result ↔ IsBallot size ballot }
 {
     0 < ballot.round && is_node(size, ballot.node)
@@ -74,9 +74,9 @@ fn fits_vote(size: u8, ballot: Ballot, low: u32, upto: u32, vote: Vote) -> bool
         && fits_value(size, vote.value)
 }
 
-/// Whether votes may stand in a promise under the ballot: their places ascend from `first` on up to, and
-/// without, `upto`.
-fn fits_votes(size: u8, ballot: Ballot, first: u32, upto: u32, votes: &[Vote]) -> bool
+/// Whether votes are in their ranges, at places that ascend from `first` on up to, and without, `upto`, and
+/// under ballots that are not above this one.
+pub fn fits_votes(size: u8, ballot: Ballot, first: u32, upto: u32, votes: &[Vote]) -> bool
     ensures { IsTrue result ↔ AreVotes size ballot first upto votes.now }
 {
     let mut low = first;

@@ -1,10 +1,16 @@
 //! What an acceptor keeps, and how it changes.
+ghost use Rattle.std.specs.Prelude.{◌≡◌, ◌<◌, OnOk, OnErr};
+ghost use Rattle.paxos_msg.specs.declared.record.Change.TheVariants.{Start};
+ghost use Rattle.paxos_msg.specs.Messages.{IsAscending};
+ghost use Rattle.paxos_msg.specs.Records.{changed, empty_record};
+
 use crate::ballot::Ballot;
-use crate::value::Value;
+use crate::value::{Value, Vote};
 use crate::votes::Votes;
+use std::alloc::{AllocError, Global};
 
 /// What an acceptor keeps in its store.
-#[derive(Drop)]
+#[derive(Clone, Drop)]
 pub struct Record {
     /// How often the node was started.
     pub starts: u32,
@@ -23,4 +29,40 @@ pub enum Change {
     Promise(Ballot),
     /// The vote at the place becomes this one, and the promised ballot its ballot.
     Ballotted(u32, Ballot, Value),
+}
+
+impl Record {
+    /// The record before the first start. It takes no memory.
+    pub fn new(alloc: Global) -> Record
+        ensures { result ≡ empty_record }
+    {
+        Record {
+            starts: 0,
+            promised: None,
+            votes: Votes::new(Vec::new(alloc)),
+        }
+    }
+
+    /// Makes the change. There may be no start after 4,294,967,295 of them, and the votes have to ascend by
+    /// place. After an error nothing has changed.
+    pub fn change(&mut self, change: Change) -> Result<(), AllocError>
+        requires starts { change ≡ Start → self.old.starts < 4294967295 }
+        requires ascending { IsAscending self.old.votes }
+        ensures ok { OnOk result (self.new ≡ changed self.old change) }
+        ensures err { OnErr result (self.new ≡ self.old) }
+    {
+        match change {
+            Change::Start => self.starts += 1,
+            Change::Promise(ballot) => self.promised = Some(ballot),
+            Change::Ballotted(place, ballot, value) => {
+                self.votes.insert(Vote {
+                    place,
+                    ballot,
+                    value,
+                })?;
+                self.promised = Some(ballot);
+            }
+        }
+        Ok(())
+    }
 }

@@ -17,8 +17,9 @@ fn put_byte(byte: u8, out: &mut Vec<u8>)
     out.push_reserved(byte);
 }
 
-/// Writes a number as four bytes, its high byte first.
-pub(crate) fn put_number(number: u32, out: &mut Vec<u8>)
+/// Writes a number behind what the vector holds: four bytes, its high byte first, for which it has to have
+/// room.
+pub fn put_number(number: u32, out: &mut Vec<u8>)
     requires room { vec_len out.old + 4 ≤ vec_capacity out.old }
     ensures items { out.new.items ≡ out.old.items ++ number_bytes number }
     ensures len { vec_len out.new ≡ vec_len out.old + 4 }
@@ -80,8 +81,9 @@ fn put_vote(vote: Vote, out: &mut Vec<u8>)
     put_value(vote.value, out);
 }
 
-/// Writes votes one after the other.
-fn put_votes(votes: &[Vote], out: &mut Vec<u8>)
+/// Writes votes behind what the vector holds, one after the other: each its place, ballot and value. The
+/// vector has to have room for them.
+pub fn put_votes(votes: &[Vote], out: &mut Vec<u8>)
     requires room { vec_len out.old + length (votes_bytes votes.now) ≤ vec_capacity out.old }
     ensures items { out.new.items ≡ out.old.items ++ votes_bytes votes.now }
     ensures len { vec_len out.new ≡ vec_len out.old + length (votes_bytes votes.now) }

@@ -1,12 +1,16 @@
 //! A list of votes.
-ghost use Rattle.std.specs.Prelude.{◌≡◌, length};
+ghost use Rattle.std.specs.Prelude.{◌≡◌, length, OnOk, OnErr};
+ghost use Rattle.paxos_msg.specs.Messages.{IsAscending};
+ghost use Rattle.paxos_msg.specs.Records.{with_vote};
 
 use crate::value::Vote;
+use crate::voted::insert_vote;
+use std::alloc::AllocError;
 use std::marker::Model;
 
 /// A list of votes, in ascending order of place. It is made from a `Vec` and gives it back; neither
 /// takes memory.
-#[derive(Drop)]
+#[derive(Clone, Drop)]
 pub struct Votes {
     items: Vec<Vote>,
 }
@@ -40,5 +44,15 @@ impl Votes {
         ensures { result.now ≡ self.now }
     {
         self.items.as_slice()
+    }
+
+    /// Puts a vote among votes that ascend by place, instead of the one at its place, if there is one.
+    /// After an error nothing has changed.
+    pub fn insert(&mut self, vote: Vote) -> Result<(), AllocError>
+        requires { IsAscending self.old }
+        ensures ok { OnOk result (self.new ≡ with_vote self.old vote) }
+        ensures err { OnErr result (self.new ≡ self.old) }
+    {
+        insert_vote(&mut self.items, vote)
     }
 }

@@ -1,0 +1,15 @@
+-- Where a place stands among votes that ascend.
+use Rattle.std.specs.Prelude.{◌≡◌, ℕ, ◌<◌, ◌≤◌, List, length, get_or}
+use Rattle.paxos_msg.specs.declared.value.Vote.{Vote}
+
+-- the vote at index i is at place s, and those before it at smaller places
+pub record IsPlaceIn (votes : List Vote) (s i : ℕ) : Type 0 where
+  pub in_range : i < length votes
+  pub same : (d : Vote) → (get_or votes i d).place ≡ s
+  pub before : (j : ℕ) (d : Vote) → j < i → (get_or votes j d).place < s
+
+-- the votes before index i are at places below s, and those from there on at places above it
+pub record IsGapIn (votes : List Vote) (s i : ℕ) : Type 0 where
+  pub in_range : i ≤ length votes
+  pub before : (j : ℕ) (d : Vote) → j < i → (get_or votes j d).place < s
+  pub after : (j : ℕ) (d : Vote) → i ≤ j → j < length votes → s < (get_or votes j d).place

@@ -1,0 +1,46 @@
+//! Looking up and putting in a list of votes that ascend by place.
+ghost use Rattle.std.specs.Prelude.{◌≡◌, ◌+◌, ◌<◌, ◌≤◌, IfOk, IfErr, OnOk, OnErr, IsOk, vec_len, vec_capacity};
+ghost use Rattle.paxos_msg.specs.Messages.{IsAscending, vote_at};
+ghost use Rattle.paxos_msg.specs.Places.{IsGapIn, IsPlaceIn};
+ghost use Rattle.paxos_msg.specs.Records.{with_vote};
+
+use crate::value::Vote;
+use std::alloc::AllocError;
+
+/// Where the vote at the place stands, or else where it would.
+fn search(votes: &[Vote], place: u32) -> Result<usize, usize>
+    requires { IsAscending votes.now }
+    ensures found { IfOk result (IsPlaceIn votes.now place) }
+    ensures absent { IfErr result (IsGapIn votes.now place) }
+{
+    votes.binary_search_by_key(&place, |vote| vote.place)
+}
+
+/// The vote at the place, if there is one, among votes in ascending order of place: by one search.
+pub fn find_vote(votes: &[Vote], place: u32) -> Option<Vote>
+    requires { IsAscending votes.now }
+    ensures { result ≡ vote_at votes.now place }
+{
+    match search(votes, place) {
+        Ok(at) => Some(votes[at]),
+        Err(_) => None,
+    }
+}
+
+/// Puts a vote among votes in ascending order of place, instead of the one at its place, if there is one.
+/// It takes no memory where there is room for one more. After an error nothing has changed.
+pub fn insert_vote(votes: &mut Vec<Vote>, vote: Vote) -> Result<(), AllocError>
+    requires { IsAscending votes.old.items }
+    ensures ok { OnOk result (votes.new.items ≡ with_vote votes.old.items vote) }
+    ensures err { OnErr result (votes.new.items ≡ votes.old.items) }
+    ensures ascending { IsAscending votes.new.items }
+    ensures room { vec_len votes.old < vec_capacity votes.old → IsOk result }
+    ensures capacity { vec_capacity votes.old ≤ vec_capacity votes.new }
+    ensures len { vec_len votes.new ≤ vec_len votes.old + 1 }
+{
+    match search(votes, vote.place) {
+        Ok(at) => votes[at] = vote,
+        Err(at) => votes.insert(at, vote)?,
+    }
+    Ok(())
+}
