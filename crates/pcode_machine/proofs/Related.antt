@@ -8,7 +8,7 @@ use Rattle.pcode_machine.specs.declared.turn.Direction.{Direction}
 use Rattle.pcode_machine.specs.declared.turn.Direction.TheVariants.{Writing}
 use Rattle.pcode_machine.specs.declared.turn.Stop.{Stop}
 use Rattle.pcode_machine.specs.declared.turn.Stop.TheVariants.{Normal, Error}
-use Rattle.pcode_machine.specs.Words.{word_at, with_word}
+use Rattle.pcode_frames.specs.Words.{word_at, with_word}
 use Rattle.pcode_machine.specs.Configuration.{State}
 use Rattle.pcode_machine.specs.Loads.{pushed, address_of}
 use Rattle.pcode_machine.specs.Stores.{stored}

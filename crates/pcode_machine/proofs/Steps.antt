@@ -7,13 +7,13 @@ use Rattle.pcode_ops.specs.At.{At}
 use Rattle.pcode_ops.specs.Decoding.{instr_at}
 use Rattle.pcode_machine.specs.declared.turn.Direction.{Direction}
 use Rattle.pcode_machine.specs.declared.turn.Direction.TheVariants.{Reading, Writing}
-use Rattle.pcode_machine.specs.declared.turn.Frame.{Frame}
+use Rattle.pcode_frames.specs.declared.frame.Frame.{Frame}
 use Rattle.pcode_machine.specs.declared.turn.Transfer.{Transfer}
 use Rattle.pcode_machine.specs.declared.turn.End.{End}
 use Rattle.pcode_machine.specs.declared.turn.End.TheVariants as ends
 use Rattle.pcode_machine.specs.declared.turn.Stop.{Stop}
 use Rattle.pcode_machine.specs.declared.turn.Stop.TheVariants.{Normal, Error}
-use Rattle.pcode_machine.specs.Words.{byte_at}
+use Rattle.pcode_frames.specs.Words.{byte_at}
 use Rattle.pcode_machine.specs.Configuration.{State, Configuration, current_of}
 use Rattle.pcode_machine.specs.Execute.{execute}
 use Rattle.pcode_machine.specs.Outcome.{Outcome, Goes, Stops, Waiting, Stuck, outcome, in_frame, pending, moved, decoded, after_effect, on_some, written, taken}

@@ -1,8 +1,9 @@
 -- What a machine is made of, and where a program begins.
-use Rattle.std.specs.Prelude.{ℕ, ◌+◌, ◌-◌, nat_le, if◌then◌else◌, List, [], ◌∷◌, length, replicate, slice_get, Option, Some, None}
+use Rattle.std.specs.Prelude.{ℕ, ◌+◌, nat_le, if◌then◌else◌, List, [], ◌∷◌, replicate, Option, Some, None}
 use Rattle.pcode_file.specs.declared.file.Proc.{Proc}
 use Rattle.pcode_file.specs.Parts.{Parts, procedure_of}
-use Rattle.pcode_machine.specs.declared.turn.Frame.{Frame}
+use Rattle.pcode_frames.specs.declared.frame.Frame.{Frame}
+pub use Rattle.pcode_frames.specs.Frames.{current_of}
 use Rattle.pcode_machine.specs.declared.turn.Transfer.{Transfer}
 
 -- What the machine keeps: the live words from word 1 on; the frames, the main frame first and the current
@@ -23,10 +24,6 @@ pub record Configuration : Type 0 where
 
 abbrev pub joined : State → ℕ → List ℕ → Configuration
 joined s n output = record { state = s; read = n; output = output }
-
--- the frame that is executed, if there is one
-abbrev pub current_of : List Frame → Option Frame
-current_of frames = slice_get frames (length frames - 1)
 
 -- a state without a frame, where the main frame does not fit
 abbrev pub unframed : ℕ → State

@@ -1,4 +1,3 @@
-pub mod Words
 pub mod Configuration
 pub mod Loads
 pub mod Stores

@@ -4,7 +4,7 @@ use Rattle.pcode_file.specs.Parts.{Parts}
 use Rattle.pcode_ops.specs.declared.instr.Instr.{Instr}
 use Rattle.pcode_ops.specs.declared.fault.OpFault.{OpFault}
 use Rattle.pcode_ops.specs.Decoding.{instr_at}
-use Rattle.pcode_machine.specs.declared.turn.Frame.{Frame}
+use Rattle.pcode_frames.specs.declared.frame.Frame.{Frame}
 use Rattle.pcode_machine.specs.declared.turn.Transfer.{Transfer}
 use Rattle.pcode_machine.specs.declared.turn.Direction.{Direction}
 use Rattle.pcode_machine.specs.declared.turn.Direction.TheVariants.{Reading, Writing}
@@ -12,7 +12,7 @@ use Rattle.pcode_machine.specs.declared.turn.End.{End}
 use Rattle.pcode_machine.specs.declared.turn.End.TheVariants as ends
 use Rattle.pcode_machine.specs.declared.turn.Stop.{Stop}
 use Rattle.pcode_machine.specs.declared.turn.Stop.TheVariants.{Normal, Error}
-use Rattle.pcode_machine.specs.Words.{byte_at, with_byte}
+use Rattle.pcode_frames.specs.Words.{byte_at, with_byte}
 use Rattle.pcode_machine.specs.Configuration.{State, Configuration, current_of}
 use Rattle.pcode_machine.specs.Transfers.{later}
 use Rattle.pcode_machine.specs.Execute.{execute}

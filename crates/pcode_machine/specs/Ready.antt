@@ -1,6 +1,5 @@
 -- The machine's parts as the state that they stand for, and what is true of every machine's parts.
 use Rattle.std.specs.Prelude.{◌<◌, Option, MatchOption, Result, Ok, Err, pos, ◌+ℤ◌, ◌≤ℤ◌}
-use Rattle.std.specs.Option.{option_to_list}
 use Rattle.pcode_file.specs.Parts.{Parts}
 use Rattle.pcode_ops.specs.Reach.{Reach}
 use Rattle.pcode_machine.specs.declared.parts.MachineParts.{MachineParts}
@@ -12,7 +11,7 @@ use Rattle.pcode_machine.specs.Configuration.{State}
 abbrev pub state_of : MachineParts → State
 state_of m = record {
   words = m.memory;
-  frames = option_to_list m.main;
+  frames = m.frames;
   stack = m.stack;
   next = m.next;
   io_result = m.io_result;

@@ -3,7 +3,7 @@ use Rattle.std.specs.Prelude.{ℕ, if◌then◌else◌, List, [], ◌∷◌, is_
 use Rattle.pcode_machine.specs.declared.turn.Stop.{Stop}
 use Rattle.pcode_machine.specs.declared.turn.Stop.TheVariants.{Error}
 use Rattle.pcode_machine.specs.Configuration.{State}
-use Rattle.pcode_machine.specs.Words.{word_at, with_word}
+use Rattle.pcode_frames.specs.Words.{word_at, with_word}
 
 -- the word popped from this stack goes to a live word, and execution goes on at j
 abbrev pub stored : ℕ → ℕ → State → List ℕ → Result State Stop

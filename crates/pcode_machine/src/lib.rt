@@ -5,12 +5,10 @@ mod execute;
 pub mod laws;
 mod loads;
 mod machine;
-mod memory;
 mod parts;
-mod stack;
 mod stores;
 mod transfers;
 mod turn;
 
 pub use machine::Machine;
-pub use turn::{Direction, End, Frame, MachineFault, Stop, Transfer, Turn};
+pub use turn::{Direction, End, MachineFault, Stop, Transfer, Turn};

@@ -4,7 +4,6 @@ ghost use Rattle.pcode_machine.specs.Loads.{pushed, address_of};
 ghost use Rattle.pcode_machine.specs.Ready.{state_of, answered};
 
 use crate::parts::MachineParts;
-use crate::stack::STACK_WORDS;
 use crate::turn::Stop;
 
 /// The byte address of a word of the main frame, whose base is 0, modulo 65,536.
@@ -22,10 +21,7 @@ impl MachineParts {
         ensures next { OnOk result (self.new.next ≡ next) }
         ensures transfer { self.new.transfer ≡ self.old.transfer }
     {
-        if self.stack.len() >= STACK_WORDS {
-            return Err(Stop::Error(4));
-        }
-        self.stack.push(word);
+        self.stack.push(word)?;
         self.next = next;
         Ok(())
     }

@@ -20,7 +20,7 @@ impl MachineParts {
         if self.memory.get(word).is_none() {
             return Err(Stop::Error(7));
         }
-        let value = self.stack.pop();
+        let value = self.stack.pop()?;
         self.memory.put(word, value);
         self.next = next;
         Ok(())

@@ -3,7 +3,7 @@ ghost use Rattle.std.specs.Prelude.{◌≡◌, ℕ, ◌+◌, ◌==◌, if◌then
 ghost use Rattle.std.specs.Option.{option_to_list};
 ghost use Rattle.pcode_machine.specs.declared.turn.Direction.TheVariants.{Reading, Writing};
 ghost use Rattle.pcode_machine.specs.declared.turn.End.TheVariants.{Error};
-ghost use Rattle.pcode_machine.specs.Words.{with_byte};
+ghost use Rattle.pcode_frames.specs.Words.{with_byte};
 ghost use Rattle.pcode_machine.specs.Configuration.{State, joined};
 ghost use Rattle.pcode_machine.specs.Transfers.{begun, called, is_console, later};
 ghost use Rattle.pcode_machine.specs.Outcome.{Goes, moved};
@@ -11,7 +11,8 @@ ghost use Rattle.pcode_machine.specs.Turns.{told, IsStill, TakesByte};
 ghost use Rattle.pcode_machine.specs.Ready.{state_of, answered, IsSmall};
 
 use crate::parts::MachineParts;
-use crate::turn::{Direction, End, Frame, Stop, Transfer, Turn};
+use crate::turn::{Direction, End, Stop, Transfer, Turn};
+use pcode_frames::Frame;
 
 /// Whether a unit is the console: unit 1 (CONSOLE:) or unit 2 (SYSTERM:).
 fn is_console(unit: u16) -> bool
@@ -88,12 +89,12 @@ impl MachineParts {
         if self.stack.len() < 6 {
             return Err(Stop::Error(0));
         }
-        let _mode = self.stack.pop();
-        let _block = self.stack.pop();
-        let len = self.stack.pop();
-        let index = self.stack.pop();
-        let base = self.stack.pop();
-        let unit = self.stack.pop();
+        let _mode = self.stack.pop()?;
+        let _block = self.stack.pop()?;
+        let len = self.stack.pop()?;
+        let index = self.stack.pop()?;
+        let base = self.stack.pop()?;
+        let unit = self.stack.pop()?;
         self.io_result = if is_console(unit) { 0 } else { 2 };
         self.transfer = begun(direction, unit, base, index, len, self.next);
         self.next = next;
@@ -139,7 +140,7 @@ impl MachineParts {
         ensures next { self.new.next ≡ self.old.next }
         ensures small { IsSmall self.new.transfer }
     {
-        match self.memory.byte(transfer.address) {
+        match self.memory.get_byte(transfer.address) {
             None => Turn::Ended(not_live(frame, transfer)),
             Some(byte) => {
                 self.pass_byte(transfer);
@@ -162,7 +163,7 @@ impl MachineParts {
         ensures next { self.new.next ≡ self.old.next }
         ensures small { IsSmall self.new.transfer }
     {
-        let Some(_old) = self.memory.byte(transfer.address) else {
+        let Some(_old) = self.memory.get_byte(transfer.address) else {
             return Turn::Ended(not_live(frame, transfer));
         };
         let Some(byte) = offered else {

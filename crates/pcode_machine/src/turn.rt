@@ -1,20 +1,10 @@
 //! What a machine is made of, and what its turns say.
-use thiserror::Error;
+ghost use Rattle.std.specs.Prelude.{◌≡◌};
+ghost use Rattle.pcode_frames.specs.Halts.{number_of};
+ghost use Rattle.pcode_machine.specs.declared.turn.Stop.TheVariants.{Error};
 
-/// A frame of a procedure. Word addresses and sizes are in words.
-#[derive(Clone, Copy, Debug, PartialEq, Eq)]
-pub struct Frame {
-    /// The procedure's number.
-    pub procedure: u8,
-    /// The word before the frame's first one, so that offset 1 is word `base + 1`.
-    pub base: u16,
-    /// How many words it has.
-    pub size: u16,
-    /// The index of the static link's frame; the main frame has index 0 and link 0.
-    pub link: u16,
-    /// The offset, in bytes from the segment's start, at which the caller goes on.
-    pub back: u32,
-}
+use pcode_frames::Halt;
+use thiserror::Error;
 
 /// Whether bytes come from the input to memory or go from memory to the output.
 #[derive(Clone, Copy, Debug, PartialEq, Eq)]
@@ -44,6 +34,14 @@ pub enum Stop {
     Normal,
     /// An execution error of this number.
     Error(u8),
+}
+
+impl From<Halt> for Stop {
+    ghost from_gives = { λ halt stop. stop ≡ Error (number_of halt) };
+
+    fn from(halt: Halt) -> Self {
+        Stop::Error(halt.number())
+    }
 }
 
 /// How a program ends.

@@ -1,0 +1,156 @@
+-- What an acceptor answers with may be sent, and its record stays backed.
+use Rattle.std.proofs.Common.{◌≡◌, ◌≢◌, ℕ, ◌≤◌, Bool, true, false, if◌then◌else◌, List, Option, Some, None, IfSome, IsSomeAnd, All, Contains, refl, ap, ◌∙◌, subst, inl, inr, arith}
+use Rattle.std.proofs.lemmas.Bool.{cases_eq}
+use Rattle.std.proofs.lemmas.Bool.Decides.{nat_tests}
+use Rattle.std.proofs.lemmas.Option.{IfSome_then}
+use Rattle.paxos_msg.specs.declared.ballot.Ballot.{Ballot}
+use Rattle.paxos_msg.specs.declared.value.Value.{Value}
+use Rattle.paxos_msg.specs.declared.value.Vote.{Vote}
+use Rattle.paxos_msg.specs.declared.record.Record.{Record}
+use Rattle.paxos_msg.specs.declared.record.Change.TheVariants as change
+use Rattle.paxos_msg.specs.declared.message.Body.TheVariants.{Accept, Accepted, Refused}
+use Rattle.paxos_msg.specs.Ballots.{IsAtMost, IsBelow}
+use Rattle.paxos_msg.specs.Keys.{Key}
+use Rattle.paxos_msg.specs.Messages.{IsAscending, IsSaid, Sent, vote_at}
+use Rattle.paxos_msg.specs.Records.{changed, with_vote}
+use Rattle.paxos_msg.specs.Sending.{MaySend}
+use Rattle.paxos_msg.specs.Tests.{ballot_lt, same_ballot}
+use Rattle.paxos_acceptor.specs.Answers.{accept_of, accepted, after, Answer, part_of, prepare_of, prepared, voted}
+use Rattle.paxos_acceptor.specs.Backed.{IsBacked, IsVoteBacked}
+use Rattle.paxos_acceptor.proofs.Reports.{reports}
+
+-- ---- ballots
+
+below_is : (a b : Ballot) → ballot_lt a b ≡ true → IsBelow a b
+below_is a b h = grind (arith, nat_tests)
+
+not_below : (a b : Ballot) → ballot_lt a b ≡ false → IsAtMost b a
+not_below a b h = grind (arith, nat_tests)
+
+same_is : (a b : Ballot) → same_ballot a b ≡ true → a ≡ b
+same_is a b h =
+    let round : a.round ≡ b.round = grind (arith, nat_tests) in
+    let node : a.node ≡ b.node = grind (arith, nat_tests) in
+    λ i. record { round = round i; node = node i }
+
+-- of two ballots that are at most one another the promised one is the other
+both_at_most : (promised : Option Ballot) (b : Ballot) → IfSome promised (λ p. IsAtMost p b) → IsSomeAnd promised (λ p. IsAtMost b p) → promised ≡ Some b
+both_at_most None b low high = elim high [ ]
+both_at_most (Some p) b low high =
+    let round : p.round ≡ b.round = grind arith in
+    let node : p.node ≡ b.node = grind arith in
+    ap (λ (c : Ballot). Some c) (λ i. record { round = round i; node = node i })
+
+-- what is at most the promised ballot is at most a greater one
+still_at_most : (promised : Option Ballot) (a b : Ballot) → IfSome promised (λ p. IsAtMost p b) → IsSomeAnd promised (λ p. IsAtMost a p) → IsAtMost a b
+still_at_most None a b rises h = elim h [ ]
+still_at_most (Some p) a b rises h = grind arith
+
+-- ---- facts of options
+
+if_some : {X : Type 0} (o : Option X) (x : X) (P : X → Type 0) → o ≡ Some x → P x → IfSome o P
+if_some o x P e h = rw e h
+
+if_none : {X : Type 0} (o : Option X) (P : X → Type 0) → o ≡ None → IfSome o P
+if_none o P e = rw e tt
+
+of_some : {X : Type 0} (o : Option X) (x : X) (P : X → Type 0) → o ≡ Some x → IfSome o P → P x
+of_some o x P e h = rw e at h
+
+-- what is known of votes by place
+pub record ByPlace : Type 0 where
+  pub there : (votes : List Vote) (vote : Vote) → vote_at (with_vote votes vote) vote.place ≡ Some vote
+  pub elsewhere : (votes : List Vote) (vote : Vote) (s : ℕ) → s ≢ vote.place → vote_at (with_vote votes vote) s ≡ vote_at votes s
+  pub ascending : (votes : List Vote) (vote : Vote) → IsAscending votes → IsAscending (with_vote votes vote)
+  pub found : (votes : List Vote) (s : ℕ) (vote : Vote) → vote_at votes s ≡ Some vote → Contains votes vote × (vote.place ≡ s)
+
+-- an answer that may be sent over the record after its save, which stays backed
+pub record MayAnswer (size i : ℕ) (typed : List Key) (learned : ℕ → Option Value) (sent : Sent) (r : Record) (answer : Answer) : Type 0 where
+  pub sends : MaySend size typed learned sent i (after r answer.saves) answer.says
+  pub backed : IsBacked sent (after r answer.saves)
+
+module _ (size i : ℕ) (typed : List Key) (learned : ℕ → Option Value) (sent : Sent) (r : Record) (h : IsBacked sent r) where
+  -- a greater promised ballot refuses
+  refused : (p b : Ballot) → r.promised ≡ Some p → ballot_lt b p ≡ true → MayAnswer size i typed learned sent r (record { saves = None; says = Refused b p })
+  refused p b e t = record { sends = (e, below_is b p t); backed = h }
+
+  -- ---- a Prepare
+
+  module _ (b : Ballot) (from : ℕ) (places : All (λ vote. vote.place ≤ 65535) r.votes) where
+    promised_already : r.promised ≡ Some b → MayAnswer size i typed learned sent r (record { saves = None; says = part_of r b from })
+    promised_already e = record { sends = (e, reports r from h.in_order places); backed = h }
+
+    promised_now : IfSome r.promised (λ p. IsAtMost p b) → MayAnswer size i typed learned sent r (record { saves = Some (change.Promise b); says = part_of r b from })
+    promised_now rises = record {
+      sends = (refl, reports (changed r (change.Promise b)) from h.in_order places);
+      backed = record {
+        votes = λ s. IfSome_then (vote_at r.votes s) (h.votes s) (λ vote g. record { proposed = g.proposed; in_promise = still_at_most r.promised vote.ballot b rises g.in_promise });
+        in_order = h.in_order;
+      };
+    }
+
+    prepare_if : (p : Ballot) → r.promised ≡ Some p → (t u : Bool) → ballot_lt b p ≡ t → same_ballot p b ≡ u → MayAnswer size i typed learned sent r (if t then record { saves = None; says = Refused b p } else record { saves = if u then None else Some (change.Promise b); says = part_of r b from })
+    prepare_if p e true u f g = refused p b e f
+    prepare_if p e false true f g = promised_already (e ∙ ap (λ (c : Ballot). Some c) (same_is p b g))
+    prepare_if p e false false f g = promised_now (if_some r.promised p (λ q. IsAtMost q b) e (not_below b p f))
+
+    prepare_by : (o : Option Ballot) → r.promised ≡ o → MayAnswer size i typed learned sent r (prepared o r b from)
+    prepare_by None e = promised_now (if_none r.promised (λ q. IsAtMost q b) e)
+    prepare_by (Some p) e = prepare_if p e (ballot_lt b p) (same_ballot p b) refl refl
+
+    pub prepare_may : MayAnswer size i typed learned sent r (prepare_of r b from)
+    prepare_may = prepare_by r.promised refl
+
+  -- ---- an Accept
+
+  module _ (law : ByPlace) (b : Ballot) (s : ℕ) (v : Value) (said : IsSaid sent (Accept b s v)) where
+    -- the vote that is put, and those that stay
+    votes_with : IfSome r.promised (λ p. IsAtMost p b) → (t : ℕ) → IfSome (vote_at (changed r (change.Ballotted s b v)).votes t) (IsVoteBacked sent (changed r (change.Ballotted s b v)) t)
+    votes_with rises t =
+        let vote : Vote = record { place = s; ballot = b; value = v } in
+        let next : Record = changed r (change.Ballotted s b v) in
+        elim (cases_eq t s) [
+          | inl e ↦ rw e (if_some (vote_at next.votes s) vote (IsVoteBacked sent next s) (law.there r.votes vote) (record { proposed = said; in_promise = grind arith }))
+          | inr ne ↦
+              rw (law.elsewhere r.votes vote t ne)
+              (IfSome_then (vote_at r.votes t) (h.votes t) (λ x g. record { proposed = g.proposed; in_promise = still_at_most r.promised x.ballot b rises g.in_promise }))
+        ]
+
+    voted_now : IfSome r.promised (λ p. IsAtMost p b) → MayAnswer size i typed learned sent r (record { saves = Some (change.Ballotted s b v); says = Accepted b s v })
+    voted_now rises = record {
+      sends = (said, law.there r.votes (record { place = s; ballot = b; value = v }), refl);
+      backed = record { votes = votes_with rises; in_order = law.ascending r.votes (record { place = s; ballot = b; value = v }) h.in_order };
+    }
+
+    -- the vote that stands there under the same ballot is told again
+    told_again : (vote : Vote) → IfSome r.promised (λ p. IsAtMost p b) → vote_at r.votes s ≡ Some vote → vote.ballot ≡ b → MayAnswer size i typed learned sent r (record { saves = None; says = Accepted b s vote.value })
+    told_again vote rises e same =
+        let backed : IsVoteBacked sent r s vote = of_some (vote_at r.votes s) vote (IsVoteBacked sent r s) e (h.votes s) in
+        let place : vote.place ≡ s = (law.found r.votes s vote e).1 in
+        record {
+          sends = (
+            subst (λ (c : Ballot). IsSaid sent (Accept c s vote.value)) same backed.proposed,
+            e ∙ ap (λ (w : Vote). Some w) (λ j. record { place = place j; ballot = same j; value = vote.value }),
+            both_at_most r.promised b rises (subst (λ (c : Ballot). IsSomeAnd r.promised (λ p. IsAtMost c p)) same backed.in_promise),
+          );
+          backed = h;
+        }
+
+    vote_if : (vote : Vote) → IfSome r.promised (λ p. IsAtMost p b) → vote_at r.votes s ≡ Some vote → (t : Bool) → same_ballot vote.ballot b ≡ t → MayAnswer size i typed learned sent r (if t then record { saves = None; says = Accepted b s vote.value } else record { saves = Some (change.Ballotted s b v); says = Accepted b s v })
+    vote_if vote rises e true f = told_again vote rises e (same_is vote.ballot b f)
+    vote_if vote rises e false f = voted_now rises
+
+    vote_by : (o : Option Vote) → IfSome r.promised (λ p. IsAtMost p b) → vote_at r.votes s ≡ o → MayAnswer size i typed learned sent r (voted o b s v)
+    vote_by None rises e = voted_now rises
+    vote_by (Some vote) rises e = vote_if vote rises e (same_ballot vote.ballot b) refl
+
+    accept_if : (p : Ballot) → r.promised ≡ Some p → (t : Bool) → ballot_lt b p ≡ t → MayAnswer size i typed learned sent r (if t then record { saves = None; says = Refused b p } else voted (vote_at r.votes s) b s v)
+    accept_if p e true f = refused p b e f
+    accept_if p e false f = vote_by (vote_at r.votes s) (if_some r.promised p (λ q. IsAtMost q b) e (not_below b p f)) refl
+
+    accept_by : (o : Option Ballot) → r.promised ≡ o → MayAnswer size i typed learned sent r (accepted o r b s v)
+    accept_by None e = vote_by (vote_at r.votes s) (if_none r.promised (λ q. IsAtMost q b) e) refl
+    accept_by (Some p) e = accept_if p e (ballot_lt b p) refl
+
+    pub accept_may : MayAnswer size i typed learned sent r (accept_of r b s v)
+    accept_may = accept_by r.promised refl

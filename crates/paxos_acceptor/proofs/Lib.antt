@@ -1,0 +1,5 @@
+pub mod Ranges
+pub mod Parts
+pub mod Reports
+pub mod Backing
+mod RecordRead

@@ -1,0 +1,234 @@
+-- The law: bytes are read as a record just where they are its spelling.
+use Rattle.std.proofs.Common.{if◌then◌else◌, ◌≡◌, ◌↔◌, ℕ, zero, suc, ◌+◌, ◌<◌, ◌≤◌, ◌^◌, eqb, Bool, true, false, not, ◌&&◌, List, [], ◌∷◌, ◌++◌, length, Option, Some, None, IfSome, Result, Ok, Err, refl, ap, ◌∙◌, sym, subst, append_assoc, arith}
+use Rattle.std.proofs.lemmas.Bool.{eq-eqb, eqb-true, ne_eqb}
+use Rattle.std.proofs.lemmas.Bool.Decides.{nat_tests}
+use Rattle.std.proofs.lemmas.List.{append-nil, nil_from_length}
+use Rattle.paxos_msg.specs.declared.ballot.Ballot.{Ballot}
+use Rattle.paxos_msg.specs.declared.value.Vote.{Vote}
+use Rattle.paxos_msg.specs.declared.record.Record.{Record}
+use Rattle.paxos_msg.specs.declared.fault.WireFault.{WireFault}
+use Rattle.paxos_msg.specs.declared.fault.WireFault.TheVariants as fault
+use Rattle.paxos_msg.specs.Fits.{IsBallot, AreVotes}
+use Rattle.paxos_msg.specs.Grammar.{AreBytes}
+use Rattle.paxos_msg.specs.Reading.{◌>>=◌, unless, number_at, ballot_at, votes_at}
+use Rattle.paxos_msg.specs.Spelling.{number_bytes, ballot_bytes, votes_bytes}
+use Rattle.paxos_acceptor.specs.declared.me.Me.{Me}
+use Rattle.paxos_acceptor.specs.Records.{AreKept, IsRecord, Rec, header_bytes, promised_bytes, record_bytes}
+use Rattle.paxos_acceptor.specs.RecordReading.{behind_byte, header_at, zero_at, some_ballot_at, promised_at, votes_of, head_at, record_at}
+
+-- a vote's place is at least its index
+pub few : (size : ℕ) (b : Ballot) (low upto : ℕ) (votes : List Vote) → low ≤ upto → AreVotes size b low upto votes → low + length votes ≤ upto
+few size b low upto [] le h = omega arith
+few size b low upto (v ∷ votes) le h = let rest = few size b (v.place + 1) upto votes (omega (arith, h.0.below_upto)) h.1 in omega (arith, h.0.from_low)
+
+few_kept : (size : ℕ) (promised : Option Ballot) (votes : List Vote) → AreKept size promised votes → length votes ≤ 65536
+few_kept size None votes h = rw h (omega arith)
+few_kept size (Some b) votes h = let f = few size b 0 65536 votes (omega arith) h.1 in omega arith
+
+pub few_votes : (size : ℕ) (r : Record) → IsRecord size r → length r.votes ≤ 65536
+few_votes size r h = few_kept size r.promised r.votes h.kept
+
+-- ---- steps and tests that did not fail
+
+bind_ok : {A B : Type 0} (r : Result A WireFault) (f : A → Result B WireFault) (y : B) → (r >>= f) ≡ Ok y → (x : A) × (r ≡ Ok x) × (f x ≡ Ok y)
+bind_ok (Ok x) f y h = (x, refl, h)
+bind_ok (Err e) f y h = absurd cc
+
+last_ok : {A : Type 0} (e : WireFault) (b : Bool) (x y : A) → unless e b x ≡ Ok y → (b ≡ false) × (x ≡ y)
+last_ok e true x y h = absurd cc
+last_ok e false x y h = (refl, cc)
+
+abbrev done : {A : Type 0} → A → Result A WireFault
+done x = Ok x
+
+ok_is : {A : Type 0} (x y : A) → done x ≡ done y → x ≡ y
+ok_is x y h = cc
+
+not_false : (a : Bool) → not a ≡ false → a ≡ true
+not_false true h = refl
+not_false false h = absurd cc
+
+and_true : (a b : Bool) → (a && b) ≡ true → (a ≡ true) × (b ≡ true)
+and_true true b h = (refl, h)
+and_true false b h = absurd cc
+
+-- ---- the parts
+
+-- what is known of reading the fields
+pub record Fields : Type 0 where
+  pub numbers : (bytes : List ℕ) (n : ℕ) (rest : List ℕ) → AreBytes bytes → (number_at bytes ≡ Ok (n, rest)) ↔ ((n < 2 ^ 32) × (bytes ≡ number_bytes n ++ rest))
+  pub ballots : (size : ℕ) (bytes : List ℕ) (b : Ballot) (rest : List ℕ) → AreBytes bytes → (ballot_at size bytes ≡ Ok (b, rest)) ↔ (IsBallot size b × (bytes ≡ ballot_bytes b ++ rest))
+  pub votes : (size n : ℕ) (b : Ballot) (bytes : List ℕ) (votes : List Vote) (rest : List ℕ) → AreBytes bytes →
+      (votes_at size b 0 65536 0 n bytes ≡ Ok (votes, rest)) ↔ (AreVotes size b 0 65536 votes × (length votes ≡ n) × (bytes ≡ votes_bytes votes ++ rest))
+
+-- the bytes behind some bytes
+others : (front rest : List ℕ) → AreBytes (front ++ rest) → AreBytes rest
+others [] rest h = h
+others (x ∷ front) rest h = others front rest (λ i. h (suc i))
+
+others_of : (bytes front rest : List ℕ) → AreBytes bytes → bytes ≡ front ++ rest → AreBytes rest
+others_of bytes front rest h e = others front rest (subst AreBytes e h)
+
+byte_found : (byte : ℕ) (bytes rest : List ℕ) → behind_byte byte bytes ≡ Ok rest → bytes ≡ byte ∷ rest
+byte_found byte [] rest h = absurd cc
+byte_found byte (x ∷ bytes) rest h = elim (eqb x byte) as (λ b. eqb x byte ≡ b → (if b then Ok bytes else Err fault.Magic) ≡ Ok rest → x ∷ bytes ≡ byte ∷ rest) [
+  | true ↦ λ e k. let same : x ≡ byte = eqb-true x byte e in let tail : bytes ≡ rest = cc in λ i. same i ∷ tail i
+  | false ↦ λ e k. absurd cc
+] refl h
+
+byte_again : (byte : ℕ) (rest : List ℕ) → behind_byte byte (byte ∷ rest) ≡ Ok rest
+byte_again byte rest = rw (eq-eqb byte byte refl) refl
+
+-- the promised ballot is in its ranges
+abbrev IsPromise : ℕ → Option Ballot → Type 0
+IsPromise size None = Unit {0}
+IsPromise size (Some b) = IsBallot size b
+
+kept_promise : (size : ℕ) (p : Option Ballot) (votes : List Vote) → AreKept size p votes → IsPromise size p
+kept_promise size None votes h = tt
+kept_promise size (Some b) votes h = h.0
+
+module _ (F : Fields) where
+  header_found : (me : Me) (bytes rest : List ℕ) → AreBytes bytes → header_at me bytes ≡ Ok rest → bytes ≡ header_bytes me ++ rest
+  unfolding header_at
+  header_found me bytes rest are e =
+      let a = bind_ok (behind_byte 80 bytes) _ rest e in
+      let b = bind_ok (behind_byte 82 a.0) _ rest a.2 in
+      let c = bind_ok (behind_byte 1 b.0) _ rest b.2 in
+      let d = bind_ok (behind_byte me.node c.0) _ rest c.2 in
+      let g = bind_ok (behind_byte me.group.size d.0) _ rest d.2 in
+      let s = bind_ok (number_at g.0) _ rest g.2 in
+      let t = last_ok fault.Group (not (eqb s.0.0 me.group.session)) s.0.1 rest s.2 in
+      let front : bytes ≡ 80 ∷ 82 ∷ 1 ∷ me.node ∷ me.group.size ∷ g.0 =
+      byte_found 80 bytes a.0 a.1 ∙ ap (λ (xs : List ℕ). 80 ∷ xs) (byte_found 82 a.0 b.0 b.1 ∙ ap (λ (xs : List ℕ). 82 ∷ xs) (byte_found 1 b.0 c.0 c.1 ∙ ap (λ (xs : List ℕ). 1 ∷ xs) (byte_found me.node c.0 d.0 d.1 ∙ ap (λ (xs : List ℕ). me.node ∷ xs) (byte_found me.group.size d.0 g.0 g.1)))) in
+      let number = (F.numbers g.0 s.0.0 s.0.1 (others_of bytes (80 ∷ 82 ∷ 1 ∷ me.node ∷ me.group.size ∷ []) g.0 are front)).0 s.1 in
+      let session : s.0.0 ≡ me.group.session = eqb-true s.0.0 me.group.session (not_false _ t.0) in
+      let behind : g.0 ≡ number_bytes me.group.session ++ rest = number.1 ∙ ap (λ (n : ℕ). number_bytes n ++ s.0.1) session ∙ ap (λ (xs : List ℕ). number_bytes me.group.session ++ xs) t.1 in
+      front ∙ ap (λ (xs : List ℕ). 80 ∷ 82 ∷ 1 ∷ me.node ∷ me.group.size ∷ xs) behind
+
+  header_again : (me : Me) (rest : List ℕ) → me.group.session < 2 ^ 32 → AreBytes (number_bytes me.group.session ++ rest) → header_at me (header_bytes me ++ rest) ≡ Ok rest
+  unfolding header_at
+  header_again me rest small are =
+      rw (eq-eqb me.node me.node refl, eq-eqb me.group.size me.group.size refl, (F.numbers (number_bytes me.group.session ++ rest) me.group.session rest are).1 (small, refl), eq-eqb me.group.session me.group.session refl) refl
+
+  promised_found : (size : ℕ) (bytes : List ℕ) (p : Option Ballot) (rest : List ℕ) → AreBytes bytes → promised_at size bytes ≡ Ok (p, rest) → IsPromise size p × (bytes ≡ promised_bytes p ++ rest)
+  unfolding promised_at
+  promised_found size bytes p rest are e =
+      let a = bind_ok (number_at bytes) _ (p, rest) e in
+      let number = (F.numbers bytes a.0.0 a.0.1 are).0 a.1 in
+      by_round a.0.0 a.0.1 (number.1) (eqb a.0.0 0) refl a.2
+    where
+      by_round : (round : ℕ) (behind : List ℕ) → bytes ≡ number_bytes round ++ behind → (t : Bool) → eqb round 0 ≡ t →
+          (if t then zero_at behind else some_ballot_at size bytes) ≡ Ok (p, rest) →
+          IsPromise size p × (bytes ≡ promised_bytes p ++ rest)
+      by_round round behind parts true z h =
+          let k = bind_ok (behind_byte 0 behind) _ (p, rest) h in
+          let both : (None, k.0) ≡ (p, rest) = ok_is (None, k.0) (p, rest) k.2 in
+          let none : p ≡ None = sym (ap (λ (x : Option Ballot × List ℕ). x.0) both) in
+          let same : k.0 ≡ rest = ap (λ (x : Option Ballot × List ℕ). x.1) both in
+          let zero_round : round ≡ 0 = eqb-true round 0 z in
+          rw none (tt, parts ∙ ap (λ (n : ℕ). number_bytes n ++ behind) zero_round ∙ ap (λ (xs : List ℕ). 0 ∷ 0 ∷ 0 ∷ 0 ∷ xs) (byte_found 0 behind k.0 k.1 ∙ ap (λ (xs : List ℕ). 0 ∷ xs) same))
+      by_round round behind parts false z h =
+          let k = bind_ok (ballot_at size bytes) _ (p, rest) h in
+          let both : (Some k.0.0, k.0.1) ≡ (p, rest) = ok_is (Some k.0.0, k.0.1) (p, rest) k.2 in
+          let some : p ≡ Some k.0.0 = sym (ap (λ (x : Option Ballot × List ℕ). x.0) both) in
+          let same : k.0.1 ≡ rest = ap (λ (x : Option Ballot × List ℕ). x.1) both in
+          let b = (F.ballots size bytes k.0.0 k.0.1 are).0 k.1 in
+          rw some (b.0, b.1 ∙ ap (λ (xs : List ℕ). ballot_bytes k.0.0 ++ xs) same)
+
+  promised_again : (size : ℕ) (p : Option Ballot) (rest : List ℕ) → IsPromise size p → AreBytes (promised_bytes p ++ rest) → promised_at size (promised_bytes p ++ rest) ≡ Ok (p, rest)
+  unfolding promised_at
+  promised_again size None rest h are = rw ((F.numbers (0 ∷ 0 ∷ 0 ∷ 0 ∷ 0 ∷ rest) 0 (0 ∷ rest) are).1 (omega arith, refl)) refl
+  promised_again size (Some b) rest h are =
+      let front = append_assoc (number_bytes b.round) (b.node ∷ []) rest in
+      rw ((F.numbers (ballot_bytes b ++ rest) b.round (b.node ∷ rest) are).1 (omega (arith, h.0.1), front), ne_eqb b.round 0 (λ z. omega (arith, h.0.0)), (F.ballots size (ballot_bytes b ++ rest) b rest are).1 (h, refl)) refl
+
+  votes_found : (size n : ℕ) (p : Option Ballot) (bytes : List ℕ) (votes : List Vote) → AreBytes bytes → IsPromise size p → votes_of size p n bytes ≡ Ok votes → AreKept size p votes × (length votes ≡ n) × (bytes ≡ votes_bytes votes)
+  votes_found size n None bytes votes are h e =
+      let a = last_ok fault.Ballot (not (eqb n 0 && eqb (length bytes) 0)) [] votes e in
+      let b = and_true (eqb n 0) (eqb (length bytes) 0) (not_false _ a.0) in
+      let none : votes ≡ [] = sym a.1 in
+      rw none (refl, sym (eqb-true n 0 b.0), nil_from_length bytes (eqb-true (length bytes) 0 b.1))
+  votes_found size n (Some b) bytes votes are h e =
+      let a = bind_ok (votes_at size b 0 65536 0 n bytes) _ votes e in
+      let c = last_ok fault.Trailing (not (eqb (length a.0.1) 0)) a.0.0 votes a.2 in
+      let none : a.0.1 ≡ [] = nil_from_length a.0.1 (eqb-true (length a.0.1) 0 (not_false _ c.0)) in
+      let v = (F.votes size n b bytes a.0.0 a.0.1 are).0 a.1 in
+      rw (← c.1) ((h, v.0), v.1, v.2 ∙ ap (λ (xs : List ℕ). votes_bytes a.0.0 ++ xs) none ∙ append-nil (votes_bytes a.0.0))
+
+  votes_again : (size : ℕ) (p : Option Ballot) (votes : List Vote) → AreBytes (votes_bytes votes) → AreKept size p votes → votes_of size p (length votes) (votes_bytes votes) ≡ Ok votes
+  votes_again size None votes are h = rw h refl
+  votes_again size (Some b) votes are h = rw ((F.votes size (length votes) b (votes_bytes votes) votes [] are).1 (h.1, refl, sym (append-nil (votes_bytes votes)))) refl
+
+  head_found : (me : Me) (bytes : List ℕ) (starts : ℕ) (p : Option Ballot) (n : ℕ) (rest : List ℕ) → AreBytes bytes → head_at me bytes ≡ Ok ((starts, p, n), rest) →
+      (starts < 2 ^ 32) × IsPromise me.group.size p × (bytes ≡ header_bytes me ++ (number_bytes starts ++ (promised_bytes p ++ (number_bytes n ++ rest)))) × AreBytes rest
+  unfolding head_at
+  head_found me bytes starts p n rest are e =
+      let a = bind_ok (header_at me bytes) _ ((starts, p, n), rest) e in
+      let b = bind_ok (number_at a.0) _ ((starts, p, n), rest) a.2 in
+      let c = bind_ok (promised_at me.group.size b.0.1) _ ((starts, p, n), rest) b.2 in
+      let d = bind_ok (number_at c.0.1) _ ((starts, p, n), rest) c.2 in
+      let all : ((b.0.0, c.0.0, d.0.0), d.0.1) ≡ ((starts, p, n), rest) = ok_is ((b.0.0, c.0.0, d.0.0), d.0.1) ((starts, p, n), rest) d.2 in
+      let one = header_found me bytes a.0 are a.1 in
+      let are_one = others_of bytes (header_bytes me) a.0 are one in
+      let two = (F.numbers a.0 b.0.0 b.0.1 are_one).0 b.1 in
+      let are_two = others_of a.0 (number_bytes b.0.0) b.0.1 are_one two.1 in
+      let three = promised_found me.group.size b.0.1 c.0.0 c.0.1 are_two c.1 in
+      let are_three = others_of b.0.1 (promised_bytes c.0.0) c.0.1 are_two three.1 in
+      let four = (F.numbers c.0.1 d.0.0 d.0.1 are_three).0 d.1 in
+      let are_four = others_of c.0.1 (number_bytes d.0.0) d.0.1 are_three four.1 in
+      let parts : bytes ≡ header_bytes me ++ (number_bytes b.0.0 ++ (promised_bytes c.0.0 ++ (number_bytes d.0.0 ++ d.0.1))) =
+      one ∙ ap (λ (xs : List ℕ). header_bytes me ++ xs) (two.1 ∙ ap (λ (xs : List ℕ). number_bytes b.0.0 ++ xs) (three.1 ∙ ap (λ (xs : List ℕ). promised_bytes c.0.0 ++ xs) four.1)) in
+      subst (λ (x : (ℕ × Option Ballot × ℕ) × List ℕ). (x.0.0 < 2 ^ 32) × IsPromise me.group.size x.0.1 × (bytes ≡ header_bytes me ++ (number_bytes x.0.0 ++ (promised_bytes x.0.1 ++ (number_bytes x.0.2 ++ x.1)))) × AreBytes x.1)
+      all (two.0, three.0, parts, are_four)
+
+  head_again : (me : Me) (starts : ℕ) (p : Option Ballot) (n : ℕ) (rest : List ℕ) → me.group.session < 2 ^ 32 → starts < 2 ^ 32 → IsPromise me.group.size p → n < 2 ^ 32 →
+      AreBytes (header_bytes me ++ (number_bytes starts ++ (promised_bytes p ++ (number_bytes n ++ rest)))) →
+      head_at me (header_bytes me ++ (number_bytes starts ++ (promised_bytes p ++ (number_bytes n ++ rest)))) ≡ Ok ((starts, p, n), rest)
+  unfolding head_at
+  head_again me starts p n rest small few_starts h few_n are =
+      let session = others (80 ∷ 82 ∷ 1 ∷ me.node ∷ me.group.size ∷ []) (number_bytes me.group.session ++ (number_bytes starts ++ (promised_bytes p ++ (number_bytes n ++ rest)))) are in
+      let one = others (number_bytes me.group.session) (number_bytes starts ++ (promised_bytes p ++ (number_bytes n ++ rest))) session in
+      let two = others (number_bytes starts) (promised_bytes p ++ (number_bytes n ++ rest)) one in
+      let three = others (promised_bytes p) (number_bytes n ++ rest) two in
+      rw (
+        header_again me (number_bytes starts ++ (promised_bytes p ++ (number_bytes n ++ rest))) small session,
+        (F.numbers (number_bytes starts ++ (promised_bytes p ++ (number_bytes n ++ rest))) starts (promised_bytes p ++ (number_bytes n ++ rest)) one).1 (few_starts, refl),
+        promised_again me.group.size p (number_bytes n ++ rest) h two,
+        (F.numbers (number_bytes n ++ rest) n rest three).1 (few_n, refl),
+      ) refl
+
+  -- the record's bytes, one part behind the other
+  parts_of : (me : Me) (r : Record) → record_bytes me r ≡ header_bytes me ++ (number_bytes r.starts ++ (promised_bytes r.promised ++ (number_bytes (length r.votes) ++ votes_bytes r.votes)))
+  parts_of me r = simp append_assoc
+
+  record_found : (me : Me) (bytes : List ℕ) (r : Record) → AreBytes bytes → record_at me bytes ≡ Ok r → Rec me bytes r
+  unfolding record_at
+  record_found me bytes r are e =
+      let a = bind_ok (head_at me bytes) _ r e in
+      let b = bind_ok (votes_of me.group.size a.0.0.1 a.0.0.2 a.0.1) _ r a.2 in
+      let head = head_found me bytes a.0.0.0 a.0.0.1 a.0.0.2 a.0.1 are a.1 in
+      let votes = votes_found me.group.size a.0.0.2 a.0.0.1 a.0.1 b.0 head.3 head.1 b.1 in
+      let this : Record = record { starts = a.0.0.0; promised = a.0.0.1; votes = b.0 } in
+      let is : this ≡ r = ok_is this r b.2 in
+      let spelled : bytes ≡ header_bytes me ++ (number_bytes a.0.0.0 ++ (promised_bytes a.0.0.1 ++ (number_bytes (length b.0) ++ votes_bytes b.0))) =
+      head.2 ∙ ap (λ (xs : List ℕ). header_bytes me ++ (number_bytes a.0.0.0 ++ (promised_bytes a.0.0.1 ++ xs))) (ap (λ (n : ℕ). number_bytes n ++ a.0.1) (sym votes.1) ∙ ap (λ (xs : List ℕ). number_bytes (length b.0) ++ xs) votes.2) in
+      subst (Rec me bytes) is (record { ranges = record { starts = head.0; kept = votes.0 }; spelled = spelled ∙ sym (parts_of me this) })
+
+  record_again : (me : Me) (bytes : List ℕ) (r : Record) → me.group.session < 2 ^ 32 → AreBytes bytes → Rec me bytes r → record_at me bytes ≡ Ok r
+  unfolding record_at
+  record_again me bytes r small are h =
+      let parts = h.spelled ∙ parts_of me r in
+      let now : AreBytes (header_bytes me ++ (number_bytes r.starts ++ (promised_bytes r.promised ++ (number_bytes (length r.votes) ++ votes_bytes r.votes)))) = subst AreBytes parts are in
+      let counted : List ℕ = number_bytes (length r.votes) ++ votes_bytes r.votes in
+      let are_counted : AreBytes counted = others (promised_bytes r.promised) counted (others (number_bytes r.starts) (promised_bytes r.promised ++ counted) (others (header_bytes me) (number_bytes r.starts ++ (promised_bytes r.promised ++ counted)) now)) in
+      let votes : AreBytes (votes_bytes r.votes) = others (number_bytes (length r.votes)) (votes_bytes r.votes) are_counted in
+      let few_n = few_votes me.group.size r h.ranges in
+      rw (
+        parts,
+        head_again me r.starts r.promised (length r.votes) (votes_bytes r.votes) small h.ranges.starts (kept_promise me.group.size r.promised r.votes h.ranges.kept) (omega arith) now,
+        votes_again me.group.size r.promised r.votes votes h.ranges.kept,
+      ) refl
+
+  pub record_is_spelling : (me : Me) (bytes : List ℕ) (r : Record) → me.group.session < 2 ^ 32 → AreBytes bytes → (record_at me bytes ≡ Ok r) ↔ Rec me bytes r
+  record_is_spelling me bytes r small are = (record_found me bytes r are, record_again me bytes r small are)

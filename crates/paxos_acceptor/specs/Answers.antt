@@ -1,0 +1,67 @@
+-- What an acceptor answers, and what it saves before.
+use Rattle.std.specs.Prelude.{◌≡◌, ℕ, ◌+◌, ◌-◌, nat_le, nat_lt, List, length, take, filter, slice_get, Option, Some, None, if◌then◌else◌}
+use Rattle.std.specs.Option.{option_map_or}
+use Rattle.paxos_msg.specs.declared.ballot.Ballot.{Ballot}
+use Rattle.paxos_msg.specs.declared.value.Value.{Value}
+use Rattle.paxos_msg.specs.declared.value.Vote.{Vote}
+use Rattle.paxos_msg.specs.declared.record.Record.{Record}
+use Rattle.paxos_msg.specs.declared.record.Change.{Change}
+use Rattle.paxos_msg.specs.declared.record.Change.TheVariants as change
+use Rattle.paxos_msg.specs.declared.message.Body.{Body}
+use Rattle.paxos_msg.specs.declared.message.Body.TheVariants.{Promise, Accepted, Refused}
+use Rattle.paxos_msg.specs.Messages.{vote_at}
+use Rattle.paxos_msg.specs.Records.{changed}
+use Rattle.paxos_msg.specs.Tests.{ballot_lt, same_ballot}
+
+-- the change that is saved, if any, and then the answer
+pub record Answer : Type 0 where
+  pub saves : Option Change
+  pub says : Body
+
+-- the record after a change, if there is one
+abbrev pub after : Record → Option Change → Record
+after r None = r
+after r (Some c) = changed r c
+
+-- the votes at places from this one on
+abbrev pub votes_from : ℕ → List Vote → List Vote
+votes_from from votes = filter (λ vote. nat_le from vote.place) votes
+
+-- the place behind the last of these votes
+abbrev pub behind_last : List Vote → ℕ
+behind_last votes = option_map_or (λ vote. vote.place + 1) (slice_get votes (length votes - 1)) 0
+
+-- up to where a part speaks that reports the first 64 of these votes: over all places, unless there are more
+abbrev pub upto_of : List Vote → ℕ
+upto_of votes = if nat_lt 64 (length votes) then behind_last (take 64 votes) else 65536
+
+-- the part of a promise that speaks of the places from this one on
+abbrev pub part_of : Record → Ballot → ℕ → Body
+part_of r b from = Promise b from (upto_of (votes_from from r.votes)) (take 64 (votes_from from r.votes))
+
+-- by the promised ballot: a greater one refuses, the same one needs no save
+abbrev pub prepared : Option Ballot → Record → Ballot → ℕ → Answer
+prepared None r b from = record { saves = Some (change.Promise b); says = part_of r b from }
+prepared (Some p) r b from =
+    if ballot_lt b p then record { saves = None; says = Refused b p }
+    else record { saves = if same_ballot p b then None else Some (change.Promise b); says = part_of r b from }
+
+-- the answer to a Prepare of ballot b for the places from this one on
+abbrev pub prepare_of : Record → Ballot → ℕ → Answer
+prepare_of r b from = prepared r.promised r b from
+
+-- by the vote at the place: one under the same ballot is told again
+abbrev pub voted : Option Vote → Ballot → ℕ → Value → Answer
+voted None b s v = record { saves = Some (change.Ballotted s b v); says = Accepted b s v }
+voted (Some vote) b s v =
+    if same_ballot vote.ballot b then record { saves = None; says = Accepted b s vote.value }
+    else record { saves = Some (change.Ballotted s b v); says = Accepted b s v }
+
+-- by the promised ballot: a greater one refuses
+abbrev pub accepted : Option Ballot → Record → Ballot → ℕ → Value → Answer
+accepted None r b s v = voted (vote_at r.votes s) b s v
+accepted (Some p) r b s v = if ballot_lt b p then record { saves = None; says = Refused b p } else voted (vote_at r.votes s) b s v
+
+-- the answer to an Accept of v at s under ballot b
+abbrev pub accept_of : Record → Ballot → ℕ → Value → Answer
+accept_of r b s v = accepted r.promised r b s v

@@ -1,0 +1,17 @@
+-- When what was sent backs a record.
+use Rattle.std.specs.Prelude.{◌≡◌, ℕ, IfSome, IsSomeAnd, Contains}
+use Rattle.paxos_msg.specs.declared.value.Vote.{Vote}
+use Rattle.paxos_msg.specs.declared.record.Record.{Record}
+use Rattle.paxos_msg.specs.declared.message.Body.TheVariants.{Accept}
+use Rattle.paxos_msg.specs.Ballots.{IsAtMost}
+use Rattle.paxos_msg.specs.Messages.{Sent, IsSaid, IsAscending, vote_at}
+
+-- a vote at place s was proposed, under no greater ballot than the promised one
+pub record IsVoteBacked (sent : Sent) (r : Record) (s : ℕ) (vote : Vote) : Type 0 where
+  pub proposed : IsSaid sent (Accept vote.ballot s vote.value)
+  pub in_promise : IsSomeAnd r.promised (λ p. IsAtMost vote.ballot p)
+
+-- each vote of the record was proposed, and they ascend by place
+pub record IsBacked (sent : Sent) (r : Record) : Type 0 where
+  pub votes : (s : ℕ) → IfSome (vote_at r.votes s) (IsVoteBacked sent r s)
+  pub in_order : IsAscending r.votes

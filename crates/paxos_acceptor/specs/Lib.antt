@@ -1,0 +1,10 @@
+pub mod Answers
+pub mod Records
+pub mod RecordReading
+pub mod Stores
+pub mod States
+pub mod Follows
+pub mod Backed
+pub mod Memories
+pub mod Cases
+pub mod Saves

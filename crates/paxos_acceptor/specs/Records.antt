@@ -1,0 +1,36 @@
+-- The ranges of a record, and its spelling as bytes. Numbers have their high byte first.
+use Rattle.std.specs.Prelude.{◌≡◌, ℕ, ◌^◌, ◌<◌, List, [], ◌∷◌, ◌++◌, length, Option, Some, None, IfSome}
+use Rattle.paxos_msg.specs.declared.ballot.Ballot.{Ballot}
+use Rattle.paxos_msg.specs.declared.value.Vote.{Vote}
+use Rattle.paxos_msg.specs.declared.record.Record.{Record}
+use Rattle.paxos_msg.specs.Fits.{IsBallot, AreVotes}
+use Rattle.paxos_msg.specs.Spelling.{number_bytes, ballot_bytes, votes_bytes}
+use Rattle.paxos_acceptor.specs.declared.me.Me.{Me}
+
+-- no vote without a promise; else they ascend by place, none above the promised ballot
+abbrev pub AreKept : ℕ → Option Ballot → List Vote → Type 0
+AreKept size None votes = votes ≡ []
+AreKept size (Some b) votes = IsBallot size b × AreVotes size b 0 65536 votes
+
+-- a record of an acceptor in a group of that size
+pub record IsRecord (size : ℕ) (r : Record) : Type 0 where
+  pub starts : r.starts < 2 ^ 32
+  pub kept : AreKept size r.promised r.votes
+
+-- a ballot, or zeros for none
+abbrev pub promised_bytes : Option Ballot → List ℕ
+promised_bytes None = 0 ∷ 0 ∷ 0 ∷ 0 ∷ 0 ∷ []
+promised_bytes (Some b) = ballot_bytes b
+
+-- `PR`, version 1, and whose record it is
+abbrev pub header_bytes : Me → List ℕ
+header_bytes me = 80 ∷ 82 ∷ 1 ∷ me.node ∷ me.group.size ∷ number_bytes me.group.session
+
+-- the header and the record
+abbrev pub record_bytes : Me → Record → List ℕ
+record_bytes me r = header_bytes me ++ number_bytes r.starts ++ promised_bytes r.promised ++ number_bytes (length r.votes) ++ votes_bytes r.votes
+
+-- the bytes are the spelling of the record, all of them
+pub record Rec (me : Me) (bytes : List ℕ) (r : Record) : Type 0 where
+  pub ranges : IsRecord me.group.size r
+  pub spelled : bytes ≡ record_bytes me r

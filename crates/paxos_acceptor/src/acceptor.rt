@@ -1,0 +1,213 @@
+//! An acceptor.
+ghost use Rattle.std.specs.Prelude.{◌≡◌, ◌≢◌, ◌↔◌, false, IfOk, IfErr, IsErrOf};
+ghost use Rattle.paxos_msg.specs.declared.record.Change.TheVariants.{Start};
+ghost use Rattle.paxos_msg.specs.Fits.{IsBallot, IsPlace, IsValue};
+ghost use Rattle.paxos_msg.specs.Records.{changed};
+ghost use Rattle.paxos_acceptor.specs.Answers.{accept_of, after, prepare_of};
+ghost use Rattle.paxos_acceptor.specs.Follows.{Follows};
+ghost use Rattle.paxos_acceptor.specs.Records.{IsRecord};
+ghost use Rattle.paxos_acceptor.specs.Stores.{HasRisen};
+
+use crate::cases::{greater_promise, is_promised, value_under};
+use crate::codec::record_fits;
+use crate::fault::AcceptorFault;
+use crate::me::Me;
+use crate::part::part_from;
+use crate::saving::{save_to, save_vote};
+use crate::store::{Store, StoreFault};
+use paxos_msg::{Ballot, Body, Change, Record, Value, Vote, Votes, find_vote};
+use std::alloc::Global;
+use std::marker::Model;
+use std::mem;
+
+/// An acceptor over a store, whose record it keeps.
+#[derive(Drop)]
+pub struct Acceptor<S: Store> {
+    me: Me,
+    record: Record,
+    is_closed: bool,
+    store: S,
+    alloc: Global,
+}
+
+impl<S: Store> Model for Acceptor<S> {
+    ghost use Rattle.paxos_acceptor.specs.States.{State, IsInStep};
+
+    ghost Value = { State S };
+
+    ghost view = { λ a. record { me = a.me; kept = a.record; is_closed = a.is_closed; store = a.store } };
+
+    ghost invariant = { λ a. IsInStep S.honest S.stored (record { me = a.me; kept = a.record; is_closed = a.is_closed; store = a.store }) };
+}
+
+/// A store that an acceptor was not opened over, and why.
+#[derive(Drop)]
+pub struct OpenRefused<S> {
+    pub fault: AcceptorFault,
+    pub store: S,
+}
+
+/// What a load's fault is to an acceptor.
+fn fault_of_load(fault: StoreFault) -> AcceptorFault
+    ensures memory { result ≡ AcceptorFault.Memory ↔ fault ≡ StoreFault.Memory }
+    ensures device { result ≡ AcceptorFault.Store ↔ fault ≡ StoreFault.Device }
+    ensures bad { result ≡ AcceptorFault.BadRecord ↔ fault ≡ StoreFault.Bad }
+{
+    match fault {
+        StoreFault::Memory => AcceptorFault::Memory,
+        StoreFault::Device => AcceptorFault::Store,
+        StoreFault::Bad => AcceptorFault::BadRecord,
+    }
+}
+
+impl<S: Store> Acceptor<S> {
+    /// Loads the store's record. `Memory`, `Store` and `BadRecord` are what the load met; `BadRecord`, which comes last, is also
+    /// a record out of its ranges. A refusal gives the store back.
+    pub fn open(alloc: Global, store: S, me: Me) -> Result<Acceptor<S>, OpenRefused<S>>
+        ensures loaded { S.honest → IfOk result (λ a. (a.kept ≡ S.stored store) × (S.stored a.store ≡ S.stored store)) }
+        ensures open { IfOk result (λ a. (a.is_closed ≡ false) × (a.me ≡ me)) }
+        ensures ranges { IfOk result (λ a. IsRecord me.group.size a.kept) }
+        ensures same { S.honest → IfErr result (λ e. S.stored e.store ≡ S.stored store) }
+        ensures cause { IfErr result (λ e. e.fault ≡ AcceptorFault.Store → HasRisen (S.faults store) (S.faults e.store)) }
+        ensures bad { S.honest → IfErr result (λ e. e.fault ≡ AcceptorFault.BadRecord → ¬ IsRecord me.group.size (S.stored store)) }
+        ensures others { IfErr result (λ e. (e.fault ≢ AcceptorFault.Closed) × (e.fault ≢ AcceptorFault.StartsSpent)) }
+    {
+        let mut store = store;
+        let kept = match store.load() {
+            Ok(kept) => kept,
+            Err(fault) => {
+                let fault = fault_of_load(fault);
+                return Err(OpenRefused { fault, store });
+            }
+        };
+        if !record_fits(&kept, me) {
+            return Err(OpenRefused {
+                fault: AcceptorFault::BadRecord,
+                store,
+            });
+        }
+        Ok(Acceptor {
+            me,
+            record: kept,
+            is_closed: false,
+            store,
+            alloc,
+        })
+    }
+
+    /// The record.
+    pub fn record(&self) -> &Record
+        ensures same { result.now ≡ self.now.kept }
+        ensures ranges { IsRecord self.now.me.group.size self.now.kept }
+    {
+        &self.record
+    }
+
+    /// Counts one more start, and answers how many there were with it. `StartsSpent` after 4,294,967,295.
+    pub fn new_start(&mut self) -> Result<u32, AcceptorFault>
+        ensures answer { IfOk result (λ starts. starts ≡ self.new.kept.starts) }
+        ensures follows { Follows S.honest S.stored S.faults self.old self.new result (changed self.old.kept Start) }
+        ensures spent { IsErrOf result AcceptorFault.StartsSpent ↔ ((self.old.is_closed ≡ false) × (self.old.kept.starts ≡ 4294967295)) }
+        ensures others { ¬ IsErrOf result AcceptorFault.BadRecord }
+    {
+        if self.is_closed {
+            return Err(AcceptorFault::Closed);
+        }
+        if self.record.starts == u32::MAX {
+            return Err(AcceptorFault::StartsSpent);
+        }
+        save_to(&mut self.store, &mut self.is_closed, Change::Start)?;
+        self.record.starts += 1;
+        Ok(self.record.starts)
+    }
+
+    /// Answers a Prepare: promises the ballot, unless a greater one is promised, and reports the votes at places from `from` on, at
+    /// most 64 of them. A promise that is new is saved before it is answered.
+    pub fn prepare(&mut self, ballot: Ballot, from: u32) -> Result<Body, AcceptorFault>
+        requires ballot { IsBallot self.old.me.group.size ballot }
+        ensures answer { IfOk result (λ body. body ≡ (prepare_of self.old.kept ballot from).says) }
+        ensures follows { Follows S.honest S.stored S.faults self.old self.new result (after self.old.kept (prepare_of self.old.kept ballot from).saves) }
+        ensures others { ¬ IsErrOf result AcceptorFault.BadRecord × ¬ IsErrOf result AcceptorFault.StartsSpent }
+    {
+        if self.is_closed {
+            return Err(AcceptorFault::Closed);
+        }
+        if let Some(promised) = greater_promise(self.record.promised, ballot) {
+            return Ok(Body::Refused { ballot, promised });
+        }
+        let part = part_from(self.alloc, ballot, from, self.record.votes.as_slice())?;
+        if is_promised(self.record.promised, ballot) {
+            return Ok(part);
+        }
+        save_to(
+            &mut self.store,
+            &mut self.is_closed,
+            Change::Promise(ballot),
+        )?;
+        self.record.promised = Some(ballot);
+        Ok(part)
+    }
+
+    /// Answers an Accept: votes for the value at the place, unless a greater ballot is promised. A vote that is new is saved before it
+    /// is answered; one under the same ballot is told again.
+    pub fn accept(
+        &mut self,
+        ballot: Ballot,
+        place: u32,
+        value: Value,
+    ) -> Result<Body, AcceptorFault>
+        requires ballot { IsBallot self.old.me.group.size ballot }
+        requires place { IsPlace place }
+        requires value { IsValue self.old.me.group.size value }
+        ensures answer { IfOk result (λ body. body ≡ (accept_of self.old.kept ballot place value).says) }
+        ensures follows { Follows S.honest S.stored S.faults self.old self.new result (after self.old.kept (accept_of self.old.kept ballot place value).saves) }
+        ensures others { ¬ IsErrOf result AcceptorFault.BadRecord × ¬ IsErrOf result AcceptorFault.StartsSpent }
+    {
+        if self.is_closed {
+            return Err(AcceptorFault::Closed);
+        }
+        if let Some(promised) = greater_promise(self.record.promised, ballot) {
+            return Ok(Body::Refused { ballot, promised });
+        }
+        let vote = find_vote(self.record.votes.as_slice(), place);
+        if let Some(value) = value_under(vote, ballot) {
+            return Ok(Body::Accepted {
+                ballot,
+                place,
+                value,
+            });
+        }
+        let empty = Votes::new(Vec::new(self.alloc));
+        let mut votes = mem::replace(&mut self.record.votes, empty).into_vec();
+        let vote = Vote {
+            place,
+            ballot,
+            value,
+        };
+        let saved = save_vote(&mut self.store, &mut self.is_closed, &mut votes, vote);
+        self.record.votes = Votes::new(votes);
+        saved?;
+        self.record.promised = Some(ballot);
+        Ok(Body::Accepted {
+            ballot,
+            place,
+            value,
+        })
+    }
+
+    /// The store as it is.
+    pub fn into_store(self) -> S
+        ensures { result ≡ self.store }
+    {
+        self.store
+    }
+
+    /// Passed on to the store.
+    pub fn fail_next(&mut self, plan: Option<bool>)
+        ensures same { S.honest → S.stored self.new.store ≡ S.stored self.old.store }
+        ensures faults { S.faults self.new.store ≡ S.faults self.old.store }
+        ensures rest { (self.new.me ≡ self.old.me) × (self.new.kept ≡ self.old.kept) × (self.new.is_closed ≡ self.old.is_closed) }
+    {
+        self.store.fail_next(plan);
+    }
+}

@@ -1,0 +1,41 @@
+//! The laws of an acceptor, over the definitions alone: what it answers may be sent, over the record after its save.
+ghost use Rattle.std.specs.Prelude.{◌++◌, ℕ, List, Option, IfSome};
+ghost use Rattle.paxos_msg.specs.declared.ballot.Ballot.{Ballot};
+ghost use Rattle.paxos_msg.specs.declared.message.Body.TheVariants.{Accept};
+ghost use Rattle.paxos_msg.specs.declared.record.Change.TheVariants.{Start};
+ghost use Rattle.paxos_msg.specs.declared.record.Record.{Record};
+ghost use Rattle.paxos_msg.specs.declared.value.Value.{Value};
+ghost use Rattle.paxos_msg.specs.Keys.{Key};
+ghost use Rattle.paxos_msg.specs.Messages.{IsSaid, Sent};
+ghost use Rattle.paxos_msg.specs.Records.{changed, empty_record, MaySave};
+ghost use Rattle.paxos_msg.specs.Sending.{MaySend};
+ghost use Rattle.paxos_acceptor.specs.Answers.{accept_of, after, prepare_of};
+ghost use Rattle.paxos_acceptor.specs.Backed.{IsBacked};
+
+use paxos_msg::laws::votes_are_by_place;
+
+/// The empty record is backed by whatever was sent, and a record stays backed as more is sent.
+pub fn backing()
+    ensures empty { (sent : Sent) → IsBacked sent empty_record }
+    ensures later { (sent more : Sent) (r : Record) → IsBacked sent r → IsBacked (sent ++ more) r }
+    ensures start { (sent : Sent) (r : Record) → IsBacked sent r → IsBacked sent (changed r Start) }
+{}
+
+/// The answer to a Prepare may be sent over the record after its save, which may be saved and keeps the record backed.
+pub fn promises_may_be_sent()
+    ensures saves { (sent : Sent) (r : Record) (b : Ballot) (from : ℕ) → IfSome (prepare_of r b from).saves (MaySave sent r) }
+    ensures sends { (size i from : ℕ) (typed : List Key) (learned : ℕ → Option Value) (sent : Sent) (r : Record) (b : Ballot) →
+        IsBacked sent r → MaySend size typed learned sent i (after r (prepare_of r b from).saves) (prepare_of r b from).says }
+    ensures backed { (sent : Sent) (r : Record) (b : Ballot) (from : ℕ) → IsBacked sent r → IsBacked sent (after r (prepare_of r b from).saves) }
+{}
+
+/// The answer to an Accept that was sent, likewise.
+pub fn votes_may_be_sent()
+    ensures saves { (sent : Sent) (r : Record) (b : Ballot) (s : ℕ) (v : Value) → IsSaid sent (Accept b s v) → IfSome (accept_of r b s v).saves (MaySave sent r) }
+    ensures sends { (size i s : ℕ) (typed : List Key) (learned : ℕ → Option Value) (sent : Sent) (r : Record) (b : Ballot) (v : Value) →
+        IsBacked sent r → IsSaid sent (Accept b s v) → MaySend size typed learned sent i (after r (accept_of r b s v).saves) (accept_of r b s v).says }
+    ensures backed { (sent : Sent) (r : Record) (b : Ballot) (s : ℕ) (v : Value) → IsBacked sent r → IsSaid sent (Accept b s v) →
+        IsBacked sent (after r (accept_of r b s v).saves) }
+{
+    votes_are_by_place();
+}

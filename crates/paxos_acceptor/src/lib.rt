@@ -1,0 +1,25 @@
+//! The acceptor: what a node promises and votes for, over a store that outlives it.
+#![tactic(auto)]
+
+mod acceptor;
+mod cases;
+mod codec;
+mod disk;
+mod fault;
+mod file;
+pub mod laws;
+mod me;
+mod memory;
+mod part;
+mod saving;
+mod store;
+#[cfg(test)]
+mod tests;
+
+pub use acceptor::{Acceptor, OpenRefused};
+pub use codec::{record_decode, record_encode, record_fits};
+pub use fault::AcceptorFault;
+pub use file::FileStore;
+pub use me::Me;
+pub use memory::MemoryStore;
+pub use store::{Store, StoreFault};

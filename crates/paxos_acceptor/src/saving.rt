@@ -1,0 +1,55 @@
+//! Saving a change before it is answered.
+ghost use Rattle.std.specs.Prelude.{◌≡◌, ◌<◌, false, OnErr, OnOk};
+ghost use Rattle.paxos_msg.specs.declared.record.Change.TheVariants.{Ballotted, Start};
+ghost use Rattle.paxos_msg.specs.Messages.{IsAscending};
+ghost use Rattle.paxos_msg.specs.Records.{changed, with_vote};
+ghost use Rattle.paxos_acceptor.specs.Saves.{Saves};
+
+use crate::fault::AcceptorFault;
+use crate::store::{Store, StoreFault};
+use paxos_msg::{Change, Vote, insert_vote};
+
+/// Saves a change, and notes where the store is to be used no more.
+pub(crate) fn save_to<S: Store>(
+    store: &mut S,
+    is_closed: &mut bool,
+    change: Change,
+) -> Result<(), AcceptorFault>
+    requires open { is_closed.old ≡ false }
+    requires starts { S.honest → change ≡ Start → (S.stored store.old).starts < 4294967295 }
+    requires ascending { S.honest → IsAscending (S.stored store.old).votes }
+    ensures { Saves S.honest S.stored S.faults store.old store.new is_closed.new result (changed (S.stored store.old) change) }
+{
+    match store.save(&change) {
+        Ok(()) => Ok(()),
+        Err(StoreFault::Memory) => Err(AcceptorFault::Memory),
+        Err(StoreFault::Device) => {
+            *is_closed = true;
+            Err(AcceptorFault::Store)
+        }
+        Err(StoreFault::Bad) => unreachable!(),
+    }
+}
+
+/// Saves a vote and puts it among the votes. The room for it is made before the save, so that nothing can fail behind it. After an error the votes are as they were.
+pub(crate) fn save_vote<S: Store>(
+    store: &mut S,
+    is_closed: &mut bool,
+    votes: &mut Vec<Vote>,
+    vote: Vote,
+) -> Result<(), AcceptorFault>
+    requires open { is_closed.old ≡ false }
+    requires in_order { IsAscending votes.old.items }
+    requires ascending { S.honest → IsAscending (S.stored store.old).votes }
+    ensures saves { Saves S.honest S.stored S.faults store.old store.new is_closed.new result (changed (S.stored store.old) (Ballotted vote.place vote.ballot vote.value)) }
+    ensures ok { OnOk result (votes.new.items ≡ with_vote votes.old.items vote) }
+    ensures err { OnErr result (votes.new.items ≡ votes.old.items) }
+{
+    votes.reserve(1)?;
+    let change = Change::Ballotted(vote.place, vote.ballot, vote.value);
+    save_to(store, is_closed, change)?;
+    match insert_vote(votes, vote) {
+        Ok(()) => Ok(()),
+        Err(_) => unreachable!(),
+    }
+}

@@ -1,0 +1,204 @@
+//! What no clause says: parts of a promise by the numbers, faults that are passed on, the bytes of a record, and files.
+ghost use Rattle.std.specs.Prelude.{◌≡◌};
+
+use crate::{
+    Acceptor, AcceptorFault, FileStore, Me, MemoryStore, Store, StoreFault, record_decode,
+    record_encode,
+};
+use paxos_msg::{Ballot, Body, Group, Record, Value, Vote, Votes};
+use std::alloc::Global;
+use std::fs;
+use std::process::Abort;
+use std::test::Fail;
+
+const ME: Me = Me {
+    node: 2,
+    group: Group {
+        size: 3,
+        session: 7,
+    },
+};
+
+const FIRST: Ballot = Ballot { round: 1, node: 1 };
+
+const SECOND: Ballot = Ballot { round: 2, node: 2 };
+
+/// A vote for no key.
+fn vote_for_none(place: u32, ballot: Ballot) -> Vote {
+    Vote {
+        place,
+        ballot,
+        value: Value::Noop,
+    }
+}
+
+/// An acceptor over the store, which has to have a record in its ranges.
+fn opened<S: Store + Drop>(rt: &impl Abort, alloc: Global, store: S) -> Acceptor<S>
+    ensures { result.me ≡ ME }
+{
+    match Acceptor::open(alloc, store, ME) {
+        Ok(acceptor) => acceptor,
+        Err(refused) => panic!(rt; "{:?}", refused.fault),
+    }
+}
+
+/// Of a promise: the places from the first up to the other one, and the votes there.
+fn part_of(answer: Result<Body, AcceptorFault>) -> Option<(u32, u32, Votes)> {
+    match answer {
+        Ok(
+            Body::Promise {
+                first,
+                upto,
+                votes,
+                ..
+            },
+        ) => Some((first, upto, votes)),
+        _ => None,
+    }
+}
+
+/// After 65 votes from place 0 on a promise has two parts.
+#[test]
+fn promises_in_parts(rt: HostRuntime) -> Result<(), Fail> {
+    let mut votes = Vec::new(rt.alloc());
+    for place in 0..65 {
+        votes.push(vote_for_none(place, FIRST))?;
+    }
+    let record = Record {
+        starts: 1,
+        promised: Some(FIRST),
+        votes: Votes::new(votes),
+    };
+    let mut acceptor = opened(&rt, rt.alloc(), MemoryStore::new(record));
+
+    let (first, upto, votes) = part_of(acceptor.prepare(SECOND, 0)).expect(&rt, "a promise");
+    assert_eq!(rt; (first, upto, votes.as_slice().len()), (0, 64, 64));
+
+    let answer = acceptor.accept(SECOND, 70, Value::Noop);
+    let is_accepted = match answer {
+        Ok(Body::Accepted { place, .. }) => place == 70,
+        _ => false,
+    };
+    assert!(rt; is_accepted);
+
+    let (first, upto, votes) = part_of(acceptor.prepare(SECOND, 64)).expect(&rt, "a promise");
+    assert_eq!(rt; (first, upto), (64, 65_536));
+    let expected = [vote_for_none(64, FIRST), vote_for_none(70, SECOND)];
+    assert_eq!(rt; votes.as_slice(), expected.as_slice());
+    Ok(())
+}
+
+/// A save that fails closes the acceptor, and a restart finds the old record or the changed one.
+#[test]
+fn fails_at_will(rt: HostRuntime) -> Result<(), Fail> {
+    for is_kept in [false, true] {
+        let store = MemoryStore::new(Record::new(rt.alloc()));
+        let mut acceptor = opened(&rt, rt.alloc(), store);
+        acceptor.fail_next(Some(is_kept));
+        let failed = acceptor.prepare(FIRST, 0).err();
+        assert_eq!(rt; failed, Some(AcceptorFault::Store));
+        assert_eq!(rt; acceptor.new_start(), Err(AcceptorFault::Closed));
+
+        let mut acceptor = opened(&rt, rt.alloc(), acceptor.into_store());
+        let promised = if is_kept { Some(FIRST) } else { None };
+        assert_eq!(rt; acceptor.record().promised, promised);
+        acceptor.fail_next(Some(is_kept));
+        let failed = acceptor.accept(SECOND, 3, Value::Noop).err();
+        assert_eq!(rt; failed, Some(AcceptorFault::Store));
+        let closed = acceptor.prepare(SECOND, 0).err();
+        assert_eq!(rt; closed, Some(AcceptorFault::Closed));
+
+        let store = acceptor.into_store();
+        assert_eq!(rt; store.faults(), 2);
+        let acceptor = opened(&rt, rt.alloc(), store);
+        let votes = if is_kept { 1 } else { 0 };
+        assert_eq!(rt; acceptor.record().votes.as_slice().len(), votes);
+    }
+    refuses_records(&rt, rt.alloc())?;
+    Ok(())
+}
+
+/// There is no start after 4,294,967,295 of them, and no record with a vote above its promise.
+fn refuses_records(rt: &impl Abort, alloc: Global) -> Result<(), Fail> {
+    let spent = Record {
+        starts: u32::MAX,
+        promised: None,
+        votes: Votes::new(Vec::new(alloc)),
+    };
+    let mut acceptor = opened(rt, alloc, MemoryStore::new(spent));
+    assert_eq!(rt; acceptor.new_start(), Err(AcceptorFault::StartsSpent));
+
+    let mut votes = Vec::new(alloc);
+    votes.push(vote_for_none(0, SECOND))?;
+    let bad = Record {
+        starts: 4,
+        promised: Some(FIRST),
+        votes: Votes::new(votes),
+    };
+    match Acceptor::open(alloc, MemoryStore::new(bad), ME) {
+        Ok(_) => panic!(rt; "a bad record was taken"),
+        Err(refused) => {
+            assert_eq!(rt; refused.fault, AcceptorFault::BadRecord);
+            assert_eq!(rt; refused.store.stored().starts, 4);
+        }
+    }
+    Ok(())
+}
+
+/// The record of one start, one promise and one vote, byte by byte.
+const BYTES: [u8; 42] = [
+    0x50, 0x52, 0x01, 0x02, 0x03, 0x00, 0x00, 0x00, 0x07, 0x00, 0x00, 0x00, 0x01, 0x00, 0x00, 0x00,
+    0x01, 0x01, 0x00, 0x00, 0x00, 0x01, 0x00, 0x00, 0x00, 0x00, 0x00, 0x00, 0x00, 0x01, 0x01, 0x01,
+    0x02, 0x00, 0x00, 0x00, 0x01, 0x00, 0x00, 0x00, 0x01, 0x48,
+];
+
+/// A record has one spelling, and other bytes are of none.
+#[test]
+fn spells_a_record(rt: HostRuntime) -> Result<(), Fail> {
+    let vote = Vote {
+        place: 0,
+        ballot: FIRST,
+        value: Value::Key {
+            node: 2,
+            start: 1,
+            serial: 1,
+            byte: 0x48,
+        },
+    };
+    let record = record_decode(rt.alloc(), BYTES.as_slice(), ME)?;
+    assert_eq!(rt; (record.starts, record.promised), (1, Some(FIRST)));
+    assert_eq!(rt; record.votes.as_slice(), [vote].as_slice());
+    let bytes = record_encode(rt.alloc(), &record, ME)?;
+    assert_eq!(rt; bytes.as_slice(), BYTES.as_slice());
+
+    let shorter = record_decode(rt.alloc(), &BYTES[..41], ME).err();
+    assert_eq!(rt; shorter, Some(StoreFault::Bad));
+    let mut longer = bytes;
+    longer.push(0)?;
+    let longer = record_decode(rt.alloc(), longer.as_slice(), ME).err();
+    assert_eq!(rt; longer, Some(StoreFault::Bad));
+    let mut of_another = BYTES;
+    of_another[3] = 1;
+    let of_another = record_decode(rt.alloc(), of_another.as_slice(), ME).err();
+    assert_eq!(rt; of_another, Some(StoreFault::Bad));
+    Ok(())
+}
+
+/// A file keeps what was saved. Where there is no folder for it, all saves fail.
+#[test]
+fn keeps_a_record_in_a_file(rt: HostRuntime) -> Result<(), Fail> {
+    let store = FileStore::new(rt, "no_such_folder/record", ME)?;
+    let mut acceptor = opened(&rt, rt.alloc(), store);
+    assert_eq!(rt; acceptor.new_start(), Err(AcceptorFault::Store));
+    assert_eq!(rt; acceptor.new_start(), Err(AcceptorFault::Closed));
+    assert_eq!(rt; acceptor.into_store().faults(), 1);
+
+    let path = "record_of_a_test";
+    let _ = fs::remove_file(&rt, path);
+    let mut acceptor = opened(&rt, rt.alloc(), FileStore::new(rt, path, ME)?);
+    assert_eq!(rt; acceptor.new_start(), Ok(1));
+    let acceptor = opened(&rt, rt.alloc(), FileStore::new(rt, path, ME)?);
+    assert_eq!(rt; acceptor.record().starts, 1);
+    fs::remove_file(&rt, path)?;
+    Ok(())
+}

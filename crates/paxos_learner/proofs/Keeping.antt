@@ -1,0 +1,215 @@
+-- What a learner keeps stays true when a place is learned, and when the front rises.
+use Rattle.std.proofs.Common.{◌≡◌, ◌≢◌, ◌∙◌, ℕ, zero, suc, ◌+◌, ◌<◌, ◌≤◌, nat_lt, min, Bool, true, false, cond, IsTrue, List, [], ◌∷◌, ◌++◌, length, take, drop, map, Option, None, Some, is_some, is_none, inl, inr, if◌then◌else◌, slice_index, length-append, refl, sym, ap, arith}
+use Rattle.std.proofs.lemmas.Bool.{and_parts, cases_eq, cases_lt, ne_eqb, lt-ltb, le-ltb, true≢false}
+use Rattle.std.proofs.lemmas.List.{take_all, take-append-le, take-append-drop, map-append, get_or_append_left, get_or_push, length_push}
+use Rattle.std.specs.List.{list_any}
+use Rattle.std.specs.Ordering.{nat_cmp}
+use Rattle.std.specs.Cmp.{nat_cmp_total, unsigned_tied}
+use Rattle.std.specs.FinMap.{FinMap, get, insert, get-insert, empty, get-empty}
+use Rattle.paxos_msg.specs.declared.value.Value.{Value}
+use Rattle.paxos_msg.specs.declared.value.Value.TheVariants as value
+use Rattle.paxos_msg.specs.Keys.{Key}
+use Rattle.paxos_learner.specs.Input.{same_key, keys_in_order, values_below, input_of}
+use Rattle.paxos_learner.specs.Entered.{Entered, entered, count_below}
+use Rattle.paxos_learner.specs.Kept.{IsInputOf, IsKept}
+use Rattle.paxos_learner.specs.Learner.{Learner, IsFront, front_of, is_open}
+use Rattle.paxos_learner.proofs.KeysOnce.{keys_entered}
+use Rattle.paxos_learner.proofs.ValuesBelow.{values_more, same_below}
+
+-- ---- a map with one place more
+
+-- the other places have what they had
+get_other : (learned : FinMap nat_cmp Value) (s : ℕ) (v : Value) (q : ℕ) → q ≢ s → get (insert learned s v) q ≡ get learned q
+get_other learned s v q ne = get-insert nat_cmp_total learned s v q ∙ ap (λ (b : Bool). cond b (Some v) (get learned q)) (unsigned_tied q s ∙ ne_eqb q s ne)
+
+-- ---- a place is learned
+
+-- what isn't learned stands behind the places so far
+pub not_below : (learned : FinMap nat_cmp Value) (e : Entered) (s : ℕ) → IsInputOf learned e → get learned s ≡ None → length e.ends ≤ s
+not_below learned e s h none =
+    elim (cases_lt s (length e.ends)) [
+      | inl low ↦ absurd (true≢false (sym (h.below s low) ∙ ap is_some none))
+      | inr high ↦ high
+    ]
+
+module _ (learned : FinMap nat_cmp Value) (e : Entered) (s : ℕ) (v : Value) (h : IsInputOf learned e) (none : get learned s ≡ None) where
+  -- the places so far have the values that they had
+  same_values : (n : ℕ) → n ≤ length e.ends → values_below (insert learned s v) n ≡ values_below learned n
+  same_values n low = same_below (insert learned s v) learned n (λ i less. get_other learned s v i (λ same. omega (arith, not_below learned e s h none)))
+
+  -- what holds of this place and of the places that were learned holds of those that are now
+  one_or_other : (P : ℕ → Type 0) → P s → ((q : ℕ) → IsTrue (is_some (get learned q)) → P q) → (q : ℕ) → IsTrue (is_some (get (insert learned s v) q)) → P q
+  one_or_other P at_s others q there =
+      elim (cases_eq q s) [
+        | inl same ↦ rw same at_s
+        | inr ne ↦ others q (ap is_some (sym (get_other learned s v q ne)) ∙ there)
+      ]
+
+  -- the input is that of the map with this place more, if there is room for it
+  pub input_of_learned : s < length e.ends + e.room → s < 65536 → IsInputOf (insert learned s v) e
+  input_of_learned room small = record {
+    below = λ i low. ap is_some (get_other learned s v i (λ same. omega (arith, not_below learned e s h none))) ∙ h.below i low;
+    keys = h.keys ∙ ap keys_in_order (sym (same_values (length e.ends) (omega arith)));
+    within = h.within;
+    ends = λ i low. h.ends i low ∙ ap keys_in_order (sym (same_values (i + 1) (omega arith)));
+    room = one_or_other (λ q. q < length e.ends + e.room) room h.room;
+    small = one_or_other (λ q. q < 65536) small h.small;
+  }
+
+-- what has no value is `None`
+none_from_test : (o : Option Value) → is_none o ≡ true → o ≡ None
+none_from_test None e = refl
+none_from_test (Some v) e = absurd (true≢false (sym e))
+
+-- an open place isn't learned
+pub open_is_none : (l : Learner) (s : ℕ) → IsTrue (is_open l s) → get l.learned s ≡ None
+open_is_none l s test = none_from_test (get l.learned s) (and_parts (is_none (get l.learned s)) (nat_lt s (front_of l.learned + 1024)) test).0
+
+-- more room changes nothing
+input_of_roomier : (learned : FinMap nat_cmp Value) (e new : Entered) → IsInputOf learned e → new.keys ≡ e.keys → new.ends ≡ e.ends → e.room ≤ new.room → IsInputOf learned new
+input_of_roomier learned e new h keys ends room = record {
+  below = rw ends h.below;
+  keys = rw (keys, ends) h.keys;
+  within = rw (keys, ends) h.within;
+  ends = rw (keys, ends) h.ends;
+  room = λ s there. omega (arith, ap length ends, h.room s there);
+  small = h.small;
+}
+
+-- a place is learned once there is room for it
+pub input_of_more : (learned more : FinMap nat_cmp Value) (e new : Entered) (s : ℕ) (v : Value) → IsInputOf learned e → get learned s ≡ None → more ≡ insert learned s v
+    → new.keys ≡ e.keys → new.ends ≡ e.ends → e.room ≤ new.room → s < length e.ends + new.room → s < 65536 → IsInputOf more new
+input_of_more learned more e new s v h none is keys ends room there small =
+    rw is (input_of_learned learned new s v (input_of_roomier learned e new h keys ends room) none (omega (arith, ap length ends)) small)
+
+-- ---- the front rises
+
+-- a place that is learned is one of those that there may be, and there is room for it
+pub may_rise : (learned : FinMap nat_cmp Value) (e : Entered) (v : Value) → IsInputOf learned e → get learned (length e.ends) ≡ Some v → (0 < e.room) × (length e.ends < 65536)
+may_rise learned e v h here =
+    let there : IsTrue (is_some (get learned (length e.ends))) = ap is_some here in
+    (omega (arith, h.room (length e.ends) there), h.small (length e.ends) there)
+
+-- a front of a list is one of a longer list
+take_more_or_same : (there : Bool) (keys more : List Key) (n : ℕ) → n ≤ length keys → take n (if there then keys else keys ++ more) ≡ take n keys
+take_more_or_same true keys more n low = refl
+take_more_or_same false keys more n low = take-append-le n keys more low
+
+-- a front of the keys is one of the keys with those of a value more
+take_entered : (keys : List Key) (v : Value) (n : ℕ) → n ≤ length keys → take n (entered keys v) ≡ take n keys
+take_entered keys value.Noop n low = refl
+take_entered keys (value.Key node start serial byte) n low = take_more_or_same (list_any (same_key _) keys) keys _ n low
+
+-- a longer list is no shorter
+no_fewer : (there : Bool) (keys more : List Key) → length keys ≤ length (if there then keys else keys ++ more)
+no_fewer true keys more = omega arith
+no_fewer false keys more = omega (arith, length-append keys more)
+
+-- there are no fewer keys with those of a value more
+entered_no_fewer : (keys : List Key) (v : Value) → length keys ≤ length (entered keys v)
+entered_no_fewer keys value.Noop = omega arith
+entered_no_fewer keys (value.Key node start serial byte) = no_fewer (list_any (same_key _) keys) keys _
+
+-- the next place has entered the input
+pub record IsNext (e : Entered) (v : Value) (new : Entered) : Type 0 where
+  pub keys : new.keys ≡ entered e.keys v
+  pub ends : new.ends ≡ e.ends ++ length new.keys ∷ []
+  pub room : e.room ≤ new.room + 1
+
+module _ (learned : FinMap nat_cmp Value) (e : Entered) (v : Value) (new : Entered) (h : IsInputOf learned e) (here : get learned (length e.ends) ≡ Some v) (next : IsNext e v new) where
+  -- there is one place more
+  longer : length new.ends ≡ length e.ends + 1
+  longer = ap length next.ends ∙ length_push e.ends (length new.keys)
+
+  -- the keys are those of one value more
+  all_keys : new.keys ≡ keys_in_order (values_below learned (length e.ends + 1))
+  all_keys =
+      next.keys ∙ ap (λ (keys : List Key). entered keys v) h.keys ∙ sym (keys_entered (values_below learned (length e.ends)) v)
+      ∙ ap keys_in_order (sym (values_more learned (length e.ends) v here))
+
+  -- the places before end where they did
+  end_before : (s : ℕ) → s < length e.ends → slice_index new.ends s ≡ slice_index e.ends s
+  end_before s low = ap (λ (ends : List ℕ). slice_index ends s) next.ends ∙ get_or_append_left e.ends _ 0 s low
+
+  -- this one ends with all keys
+  end_here : (s : ℕ) → s ≡ length e.ends → slice_index new.ends s ≡ length new.keys
+  end_here s same = ap (λ (ends : List ℕ). slice_index ends s) next.ends ∙ get_or_push e.ends (length new.keys) 0 s (sym same)
+
+  -- there are no fewer keys than before
+  more_keys : length e.keys ≤ length new.keys
+  more_keys = rw next.keys (entered_no_fewer e.keys v)
+
+  -- whatever holds of each place so far and of this one
+  each_place : (P : ℕ → Type 0) → ((s : ℕ) → s < length e.ends → P s) → ((s : ℕ) → s ≡ length e.ends → P s) → (s : ℕ) → s < length new.ends → P s
+  each_place P before at_end s low =
+      elim (cases_lt s (length e.ends)) [
+        | inl less ↦ before s less
+        | inr high ↦ at_end s (omega (arith, longer))
+      ]
+
+  -- the input is that of the same map
+  pub input_of_risen : IsInputOf learned new
+  input_of_risen = record {
+    below = each_place (λ s. IsTrue (is_some (get learned s))) h.below (λ s same. rw same (ap is_some here));
+    keys = all_keys ∙ ap (λ (n : ℕ). keys_in_order (values_below learned n)) (sym longer);
+    within = each_place (λ s. slice_index new.ends s ≤ length new.keys) (λ s low. omega (arith, end_before s low, h.within s low, more_keys)) (λ s same. omega (arith, end_here s same));
+    ends = each_place (λ s. take (slice_index new.ends s) new.keys ≡ keys_in_order (values_below learned (s + 1)))
+        (λ s low. rw (end_before s low, next.keys) (take_entered e.keys v (slice_index e.ends s) (h.within s low) ∙ h.ends s low))
+        (λ s same. rw (end_here s same) (take_all (length new.keys) new.keys (omega arith) ∙ all_keys ∙ ap (λ (n : ℕ). keys_in_order (values_below learned (n + 1))) (sym same)));
+    room = λ s there. omega (arith, h.room s there, longer, next.room);
+    small = h.small;
+  }
+
+-- ---- the input from a place on
+
+-- the keys so far, up to a place
+count_below_keys : (learned : FinMap nat_cmp Value) (e : Entered) (h : IsInputOf learned e) (place : ℕ)
+    → take (count_below e place) e.keys ≡ keys_in_order (values_below learned (min place (length e.ends)))
+count_below_keys learned e h zero =
+    let none : min 0 (length e.ends) ≡ 0 = omega arith in
+    rw none refl
+count_below_keys learned e h (suc s) =
+    elim (cases_lt s (length e.ends)) [
+      | inl low ↦
+          let there : min (suc s) (length e.ends) ≡ s + 1 = omega arith in
+          rw (lt-ltb s (length e.ends) low, there) (h.ends s low)
+      | inr high ↦
+          let there : min (suc s) (length e.ends) ≡ length e.ends = omega arith in
+          rw (le-ltb s (length e.ends) high, there) (take_all (length e.keys) e.keys (omega arith) ∙ h.keys)
+    ]
+
+-- the input up to a place, and what comes after it, are the input
+pub input_parts : (learned : FinMap nat_cmp Value) (e : Entered) (h : IsInputOf learned e) (place : ℕ)
+    → input_of (values_below learned (min place (length e.ends))) ++ map (λ (k : Key). k.byte) (drop (count_below e place) e.keys) ≡ input_of (values_below learned (length e.ends))
+input_parts learned e h place =
+    let n = count_below e place in
+    ap (λ (keys : List Key). map (λ (k : Key). k.byte) keys ++ map (λ (k : Key). k.byte) (drop n e.keys)) (sym (count_below_keys learned e h place))
+    ∙ sym (map-append (λ (k : Key). k.byte) (take n e.keys) (drop n e.keys))
+    ∙ ap (map (λ (k : Key). k.byte)) (take-append-drop n e.keys ∙ h.keys)
+
+-- ---- the front
+
+-- the input goes up to the front where its next place isn't learned
+pub front_is_here : (learned : FinMap nat_cmp Value) (e : Entered) → IsInputOf learned e → get learned (length e.ends) ≡ None → IsFront learned (length e.ends)
+front_is_here learned e h none = record { below = h.below; here = none }
+
+-- the input of no place is that of the empty map
+input_of_none : (e : Entered) → e.keys ≡ [] → e.ends ≡ [] → IsInputOf empty e
+input_of_none e no_keys no_ends =
+    let none : length e.ends ≡ 0 = ap length no_ends in
+    record {
+      below = λ s low. absurd (omega arith);
+      keys = no_keys ∙ ap (λ (n : ℕ). keys_in_order (values_below empty n)) (sym none);
+      within = λ s low. absurd (omega arith);
+      ends = λ s low. absurd (omega arith);
+      room = λ s there. absurd (true≢false (sym there ∙ ap is_some (get-empty nat_cmp s)));
+      small = λ s there. absurd (true≢false (sym there ∙ ap is_some (get-empty nat_cmp s)));
+    }
+
+-- nothing is learned yet
+pub kept_none : (size : ℕ) (learned : FinMap nat_cmp Value) (e : Entered) → size ≤ 9 → learned ≡ empty → e.keys ≡ [] → e.ends ≡ [] → IsKept size learned e
+kept_none size learned e small none no_keys no_ends = rw none (record {
+  size_small = small;
+  input = input_of_none e no_keys no_ends;
+  here = get-empty nat_cmp (length e.ends);
+})

@@ -1,0 +1,32 @@
+-- A list of entries by place, and the finite map that it makes.
+use Rattle.std.proofs.Common.{◌≡◌, ◌∙◌, ℕ, cond, nat_eq, List, [], ◌∷◌, Some, None, refl, sym}
+use Rattle.std.specs.Ordering.{nat_cmp}
+use Rattle.std.specs.Cmp.{nat_cmp_total, nat_eq_equiv, unsigned_tied}
+use Rattle.std.specs.Map.{lookup}
+use Rattle.std.specs.FinMap.{find, get, insert, remove, from_entries, get-from_entries, get-insert, get-remove, same_map, nat_cmp-IsAntisymmetric}
+
+module _ {V : Type 0} where
+  -- both searches find the same
+  find_place : (es : List (ℕ × V)) (q : ℕ) → find nat_cmp q es ≡ lookup (nat_eq q) es
+  find_place [] q = refl
+  find_place (e ∷ es) q = λ i. cond (unsigned_tied q e.0 i) (Some e.1) (find_place es q i)
+
+  -- the map has at a place what a search of the entries finds
+  pub get_place : (es : List (ℕ × V)) (q : ℕ) → get (from_entries {R = nat_cmp} es) q ≡ lookup (nat_eq q) es
+  get_place es q = get-from_entries nat_cmp_total es q ∙ find_place es q
+
+  -- entries that differ at one place make maps that differ there
+  pub put_place : (es fs : List (ℕ × V)) (s : ℕ) (v : V) → ((q : ℕ) → lookup (nat_eq q) fs ≡ cond (nat_eq s q) (Some v) (lookup (nat_eq q) es))
+      → from_entries {R = nat_cmp} fs ≡ insert (from_entries es) s v
+  put_place es fs s v h =
+      same_map nat_cmp_total nat_cmp-IsAntisymmetric _ _ (λ q.
+      get_place fs q ∙ h q
+      ∙ sym (get-insert nat_cmp_total (from_entries es) s v q ∙ (λ i. cond ((unsigned_tied q s ∙ nat_eq_equiv.symm q s) i) (Some v) (get_place es q i))))
+
+  -- entries that lack one place make maps that lack it
+  pub cut_place : (es fs : List (ℕ × V)) (s : ℕ) → ((q : ℕ) → lookup (nat_eq q) fs ≡ cond (nat_eq s q) None (lookup (nat_eq q) es))
+      → from_entries {R = nat_cmp} fs ≡ remove (from_entries es) s
+  cut_place es fs s h =
+      same_map nat_cmp_total nat_cmp-IsAntisymmetric _ _ (λ q.
+      get_place fs q ∙ h q
+      ∙ sym (get-remove nat_cmp_total (from_entries es) s q ∙ (λ i. cond ((unsigned_tied q s ∙ nat_eq_equiv.symm q s) i) None (get_place es q i))))

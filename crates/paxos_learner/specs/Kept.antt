@@ -1,0 +1,22 @@
+-- What a learner keeps beside what it has learned.
+use Rattle.std.specs.Prelude.{◌≡◌, ℕ, ◌+◌, ◌<◌, ◌≤◌, IsTrue, length, take, slice_index, None, is_some}
+use Rattle.std.specs.Ordering.{nat_cmp}
+use Rattle.std.specs.FinMap.{FinMap, get}
+use Rattle.paxos_msg.specs.declared.value.Value.{Value}
+use Rattle.paxos_learner.specs.Entered.{Entered}
+use Rattle.paxos_learner.specs.Input.{keys_in_order, values_below}
+
+-- The input has the keys of the places so far, all of which are learned, and there is room for each place that is learned.
+pub record IsInputOf (learned : FinMap nat_cmp Value) (e : Entered) : Type 0 where
+  pub below : (s : ℕ) → s < length e.ends → IsTrue (is_some (get learned s))
+  pub keys : e.keys ≡ keys_in_order (values_below learned (length e.ends))
+  pub within : (s : ℕ) → s < length e.ends → slice_index e.ends s ≤ length e.keys
+  pub ends : (s : ℕ) → s < length e.ends → take (slice_index e.ends s) e.keys ≡ keys_in_order (values_below learned (s + 1))
+  pub room : (s : ℕ) → IsTrue (is_some (get learned s)) → s < length e.ends + e.room
+  pub small : (s : ℕ) → IsTrue (is_some (get learned s)) → s < 65536
+
+-- the input goes up to the front, which isn't learned
+pub record IsKept (size : ℕ) (learned : FinMap nat_cmp Value) (e : Entered) : Type 0 where
+  pub size_small : size ≤ 9
+  pub input : IsInputOf learned e
+  pub here : get learned (length e.ends) ≡ None

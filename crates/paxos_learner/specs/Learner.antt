@@ -1,0 +1,62 @@
+-- What a learner knows, and what it makes of what it hears.
+use Rattle.std.specs.Prelude.{◌≡◌, ℕ, ◌+◌, ◌==◌, ◌<◌, nat_lt, ◌&&◌, Bool, IsTrue, List, [], ◌∷◌, Option, Some, None, is_some, is_none, if◌then◌else◌}
+use Rattle.std.specs.Ordering.{nat_cmp}
+use Rattle.std.specs.FinMap.{FinMap, get, insert, remove, keys}
+use Rattle.paxos_msg.specs.declared.ballot.Ballot.{Ballot}
+use Rattle.paxos_msg.specs.declared.value.Value.{Value}
+use Rattle.paxos_msg.specs.Tests.{is_majority}
+use Rattle.paxos_learner.specs.declared.heard.Heard.{Heard}
+use Rattle.paxos_learner.specs.declared.heard.Heard.TheVariants as heard
+use Rattle.paxos_learner.specs.Tallies.{Tally, has_node, tallied}
+
+-- what a learner of a group of that size has learned, and what it has heard of other places, each by place
+pub record Learner : Type 0 where
+  pub size : ℕ
+  pub learned : FinMap nat_cmp Value
+  pub tallies : FinMap nat_cmp Tally
+
+-- the least place from s on that isn't among these, which ascend
+abbrev pub first_missing : ℕ → List ℕ → ℕ
+first_missing s [] = s
+first_missing s (k ∷ ks) = if k == s then first_missing (s + 1) ks else s
+
+-- the known front: the least place that isn't learned
+abbrev pub front_of : FinMap nat_cmp Value → ℕ
+front_of learned = first_missing 0 (keys learned)
+
+-- each place below is learned, and this one isn't
+pub record IsFront (learned : FinMap nat_cmp Value) (front : ℕ) : Type 0 where
+  pub below : (s : ℕ) → s < front → IsTrue (is_some (get learned s))
+  pub here : get learned front ≡ None
+
+-- the place isn't learned, and is less than 1,024 places above the front
+abbrev pub is_open : Learner → ℕ → Bool
+is_open l s = is_none (get l.learned s) && nat_lt s (front_of l.learned + 1024)
+
+-- the learner after a call, and the call's answer
+pub record Hearing : Type 0 where
+  pub learner : Learner
+  pub answer : Heard
+
+-- nothing changes
+abbrev pub passed : Learner → Hearing
+passed l = record { learner = l; answer = heard.Passed }
+
+-- the value is learned, and the place needs no tally any more
+abbrev pub learn : Learner → ℕ → Value → Hearing
+learn l s v = record { learner = record l { learned = insert l.learned s v; tallies = remove l.tallies s }; answer = heard.Learned }
+
+-- the place has this tally from now on, or its value is learned if the tally is a majority
+abbrev pub counted : Learner → ℕ → Option Tally → Hearing
+counted l s None = passed l
+counted l s (Some t) =
+    if is_majority l.size (has_node t.nodes) then learn l s t.value
+    else record { learner = record l { tallies = insert l.tallies s t }; answer = heard.Counted }
+
+-- node i says that it has accepted v at s under b
+abbrev pub on_accepted : Learner → ℕ → Ballot → ℕ → Value → Hearing
+on_accepted l i b s v = if is_open l s then counted l s (tallied (get l.tallies s) i b v) else passed l
+
+-- some node says that it has learned v at s
+abbrev pub on_tell : Learner → ℕ → Value → Hearing
+on_tell l s v = if is_open l s then learn l s v else passed l

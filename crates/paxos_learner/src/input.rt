@@ -1,0 +1,167 @@
+//! The input: the bytes of the keys of the places below the front, each key once.
+ghost use Rattle.std.specs.Prelude.{◌≡◌, ◌+◌, ◌<◌, ◌≤◌, [], ◌∷◌, ◌++◌, OnOk, length, drop, map};
+ghost use Rattle.paxos_learner.specs.Entered.{entered, count_below};
+
+use indexmap::IndexSet;
+use paxos_msg::Value;
+use std::alloc::{AllocError, Global};
+use std::marker::Model;
+
+/// A typed character: the node, which of its starts, which key of that start, and the character.
+#[derive(Clone, Copy, PartialEq, Eq, Hash)]
+struct TypedKey {
+    node: u8,
+    start: u32,
+    serial: u32,
+    byte: u8,
+}
+
+/// The keys that the places so far have, each once, in order. Places come one after another, from 0 on.
+#[derive(Drop)]
+pub struct Input {
+    keys: IndexSet<TypedKey>,
+    // How many keys there were after each place.
+    ends: Vec<u32>,
+}
+
+impl Model for Input {
+    ghost use Rattle.std.specs.Prelude.{◌-◌, map, min, vec_len, vec_capacity};
+    ghost use Rattle.indexmap.specs.IndexSet.{spare};
+    ghost use Rattle.paxos_learner.specs.Entered.{Entered, key_of, IsCounted};
+
+    ghost Value = { Entered };
+
+    ghost view = { λ i. record {
+      keys = map key_of i.keys.keys;
+      ends = i.ends.items;
+      room = min (vec_capacity i.ends - vec_len i.ends) (spare i.keys);
+    } };
+
+    ghost invariant = { λ i. IsCounted (map key_of i.keys.keys) i.ends.items };
+}
+
+impl Input {
+    /// The input of no place. It takes no memory.
+    pub fn new(alloc: Global) -> Input
+        ensures keys { result.keys ≡ [] }
+        ensures ends { result.ends ≡ [] }
+    {
+        Input {
+            keys: IndexSet::new(alloc),
+            ends: Vec::new(alloc),
+        }
+    }
+
+    /// How many places there are so far.
+    pub fn places(&self) -> u32
+        ensures places { result ≡ length self.now.ends }
+        ensures few { result ≤ 65536 }
+    {
+        self.ends.len() as u32
+    }
+
+    /// Makes room for so many places more. After an error nothing has changed.
+    pub fn reserve(&mut self, additional: usize) -> Result<(), AllocError>
+        ensures keys { self.new.keys ≡ self.old.keys }
+        ensures ends { self.new.ends ≡ self.old.ends }
+        ensures ok { OnOk result (additional ≤ self.new.room) }
+        ensures room { self.old.room ≤ self.new.room }
+    {
+        self.keys.reserve(additional)?;
+        self.ends.reserve(additional)
+    }
+
+    /// Puts the value of the next place in, for which there is room.
+    pub fn enter(&mut self, value: Value)
+        requires room { 0 < self.old.room }
+        requires few { length self.old.ends < 65536 }
+        ensures keys { self.new.keys ≡ entered self.old.keys value }
+        ensures ends { self.new.ends ≡ self.old.ends ++ length self.new.keys ∷ [] }
+        ensures room { self.old.room ≤ self.new.room + 1 }
+    {
+        if let Value::Key {
+            node,
+            start,
+            serial,
+            byte,
+        } = value
+        {
+            let key = TypedKey {
+                node,
+                start,
+                serial,
+                byte,
+            };
+            self.keys.insert(key).unwrap();
+        }
+        let count = self.keys.len() as u32;
+        self.ends.push(count).unwrap();
+    }
+
+    /// How many keys the places below this one have. The place may be any number.
+    fn count_below(&self, place: u32) -> usize
+        ensures count { result ≡ count_below self.now place }
+        ensures within { result ≤ length self.now.keys }
+    {
+        if place == 0 {
+            return 0;
+        }
+        match self.ends.get(place as usize - 1) {
+            Some(end) => *end as usize,
+            None => self.keys.len(),
+        }
+    }
+
+    /// The bytes of the keys that the places from this one on have added.
+    pub fn after(&self, place: u32) -> InputAfter<'_>
+        ensures { result ≡ map (λ k. k.byte) (drop (count_below self.now place) self.now.keys) }
+    {
+        let keys = self.keys.as_slice();
+        InputAfter {
+            keys: &keys[self.count_below(place)..],
+        }
+    }
+}
+
+/// Bytes of the input, in order: an iterator. A clone goes over the same bytes once more, from the next
+/// one on.
+#[derive(Drop)]
+pub struct InputAfter<'a> {
+    keys: &'a [TypedKey],
+}
+
+impl<'a> Model for InputAfter<'a> {
+    ghost use Rattle.std.specs.Prelude.{ℕ, List, map};
+
+    ghost Value = { List ℕ };
+
+    ghost view = { λ a. map (λ k. k.byte) a.keys.now };
+}
+
+impl<'a> Clone for InputAfter<'a> {
+    ghost use Rattle.std.specs.Prelude.{◌≡◌, ⊤};
+
+    ghost is_clone = { λ s r. r ≡ s };
+
+    ghost is_infallible = { λ _. ⊤ };
+
+    fn clone(&self) -> Result<InputAfter<'a>, AllocError> {
+        Ok(InputAfter { keys: self.keys })
+    }
+}
+
+impl<'a> Iterator for InputAfter<'a> {
+    ghost use Rattle.std.specs.Iterator.{YieldsFirst, item_count};
+
+    type Item = u8;
+
+    ghost next_gives = { YieldsFirst (λ bytes. bytes) };
+
+    ghost remaining = { item_count (λ bytes. bytes) };
+
+    fn next(&mut self) -> Option<u8> {
+        let (first, rest) = self.keys.split_first()?;
+        self.keys = rest;
+        Some(first.byte)
+    }
+}

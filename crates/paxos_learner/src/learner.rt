@@ -1,0 +1,169 @@
+//! A learner.
+ghost use Rattle.std.specs.Prelude.{◌≡◌, ◌<◌, ◌≤◌, ◌++◌, IsTrue, IfOk, None, OnOk, OnErr, length, min};
+ghost use Rattle.std.specs.FinMap.{empty, get};
+ghost use Rattle.paxos_learner.specs.Input.{input_of, values_below};
+ghost use Rattle.paxos_learner.specs.Kept.{IsInputOf};
+ghost use Rattle.paxos_learner.specs.Learner.{IsFront, front_of, is_open, learn, on_accepted, on_tell};
+
+use crate::heard::{Heard, LearnerFault};
+use crate::input::{Input, InputAfter};
+use crate::place_map::PlaceMap;
+use crate::tally::{Tally, tallied};
+use paxos_msg::{Ballot, Value};
+use std::alloc::{AllocError, Global};
+use std::marker::Model;
+
+/// Learns the value of each place, 0 to 65,535, in a group of `size` nodes, from what its acceptors say.
+///
+/// A look, and what is heard of one place, take a search; a learned place takes as many steps more as
+/// the front then rises by. No call goes over all places.
+#[derive(Drop)]
+pub struct Learner {
+    size: u8,
+    learned: PlaceMap<Value>,
+    // What was heard of places that are not learned.
+    tallies: PlaceMap<Tally>,
+    // The input of the places below the front.
+    input: Input,
+}
+
+impl Model for Learner {
+    ghost use Rattle.paxos_learner.specs.Learner.{Learner as State};
+    ghost use Rattle.paxos_learner.specs.Codes.{learner_code};
+
+    ghost Value = { State };
+
+    ghost coded = { learner_code };
+
+    ghost use Rattle.paxos_learner.specs.Kept.{IsKept};
+
+    ghost view = { λ l. record { size = l.size; learned = l.learned.map; tallies = l.tallies.map } };
+
+    ghost invariant = { λ l. IsKept l.size l.learned.map l.input };
+}
+
+/// Enters the values at the places from the end of the input on, up to one that is not learned.
+fn raise_front(learned: &PlaceMap<Value>, input: &mut Input)
+    requires { IsInputOf learned.now.map input.old }
+    ensures input { IsInputOf learned.now.map input.new }
+    ensures here { get learned.now.map (length input.new.ends) ≡ None }
+{
+    while let Some(value) = learned.get(input.places()) {
+        input.enter(value);
+    }
+}
+
+impl Learner {
+    /// A learner that has heard nothing. It takes no memory. A group has at most 9 nodes.
+    pub fn new(alloc: Global, size: u8) -> Learner
+        requires { size ≤ 9 }
+        ensures { result ≡ record { size = size; learned = empty; tallies = empty } }
+    {
+        Learner {
+            size,
+            learned: PlaceMap::new(alloc),
+            tallies: PlaceMap::new(alloc),
+            input: Input::new(alloc),
+        }
+    }
+
+    /// Whether the place is not learned, and less than 1,024 places above the front.
+    fn is_open(&self, place: u32) -> bool
+        ensures { result ≡ is_open self.now place }
+    {
+        place < self.known_front() + 1024 && self.learned(place).is_none()
+    }
+
+    /// Learns the value at the place, which is open. The room for it, and for what the front may rise by,
+    /// is made first, so that after an error nothing has changed.
+    fn learn(&mut self, place: u32, value: Value) -> Result<(), AllocError>
+        requires open { IsTrue (is_open self.old place) }
+        requires place { place ≤ 65535 }
+        ensures ok { OnOk result (self.new ≡ (learn self.old place value).learner) }
+        ensures err { OnErr result (self.new ≡ self.old) }
+    {
+        let places = place + 1 - self.input.places();
+        self.learned.make_room()?;
+        self.input.reserve(places as usize)?;
+        self.learned.insert(place, value);
+        self.tallies.remove(place);
+        raise_front(&self.learned, &mut self.input);
+        Ok(())
+    }
+
+    /// Hears that the node, 0 to 9, has accepted the value at the place under the ballot.
+    ///
+    /// A place counts if it is not learned, and less than 1,024 above the front. There a greater ballot
+    /// than before begins anew, and a node counts once. `Learned`: more than half of the nodes 1 to `size`
+    /// have accepted the value under one ballot. `Counted`: so many have not yet, but this one is new.
+    /// `Passed`: nothing has changed. `Memory` comes where there is no room for what is new, and then
+    /// nothing has changed.
+    pub fn on_accepted(
+        &mut self,
+        sender: u8,
+        ballot: Ballot,
+        place: u32,
+        value: Value,
+    ) -> Result<Heard, LearnerFault>
+        requires sender { sender ≤ 9 }
+        requires place { place ≤ 65535 }
+        ensures ok { OnOk result (self.new ≡ (on_accepted self.old sender ballot place value).learner) }
+        ensures answer { IfOk result (λ heard. heard ≡ (on_accepted self.old sender ballot place value).answer) }
+        ensures err { OnErr result (self.new ≡ self.old) }
+    {
+        if !self.is_open(place) {
+            return Ok(Heard::Passed);
+        }
+        let Some(tally) = tallied(self.tallies.get(place), sender, ballot, value) else {
+            return Ok(Heard::Passed);
+        };
+        if tally.is_majority(self.size) {
+            self.learn(place, tally.value())?;
+            return Ok(Heard::Learned);
+        }
+        self.tallies.make_room()?;
+        self.tallies.insert(place, tally);
+        Ok(Heard::Counted)
+    }
+
+    /// Hears that a node has learned the value at the place.
+    ///
+    /// `Learned`: so has this learner now. `Passed`: the place is learned already, or 1,024 or more above
+    /// the front, and nothing has changed. After `Memory` nothing has changed.
+    pub fn on_tell(&mut self, place: u32, value: Value) -> Result<Heard, LearnerFault>
+        requires { place ≤ 65535 }
+        ensures ok { OnOk result (self.new ≡ (on_tell self.old place value).learner) }
+        ensures answer { IfOk result (λ heard. heard ≡ (on_tell self.old place value).answer) }
+        ensures err { OnErr result (self.new ≡ self.old) }
+    {
+        if self.is_open(place) {
+            self.learn(place, value)?;
+            return Ok(Heard::Learned);
+        }
+        Ok(Heard::Passed)
+    }
+
+    /// The value that is learned at the place, which may be any number.
+    pub fn learned(&self, place: u32) -> Option<Value>
+        ensures { result ≡ get self.now.learned place }
+    {
+        self.learned.get(place)
+    }
+
+    /// The known front: the least place that is not learned, 0 to 65,536.
+    pub fn known_front(&self) -> u32
+        ensures front { result ≡ front_of self.now.learned }
+        ensures least { IsFront self.now.learned result }
+        ensures few { result ≤ 65536 }
+    {
+        self.input.places()
+    }
+
+    /// The input bytes that the places from this one up to the front add, none from the front on. A key
+    /// that stands at several places is read at the first. The place may be any number.
+    pub fn input_after(&self, place: u32) -> InputAfter<'_>
+        ensures { input_of (values_below self.now.learned (min place (front_of self.now.learned))) ++ result ≡ input_of (values_below self.now.learned (front_of self.now.learned)) }
+    {
+        self.input.after(place)
+    }
+}

@@ -1,0 +1,16 @@
+//! The learner: what is learned at each place, from what the acceptors say that they have accepted, and
+//! the input that the learned keys are.
+#![tactic(auto)]
+
+mod heard;
+mod input;
+mod learner;
+mod place_map;
+mod tally;
+
+pub use heard::{Heard, LearnerFault};
+pub use input::InputAfter;
+pub use learner::Learner;
+
+#[cfg(test)]
+mod tests;

@@ -1,0 +1,67 @@
+//! A map from places.
+ghost use Rattle.std.specs.Prelude.{◌≡◌, ◌+◌, ◌<◌, ◌≤◌, OnOk};
+ghost use Rattle.std.specs.FinMap.{empty, get, insert, remove};
+
+use indexmap::IndexMap;
+use std::alloc::{AllocError, Global};
+use std::marker::Model;
+
+/// Values by place, seen as a finite map and how many places more it has room for.
+#[derive(Drop)]
+pub struct PlaceMap<V: Copy> {
+    entries: IndexMap<u32, V>,
+}
+
+impl<V: Copy> Model for PlaceMap<V> {
+    ghost use Rattle.paxos_learner.specs.PlaceMaps.{Places, places_code};
+
+    ghost Value = { Places V };
+
+    ghost coded = { places_code V.code };
+
+    ghost use Rattle.std.specs.FinMap.{from_entries};
+    ghost use Rattle.indexmap.specs.IndexMap.{spare};
+
+    ghost view = { λ m. record { map = from_entries m.entries.entries; room = spare m.entries } };
+}
+
+impl<V: Copy> PlaceMap<V> {
+    /// A map without a place. It takes no memory.
+    pub fn new(alloc: Global) -> PlaceMap<V>
+        ensures { result.map ≡ empty }
+    {
+        PlaceMap {
+            entries: IndexMap::new(alloc),
+        }
+    }
+
+    /// The value at a place.
+    pub fn get(&self, place: u32) -> Option<V>
+        ensures { result ≡ get self.now.map place }
+    {
+        self.entries.get(&place).copied()
+    }
+
+    /// Makes room for one place more. After an error nothing has changed.
+    pub fn make_room(&mut self) -> Result<(), AllocError>
+        ensures map { self.new.map ≡ self.old.map }
+        ensures room { OnOk result (0 < self.new.room) }
+    {
+        self.entries.reserve(1)
+    }
+
+    /// Puts a value at a place, for which there is room.
+    pub fn insert(&mut self, place: u32, value: V)
+        requires { 0 < self.old.room }
+        ensures { self.new.map ≡ insert self.old.map place value }
+    {
+        self.entries.insert(place, value).unwrap();
+    }
+
+    /// Takes the value at a place out, if there is one.
+    pub fn remove(&mut self, place: u32)
+        ensures { self.new.map ≡ remove self.old.map place }
+    {
+        self.entries.swap_remove(&place);
+    }
+}

@@ -1,0 +1,119 @@
+//! What was heard of a place that is not learned.
+ghost use Rattle.std.specs.Prelude.{◌≡◌, ◌≤◌};
+ghost use Rattle.paxos_msg.specs.Ballots.{count_of};
+ghost use Rattle.paxos_msg.specs.Tests.{ballot_lt, is_majority};
+ghost use Rattle.paxos_learner.specs.Tallies.{begun, joined, tallied, has_node};
+
+use paxos_msg::{Ballot, Value};
+use std::marker::Model;
+
+/// The nodes that were heard to accept a value at one place under a ballot.
+#[derive(Clone, Copy)]
+pub struct Tally {
+    ballot: Ballot,
+    value: Value,
+    // Whether each node was heard, by its number.
+    nodes: [bool; 10],
+}
+
+impl Model for Tally {
+    ghost use Rattle.paxos_learner.specs.Tallies.{Tally as Heard};
+
+    ghost Value = { Heard };
+
+    ghost view = { λ t. record { ballot = t.ballot; value = t.value; nodes = t.nodes } };
+
+    ghost inverse = { λ t. record { ballot = t.ballot; value = t.value; nodes = t.nodes } };
+}
+
+impl Tally {
+    /// A tally of one node alone.
+    fn begun(node: u8, ballot: Ballot, value: Value) -> Tally
+        requires { node ≤ 9 }
+        ensures { result ≡ begun node ballot value }
+    {
+        let mut nodes = [false; 10];
+        nodes[usize::from(node)] = true;
+        Tally {
+            ballot,
+            value,
+            nodes,
+        }
+    }
+
+    /// The tally with this node as well, if that is new.
+    fn joined(self, node: u8) -> Option<Tally>
+        requires { node ≤ 9 }
+        ensures { result ≡ joined self node }
+    {
+        let Tally {
+            ballot,
+            value,
+            mut nodes,
+        } = self;
+        if nodes[usize::from(node)] {
+            return None;
+        }
+        nodes[usize::from(node)] = true;
+        Some(Tally {
+            ballot,
+            value,
+            nodes,
+        })
+    }
+
+    /// The value that was accepted.
+    pub fn value(&self) -> Value
+        ensures { result ≡ self.now.value }
+    {
+        self.value
+    }
+
+    /// How many of the nodes 1 to `size` were heard.
+    fn count(&self, size: u8) -> u8
+        requires { size ≤ 9 }
+        ensures count { result ≡ count_of (has_node self.now.nodes) size }
+        ensures few { result ≤ size }
+    {
+        let mut count = 0;
+        for before in 0..size {
+            if self.nodes[usize::from(before + 1)] {
+                count += 1;
+            }
+        }
+        count
+    }
+
+    /// Whether the nodes that were heard are more than half of the nodes 1 to `size`.
+    pub fn is_majority(&self, size: u8) -> bool
+        requires { size ≤ 9 }
+        ensures { result ≡ is_majority size (has_node self.now.nodes) }
+    {
+        size < 2 * self.count(size)
+    }
+}
+
+/// Whether a ballot is below another.
+fn is_below(ballot: Ballot, other: Ballot) -> bool
+    ensures { result ≡ ballot_lt ballot other }
+{
+    ballot.round < other.round || (ballot.round == other.round && ballot.node < other.node)
+}
+
+/// The tally at a place, where it changes, after the node was heard to accept the value under the ballot.
+/// A node is 0 to 9.
+pub fn tallied(old: Option<Tally>, node: u8, ballot: Ballot, value: Value) -> Option<Tally>
+    requires { node ≤ 9 }
+    ensures { result ≡ tallied old node ballot value }
+{
+    match old {
+        Some(tally) if !is_below(tally.ballot, ballot) => {
+            if tally.ballot == ballot && tally.value == value {
+                tally.joined(node)
+            } else {
+                None
+            }
+        }
+        _ => Some(Tally::begun(node, ballot, value)),
+    }
+}

@@ -1,0 +1,42 @@
+-- A proposer that has heard nothing is backed.
+use Rattle.std.proofs.Common.{◌≡◌, ℕ, ◌-◌, ◌<◌, ◌≤◌, nat_lt, Bool, true, false, IsTrue, [], replicate, slice_index, slice_get, Some, None, if◌then◌else◌, inl, inr, refl, arith}
+use Rattle.std.proofs.lemmas.Bool.{cases_lt, ltb-true}
+use Rattle.std.proofs.lemmas.List.{length-replicate, get_or-replicate, get_or_past}
+use Rattle.paxos_msg.specs.declared.ballot.Ballot.{Ballot}
+use Rattle.paxos_msg.specs.declared.value.Value.{Value}
+use Rattle.paxos_msg.specs.declared.message.Body.TheVariants.{Accept}
+use Rattle.paxos_msg.specs.Messages.{Sent, IsSaid}
+use Rattle.paxos_proposer.specs.Proposer.{begun, covers}
+use Rattle.paxos_proposer.specs.Backed.{IsBacked}
+
+-- the same number everywhere is at most that number, and 0 behind the end
+replicated : (n i from : ℕ) → slice_index (replicate n from) i ≤ from
+replicated n i from =
+    elim (cases_lt i n) [
+      | inl lt ↦ omega (arith, get_or-replicate n i from 0 lt)
+      | inr le ↦ let len = length-replicate n from in omega (arith, get_or_past (replicate n from) i 0 (omega arith))
+    ]
+
+-- no acceptor covers a place from the first one on
+none_covers : (n i from s : ℕ) → from ≤ s → IsTrue (covers (replicate n from) s i) → ⊥
+none_covers n i from s le member =
+    let lt : s < slice_index (replicate n from) i = ltb-true s (slice_index (replicate n from) i) member in
+    omega (arith, replicated n i from)
+
+-- and nothing is proposed
+none_proposed : (t : Bool) (i : ℕ) (v : Value) → (if t then None else slice_get {X = Value} [] i) ≡ Some v → ⊥
+none_proposed true i v e = cc
+none_proposed false i v e = cc
+
+pub begun_backed : (sent : Sent) (b : Ballot) (from size : ℕ) → ((s : ℕ) (v : Value) → ¬ IsSaid sent (Accept b s v)) → IsBacked sent b.node (begun b from size)
+begun_backed sent b from size quiet = record {
+  own = refl;
+  nodes = length-replicate 10 from;
+  heard = λ s above. record {
+    reported = λ i. None;
+    promised = λ i member. absurd (none_covers 10 i from s (omega arith) member);
+    is_best = λ i member. refl;
+  };
+  sent_all = λ s v e. absurd (none_proposed (nat_lt s from) (s - from) v e);
+  only = λ s v said. absurd (quiet s v said);
+}

@@ -1,0 +1,29 @@
+-- Counting the nodes of which something holds, and those that have promised above a place.
+use Rattle.std.proofs.Common.{◌≡◌, ℕ, zero, suc, ◌+◌, ◌≤◌, Bool, true, false, List, if◌then◌else◌, add-one, refl, inl, inr, arith}
+use Rattle.std.proofs.lemmas.Bool.{cases_lt}
+use Rattle.std.proofs.lemmas.Bool.Decides.{nat_tests}
+use Rattle.paxos_msg.specs.Ballots.{count_of}
+use Rattle.paxos_msg.specs.Tests.{is_majority}
+use Rattle.paxos_proposer.specs.Proposer.{covers}
+use Rattle.paxos_proposer.specs.States.{AreInRange}
+
+-- one node more is counted if it is a member
+pub count_next : (p : ℕ → Bool) (n : ℕ) → count_of p (n + 1) ≡ (if p (n + 1) then 1 else 0) + count_of p n
+count_next p n = rw add-one refl
+
+-- no promise reaches above place 65,536
+not_covered : (coverages : List ℕ) (s i : ℕ) → 65536 ≤ s → AreInRange coverages → covers coverages s i ≡ false
+not_covered coverages s i high h = grind (arith, nat_tests, h.upto i)
+
+-- so none is counted there
+none_counted : (coverages : List ℕ) (s n : ℕ) → 65536 ≤ s → AreInRange coverages → count_of (covers coverages s) n ≡ 0
+none_counted coverages s zero high h = refl
+none_counted coverages s (suc n) high h = rw (not_covered coverages s (suc n) high h, none_counted coverages s n high h)
+
+-- a place that a majority's promises reach above is a place
+pub covered_below : (size s : ℕ) (coverages : List ℕ) → AreInRange coverages → is_majority size (covers coverages s) ≡ true → s ≤ 65535
+covered_below size s coverages h covered =
+    elim (cases_lt s 65536) [
+      | inl below ↦ omega arith
+      | inr high ↦ let none = none_counted coverages s size high h in absurd (grind (arith, nat_tests))
+    ]

@@ -1,0 +1,133 @@
+-- What a proposer proposes may be sent, and the proposer is backed again.
+use Rattle.std.proofs.Common.{◌≡◌, ◌≢◌, ℕ, zero, suc, ◌+◌, ◌-◌, ◌∙◌, Bool, true, false, ◌⊎◌, inl, inr, List, [], ◌∷◌, ◌++◌, length, slice_get, Option, Some, None, IfSome, MatchOption, if◌then◌else◌, sym, ap, refl, arith, subst}
+use Rattle.std.proofs.lemmas.Bool.{ltb-true, le-ltb, lt-ltb, cases_eq, cases_lt}
+use Rattle.std.proofs.lemmas.List.{length_push}
+use Rattle.std.proofs.lemmas.List.Elements.{Contains-push, Contains-push_cases}
+use Rattle.std.proofs.lemmas.Option.{slice_get_past}
+use Rattle.paxos_msg.specs.declared.message.Body.TheVariants.{Accept}
+use Rattle.paxos_msg.specs.declared.message.Msg.{Msg}
+use Rattle.paxos_msg.specs.declared.record.Record.{Record}
+use Rattle.paxos_msg.specs.declared.value.Value.{Value}
+use Rattle.paxos_msg.specs.declared.value.Value.TheVariants.{Noop}
+use Rattle.paxos_msg.specs.declared.value.Vote.{Vote}
+use Rattle.paxos_msg.specs.Keys.{Key}
+use Rattle.paxos_msg.specs.Messages.{Sent, IsSent, IsSaid, vote_at}
+use Rattle.paxos_msg.specs.Sending.{IsFree, IsSafe, IsUnproposed, MaySend}
+use Rattle.paxos_proposer.specs.Proposer.{Proposer, covers, is_covered, is_kept_from, value_or, next_of, next_value, proposed_at, proposing}
+use Rattle.paxos_proposer.specs.Backed.{IsBacked}
+use Rattle.paxos_proposer.proofs.Growing.{stays_with, heard_stays}
+
+-- ---- the values that are proposed, after one more
+
+-- a value that is pushed is found behind the others
+pushed_here : (values : List Value) (v : Value) (i : ℕ) → i ≡ length values → slice_get (values ++ v ∷ []) i ≡ Some v
+pushed_here [] v zero e = refl
+pushed_here [] v (suc i) e = absurd (omega arith)
+pushed_here (x ∷ xs) v zero e = absurd (omega arith)
+pushed_here (x ∷ xs) v (suc i) e = pushed_here xs v i (omega arith)
+
+-- and nothing changes elsewhere
+pushed_there : (values : List Value) (v : Value) (i : ℕ) → i ≢ length values → slice_get (values ++ v ∷ []) i ≡ slice_get values i
+pushed_there [] v zero ne = absurd (ne refl)
+pushed_there [] v (suc i) ne = refl
+pushed_there (x ∷ xs) v zero ne = refl
+pushed_there (x ∷ xs) v (suc i) ne = pushed_there xs v i (λ e. ne (omega arith))
+
+module _ (p : Proposer) (v : Value) where
+  proposed_here : (s : ℕ) → s ≡ next_of p → proposed_at (proposing p (Some v)) s ≡ Some v
+  proposed_here s e = rw (le-ltb s p.first (omega arith)) (pushed_here p.values v (s - p.first) (omega arith))
+
+  proposed_there : (s : ℕ) → s ≢ next_of p → proposed_at (proposing p (Some v)) s ≡ proposed_at p s
+  proposed_there s ne =
+      elim (cases_lt s p.first) [
+        | inl low ↦ rw (lt-ltb s p.first low) refl
+        | inr from ↦ rw (le-ltb s p.first from) (pushed_there p.values v (s - p.first) (λ e. ne (omega arith)))
+      ]
+
+-- nothing is proposed at the next place yet
+none_next : (p : Proposer) → proposed_at p (next_of p) ≡ None
+none_next p = rw (le-ltb (next_of p) p.first (omega arith)) (slice_get_past p.values (next_of p - p.first) (omega arith))
+
+-- ---- the value at the next place
+
+if_some : {X : Type 0} (t : Bool) (x : Option X) (v : X) → (if t then x else None) ≡ Some v → (t ≡ true) × (x ≡ Some v)
+if_some true x v e = (refl, e)
+if_some false x v e = cc
+
+free_or : (sent : Sent) (t : Bool) (offered : Option Value) → IfSome offered (IsFree sent) → IfSome (if t then Some Noop else offered) (IsFree sent)
+free_or sent true offered free = inl refl
+free_or sent false offered free = free
+
+by_kept : (sent : Sent) (kept : Option Vote) (other : Option Value) (v : Value) → value_or kept other ≡ Some v → IfSome other (IsFree sent) → MatchOption kept (IsFree sent v) (λ vote. v ≡ vote.value)
+by_kept sent None other v e free = rw e at free
+by_kept sent (Some vote) other v e free = cc
+
+module _ (sent : Sent) (me : ℕ) (p : Proposer) (h : IsBacked sent me p) (v : Value) where
+  value_safe : (offered : Option Value) → IfSome offered (IsFree sent) → next_value p offered ≡ Some v → IsSafe p.size sent p.ballot (next_of p) v
+  value_safe offered free e =
+      let other : Option Value = if is_kept_from p.kept (next_of p + 1) then Some Noop else offered in
+      let (covered, value) = if_some (is_covered p (next_of p)) (value_or (vote_at p.kept (next_of p)) other) v e in
+      let heard = h.heard (next_of p) (omega arith) in
+      record {
+        members = covers p.coverages (next_of p);
+        reported = heard.reported;
+        best = vote_at p.kept (next_of p);
+        majority = ltb-true _ _ covered;
+        promised = heard.promised;
+        is_best = heard.is_best;
+        value = by_kept sent (vote_at p.kept (next_of p)) other v value (free_or sent (is_kept_from p.kept (next_of p + 1)) offered free);
+      }
+
+  unproposed : IsUnproposed sent p.ballot (next_of p)
+  unproposed w said =
+      let e : proposed_at p (next_of p) ≡ None = none_next p in
+      let f : proposed_at p (next_of p) ≡ Some w = h.only (next_of p) w said in
+      cc
+
+  pub may_propose : (typed : List Key) (learned : ℕ → Option Value) (r : Record) (offered : Option Value) → IfSome offered (IsFree sent) → next_value p offered ≡ Some v → MaySend p.size typed learned sent me r (Accept p.ballot (next_of p) v)
+  may_propose typed learned r offered free e = (h.own, inr (unproposed, value_safe offered free e))
+
+  -- a proposal may be sent again
+  pub may_repeat : (typed : List Key) (learned : ℕ → Option Value) (s : ℕ) (r : Record) → proposed_at p s ≡ Some v → MaySend p.size typed learned sent me r (Accept p.ballot s v)
+  may_repeat typed learned s r e = (h.own, inl (h.sent_all s v e))
+
+  said : Msg
+  said = record { sender = me; body = Accept p.ballot (next_of p) v }
+
+  sent_all : (s : ℕ) (w : Value) → proposed_at (proposing p (Some v)) s ≡ Some w → IsSent (sent ++ said ∷ []) me (Accept p.ballot s w)
+  unfolding said
+  sent_all s w e = elim (cases_eq s (next_of p)) [
+    | inl here ↦
+        let f : v ≡ w = cc (proposed_here p v s here) in
+        subst (λ (t : ℕ). IsSent (sent ++ said ∷ []) me (Accept p.ballot t w)) (sym here) (subst (λ (u : Value). IsSent (sent ++ said ∷ []) me (Accept p.ballot (next_of p) u)) f (Contains-push sent said))
+    | inr there ↦ (stays_with sent said).stays me (Accept p.ballot s w) (h.sent_all s w (sym (proposed_there p v s there) ∙ e))
+  ]
+
+  -- what is new under the ballot is the one proposal
+  said_cases : (s : ℕ) (w : Value) → IsSaid (sent ++ said ∷ []) (Accept p.ballot s w) → IsSaid sent (Accept p.ballot s w) ⊎ ((next_of p ≡ s) × (v ≡ w))
+  unfolding said
+  said_cases s w (i, g) = elim (Contains-push_cases sent said (record { sender = i; body = Accept p.ballot s w }) g) [
+    | inl old ↦ inl (i, old)
+    | inr e ↦ let f : Accept p.ballot (next_of p) v ≡ Accept p.ballot s w = ap (λ (m : Msg). m.body) e in inr (cc, cc)
+  ]
+
+  only : (s : ℕ) (w : Value) → IsSaid (sent ++ said ∷ []) (Accept p.ballot s w) → proposed_at (proposing p (Some v)) s ≡ Some w
+  only s w g = elim (said_cases s w g) [
+    | inl old ↦
+        let before : proposed_at p s ≡ Some w = h.only s w old in
+        let ne : s ≢ next_of p = λ e. unproposed w (subst (λ (t : ℕ). IsSaid sent (Accept p.ballot t w)) e old) in
+        proposed_there p v s ne ∙ before
+    | inr new ↦ let e : v ≡ w = new.1 in proposed_here p v s (sym new.0) ∙ ap (λ (u : Value). Some u) e
+  ]
+
+  pub proposing_backed : IsBacked (sent ++ record { sender = me; body = Accept p.ballot (next_of p) v } ∷ []) me (proposing p (Some v))
+  unfolding said
+  proposing_backed = record {
+    own = h.own;
+    nodes = h.nodes;
+    heard = λ s above.
+        let grown = length_push p.values v in
+        heard_stays sent (sent ++ said ∷ []) (stays_with sent said) p.ballot s (covers p.coverages s) (vote_at p.kept s) (h.heard s (omega arith));
+    sent_all = sent_all;
+    only = only;
+  }

@@ -1,0 +1,4 @@
+pub mod Proposer
+pub mod States
+pub mod Fields
+pub mod Backed

@@ -1,0 +1,150 @@
+-- One ballot: what was promised for it, and what is proposed under it.
+use Rattle.std.specs.Prelude.{◌≡◌, ℕ, ◌+◌, ◌-◌, max, nat_le, nat_lt, ◌&&◌, Bool, List, [], ◌∷◌, ◌++◌, length, replicate, slice_get, slice_index, slice_set, Option, Some, None, if◌then◌else◌}
+use Rattle.std.specs.List.{list_any}
+use Rattle.paxos_msg.specs.declared.ballot.Ballot.{Ballot}
+use Rattle.paxos_msg.specs.declared.value.Value.{Value}
+use Rattle.paxos_msg.specs.declared.value.Value.TheVariants.{Noop}
+use Rattle.paxos_msg.specs.declared.value.Vote.{Vote}
+use Rattle.paxos_msg.specs.declared.message.Body.{Body}
+use Rattle.paxos_msg.specs.declared.message.Body.TheVariants as body
+use Rattle.paxos_msg.specs.Messages.{vote_at}
+use Rattle.paxos_msg.specs.Records.{with_vote}
+use Rattle.paxos_msg.specs.Tests.{ballot_lt, is_majority}
+
+-- Of a proposer in a group of that size: below which place each acceptor's promises reach, by the acceptor's number, which
+-- is 1 to 9; of the votes that they reported, the one to keep for each place, in ascending order of place; and the values that are
+-- proposed, at the first place and on, one after another.
+pub record Proposer : Type 0 where
+  pub ballot : Ballot
+  pub size : ℕ
+  pub coverages : List ℕ
+  pub kept : List Vote
+  pub first : ℕ
+  pub values : List Value
+
+-- a proposer that has heard nothing
+abbrev pub begun : Ballot → ℕ → ℕ → Proposer
+begun b from size = record { ballot = b; size = size; coverages = replicate 10 from; kept = []; first = from; values = [] }
+
+-- the next place to propose at
+abbrev pub next_of : Proposer → ℕ
+next_of p = p.first + length p.values
+
+-- what is proposed at a place
+abbrev pub proposed_at : Proposer → ℕ → Option Value
+proposed_at p s = if nat_lt s p.first then None else slice_get p.values (s - p.first)
+
+-- below which place the promises of acceptor i reach
+abbrev pub coverage_of : Proposer → ℕ → ℕ
+coverage_of p i = slice_index p.coverages i
+
+-- whether the promises of acceptor i reach above place s
+abbrev pub covers : List ℕ → ℕ → ℕ → Bool
+covers coverages s i = nat_lt s (slice_index coverages i)
+
+-- whether those of a majority do
+abbrev pub is_covered : Proposer → ℕ → Bool
+is_covered p s = is_majority p.size (covers p.coverages s)
+
+-- ---- a part of a promise
+
+-- whether acceptor j's part, from its first place up to the other, raises the coverage
+abbrev pub rises : Proposer → ℕ → ℕ → ℕ → Bool
+rises p j first upto = nat_le first (coverage_of p j) && nat_lt (coverage_of p j) upto
+
+-- the vote to keep, where one was kept: the one with the greater ballot, and of equal ballots the first
+abbrev pub greater : Option Vote → Vote → Vote
+greater None vote = vote
+greater (Some kept) vote = if ballot_lt kept.ballot vote.ballot then vote else kept
+
+-- the kept votes after one that is reported at a place from low on
+abbrev pub heard_one : ℕ → List Vote → Vote → List Vote
+heard_one low kept vote = if nat_le low vote.place then with_vote kept (greater (vote_at kept vote.place) vote) else kept
+
+-- after these, one after another
+abbrev pub heard : ℕ → List Vote → List Vote → List Vote
+heard low kept [] = kept
+heard low kept (vote ∷ votes) = heard low (heard_one low kept vote) votes
+
+-- The proposer after a part of acceptor j: unless it raises the coverage it is passed over. The votes count that it reports at
+-- places from the old coverage on, where nothing is proposed yet.
+abbrev pub after_part : Proposer → ℕ → ℕ → ℕ → List Vote → Proposer
+after_part p j first upto votes =
+    if rises p j first upto
+    then record p { coverages = slice_set p.coverages j upto; kept = heard (max (coverage_of p j) (next_of p)) p.kept votes }
+    else p
+
+-- the place from which to ask the acceptor on: its new coverage, if it rose and is not the last
+abbrev pub asks_on : Proposer → ℕ → ℕ → ℕ → Option ℕ
+asks_on p j first upto = if rises p j first upto && nat_lt upto 65536 then Some upto else None
+
+-- the body is a promise, or a part of one, under the ballot
+abbrev pub IsPart : Ballot → Body → Type 0
+IsPart b (body.Prepare ballot from) = ⊥
+IsPart b (body.Promise ballot first upto votes) = ballot ≡ b
+IsPart b (body.Accept ballot s v) = ⊥
+IsPart b (body.Accepted ballot s v) = ⊥
+IsPart b (body.Refused ballot promised) = ⊥
+IsPart b (body.Submit v) = ⊥
+IsPart b (body.Ask from) = ⊥
+IsPart b (body.Tell s v) = ⊥
+
+-- what a part makes of the proposer, and no other body anything
+abbrev pub on_promise : Proposer → ℕ → Body → Proposer
+on_promise p j (body.Prepare ballot from) = p
+on_promise p j (body.Promise ballot first upto votes) = after_part p j first upto votes
+on_promise p j (body.Accept ballot s v) = p
+on_promise p j (body.Accepted ballot s v) = p
+on_promise p j (body.Refused ballot promised) = p
+on_promise p j (body.Submit v) = p
+on_promise p j (body.Ask from) = p
+on_promise p j (body.Tell s v) = p
+
+-- the place from which to ask on after it
+abbrev pub asks_after : Proposer → ℕ → Body → Option ℕ
+asks_after p j (body.Prepare ballot from) = None
+asks_after p j (body.Promise ballot first upto votes) = asks_on p j first upto
+asks_after p j (body.Accept ballot s v) = None
+asks_after p j (body.Accepted ballot s v) = None
+asks_after p j (body.Refused ballot promised) = None
+asks_after p j (body.Submit v) = None
+asks_after p j (body.Ask from) = None
+asks_after p j (body.Tell s v) = None
+
+-- ---- proposing
+
+-- whether a vote is kept at place s or above it
+abbrev pub is_kept_from : List Vote → ℕ → Bool
+is_kept_from kept s = list_any (λ vote. nat_le s vote.place) kept
+
+-- the kept vote's value, or else the other
+abbrev pub value_or : Option Vote → Option Value → Option Value
+value_or None other = other
+value_or (Some vote) other = Some vote.value
+
+-- What is proposed at the next place, if anything: once a majority's promises reach above it, the value of the vote that is
+-- kept there; where none is, a no-op if one is kept above, and else what is offered.
+abbrev pub next_value : Proposer → Option Value → Option Value
+next_value p offered =
+    if is_covered p (next_of p)
+    then value_or (vote_at p.kept (next_of p)) (if is_kept_from p.kept (next_of p + 1) then Some Noop else offered)
+    else None
+
+-- the proposer after it has proposed the value, if there is one
+abbrev pub proposing : Proposer → Option Value → Proposer
+proposing p None = p
+proposing p (Some v) = record p { values = p.values ++ v ∷ [] }
+
+-- its proposal of a value, as a vote under its ballot
+abbrev pub proposal : Proposer → Value → Vote
+proposal p v = record { place = next_of p; ballot = p.ballot; value = v }
+
+-- ---- the next ballot
+
+abbrev pub round_of : Option Ballot → ℕ
+round_of None = 0
+round_of (Some b) = b.round
+
+-- the greater of two rounds
+abbrev pub greatest_round : Option Ballot → Option Ballot → ℕ
+greatest_round promised seen = max (round_of promised) (round_of seen)

@@ -1,0 +1,21 @@
+-- What contracts see of a proposer, and what always holds of it.
+use Rattle.std.specs.Prelude.{◌≡◌, ℕ, ◌+◌, ◌≤◌, List, length, slice_index}
+use Rattle.paxos_msg.specs.Messages.{IsAscending}
+use Rattle.paxos_proposer.specs.Proposer.{Proposer}
+
+-- what it knows, and how many more proposals are sure to find room
+pub record State : Type 0 where
+  pub rules : Proposer
+  pub room : ℕ
+
+-- no promise reaches above the last place
+pub record AreInRange (coverages : List ℕ) : Type 0 where
+  pub upto : (i : ℕ) → slice_index coverages i ≤ 65536
+
+-- what always holds of a proposer: a group has at most nine nodes, the kept votes ascend, and at most all places have a proposal
+pub record IsWhole (p : Proposer) : Type 0 where
+  pub few : p.size ≤ 9
+  pub nodes : length p.coverages ≡ 10
+  pub reach : AreInRange p.coverages
+  pub ascending : IsAscending p.kept
+  pub places : p.first + length p.values ≤ 65536

@@ -1,0 +1,36 @@
+//! Why a proposer gives up.
+ghost use Rattle.paxos_proposer.specs.declared.fault.ProposerFault.TheVariants.{Memory};
+ghost use Rattle.std.specs.Prelude.{◌≡◌};
+
+use std::alloc::{AllocError, AllocFailed};
+use thiserror::Error;
+
+/// Why a proposer gives up. Its text is the refusal's code.
+#[derive(Clone, Copy, Debug, PartialEq, Eq, Error)]
+pub enum ProposerFault {
+    /// There is no memory. Nothing has changed.
+    #[error("P1")]
+    Memory,
+    /// There is no greater round than the greatest one, 4,294,967,295.
+    #[error("P2")]
+    RoundsSpent,
+    /// A value is offered, and each place up to the last, 65,535, has a proposal.
+    #[error("P3")]
+    PlacesSpent,
+}
+
+impl From<AllocError> for ProposerFault {
+    ghost from_gives = { λ _ fault. fault ≡ Memory };
+
+    fn from(_error: AllocError) -> ProposerFault {
+        ProposerFault::Memory
+    }
+}
+
+impl<T: Drop> From<AllocFailed<T>> for ProposerFault {
+    ghost from_gives = { λ _ fault. fault ≡ Memory };
+
+    fn from(_error: AllocFailed<T>) -> ProposerFault {
+        ProposerFault::Memory
+    }
+}

@@ -1,0 +1,50 @@
+//! The laws of a proposer, over the definitions alone: what it has heard lets it send what it proposes.
+ghost use Rattle.std.specs.Prelude.{◌≡◌, ◌≤◌, ◌++◌, [], ◌∷◌, ℕ, List, Option, Some, IfSome};
+ghost use Rattle.paxos_msg.specs.declared.ballot.Ballot.{Ballot};
+ghost use Rattle.paxos_msg.specs.declared.message.Body.TheVariants.{Accept, Promise};
+ghost use Rattle.paxos_msg.specs.declared.record.Record.{Record};
+ghost use Rattle.paxos_msg.specs.declared.value.Value.{Value};
+ghost use Rattle.paxos_msg.specs.declared.value.Vote.{Vote};
+ghost use Rattle.paxos_msg.specs.Fits.{IsBody};
+ghost use Rattle.paxos_msg.specs.Keys.{Key};
+ghost use Rattle.paxos_msg.specs.Messages.{IsSaid, IsSent, Sent};
+ghost use Rattle.paxos_msg.specs.Sending.{IsFree, MaySend};
+ghost use Rattle.paxos_proposer.specs.Backed.{IsBacked, IsQuiet};
+ghost use Rattle.paxos_proposer.specs.Proposer.{Proposer, after_part, begun, next_of, next_value, proposed_at, proposing};
+
+use paxos_msg::laws::votes_are_by_place;
+
+/// A proposer that has heard nothing is backed, if nothing was proposed under its ballot.
+pub fn begins_backed()
+    ensures { (sent : Sent) (b : Ballot) (from size : ℕ) →
+        ((s : ℕ) (v : Value) → ¬ IsSaid sent (Accept b s v)) → IsBacked sent b.node (begun b from size) }
+{}
+
+/// It is backed still after a part of a promise that was sent for its ballot, whichever part and however
+/// late.
+pub fn parts_keep_it_backed()
+    ensures { (sent : Sent) (me j first upto : ℕ) (p : Proposer) (votes : List Vote) →
+        IsBacked sent me p → j ≤ 9 → IsBody p.size j (Promise p.ballot first upto votes) →
+        IsSent sent j (Promise p.ballot first upto votes) →
+        IsBacked sent me (after_part p j first upto votes) }
+{
+    votes_are_by_place();
+}
+
+/// What it proposes may be sent, if what is offered is a no-op or was submitted; once that is sent it is
+/// backed again. What it has proposed may be sent again.
+pub fn proposals_may_be_sent()
+    ensures sends { (typed : List Key) (learned : ℕ → Option Value) (sent : Sent) (me : ℕ) (r : Record) (p : Proposer) (offered : Option Value) (v : Value) →
+        IsBacked sent me p → IfSome offered (IsFree sent) → next_value p offered ≡ Some v →
+        MaySend p.size typed learned sent me r (Accept p.ballot (next_of p) v) }
+    ensures backed { (sent : Sent) (me : ℕ) (p : Proposer) (v : Value) →
+        IsBacked sent me p →
+        IsBacked (sent ++ record { sender = me; body = Accept p.ballot (next_of p) v } ∷ []) me (proposing p (Some v)) }
+    ensures again { (typed : List Key) (learned : ℕ → Option Value) (sent : Sent) (me s : ℕ) (r : Record) (p : Proposer) (v : Value) →
+        IsBacked sent me p → proposed_at p s ≡ Some v → MaySend p.size typed learned sent me r (Accept p.ballot s v) }
+{}
+
+/// It stays backed as more is sent, if nothing new is proposed under its ballot.
+pub fn stays_backed()
+    ensures { (sent next : Sent) (me : ℕ) (p : Proposer) → IsQuiet p.ballot sent next → IsBacked sent me p → IsBacked next me p }
+{}

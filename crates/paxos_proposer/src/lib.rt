@@ -1,0 +1,15 @@
+//! The proposer: what one ballot proposes, from what the acceptors promise for it.
+#![tactic(auto)]
+
+mod covering;
+mod fault;
+mod hearing;
+pub mod laws;
+mod proposer;
+mod rounds;
+#[cfg(test)]
+mod tests;
+
+pub use fault::ProposerFault;
+pub use proposer::Proposer;
+pub use rounds::next_ballot;

@@ -1,0 +1,225 @@
+//! A proposer under one ballot.
+ghost use Rattle.std.specs.Prelude.{◌≡◌, ◌↔◌, ◌+◌, ◌<◌, ◌≤◌, Err, IsTrue, IsSome, IfOk, OnOk, OnErr, IsErrOf, option_map};
+ghost use Rattle.paxos_msg.specs.Fits.{IsBody};
+ghost use Rattle.paxos_proposer.specs.Proposer.{IsPart, asks_after, begun, coverage_of, is_covered, is_kept_from, next_of, next_value, on_promise, proposal, proposed_at, proposing};
+
+use crate::covering::count_covering;
+use crate::fault::ProposerFault;
+use crate::hearing::hear_votes;
+use paxos_msg::{Ballot, BodyView, Value, View, Vote, find_vote};
+use std::alloc::Global;
+use std::marker::Model;
+
+/// How many places there are: they are 0 to 65,535.
+const PLACES: u32 = 65_536;
+
+/// How many votes a part of a promise reports at most.
+const PART_VOTES: usize = 64;
+
+/// How many proposals `reserve` makes room for.
+const RESERVED_PROPOSALS: usize = 17;
+
+/// A proposer under one ballot: from what the acceptors promise it finds the value that it may propose
+/// at each place, one place after another. A look, and a proposal, take a search; a part of a promise
+/// takes one for each vote in it, and moves the kept votes behind that one.
+#[derive(Drop)]
+pub struct Proposer {
+    ballot: Ballot,
+    size: u8,
+    /// Below which place the promises reach, by the acceptor's number, which is 1 to 9.
+    coverages: [u32; 10],
+    /// The vote to keep for each place, of those that were reported, in ascending order of place.
+    kept: Vec<Vote>,
+    first: u32,
+    /// What is proposed, at the first place and on, one after another.
+    values: Vec<Value>,
+}
+
+impl Model for Proposer {
+    ghost use Rattle.paxos_proposer.specs.States.{State};
+
+    ghost Value = { State };
+
+    ghost use Rattle.paxos_proposer.specs.Fields.{AreWhole, state_of};
+
+    ghost view = { state_of };
+
+    ghost invariant = { AreWhole };
+}
+
+impl Proposer {
+    /// A proposer under the ballot, for places from `from` on, in a group of `size` nodes. It has heard
+    /// nothing, and takes no memory.
+    pub fn begin(alloc: Global, ballot: Ballot, from: u32, size: u8) -> Proposer
+        requires from { from ≤ 65535 }
+        requires size { size ≤ 9 }
+        ensures { result.rules ≡ begun ballot from size }
+    {
+        Proposer {
+            ballot,
+            size,
+            coverages: [from; 10],
+            kept: Vec::new(alloc),
+            first: from,
+            values: Vec::new(alloc),
+        }
+    }
+
+    /// Its ballot.
+    pub fn ballot(&self) -> Ballot
+        ensures { result ≡ self.now.rules.ballot }
+    {
+        self.ballot
+    }
+
+    /// The place at which it proposes next, at most 65,536.
+    pub fn next_place(&self) -> u32
+        ensures next { result ≡ next_of self.now.rules }
+        ensures few { result ≤ 65536 }
+    {
+        self.first + self.values.len() as u32
+    }
+
+    /// Below which place the acceptor's promises reach, at most 65,536.
+    pub fn coverage(&self, node: u8) -> u32
+        requires { node ≤ 9 }
+        ensures coverage { result ≡ coverage_of self.now.rules node }
+        ensures few { result ≤ 65536 }
+    {
+        self.coverages[usize::from(node)]
+    }
+
+    /// Whether the promises of a majority reach above the place.
+    pub fn is_covered(&self, place: u32) -> bool
+        ensures { result ≡ is_covered self.now.rules place }
+    {
+        usize::from(self.size) < 2 * count_covering(self.size, &self.coverages, place)
+    }
+
+    /// Whether a vote is kept at the place or above it.
+    #[tactic(auto, using(crate::proofs::LastVote::any_from))]
+    pub fn is_kept_from(&self, place: u32) -> bool
+        ensures { result ≡ is_kept_from self.now.rules.kept place }
+    {
+        match self.kept.last() {
+            Some(vote) => place <= vote.place,
+            None => false,
+        }
+    }
+
+    /// What is proposed at the place, which may be any number.
+    pub fn proposed(&self, place: u32) -> Option<Value>
+        ensures { result ≡ proposed_at self.now.rules place }
+    {
+        if place < self.first {
+            return None;
+        }
+        self.values.get((place - self.first) as usize).copied()
+    }
+
+    /// Hears a part of the acceptor's promise under the proposer's own ballot. The answer is the place
+    /// from which to ask that acceptor on, if its coverage rose and does not reach all places. After
+    /// `Memory` nothing has changed.
+    pub fn on_promise(&mut self, sender: u8, view: &View<'_>) -> Result<Option<u32>, ProposerFault>
+        requires sender { sender ≤ 9 }
+        requires part { IsPart self.old.rules.ballot view.now.body }
+        requires ranges { IsBody self.old.rules.size sender view.now.body }
+        ensures ok { OnOk result (self.new.rules ≡ on_promise self.old.rules sender view.now.body) }
+        ensures answer { IfOk result (λ from. from ≡ asks_after self.old.rules sender view.now.body) }
+        ensures err { OnErr result (self.new.rules ≡ self.old.rules) }
+        ensures memory { OnErr result (result ≡ Err ProposerFault.Memory) }
+        ensures room { self.old.room ≤ self.new.room }
+    {
+        let BodyView::Promise {
+            first,
+            upto,
+            votes,
+            ..
+        } = &view.body
+        else {
+            unreachable!()
+        };
+        let node = usize::from(sender);
+        let reached = self.coverages[node];
+        if reached < *first || *upto <= reached {
+            return Ok(None);
+        }
+        let low = reached.max(self.next_place());
+        self.kept.reserve(PART_VOTES)?;
+        hear_votes(low, votes.iter(), &mut self.kept);
+        self.coverages[node] = *upto;
+        if *upto < PLACES {
+            Ok(Some(*upto))
+        } else {
+            Ok(None)
+        }
+    }
+
+    /// What is proposed at the next place, if anything.
+    #[tactic(auto, using(crate::proofs::Counting::covered_below))]
+    fn next_value(&self, offered: Option<Value>) -> Option<Value>
+        ensures value { result ≡ next_value self.now.rules offered }
+        ensures below { IsSome result → next_of self.now.rules ≤ 65535 }
+    {
+        let place = self.next_place();
+        if !self.is_covered(place) {
+            return None;
+        }
+        if let Some(vote) = find_vote(&self.kept, place) {
+            return Some(vote.value);
+        }
+        if self.is_kept_from(place + 1) {
+            return Some(Value::Noop);
+        }
+        offered
+    }
+
+    /// Proposes at the next place, if it may: once a majority's promises reach above it, the value of the
+    /// vote that is kept there, a no-op where one is kept above, and else what is offered. The answer is
+    /// the proposal. `PlacesSpent` where a value is offered and the next place is 65,536; it comes before
+    /// `Memory`. After an error nothing has changed.
+    pub fn next_accept(&mut self, offered: Option<Value>) -> Result<Option<Vote>, ProposerFault>
+        ensures ok { OnOk result (self.new.rules ≡ proposing self.old.rules (next_value self.old.rules offered)) }
+        ensures answer { IfOk result (λ vote. vote ≡ option_map (proposal self.old.rules) (next_value self.old.rules offered)) }
+        ensures spent { IsErrOf result ProposerFault.PlacesSpent ↔ (IsSome offered × (next_of self.old.rules ≡ 65536)) }
+        ensures err { OnErr result (self.new.rules ≡ self.old.rules) }
+        ensures others { ¬ IsErrOf result ProposerFault.RoundsSpent }
+        ensures sure { 0 < self.old.room → ¬ IsErrOf result ProposerFault.Memory }
+        ensures room { self.old.room ≤ self.new.room + 1 }
+    {
+        let place = self.next_place();
+        if place == PLACES && offered.is_some() {
+            return Err(ProposerFault::PlacesSpent);
+        }
+        let Some(value) = self.next_value(offered) else {
+            return Ok(None);
+        };
+        self.values.push(value)?;
+        Ok(Some(Vote {
+            place,
+            ballot: self.ballot,
+            value,
+        }))
+    }
+
+    /// Makes room for 17 more proposals: none of the next 17 `next_accept` is `Memory`.
+    pub fn reserve(&mut self) -> Result<(), ProposerFault>
+        ensures same { self.new.rules ≡ self.old.rules }
+        ensures ok { OnOk result (17 ≤ self.new.room) }
+        ensures memory { OnErr result (result ≡ Err ProposerFault.Memory) }
+        ensures room { self.old.room ≤ self.new.room }
+    {
+        self.values.reserve(RESERVED_PROPOSALS)?;
+        Ok(())
+    }
+
+    /// Whether a Refused for this ballot ends the proposer: just where it is the proposer's own.
+    pub fn on_refused(&self, ballot: Ballot) -> bool
+        ensures { IsTrue result ↔ (self.now.rules.ballot ≡ ballot) }
+    {
+        ballot == self.ballot
+    }
+
+    /// Gives the ballot up.
+    pub fn drop_ballot(self) {}
+}

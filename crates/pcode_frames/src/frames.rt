@@ -1,0 +1,234 @@
+//! Frames, and what a call, a return and a static link do.
+ghost use Rattle.std.specs.Prelude.{◌≡◌, ◌+◌, ◌-◌, ◌<◌, ◌≤◌, ℕ, List, [], ◌∷◌, ◌++◌, false, Some, IfOk, IfSome, MatchOption, OnErr, length, take, drop, slice_get};
+ghost use Rattle.pcode_frames.specs.declared.frame.Frame.{Frame};
+ghost use Rattle.pcode_frames.specs.Frames.{parts, answered, called, current_of, is_full, link_at, link_up_of, returned, started};
+
+use crate::frame::Frame;
+use crate::halt::Halt;
+use crate::memory::{LIVE_WORDS, Memory};
+use crate::stack::{STACK_WORDS, Stack};
+use std::alloc::{AllocError, Global};
+use std::marker::Model;
+
+/// How many frames there are at most.
+const MAX_FRAMES: usize = 1024;
+
+/// The frames, seen as a list, the main frame first and the current one last; at most 1,024. Their
+/// room is made with them, so that no other call takes memory.
+#[derive(Drop)]
+pub struct Frames {
+    frames: Vec<Frame>,
+}
+
+impl Model for Frames {
+    ghost use Rattle.std.specs.Prelude.{◌≤◌, List, vec_len, vec_capacity};
+    ghost use Rattle.pcode_frames.specs.declared.frame.Frame.{Frame};
+    ghost use Rattle.pcode_frames.specs.Frames.{AreLinked};
+
+    ghost Value = { List Frame };
+
+    ghost view = { λ f. f.frames.items };
+
+    ghost invariant = { λ f. (vec_len f.frames ≤ 1024) × (1024 ≤ vec_capacity f.frames) × AreLinked f.frames.items };
+}
+
+/// Moves so many words from the stack to the words above the live ones, the top first.
+fn take_parameters(memory: &mut Memory, stack: &mut Stack, params: u16)
+    requires there { params ≤ length stack.old }
+    requires room { length memory.old + params ≤ 16383 }
+    ensures memory { memory.new ≡ memory.old ++ take params stack.old }
+    ensures stack { stack.new ≡ drop params stack.old }
+{
+    for _ in 0..params {
+        memory.push(stack.pop().unwrap());
+    }
+}
+
+/// Pushes so many words above a word address, the highest first.
+fn push_results(memory: &Memory, stack: &mut Stack, base: u16, words: u16)
+    requires there { base + words ≤ length memory.now }
+    requires fits { base + words ≤ 16383 }
+    requires room { length stack.old + words ≤ 1024 }
+    ensures { stack.new ≡ take words (drop base memory.now) ++ stack.old }
+{
+    for pushed in 0..words {
+        let word = memory.get(base + (words - pushed)).unwrap();
+        stack.push(word).unwrap();
+    }
+}
+
+impl Frames {
+    /// No frame.
+    pub fn new(alloc: Global) -> Result<Frames, AllocError>
+        ensures { IfOk result (λ f. f ≡ []) }
+    {
+        let frames = Vec::with_capacity(alloc, MAX_FRAMES)?;
+        Ok(Frames { frames })
+    }
+
+    /// The frame at an index, if there is one; the main frame has index 0.
+    pub fn frame(&self, index: u16) -> Option<Frame>
+        ensures { result ≡ slice_get self.now index }
+    {
+        self.frames.get(usize::from(index)).copied()
+    }
+
+    /// The frame that is executed, if there is one.
+    pub fn current(&self) -> Option<Frame>
+        ensures { result ≡ current_of self.now }
+    {
+        self.frames.last().copied()
+    }
+
+    /// Whether one more frame of so many words does not fit.
+    fn is_full(&self, memory: &Memory, size: u32) -> bool
+        requires { size ≤ 131070 }
+        ensures value { result ≡ is_full (parts memory.now [] self.now) size }
+        ensures frames { result ≡ false → length self.now < 1024 }
+        ensures words { result ≡ false → length memory.now + size ≤ 16383 }
+    {
+        self.frames.len() >= MAX_FRAMES || u32::from(memory.top()) + size > LIVE_WORDS as u32
+    }
+
+    /// Makes a frame the current one.
+    fn enter(&mut self, frame: Frame)
+        requires room { length self.old < 1024 }
+        requires link { frame.link ≤ length self.old - 1 }
+        ensures { self.new ≡ self.old ++ frame ∷ [] }
+    {
+        self.frames.push(frame).unwrap();
+    }
+
+    /// Drops the current frame.
+    fn leave(&mut self)
+        ensures { self.new ≡ take (length self.old - 1) self.old }
+    {
+        self.frames.pop();
+    }
+
+    /// Makes the main frame, of procedure 1, with so many words, all zero, where there is no frame and no
+    /// live word yet. If they are more than 16,383 it refuses by `Halt::Overflow`, and changes nothing.
+    pub fn start(&mut self, memory: &mut Memory, words: u16) -> Result<(), Halt>
+        requires frames { self.old ≡ [] }
+        requires words { memory.old ≡ [] }
+        ensures value { (stack : List ℕ) →
+            started words (parts memory.old stack self.old) ≡ answered result (parts memory.new stack self.new) }
+        ensures err { OnErr result ((memory.new ≡ memory.old) × (self.new ≡ self.old)) }
+    {
+        if self.is_full(memory, u32::from(words)) {
+            return Err(Halt::Overflow);
+        }
+        memory.grow(words);
+        self.enter(Frame {
+            procedure: 1,
+            base: 0,
+            size: words,
+            link: 0,
+            back: 0,
+        });
+        Ok(())
+    }
+
+    /// Calls a procedure: its parameters, in words, leave the stack for a new frame above all live
+    /// words, the top for offset 1 and the next for offset 2, and the words of its data follow, all
+    /// zero. The static link is the index of a frame that is there; `back` is the offset at which the
+    /// caller goes on, in bytes from the segment's start. With too few words on the stack it refuses by
+    /// `Halt::Empty`, else with 1,024 frames, or more than 16,383 words live then, by
+    /// `Halt::Overflow`. A refusal changes nothing.
+    pub fn call(
+        &mut self,
+        memory: &mut Memory,
+        stack: &mut Stack,
+        procedure: u8,
+        params: u16,
+        vars: u16,
+        link: u16,
+        back: u32,
+    ) -> Result<(), Halt>
+        requires { link < length self.old }
+        ensures value { called procedure params vars link back (parts memory.old stack.old self.old)
+            ≡ answered result (parts memory.new stack.new self.new) }
+        ensures err { OnErr result ((memory.new ≡ memory.old) × (stack.new ≡ stack.old) × (self.new ≡ self.old)) }
+    {
+        if stack.len() < usize::from(params) {
+            return Err(Halt::Empty);
+        }
+        let size = u32::from(params) + u32::from(vars);
+        if self.is_full(memory, size) {
+            return Err(Halt::Overflow);
+        }
+        let base = memory.top();
+        take_parameters(memory, stack, params);
+        memory.grow(vars);
+        self.enter(Frame {
+            procedure,
+            base,
+            size: size as u16,
+            link,
+            back,
+        });
+        Ok(())
+    }
+
+    /// Returns from the current frame, which is not the main frame, and answers it. The frame's first
+    /// words, as many as are asked for, are pushed as results, offset 1 the last, and the frame and all
+    /// words above its base are gone. If one of the words is not live it refuses by `Halt::BadMemory`,
+    /// else if they do not fit on the stack by `Halt::Overflow`. A refusal changes nothing.
+    pub fn ret(&mut self, memory: &mut Memory, stack: &mut Stack, words: u16) -> Result<Frame, Halt>
+        requires { 2 ≤ length self.old }
+        ensures value { (frame : Frame) → current_of self.old ≡ Some frame →
+            returned words frame (parts memory.old stack.old self.old)
+            ≡ answered result (parts memory.new stack.new self.new) }
+        ensures frame { IfOk result (λ frame. current_of self.old ≡ Some frame) }
+        ensures err { OnErr result ((memory.new ≡ memory.old) × (stack.new ≡ stack.old) × (self.new ≡ self.old)) }
+    {
+        let Some(frame) = self.current() else {
+            unreachable!()
+        };
+        let last = usize::from(frame.base) + usize::from(words);
+        if usize::from(memory.top()) < last {
+            return Err(Halt::BadMemory);
+        }
+        if stack.len() + usize::from(words) > STACK_WORDS {
+            return Err(Halt::Overflow);
+        }
+        push_results(memory, stack, frame.base, words);
+        memory.lower(frame.base);
+        self.leave();
+        Ok(frame)
+    }
+
+    /// The static link of the frame at an index; the main frame's is not followed.
+    fn link_of(&self, index: u16) -> Option<u16>
+        ensures value { result ≡ link_at self.now index }
+        ensures below { IfSome result (λ link. link < index) }
+    {
+        if index == 0 {
+            return None;
+        }
+        let frame = self.frames.get(usize::from(index))?;
+        Some(frame.link)
+    }
+
+    /// The index of the current frame, if there is one.
+    fn current_index(&self) -> Option<u16>
+        ensures { MatchOption result (self.now ≡ []) (λ index. index + 1 ≡ length self.now) }
+    {
+        let above = self.frames.len().checked_sub(1)?;
+        Some(above as u16)
+    }
+
+    /// The index of the frame n static links up from the current one, if there is one: the main
+    /// frame's link is not followed.
+    #[tactic(auto, using(crate::proofs::Links::up_more, crate::proofs::Links::up_ends, crate::proofs::Links::up_from_last))]
+    pub fn link_up(&self, n: u8) -> Option<u16>
+        ensures value { result ≡ link_up_of self.now n }
+        ensures within { IfSome result (λ index. index < length self.now) }
+    {
+        let mut index = self.current_index()?;
+        for _ in 0..n {
+            index = self.link_of(index)?;
+        }
+        Some(index)
+    }
+}

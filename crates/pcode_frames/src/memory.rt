@@ -1,0 +1,169 @@
+//! Memory: words that are live, and their bytes.
+ghost use Rattle.std.specs.Prelude.{◌≡◌, ◌+◌, ◌<◌, ◌≤◌, [], ◌∷◌, ◌++◌, IfOk, length, is_some, replicate, take};
+ghost use Rattle.pcode_frames.specs.Words.{word_at, with_word, half_of, with_half, byte_from, byte_at, with_byte_from, with_byte};
+
+use std::alloc::{AllocError, Global};
+use std::marker::Model;
+
+/// How many words of memory may be live.
+pub(crate) const LIVE_WORDS: usize = 16383;
+
+/// Memory, seen as the list of its live words from word 1 on; word 0 is never live. Its room is made
+/// with it, so that no other call takes memory. A new one has no live word: frames make words live.
+#[derive(Drop)]
+pub struct Memory {
+    words: Vec<u16>,
+}
+
+impl Model for Memory {
+    ghost use Rattle.std.specs.Prelude.{◌≤◌, ℕ, List, vec_len, vec_capacity};
+
+    ghost Value = { List ℕ };
+
+    ghost view = { λ m. m.words.items };
+
+    ghost invariant = { λ m. (vec_len m.words ≤ 16383) × (16383 ≤ vec_capacity m.words) };
+}
+
+/// The byte of a word at a byte address: an even address is the low byte.
+fn half_of(address: u32, word: u16) -> u8
+    ensures { result ≡ half_of address word }
+{
+    if address % 2 == 0 {
+        (word % 256) as u8
+    } else {
+        (word / 256) as u8
+    }
+}
+
+/// A word with the byte at a byte address replaced.
+fn with_half(address: u32, word: u16, byte: u8) -> u16
+    ensures { result ≡ with_half address word byte }
+{
+    if address % 2 == 0 {
+        word / 256 * 256 + u16::from(byte)
+    } else {
+        u16::from(byte) * 256 + word % 256
+    }
+}
+
+impl Memory {
+    /// A memory without a live word.
+    pub fn new(alloc: Global) -> Result<Memory, AllocError>
+        ensures { IfOk result (λ m. m ≡ []) }
+    {
+        let words = Vec::with_capacity(alloc, LIVE_WORDS)?;
+        Ok(Memory { words })
+    }
+
+    /// How many words are live, which is the address of the highest; at most 16,383.
+    pub fn top(&self) -> u16
+        ensures value { result ≡ length self.now }
+        ensures bound { result ≤ 16383 }
+    {
+        self.words.len() as u16
+    }
+
+    /// Makes the word above the live ones live, with this value.
+    pub(crate) fn push(&mut self, value: u16)
+        requires { length self.old < 16383 }
+        ensures { self.new ≡ self.old ++ value ∷ [] }
+    {
+        self.words.push(value).unwrap();
+    }
+
+    /// Makes this many words more live, all zero.
+    pub(crate) fn grow(&mut self, count: u16)
+        requires { length self.old + count ≤ 16383 }
+        ensures { self.new ≡ self.old ++ replicate count 0 }
+    {
+        for _ in 0..count {
+            self.words.push(0).unwrap();
+        }
+    }
+
+    /// Leaves only the words up to this address live.
+    pub(crate) fn lower(&mut self, top: u16)
+        ensures { self.new ≡ take top self.old }
+    {
+        self.words.truncate(usize::from(top));
+    }
+
+    /// The word at a word address, if it is live.
+    pub fn get(&self, word: u16) -> Option<u16>
+        ensures { result ≡ word_at self.now word }
+    {
+        let index = usize::from(word).checked_sub(1)?;
+        self.words.get(index).copied()
+    }
+
+    /// Stores to a word, and says whether it is live: if it is not, nothing changes.
+    pub fn put(&mut self, word: u16, value: u16) -> bool
+        ensures value { self.new ≡ with_word self.old word value }
+        ensures live { result ≡ is_some (word_at self.old word) }
+    {
+        if word == 0 {
+            return false;
+        }
+        match self.words.get_mut(usize::from(word) - 1) {
+            Some(place) => {
+                *place = value;
+                true
+            }
+            None => false,
+        }
+    }
+
+    /// The byte at a byte address that is not negative.
+    fn byte_from(&self, address: u32) -> Option<u8>
+        ensures { result ≡ byte_from self.now address }
+    {
+        if address < 2 {
+            return None;
+        }
+        let index = address as usize / 2 - 1;
+        let word = *self.words.get(index)?;
+        Some(half_of(address, word))
+    }
+
+    /// The byte at a byte address, if its word is live: the low byte of word k has address 2 * k, and
+    /// the high byte the next. An address is not taken modulo 65,536, and none that is negative is live.
+    pub fn get_byte(&self, address: i32) -> Option<u8>
+        ensures { result ≡ byte_at self.now address }
+    {
+        if address < 0 {
+            return None;
+        }
+        self.byte_from(address.unsigned_abs())
+    }
+
+    /// Stores a byte at a byte address that is not negative, and says whether its word is live.
+    fn put_byte_from(&mut self, address: u32, value: u8) -> bool
+        ensures value { self.new ≡ with_byte_from self.old address value }
+        ensures live { result ≡ is_some (byte_from self.old address) }
+    {
+        if address < 2 {
+            return false;
+        }
+        let index = address as usize / 2 - 1;
+        match self.words.get_mut(index) {
+            Some(word) => {
+                *word = with_half(address, *word, value);
+                true
+            }
+            None => false,
+        }
+    }
+
+    /// Stores a byte at a byte address, and says whether its word is live: if it is not, nothing
+    /// changes. The other byte of the word stays.
+    pub fn put_byte(&mut self, address: i32, value: u8) -> bool
+        ensures value { self.new ≡ with_byte self.old address value }
+        ensures live { result ≡ is_some (byte_at self.old address) }
+    {
+        if address < 0 {
+            return false;
+        }
+        self.put_byte_from(address.unsigned_abs(), value)
+    }
+}
