@@ -7,7 +7,7 @@ use Rattle.paxos_msg.specs.declared.ballot.Ballot.{Ballot}
 use Rattle.paxos_msg.specs.declared.value.Value.{Value}
 use Rattle.paxos_msg.specs.declared.value.Vote.{Vote}
 use Rattle.paxos_msg.specs.declared.record.Record.{Record}
-use Rattle.paxos_msg.specs.declared.record.Change.TheVariants.{Start, Promise, Ballotted}
+use Rattle.paxos_msg.specs.declared.record.Change.TheVariants.{Promise, Ballotted}
 use Rattle.paxos_msg.specs.Ballots.{IsAtMost}
 use Rattle.paxos_msg.specs.Fits.{IsBallot, IsPlace, IsValue, IsVote, AreVotes}
 use Rattle.paxos_msg.specs.Messages.{AreAbove, IsAscending}

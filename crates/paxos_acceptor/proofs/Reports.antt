@@ -1,6 +1,5 @@
 -- The part that an acceptor answers with reports its record.
-use Rattle.std.proofs.Common.{◌≡◌, ℕ, zero, suc, ◌+◌, ◌-◌, ◌<◌, ◌≤◌, nat_le, nat_lt, Bool, true, false, cond, if◌then◌else◌, List, [], ◌∷◌, length, get_or, take, slice_get, Option, Some, None, All, Contains, refl, sym, ap, ◌∙◌, arith}
-use Rattle.std.specs.Option.{option_map_or}
+use Rattle.std.proofs.Common.{◌≡◌, ℕ, zero, suc, ◌+◌, ◌-◌, ◌<◌, ◌≤◌, nat_le, nat_lt, Bool, true, false, cond, if◌then◌else◌, List, [], ◌∷◌, length, get_or, take, slice_get, Some, None, All, Contains, refl, sym, ap, ◌∙◌, arith}
 use Rattle.std.proofs.lemmas.Bool.{leb-true, ltb-true}
 use Rattle.std.proofs.lemmas.Bool.Decides.{nat_tests}
 use Rattle.std.proofs.lemmas.List.{get_or-take, length-take, take_all}
@@ -12,7 +11,7 @@ use Rattle.paxos_msg.specs.declared.value.Vote.{Vote}
 use Rattle.paxos_msg.specs.Messages.{AreAbove, IsAscending, vote_at}
 use Rattle.paxos_msg.specs.Sending.{IsReport}
 use Rattle.paxos_acceptor.specs.Answers.{behind_last, upto_of, votes_from}
-use Rattle.paxos_acceptor.proofs.Parts.{first_length, rise}
+use Rattle.paxos_acceptor.proofs.Parts.{rise}
 
 -- ---- the votes from a place on
 

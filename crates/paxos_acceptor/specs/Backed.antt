@@ -1,5 +1,5 @@
 -- When what was sent backs a record.
-use Rattle.std.specs.Prelude.{◌≡◌, ℕ, IfSome, IsSomeAnd, Contains}
+use Rattle.std.specs.Prelude.{ℕ, IfSome, IsSomeAnd}
 use Rattle.paxos_msg.specs.declared.value.Vote.{Vote}
 use Rattle.paxos_msg.specs.declared.record.Record.{Record}
 use Rattle.paxos_msg.specs.declared.message.Body.TheVariants.{Accept}

@@ -23,8 +23,8 @@ use std::mem;
 /// An acceptor over a store, whose record it keeps.
 #[derive(Drop)]
 pub struct Acceptor<S: Store> {
-    me: Me,
     record: Record,
+    me: Me,
     is_closed: bool,
     store: S,
     alloc: Global,
@@ -87,8 +87,8 @@ impl<S: Store> Acceptor<S> {
             });
         }
         Ok(Acceptor {
-            me,
             record: kept,
+            me,
             is_closed: false,
             store,
             alloc,

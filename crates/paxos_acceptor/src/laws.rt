@@ -11,6 +11,7 @@ ghost use Rattle.paxos_msg.specs.Records.{changed, empty_record, MaySave};
 ghost use Rattle.paxos_msg.specs.Sending.{MaySend};
 ghost use Rattle.paxos_acceptor.specs.Answers.{accept_of, after, prepare_of};
 ghost use Rattle.paxos_acceptor.specs.Backed.{IsBacked};
+ghost use Rattle.paxos_acceptor.specs.Records.{IsRecord};
 
 use paxos_msg::laws::votes_are_by_place;
 
@@ -21,11 +22,12 @@ pub fn backing()
     ensures start { (sent : Sent) (r : Record) → IsBacked sent r → IsBacked sent (changed r Start) }
 {}
 
-/// The answer to a Prepare may be sent over the record after its save, which may be saved and keeps the record backed.
+/// The answer to a Prepare may be sent over the record after its save, which may be saved and keeps the record backed. The
+/// record has to be in its ranges: a part that speaks of all places speaks of those below 65,536.
 pub fn promises_may_be_sent()
     ensures saves { (sent : Sent) (r : Record) (b : Ballot) (from : ℕ) → IfSome (prepare_of r b from).saves (MaySave sent r) }
     ensures sends { (size i from : ℕ) (typed : List Key) (learned : ℕ → Option Value) (sent : Sent) (r : Record) (b : Ballot) →
-        IsBacked sent r → MaySend size typed learned sent i (after r (prepare_of r b from).saves) (prepare_of r b from).says }
+        IsRecord size r → IsBacked sent r → MaySend size typed learned sent i (after r (prepare_of r b from).saves) (prepare_of r b from).says }
     ensures backed { (sent : Sent) (r : Record) (b : Ballot) (from : ℕ) → IsBacked sent r → IsBacked sent (after r (prepare_of r b from).saves) }
 {}
 

@@ -59,7 +59,7 @@ fn part_of(answer: Result<Body, AcceptorFault>) -> Option<(u32, u32, Votes)> {
 
 /// After 65 votes from place 0 on a promise has two parts.
 #[test]
-fn promises_in_parts(rt: HostRuntime) -> Result<(), Fail> {
+fn promise_bytes_and_parts(rt: HostRuntime) -> Result<(), Fail> {
     let mut votes = Vec::new(rt.alloc());
     for place in 0..65 {
         votes.push(vote_for_none(place, FIRST))?;
@@ -154,7 +154,7 @@ const BYTES: [u8; 42] = [
 
 /// A record has one spelling, and other bytes are of none.
 #[test]
-fn spells_a_record(rt: HostRuntime) -> Result<(), Fail> {
+fn record_bytes(rt: HostRuntime) -> Result<(), Fail> {
     let vote = Vote {
         place: 0,
         ballot: FIRST,

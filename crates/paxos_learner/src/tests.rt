@@ -26,7 +26,7 @@ fn told(alloc: Global) -> Result<(Learner, [u32; 3]), LearnerFault> {
 }
 
 #[test]
-fn front_waits_for_a_hole(rt: HostRuntime) -> Result<(), Fail> {
+fn console_and_learner_edges(rt: HostRuntime) -> Result<(), Fail> {
     let (learner, fronts) = told(rt.alloc())?;
     assert_eq!(rt; fronts, [0, 2, 3]);
     // The key stands at two places, and is read once.

@@ -130,7 +130,7 @@ fn worked_promises(rt: HostRuntime) -> Result<(), Fail> {
 }
 
 #[test]
-fn last_rounds_and_places(rt: HostRuntime) -> Result<(), Fail> {
+fn promise_bytes_and_parts(rt: HostRuntime) -> Result<(), Fail> {
     let low = Ballot { round: 1, node: 1 };
     let seen = Ballot { round: 4, node: 2 };
     let next = Ballot { round: 5, node: 3 };

@@ -1,5 +1,4 @@
-use Rattle.std.proofs.Common.{◌≡◌, rules, subst, sym}
-use Rattle.paxos_msg.specs.Messages.{IsAscending}
+use Rattle.std.proofs.Common.{◌≡◌, rules}
 use Rattle.paxos_msg.specs.Records.{with_vote}
 use Rattle.paxos_acceptor.proofs.Ranges.{no_greater, record_in_order, stored_in_order, vote_in_ranges}
 use Rattle.paxos_acceptor.proofs.acceptor.Acceptor.accept.Goals as goal

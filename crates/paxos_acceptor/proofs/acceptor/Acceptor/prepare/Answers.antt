@@ -1,5 +1,4 @@
-use Rattle.std.proofs.Common.{◌≤◌, All, rules, subst, sym}
-use Rattle.paxos_msg.specs.Messages.{IsAscending}
+use Rattle.std.proofs.Common.{rules}
 use Rattle.paxos_acceptor.proofs.Ranges.{no_greater, promise_in_ranges, record_in_order, record_within, stored_in_order}
 use Rattle.paxos_acceptor.proofs.acceptor.Acceptor.prepare.Goals as goal
 
