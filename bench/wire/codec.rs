@@ -147,8 +147,8 @@ impl<'a> Reader<'a> {
         }
     }
 
-    fn key(&mut self, size: u8) -> Result<Value, Fault> {
-        let node = self.node(size, Fault::Value)?;
+    /// The fields of a key behind its node.
+    fn key_of(&mut self, node: u8) -> Result<Value, Fault> {
         let start = self.count()?;
         let serial = self.count()?;
         let byte = self.byte()?;
@@ -158,6 +158,11 @@ impl<'a> Reader<'a> {
             serial,
             byte,
         })
+    }
+
+    fn key(&mut self, size: u8) -> Result<Value, Fault> {
+        let node = self.node(size, Fault::Value)?;
+        self.key_of(node)
     }
 
     fn value(&mut self, size: u8) -> Result<Value, Fault> {
@@ -176,15 +181,7 @@ impl<'a> Reader<'a> {
         if node != sender {
             return Err(Fault::Value);
         }
-        let start = self.count()?;
-        let serial = self.count()?;
-        let byte = self.byte()?;
-        Ok(Value::Key {
-            node,
-            start,
-            serial,
-            byte,
-        })
+        self.key_of(node)
     }
 
     fn promise(&mut self, size: u8) -> Result<Body<Lent<'a>>, Fault> {

@@ -122,6 +122,12 @@ fn put_header(kind: u8, sender: u8, group: Group, out: &mut Vec<u8>) {
     put_number(group.session, out);
 }
 
+fn put_proposal(ballot: Ballot, place: u32, value: Value, out: &mut Vec<u8>) {
+    put_ballot(ballot, out);
+    put_number(place, out);
+    put_value(value, out);
+}
+
 pub fn encode_into(message: &Message<Vec<Vote>>, group: Group, out: &mut Vec<u8>) {
     let sender = message.sender;
     match &message.body {
@@ -151,9 +157,7 @@ pub fn encode_into(message: &Message<Vec<Vote>>, group: Group, out: &mut Vec<u8>
             value,
         } => {
             put_header(3, sender, group, out);
-            put_ballot(*ballot, out);
-            put_number(*place, out);
-            put_value(*value, out);
+            put_proposal(*ballot, *place, *value, out);
         }
         Body::Accepted {
             ballot,
@@ -161,9 +165,7 @@ pub fn encode_into(message: &Message<Vec<Vote>>, group: Group, out: &mut Vec<u8>
             value,
         } => {
             put_header(4, sender, group, out);
-            put_ballot(*ballot, out);
-            put_number(*place, out);
-            put_value(*value, out);
+            put_proposal(*ballot, *place, *value, out);
         }
         Body::Refused { ballot, promised } => {
             put_header(5, sender, group, out);
