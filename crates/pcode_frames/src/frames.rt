@@ -44,19 +44,6 @@ fn take_parameters(memory: &mut Memory, stack: &mut Stack, params: u16)
     }
 }
 
-/// Pushes so many words above a word address, the highest first.
-fn push_results(memory: &Memory, stack: &mut Stack, base: u16, words: u16)
-    requires there { base + words ≤ length memory.now }
-    requires fits { base + words ≤ 16383 }
-    requires room { length stack.old + words ≤ 1024 }
-    ensures { stack.new ≡ take words (drop base memory.now) ++ stack.old }
-{
-    for pushed in 0..words {
-        let word = memory.get(base + (words - pushed)).unwrap();
-        stack.push(word).unwrap();
-    }
-}
-
 impl Frames {
     /// No frame.
     pub fn new(alloc: Global) -> Result<Frames, AllocError>
@@ -192,7 +179,7 @@ impl Frames {
         if stack.len() + usize::from(words) > STACK_WORDS {
             return Err(Halt::Overflow);
         }
-        push_results(memory, stack, frame.base, words);
+        memory.push_block(stack, frame.base + 1, words);
         memory.lower(frame.base);
         self.leave();
         Ok(frame)

@@ -12,7 +12,7 @@ pub(crate) const LIVE_WORDS: usize = 16383;
 /// with it, so that no other call takes memory. A new one has no live word: frames make words live.
 #[derive(Drop)]
 pub struct Memory {
-    words: Vec<u16>,
+    pub(crate) words: Vec<u16>,
 }
 
 impl Model for Memory {

@@ -1,5 +1,5 @@
 //! The evaluation stack.
-ghost use Rattle.std.specs.Prelude.{◌≡◌, ◌<◌, ◌≤◌, [], ◌∷◌, IfOk, IfErr, OnOk, OnErr, length};
+ghost use Rattle.std.specs.Prelude.{◌≡◌, ◌<◌, ◌≤◌, [], ◌∷◌, IfOk, IfErr, OnOk, OnErr, length, slice_get};
 ghost use Rattle.pcode_frames.specs.declared.halt.Halt.TheVariants.{Empty, Overflow};
 
 use crate::halt::Halt;
@@ -36,6 +36,7 @@ impl Stack {
     }
 
     /// How many words it holds.
+    #[inline(always)]
     pub fn len(&self) -> usize
         ensures value { result ≡ length self.now }
         ensures bound { result ≤ 1024 }
@@ -43,7 +44,15 @@ impl Stack {
         self.words.len()
     }
 
+    /// The word so many below the top, if there is one; the top has depth 0.
+    pub fn get(&self, depth: u16) -> Option<u16>
+        ensures { result ≡ slice_get self.now depth }
+    {
+        self.words.iter().rev().nth(usize::from(depth)).copied()
+    }
+
     /// Puts a word on top. With 1,024 words it refuses by `Halt::Overflow`, and changes nothing.
+    #[inline(always)]
     pub fn push(&mut self, word: u16) -> Result<(), Halt>
         ensures pushed { OnOk result (self.new ≡ word ∷ self.old) }
         ensures room { OnOk result (length self.old < 1024) }
@@ -58,6 +67,7 @@ impl Stack {
     }
 
     /// Takes the top word off. Where there is none it refuses by `Halt::Empty`, and changes nothing.
+    #[inline(always)]
     pub fn pop(&mut self) -> Result<u16, Halt>
         ensures popped { IfOk result (λ word. self.old ≡ word ∷ self.new) }
         ensures empty { IfErr result (λ h. (h ≡ Empty) × (length self.old ≡ 0)) }

@@ -1,115 +1,106 @@
--- Instructions as relations and as functions.
-use Rattle.std.proofs.Common.{◌⊎◌, ◌≡◌, ◌≢◌, ℕ, ◌<◌, ◌≤◌, Bool, true, false, cond, ltb, List, [], ◌∷◌, length, Option, Some, None, is_some, IsNone, Result, Ok, Err, MatchResult, refl, sym, ◌∙◌, arith, inl, inr}
-use Rattle.std.proofs.lemmas.Bool.{ltb-true, ltb-false, lt-ltb, le-ltb}
+-- The function of an instruction and its relations agree.
+use Rattle.std.proofs.Common.{◌≡◌, ℕ, ◌+◌, ltb, length, Option, Some, MatchOption, Result, Ok, Err, slice_get, refl}
+use Rattle.pcode_file.specs.Parts.{Parts}
 use Rattle.pcode_ops.specs.declared.instr.Instr.{Instr}
-use Rattle.pcode_ops.specs.declared.instr.Instr.TheVariants.{Sldc, Sro, Lao, Csp, Rbp}
-use Rattle.pcode_ops.specs.declared.instr.StandardProcedure.TheVariants.{UnitWrite}
-use Rattle.pcode_machine.specs.declared.turn.Direction.{Direction}
-use Rattle.pcode_machine.specs.declared.turn.Direction.TheVariants.{Writing}
+use Rattle.pcode_frames.specs.declared.frame.Frame.{Frame}
+use Rattle.pcode_frames.specs.Words.{word_at}
 use Rattle.pcode_machine.specs.declared.turn.Stop.{Stop}
-use Rattle.pcode_machine.specs.declared.turn.Stop.TheVariants.{Normal, Error}
-use Rattle.pcode_frames.specs.Words.{word_at, with_word}
+use Rattle.pcode_machine.specs.declared.turn.Stop.TheVariants.{Error}
 use Rattle.pcode_machine.specs.Configuration.{State}
-use Rattle.pcode_machine.specs.Loads.{pushed, address_of}
-use Rattle.pcode_machine.specs.Stores.{stored}
-use Rattle.pcode_machine.specs.Transfers.{called}
-use Rattle.pcode_machine.specs.Execute.{execute}
-use Rattle.pcode_machine.specs.Step.{Pushes, Stores, Calls, Executes, FailsWith}
+use Rattle.pcode_machine.specs.Effects.{Effect, Push, Load, Store, Fetch, StoreAt, MoveBlock, LoadBlock, StoreBlock, LoadByte, StoreByte, Replace, Combine, Check, Go, Branch, BranchByTwo, Call, Return, Begin, Fail, Finish, Nowhere, effect_of}
+use Rattle.pcode_machine.specs.Execute.{made, execute}
+use Rattle.pcode_machine.specs.Step.{Makes, Executes, FailsBy, FailsWith}
+use Rattle.pcode_machine.proofs.Agreeing.{Stopped, Agrees, Meets}
+use Rattle.pcode_machine.proofs.RelatedWords.{push_holds, push_goes, push_fails, load_holds, load_fails, store_holds, store_fails, fetch_holds, fetch_fails, store_at_holds, store_at_fails}
+use Rattle.pcode_machine.proofs.RelatedBlocks.{move_holds, move_fails, load_block_holds, load_block_goes, load_block_fails, store_block_holds, store_block_fails, load_byte_holds, load_byte_fails, store_byte_holds, store_byte_fails}
+use Rattle.pcode_machine.proofs.RelatedValues.{replace_holds, replace_fails, combine_holds, combine_fails, check_holds, check_fails, branch_holds, branch_fails, branch_two_holds, branch_two_fails}
+use Rattle.pcode_machine.proofs.RelatedCalls.{enter_by, enter_goes, enter_fails, leave_by, leave_goes, leave_fails, begin_holds, begin_fails}
 
--- ---- answers and relations
+-- an effect that is made meets its relation
+abbrev IsMet : Effect → ℕ → State → Option (Result State Stop) → Type 0
+IsMet x j s o = MatchOption o (Unit {0}) (λ r. Meets x j s r)
 
--- why an answer stops: N at the normal end, F of the number of an error
-abbrev pub Stopped : Type 0 → (ℕ → Type 0) → Stop → Type 0
-Stopped N F Normal = N
-Stopped N F (Error e) = F e
+holds : (x : Effect) (j : ℕ) (s : State) → IsMet x j s (made x j s)
+holds (Push n) j s = push_holds n j s (ltb (length s.stack) 1024) refl
+holds (Load n) j s = load_holds n j s (word_at s.words n) refl
+holds (Store n) j s = store_holds n j s s.stack refl
+holds (Fetch n) j s = fetch_holds n j s s.stack refl
+holds StoreAt j s = store_at_holds j s s.stack refl
+holds (MoveBlock n) j s = move_holds n j s s.stack refl
+holds (LoadBlock n) j s = load_block_holds n j s s.stack refl
+holds (StoreBlock n) j s = store_block_holds n j s (slice_get s.stack n) refl
+holds LoadByte j s = load_byte_holds j s s.stack refl
+holds StoreByte j s = store_byte_holds j s s.stack refl
+holds (Replace f) j s = replace_holds f j s s.stack refl
+holds (Combine f) j s = combine_holds f j s s.stack refl
+holds Check j s = check_holds j s s.stack refl
+holds (Go offset) j s = refl
+holds (Branch to) j s = branch_holds to j s s.stack refl
+holds (BranchByTwo to) j s = branch_two_holds to j s s.stack refl
+holds (Call n q k) j s = enter_by n q k j s (ltb (length s.stack) q.params) (ltb 1023 (length s.frames)) (ltb 16383 (length s.words + (q.params + q.vars))) refl refl refl
+holds (Return n f) j s = leave_by n f j s (ltb (length s.words) (f.base + n)) (ltb 1024 (length s.stack + n)) refl refl
+holds (Begin d) j s = begin_holds d j s s.stack refl
+holds (Fail n) j s = refl
+holds Finish j s = refl
+holds Nowhere j s = tt
 
--- An answer agrees with its relations: A holds of the state that it gives and of no other, and where it stops
--- N or F holds, F of no other number. Each form of instruction has a lemma that says so, and each instruction
--- a line below that names its form; what has no line is not executed yet.
-pub record Agrees (N : Type 0) (A : State → Type 0) (F : ℕ → Type 0) (r : Result State Stop) : Type 0 where
-  pub holds : MatchResult r A (Stopped N F)
-  pub goes : (t : State) → A t → r ≡ Ok t
-  pub fails : (e : ℕ) → F e → r ≡ Err (Error e)
+-- an answer, where one is made
+some_is : (r q : Result State Stop) → r ≡ q → Some r ≡ Some q
+some_is r q e = rw e refl
 
--- what is not executed yet
-unexecuted_agrees : {N : Type 0} → Agrees N (λ t. ⊥) (λ e. e ≡ 11) (Err (Error 11))
-unexecuted_agrees = record { holds = refl; goes = λ t h. absurd h; fails = λ e h. rw h refl }
+goes : (x : Effect) (j : ℕ) (s t : State) → Makes x j s t → made x j s ≡ Some (Ok t)
+goes (Push n) j s t h = some_is _ _ (push_goes n j s t h)
+goes (Load n) j s t h = rw (h.1, push_goes h.0 j s t h.2) refl
+goes (Store n) j s t h = rw (h.2, h.3, h.4) refl
+goes (Fetch n) j s t h = rw (h.3, h.4, h.5) refl
+goes StoreAt j s t h = rw (h.3, h.4, h.5) refl
+goes (MoveBlock n) j s t h = rw (h.3, h.4, h.5, h.6) refl
+goes (LoadBlock n) j s t h = some_is _ _ (load_block_goes n j h.0 s t h.1 h.2 h.3 h.4 h.5)
+goes (StoreBlock n) j s t h = rw (h.1, h.2, h.3) refl
+goes LoadByte j s t h = rw (h.4, h.5, h.6) refl
+goes StoreByte j s t h = rw (h.4, h.5, h.6) refl
+goes (Replace f) j s t h = rw (h.2, h.3) refl
+goes (Combine f) j s t h = rw (h.4, h.5, h.6) refl
+goes Check j s t h = rw (h.5, h.6, h.7) refl
+goes (Go offset) j s t h = rw h refl
+goes (Branch to) j s t h = rw (h.2, h.3) refl
+goes (BranchByTwo to) j s t h = rw (h.3, h.4) refl
+goes (Call n q k) j s t h = some_is _ _ (enter_goes n q k j s t h)
+goes (Return n f) j s t h = some_is _ _ (leave_goes n f s t h)
+goes (Begin d) j s t h = rw (h.7, h.8) refl
+goes (Fail n) j s t h = absurd h
+goes Finish j s t h = absurd h
+goes Nowhere j s t h = absurd h
 
--- ---- a push, which needs room
+fails : (x : Effect) (j e : ℕ) (s : State) → FailsBy x s e → made x j s ≡ Some (Err (Error e))
+fails (Push n) j e s h = some_is _ _ (rw h.0 (push_fails n j s h.1))
+fails (Load n) j e s h = some_is _ _ (load_fails n j e s (word_at s.words n) refl h)
+fails (Store n) j e s h = some_is _ _ (store_fails n j e s s.stack refl h)
+fails (Fetch n) j e s h = some_is _ _ (fetch_fails n j e s h)
+fails StoreAt j e s h = some_is _ _ (store_at_fails j e s h)
+fails (MoveBlock n) j e s h = some_is _ _ (move_fails n j e s h)
+fails (LoadBlock n) j e s h = some_is _ _ (load_block_fails n j e s h)
+fails (StoreBlock n) j e s h = some_is _ _ (store_block_fails n j e s h)
+fails LoadByte j e s h = some_is _ _ (load_byte_fails j e s h)
+fails StoreByte j e s h = some_is _ _ (store_byte_fails j e s h)
+fails (Replace f) j e s h = some_is _ _ (replace_fails f j e s h)
+fails (Combine f) j e s h = some_is _ _ (combine_fails f j e s h)
+fails Check j e s h = some_is _ _ (check_fails j e s h)
+fails (Go offset) j e s h = absurd h
+fails (Branch to) j e s h = some_is _ _ (branch_fails to e s h)
+fails (BranchByTwo to) j e s h = some_is _ _ (branch_two_fails to e s h)
+fails (Call n q k) j e s h = some_is _ _ (enter_fails n q k j e s h)
+fails (Return n f) j e s h = some_is _ _ (leave_fails n f j e s h)
+fails (Begin d) j e s h = some_is _ _ (rw h.0 (begin_fails d j s s.stack h.1))
+fails (Fail n) j e s h = rw h refl
+fails Finish j e s h = absurd h
+fails Nowhere j e s h = absurd h
 
-abbrev IsFull : State → ℕ → Type 0
-IsFull s e = (e ≡ 4) × (1024 ≤ length s.stack)
+-- why an instruction stops: it is RBP, or by its error
+abbrev pub Fails : Parts → Frame → Instr → ℕ → State → Stop → Type 0
+Fails p f i j s = Stopped (effect_of p f i j s ≡ Finish) (FailsWith p f i j s)
 
-push_holds : (N : Type 0) (w j : ℕ) (s : State) (b : Bool) → ltb (length s.stack) 1024 ≡ b
-    → MatchResult (cond b (Ok (record s { stack = w ∷ s.stack; next = j })) (Err (Error 4))) (Pushes w j s) (Stopped N (IsFull s))
-push_holds N w j s true e = (ltb-true (length s.stack) 1024 e, refl)
-push_holds N w j s false e = (refl, ltb-false (length s.stack) 1024 e)
-
-push_agrees : {N : Type 0} (w j : ℕ) (s : State) → Agrees N (Pushes w j s) (IsFull s) (pushed w j s)
-push_agrees w j s = record {
-  holds = push_holds _ w j s _ refl;
-  goes = λ t h. rw (lt-ltb (length s.stack) 1024 h.0, h.1) refl;
-  fails = λ e h. let no : ltb (length s.stack) 1024 ≡ false = le-ltb (length s.stack) 1024 h.1 in rw (no, h.0) refl;
-}
-
--- ---- a store, which needs a word to pop and a live word
-
-abbrev IsUnstored : ℕ → State → ℕ → Type 0
-IsUnstored w s e = ((e ≡ 0) × (s.stack ≡ [])) ⊎ ((e ≡ 7) × (s.stack ≢ []) × IsNone (word_at s.words w))
-
-store_at : (N : Type 0) (w j v : ℕ) (s : State) (rest : List ℕ) (o : Option ℕ) → s.stack ≡ v ∷ rest → word_at s.words w ≡ o
-    → MatchResult (cond (is_some o) (Ok (record s { words = with_word s.words w v; stack = rest; next = j })) (Err (Error 7))) (Stores w j s) (Stopped N (IsUnstored w s))
-store_at N w j v s rest None e f = inr (refl, (λ none. let both : v ∷ rest ≡ [] = sym e ∙ none in cc), rw f refl)
-store_at N w j v s rest (Some x) e f = (v, rest, e, rw f refl, refl)
-
-store_holds : (N : Type 0) (w j : ℕ) (s : State) (st : List ℕ) → s.stack ≡ st → MatchResult (stored w j s st) (Stores w j s) (Stopped N (IsUnstored w s))
-store_holds N w j s [] e = inl (refl, e)
-store_holds N w j s (v ∷ rest) e = store_at N w j v s rest (word_at s.words w) e refl
-
-store_fails : (w j e : ℕ) (s : State) (st : List ℕ) → s.stack ≡ st → IsUnstored w s e → stored w j s st ≡ Err (Error e)
-store_fails w j e s [] same (inl h) = rw h.0 refl
-store_fails w j e s [] same (inr h) = absurd (h.1 same)
-store_fails w j e s (v ∷ rest) same (inl h) = absurd (let both : v ∷ rest ≡ [] = sym same ∙ h.1 in cc)
-store_fails w j e s (v ∷ rest) same (inr h) = rw (h.2, h.0) refl
-
-store_agrees : {N : Type 0} (w j : ℕ) (s : State) → Agrees N (Stores w j s) (IsUnstored w s) (stored w j s s.stack)
-store_agrees w j s = record {
-  holds = store_holds _ w j s s.stack refl;
-  goes = λ t h. rw (h.2, h.3, h.4) refl;
-  fails = λ e h. store_fails w j e s s.stack refl h;
-}
-
--- ---- a call that begins a transfer, which needs six words to pop
-
-abbrev IsShort : State → ℕ → Type 0
-IsShort s e = (e ≡ 0) × (length s.stack < 6)
-
-call_holds : (N : Type 0) (d : Direction) (j : ℕ) (s : State) (st : List ℕ) → s.stack ≡ st → MatchResult (called d j s st) (Calls d j s) (Stopped N (IsShort s))
-call_holds N d j s (a ∷ b ∷ c ∷ e ∷ f ∷ g ∷ rest) h = (a, b, c, e, f, g, rest, h, refl)
-call_holds N d j s _ h = (refl, rw h (omega arith))
-
-call_fails : (d : Direction) (j : ℕ) (s : State) (st : List ℕ) → length st < 6 → called d j s st ≡ Err (Error 0)
-call_fails d j s (a ∷ b ∷ c ∷ e ∷ f ∷ g ∷ rest) h = absurd (omega arith)
-call_fails d j s _ h = refl
-
-call_agrees : {N : Type 0} (d : Direction) (j : ℕ) (s : State) → Agrees N (Calls d j s) (IsShort s) (called d j s s.stack)
-call_agrees d j s = record {
-  holds = call_holds _ d j s s.stack refl;
-  goes = λ t h. rw (h.7, h.8) refl;
-  fails = λ e h. rw h.0 (call_fails d j s s.stack h.1);
-}
-
--- ---- instructions
-
--- what the function answers for an instruction agrees with its relations; RBP alone is the normal end
-pub execute_agrees : (i : Instr) (j : ℕ) (s : State) → Agrees ((n : ℕ) × (i ≡ Rbp n)) (Executes i j s) (FailsWith i s) (execute i j s)
-execute_agrees (Sldc n) j s = push_agrees n j s
-execute_agrees (Sro n) j s = store_agrees n j s
-execute_agrees (Lao n) j s = push_agrees (address_of n) j s
-execute_agrees (Csp UnitWrite) j s = call_agrees Writing j s
-execute_agrees (Rbp n) j s = record { holds = (n, refl); goes = λ t h. absurd h; fails = λ e h. absurd h }
-execute_agrees _ j s = unexecuted_agrees
-
--- why an instruction stops: RBP, or its error
-abbrev pub Fails : Instr → State → Stop → Type 0
-Fails i s = Stopped ((n : ℕ) × (i ≡ Rbp n)) (FailsWith i s)
+-- what the function answers for an instruction agrees with its relations
+pub execute_agrees : (p : Parts) (f : Frame) (i : Instr) (j : ℕ) (s : State)
+    → Agrees (effect_of p f i j s ≡ Finish) (Executes p f i j s) (FailsWith p f i j s) (execute p f i j s)
+execute_agrees p f i j s = record { holds = holds (effect_of p f i j s) j s; goes = goes (effect_of p f i j s) j s; fails = λ e. fails (effect_of p f i j s) j e s }

@@ -1,5 +1,5 @@
 -- A step as a relation is a step of the function.
-use Rattle.std.proofs.Common.{◌≡◌, ◌↔◌, ℕ, List, Option, Some, None, slice_get, Result, Ok, Err, MatchResult, refl, sym, subst}
+use Rattle.std.proofs.Common.{◌≡◌, ◌↔◌, ℕ, List, Option, Some, None, slice_get, MatchOption, Result, Ok, Err, MatchResult, refl, sym, subst}
 use Rattle.pcode_file.specs.Parts.{Parts}
 use Rattle.pcode_ops.specs.declared.instr.Instr.{Instr}
 use Rattle.pcode_ops.specs.declared.fault.OpFault.{OpFault}
@@ -30,12 +30,12 @@ moves_is : (dir : Direction) (x : List ℕ) (c : Configuration) (f : Frame) (t :
 moves_is Writing x c f t d h = rw (h.1, h.2) refl
 moves_is Reading x c f t d h = rw (h.2, h.3, h.4) refl
 
-acts_is : (p : Parts) → Decodes p.segment → (x : List ℕ) (c : Configuration) (f : Frame) (o : Option Transfer) (d : Configuration) → Acts p x c o d → pending p x c f o ≡ Goes d
-acts_is p known x c f None d h = rw ((known c.state.next h.0 h.1).1 h.3, (execute_agrees h.0 h.1 c.state).goes h.2 h.4, h.5) refl
+acts_is : (p : Parts) → Decodes p.segment → (x : List ℕ) (c : Configuration) (f : Frame) (o : Option Transfer) (d : Configuration) → Acts p x c f o d → pending p x c f o ≡ Goes d
+acts_is p known x c f None d h = rw ((known c.state.next h.0 h.1).1 h.3, (execute_agrees p f h.0 h.1 c.state).goes h.2 h.4, h.5) refl
 acts_is p known x c f (Some t) d h = moves_is t.direction x c f t d h
 
 step_in : (p : Parts) → Decodes p.segment → (x : List ℕ) (c : Configuration) (o : Option Frame) (f : Frame) (d : Configuration) → o ≡ Some f
-    → Acts p x c c.state.transfer d → in_frame p x c o ≡ Goes d
+    → Acts p x c f c.state.transfer d → in_frame p x c o ≡ Goes d
 step_in p known x c o f d e h = rw e (acts_is p known x c f c.state.transfer d h)
 
 pub step_is : (p : Parts) → Decodes p.segment → (x : List ℕ) (c d : Configuration) → Step p x c d → outcome p x c ≡ Goes d
@@ -43,16 +43,16 @@ step_is p known x c d h = step_in p known x c (current_of c.state.frames) h.0 d 
 
 -- ---- an end by the relation is the end of the function
 
-instruction_stops : (c : Configuration) (f : Frame) (i : Instr) (j : ℕ) (e : End) → StopsBy c f i e → after_effect c f (execute i j c.state) ≡ Stops e
-instruction_stops c f i j ends.Normal h = rw h.1 refl
-instruction_stops c f i j (ends.Error n procedure at) h = rw ((execute_agrees i j c.state).fails n h.0, h.1, h.2) refl
+instruction_stops : (p : Parts) (c : Configuration) (f : Frame) (i : Instr) (j : ℕ) (e : End) → StopsBy p c f i j e → after_effect c f (execute p f i j c.state) ≡ Stops e
+instruction_stops p c f i j ends.Normal h = rw h refl
+instruction_stops p c f i j (ends.Error n procedure at) h = rw ((execute_agrees p f i j c.state).fails n h.0, h.1, h.2) refl
 
 moved_stops : (dir : Direction) (x : List ℕ) (c : Configuration) (f : Frame) (t : Transfer) → byte_at c.state.words t.address ≡ None → moved dir x c f t ≡ Stops (ends.Error 7 f.procedure t.at)
 moved_stops Writing x c f t h = rw h refl
 moved_stops Reading x c f t h = rw h refl
 
 pending_stops : (p : Parts) → Decodes p.segment → (x : List ℕ) (c : Configuration) (f : Frame) (o : Option Transfer) (e : End) → StopsIn p c f o e → pending p x c f o ≡ Stops e
-pending_stops p known x c f None e h = rw ((known c.state.next h.0 h.1).1 h.2) (instruction_stops c f h.0 h.1 e h.3)
+pending_stops p known x c f None e h = rw ((known c.state.next h.0 h.1).1 h.2) (instruction_stops p c f h.0 h.1 e h.3)
 pending_stops p known x c f (Some t) e h = rw h.1 (moved_stops t.direction x c f t h.0)
 
 frame_stops : (p : Parts) → Decodes p.segment → (x : List ℕ) (c : Configuration) (o : Option Frame) (e : End) → EndsIn p c o e → in_frame p x c o ≡ Stops e
@@ -66,7 +66,7 @@ end_is p known x c e h = frame_stops p known x c (current_of c.state.frames) e h
 
 -- what comes of a configuration in a frame, as the relations say it
 abbrev Meets : Parts → List ℕ → Configuration → Frame → Option Transfer → Outcome → Type 0
-Meets p x c f o (Goes d) = Acts p x c o d
+Meets p x c f o (Goes d) = Acts p x c f o d
 Meets p x c f o (Stops e) = StopsIn p c f o e
 Meets p x c f o Waiting = Unit {0}
 Meets p x c f o Stuck = Unit {0}
@@ -90,17 +90,18 @@ moved_meets : (p : Parts) (x : List ℕ) (c : Configuration) (f : Frame) (t : Tr
 moved_meets p x c f t Writing w = write_meets p x c f t (byte_at c.state.words t.address) w refl
 moved_meets p x c f t Reading w = read_meets p x c f t (byte_at c.state.words t.address) w refl
 
-effect_meets : (p : Parts) (x : List ℕ) (c : Configuration) (f : Frame) (i : Instr) (j : ℕ) (r : Result State Stop) → At p.segment c.state.next i j
-    → MatchResult r (Executes i j c.state) (Fails i c.state) → Meets p x c f None (after_effect c f r)
-effect_meets p x c f i j (Ok s) at h = (i, j, s, at, h, refl)
-effect_meets p x c f i j (Err Normal) at h = (i, j, at, h)
-effect_meets p x c f i j (Err (Error n)) at h = (i, j, at, (h, refl, refl))
+effect_meets : (p : Parts) (x : List ℕ) (c : Configuration) (f : Frame) (i : Instr) (j : ℕ) (o : Option (Result State Stop)) → At p.segment c.state.next i j
+    → MatchOption o (Unit {0}) (λ r. MatchResult r (Executes p f i j c.state) (Fails p f i j c.state)) → Meets p x c f None (after_effect c f o)
+effect_meets p x c f i j None at h = tt
+effect_meets p x c f i j (Some (Ok s)) at h = (i, j, s, at, h, refl)
+effect_meets p x c f i j (Some (Err Normal)) at h = (i, j, at, h)
+effect_meets p x c f i j (Some (Err (Error n))) at h = (i, j, at, (h, refl, refl))
 
 instruction_meets : (p : Parts) → Decodes p.segment → (x : List ℕ) (c : Configuration) (f : Frame) (r : Result (Instr × ℕ) OpFault) → instr_at p.segment c.state.next ≡ r
-    → Meets p x c f None (decoded c f r)
+    → Meets p x c f None (decoded p c f r)
 instruction_meets p known x c f (Err fault) e = tt
 instruction_meets p known x c f (Ok found) e =
-    effect_meets p x c f found.0 found.1 (execute found.0 found.1 c.state) ((known c.state.next found.0 found.1).0 e) (execute_agrees found.0 found.1 c.state).holds
+    effect_meets p x c f found.0 found.1 (execute p f found.0 found.1 c.state) ((known c.state.next found.0 found.1).0 e) (execute_agrees p f found.0 found.1 c.state).holds
 
 pending_meets : (p : Parts) → Decodes p.segment → (x : List ℕ) (c : Configuration) (f : Frame) (o : Option Transfer) → Meets p x c f o (pending p x c f o)
 pending_meets p known x c f None = instruction_meets p known x c f (instr_at p.segment c.state.next) refl
@@ -108,7 +109,7 @@ pending_meets p known x c f (Some t) = moved_meets p x c f t t.direction refl
 
 -- the same with the current frame
 abbrev MeetsIn : Parts → List ℕ → Configuration → Option Frame → Outcome → Type 0
-MeetsIn p x c o (Goes d) = (f : Frame) × (o ≡ Some f) × Acts p x c c.state.transfer d
+MeetsIn p x c o (Goes d) = (f : Frame) × (o ≡ Some f) × Acts p x c f c.state.transfer d
 MeetsIn p x c o (Stops e) = EndsIn p c o e
 MeetsIn p x c o Waiting = Unit {0}
 MeetsIn p x c o Stuck = Unit {0}

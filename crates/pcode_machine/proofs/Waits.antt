@@ -37,13 +37,14 @@ write_never_waits : (c : Configuration) (t : Transfer) (o : Option ℕ) (e : End
 write_never_waits c t None e w = cc
 write_never_waits c t (Some v) e w = cc
 
-effect_never_waits : (c : Configuration) (f : Frame) (r : Result State Stop) → after_effect c f r ≡ Waiting → ⊥
-effect_never_waits c f (Ok s) w = cc
-effect_never_waits c f (Err stop) w = cc
+effect_never_waits : (c : Configuration) (f : Frame) (o : Option (Result State Stop)) → after_effect c f o ≡ Waiting → ⊥
+effect_never_waits c f None w = cc
+effect_never_waits c f (Some (Ok s)) w = cc
+effect_never_waits c f (Some (Err stop)) w = cc
 
-instruction_never_waits : (c : Configuration) (f : Frame) (r : Result (Instr × ℕ) OpFault) → decoded c f r ≡ Waiting → ⊥
-instruction_never_waits c f (Err fault) w = cc
-instruction_never_waits c f (Ok found) w = effect_never_waits c f (execute found.0 found.1 c.state) w
+instruction_never_waits : (p : Parts) (c : Configuration) (f : Frame) (r : Result (Instr × ℕ) OpFault) → decoded p c f r ≡ Waiting → ⊥
+instruction_never_waits p c f (Err fault) w = cc
+instruction_never_waits p c f (Ok found) w = effect_never_waits c f (execute p f found.0 found.1 c.state) w
 
 -- ---- the same for a byte of a transfer, for what is pending, with a frame, and for the whole step
 
@@ -54,7 +55,7 @@ moved_next Reading x b c f t r w = read_next x b c t (byte_at c.state.words t.ad
 
 pending_next : (p : Parts) (x : List ℕ) (b : ℕ) (c : Configuration) (f : Frame) (t : Option Transfer) → c.read ≡ length x
     → pending p x c f t ≡ Waiting → (e : Configuration) × (pending p (x ++ b ∷ []) c f t ≡ Goes e) × (e.read ≡ c.read + 1)
-pending_next p x b c f None r w = absurd (instruction_never_waits c f (instr_at p.segment c.state.next) w)
+pending_next p x b c f None r w = absurd (instruction_never_waits p c f (instr_at p.segment c.state.next) w)
 pending_next p x b c f (Some t) r w = moved_next t.direction x b c f t r w
 
 frame_next : (p : Parts) (x : List ℕ) (b : ℕ) (c : Configuration) (o : Option Frame) → c.read ≡ length x

@@ -1,5 +1,6 @@
--- Instructions that push a word: SLDC, LAO.
-use Rattle.std.specs.Prelude.{ℕ, ◌*◌, ◌%◌, nat_lt, if◌then◌else◌, ◌∷◌, length, Result, Ok, Err}
+-- Instructions that push a word: constants, words of frames, and pointers to them.
+use Rattle.std.specs.Prelude.{ℕ, ◌*◌, ◌%◌, nat_lt, if◌then◌else◌, ◌∷◌, length, Option, Some, None, Result, Ok, Err}
+use Rattle.pcode_frames.specs.Words.{word_at}
 use Rattle.pcode_machine.specs.declared.turn.Stop.{Stop}
 use Rattle.pcode_machine.specs.declared.turn.Stop.TheVariants.{Error}
 use Rattle.pcode_machine.specs.Configuration.{State}
@@ -8,6 +9,15 @@ use Rattle.pcode_machine.specs.Configuration.{State}
 abbrev pub pushed : ℕ → ℕ → State → Result State Stop
 pushed word j s = if nat_lt (length s.stack) 1024 then Ok (record s { stack = word ∷ s.stack; next = j }) else Err (Error 4)
 
--- the address of word n of the main frame, whose base is 0: twice the word, modulo 65,536
+-- the address of a word, in bytes: twice the word, modulo 65,536
 abbrev pub address_of : ℕ → ℕ
 address_of n = 2 * n % 65536
+
+-- the word is pushed, if it is live
+abbrev pub loaded_by : Option ℕ → ℕ → State → Result State Stop
+loaded_by None j s = Err (Error 7)
+loaded_by (Some v) j s = pushed v j s
+
+-- the word at a word address is pushed
+abbrev pub loaded : ℕ → ℕ → State → Result State Stop
+loaded word j s = loaded_by (word_at s.words word) j s

@@ -17,7 +17,8 @@ use Rattle.pcode_machine.specs.Configuration.{State, Configuration, current_of}
 use Rattle.pcode_machine.specs.Transfers.{later}
 use Rattle.pcode_machine.specs.Execute.{execute}
 
--- Another configuration, an end, a wait for input, or nothing that is stated: no instruction stands there.
+-- Another configuration, an end, a wait for input, or nothing that is stated: no instruction stands there, or what it names is
+-- not there.
 pub data Outcome : Type 0 where
   Goes : Configuration → Outcome
   Stops : End → Outcome
@@ -56,16 +57,17 @@ abbrev pub end_by : Stop → Frame → ℕ → End
 end_by Normal f at = ends.Normal
 end_by (Error n) f at = ends.Error n f.procedure at
 
-abbrev pub after_effect : Configuration → Frame → Result State Stop → Outcome
-after_effect c f (Ok s) = Goes (record c { state = s })
-after_effect c f (Err stop) = Stops (end_by stop f c.state.next)
+abbrev pub after_effect : Configuration → Frame → Option (Result State Stop) → Outcome
+after_effect c f (Some (Ok s)) = Goes (record c { state = s })
+after_effect c f (Some (Err stop)) = Stops (end_by stop f c.state.next)
+after_effect c f None = Stuck
 
-abbrev pub decoded : Configuration → Frame → Result (Instr × ℕ) OpFault → Outcome
-decoded c f (Ok found) = after_effect c f (execute found.0 found.1 c.state)
-decoded c f (Err fault) = Stuck
+abbrev pub decoded : Parts → Configuration → Frame → Result (Instr × ℕ) OpFault → Outcome
+decoded p c f (Ok found) = after_effect c f (execute p f found.0 found.1 c.state)
+decoded p c f (Err fault) = Stuck
 
 abbrev pub instructed : Parts → Configuration → Frame → Outcome
-instructed p c f = decoded c f (instr_at p.segment c.state.next)
+instructed p c f = decoded p c f (instr_at p.segment c.state.next)
 
 -- ---- a step on a whole input x
 

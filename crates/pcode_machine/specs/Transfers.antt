@@ -1,11 +1,11 @@
 -- Transfers between memory and a unit: the call that begins one, and each byte.
 use Rattle.std.specs.Prelude.{ℕ, ◌-◌, nat_lt, ◌==◌, ◌||◌, if◌then◌else◌, Bool, List, ◌∷◌, Option, Some, None, Result, Ok, Err, pos, ◌+ℤ◌}
-use Rattle.std.specs.Int.{w16, cast_signed}
 use Rattle.pcode_machine.specs.declared.turn.Direction.{Direction}
 use Rattle.pcode_machine.specs.declared.turn.Transfer.{Transfer}
 use Rattle.pcode_machine.specs.declared.turn.Stop.{Stop}
 use Rattle.pcode_machine.specs.declared.turn.Stop.TheVariants.{Error}
 use Rattle.pcode_machine.specs.Configuration.{State}
+use Rattle.pcode_machine.specs.Bytes.{byte_address}
 
 -- units 1 (CONSOLE:) and 2 (SYSTERM:)
 abbrev pub is_console : ℕ → Bool
@@ -18,7 +18,7 @@ begun direction unit base index len at =
     if is_console unit then
     if nat_lt 0 len then
     if nat_lt len 32768 then
-    Some (record { direction = direction; unit = unit; address = pos base +ℤ cast_signed w16 index; left = len; at = at })
+    Some (record { direction = direction; unit = unit; address = byte_address base index; left = len; at = at })
     else None
     else None
     else None

@@ -1,48 +1,128 @@
 //! One instruction.
-ghost use Rattle.std.specs.Prelude.{◌≡◌, None, OnErr, OnOk};
-ghost use Rattle.pcode_ops.specs.Loading.{HasNext};
-ghost use Rattle.pcode_machine.specs.Execute.{execute, standard};
-ghost use Rattle.pcode_machine.specs.Ready.{state_of, answered, IsSmall};
+ghost use Rattle.std.specs.Prelude.{◌≡◌, Some, OnErr};
+ghost use Rattle.pcode_frames.specs.Frames.{current_of};
+ghost use Rattle.pcode_machine.specs.Execute.{execute, made};
+ghost use Rattle.pcode_machine.specs.Effects.{standard, effect_of, HasTable, IsPossible};
+ghost use Rattle.pcode_machine.specs.Ready.{state_of, answered};
 
-use crate::loads::address_of;
+use crate::comparisons::Comparison;
+use crate::loads::{address_from, address_of};
+use crate::operations::{Change, Operation};
 use crate::parts::MachineParts;
 use crate::turn::{Direction, Stop};
-use pcode_ops::{Instr, StandardProcedure};
-
-/// The error of an instruction or standard procedure that loading lets pass and the machine does not
-/// execute yet.
-const UNIMPLEMENTED: u8 = 11;
+use pcode_frames::Frame;
+use pcode_ops::{Instr, Program, StandardProcedure};
 
 impl MachineParts {
     /// Calls a standard procedure, and goes on at an offset.
     fn standard(&mut self, procedure: StandardProcedure, next: u32) -> Result<(), Stop>
-        ensures value { standard procedure next (state_of self.old) ≡ answered result (state_of self.new) }
+        ensures value { made (standard procedure next (state_of self.old)) next (state_of self.old) ≡ Some (answered result (state_of self.new)) }
         ensures err { OnErr result (self.new ≡ self.old) }
-        ensures next { OnOk result (self.new.next ≡ next) }
-        ensures small { OnOk result (IsSmall self.new.transfer) }
     {
         match procedure {
+            StandardProcedure::IoCheck => {
+                if self.io_result == 0 {
+                    self.go(next)
+                } else {
+                    Err(Stop::Error(10))
+                }
+            }
+            StandardProcedure::UnitRead => self.call(Direction::Reading, next),
             StandardProcedure::UnitWrite => self.call(Direction::Writing, next),
-            _ => Err(Stop::Error(UNIMPLEMENTED)),
+            StandardProcedure::IoResult => self.push(self.io_result, next),
+            StandardProcedure::Halt => Err(Stop::Error(14)),
         }
     }
 
-    /// Executes an instruction, and goes on at the offset after it. A stop changes nothing.
-    pub fn execute(&mut self, instr: Instr, next: u32) -> Result<(), Stop>
-        requires idle { self.old.transfer ≡ None }
-        ensures value { execute instr next (state_of self.old) ≡ answered result (state_of self.new) }
+    /// Executes an instruction of the program in the current frame, and goes on at the offset after it or
+    /// where it leads. A stop changes nothing.
+    #[tactic(auto, using(crate::proofs::Possible::some_given))]
+    pub fn execute(
+        &mut self,
+        program: &Program,
+        frame: Frame,
+        instr: Instr,
+        next: u32,
+    ) -> Result<(), Stop>
+        requires current { current_of self.old.frames ≡ Some frame }
+        requires possible { IsPossible (effect_of program.now frame instr next (state_of self.old)) (state_of self.old) }
+        requires table { HasTable program.now instr }
+        ensures value { execute program.now frame instr next (state_of self.old) ≡ Some (answered result (state_of self.new)) }
         ensures err { OnErr result (self.new ≡ self.old) }
-        ensures next { OnOk result (self.new.next ≡ next) }
-        ensures goes_on { OnOk result (HasNext instr) }
-        ensures small { IsSmall self.new.transfer }
     {
+        let base = frame.base;
         match instr {
             Instr::Sldc(constant) => self.push(u16::from(constant), next),
-            Instr::Sro(word) => self.store(word, next),
+            Instr::Ldcn => self.push(0, next),
+            Instr::Ldci(word) => self.push(word, next),
+            Instr::Sldl(word) => self.load(base, u16::from(word), next),
+            Instr::Ldl(word) => self.load(base, word, next),
+            Instr::Stl(word) => self.store(base, word, next),
+            Instr::Lla(word) => self.push(address_from(base, word), next),
+            Instr::Sldo(word) => self.load(0, u16::from(word), next),
+            Instr::Ldo(word) => self.load(0, word, next),
+            Instr::Sro(word) => self.store(0, word, next),
             Instr::Lao(word) => self.push(address_of(word), next),
+            Instr::Lod(levels, word) => self.load(self.base_up(levels), word, next),
+            Instr::Str(levels, word) => self.store(self.base_up(levels), word, next),
+            Instr::Lda(levels, word) => self.push(address_from(self.base_up(levels), word), next),
+            Instr::Sto => self.store_at(next),
+            Instr::Sind(words) => self.fetch(u16::from(words), next),
+            Instr::Ind(words) => self.fetch(words, next),
+            Instr::Inc(words) => self.replace(Change::Behind(words), next),
+            Instr::Ixa(words) => self.combine(Operation::Element(words), next),
+            Instr::Mov(words) => self.move_block(words, next),
+            Instr::Ldm(words) => self.load_block(u16::from(words), next),
+            Instr::Stm(words) => self.store_block(u16::from(words), next),
+            Instr::Ldb => self.load_byte(next),
+            Instr::Stb => self.store_byte(next),
+            Instr::Adi => self.combine(Operation::Sum, next),
+            Instr::Sbi => self.combine(Operation::Difference, next),
+            Instr::Mpi => self.combine(Operation::Product, next),
+            Instr::Dvi => self.combine(Operation::Quotient, next),
+            Instr::Modi => self.combine(Operation::Remainder, next),
+            Instr::Abi => self.replace(Change::Absolute, next),
+            Instr::Ngi => self.replace(Change::Negation, next),
+            Instr::Sqi => self.replace(Change::Square, next),
+            Instr::Chk => self.check(next),
+            Instr::Land => self.combine(Operation::Both, next),
+            Instr::Lor => self.combine(Operation::Either, next),
+            Instr::Lnot => self.replace(Change::Complement, next),
+            Instr::Equi => self.combine(Operation::Compare(Comparison::Equal), next),
+            Instr::Neqi => self.combine(Operation::Compare(Comparison::NotEqual), next),
+            Instr::Leqi => self.combine(Operation::Compare(Comparison::LessOrEqual), next),
+            Instr::Lesi => self.combine(Operation::Compare(Comparison::Less), next),
+            Instr::Geqi => self.combine(Operation::Compare(Comparison::GreaterOrEqual), next),
+            Instr::Grti => self.combine(Operation::Compare(Comparison::Greater), next),
+            Instr::Equ => self.combine(Operation::CompareBits(Comparison::Equal), next),
+            Instr::Neq => self.combine(Operation::CompareBits(Comparison::NotEqual), next),
+            Instr::Leq => self.combine(Operation::CompareBits(Comparison::LessOrEqual), next),
+            Instr::Les => self.combine(Operation::CompareBits(Comparison::Less), next),
+            Instr::Geq => self.combine(Operation::CompareBits(Comparison::GreaterOrEqual), next),
+            Instr::Grt => self.combine(Operation::CompareBits(Comparison::Greater), next),
+            Instr::Ujp(sb) => self.go(program.jump(frame.procedure, sb, next)),
+            Instr::Fjp(sb) => self.jump_unless(program.jump(frame.procedure, sb, next), next),
+            Instr::Efj(sb) => self.jump_by_equal(next, program.jump(frame.procedure, sb, next)),
+            Instr::Nfj(sb) => self.jump_by_equal(program.jump(frame.procedure, sb, next), next),
+            Instr::Xjp {
+                low,
+                high,
+                sb: _,
+                table,
+            } => self.jump_by_case(program, low, high, table),
+            Instr::Clp(n) => {
+                let link = self.frames.link_up(0);
+                self.call_procedure(program, n, link, next)
+            },
+            Instr::Cgp(n) => self.call_procedure(program, n, Some(0), next),
+            Instr::Cip(n) => {
+                let link = self.link_outward(program, frame, n);
+                self.call_procedure(program, n, link, next)
+            },
             Instr::Csp(procedure) => self.standard(procedure, next),
+            Instr::Rnp(words) => self.leave(words),
             Instr::Rbp(_) => Err(Stop::Normal),
-            _ => Err(Stop::Error(UNIMPLEMENTED)),
+            Instr::Nop => self.go(next),
         }
     }
 }

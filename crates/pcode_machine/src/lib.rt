@@ -1,11 +1,19 @@
 //! The p-code machine: one instruction, or one byte of a transfer, for each step.
 #![tactic(auto)]
 
+mod arithmetic;
+mod blocks;
+mod bytes;
+mod calls;
+mod comparisons;
 mod execute;
+mod jumps;
 pub mod laws;
 mod loads;
 mod machine;
+mod operations;
 mod parts;
+mod pointers;
 mod stores;
 mod transfers;
 mod turn;

@@ -1,28 +1,57 @@
-//! Instructions that push a word: SLDC, LAO.
-ghost use Rattle.std.specs.Prelude.{◌≡◌, OnErr, OnOk};
-ghost use Rattle.pcode_machine.specs.Loads.{pushed, address_of};
+//! Instructions that push a word: constants, words of frames, and pointers to them.
+ghost use Rattle.std.specs.Prelude.{◌≡◌, ◌+◌, OnErr};
+ghost use Rattle.pcode_frames.specs.Words.{word_at};
+ghost use Rattle.pcode_machine.specs.Loads.{pushed, address_of, loaded};
 ghost use Rattle.pcode_machine.specs.Ready.{state_of, answered};
 
 use crate::parts::MachineParts;
 use crate::turn::Stop;
 
-/// The byte address of a word of the main frame, whose base is 0, modulo 65,536.
+/// The address of a word in bytes, modulo 65,536.
 pub fn address_of(word: u16) -> u16
     ensures { result ≡ address_of word }
 {
     word.wrapping_mul(2)
 }
 
+/// The address in bytes, modulo 65,536, of the word at an offset from a base.
+pub fn address_from(base: u16, offset: u16) -> u16
+    ensures { result ≡ address_of (base + offset) }
+{
+    address_of(base.wrapping_add(offset))
+}
+
 impl MachineParts {
+    /// The word at an offset from a base, if it is live.
+    #[inline(always)]
+    pub fn word(&self, base: u16, offset: u16) -> Option<u16>
+        ensures { result ≡ word_at self.now.memory (base + offset) }
+    {
+        // No live word has a greater address than the top.
+        let _top = self.memory.top();
+        self.memory.get(base.checked_add(offset)?)
+    }
+
     /// Pushes a word, and goes on at an offset. There is room for 1,024 words.
+    #[inline(always)]
     pub fn push(&mut self, word: u16, next: u32) -> Result<(), Stop>
         ensures value { pushed word next (state_of self.old) ≡ answered result (state_of self.new) }
         ensures err { OnErr result (self.new ≡ self.old) }
-        ensures next { OnOk result (self.new.next ≡ next) }
-        ensures transfer { self.new.transfer ≡ self.old.transfer }
     {
         self.stack.push(word)?;
         self.next = next;
         Ok(())
+    }
+
+    /// Pushes the word at an offset from a base, and goes on at an offset of the code.
+    #[inline(always)]
+    pub fn load(&mut self, base: u16, offset: u16, next: u32) -> Result<(), Stop>
+        ensures value { loaded (base + offset) next (state_of self.old) ≡ answered result (state_of self.new) }
+        ensures err { OnErr result (self.new ≡ self.old) }
+    {
+        match self.word(base, offset) {
+            Some(word) => self.push(word, next),
+            None => Err(Stop::Error(7)),
+        }
     }
 }

@@ -1,25 +1,40 @@
-//! Instructions that store a word: SRO.
-ghost use Rattle.std.specs.Prelude.{◌≡◌, OnErr, OnOk};
+//! Instructions that store a word of a frame: STL, SRO.
+ghost use Rattle.std.specs.Prelude.{◌≡◌, ◌+◌, if◌then◌else◌, is_some, None, Some, OnErr};
+ghost use Rattle.pcode_frames.specs.Words.{word_at};
 ghost use Rattle.pcode_machine.specs.Stores.{stored};
 ghost use Rattle.pcode_machine.specs.Ready.{state_of, answered};
 
 use crate::parts::MachineParts;
 use crate::turn::Stop;
+use pcode_frames::Memory;
+
+/// The address of the word at an offset from a base, if it is live.
+fn live_word(memory: &Memory, base: u16, offset: u16) -> Option<u16>
+    ensures { result ≡ (if is_some (word_at memory.now (base + offset)) then Some (base + offset) else None) }
+{
+    // No live word has a greater address than the top.
+    let _top = memory.top();
+    let word = base.checked_add(offset)?;
+    if memory.get(word).is_some() {
+        Some(word)
+    } else {
+        None
+    }
+}
 
 impl MachineParts {
-    /// Pops a word to a live word of memory, and goes on at an offset.
-    pub fn store(&mut self, word: u16, next: u32) -> Result<(), Stop>
-        ensures value { stored word next (state_of self.old) self.old.stack ≡ answered result (state_of self.new) }
+    /// Pops a word to the live word at an offset from a base, and goes on at an offset of the code.
+    #[inline(always)]
+    pub fn store(&mut self, base: u16, offset: u16, next: u32) -> Result<(), Stop>
+        ensures value { stored (base + offset) next (state_of self.old) self.old.stack ≡ answered result (state_of self.new) }
         ensures err { OnErr result (self.new ≡ self.old) }
-        ensures next { OnOk result (self.new.next ≡ next) }
-        ensures transfer { self.new.transfer ≡ self.old.transfer }
     {
         if self.stack.len() == 0 {
             return Err(Stop::Error(0));
         }
-        if self.memory.get(word).is_none() {
+        let Some(word) = live_word(&self.memory, base, offset) else {
             return Err(Stop::Error(7));
-        }
+        };
         let value = self.stack.pop()?;
         self.memory.put(word, value);
         self.next = next;

@@ -1,15 +1,16 @@
 //! Transfers between memory and a unit: the call that begins one, and each byte.
-ghost use Rattle.std.specs.Prelude.{◌≡◌, ℕ, ◌+◌, ◌==◌, if◌then◌else◌, List, [], ◌∷◌, ◌++◌, length, Some, IsSome, OnErr, OnOk};
+ghost use Rattle.std.specs.Prelude.{◌≡◌, ℕ, ◌+◌, ◌==◌, if◌then◌else◌, List, [], ◌∷◌, ◌++◌, length, Some, IsSome, OnErr};
 ghost use Rattle.std.specs.Option.{option_to_list};
 ghost use Rattle.pcode_machine.specs.declared.turn.Direction.TheVariants.{Reading, Writing};
 ghost use Rattle.pcode_machine.specs.declared.turn.End.TheVariants.{Error};
-ghost use Rattle.pcode_frames.specs.Words.{with_byte};
+ghost use Rattle.pcode_frames.specs.Words.{byte_at, with_byte};
 ghost use Rattle.pcode_machine.specs.Configuration.{State, joined};
 ghost use Rattle.pcode_machine.specs.Transfers.{begun, called, is_console, later};
 ghost use Rattle.pcode_machine.specs.Outcome.{Goes, moved};
 ghost use Rattle.pcode_machine.specs.Turns.{told, IsStill, TakesByte};
-ghost use Rattle.pcode_machine.specs.Ready.{state_of, answered, IsSmall};
+ghost use Rattle.pcode_machine.specs.Ready.{state_of, answered};
 
+use crate::bytes::byte_address;
 use crate::parts::MachineParts;
 use crate::turn::{Direction, End, Stop, Transfer, Turn};
 use pcode_frames::Frame;
@@ -31,8 +32,7 @@ fn begun(
     len: u16,
     at: u32,
 ) -> Option<Transfer>
-    ensures value { result ≡ begun direction unit base index len at }
-    ensures small { IsSmall result }
+    ensures { result ≡ begun direction unit base index len at }
 {
     if !is_console(unit) {
         return None;
@@ -46,7 +46,7 @@ fn begun(
     Some(Transfer {
         direction,
         unit,
-        address: i32::from(base) + i32::from(index.cast_signed()),
+        address: byte_address(base, index),
         left: len,
         at,
     })
@@ -83,8 +83,6 @@ impl MachineParts {
     pub fn call(&mut self, direction: Direction, next: u32) -> Result<(), Stop>
         ensures value { called direction next (state_of self.old) self.old.stack ≡ answered result (state_of self.new) }
         ensures err { OnErr result (self.new ≡ self.old) }
-        ensures next { OnOk result (self.new.next ≡ next) }
-        ensures small { OnOk result (IsSmall self.new.transfer) }
     {
         if self.stack.len() < 6 {
             return Err(Stop::Error(0));
@@ -101,12 +99,14 @@ impl MachineParts {
         Ok(())
     }
 
-    /// Keeps what is left of a transfer after one byte.
+    /// Keeps what is left of a transfer after one byte, whose address was live.
+    #[tactic(auto, using(crate::proofs::Live::live_address))]
     fn pass_byte(&mut self, transfer: Transfer)
-        requires { IsSmall (Some transfer) }
-        ensures value { self.new ≡ record self.old { transfer = later transfer } }
-        ensures small { IsSmall self.new.transfer }
+        requires live { IsSome (byte_at self.old.memory transfer.address) }
+        ensures { self.new ≡ record self.old { transfer = later transfer } }
     {
+        // A live address is far below the greatest of its type.
+        let _top = self.memory.top();
         self.transfer = if transfer.left > 1 {
             Some(Transfer {
                 address: transfer.address + 1,
@@ -118,27 +118,25 @@ impl MachineParts {
         };
     }
 
-    /// Stores a byte of a transfer, and keeps what is left of it.
+    /// Stores a byte of a transfer at its live address, and keeps what is left of it.
     fn take_byte(&mut self, transfer: Transfer, byte: u8)
-        requires { IsSmall (Some transfer) }
-        ensures value { self.new ≡ record self.old { memory = with_byte self.old.memory transfer.address byte; transfer = later transfer } }
-        ensures small { IsSmall self.new.transfer }
+        requires live { IsSome (byte_at self.old.memory transfer.address) }
+        ensures { self.new ≡ record self.old { memory = with_byte self.old.memory transfer.address byte; transfer = later transfer } }
     {
-        self.memory.put_byte(transfer.address, byte);
         self.pass_byte(transfer);
+        self.memory.put_byte(transfer.address, byte);
     }
 
     /// Writes one byte of memory.
     fn write_byte(&mut self, frame: Frame, transfer: Transfer) -> Turn
-        requires small { IsSmall (Some transfer) }
-        requires pending { self.old.transfer ≡ Some transfer }
+        requires { self.old.transfer ≡ Some transfer }
         ensures value { (x : List ℕ) (read : ℕ) (output : List ℕ) →
             moved Writing x (joined (state_of self.old) read output) frame transfer
             ≡ told result (state_of self.new) read output }
         ensures taken { TakesByte result → ⊥ }
         ensures still { IsStill result → self.new ≡ self.old }
         ensures next { self.new.next ≡ self.old.next }
-        ensures small { IsSmall self.new.transfer }
+        ensures frames { self.new.frames ≡ self.old.frames }
     {
         match self.memory.get_byte(transfer.address) {
             None => Turn::Ended(not_live(frame, transfer)),
@@ -153,15 +151,14 @@ impl MachineParts {
     /// before the machine waits.
     #[tactic(auto, using(crate::proofs::Inputs::offered_at_end))]
     fn read_byte(&mut self, frame: Frame, transfer: Transfer, offered: Option<u8>) -> Turn
-        requires small { IsSmall (Some transfer) }
-        requires pending { self.old.transfer ≡ Some transfer }
+        requires { self.old.transfer ≡ Some transfer }
         ensures value { (before output : List ℕ) →
             moved Reading (before ++ option_to_list offered) (joined (state_of self.old) (length before) output) frame transfer
             ≡ told result (state_of self.new) (length before) output }
         ensures taken { TakesByte result → IsSome offered }
         ensures still { IsStill result → self.new ≡ self.old }
         ensures next { self.new.next ≡ self.old.next }
-        ensures small { IsSmall self.new.transfer }
+        ensures frames { self.new.frames ≡ self.old.frames }
     {
         let Some(_old) = self.memory.get_byte(transfer.address) else {
             return Turn::Ended(not_live(frame, transfer));
@@ -175,15 +172,14 @@ impl MachineParts {
 
     /// Moves one byte of a pending transfer, or waits for it.
     pub fn move_byte(&mut self, frame: Frame, transfer: Transfer, offered: Option<u8>) -> Turn
-        requires small { IsSmall (Some transfer) }
-        requires pending { self.old.transfer ≡ Some transfer }
+        requires { self.old.transfer ≡ Some transfer }
         ensures value { (before output : List ℕ) →
             moved transfer.direction (before ++ option_to_list offered) (joined (state_of self.old) (length before) output) frame transfer
             ≡ told result (state_of self.new) (length before) output }
         ensures taken { TakesByte result → IsSome offered }
         ensures still { IsStill result → self.new ≡ self.old }
         ensures next { self.new.next ≡ self.old.next }
-        ensures small { IsSmall self.new.transfer }
+        ensures frames { self.new.frames ≡ self.old.frames }
     {
         match transfer.direction {
             Direction::Reading => self.read_byte(frame, transfer, offered),

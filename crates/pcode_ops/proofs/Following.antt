@@ -23,7 +23,7 @@ branch_by : (q : Proc) (j : ℕ) (r : Result ℕ OpFault) (o : Onward) → (r >>
 branch_by q j (Ok t) o e = goes_by (is_in q j) j (Some t) o e
 branch_by q j (Err f) o e = absurd cc
 
-next_is : (segment : List ℕ) (q : Proc) (instr : Instr) (j : ℕ) (o : Onward) → HasNext instr → onward segment q instr j ≡ Ok o → o.next ≡ Some j
+pub next_is : (segment : List ℕ) (q : Proc) (instr : Instr) (j : ℕ) (o : Onward) → HasNext instr → onward segment q instr j ≡ Ok o → o.next ≡ Some j
 next_is segment q (Sldc n) j o h e = goes_by (is_in q j) j None o e
 next_is segment q (Ldci n) j o h e = goes_by (is_in q j) j None o e
 next_is segment q (Sldl n) j o h e = goes_by (is_in q j) j None o e

@@ -72,7 +72,7 @@ ends_inside segment q (Err f) h = tt
 
 -- ---- case jumps
 
-each_entry : (segment : List ℕ) (q : Proc) (n table k : ℕ) → entries_in segment q table n ≡ true → k < n → leads_in segment q (table + 2 * k) ≡ true
+pub each_entry : (segment : List ℕ) (q : Proc) (n table k : ℕ) → entries_in segment q table n ≡ true → k < n → leads_in segment q (table + 2 * k) ≡ true
 unfolding entries_in
 each_entry segment q zero table k e lt = absurd (omega arith)
 each_entry segment q (suc n) table zero e lt = let here : table + 2 * 0 ≡ table = omega arith in rw here ((true_both _ _ e).0)

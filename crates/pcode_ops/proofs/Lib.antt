@@ -10,3 +10,7 @@ pub mod Standing
 pub mod Ending
 pub mod Leading
 pub mod Staying
+pub mod Apart
+pub mod Allowed
+pub mod Targets
+pub mod Landing

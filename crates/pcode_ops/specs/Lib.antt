@@ -5,3 +5,5 @@ pub mod Reach
 pub mod Calls
 pub mod Walks
 pub mod Staying
+pub mod Standing
+pub mod Jumps

@@ -1,6 +1,7 @@
 -- What a search has found so far: a flag for each offset, and the flagged offsets in the order in which they were found.
 use Rattle.std.specs.Prelude.{◌≡◌, ℕ, ◌+◌, ◌*◌, ◌^◌, ◌<◌, ◌≤◌, Bool, true, false, IsTrue, ◌⊎◌, ◌↔◌, List, [], ◌∷◌, cond, length, All, IfSome, slice_get, slice_index_or, Some, Ok}
 use Rattle.pcode_file.specs.declared.file.Proc.{Proc}
+use Rattle.pcode_file.specs.InFile.{AreProcs}
 use Rattle.pcode_file.specs.Parts.{Parts}
 use Rattle.pcode_ops.specs.declared.fault.LoadFault.{LoadFault}
 use Rattle.pcode_ops.specs.declared.look.Onward.{Onward}
@@ -92,3 +93,4 @@ pub record IsProgram (p : Parts) (m : Marks) : Type 0 where
   pub exact : IsExact p m
   pub loadable : IsLoadable p
   pub size : length m.flags < 2 ^ 16
+  pub procs : AreProcs p.segment p.procs

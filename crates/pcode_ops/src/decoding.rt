@@ -14,6 +14,7 @@ use crate::opcodes::{
 };
 
 /// The byte at an offset.
+#[inline(always)]
 fn byte(code: &[u8], at: usize) -> Result<u8, OpFault>
     ensures value { result ≡ byte_at code.now at }
     ensures within { IfOk result (λ _. at < length code.now) }
@@ -43,6 +44,7 @@ fn word_operand(code: &[u8], at: usize) -> Result<u16, OpFault>
 }
 
 /// The operand of one or two bytes at an offset, and the offset after it.
+#[inline(always)]
 fn big(code: &[u8], at: usize) -> Result<(u16, usize), OpFault>
     ensures value { result ≡ big_at code.now at }
     ensures within { IfOk result (λ r. r.1 ≤ length code.now) }
@@ -147,6 +149,7 @@ fn special(code: &[u8], at: usize, opcode: u8) -> Result<(Instr, usize), OpFault
 }
 
 /// A jump, a comparison with a type byte, or one of the rest.
+#[inline(always)]
 fn jump_or_typed(code: &[u8], at: usize, opcode: u8) -> Result<(Instr, usize), OpFault>
     requires { at < length code.now }
     ensures value { result ≡ jump_or_typed_at code.now at opcode }
@@ -172,6 +175,7 @@ fn jump_or_typed(code: &[u8], at: usize, opcode: u8) -> Result<(Instr, usize), O
 
 /// An instruction with an operand of one byte, of one or two bytes, of levels and an offset, or one of
 /// the rest.
+#[inline(always)]
 fn with_operands(code: &[u8], at: usize, opcode: u8) -> Result<(Instr, usize), OpFault>
     requires { at < length code.now }
     ensures value { result ≡ with_operands_at code.now at opcode }
@@ -204,6 +208,7 @@ fn with_operands(code: &[u8], at: usize, opcode: u8) -> Result<(Instr, usize), O
 }
 
 /// The instruction of an opcode, which stands at an offset, and the offset after it.
+#[inline(always)]
 fn instruction(code: &[u8], at: usize, opcode: u8) -> Result<(Instr, usize), OpFault>
     requires { at < length code.now }
     ensures value { result ≡ instr_of code.now at opcode }
@@ -218,6 +223,7 @@ fn instruction(code: &[u8], at: usize, opcode: u8) -> Result<(Instr, usize), OpF
 
 /// The instruction at an offset of a code, and the offset after it. It sees the bytes up to the
 /// code's end.
+#[inline(always)]
 pub fn decode(code: &[u8], at: usize) -> Result<(Instr, usize), OpFault>
     // What is answered stands there.
     ensures found { IfOk result (λ r. At code.now at r.0 r.1) }

@@ -5,6 +5,7 @@
 mod decoding;
 mod fault;
 mod instr;
+mod jumps;
 pub mod laws;
 mod listing;
 mod look;

@@ -8,6 +8,7 @@ use crate::fault::OpFault;
 use crate::instr::Instr;
 
 /// An instruction that has its number in its opcode.
+#[inline(always)]
 fn short(opcode: u8) -> Option<Instr>
     ensures { result ≡ short_of opcode }
 {
@@ -21,6 +22,7 @@ fn short(opcode: u8) -> Option<Instr>
 }
 
 /// An instruction on pointers, NIL among them, or none at all.
+#[inline(always)]
 fn pointer(opcode: u8) -> Option<Instr>
     ensures { result ≡ pointer_of opcode }
 {
@@ -35,6 +37,7 @@ fn pointer(opcode: u8) -> Option<Instr>
 }
 
 /// An instruction of arithmetic or logic.
+#[inline(always)]
 fn arithmetic(opcode: u8) -> Option<Instr>
     ensures { result ≡ arithmetic_of opcode }
 {
@@ -56,6 +59,7 @@ fn arithmetic(opcode: u8) -> Option<Instr>
 }
 
 /// A comparison of integers.
+#[inline(always)]
 fn comparison(opcode: u8) -> Option<Instr>
     ensures { result ≡ comparison_of opcode }
 {
@@ -71,6 +75,7 @@ fn comparison(opcode: u8) -> Option<Instr>
 }
 
 /// An instruction without an operand.
+#[inline(always)]
 pub(crate) fn plain(opcode: u8) -> Option<Instr>
     ensures { result ≡ plain_of opcode }
 {
@@ -87,6 +92,7 @@ pub(crate) fn plain(opcode: u8) -> Option<Instr>
 }
 
 /// A comparison with a type byte.
+#[inline(always)]
 pub(crate) fn typed(opcode: u8) -> Option<Instr>
     ensures { result ≡ typed_of opcode }
 {
@@ -102,6 +108,7 @@ pub(crate) fn typed(opcode: u8) -> Option<Instr>
 }
 
 /// Whether an opcode has an operand of one byte alone.
+#[inline(always)]
 pub(crate) fn takes_byte(opcode: u8) -> bool
     ensures { result ≡ is_some (with_byte_of opcode) }
 {
@@ -109,6 +116,7 @@ pub(crate) fn takes_byte(opcode: u8) -> bool
 }
 
 /// The instruction of an opcode with an operand of one byte.
+#[inline(always)]
 pub(crate) fn with_byte(opcode: u8, n: u8) -> Option<Instr>
     ensures { result ≡ option_map (λ make. make n) (with_byte_of opcode) }
 {
@@ -125,6 +133,7 @@ pub(crate) fn with_byte(opcode: u8, n: u8) -> Option<Instr>
 }
 
 /// Whether an opcode has an operand of one or two bytes.
+#[inline(always)]
 pub(crate) fn takes_big(opcode: u8) -> bool
     ensures { result ≡ is_some (with_big_of opcode) }
 {
@@ -135,6 +144,7 @@ pub(crate) fn takes_big(opcode: u8) -> bool
 }
 
 /// The instruction of an opcode with an operand of one or two bytes.
+#[inline(always)]
 pub(crate) fn with_big(opcode: u8, n: u16) -> Option<Instr>
     ensures { result ≡ option_map (λ make. make n) (with_big_of opcode) }
 {
@@ -154,6 +164,7 @@ pub(crate) fn with_big(opcode: u8, n: u16) -> Option<Instr>
 }
 
 /// Whether an opcode has an operand of levels and one of an offset.
+#[inline(always)]
 pub(crate) fn takes_levels(opcode: u8) -> bool
     ensures { result ≡ is_some (with_levels_of opcode) }
 {
@@ -161,6 +172,7 @@ pub(crate) fn takes_levels(opcode: u8) -> bool
 }
 
 /// The instruction of an opcode with an operand of levels and one of an offset.
+#[inline(always)]
 pub(crate) fn with_levels(opcode: u8, levels: u8, n: u16) -> Option<Instr>
     ensures { result ≡ option_map (λ make. make levels n) (with_levels_of opcode) }
 {
@@ -173,6 +185,7 @@ pub(crate) fn with_levels(opcode: u8, levels: u8, n: u16) -> Option<Instr>
 }
 
 /// Whether an opcode is a jump with a signed byte.
+#[inline(always)]
 pub(crate) fn is_jump(opcode: u8) -> bool
     ensures { result ≡ is_some (jump_of opcode) }
 {
@@ -180,6 +193,7 @@ pub(crate) fn is_jump(opcode: u8) -> bool
 }
 
 /// The jump of an opcode with a signed byte, which is given as it stands.
+#[inline(always)]
 pub(crate) fn jump(opcode: u8, byte: u8) -> Option<Instr>
     ensures { result ≡ option_map (λ make. make (cast_signed w8 byte)) (jump_of opcode) }
 {

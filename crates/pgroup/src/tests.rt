@@ -1,54 +1,42 @@
 //! The command on whole files, with its texts and statuses.
 mod choosing;
+mod codes;
 mod datagrams;
+mod examples;
+mod instructions;
 mod loading;
 mod opcodes;
+mod running;
+mod segments;
 
 use crate::command::command;
 use pcode_file::CodeFile;
 use pcode_machine::{End, Machine, Turn};
 use pcode_ops::Program;
+use segments::PRINTS_A;
 use std::alloc::{AllocError, Global};
-use std::io::{self, ErrorKind, Write};
+use std::io::{self, ErrorKind, Read, Write};
 use std::rt::Runtime;
 use std::test::Fail;
 use std::{env, fs, process};
 
-/// Writes the letter A: SLDC 65, SRO 3, and UNITWRITE of one byte at word 3 to unit 1.
-const PRINTS_A: [u8; 28] = [
-    0x41, 0xab, 0x03, 0x01, 0xa5, 0x03, 0x00, 0x01, 0x00, 0x00, 0x9e, 0x06, 0xc1, 0x00, 0x02, 0x00,
-    0x04, 0x00, 0x06, 0x00, 0x14, 0x00, 0x01, 0x00, 0x02, 0x00, 0x01, 0x01,
-];
-
-/// Replaces bytes from an offset on.
-fn replace(bytes: &mut Vec<u8>, at: usize, edit: &[u8]) {
+/// The bytes with some of them replaced from an offset on.
+fn edited(alloc: Global, bytes: &[u8], at: usize, edit: &[u8]) -> Result<Vec<u8>, AllocError> {
+    let mut all = Vec::from_slice(alloc, bytes)?;
     for (k, byte) in edit.iter().enumerate() {
-        if let Some(place) = bytes.get_mut(at.saturating_add(k)) {
+        if let Some(place) = all.get_mut(at.saturating_add(k)) {
             *place = *byte;
         }
     }
+    Ok(all)
 }
 
 /// A code file of 1,024 bytes with this segment as its entry 1.
 fn code_file(alloc: Global, segment: &[u8]) -> Result<Vec<u8>, AllocError> {
-    let mut bytes = vec![in alloc; 0u8; 1024]?;
-    let length = u16::try_from(segment.len()).unwrap_or(0);
-    replace(&mut bytes, 4, &[1]);
-    replace(&mut bytes, 6, &length.to_le_bytes());
-    replace(&mut bytes, 512, segment);
-    Ok(bytes)
-}
-
-/// The code file that prints A, with bytes of its segment replaced from an offset on.
-fn with_segment(alloc: Global, at: usize, edit: &[u8]) -> Result<Vec<u8>, AllocError> {
-    with_file(alloc, at.saturating_add(512), edit)
-}
-
-/// The code file that prints A, with bytes of the file replaced from an offset on.
-fn with_file(alloc: Global, at: usize, edit: &[u8]) -> Result<Vec<u8>, AllocError> {
-    let mut file = code_file(alloc, &PRINTS_A)?;
-    replace(&mut file, at, edit);
-    Ok(file)
+    let [low, high] = u16::try_from(segment.len()).unwrap_or(0).to_le_bytes();
+    let empty = vec![in alloc; 0u8; 1024]?;
+    let entry = edited(alloc, empty.as_slice(), 4, &[1, 0, low, high])?;
+    edited(alloc, entry.as_slice(), 512, segment)
 }
 
 /// What a command did.
@@ -60,10 +48,44 @@ struct Done {
 }
 
 impl Done {
-    fn is(&self, status: u8, output: &str, errors: &str) -> bool {
+    fn is(&self, status: u8, output: &[u8], errors: &str) -> bool {
         self.status == status
-            && self.output.as_slice() == output.as_bytes()
+            && self.output.as_slice() == output
             && self.errors.as_slice() == errors.as_bytes()
+    }
+}
+
+/// What has to come of a command.
+#[derive(Clone, Copy)]
+enum Outcome {
+    /// Status 0 and this output.
+    Prints(&'static [u8]),
+    /// Status 0, this output, and then the program waits at the end of its input.
+    Waits(&'static [u8]),
+    /// Status 1 and this fault, without output.
+    Refused(&'static str),
+    /// Status 3 and the execution error of this number, in this procedure, at this offset, without output.
+    Error(u8, u8, u32),
+    /// Status 4 and this output: the steps are spent.
+    Steps(&'static [u8]),
+}
+
+/// Whether a command did what it had to.
+fn meets(alloc: Global, done: &Done, outcome: Outcome) -> Result<bool, AllocError> {
+    match outcome {
+        Outcome::Prints(output) => Ok(done.is(0, output, "")),
+        Outcome::Waits(output) => Ok(done.is(0, output, "waits\n")),
+        Outcome::Refused(fault) => {
+            let text = format!(in alloc; "refused {fault}\n")?;
+            Ok(done.is(1, b"", text.as_str()))
+        }
+        Outcome::Error(number, procedure, at) => {
+            let text = format!(in alloc;
+                "execution error {number} in procedure {procedure} at {at}\n"
+            )?;
+            Ok(done.is(3, b"", text.as_str()))
+        }
+        Outcome::Steps(output) => Ok(done.is(4, output, "steps\n")),
     }
 }
 
@@ -76,18 +98,33 @@ fn words_of(alloc: Global, words: &[&str]) -> Result<Vec<String>, AllocError> {
     Ok(all)
 }
 
-/// Does a command on an empty input.
-fn perform(rt: &HostRuntime, words: &[&str]) -> Result<Done, AllocError> {
+/// Does a command on an input.
+fn perform_with<R: Read>(
+    rt: &HostRuntime,
+    words: &[&str],
+    input: &mut R,
+) -> Result<Done, AllocError> {
     let words = words_of(rt.alloc(), words)?;
-    let mut input: &[u8] = b"";
     let mut output = Vec::new(rt.alloc());
     let mut errors = Vec::new(rt.alloc());
-    let status = command(rt, words.as_slice(), &mut input, &mut output, &mut errors);
+    let status = command(rt, words.as_slice(), input, &mut output, &mut errors);
     Ok(Done {
         status,
         output,
         errors,
     })
+}
+
+/// Does a command on an empty input.
+fn perform(rt: &HostRuntime, words: &[&str]) -> Result<Done, AllocError> {
+    let mut input: &[u8] = b"";
+    perform_with(rt, words, &mut input)
+}
+
+/// Whether a command on an empty input comes to this.
+fn does(rt: &HostRuntime, words: &[&str], outcome: Outcome) -> Result<bool, AllocError> {
+    let done = perform(rt, words)?;
+    meets(rt.alloc(), &done, outcome)
 }
 
 /// A path that no other test and no other run of the tests has.
@@ -98,124 +135,156 @@ fn path_of(rt: &HostRuntime, name: &str) -> io::Result<String> {
     Ok(format!(in rt.alloc(); "{text}/pgroup_{number}_{name}")?)
 }
 
-/// Does a command on a file of these bytes, with further words.
-fn perform_on(rt: &HostRuntime, name: &str, bytes: &[u8], more: &[&str]) -> io::Result<Done> {
+/// Does a command on a file of these bytes, with further words, and on an input.
+fn perform_on<R: Read>(
+    rt: &HostRuntime,
+    name: &str,
+    bytes: &[u8],
+    more: &[&str],
+    input: &mut R,
+) -> io::Result<Done> {
     let path = path_of(rt, name)?;
     fs::write(rt, path.as_str(), bytes)?;
     let mut words = Vec::new(rt.alloc());
     words.push(name)?;
     words.push(path.as_str())?;
     words.extend_from_slice(more)?;
-    let result = perform(rt, words.as_slice());
+    let result = perform_with(rt, words.as_slice(), input);
     fs::remove_file(rt, path.as_str())?;
     Ok(result?)
 }
 
+/// Whether a command on a file of these bytes, with further words and an empty input, comes to this.
+fn comes_to(
+    rt: &HostRuntime,
+    name: &str,
+    bytes: &[u8],
+    more: &[&str],
+    outcome: Outcome,
+) -> io::Result<bool> {
+    let mut input: &[u8] = b"";
+    let done = perform_on(rt, name, bytes, more, &mut input)?;
+    Ok(meets(rt.alloc(), &done, outcome)?)
+}
+
+/// Bytes that replace others from an offset on, and what then has to come of a command.
+type Edit = (usize, &'static [u8], Outcome);
+
+/// Which of these edits of a segment's file comes to something else, if one does. Offsets count from
+/// `start` in the file.
+fn first_wrong_from(
+    rt: &HostRuntime,
+    name: &str,
+    segment: &[u8],
+    start: usize,
+    edits: &[Edit],
+) -> io::Result<Option<usize>> {
+    let file = code_file(rt.alloc(), segment)?;
+    for (k, (at, edit, outcome)) in edits.iter().enumerate() {
+        let bytes = edited(rt.alloc(), file.as_slice(), at.saturating_add(start), edit)?;
+        if !comes_to(rt, name, bytes.as_slice(), &[], *outcome)? {
+            return Ok(Some(k));
+        }
+    }
+    Ok(None)
+}
+
+/// Which of these edits of a segment comes to something else, if one does.
+fn first_wrong(
+    rt: &HostRuntime,
+    name: &str,
+    segment: &[u8],
+    edits: &[Edit],
+) -> io::Result<Option<usize>> {
+    first_wrong_from(rt, name, segment, 512, edits)
+}
+
+/// Further words of `run`, and what has to come of it.
+const BUDGETS: [(&[&str], Outcome); 6] = [
+    (&[], Outcome::Prints(b"A")),
+    (&["--steps", "3"], Outcome::Steps(b"")),
+    (&["--steps", "10"], Outcome::Steps(b"A")),
+    (&["--steps", "11"], Outcome::Prints(b"A")),
+    (&["--steps=0"], Outcome::Steps(b"")),
+    (&["--steps", "0011"], Outcome::Prints(b"A")),
+];
+
 #[test]
 fn prints_a(rt: HostRuntime) -> io::Result<()> {
+    assert!(rt; does(&rt, &[], Outcome::Prints(b"A"))?);
     let file = code_file(rt.alloc(), &PRINTS_A)?;
-    let bytes = file.as_slice();
-    assert!(rt; perform(&rt, &[])?.is(0, "A", ""));
-    assert!(rt; perform_on(&rt, "run", bytes, &[])?.is(0, "A", ""));
-    assert!(rt; perform_on(&rt, "run", bytes, &["--steps", "3"])?.is(4, "", "steps\n"));
-    assert!(rt; perform_on(&rt, "run", bytes, &["--steps", "10"])?.is(4, "A", "steps\n"));
-    assert!(rt; perform_on(&rt, "run", bytes, &["--steps", "11"])?.is(0, "A", ""));
-    assert!(rt; perform_on(&rt, "run", bytes, &["--steps=0"])?.is(4, "", "steps\n"));
-    assert!(rt; perform_on(&rt, "run", bytes, &["--steps", "0011"])?.is(0, "A", ""));
+    for (more, outcome) in BUDGETS {
+        assert!(rt;
+            comes_to(&rt, "run", file.as_slice(), more, outcome)?,
+            "{more:?}"
+        );
+    }
     Ok(())
 }
+
+/// Unit 3, and a length of 0.
+const NOTHING_MOVES: [Edit; 2] = [
+    (3, &[0x03], Outcome::Prints(b"")),
+    (7, &[0x00], Outcome::Prints(b"")),
+];
 
 #[test]
 fn unit_three_and_no_length(rt: HostRuntime) -> io::Result<()> {
-    let unit_three = with_segment(rt.alloc(), 3, &[0x03])?;
-    assert!(rt; perform_on(&rt, "run", unit_three.as_slice(), &[])?.is(0, "", ""));
-    let no_length = with_segment(rt.alloc(), 7, &[0x00])?;
-    assert!(rt; perform_on(&rt, "run", no_length.as_slice(), &[])?.is(0, "", ""));
+    assert_eq!(rt; first_wrong(&rt, "run", &PRINTS_A, &NOTHING_MOVES)?, None);
     Ok(())
 }
+
+/// Faults of block 0, at offsets of the file.
+const BAD_BLOCKS: [Edit; 6] = [
+    (6, &[0x00, 0x00], Outcome::Refused("F2")),
+    (10, &[0x1c, 0x00], Outcome::Refused("F3")),
+    (194, &[0x01, 0x00], Outcome::Refused("F4")),
+    (6, &[0x02, 0x02], Outcome::Refused("F5")),
+    (4, &[0x00, 0x00], Outcome::Refused("F5")),
+    (6, &[0x1b, 0x00], Outcome::Refused("F10 procedure 0")),
+];
+
+/// Faults of the segment.
+const BAD_SEGMENTS: [Edit; 8] = [
+    (27, &[0x0e], Outcome::Refused("F6")),
+    (27, &[0x02], Outcome::Refused("F7 procedure 1")),
+    (24, &[0x03], Outcome::Refused("F7 procedure 1")),
+    (20, &[0x16], Outcome::Refused("F7 procedure 1")),
+    (22, &[0x02], Outcome::Refused("F7 procedure 1")),
+    (22, &[0x00], Outcome::Refused("F8 procedure 1")),
+    (23, &[0x01], Outcome::Refused("F9 procedure 1")),
+    (14, &[0x03], Outcome::Refused("F10 procedure 1")),
+];
 
 #[test]
 fn bad_files(rt: HostRuntime) -> io::Result<()> {
-    let alloc = rt.alloc();
-    let whole = code_file(alloc, &PRINTS_A)?;
-    let short = whole.as_slice().get(..511).unwrap_or(&[]);
-    assert!(rt; perform_on(&rt, "run", short, &[])?.is(1, "", "refused F1\n"));
-    for (at, edit, text) in [
-        (6, [0x00, 0x00], "refused F2\n"),
-        (10, [0x1c, 0x00], "refused F3\n"),
-        (194, [0x01, 0x00], "refused F4\n"),
-        (6, [0x02, 0x02], "refused F5\n"),
-        (4, [0x00, 0x00], "refused F5\n"),
-        (6, [0x1b, 0x00], "refused F10 procedure 0\n"),
-    ] {
-        let file = with_file(alloc, at, &edit)?;
-        assert!(rt;
-            perform_on(&rt, "run", file.as_slice(), &[])?.is(1, "", text),
-            "{text}"
-        );
-    }
-    for (at, edit, text) in [
-        (27, 0x0e, "refused F6\n"),
-        (27, 0x02, "refused F7 procedure 1\n"),
-        (24, 0x03, "refused F7 procedure 1\n"),
-        (20, 0x16, "refused F7 procedure 1\n"),
-        (22, 0x02, "refused F7 procedure 1\n"),
-        (22, 0x00, "refused F8 procedure 1\n"),
-        (23, 0x01, "refused F9 procedure 1\n"),
-        (14, 0x03, "refused F10 procedure 1\n"),
-    ] {
-        let file = with_segment(alloc, at, &[edit])?;
-        assert!(rt;
-            perform_on(&rt, "run", file.as_slice(), &[])?.is(1, "", text),
-            "{at} {text}"
-        );
-    }
+    assert_eq!(rt;
+        first_wrong_from(&rt, "run", &PRINTS_A, 0, &BAD_BLOCKS)?,
+        None
+    );
+    assert_eq!(rt; first_wrong(&rt, "run", &PRINTS_A, &BAD_SEGMENTS)?, None);
     Ok(())
 }
+
+#[test]
+fn short_file(rt: HostRuntime) -> io::Result<()> {
+    let file = code_file(rt.alloc(), &PRINTS_A)?;
+    let short = file.as_slice().get(..511).unwrap_or(&[]);
+    assert!(rt; comes_to(&rt, "run", short, &[], Outcome::Refused("F1"))?);
+    Ok(())
+}
+
+/// Faults of instructions.
+const BAD_OPCODES: [Edit; 4] = [
+    (0, &[0xd0, 0xab], Outcome::Refused("O6 at 0 opcode 208")),
+    (11, &[0x09, 0xc1], Outcome::Refused("O13 at 10 procedure 9")),
+    (12, &[0x41, 0x41], Outcome::Refused("O1 at 13")),
+    (12, &[0x41, 0xc1], Outcome::Refused("O1 at 13")),
+];
 
 #[test]
 fn bad_opcodes(rt: HostRuntime) -> io::Result<()> {
-    let alloc = rt.alloc();
-    for (at, edit, text) in [
-        (0, [0xd0, 0xab], "refused O6 at 0 opcode 208\n"),
-        (11, [0x09, 0xc1], "refused O13 at 10 procedure 9\n"),
-        (12, [0x41, 0x41], "refused O1 at 13\n"),
-        (12, [0x41, 0xc1], "refused O1 at 13\n"),
-    ] {
-        let file = with_segment(alloc, at, &edit)?;
-        assert!(rt;
-            perform_on(&rt, "run", file.as_slice(), &[])?.is(1, "", text),
-            "{text}"
-        );
-    }
-    Ok(())
-}
-
-#[test]
-fn main_frame_boundary(rt: HostRuntime) -> io::Result<()> {
-    // 16,383 words fit, and 16,384 do not.
-    let fits = with_segment(rt.alloc(), 14, &[0xfa, 0x7f])?;
-    assert!(rt; perform_on(&rt, "run", fits.as_slice(), &[])?.is(0, "A", ""));
-    let too_large = with_segment(rt.alloc(), 14, &[0xfc, 0x7f])?;
-    let text = "execution error 4 in procedure 1 at 0\n";
-    assert!(rt; perform_on(&rt, "run", too_large.as_slice(), &[])?.is(3, "", text));
-    Ok(())
-}
-
-#[test]
-fn execution_errors(rt: HostRuntime) -> io::Result<()> {
-    // SRO on an empty stack, SRO to a word that is not live, and a byte that is not live.
-    for (at, edit, text) in [
-        (0, [0xab, 0x03], "execution error 0 in procedure 1 at 0\n"),
-        (2, [0x04, 0x01], "execution error 7 in procedure 1 at 1\n"),
-        (5, [0x04, 0x00], "execution error 7 in procedure 1 at 10\n"),
-    ] {
-        let file = with_segment(rt.alloc(), at, &edit)?;
-        assert!(rt;
-            perform_on(&rt, "run", file.as_slice(), &[])?.is(3, "", text),
-            "{text}"
-        );
-    }
+    assert_eq!(rt; first_wrong(&rt, "run", &PRINTS_A, &BAD_OPCODES)?, None);
     Ok(())
 }
 
@@ -237,95 +306,159 @@ impl Write for Failing {
     }
 }
 
+/// Whether such a writer is refused, and nothing is read.
+fn fails(rt: &HostRuntime, words: &[&str], takes_nothing: bool) -> Result<bool, AllocError> {
+    let words = words_of(rt.alloc(), words)?;
+    let mut input: &[u8] = b"X";
+    let mut output = Failing { takes_nothing };
+    let mut errors = Vec::new(rt.alloc());
+    let status = command(rt, words.as_slice(), &mut input, &mut output, &mut errors);
+    let Failing { takes_nothing: _ } = output;
+    Ok(status == 1 && errors.as_slice() == b"refused E3\n".as_slice() && input == b"X".as_slice())
+}
+
+/// Words that print, and whether the writer takes nothing or fails.
+const WRITES: [(&[&str], bool); 4] = [
+    (&[], false),
+    (&[], true),
+    (&["--help"], false),
+    (&["--help"], true),
+];
+
 #[test]
 fn a_writer_that_fails(rt: HostRuntime) -> Result<(), AllocError> {
-    let none: [&str; 0] = [];
-    let help = ["--help"];
-    for takes_nothing in [false, true] {
-        for words in [none.as_slice(), help.as_slice()] {
-            let words = words_of(rt.alloc(), words)?;
-            let mut input: &[u8] = b"X";
-            let mut output = Failing { takes_nothing };
-            let mut errors = Vec::new(rt.alloc());
-            let status = command(&rt, words.as_slice(), &mut input, &mut output, &mut errors);
-            let Failing { takes_nothing: _ } = output;
-            assert_eq!(rt; status, 1);
-            assert_eq!(rt; errors.as_slice(), b"refused E3\n".as_slice());
-            assert_eq!(rt; input, b"X".as_slice());
-        }
+    for (words, takes_nothing) in WRITES {
+        assert!(rt;
+            fails(&rt, words, takes_nothing)?,
+            "{words:?} {takes_nothing}"
+        );
     }
     Ok(())
 }
 
+/// Words that are a fault of the command line.
+const FAULTY: [&[&str]; 8] = [
+    &["frobnicate", "x", "y", "z"],
+    &["run"],
+    &["run", "x", "y"],
+    &["run", "x", "--steps"],
+    &["run", "x", "--steps", "+5"],
+    &["run", "x", "--steps", ""],
+    &["run", "x", "--steps", "4294967296"],
+    &["--steps", "5"],
+];
+
+/// Words that ask for help.
+const HELP: [&[&str]; 3] = [&["--help"], &["help"], &["run", "--help"]];
+
+/// Whether words give this status, with a text on the error stream alone if it is not 0, and else on the
+/// output alone.
+fn explains(rt: &HostRuntime, words: &[&str], status: u8) -> Result<bool, AllocError> {
+    let done = perform(rt, words)?;
+    let on_errors = status != 0;
+    Ok(
+        done.status == status
+            && done.output.is_empty() == on_errors
+            && done.errors.is_empty() != on_errors,
+    )
+}
+
 #[test]
-fn faults_of_the_command_line(rt: HostRuntime) -> Result<(), Fail> {
-    for words in [
-        ["frobnicate", "x", "y", "z"].as_slice(),
-        ["run"].as_slice(),
-        ["run", "x", "y"].as_slice(),
-        ["run", "x", "--steps"].as_slice(),
-        ["run", "x", "--steps", "+5"].as_slice(),
-        ["run", "x", "--steps", ""].as_slice(),
-        ["run", "x", "--steps", "4294967296"].as_slice(),
-        ["--steps", "5"].as_slice(),
-    ] {
-        let done = perform(&rt, words)?;
-        assert_eq!(rt; done.status, 2);
-        assert!(rt; done.output.is_empty());
-        assert!(rt; !done.errors.is_empty());
+fn faults_of_the_command_line(rt: HostRuntime) -> Result<(), AllocError> {
+    for words in FAULTY {
+        assert!(rt; explains(&rt, words, 2)?, "{words:?}");
     }
-    for words in [
-        ["--help"].as_slice(),
-        ["help"].as_slice(),
-        ["run", "--help"].as_slice(),
-    ] {
-        let done = perform(&rt, words)?;
-        assert_eq!(rt; done.status, 0);
-        assert!(rt; !done.output.is_empty());
-        assert!(rt; done.errors.is_empty());
+    for words in HELP {
+        assert!(rt; explains(&rt, words, 0)?, "{words:?}");
     }
     Ok(())
+}
+
+/// Whether a file of so many zeros is refused so.
+fn zeros_are_refused(rt: &HostRuntime, length: u64, text: &str) -> io::Result<bool> {
+    let path = path_of(rt, "zeros")?;
+    let file = fs::create(rt, path.as_str())?;
+    file.set_len(length)?;
+    let done = perform(rt, &["run", path.as_str()]);
+    fs::remove_file(rt, path.as_str())?;
+    Ok(done?.is(1, b"", text))
 }
 
 #[test]
 fn files_that_can_not_be_read(rt: HostRuntime) -> io::Result<()> {
     let path = path_of(&rt, "none")?;
-    assert!(rt; perform(&rt, &["run", path.as_str()])?.is(1, "", "refused file\n"));
-    assert!(rt; perform(&rt, &["run", "/"])?.is(1, "", "refused file\n"));
+    assert!(rt; does(&rt, &["run", path.as_str()], Outcome::Refused("file"))?);
+    assert!(rt; does(&rt, &["run", "/"], Outcome::Refused("file"))?);
     // A file of zeros has no entry in use; one byte more than a file may have is not read.
-    for (length, text) in [(67_108_864, "refused F2\n"), (67_108_865, "refused file\n")] {
-        let file = fs::create(&rt, path.as_str())?;
-        file.set_len(length)?;
-        let done = perform(&rt, &["run", path.as_str()]);
-        fs::remove_file(&rt, path.as_str())?;
-        assert!(rt; done?.is(1, "", text), "{text}");
-    }
+    assert!(rt; zeros_are_refused(&rt, 67_108_864, "refused F2\n")?);
+    assert!(rt; zeros_are_refused(&rt, 67_108_865, "refused file\n")?);
     Ok(())
+}
+
+/// The file that prints A, with a name.
+fn letter(alloc: Global) -> Result<CodeFile, Fail> {
+    let bytes = code_file(alloc, &PRINTS_A)?;
+    let bytes = edited(alloc, bytes.as_slice(), 72, b"LETTER  ")?;
+    let file = CodeFile::read(alloc, bytes.as_slice())
+        .ok()
+        .ok_or("a file")?;
+    Ok(file)
+}
+
+#[test]
+fn looks_at_a_file(rt: HostRuntime) -> Result<(), Fail> {
+    let file = letter(rt.alloc())?;
+    assert!(rt; file.name() == *b"LETTER  " && file.segment() == PRINTS_A.as_slice());
+    assert!(rt; file.number() == 1 && file.count() == 1);
+    assert!(rt; file.procedure(0).is_none() && file.procedure(2).is_none());
+    Ok(())
+}
+
+/// The program of the file that prints A.
+fn program(alloc: Global) -> Result<Program, Fail> {
+    let program = Program::check(alloc, letter(alloc)?)
+        .ok()
+        .ok_or("a program")?;
+    Ok(program)
 }
 
 #[test]
 fn looks_at_a_program(rt: HostRuntime) -> Result<(), Fail> {
-    let bytes = with_file(rt.alloc(), 72, b"LETTER  ")?;
-    let file = CodeFile::read(rt.alloc(), bytes.as_slice())
-        .ok()
-        .ok_or("a file")?;
-    assert_eq!(rt; file.name(), *b"LETTER  ");
-    assert_eq!(rt; file.number(), 1);
-    assert_eq!(rt; file.count(), 1);
-    assert_eq!(rt; file.segment(), PRINTS_A.as_slice());
-    assert!(rt; file.procedure(0).is_none() && file.procedure(2).is_none());
-    let program = Program::check(rt.alloc(), file).ok().ok_or("a program")?;
+    let program = program(rt.alloc())?;
     assert_eq!(rt; program.reached(), 10);
     for (at, reached) in [(0, true), (2, false), (12, true), (13, false), (28, false)] {
         assert_eq!(rt; program.is_start(at), reached, "at {at}");
     }
+    Ok(())
+}
+
+/// The bytes that are offered to a machine, and its turns. One that is not wanted is not taken.
+const TURNS: [(Option<u8>, Turn); 12] = [
+    (None, Turn::Went),
+    (None, Turn::Went),
+    (None, Turn::Went),
+    (None, Turn::Went),
+    (None, Turn::Went),
+    (None, Turn::Went),
+    (None, Turn::Went),
+    (None, Turn::Went),
+    (None, Turn::Went),
+    (Some(7), Turn::Wrote(0x41)),
+    (None, Turn::Ended(End::Normal)),
+    (Some(7), Turn::Ended(End::Normal)),
+];
+
+/// Whether a machine that is offered a byte takes this turn.
+fn takes_turn(machine: &mut Machine<'_>, offered: Option<u8>, turn: Turn) -> bool {
+    machine.step(offered) == turn
+}
+
+#[test]
+fn steps_through_a_program(rt: HostRuntime) -> Result<(), Fail> {
+    let program = program(rt.alloc())?;
     let mut machine = Machine::new(rt.alloc(), &program).ok().ok_or("a machine")?;
-    for _ in 0..9 {
-        assert_eq!(rt; machine.step(None), Turn::Went);
+    for (offered, turn) in TURNS {
+        assert!(rt; takes_turn(&mut machine, offered, turn), "{turn:?}");
     }
-    // A byte that is offered and not wanted is not taken.
-    assert_eq!(rt; machine.step(Some(7)), Turn::Wrote(0x41));
-    assert_eq!(rt; machine.step(None), Turn::Ended(End::Normal));
-    assert_eq!(rt; machine.step(Some(7)), Turn::Ended(End::Normal));
     Ok(())
 }

@@ -73,11 +73,15 @@ fn repeats_are_one_vote(rt: HostRuntime) -> Result<(), Fail> {
     }
     assert!(rt; !is_chosen(3, sent.as_slice(), 0, KEY));
     sent.push(accepted(2, FIRST))?;
-    assert!(rt; is_chosen(3, sent.as_slice(), 0, KEY));
-    assert!(rt; !is_chosen(3, sent.as_slice(), 0, Value::Noop));
-    assert!(rt; !is_chosen(3, sent.as_slice(), 1, KEY));
     // Two of four are no majority.
-    assert!(rt; !is_chosen(4, sent.as_slice(), 0, KEY));
+    for (size, place, value, answer) in [
+        (3, 0, KEY, true),
+        (3, 0, Value::Noop, false),
+        (3, 1, KEY, false),
+        (4, 0, KEY, false),
+    ] {
+        assert_eq!(rt; is_chosen(size, sent.as_slice(), place, value), answer);
+    }
     Ok(())
 }
 

@@ -1,5 +1,6 @@
 //! Datagrams, by `show` and by the calls that read and write them.
-use super::perform;
+use super::Outcome::{Prints, Refused};
+use super::{Outcome, does, edited, perform};
 use paxos_msg::{
     Ballot, Body, Group, Msg, Value, Vote, Votes, WireFault, decode, encode, fits, read_ballot,
     read_value,
@@ -31,6 +32,9 @@ const PROMISE: [u8; 24] = [
     0x00, 0x00, 0x00, 0x00, 0x01, 0x00, 0x00, 0x00,
 ];
 
+/// What `show` prints of the Prepare.
+const PREPARED: Outcome = Prints(b"prepare from 1 ballot 1.1 place 0\n");
+
 /// Bytes in hexadecimal digits.
 fn digits_of(alloc: Global, bytes: &[u8]) -> Result<String, AllocError> {
     let mut text = String::new(alloc);
@@ -41,71 +45,83 @@ fn digits_of(alloc: Global, bytes: &[u8]) -> Result<String, AllocError> {
     Ok(text)
 }
 
-/// Whether `show` of these bytes has this status and these texts.
-fn shows(
+/// Whether `show` of these bytes comes to this.
+fn shows(rt: &HostRuntime, bytes: &[u8], outcome: Outcome) -> Result<bool, AllocError> {
+    let digits = digits_of(rt.alloc(), bytes)?;
+    does(rt, &["show", "3", "7", digits.as_str()], outcome)
+}
+
+/// Bytes that replace others from an offset on, and the fault.
+type Edit = (usize, &'static [u8], &'static str);
+
+/// Which of these edits of a datagram is not refused so, if one is not.
+fn first_wrong(
     rt: &HostRuntime,
     bytes: &[u8],
-    status: u8,
-    output: &str,
-    errors: &str,
-) -> Result<bool, AllocError> {
-    let digits = digits_of(rt.alloc(), bytes)?;
-    let done = perform(rt, &["show", "3", "7", digits.as_str()])?;
-    Ok(done.is(status, output, errors))
-}
-
-/// The bytes with some of them replaced from a place on.
-fn replaced(alloc: Global, bytes: &[u8], at: usize, new: &[u8]) -> Result<Vec<u8>, AllocError> {
-    let mut all = Vec::from_slice(alloc, bytes)?;
-    for (k, byte) in new.iter().enumerate() {
-        if let Some(place) = all.get_mut(at.saturating_add(k)) {
-            *place = *byte;
+    edits: &[Edit],
+) -> Result<Option<usize>, AllocError> {
+    for (k, (at, edit, fault)) in edits.iter().enumerate() {
+        let bytes = edited(rt.alloc(), bytes, *at, edit)?;
+        if !shows(rt, bytes.as_slice(), Refused(fault))? {
+            return Ok(Some(k));
         }
     }
-    Ok(all)
+    Ok(None)
 }
 
+/// Faults of a Prepare.
+const BAD_PREPARES: [Edit; 14] = [
+    (0, &[0x51], "G2"),
+    (1, &[0x48], "G2"),
+    (2, &[0x02], "G3"),
+    (3, &[0x00], "G4"),
+    (3, &[0x09], "G4"),
+    (5, &[0x05], "G5"),
+    (9, &[0x08], "G5"),
+    (4, &[0x00], "G6"),
+    (4, &[0x04], "G6"),
+    (10, &[0x00, 0x00, 0x00, 0x00], "G7"),
+    (14, &[0x00], "G7"),
+    (14, &[0x02], "G7"),
+    (14, &[0x04], "G7"),
+    (15, &[0x00, 0x01, 0x00, 0x00], "G8"),
+];
+
+/// Faults of an Accept.
+const BAD_ACCEPTS: [Edit; 5] = [
+    (19, &[0x02], "G9"),
+    (20, &[0x00], "G9"),
+    (20, &[0x04], "G9"),
+    (21, &[0x00, 0x00, 0x00, 0x00], "G9"),
+    (25, &[0x00, 0x00, 0x00, 0x00], "G9"),
+];
+
+/// What `show` prints of the Accept.
+const ACCEPTED: Outcome = Prints(b"accept from 1 ballot 1.1 place 0 key 2 1 1 48\n");
+
+/// A Prepare with one more byte.
+const LONGER: [u8; 20] = [
+    0x50, 0x47, 0x01, 0x01, 0x01, 0x03, 0x00, 0x00, 0x00, 0x07, 0x00, 0x00, 0x00, 0x01, 0x01, 0x00,
+    0x00, 0x00, 0x00, 0x00,
+];
+
+/// Whole datagrams, and what `show` makes of them.
+const WHOLE: [(&[u8], Outcome); 3] = [
+    (&PREPARE, PREPARED),
+    (&ACCEPT, ACCEPTED),
+    (&LONGER, Refused("G12")),
+];
+
+/// Datagrams and edits of them.
+const EDITED: [(&[u8], &[Edit]); 2] = [(&PREPARE, &BAD_PREPARES), (&ACCEPT, &BAD_ACCEPTS)];
+
 #[test]
-fn prepare_and_accept_bytes(rt: HostRuntime) -> Result<(), Fail> {
-    let alloc = rt.alloc();
-    let text = "prepare from 1 ballot 1.1 place 0\n";
-    assert!(rt; shows(&rt, &PREPARE, 0, text, "")?);
-    let text = "accept from 1 ballot 1.1 place 0 key 2 1 1 48\n";
-    assert!(rt; shows(&rt, &ACCEPT, 0, text, "")?);
-    for (at, new, text) in [
-        (0, [0x51].as_slice(), "refused G2\n"),
-        (1, [0x48].as_slice(), "refused G2\n"),
-        (2, [0x02].as_slice(), "refused G3\n"),
-        (3, [0x00].as_slice(), "refused G4\n"),
-        (3, [0x09].as_slice(), "refused G4\n"),
-        (5, [0x05].as_slice(), "refused G5\n"),
-        (9, [0x08].as_slice(), "refused G5\n"),
-        (4, [0x00].as_slice(), "refused G6\n"),
-        (4, [0x04].as_slice(), "refused G6\n"),
-        (10, [0x00, 0x00, 0x00, 0x00].as_slice(), "refused G7\n"),
-        (14, [0x00].as_slice(), "refused G7\n"),
-        (14, [0x02].as_slice(), "refused G7\n"),
-        (14, [0x04].as_slice(), "refused G7\n"),
-        (15, [0x00, 0x01, 0x00, 0x00].as_slice(), "refused G8\n"),
-    ] {
-        let bytes = replaced(alloc, &PREPARE, at, new)?;
-        assert!(rt; shows(&rt, bytes.as_slice(), 1, "", text)?, "{at} {text}");
+fn prepare_and_accept_bytes(rt: HostRuntime) -> Result<(), AllocError> {
+    for (bytes, outcome) in WHOLE {
+        assert!(rt; shows(&rt, bytes, outcome)?, "{bytes:?}");
     }
-    let mut longer = Vec::from_slice(alloc, &PREPARE)?;
-    longer.push(0)?;
-    assert!(rt; shows(&rt, longer.as_slice(), 1, "", "refused G12\n")?);
-    for (at, new) in [
-        (19, [0x02].as_slice()),
-        (20, [0x00].as_slice()),
-        (20, [0x04].as_slice()),
-        (21, [0x00, 0x00, 0x00, 0x00].as_slice()),
-        (25, [0x00, 0x00, 0x00, 0x00].as_slice()),
-    ] {
-        let bytes = replaced(alloc, &ACCEPT, at, new)?;
-        assert!(rt;
-            shows(&rt, bytes.as_slice(), 1, "", "refused G9\n")?,
-            "{at}"
-        );
+    for (bytes, edits) in EDITED {
+        assert_eq!(rt; first_wrong(&rt, bytes, edits)?, None, "{bytes:?}");
     }
     Ok(())
 }
@@ -114,16 +130,21 @@ fn prepare_and_accept_bytes(rt: HostRuntime) -> Result<(), Fail> {
 fn cut_datagrams(rt: HostRuntime) -> Result<(), Fail> {
     for bytes in [PREPARE.as_slice(), ACCEPT.as_slice(), PROMISE.as_slice()] {
         for k in 0..bytes.len() {
-            let fault = decode(&bytes[..k], GROUP).err().ok_or("a fault")?;
-            assert_eq!(rt; fault, WireFault::Short, "{k}");
+            let fault = decode(&bytes[..k], GROUP).err();
+            assert_eq!(rt; fault, Some(WireFault::Short), "{k}");
         }
     }
+    Ok(())
+}
+
+#[test]
+fn shortest_datagrams(rt: HostRuntime) -> Result<(), AllocError> {
     // Behind a round of 0 there is no node to read.
-    let round_zero = replaced(rt.alloc(), &PREPARE, 10, &[0, 0, 0, 0])?;
-    let cut = round_zero.as_slice().get(..14).ok_or("14 bytes")?;
-    assert!(rt; shows(&rt, cut, 1, "", "refused G7\n")?);
-    assert!(rt; shows(&rt, &PREPARE[..14], 1, "", "refused G1\n")?);
-    assert!(rt; shows(&rt, &[], 1, "", "refused G1\n")?);
+    let round_zero = edited(rt.alloc(), &PREPARE, 10, &[0, 0, 0, 0])?;
+    let cut = round_zero.as_slice().get(..14).unwrap_or(&[]);
+    assert!(rt; shows(&rt, cut, Refused("G7"))?);
+    assert!(rt; shows(&rt, &PREPARE[..14], Refused("G1"))?);
+    assert!(rt; shows(&rt, &[], Refused("G1"))?);
     Ok(())
 }
 
@@ -153,121 +174,156 @@ fn promise_with(alloc: Global, count: u32) -> Result<Msg, AllocError> {
     })
 }
 
+/// A promise without votes.
+const NO_VOTES: &[u8] = b"promise from 2 ballot 1.1 first 0 upto 65536 votes 0\n";
+
+/// A promise with two votes, which are 20 bytes each behind the count.
+const TWO_VOTES: &[u8] = b"promise from 2 ballot 1.1 first 0 upto 65536 votes 2
+vote 0 1.1 key 2 1 1 48
+vote 1 1.1 key 2 1 1 48
+";
+
+/// Faults of a promise with two votes: places that do not ascend, a ballot above the promise's, and a
+/// place below the first.
+const BAD_VOTES: [Edit; 3] = [(47, &[0], "G10"), (31, &[2], "G7"), (18, &[1], "G8")];
+
 #[test]
-fn promise_bytes_and_parts(rt: HostRuntime) -> Result<(), Fail> {
-    let alloc = rt.alloc();
-    let text = "promise from 2 ballot 1.1 first 0 upto 65536 votes 0\n";
-    assert!(rt; shows(&rt, &PROMISE, 0, text, "")?);
-    let bytes = replaced(alloc, &PROMISE, 23, &[0x41])?;
-    assert!(rt; shows(&rt, bytes.as_slice(), 1, "", "refused G11\n")?);
-    // Two votes are 20 bytes each behind the count.
-    let two = promise_with(alloc, 2)?;
+fn promise_bytes_and_parts(rt: HostRuntime) -> Result<(), AllocError> {
+    assert!(rt; shows(&rt, &PROMISE, Prints(NO_VOTES))?);
+    assert_eq!(rt; first_wrong(&rt, &PROMISE, &[(23, &[0x41], "G11")])?, None);
+    Ok(())
+}
+
+#[test]
+fn promise_with_votes(rt: HostRuntime) -> Result<(), Fail> {
+    let two = promise_with(rt.alloc(), 2)?;
     assert!(rt; fits(&two, GROUP));
-    let bytes = encode(alloc, &two, GROUP)?;
-    let text =
-        "promise from 2 ballot 1.1 first 0 upto 65536 votes 2\nvote 0 1.1 key 2 1 1 48\nvote 1 1.1 key 2 1 1 48\n";
-    assert!(rt; shows(&rt, bytes.as_slice(), 0, text, "")?);
-    let same = replaced(alloc, bytes.as_slice(), 47, &[0])?;
-    assert!(rt; shows(&rt, same.as_slice(), 1, "", "refused G10\n")?);
-    let above = replaced(alloc, bytes.as_slice(), 31, &[2])?;
-    assert!(rt; shows(&rt, above.as_slice(), 1, "", "refused G7\n")?);
-    let below_first = replaced(alloc, bytes.as_slice(), 18, &[1])?;
-    assert!(rt; shows(&rt, below_first.as_slice(), 1, "", "refused G8\n")?);
-    let most = promise_with(alloc, 64)?;
+    let bytes = encode(rt.alloc(), &two, GROUP)?;
+    assert!(rt; shows(&rt, bytes.as_slice(), Prints(TWO_VOTES))?);
+    assert_eq!(rt; first_wrong(&rt, bytes.as_slice(), &BAD_VOTES)?, None);
+    Ok(())
+}
+
+#[test]
+fn longest_promise(rt: HostRuntime) -> Result<(), Fail> {
+    let most = promise_with(rt.alloc(), 64)?;
     assert!(rt; fits(&most, GROUP));
-    assert_eq!(rt; encode(alloc, &most, GROUP)?.len(), 1304);
-    let too_many = promise_with(alloc, 65)?;
+    assert_eq!(rt; encode(rt.alloc(), &most, GROUP)?.len(), 1304);
+    let too_many = promise_with(rt.alloc(), 65)?;
     assert!(rt; !fits(&too_many, GROUP));
     Ok(())
 }
 
+const BALLOT: Ballot = Ballot { round: 1, node: 1 };
+
+const KEY: Value = Value::Key {
+    node: 2,
+    start: 1,
+    serial: 3,
+    byte: 0x4a,
+};
+
+/// Messages of the other kinds, and what `show` prints of them.
+const OTHER_KINDS: [(u8, Body, &[u8]); 5] = [
+    (
+        2,
+        Body::Accepted {
+            ballot: BALLOT,
+            place: 9,
+            value: Value::Noop,
+        },
+        b"accepted from 2 ballot 1.1 place 9 noop\n",
+    ),
+    (
+        3,
+        Body::Refused {
+            ballot: BALLOT,
+            promised: Ballot { round: 2, node: 3 },
+        },
+        b"refused from 3 ballot 1.1 promised 2.3\n",
+    ),
+    (
+        2,
+        Body::Submit { key: KEY },
+        b"submit from 2 key 2 1 3 4A\n",
+    ),
+    (1, Body::Ask { from: 65536 }, b"ask from 1 place 65536\n"),
+    (
+        1,
+        Body::Tell {
+            place: 65535,
+            value: KEY,
+        },
+        b"tell from 1 place 65535 key 2 1 3 4A\n",
+    ),
+];
+
 #[test]
 fn other_kinds(rt: HostRuntime) -> Result<(), Fail> {
-    let alloc = rt.alloc();
-    let ballot = Ballot { round: 1, node: 1 };
-    let promised = Ballot { round: 2, node: 3 };
-    let key = Value::Key {
-        node: 2,
-        start: 1,
-        serial: 3,
-        byte: 0x4a,
-    };
-    for (sender, body, text) in [
-        (
-            2,
-            Body::Accepted {
-                ballot,
-                place: 9,
-                value: Value::Noop,
-            },
-            "accepted from 2 ballot 1.1 place 9 noop\n",
-        ),
-        (
-            3,
-            Body::Refused { ballot, promised },
-            "refused from 3 ballot 1.1 promised 2.3\n",
-        ),
-        (2, Body::Submit { key }, "submit from 2 key 2 1 3 4A\n"),
-        (1, Body::Ask { from: 65536 }, "ask from 1 place 65536\n"),
-        (
-            1,
-            Body::Tell {
-                place: 65535,
-                value: key,
-            },
-            "tell from 1 place 65535 key 2 1 3 4A\n",
-        ),
-    ] {
+    for (sender, body, text) in OTHER_KINDS {
         let message = Msg { sender, body };
         assert!(rt; fits(&message, GROUP));
-        let bytes = encode(alloc, &message, GROUP)?;
-        assert!(rt; shows(&rt, bytes.as_slice(), 0, text, "")?, "{text}");
+        let bytes = encode(rt.alloc(), &message, GROUP)?;
+        assert!(rt; shows(&rt, bytes.as_slice(), Prints(text))?, "{sender}");
+    }
+    Ok(())
+}
+
+/// A key: the first of the first start of node 2.
+const FIRST_KEY: Value = Value::Key {
+    node: 2,
+    start: 1,
+    serial: 1,
+    byte: 0x48,
+};
+
+#[test]
+fn single_fields(rt: HostRuntime) {
+    for (bytes, field) in [
+        (&PREPARE[10..], Ok((BALLOT, 5))),
+        (&[0, 0, 0, 1, 4], Err(WireFault::Ballot)),
+    ] {
+        assert_eq!(rt; read_ballot(bytes, GROUP), field);
+    }
+    for (bytes, field) in [
+        (&ACCEPT[19..], Ok((FIRST_KEY, 11))),
+        (&[0], Ok((Value::Noop, 1))),
+        (&[2], Err(WireFault::Value)),
+        (&[1, 2], Err(WireFault::Short)),
+    ] {
+        assert_eq!(rt; read_value(bytes, GROUP), field);
+    }
+}
+
+/// Words that are a fault of the command line.
+const FAULTY: [&[&str]; 5] = [
+    &["show"],
+    &["show", "3", "7"],
+    &["show", "256", "7", "50"],
+    &["show", "3", "4294967296", "50"],
+    &["show", "+3", "7", "50"],
+];
+
+#[test]
+fn words_of_show(rt: HostRuntime) -> Result<(), AllocError> {
+    for digits in ["5", "504", "5g", "zz", " 50"] {
+        assert!(rt;
+            perform(&rt, &["show", "3", "7", digits])?.is(2, b"", "bad hex\n"),
+            "{digits}"
+        );
+    }
+    for words in FAULTY {
+        assert_eq!(rt; perform(&rt, words)?.status, 2);
     }
     Ok(())
 }
 
 #[test]
-fn single_fields(rt: HostRuntime) {
-    let ballot = Ballot { round: 1, node: 1 };
-    assert_eq!(rt; read_ballot(&PREPARE[10..], GROUP), Ok((ballot, 5)));
-    assert_eq!(rt;
-        read_ballot(&[0, 0, 0, 1, 4], GROUP),
-        Err(WireFault::Ballot)
-    );
-    let key = Value::Key {
-        node: 2,
-        start: 1,
-        serial: 1,
-        byte: 0x48,
-    };
-    assert_eq!(rt; read_value(&ACCEPT[19..], GROUP), Ok((key, 11)));
-    assert_eq!(rt; read_value(&[0], GROUP), Ok((Value::Noop, 1)));
-    assert_eq!(rt; read_value(&[2], GROUP), Err(WireFault::Value));
-    assert_eq!(rt; read_value(&[1, 2], GROUP), Err(WireFault::Short));
-}
-
-#[test]
-fn words_of_show(rt: HostRuntime) -> Result<(), Fail> {
-    for digits in ["5", "504", "5g", "zz", " 50"] {
-        assert!(rt;
-            perform(&rt, &["show", "3", "7", digits])?.is(2, "", "bad hex\n"),
-            "{digits}"
-        );
-    }
-    let digits = digits_of(rt.alloc(), &PREPARE)?;
-    let text = "prepare from 1 ballot 1.1 place 0\n";
-    let upper = digits.as_str().to_ascii_uppercase(rt.alloc())?;
-    assert!(rt; perform(&rt, &["show", "3", "7", upper.as_str()])?.is(0, text, ""));
-    assert!(rt; perform(&rt, &["show", "4", "7", digits.as_str()])?.is(1, "", "refused G5\n"));
-    assert!(rt; perform(&rt, &["show", "3", "8", digits.as_str()])?.is(1, "", "refused G5\n"));
-    for words in [
-        ["show"].as_slice(),
-        ["show", "3", "7"].as_slice(),
-        ["show", "256", "7", "50"].as_slice(),
-        ["show", "3", "4294967296", "50"].as_slice(),
-        ["show", "+3", "7", "50"].as_slice(),
-    ] {
-        assert_eq!(rt; perform(&rt, words)?.status, 2);
-    }
+fn digits_and_groups(rt: HostRuntime) -> Result<(), AllocError> {
+    let lower = digits_of(rt.alloc(), &PREPARE)?;
+    let upper = lower.as_str().to_ascii_uppercase(rt.alloc())?;
+    assert!(rt; does(&rt, &["show", "3", "7", upper.as_str()], PREPARED)?);
+    assert!(rt; does(&rt, &["show", "4", "7", lower.as_str()], Refused("G5"))?);
+    assert!(rt; does(&rt, &["show", "3", "8", lower.as_str()], Refused("G5"))?);
     Ok(())
 }

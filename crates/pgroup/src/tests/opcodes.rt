@@ -133,73 +133,99 @@ fn instructions(rt: HostRuntime) -> Result<(), Fail> {
     check_rows(&rt, &FLOW)
 }
 
+/// These bytes are refused with this fault.
+fn check_fault(rt: &impl Abort, bytes: &[u8], fault: OpFault) {
+    assert_eq!(rt; decode(bytes, 0), Err(fault), "{bytes:?}");
+}
+
+/// Opcodes, and what they are refused with.
+const REFUSED: [(&[u8], OpFault); 4] = [
+    (
+        &[129, 131, 135, 137, 138, 144, 146, 150, 153],
+        OpFault::Real,
+    ),
+    (&[133, 139, 140, 148, 151, 156, 160], OpFault::Set),
+    (&[155, 166, 170], OpFault::Str),
+    (&[157, 167, 205, 209], OpFault::Segment),
+];
+
 #[test]
-fn opcodes_that_are_refused(rt: HostRuntime) -> Result<(), Fail> {
-    for opcode in [129, 131, 135, 137, 138, 144, 146, 150, 153] {
-        assert_eq!(&rt; decode(&[opcode], 0), Err(OpFault::Real));
-    }
-    for opcode in [133, 139, 140, 148, 151, 156, 160] {
-        assert_eq!(&rt; decode(&[opcode], 0), Err(OpFault::Set));
-    }
-    for opcode in [155, 166, 170] {
-        assert_eq!(&rt; decode(&[opcode], 0), Err(OpFault::Str));
-    }
-    for opcode in [157, 167, 205, 209] {
-        assert_eq!(&rt; decode(&[opcode], 0), Err(OpFault::Segment));
+fn opcodes_that_are_refused(rt: HostRuntime) {
+    for (opcodes, fault) in REFUSED {
+        for opcode in opcodes {
+            check_fault(&rt, &[*opcode], fault);
+        }
     }
     for opcode in [179, 186, 187, 192, 194, 208, 210, 213, 214] {
-        assert_eq!(&rt; decode(&[opcode], 0), Err(OpFault::Unsupported(opcode)));
+        check_fault(&rt, &[opcode], OpFault::Unsupported(opcode));
     }
     for opcode in [175, 176, 177, 180, 181, 183] {
-        assert_eq!(&rt; decode(&[opcode, 2], 0), Err(OpFault::Unsupported(opcode)));
+        check_fault(&rt, &[opcode, 2], OpFault::Unsupported(opcode));
     }
-    for number in [1, 32, 33] {
-        assert_eq!(&rt; decode(&[158, number], 0), Err(OpFault::Heap));
-    }
-    for number in [2, 4, 7, 9, 31, 35, 38, 40, 255] {
-        assert_eq!(&rt;
-            decode(&[158, number], 0),
-            Err(OpFault::StandardProcedure(number))
-        );
-    }
-    Ok(())
 }
 
 #[test]
-fn case_jumps(rt: HostRuntime) -> Result<(), Fail> {
-    // XJP at 0: its bounds stand at 2 and 4, its UJP at 6, and the table at 8 and 10.
-    let code = [
-        0xac, 0x00, 0x01, 0x00, 0x02, 0x00, 0xb9, 0x04, 0x0d, 0x00, 0x0c, 0x00,
-    ];
-    let xjp = Instr::Xjp {
-        low: 1,
-        high: 2,
-        sb: 4,
-        table: 8,
-    };
-    assert_eq!(&rt; decode(&code, 0), Ok((xjp, 12)));
-    for length in 0..12 {
-        let cut = code.as_slice().get(..length).unwrap_or(&[]);
-        assert_eq!(&rt; decode(cut, 0), Err(OpFault::Cut), "{length}");
+fn standard_procedures_that_are_refused(rt: HostRuntime) {
+    for number in [1, 32, 33] {
+        check_fault(&rt, &[158, number], OpFault::Heap);
     }
-    // One entry, for index -32768.
-    let mut least = code;
-    least[2..6].copy_from_slice(&[0x00, 0x80, 0x00, 0x80]);
-    let xjp = Instr::Xjp {
-        low: -32768,
-        high: -32768,
-        sb: 4,
-        table: 8,
-    };
-    assert_eq!(&rt; decode(&least, 0), Ok((xjp, 10)));
-    // The bounds the wrong way round, and no UJP: before the table is looked at.
-    let mut wrong = code;
-    wrong[2..6].copy_from_slice(&[0x02, 0x00, 0x01, 0x00]);
-    assert_eq!(&rt; decode(&wrong, 0), Err(OpFault::CaseTable));
-    assert_eq!(&rt; decode(&wrong[..8], 0), Err(OpFault::CaseTable));
-    assert_eq!(&rt; decode(&wrong[..7], 0), Err(OpFault::Cut));
-    let mut none = code;
-    none[6] = 0xa1;
-    assert_eq!(&rt; decode(&none, 0), Err(OpFault::CaseTable));
-    Ok(())
+    for number in [2, 4, 7, 9, 31, 35, 38, 40, 255] {
+        check_fault(&rt, &[158, number], OpFault::StandardProcedure(number));
+    }
+}
+
+/// XJP at 0 over 1 to 2: its bounds stand at 2 and 4, its UJP at 6, and the table at 8 and 10.
+const CASE_JUMP: [u8; 12] = [
+    0xac, 0x00, 0x01, 0x00, 0x02, 0x00, 0xb9, 0x04, 0x0d, 0x00, 0x0c, 0x00,
+];
+
+/// XJP at 0 over -32768 alone, whose table is one word.
+const LEAST: [u8; 12] = [
+    0xac, 0x00, 0x00, 0x80, 0x00, 0x80, 0xb9, 0x04, 0x0d, 0x00, 0x0c, 0x00,
+];
+
+/// Bounds the wrong way round, whole and cut, and another instruction in the UJP's place: the faults come
+/// before the table is looked at.
+const FAULTY: [(&[u8], OpFault); 4] = [
+    (
+        &[
+            0xac, 0x00, 0x02, 0x00, 0x01, 0x00, 0xb9, 0x04, 0x0d, 0x00, 0x0c, 0x00,
+        ],
+        OpFault::CaseTable,
+    ),
+    (
+        &[0xac, 0x00, 0x02, 0x00, 0x01, 0x00, 0xb9, 0x04],
+        OpFault::CaseTable,
+    ),
+    (&[0xac, 0x00, 0x02, 0x00, 0x01, 0x00, 0xb9], OpFault::Cut),
+    (
+        &[
+            0xac, 0x00, 0x01, 0x00, 0x02, 0x00, 0xa1, 0x04, 0x0d, 0x00, 0x0c, 0x00,
+        ],
+        OpFault::CaseTable,
+    ),
+];
+
+#[test]
+fn case_jumps(rt: HostRuntime) {
+    for (code, low, high, length) in [(CASE_JUMP, 1, 2, 12), (LEAST, -32768, -32768, 10)] {
+        let xjp = Instr::Xjp {
+            low,
+            high,
+            sb: 4,
+            table: 8,
+        };
+        assert_eq!(&rt; decode(&code, 0), Ok((xjp, length)));
+    }
+}
+
+#[test]
+fn faulty_case_jumps(rt: HostRuntime) {
+    for length in 0..12 {
+        let cut = CASE_JUMP.as_slice().get(..length).unwrap_or(&[]);
+        check_fault(&rt, cut, OpFault::Cut);
+    }
+    for (code, fault) in FAULTY {
+        check_fault(&rt, code, fault);
+    }
 }

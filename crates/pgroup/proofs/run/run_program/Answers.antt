@@ -7,7 +7,7 @@ pub returns-in_default : goal.returns-in_default
 returns-in_default g c = no_run _ _ c.args.steps (record { longer = c.same_run_on_longer_input.ensures; there = c.run_is_after.ensures })
 
 pub loop-init : goal.loop-init
-loop-init g c = record { program = c.in-Ok.ensures.0; run = rw c.in-Ok.ensures.1 (Reached-start _ _) }
+loop-init g c = record { program = c.in-Ok.ensures.program; run = rw c.in-Ok.ensures.start (Reached-start _ _) }
 
 pub loop-preserved : goal.loop-preserved
 loop-preserved g c =

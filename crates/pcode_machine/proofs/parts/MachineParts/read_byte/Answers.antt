@@ -7,4 +7,4 @@ pub returns-clause-value : goal.returns-clause-value
 returns-clause-value c = λ before output.
     let fits : SFits w32 c.args.transfer.address = search rules in
     let there = simp to_z-of_z at c.in-Some.ensures in
-    rw (← there, offered_at_end before c.args.offered, c.in-Some-offered.is, c.turn_of.ensures.value, c.take_byte.ensures.value) refl
+    rw (← there, offered_at_end before c.args.offered, c.in-Some-offered.is, c.turn_of.ensures.value, c.take_byte.ensures) refl

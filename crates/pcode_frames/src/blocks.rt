@@ -1,0 +1,54 @@
+//! Blocks: words of memory one after another, copied, pushed and popped.
+ghost use Rattle.std.specs.Prelude.{◌≡◌, ◌+◌, ◌≤◌, ◌++◌, IsTrue, length, take, drop};
+ghost use Rattle.pcode_frames.specs.Blocks.{is_live, block_of, with_block};
+
+use crate::memory::Memory;
+use crate::stack::Stack;
+
+impl Memory {
+    /// Whether so many words from a word address on are live; if none is asked for, they are.
+    pub fn is_live(&self, word: u16, words: u16) -> bool
+        ensures { result ≡ is_live self.now word words }
+    {
+        words == 0 || word > 0 && u32::from(word) - 1 + u32::from(words) <= u32::from(self.top())
+    }
+
+    /// Copies words, all read before any is written.
+    pub fn copy(&mut self, to: u16, from: u16, words: u16)
+        requires to { IsTrue (is_live self.old to words) }
+        requires from { IsTrue (is_live self.old from words) }
+        ensures { self.new ≡ with_block self.old to (block_of self.old from words) }
+    {
+        if words == 0 {
+            return;
+        }
+        let start = usize::from(from) - 1;
+        let end = start + usize::from(words);
+        self.words.copy_within(start..end, usize::from(to) - 1);
+    }
+
+    /// Pushes words of memory, the highest first, so that the first becomes the top.
+    pub fn push_block(&self, stack: &mut Stack, word: u16, words: u16)
+        requires live { IsTrue (is_live self.now word words) }
+        requires room { length stack.old + words ≤ 1024 }
+        ensures { stack.new ≡ block_of self.now word words ++ stack.old }
+    {
+        for above in (0..usize::from(words)).rev() {
+            let value = self.words[usize::from(word) + above - 1];
+            stack.push(value).unwrap();
+        }
+    }
+
+    /// Pops words to memory, the top to the first.
+    pub fn pop_block(&mut self, stack: &mut Stack, word: u16, words: u16)
+        requires live { IsTrue (is_live self.old word words) }
+        requires there { words ≤ length stack.old }
+        ensures memory { self.new ≡ with_block self.old word (take words stack.old) }
+        ensures stack { stack.new ≡ drop words stack.old }
+    {
+        for above in 0..usize::from(words) {
+            let value = stack.pop().unwrap();
+            self.words[usize::from(word) + above - 1] = value;
+        }
+    }
+}

@@ -1,0 +1,37 @@
+-- What it says that an answer agrees with the relations of its effect.
+use Rattle.std.proofs.Common.{◌≡◌, ℕ, Option, Some, None, IsSome, IsNone, MatchOption, Result, Ok, Err, MatchResult, refl}
+use Rattle.pcode_machine.specs.declared.turn.Stop.{Stop}
+use Rattle.pcode_machine.specs.declared.turn.Stop.TheVariants.{Normal, Error}
+use Rattle.pcode_machine.specs.Configuration.{State}
+use Rattle.pcode_machine.specs.Effects.{Effect, Finish}
+use Rattle.pcode_machine.specs.Step.{Makes, FailsBy}
+
+-- why an answer stops: N at the normal end, F of the number of an error
+abbrev pub Stopped : Type 0 → (ℕ → Type 0) → Stop → Type 0
+Stopped N F Normal = N
+Stopped N F (Error e) = F e
+
+-- An answer agrees with its relations: A holds of the state that it gives and of no other, and where it stops
+-- N or F holds, F of no other number. Each effect has a lemma that says so.
+pub record Agrees (N : Type 0) (A : State → Type 0) (F : ℕ → Type 0) (r : Option (Result State Stop)) : Type 0 where
+  pub holds : MatchOption r (Unit {0}) (λ r. MatchResult r A (Stopped N F))
+  pub goes : (t : State) → A t → r ≡ Some (Ok t)
+  pub fails : (e : ℕ) → F e → r ≡ Some (Err (Error e))
+
+-- what an effect's answer has to meet
+abbrev pub Meets : Effect → ℕ → State → Result State Stop → Type 0
+Meets x j s r = MatchResult r (Makes x j s) (Stopped (x ≡ Finish) (FailsBy x s))
+
+-- an option that is none is no value
+pub not_some : {A : Type 0} (o : Option A) (v : A) → o ≡ Some v → IsNone o → ⊥
+not_some None v e h = absurd cc
+not_some (Some w) v e h = absurd cc
+
+pub not_none : {A : Type 0} (o : Option A) → o ≡ None → IsSome o → ⊥
+not_none None e h = absurd cc
+not_none (Some w) e h = absurd cc
+
+-- an option that is none, as an equation
+pub none_is : {A : Type 0} (o : Option A) → IsNone o → o ≡ None
+none_is None h = refl
+none_is (Some v) h = absurd cc

@@ -1,0 +1,37 @@
+-- Calls and returns, and where static links lead.
+use Rattle.std.specs.Prelude.{ℕ, ◌+◌, ◌-◌, List, Option, Result, Ok, Err, slice_get}
+use Rattle.std.specs.Option.{option_and_then}
+use Rattle.pcode_file.specs.declared.file.Proc.{Proc}
+use Rattle.pcode_file.specs.Parts.{Parts, procedure_of}
+use Rattle.pcode_frames.specs.declared.frame.Frame.{Frame}
+use Rattle.pcode_frames.specs.declared.halt.Halt.{Halt}
+use Rattle.pcode_frames.specs.Frames.{called, returned, parts, link_up_of}
+use Rattle.pcode_frames.specs.Frames as frames
+use Rattle.pcode_frames.specs.Halts.{number_of}
+use Rattle.pcode_machine.specs.declared.turn.Stop.{Stop}
+use Rattle.pcode_machine.specs.declared.turn.Stop.TheVariants.{Error}
+use Rattle.pcode_machine.specs.Configuration.{State}
+
+-- the frame so many static links up from the current one, if there is one
+abbrev pub frame_up : List Frame → ℕ → Option Frame
+frame_up fs n = option_and_then (λ k. slice_get fs k) (link_up_of fs n)
+
+-- The index of the frame that the procedure in frame f links procedure n to, which may be one around it: so many static links
+-- up from the current frame as the caller's level is above the level of the procedure around n.
+abbrev pub link_outward : Parts → Frame → ℕ → List Frame → Option ℕ
+link_outward p f n fs =
+    option_and_then (λ (caller : Proc). option_and_then (λ (callee : Proc). link_up_of fs (caller.level + 1 - callee.level)) (procedure_of p.procs n))
+    (procedure_of p.procs f.procedure)
+
+-- the state with what a call or a return made of words, stack and frames, where execution goes on at an offset
+abbrev pub with_parts : ℕ → State → Result frames.Parts Halt → Result State Stop
+with_parts next s (Ok new) = Ok (record s { words = new.words; stack = new.stack; frames = new.frames; next = next })
+with_parts next s (Err halt) = Err (Error (number_of halt))
+
+-- procedure n is called, which goes on at j when it returns
+abbrev pub entered : ℕ → Proc → ℕ → ℕ → State → Result State Stop
+entered n callee link j s = with_parts callee.enter s (called n callee.params callee.vars link j (parts s.words s.stack s.frames))
+
+-- the procedure of the current frame returns with so many words
+abbrev pub left : ℕ → Frame → State → Result State Stop
+left words frame s = with_parts frame.back s (returned words frame (parts s.words s.stack s.frames))

@@ -1,0 +1,158 @@
+-- What each instruction does: a line for each, by one of a few effects.
+use Rattle.std.specs.Prelude.{ℕ, ◌+◌, ◌%◌, ◌==◌, ◌≤◌, ◌<◌, if◌then◌else◌, length, Option, Some, None}
+use Rattle.pcode_file.specs.declared.file.Proc.{Proc}
+use Rattle.pcode_file.specs.Parts.{Parts, procedure_of}
+use Rattle.pcode_ops.specs.declared.instr.Instr.{Instr}
+use Rattle.pcode_ops.specs.declared.instr.Instr.TheVariants.{Sldc, Ldcn, Ldci, Sldl, Ldl, Stl, Lla, Sldo, Ldo, Sro, Lao, Lod, Str, Lda, Sto, Sind, Ind, Inc, Ixa, Mov, Ldm, Stm, Ldb, Stb, Adi, Sbi, Mpi, Dvi, Modi, Abi, Ngi, Sqi, Chk, Land, Lor, Lnot, Equi, Neqi, Leqi, Lesi, Geqi, Grti, Equ, Neq, Leq, Les, Geq, Grt, Ujp, Fjp, Efj, Nfj, Xjp, Clp, Cgp, Cip, Csp, Rnp, Rbp, Nop}
+use Rattle.pcode_ops.specs.declared.instr.StandardProcedure.{StandardProcedure}
+use Rattle.pcode_ops.specs.declared.instr.StandardProcedure.TheVariants.{IoCheck, UnitRead, UnitWrite, IoResult, Halt}
+use Rattle.pcode_ops.specs.Jumps.{jump_in, case_of, IsCaseTable}
+use Rattle.pcode_frames.specs.declared.frame.Frame.{Frame}
+use Rattle.pcode_frames.specs.Frames.{link_up_of}
+use Rattle.pcode_machine.specs.declared.turn.Direction.{Direction}
+use Rattle.pcode_machine.specs.declared.turn.Direction.TheVariants.{Reading, Writing}
+use Rattle.pcode_machine.specs.declared.operations.Change.{Change}
+use Rattle.pcode_machine.specs.declared.operations.Change.TheVariants.{Absolute, Negation, Square, Complement, Behind}
+use Rattle.pcode_machine.specs.declared.operations.Operation.{Operation}
+use Rattle.pcode_machine.specs.declared.operations.Operation.TheVariants.{Sum, Difference, Product, Quotient, Remainder, Both, Either, Compare, CompareBits, Element}
+use Rattle.pcode_machine.specs.declared.comparisons.Comparison.TheVariants.{Equal, NotEqual, LessOrEqual, Less, GreaterOrEqual, Greater}
+use Rattle.pcode_machine.specs.Configuration.{State}
+use Rattle.pcode_machine.specs.Loads.{address_of}
+use Rattle.pcode_machine.specs.Calls.{frame_up, link_outward}
+
+pub data Effect : Type 0 where
+  -- a word is pushed
+  Push : (word : ℕ) → Effect
+  -- the word at a word address is pushed
+  Load : (word : ℕ) → Effect
+  -- a word is popped to a word address
+  Store : (word : ℕ) → Effect
+  -- the word so many words behind a pointer takes the pointer's place
+  Fetch : (words : ℕ) → Effect
+  -- a word is popped to where the pointer below it points
+  StoreAt : Effect
+  -- so many words are copied, all read first, from the pointer on top to the one below it
+  MoveBlock : (words : ℕ) → Effect
+  -- so many words from a pointer on take its place, the first on top
+  LoadBlock : (words : ℕ) → Effect
+  -- so many words are popped to where the pointer below them points
+  StoreBlock : (words : ℕ) → Effect
+  -- the byte at an index behind a pointer takes their place
+  LoadByte : Effect
+  -- a word's low byte is popped to an index behind a pointer
+  StoreByte : Effect
+  -- a word gives way to another
+  Replace : (change : Change) → Effect
+  -- two words give way to one
+  Combine : (operation : Operation) → Effect
+  -- a word stays that lies between two others, which are popped
+  Check : Effect
+  -- execution goes on at an offset
+  Go : (offset : ℕ) → Effect
+  -- execution goes on where a popped word says
+  Branch : (to : ℕ → ℕ) → Effect
+  -- the same by two words, the lower one first
+  BranchByTwo : (to : ℕ → ℕ → ℕ) → Effect
+  -- the procedure of a number is called; its static link is the frame at an index
+  Call : (number : ℕ) (callee : Proc) (link : ℕ) → Effect
+  -- the procedure of the current frame returns with so many words
+  Return : (words : ℕ) (frame : Frame) → Effect
+  -- a transfer is begun
+  Begin : (direction : Direction) → Effect
+  -- it is an error
+  Fail : (number : ℕ) → Effect
+  -- the program ends
+  Finish : Effect
+  -- nothing is stated: a frame, a procedure or a target is named that is not there. No machine meets it.
+  Nowhere : Effect
+
+-- the effect by what an instruction names, if it is there
+abbrev pub given : {A : Type 0} → Option A → (A → Effect) → Effect
+given None f = Nowhere
+given (Some x) f = f x
+
+-- procedure n is called, with a static link
+abbrev pub calling : Parts → ℕ → Option ℕ → Effect
+calling p n link = given (procedure_of p.procs n) (λ q. given link (λ k. Call n q k))
+
+abbrev pub standard : StandardProcedure → ℕ → State → Effect
+standard IoCheck j s = if s.io_result == 0 then Go j else Fail 10
+standard UnitRead j s = Begin Reading
+standard UnitWrite j s = Begin Writing
+standard IoResult j s = Push s.io_result
+standard Halt j s = Fail 14
+
+-- by the current frame, the offset j after the instruction, and the state before it
+abbrev pub effect_of : Parts → Frame → Instr → ℕ → State → Effect
+effect_of p f (Sldc n) j s = Push n
+effect_of p f Ldcn j s = Push 0
+effect_of p f (Ldci n) j s = Push n
+effect_of p f (Sldl n) j s = Load (f.base + n)
+effect_of p f (Ldl n) j s = Load (f.base + n)
+effect_of p f (Stl n) j s = Store (f.base + n)
+effect_of p f (Lla n) j s = Push (address_of (f.base + n))
+effect_of p f (Sldo n) j s = Load n
+effect_of p f (Ldo n) j s = Load n
+effect_of p f (Sro n) j s = Store n
+effect_of p f (Lao n) j s = Push (address_of n)
+effect_of p f (Lod levels n) j s = given (frame_up s.frames levels) (λ g. Load (g.base + n))
+effect_of p f (Str levels n) j s = given (frame_up s.frames levels) (λ g. Store (g.base + n))
+effect_of p f (Lda levels n) j s = given (frame_up s.frames levels) (λ g. Push (address_of (g.base + n)))
+effect_of p f Sto j s = StoreAt
+effect_of p f (Sind n) j s = Fetch n
+effect_of p f (Ind n) j s = Fetch n
+effect_of p f (Inc n) j s = Replace (Behind n)
+effect_of p f (Ixa n) j s = Combine (Element n)
+effect_of p f (Mov n) j s = MoveBlock n
+effect_of p f (Ldm n) j s = LoadBlock n
+effect_of p f (Stm n) j s = StoreBlock n
+effect_of p f Ldb j s = LoadByte
+effect_of p f Stb j s = StoreByte
+effect_of p f Adi j s = Combine Sum
+effect_of p f Sbi j s = Combine Difference
+effect_of p f Mpi j s = Combine Product
+effect_of p f Dvi j s = Combine Quotient
+effect_of p f Modi j s = Combine Remainder
+effect_of p f Abi j s = Replace Absolute
+effect_of p f Ngi j s = Replace Negation
+effect_of p f Sqi j s = Replace Square
+effect_of p f Chk j s = Check
+effect_of p f Land j s = Combine Both
+effect_of p f Lor j s = Combine Either
+effect_of p f Lnot j s = Replace Complement
+effect_of p f Equi j s = Combine (Compare Equal)
+effect_of p f Neqi j s = Combine (Compare NotEqual)
+effect_of p f Leqi j s = Combine (Compare LessOrEqual)
+effect_of p f Lesi j s = Combine (Compare Less)
+effect_of p f Geqi j s = Combine (Compare GreaterOrEqual)
+effect_of p f Grti j s = Combine (Compare Greater)
+effect_of p f Equ j s = Combine (CompareBits Equal)
+effect_of p f Neq j s = Combine (CompareBits NotEqual)
+effect_of p f Leq j s = Combine (CompareBits LessOrEqual)
+effect_of p f Les j s = Combine (CompareBits Less)
+effect_of p f Geq j s = Combine (CompareBits GreaterOrEqual)
+effect_of p f Grt j s = Combine (CompareBits Greater)
+effect_of p f (Ujp sb) j s = given (jump_in p f.procedure sb j) (λ target. Go target)
+effect_of p f (Fjp sb) j s = given (jump_in p f.procedure sb j) (λ target. Branch (λ v. if v % 2 == 0 then target else j))
+effect_of p f (Efj sb) j s = given (jump_in p f.procedure sb j) (λ target. BranchByTwo (λ a b. if a == b then j else target))
+effect_of p f (Nfj sb) j s = given (jump_in p f.procedure sb j) (λ target. BranchByTwo (λ a b. if a == b then target else j))
+effect_of p f (Xjp low high sb table) j s = Branch (λ v. case_of p.segment low high table v)
+effect_of p f (Clp n) j s = calling p n (link_up_of s.frames 0)
+effect_of p f (Cgp n) j s = calling p n (Some 0)
+effect_of p f (Cip n) j s = calling p n (link_outward p f n s.frames)
+effect_of p f (Csp n) j s = standard n j s
+effect_of p f (Rnp n) j s = Return n f
+effect_of p f (Rbp n) j s = Finish
+effect_of p f Nop j s = Go j
+
+-- What an effect names is there: the frame that a call links to, and a frame below the one that returns.
+abbrev pub IsPossible : Effect → State → Type 0
+IsPossible Nowhere s = ⊥
+IsPossible (Call number callee link) s = link < length s.frames
+IsPossible (Return words frame) s = 2 ≤ length s.frames
+IsPossible _ s = Unit {0}
+
+-- what a case jump's table has to be
+abbrev pub HasTable : Parts → Instr → Type 0
+HasTable p (Xjp low high sb table) = (q : Proc) × IsCaseTable p.segment q low high table
+HasTable p _ = Unit {0}

@@ -1,0 +1,110 @@
+//! Arithmetic on words of 16 bits, signed and modulo 65,536.
+ghost use Rattle.std.specs.Prelude.{◌≡◌};
+ghost use Rattle.pcode_machine.specs.Arithmetic.{absolute_of, both_of, checked_of, complement_of, difference_of, either_of, element_of, negation_of, product_of, quotient_of, remainder_of, square_of, sum_of};
+
+/// The sum of two words, modulo 65,536.
+pub fn sum(a: u16, b: u16) -> u16
+    ensures { result ≡ sum_of a b }
+{
+    a.wrapping_add(b)
+}
+
+/// The first word less the second, modulo 65,536.
+pub fn difference(a: u16, b: u16) -> u16
+    ensures { result ≡ difference_of a b }
+{
+    a.wrapping_sub(b)
+}
+
+/// The product of two words, modulo 65,536.
+pub fn product(a: u16, b: u16) -> u16
+    ensures { result ≡ product_of a b }
+{
+    a.wrapping_mul(b)
+}
+
+/// The quotient of two signed words, rounded towards zero, modulo 65,536: -32,768 by -1 is
+/// -32,768. Refused with error 6 where the divisor is 0.
+pub fn quotient(a: u16, b: u16) -> Result<u16, u8>
+    ensures { result ≡ quotient_of a b }
+{
+    if b == 0 {
+        return Err(6);
+    }
+    let whole = a.cast_signed().wrapping_div(b.cast_signed());
+    Ok(whole.cast_unsigned())
+}
+
+/// What that quotient leaves, which has the sign of the dividend: -32,768 by -1 leaves 0. Refused
+/// with error 6 where the divisor is 0.
+pub fn remainder(a: u16, b: u16) -> Result<u16, u8>
+    ensures { result ≡ remainder_of a b }
+{
+    if b == 0 {
+        return Err(6);
+    }
+    let left = a.cast_signed().wrapping_rem(b.cast_signed());
+    Ok(left.cast_unsigned())
+}
+
+/// The absolute value of a signed word; that of -32,768 is the same word.
+pub fn absolute(a: u16) -> u16
+    ensures { result ≡ absolute_of a }
+{
+    a.cast_signed().unsigned_abs()
+}
+
+/// The word of the other sign; that of -32,768 is the same word.
+pub fn negation(a: u16) -> u16
+    ensures { result ≡ negation_of a }
+{
+    0u16.wrapping_sub(a)
+}
+
+/// The product of a word with itself, modulo 65,536.
+pub fn square(a: u16) -> u16
+    ensures { result ≡ square_of a }
+{
+    a.wrapping_mul(a)
+}
+
+/// The bits that are set in both words.
+pub fn both(a: u16, b: u16) -> u16
+    ensures { result ≡ both_of a b }
+{
+    a & b
+}
+
+/// The bits that are set in either word.
+pub fn either(a: u16, b: u16) -> u16
+    ensures { result ≡ either_of a b }
+{
+    a | b
+}
+
+/// The bits that are not set in a word.
+pub fn complement(a: u16) -> u16
+    ensures { result ≡ complement_of a }
+{
+    !a
+}
+
+/// The word itself. Refused with error 1 where, all three signed, it lies below the low bound or
+/// above the high one.
+pub fn checked(value: u16, low: u16, high: u16) -> Result<u16, u8>
+    ensures { result ≡ checked_of value low high }
+{
+    if low.cast_signed() <= value.cast_signed() && value.cast_signed() <= high.cast_signed() {
+        Ok(value)
+    } else {
+        Err(1)
+    }
+}
+
+/// The address, in bytes, of the element at an index behind a pointer, where each element has so
+/// many words; modulo 65,536.
+pub fn element(pointer: u16, index: u16, words: u16) -> u16
+    ensures { result ≡ element_of pointer index words }
+{
+    pointer.wrapping_add(index.wrapping_mul(words).wrapping_mul(2))
+}

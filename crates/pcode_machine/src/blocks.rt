@@ -1,0 +1,92 @@
+//! Blocks of words at pointers: MOV, LDM, STM.
+ghost use Rattle.std.specs.Prelude.{◌≡◌, OnErr};
+ghost use Rattle.pcode_machine.specs.Blocks.{block_loaded, block_moved, block_stored, is_block};
+ghost use Rattle.pcode_machine.specs.Ready.{state_of, answered};
+
+use crate::parts::MachineParts;
+use crate::turn::Stop;
+use pcode_frames::Memory;
+
+/// How many words the stack holds at most.
+const STACK_WORDS: usize = 1024;
+
+/// Whether so many words from a pointer on, which has to be even, are live. Nothing is asked of a
+/// pointer to no words.
+fn is_block(memory: &Memory, pointer: u16, words: u16) -> bool
+    ensures { result ≡ is_block memory.now pointer words }
+{
+    if words == 0 {
+        return true;
+    }
+    if pointer % 2 != 0 {
+        return false;
+    }
+    memory.is_live(pointer / 2, words)
+}
+
+impl MachineParts {
+    /// Pops two pointers, copies so many words from the one on top to the other, and goes on at an
+    /// offset. All are read before any is written.
+    pub fn move_block(&mut self, words: u16, next: u32) -> Result<(), Stop>
+        ensures value { block_moved words next (state_of self.old) self.old.stack ≡ answered result (state_of self.new) }
+        ensures err { OnErr result (self.new ≡ self.old) }
+    {
+        let Some(from) = self.stack.get(0) else {
+            return Err(Stop::Error(0));
+        };
+        let Some(to) = self.stack.get(1) else {
+            return Err(Stop::Error(0));
+        };
+        if !is_block(&self.memory, from, words) {
+            return Err(Stop::Error(7));
+        }
+        if !is_block(&self.memory, to, words) {
+            return Err(Stop::Error(7));
+        }
+        self.stack.pop()?;
+        self.stack.pop()?;
+        self.memory.copy(to / 2, from / 2, words);
+        self.next = next;
+        Ok(())
+    }
+
+    /// Replaces the pointer on top by so many words from it on, the first on top, and goes on at an
+    /// offset.
+    pub fn load_block(&mut self, words: u16, next: u32) -> Result<(), Stop>
+        ensures value { block_loaded words next (state_of self.old) self.old.stack ≡ answered result (state_of self.new) }
+        ensures err { OnErr result (self.new ≡ self.old) }
+    {
+        let Some(pointer) = self.stack.get(0) else {
+            return Err(Stop::Error(0));
+        };
+        if !is_block(&self.memory, pointer, words) {
+            return Err(Stop::Error(7));
+        }
+        if self.stack.len() - 1 + usize::from(words) > STACK_WORDS {
+            return Err(Stop::Error(4));
+        }
+        self.stack.pop()?;
+        self.memory.push_block(&mut self.stack, pointer / 2, words);
+        self.next = next;
+        Ok(())
+    }
+
+    /// Pops so many words to where the pointer below them points, the top to the first, pops the
+    /// pointer, and goes on at an offset.
+    #[tactic(auto, using(crate::proofs::Lists::drop_next))]
+    pub fn store_block(&mut self, words: u16, next: u32) -> Result<(), Stop>
+        ensures value { block_stored words next (state_of self.old) ≡ answered result (state_of self.new) }
+        ensures err { OnErr result (self.new ≡ self.old) }
+    {
+        let Some(pointer) = self.stack.get(words) else {
+            return Err(Stop::Error(0));
+        };
+        if !is_block(&self.memory, pointer, words) {
+            return Err(Stop::Error(7));
+        }
+        self.memory.pop_block(&mut self.stack, pointer / 2, words);
+        self.stack.pop()?;
+        self.next = next;
+        Ok(())
+    }
+}

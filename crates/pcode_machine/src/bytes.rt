@@ -1,0 +1,65 @@
+//! Bytes behind a pointer: LDB, STB.
+ghost use Rattle.std.specs.Prelude.{◌≡◌, OnErr, ◌≤ℤ◌, pos, neg_ℤ};
+ghost use Rattle.pcode_machine.specs.Bytes.{byte_address, byte_loaded, byte_stored};
+ghost use Rattle.pcode_machine.specs.Ready.{state_of, answered};
+
+use crate::parts::MachineParts;
+use crate::turn::Stop;
+
+/// The byte address at an index behind a base, which is not taken modulo 65,536: the index is signed,
+/// the base is not.
+pub fn byte_address(base: u16, index: u16) -> i32
+    ensures { result ≡ byte_address base index }
+{
+    i32::from(base) + i32::from(index.cast_signed())
+}
+
+impl MachineParts {
+    /// Replaces index and base on top by the byte there, and goes on at an offset.
+    pub fn load_byte(&mut self, next: u32) -> Result<(), Stop>
+        ensures value { byte_loaded next (state_of self.old) self.old.stack ≡ answered result (state_of self.new) }
+        ensures err { OnErr result (self.new ≡ self.old) }
+    {
+        if self.stack.len() < 2 {
+            return Err(Stop::Error(0));
+        }
+        let index = self.stack.pop()?;
+        let base = self.stack.pop()?;
+        match self.memory.get_byte(byte_address(base, index)) {
+            Some(byte) => {
+                self.stack.push(u16::from(byte)).unwrap();
+                self.next = next;
+                Ok(())
+            }
+            None => {
+                self.stack.push(base).unwrap();
+                self.stack.push(index).unwrap();
+                Err(Stop::Error(7))
+            }
+        }
+    }
+
+    /// Pops a word, an index and a base, stores the word's low byte there, and goes on at an offset.
+    pub fn store_byte(&mut self, next: u32) -> Result<(), Stop>
+        ensures value { byte_stored next (state_of self.old) self.old.stack ≡ answered result (state_of self.new) }
+        ensures err { OnErr result (self.new ≡ self.old) }
+    {
+        if self.stack.len() < 3 {
+            return Err(Stop::Error(0));
+        }
+        let value = self.stack.pop()?;
+        let index = self.stack.pop()?;
+        let base = self.stack.pop()?;
+        if self
+            .memory
+            .put_byte(byte_address(base, index), (value % 256) as u8)
+        {
+            self.next = next;
+            return Ok(());
+        }
+        self.stack.push(base).unwrap();
+        self.stack.push(index).unwrap();
+        self.stack.push(value).unwrap();
+        Err(Stop::Error(7))
+    }
+}

@@ -1,0 +1,87 @@
+//! Calls and returns: CLP, CGP, CIP, RNP; and the frames that static links lead to.
+ghost use Rattle.std.specs.Prelude.{◌≡◌, ◌≤◌, IsSome, MatchOption, OnErr, Some, length};
+ghost use Rattle.pcode_frames.specs.declared.frame.Frame.{Frame};
+ghost use Rattle.pcode_frames.specs.Frames.{current_of};
+ghost use Rattle.pcode_machine.specs.Calls.{frame_up, link_outward, left};
+ghost use Rattle.pcode_machine.specs.Effects.{calling, IsPossible};
+ghost use Rattle.pcode_machine.specs.Execute.{made};
+ghost use Rattle.pcode_machine.specs.Ready.{state_of, answered};
+
+use crate::parts::MachineParts;
+use crate::turn::Stop;
+use pcode_frames::Frame;
+use pcode_ops::Program;
+
+impl MachineParts {
+    /// The word address below the frame so many static links up from the current one, which is there.
+    pub fn base_up(&self, levels: u8) -> u16
+        requires { IsSome (frame_up self.now.frames levels) }
+        ensures { MatchOption (frame_up self.now.frames levels) ⊥ (λ frame. result ≡ frame.base) }
+    {
+        let Some(index) = self.frames.link_up(levels) else {
+            unreachable!()
+        };
+        match self.frames.frame(index) {
+            Some(frame) => frame.base,
+            None => unreachable!(),
+        }
+    }
+
+    /// The index of the frame to which the procedure in the current frame links a procedure around
+    /// which it may stand itself.
+    pub fn link_outward(&self, program: &Program, frame: Frame, number: u8) -> Option<u16>
+        ensures { result ≡ link_outward program.now frame number self.now.frames }
+    {
+        let file = program.file();
+        let caller = file.procedure(frame.procedure)?;
+        let callee = file.procedure(number)?;
+        // Lex levels are 127 at most.
+        let levels = u16::from(caller.level) + 1;
+        self.frames
+            .link_up(levels.saturating_sub(u16::from(callee.level)) as u8)
+    }
+
+    /// Calls a procedure, whose static link is the frame at an index; it goes on at an offset when it
+    /// returns.
+    pub fn call_procedure(
+        &mut self,
+        program: &Program,
+        number: u8,
+        link: Option<u16>,
+        back: u32,
+    ) -> Result<(), Stop>
+        requires { IsPossible (calling program.now number link) (state_of self.old) }
+        ensures value { made (calling program.now number link) back (state_of self.old) ≡ Some (answered result (state_of self.new)) }
+        ensures err { OnErr result (self.new ≡ self.old) }
+    {
+        let Some(callee) = program.file().procedure(number) else {
+            unreachable!()
+        };
+        let Some(link) = link else { unreachable!() };
+        self.frames.call(
+            &mut self.memory,
+            &mut self.stack,
+            number,
+            callee.params,
+            callee.vars,
+            link,
+            back,
+        )?;
+        self.next = callee.enter;
+        Ok(())
+    }
+
+    /// Returns from the procedure of the current frame, which is not the main frame, with so many words.
+    pub fn leave(&mut self, words: u8) -> Result<(), Stop>
+        requires { 2 ≤ length self.old.frames }
+        ensures value { (frame : Frame) → current_of self.old.frames ≡ Some frame →
+            left words frame (state_of self.old) ≡ answered result (state_of self.new) }
+        ensures err { OnErr result (self.new ≡ self.old) }
+    {
+        let frame = self
+            .frames
+            .ret(&mut self.memory, &mut self.stack, u16::from(words))?;
+        self.next = frame.back;
+        Ok(())
+    }
+}

@@ -1,0 +1,141 @@
+//! Instructions that make words of words: arithmetic, logic, comparisons, pointers that move, and CHK.
+ghost use Rattle.std.specs.Prelude.{◌≡◌, OnErr};
+ghost use Rattle.pcode_machine.specs.Operations.{changed_of, checked, combined, replaced, value_of};
+ghost use Rattle.pcode_machine.specs.Ready.{state_of, answered};
+
+use crate::arithmetic as words;
+use crate::comparisons::{Comparison, compared, compared_bits};
+use crate::parts::MachineParts;
+use crate::pointers::behind;
+use crate::turn::Stop;
+
+/// What an instruction makes of one word.
+#[derive(Clone, Copy, Debug, PartialEq, Eq)]
+pub enum Change {
+    Absolute,
+    Negation,
+    Square,
+    Complement,
+    /// A pointer so many words on.
+    Behind(u16),
+}
+
+/// What an instruction makes of two words.
+#[derive(Clone, Copy, Debug, PartialEq, Eq)]
+pub enum Operation {
+    Sum,
+    Difference,
+    Product,
+    Quotient,
+    Remainder,
+    Both,
+    Either,
+    /// A comparison of signed words.
+    Compare(Comparison),
+    /// A comparison of low bits.
+    CompareBits(Comparison),
+    /// The pointer to an element, where each has so many words.
+    Element(u16),
+}
+
+/// What a change makes of a word.
+#[inline(always)]
+fn changed(change: Change, a: u16) -> u16
+    ensures { result ≡ changed_of change a }
+{
+    match change {
+        Change::Absolute => words::absolute(a),
+        Change::Negation => words::negation(a),
+        Change::Square => words::square(a),
+        Change::Complement => words::complement(a),
+        Change::Behind(words) => behind(a, words),
+    }
+}
+
+/// What an operation makes of two words, or the number of its error.
+#[inline(always)]
+fn value(operation: Operation, a: u16, b: u16) -> Result<u16, u8>
+    ensures { result ≡ value_of operation a b }
+{
+    match operation {
+        Operation::Sum => Ok(words::sum(a, b)),
+        Operation::Difference => Ok(words::difference(a, b)),
+        Operation::Product => Ok(words::product(a, b)),
+        Operation::Quotient => words::quotient(a, b),
+        Operation::Remainder => words::remainder(a, b),
+        Operation::Both => Ok(words::both(a, b)),
+        Operation::Either => Ok(words::either(a, b)),
+        Operation::Compare(comparison) => Ok(compared(comparison, a, b)),
+        Operation::CompareBits(comparison) => Ok(compared_bits(comparison, a, b)),
+        Operation::Element(words) => Ok(words::element(a, b, words)),
+    }
+}
+
+impl MachineParts {
+    /// Changes the word on top, and goes on at an offset.
+    #[inline(always)]
+    pub fn replace(&mut self, change: Change, next: u32) -> Result<(), Stop>
+        ensures value { replaced change next (state_of self.old) self.old.stack ≡ answered result (state_of self.new) }
+        ensures err { OnErr result (self.new ≡ self.old) }
+    {
+        if self.stack.len() == 0 {
+            return Err(Stop::Error(0));
+        }
+        let word = self.stack.pop()?;
+        self.stack.push(changed(change, word)).unwrap();
+        self.next = next;
+        Ok(())
+    }
+
+    /// Replaces the two words on top by one, and goes on at an offset.
+    #[inline(always)]
+    pub fn combine(&mut self, operation: Operation, next: u32) -> Result<(), Stop>
+        ensures value { combined operation next (state_of self.old) self.old.stack ≡ answered result (state_of self.new) }
+        ensures err { OnErr result (self.new ≡ self.old) }
+    {
+        if self.stack.len() < 2 {
+            return Err(Stop::Error(0));
+        }
+        let b = self.stack.pop()?;
+        let a = self.stack.pop()?;
+        match value(operation, a, b) {
+            Ok(word) => {
+                self.stack.push(word).unwrap();
+                self.next = next;
+                Ok(())
+            }
+            Err(number) => {
+                self.stack.push(a).unwrap();
+                self.stack.push(b).unwrap();
+                Err(Stop::Error(number))
+            }
+        }
+    }
+
+    /// Leaves the lowest of the three words on top if it lies from the next one to the top, and goes on
+    /// at an offset.
+    pub fn check(&mut self, next: u32) -> Result<(), Stop>
+        ensures value { checked next (state_of self.old) self.old.stack ≡ answered result (state_of self.new) }
+        ensures err { OnErr result (self.new ≡ self.old) }
+    {
+        if self.stack.len() < 3 {
+            return Err(Stop::Error(0));
+        }
+        let high = self.stack.pop()?;
+        let low = self.stack.pop()?;
+        let word = self.stack.pop()?;
+        match words::checked(word, low, high) {
+            Ok(word) => {
+                self.stack.push(word).unwrap();
+                self.next = next;
+                Ok(())
+            }
+            Err(number) => {
+                self.stack.push(word).unwrap();
+                self.stack.push(low).unwrap();
+                self.stack.push(high).unwrap();
+                Err(Stop::Error(number))
+            }
+        }
+    }
+}

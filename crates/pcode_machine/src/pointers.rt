@@ -1,0 +1,66 @@
+//! Instructions that read and write at pointers, which are addresses in bytes: STO, SIND, IND.
+ghost use Rattle.std.specs.Prelude.{◌≡◌, OnErr};
+ghost use Rattle.pcode_machine.specs.Pointers.{behind, fetched, pointed, stored_at};
+ghost use Rattle.pcode_machine.specs.Ready.{state_of, answered};
+
+use crate::parts::MachineParts;
+use crate::turn::Stop;
+use pcode_frames::Memory;
+
+/// The pointer so many words on, modulo 65,536.
+pub fn behind(pointer: u16, words: u16) -> u16
+    ensures { result ≡ behind pointer words }
+{
+    pointer.wrapping_add(words.wrapping_mul(2))
+}
+
+/// The word at a pointer, which has to be even, if it is live.
+fn pointed(memory: &Memory, pointer: u16) -> Option<u16>
+    ensures { result ≡ pointed memory.now pointer }
+{
+    if pointer % 2 == 0 {
+        memory.get(pointer / 2)
+    } else {
+        None
+    }
+}
+
+impl MachineParts {
+    /// Replaces the pointer on top by the word so many words behind it, and goes on at an offset.
+    pub fn fetch(&mut self, words: u16, next: u32) -> Result<(), Stop>
+        ensures value { fetched words next (state_of self.old) self.old.stack ≡ answered result (state_of self.new) }
+        ensures err { OnErr result (self.new ≡ self.old) }
+    {
+        if self.stack.len() == 0 {
+            return Err(Stop::Error(0));
+        }
+        let pointer = self.stack.pop()?;
+        let Some(word) = pointed(&self.memory, behind(pointer, words)) else {
+            self.stack.push(pointer).unwrap();
+            return Err(Stop::Error(7));
+        };
+        self.stack.push(word).unwrap();
+        self.next = next;
+        Ok(())
+    }
+
+    /// Pops a word and a pointer, stores the word there, and goes on at an offset.
+    pub fn store_at(&mut self, next: u32) -> Result<(), Stop>
+        ensures value { stored_at next (state_of self.old) self.old.stack ≡ answered result (state_of self.new) }
+        ensures err { OnErr result (self.new ≡ self.old) }
+    {
+        if self.stack.len() < 2 {
+            return Err(Stop::Error(0));
+        }
+        let value = self.stack.pop()?;
+        let pointer = self.stack.pop()?;
+        if pointed(&self.memory, pointer).is_none() {
+            self.stack.push(pointer).unwrap();
+            self.stack.push(value).unwrap();
+            return Err(Stop::Error(7));
+        }
+        self.memory.put(pointer / 2, value);
+        self.next = next;
+        Ok(())
+    }
+}

@@ -1,0 +1,34 @@
+//! Where jumps lead that loading has let pass.
+ghost use Rattle.std.specs.Prelude.{◌≡◌, ◌+◌, ◌<◌, ◌≤◌, ◌^◌, length};
+ghost use Rattle.pcode_file.specs.Parts.{word};
+ghost use Rattle.pcode_file.specs.declared.file.Proc.{Proc};
+ghost use Rattle.pcode_ops.specs.Jumps.{pointed_by, case_of, IsCaseTable};
+
+use crate::decoding::get_word;
+
+/// What the self-relative pointer at a place points to.
+pub(crate) fn follow(segment: &[u8], place: u32) -> u32
+    requires inside { place + 1 < length segment.now }
+    requires above { word segment.now place ≤ place }
+    ensures { result ≡ pointed_by segment.now place }
+{
+    place - u32::from(get_word(segment, place as usize))
+}
+
+/// Where a case jump leads on a word.
+pub(crate) fn follow_case(segment: &[u8], low: i16, high: i16, table: usize, word: u16) -> u32
+    requires size { length segment.now < 2 ^ 16 }
+    requires table { (q : Proc) × IsCaseTable segment.now q low high table }
+    ensures { result ≡ case_of segment.now low high table word }
+{
+    let index = word.cast_signed();
+    let table = table as u32;
+    if index < low {
+        return table - 2;
+    }
+    if high < index {
+        return table - 2;
+    }
+    let entry = (i32::from(index) - i32::from(low)).unsigned_abs();
+    follow(segment, table + 2 * entry)
+}
