@@ -10,26 +10,33 @@ use crate::stack::{STACK_WORDS, Stack};
 use std::alloc::{AllocError, Global};
 use std::marker::Model;
 
-/// How many frames there are at most.
-const MAX_FRAMES: usize = 1024;
+/// How many frames there are at most below the current one: with it they are at most 1,024.
+const MAX_BELOW: usize = 1023;
 
 /// The frames, seen as a list, the main frame first and the current one last; at most 1,024. Their
 /// room is made with them, so that no other call takes memory.
 #[derive(Drop)]
 pub struct Frames {
-    frames: Vec<Frame>,
+    /// The frames below the current one; none where there is no current one.
+    below: Vec<Frame>,
+    /// The current frame. It stands apart, since an interpreter reads it before each instruction: here
+    /// that is a few loads out of the struct itself, and none from the heap.
+    current: Option<Frame>,
 }
 
 impl Model for Frames {
-    ghost use Rattle.std.specs.Prelude.{◌≤◌, List, vec_len, vec_capacity};
+    ghost use Rattle.std.specs.Prelude.{◌≡◌, ◌≤◌, List, [], ◌++◌, IfNone, option_to_list, vec_len, vec_capacity};
     ghost use Rattle.pcode_frames.specs.declared.frame.Frame.{Frame};
     ghost use Rattle.pcode_frames.specs.Frames.{AreLinked};
 
     ghost Value = { List Frame };
 
-    ghost view = { λ f. f.frames.items };
+    ghost view = { λ f. f.below.items ++ option_to_list f.current };
 
-    ghost invariant = { λ f. (vec_len f.frames ≤ 1024) × (1024 ≤ vec_capacity f.frames) × AreLinked f.frames.items };
+    ghost invariant = { λ f. (vec_len f.below ≤ 1023)
+        × (1023 ≤ vec_capacity f.below)
+        × IfNone f.current (f.below.items ≡ [])
+        × AreLinked (f.below.items ++ option_to_list f.current) };
 }
 
 /// Moves so many words from the stack to the words above the live ones, the top first.
@@ -49,22 +56,30 @@ impl Frames {
     pub fn new(alloc: Global) -> Result<Frames, AllocError>
         ensures { IfOk result (λ f. f ≡ []) }
     {
-        let frames = Vec::with_capacity(alloc, MAX_FRAMES)?;
-        Ok(Frames { frames })
+        let below = Vec::with_capacity(alloc, MAX_BELOW)?;
+        Ok(Frames {
+            below,
+            current: None,
+        })
     }
 
     /// The frame at an index, if there is one; the main frame has index 0.
     pub fn frame(&self, index: u16) -> Option<Frame>
         ensures { result ≡ slice_get self.now index }
     {
-        self.frames.get(usize::from(index)).copied()
+        let index = usize::from(index);
+        if index == self.below.len() {
+            return self.current;
+        }
+        self.below.get(index).copied()
     }
 
     /// The frame that is executed, if there is one.
+    #[inline(always)]
     pub fn current(&self) -> Option<Frame>
         ensures { result ≡ current_of self.now }
     {
-        self.frames.last().copied()
+        self.current
     }
 
     /// Whether one more frame of so many words does not fit.
@@ -74,7 +89,8 @@ impl Frames {
         ensures frames { result ≡ false → length self.now < 1024 }
         ensures words { result ≡ false → length memory.now + size ≤ 16383 }
     {
-        self.frames.len() >= MAX_FRAMES || u32::from(memory.top()) + size > LIVE_WORDS as u32
+        // Without a current frame there is none below either, so the count below decides alone.
+        self.below.len() >= MAX_BELOW || u32::from(memory.top()) + size > LIVE_WORDS as u32
     }
 
     /// Makes a frame the current one.
@@ -83,14 +99,17 @@ impl Frames {
         requires link { frame.link ≤ length self.old - 1 }
         ensures { self.new ≡ self.old ++ frame ∷ [] }
     {
-        self.frames.push(frame).unwrap();
+        if let Some(caller) = self.current {
+            self.below.push(caller).unwrap();
+        }
+        self.current = Some(frame);
     }
 
     /// Drops the current frame.
     fn leave(&mut self)
         ensures { self.new ≡ take (length self.old - 1) self.old }
     {
-        self.frames.pop();
+        self.current = self.below.pop();
     }
 
     /// Makes the main frame, of procedure 1, with so many words, all zero, where there is no frame and no
@@ -190,10 +209,12 @@ impl Frames {
         ensures value { result ≡ link_at self.now index }
         ensures below { IfSome result (λ link. link < index) }
     {
+        // Opens the frames to the proof, for their invariant: each link leads down.
+        let _ = &self.below;
         if index == 0 {
             return None;
         }
-        let frame = self.frames.get(usize::from(index))?;
+        let frame = self.frame(index)?;
         Some(frame.link)
     }
 
@@ -201,8 +222,8 @@ impl Frames {
     fn current_index(&self) -> Option<u16>
         ensures { MatchOption result (self.now ≡ []) (λ index. index + 1 ≡ length self.now) }
     {
-        let above = self.frames.len().checked_sub(1)?;
-        Some(above as u16)
+        self.current?;
+        Some(self.below.len() as u16)
     }
 
     /// The index of the frame n static links up from the current one, if there is one: the main

@@ -24,7 +24,7 @@ pub use frame::Frame;
 pub use frames::Frames;
 pub use halt::Halt;
 pub use memory::Memory;
-pub use stack::Stack;
+pub use stack::{STACK_WORDS, Stack};
 
 #[cfg(test)]
 mod tests;

@@ -16,3 +16,4 @@ pub mod Longer
 pub mod Waits
 pub mod Steps
 pub mod Numbered
+pub mod Quiet

@@ -5,10 +5,7 @@ ghost use Rattle.pcode_machine.specs.Ready.{state_of, answered};
 
 use crate::parts::MachineParts;
 use crate::turn::Stop;
-use pcode_frames::Memory;
-
-/// How many words the stack holds at most.
-const STACK_WORDS: usize = 1024;
+use pcode_frames::{Memory, STACK_WORDS};
 
 /// Whether so many words from a pointer on, which has to be even, are live. Nothing is asked of a
 /// pointer to no words.

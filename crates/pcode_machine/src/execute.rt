@@ -41,17 +41,17 @@ impl MachineParts {
         &mut self,
         program: &Program,
         frame: Frame,
-        instr: Instr,
+        instr: &Instr,
         next: u32,
     ) -> Result<(), Stop>
         requires current { current_of self.old.frames ≡ Some frame }
-        requires possible { IsPossible (effect_of program.now frame instr next (state_of self.old)) (state_of self.old) }
-        requires table { HasTable program.now instr }
-        ensures value { execute program.now frame instr next (state_of self.old) ≡ Some (answered result (state_of self.new)) }
+        requires possible { IsPossible (effect_of program.now frame instr.now next (state_of self.old)) (state_of self.old) }
+        requires table { HasTable program.now instr.now }
+        ensures value { execute program.now frame instr.now next (state_of self.old) ≡ Some (answered result (state_of self.new)) }
         ensures err { OnErr result (self.new ≡ self.old) }
     {
         let base = frame.base;
-        match instr {
+        match *instr {
             Instr::Sldc(constant) => self.push(u16::from(constant), next),
             Instr::Ldcn => self.push(0, next),
             Instr::Ldci(word) => self.push(word, next),

@@ -81,8 +81,8 @@ impl MachineParts {
         if self.stack.len() == 0 {
             return Err(Stop::Error(0));
         }
-        let word = self.stack.pop()?;
-        self.stack.push(changed(change, word)).unwrap();
+        let word = self.stack.top();
+        self.stack.set_top(changed(change, word));
         self.next = next;
         Ok(())
     }
@@ -97,15 +97,14 @@ impl MachineParts {
             return Err(Stop::Error(0));
         }
         let b = self.stack.pop()?;
-        let a = self.stack.pop()?;
+        let a = self.stack.top();
         match value(operation, a, b) {
             Ok(word) => {
-                self.stack.push(word).unwrap();
+                self.stack.set_top(word);
                 self.next = next;
                 Ok(())
             }
             Err(number) => {
-                self.stack.push(a).unwrap();
                 self.stack.push(b).unwrap();
                 Err(Stop::Error(number))
             }
@@ -123,15 +122,13 @@ impl MachineParts {
         }
         let high = self.stack.pop()?;
         let low = self.stack.pop()?;
-        let word = self.stack.pop()?;
+        let word = self.stack.top();
         match words::checked(word, low, high) {
-            Ok(word) => {
-                self.stack.push(word).unwrap();
+            Ok(_) => {
                 self.next = next;
                 Ok(())
             }
             Err(number) => {
-                self.stack.push(word).unwrap();
                 self.stack.push(low).unwrap();
                 self.stack.push(high).unwrap();
                 Err(Stop::Error(number))

@@ -34,12 +34,11 @@ impl MachineParts {
         if self.stack.len() == 0 {
             return Err(Stop::Error(0));
         }
-        let pointer = self.stack.pop()?;
+        let pointer = self.stack.top();
         let Some(word) = pointed(&self.memory, behind(pointer, words)) else {
-            self.stack.push(pointer).unwrap();
             return Err(Stop::Error(7));
         };
-        self.stack.push(word).unwrap();
+        self.stack.set_top(word);
         self.next = next;
         Ok(())
     }

@@ -125,3 +125,13 @@ next_reached p i instr j reach fine e has =
     let same : h.0 ≡ (instr, j) = cc (e, h.1) in
     let P : Instr × ℕ → Type 0 = λ found. HasNext found.0 → Reach p found.1 in
     subst P same h.2 has
+
+-- ---- what was decoded at a reached offset
+
+found_by : (p : Parts) (i : ℕ) (r : Result (Instr × ℕ) OpFault) → Reach p i → IsFine p i → instr_at p.segment i ≡ r → (found : Instr × ℕ) × (instr_at p.segment i ≡ Ok found)
+found_by p i (Ok found) reach fine e = (found, e)
+found_by p i (Err f) reach fine e = absurd (no_fault p i f reach fine (sym e))
+
+-- something stands at a reached offset of a loadable file
+pub found_there : (p : Parts) (i : ℕ) → Reach p i → IsFine p i → (found : Instr × ℕ) × (instr_at p.segment i ≡ Ok found)
+found_there p i reach fine = found_by p i (instr_at p.segment i) reach fine refl

@@ -14,3 +14,4 @@ pub mod Apart
 pub mod Allowed
 pub mod Targets
 pub mod Landing
+pub mod Cells

@@ -1,5 +1,6 @@
 pub mod At
 pub mod Decoding
+pub mod Decoded
 pub mod Loading
 pub mod Reach
 pub mod Calls

@@ -2,6 +2,7 @@
 //! of them holds an instruction that may stand there.
 #![tactic(auto)]
 
+mod decoded;
 mod decoding;
 mod fault;
 mod instr;

@@ -155,7 +155,7 @@ fn onward(program: &Program, at: u32) -> Onward
 fn write_line<W: Write>(writer: &mut W, program: &Program, at: u32) -> io::Result<()>
     requires { Reach program.now at }
 {
-    let (instr, _) = program.instruction(at);
+    let (&instr, _) = program.instruction(at);
     let name = name(instr);
     write!(writer, "{at:05} {name}")?;
     let segment = program.file().segment();

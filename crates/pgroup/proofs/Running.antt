@@ -1,10 +1,11 @@
 -- A run, one step after another.
-use Rattle.std.proofs.Common.{◌≡◌, ℕ, suc, ◌<◌, List, [], ◌++◌, length, Some, None, Ok, Err, refl, sym, ◌∙◌, ap, subst, append-nil, length-append}
+use Rattle.std.proofs.Common.{◌≡◌, ℕ, zero, suc, ◌+◌, ◌<◌, List, [], ◌++◌, length, Some, None, Ok, Err, refl, sym, ◌∙◌, ap, subst, append-nil, length-append, arith}
 use Rattle.std.specs.Io.KnownBytes.{Keeps, Appends, Consumes}
 use Rattle.std.proofs.KnownBytes.{Appends-nil, Consumes-nil, Appends-trans, Consumes-trans, Appends-kept}
 use Rattle.pcode_file.specs.Parts.{Parts}
 use Rattle.pcode_machine.specs.Configuration.{State, Configuration, joined, start}
 use Rattle.pcode_machine.specs.Runs.{after, out, Leads}
+use Rattle.pcode_machine.specs.Turns.{IsQuiet, AreQuiet}
 use Rattle.pgroup.specs.declared.run.RunIo.{RunIo}
 use Rattle.pgroup.specs.declared.run.RunIo.TheVariants as io
 use Rattle.pgroup.specs.declared.run.Finish.{Finish}
@@ -79,6 +80,31 @@ Reached-read {p} {from} {mid} {to} {n} {s} took laws r c k =
       read = Consumes-trans _ mid.reader _ _ _ r.read c;
       written = rw same (Appends-kept _ mid.writer _ _ r.written k);
     }
+
+-- ---- steps that read and write nothing
+
+reached_one : {p : Parts} {from to : Streams} {n : ℕ} {s t : State} → Reached p from to n s → IsQuiet p s t → Reached p from to (suc n) t
+unfolding Leads
+reached_one {p} {from} {to} {n} {s} {t} r q = record {
+  input = r.input;
+  output = r.output;
+  made = (joined s (length r.input) r.output, r.made, q.goes r.input (length r.input) r.output);
+  read = r.read;
+  written = r.written;
+  faultless = r.faultless;
+}
+
+pub reached_quiet : {p : Parts} {from to : Streams} {n : ℕ} {s t : State} (k : ℕ) → Reached p from to n s → AreQuiet p k s t → Reached p from to (n + k) t
+unfolding AreQuiet
+reached_quiet {p} {from} {to} {n} {s} {t} zero r h =
+    let none : n ≡ n + 0 = omega arith in
+    let P : ℕ → Type 0 = λ m. Reached p from to m t in
+    let Q : State → Type 0 = λ u. Reached p from to n u in
+    subst P none (subst Q (sym h) r)
+reached_quiet {p} {from} {to} {n} {s} {t} (suc k) r h =
+    let one : suc (n + k) ≡ n + suc k = omega arith in
+    let P : ℕ → Type 0 = λ m. Reached p from to m t in
+    subst P one (reached_one (reached_quiet k r h.1) h.2)
 
 -- ---- the same by what a turn of the run says
 

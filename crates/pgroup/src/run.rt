@@ -132,10 +132,16 @@ pub fn run_program<R: ByteReader, W: ByteWriter>(
     let Ok(mut machine) = Machine::new(alloc, program) else {
         return Err(RunIo::Memory);
     };
-    for _ in 0..steps {
+    let mut done = 0;
+    while done < steps {
+        done += machine.advance(steps - done);
+        if done == steps {
+            return Ok(Finish::Steps);
+        }
         if let Some(finish) = turn(reader, writer, &mut machine)? {
             return Ok(finish);
         }
+        done += 1;
     }
     Ok(Finish::Steps)
 }

@@ -56,7 +56,7 @@ impl Done {
 }
 
 /// What has to come of a command.
-#[derive(Clone, Copy)]
+#[derive(Clone, Copy, Debug)]
 enum Outcome {
     /// Status 0 and this output.
     Prints(&'static [u8]),
@@ -87,6 +87,25 @@ fn meets(alloc: Global, done: &Done, outcome: Outcome) -> Result<bool, AllocErro
         }
         Outcome::Steps(output) => Ok(done.is(4, output, "steps\n")),
     }
+}
+
+/// The failure of a test whose command did something else.
+fn unmet(done: &Done, outcome: Outcome) -> Fail {
+    let Done {
+        status,
+        output,
+        errors,
+    } = done;
+    let errors = str::from_utf8(errors.as_slice()).unwrap_or("?");
+    Fail::new(format_args!("not {outcome:?}: {status} {output:?} {errors}"))
+}
+
+/// A command did what it had to, or else the test fails.
+fn must_meet(alloc: Global, done: &Done, outcome: Outcome) -> Result<(), Fail> {
+    if meets(alloc, done, outcome)? {
+        return Ok(());
+    }
+    Err(unmet(done, outcome))
 }
 
 /// The words as the program is given them.
@@ -121,10 +140,10 @@ fn perform(rt: &HostRuntime, words: &[&str]) -> Result<Done, AllocError> {
     perform_with(rt, words, &mut input)
 }
 
-/// Whether a command on an empty input comes to this.
-fn does(rt: &HostRuntime, words: &[&str], outcome: Outcome) -> Result<bool, AllocError> {
+/// A command on an empty input comes to this.
+fn does(rt: &HostRuntime, words: &[&str], outcome: Outcome) -> Result<(), Fail> {
     let done = perform(rt, words)?;
-    meets(rt.alloc(), &done, outcome)
+    must_meet(rt.alloc(), &done, outcome)
 }
 
 /// A path that no other test and no other run of the tests has.
@@ -154,49 +173,41 @@ fn perform_on<R: Read>(
     Ok(result?)
 }
 
-/// Whether a command on a file of these bytes, with further words and an empty input, comes to this.
+/// A command on a file of these bytes, with further words and an empty input, comes to this.
 fn comes_to(
     rt: &HostRuntime,
     name: &str,
     bytes: &[u8],
     more: &[&str],
     outcome: Outcome,
-) -> io::Result<bool> {
+) -> Result<(), Fail> {
     let mut input: &[u8] = b"";
     let done = perform_on(rt, name, bytes, more, &mut input)?;
-    Ok(meets(rt.alloc(), &done, outcome)?)
+    must_meet(rt.alloc(), &done, outcome)
 }
 
 /// Bytes that replace others from an offset on, and what then has to come of a command.
 type Edit = (usize, &'static [u8], Outcome);
 
-/// Which of these edits of a segment's file comes to something else, if one does. Offsets count from
-/// `start` in the file.
-fn first_wrong_from(
+/// Each of these edits of a segment's file comes to what it has to. Offsets count from `start` in the file.
+fn agrees_from(
     rt: &HostRuntime,
     name: &str,
     segment: &[u8],
     start: usize,
     edits: &[Edit],
-) -> io::Result<Option<usize>> {
+) -> Result<(), Fail> {
     let file = code_file(rt.alloc(), segment)?;
-    for (k, (at, edit, outcome)) in edits.iter().enumerate() {
+    for (at, edit, outcome) in edits {
         let bytes = edited(rt.alloc(), file.as_slice(), at.saturating_add(start), edit)?;
-        if !comes_to(rt, name, bytes.as_slice(), &[], *outcome)? {
-            return Ok(Some(k));
-        }
+        comes_to(rt, name, bytes.as_slice(), &[], *outcome)?;
     }
-    Ok(None)
+    Ok(())
 }
 
-/// Which of these edits of a segment comes to something else, if one does.
-fn first_wrong(
-    rt: &HostRuntime,
-    name: &str,
-    segment: &[u8],
-    edits: &[Edit],
-) -> io::Result<Option<usize>> {
-    first_wrong_from(rt, name, segment, 512, edits)
+/// Each of these edits of a segment comes to what it has to.
+fn agrees(rt: &HostRuntime, name: &str, segment: &[u8], edits: &[Edit]) -> Result<(), Fail> {
+    agrees_from(rt, name, segment, 512, edits)
 }
 
 /// Further words of `run`, and what has to come of it.
@@ -210,14 +221,11 @@ const BUDGETS: [(&[&str], Outcome); 6] = [
 ];
 
 #[test]
-fn prints_a(rt: HostRuntime) -> io::Result<()> {
-    assert!(rt; does(&rt, &[], Outcome::Prints(b"A"))?);
+fn prints_a(rt: HostRuntime) -> Result<(), Fail> {
+    does(&rt, &[], Outcome::Prints(b"A"))?;
     let file = code_file(rt.alloc(), &PRINTS_A)?;
     for (more, outcome) in BUDGETS {
-        assert!(rt;
-            comes_to(&rt, "run", file.as_slice(), more, outcome)?,
-            "{more:?}"
-        );
+        comes_to(&rt, "run", file.as_slice(), more, outcome)?;
     }
     Ok(())
 }
@@ -229,9 +237,8 @@ const NOTHING_MOVES: [Edit; 2] = [
 ];
 
 #[test]
-fn unit_three_and_no_length(rt: HostRuntime) -> io::Result<()> {
-    assert_eq!(rt; first_wrong(&rt, "run", &PRINTS_A, &NOTHING_MOVES)?, None);
-    Ok(())
+fn unit_three_and_no_length(rt: HostRuntime) -> Result<(), Fail> {
+    agrees(&rt, "run", &PRINTS_A, &NOTHING_MOVES)
 }
 
 /// Faults of block 0, at offsets of the file.
@@ -257,21 +264,16 @@ const BAD_SEGMENTS: [Edit; 8] = [
 ];
 
 #[test]
-fn bad_files(rt: HostRuntime) -> io::Result<()> {
-    assert_eq!(rt;
-        first_wrong_from(&rt, "run", &PRINTS_A, 0, &BAD_BLOCKS)?,
-        None
-    );
-    assert_eq!(rt; first_wrong(&rt, "run", &PRINTS_A, &BAD_SEGMENTS)?, None);
-    Ok(())
+fn bad_files(rt: HostRuntime) -> Result<(), Fail> {
+    agrees_from(&rt, "run", &PRINTS_A, 0, &BAD_BLOCKS)?;
+    agrees(&rt, "run", &PRINTS_A, &BAD_SEGMENTS)
 }
 
 #[test]
-fn short_file(rt: HostRuntime) -> io::Result<()> {
+fn short_file(rt: HostRuntime) -> Result<(), Fail> {
     let file = code_file(rt.alloc(), &PRINTS_A)?;
     let short = file.as_slice().get(..511).unwrap_or(&[]);
-    assert!(rt; comes_to(&rt, "run", short, &[], Outcome::Refused("F1"))?);
-    Ok(())
+    comes_to(&rt, "run", short, &[], Outcome::Refused("F1"))
 }
 
 /// Faults of instructions.
@@ -283,9 +285,8 @@ const BAD_OPCODES: [Edit; 4] = [
 ];
 
 #[test]
-fn bad_opcodes(rt: HostRuntime) -> io::Result<()> {
-    assert_eq!(rt; first_wrong(&rt, "run", &PRINTS_A, &BAD_OPCODES)?, None);
-    Ok(())
+fn bad_opcodes(rt: HostRuntime) -> Result<(), Fail> {
+    agrees(&rt, "run", &PRINTS_A, &BAD_OPCODES)
 }
 
 /// A writer that fails at its first write, or takes nothing.
@@ -374,25 +375,24 @@ fn faults_of_the_command_line(rt: HostRuntime) -> Result<(), AllocError> {
     Ok(())
 }
 
-/// Whether a file of so many zeros is refused so.
-fn zeros_are_refused(rt: &HostRuntime, length: u64, text: &str) -> io::Result<bool> {
+/// `run` of a file of so many zeros comes to this.
+fn zeros_come_to(rt: &HostRuntime, length: u64, outcome: Outcome) -> Result<(), Fail> {
     let path = path_of(rt, "zeros")?;
     let file = fs::create(rt, path.as_str())?;
     file.set_len(length)?;
     let done = perform(rt, &["run", path.as_str()]);
     fs::remove_file(rt, path.as_str())?;
-    Ok(done?.is(1, b"", text))
+    must_meet(rt.alloc(), &done?, outcome)
 }
 
 #[test]
-fn files_that_can_not_be_read(rt: HostRuntime) -> io::Result<()> {
+fn files_that_can_not_be_read(rt: HostRuntime) -> Result<(), Fail> {
     let path = path_of(&rt, "none")?;
-    assert!(rt; does(&rt, &["run", path.as_str()], Outcome::Refused("file"))?);
-    assert!(rt; does(&rt, &["run", "/"], Outcome::Refused("file"))?);
+    does(&rt, &["run", path.as_str()], Outcome::Refused("file"))?;
+    does(&rt, &["run", "/"], Outcome::Refused("file"))?;
     // A file of zeros has no entry in use; one byte more than a file may have is not read.
-    assert!(rt; zeros_are_refused(&rt, 67_108_864, "refused F2\n")?);
-    assert!(rt; zeros_are_refused(&rt, 67_108_865, "refused file\n")?);
-    Ok(())
+    zeros_come_to(&rt, 67_108_864, Outcome::Refused("F2"))?;
+    zeros_come_to(&rt, 67_108_865, Outcome::Refused("file"))
 }
 
 /// The file that prints A, with a name.

@@ -75,20 +75,17 @@ fn leaves(rt: &HostRuntime, data: u16, code: &[u8], left: Left) -> Result<bool, 
     }
 }
 
-/// The first code that comes to something else, if one does.
-pub fn first_wrong(
-    rt: &HostRuntime,
-    around: Around,
-    cases: &[Case],
-) -> Result<Option<&'static str>, Fail> {
+/// Each code of a table comes to what it has to.
+pub fn agree(rt: &HostRuntime, around: Around, cases: &[Case]) -> Result<(), Fail> {
     for (text, left) in cases {
         let mut code = Vec::new(rt.alloc());
         for part in [around.before, *text, around.after] {
             add_bytes(&mut code, rt.alloc(), part)?;
         }
         if !leaves(rt, around.data, code.as_slice(), *left)? {
-            return Ok(Some(*text));
+            let Around { before, after, .. } = around;
+            return Err(Fail::new(format_args!("{before} | {text} | {after}")));
         }
     }
-    Ok(None)
+    Ok(())
 }

@@ -2,7 +2,7 @@
 //! error that ends them. The values follow from the table of instructions, by hand. Where nothing else is
 //! said the frame has the words 1 to 10, at byte addresses 2 to 21, and they are 0.
 use super::codes::Left::{Error, Word};
-use super::codes::{Around, Case, first_wrong};
+use super::codes::{Around, Case, agree};
 use std::test::Fail;
 
 /// Constants, and words of the frame, which is the main one, of words 1 to 10.
@@ -483,7 +483,7 @@ fn instruction_edges(rt: HostRuntime) -> Result<(), Fail> {
         (MANY_WORDS, FULL.as_slice()),
         (LARGE_FRAME, LARGE.as_slice()),
     ] {
-        assert_eq!(rt; first_wrong(&rt, around, cases)?, None);
+        agree(&rt, around, cases)?;
     }
     Ok(())
 }

@@ -1,10 +1,11 @@
 //! `check` and `list`: what is reached, what is refused, and the lines of a listing.
 use super::Outcome::{Prints, Refused};
 use super::segments::{CASES, LINKS, PRINTS_A, READS, RECURSION};
-use super::{Done, Edit, Outcome, code_file, comes_to, first_wrong, path_of, words_of};
+use super::{Done, Edit, Outcome, agrees, code_file, comes_to, path_of, words_of};
 use crate::command::command;
 use std::fs;
 use std::io::{self, ErrorKind, Write};
+use std::test::Fail;
 
 const LISTING_OF_A: &[u8] = b"proc 1 level 0 params 2 data 1 enter 0 exit 12
 00000 SLDC 65
@@ -87,31 +88,23 @@ const LISTED: [(&[u8], Outcome); 4] = [
     (&RECURSION, Prints(LISTING_OF_RECURSION)),
 ];
 
-/// Which of these segments a command does something else with, if with one.
-fn first_other(
-    rt: &HostRuntime,
-    name: &str,
-    all: &[(&[u8], Outcome)],
-) -> io::Result<Option<usize>> {
-    for (k, (segment, outcome)) in all.iter().enumerate() {
+/// A command on each of these segments comes to what it has to.
+fn all_come_to(rt: &HostRuntime, name: &str, all: &[(&[u8], Outcome)]) -> Result<(), Fail> {
+    for (segment, outcome) in all {
         let file = code_file(rt.alloc(), segment)?;
-        if !comes_to(rt, name, file.as_slice(), &[], *outcome)? {
-            return Ok(Some(k));
-        }
+        comes_to(rt, name, file.as_slice(), &[], *outcome)?;
     }
-    Ok(None)
-}
-
-#[test]
-fn reached_offsets(rt: HostRuntime) -> io::Result<()> {
-    assert_eq!(rt; first_other(&rt, "check", &REACHED)?, None);
     Ok(())
 }
 
 #[test]
-fn listings(rt: HostRuntime) -> io::Result<()> {
-    assert_eq!(rt; first_other(&rt, "list", &LISTED)?, None);
-    Ok(())
+fn reached_offsets(rt: HostRuntime) -> Result<(), Fail> {
+    all_come_to(&rt, "check", &REACHED)
+}
+
+#[test]
+fn listings(rt: HostRuntime) -> Result<(), Fail> {
+    all_come_to(&rt, "list", &LISTED)
 }
 
 /// Faults of the program that prints A.
@@ -133,20 +126,17 @@ const FAULTY_OFFSETS: [Edit; 12] = [
     (0, &[0x41, 0xd0, 0x81], Refused("O6 at 1 opcode 208")),
 ];
 
-/// Which of these edits of a segment is not refused so by each of the three commands, if one is not.
-fn first_accepted(rt: &HostRuntime, segment: &[u8], edits: &[Edit]) -> io::Result<Option<usize>> {
+/// Each of the three commands comes to what it has to on each of these edits of a segment.
+fn all_agree(rt: &HostRuntime, segment: &[u8], edits: &[Edit]) -> Result<(), Fail> {
     for name in ["check", "list", "run"] {
-        if let Some(k) = first_wrong(rt, name, segment, edits)? {
-            return Ok(Some(k));
-        }
+        agrees(rt, name, segment, edits)?;
     }
-    Ok(None)
+    Ok(())
 }
 
 #[test]
-fn faulty_offsets(rt: HostRuntime) -> io::Result<()> {
-    assert_eq!(rt; first_accepted(&rt, &PRINTS_A, &FAULTY_OFFSETS)?, None);
-    Ok(())
+fn faulty_offsets(rt: HostRuntime) -> Result<(), Fail> {
+    all_agree(&rt, &PRINTS_A, &FAULTY_OFFSETS)
 }
 
 /// Faults of calls, links and returns.
@@ -177,19 +167,11 @@ const FAULTY_CASES: [Edit; 4] = [
     (16, &[0x11], Refused("O8 at 9")),
 ];
 
-/// Those three, each with its segment.
-const FAULTY: [(&[u8], &[Edit]); 3] = [
-    (&LINKS, &FAULTY_CALLS),
-    (&READS, &FAULTY_JUMPS),
-    (&CASES, &FAULTY_CASES),
-];
-
 #[test]
-fn faulty_calls_and_jumps(rt: HostRuntime) -> io::Result<()> {
-    for (segment, edits) in FAULTY {
-        assert_eq!(rt; first_accepted(&rt, segment, edits)?, None, "{segment:?}");
-    }
-    Ok(())
+fn faulty_calls_and_jumps(rt: HostRuntime) -> Result<(), Fail> {
+    all_agree(&rt, &LINKS, &FAULTY_CALLS)?;
+    all_agree(&rt, &READS, &FAULTY_JUMPS)?;
+    all_agree(&rt, &CASES, &FAULTY_CASES)
 }
 
 /// Faults of the two procedures of a recursion.
@@ -210,9 +192,8 @@ const FAULTY_PROCEDURES: [Edit; 6] = [
 ];
 
 #[test]
-fn faulty_procedures(rt: HostRuntime) -> io::Result<()> {
-    assert_eq!(rt; first_accepted(&rt, &RECURSION, &FAULTY_PROCEDURES)?, None);
-    Ok(())
+fn faulty_procedures(rt: HostRuntime) -> Result<(), Fail> {
+    all_agree(&rt, &RECURSION, &FAULTY_PROCEDURES)
 }
 
 /// A writer that takes its first write and fails at the second.

@@ -3,25 +3,18 @@ use super::Outcome::{Error, Prints, Refused, Waits};
 use super::segments::{
     ARITHMETIC, CALLS_ITSELF, CASES, DIVIDES, LINKS, PRINTS_A, READS, RECURSION,
 };
-use super::{Edit, Outcome, code_file, edited, first_wrong, meets, perform_on};
+use super::{Edit, Outcome, agrees, code_file, edited, must_meet, perform_on};
 use std::io::{self, ErrorKind, Read};
+use std::test::Fail;
 
 #[test]
-fn static_links(rt: HostRuntime) -> io::Result<()> {
-    assert_eq!(rt;
-        first_wrong(&rt, "run", &LINKS, &[(0, &[], Prints(b"BA"))])?,
-        None
-    );
-    Ok(())
+fn static_links(rt: HostRuntime) -> Result<(), Fail> {
+    agrees(&rt, "run", &LINKS, &[(0, &[], Prints(b"BA"))])
 }
 
 #[test]
-fn endless_recursion(rt: HostRuntime) -> io::Result<()> {
-    assert_eq!(rt;
-        first_wrong(&rt, "run", &RECURSION, &[(0, &[], Error(4, 2, 0))])?,
-        None
-    );
-    Ok(())
+fn endless_recursion(rt: HostRuntime) -> Result<(), Fail> {
+    agrees(&rt, "run", &RECURSION, &[(0, &[], Error(4, 2, 0))])
 }
 
 /// What ends in an error of the machine.
@@ -44,10 +37,9 @@ const STORES: [Edit; 3] = [
 ];
 
 #[test]
-fn execution_errors(rt: HostRuntime) -> io::Result<()> {
-    assert_eq!(rt; first_wrong(&rt, "run", &DIVIDES, &ERRORS)?, None);
-    assert_eq!(rt; first_wrong(&rt, "run", &PRINTS_A, &STORES)?, None);
-    Ok(())
+fn execution_errors(rt: HostRuntime) -> Result<(), Fail> {
+    agrees(&rt, "run", &DIVIDES, &ERRORS)?;
+    agrees(&rt, "run", &PRINTS_A, &STORES)
 }
 
 /// A main frame of 16,383 words fits, and one of 16,384 does not.
@@ -57,9 +49,8 @@ const MAIN_FRAMES: [Edit; 2] = [
 ];
 
 #[test]
-fn main_frame_boundary(rt: HostRuntime) -> io::Result<()> {
-    assert_eq!(rt; first_wrong(&rt, "run", &PRINTS_A, &MAIN_FRAMES)?, None);
-    Ok(())
+fn main_frame_boundary(rt: HostRuntime) -> Result<(), Fail> {
+    agrees(&rt, "run", &PRINTS_A, &MAIN_FRAMES)
 }
 
 /// With the main frame 2, 3, 1,024 and 1,025 frames: the last but one are the most.
@@ -71,9 +62,8 @@ const DEPTHS: [Edit; 4] = [
 ];
 
 #[test]
-fn deep_calls(rt: HostRuntime) -> io::Result<()> {
-    assert_eq!(rt; first_wrong(&rt, "run", &CALLS_ITSELF, &DEPTHS)?, None);
-    Ok(())
+fn deep_calls(rt: HostRuntime) -> Result<(), Fail> {
+    agrees(&rt, "run", &CALLS_ITSELF, &DEPTHS)
 }
 
 /// Two words and an operation: the two bytes of the result, the low one first.
@@ -117,12 +107,8 @@ const ARITHMETIC_EDGES: [Edit; 6] = [
 ];
 
 #[test]
-fn arithmetic_edges(rt: HostRuntime) -> io::Result<()> {
-    assert_eq!(rt;
-        first_wrong(&rt, "run", &ARITHMETIC, &ARITHMETIC_EDGES)?,
-        None
-    );
-    Ok(())
+fn arithmetic_edges(rt: HostRuntime) -> Result<(), Fail> {
+    agrees(&rt, "run", &ARITHMETIC, &ARITHMETIC_EDGES)
 }
 
 /// The index 2, 1 and 3 of a case jump over 1 to 2, and bounds the wrong way round.
@@ -134,38 +120,38 @@ const CASE_JUMPS: [Edit; 4] = [
 ];
 
 #[test]
-fn case_jump(rt: HostRuntime) -> io::Result<()> {
-    assert_eq!(rt; first_wrong(&rt, "run", &CASES, &CASE_JUMPS)?, None);
-    Ok(())
+fn case_jump(rt: HostRuntime) -> Result<(), Fail> {
+    agrees(&rt, "run", &CASES, &CASE_JUMPS)
 }
 
-/// Whether a program that reads from a unit comes to this on an input, and leaves this of it.
+/// A program that reads from a unit comes to this on an input, and leaves this of it.
 fn reads(
     rt: &HostRuntime,
     unit: u8,
     input: &[u8],
     outcome: Outcome,
     left: &[u8],
-) -> io::Result<bool> {
+) -> Result<(), Fail> {
     let file = code_file(rt.alloc(), &READS)?;
     let file = edited(rt.alloc(), file.as_slice(), 512, &[unit])?;
     let mut input = input;
     let done = perform_on(rt, "run", file.as_slice(), &[], &mut input)?;
-    Ok(input == left && meets(rt.alloc(), &done, outcome)?)
+    if input != left {
+        return Err(Fail::new("another part of the input is left"));
+    }
+    must_meet(rt.alloc(), &done, outcome)
 }
 
 #[test]
-fn reads_three_keys(rt: HostRuntime) -> io::Result<()> {
-    assert!(rt; reads(&rt, 2, b"HIQZ", Prints(b"HIQ"), b"Z")?);
-    assert!(rt; reads(&rt, 2, b"HI", Waits(b"HI"), b"")?);
-    assert!(rt; reads(&rt, 2, b"", Waits(b""), b"")?);
-    Ok(())
+fn reads_three_keys(rt: HostRuntime) -> Result<(), Fail> {
+    reads(&rt, 2, b"HIQZ", Prints(b"HIQ"), b"Z")?;
+    reads(&rt, 2, b"HI", Waits(b"HI"), b"")?;
+    reads(&rt, 2, b"", Waits(b""), b"")
 }
 
 #[test]
-fn echoes_on_console(rt: HostRuntime) -> io::Result<()> {
-    assert!(rt; reads(&rt, 1, b"HQ", Prints(b"HHQQ"), b"")?);
-    Ok(())
+fn echoes_on_console(rt: HostRuntime) -> Result<(), Fail> {
+    reads(&rt, 1, b"HQ", Prints(b"HHQQ"), b"")
 }
 
 /// A reader that gives an H, and then fails.
