@@ -1,7 +1,8 @@
 //! What the program does with its words.
-ghost use Rattle.std.specs.Prelude.{IfOk};
+ghost use Rattle.std.specs.Prelude.{IfOk, IfErr};
 ghost use Rattle.pcode_file.specs.InFile.{InFile};
 ghost use Rattle.pcode_ops.specs.Reach.{IsLoadable};
+ghost use Rattle.pgroup.specs.Command.{IsNoProgram};
 
 use crate::files::{FileError, read_file};
 use crate::hex::{HexError, bytes_of};
@@ -87,9 +88,10 @@ fn built_in() -> [u8; 540] {
     bytes
 }
 
-/// The program of a code file's bytes.
+/// The program of a code file's bytes, or why they are none.
 fn load(alloc: Global, bytes: &[u8]) -> Result<Program, Refusal>
-    ensures { IfOk result (λ program. InFile bytes.now program × IsLoadable program) }
+    ensures ok { IfOk result (λ program. InFile bytes.now program × IsLoadable program) }
+    ensures err { IfErr result (IsNoProgram bytes.now) }
 {
     let file = CodeFile::read(alloc, bytes)?;
     match Program::check(alloc, file) {
