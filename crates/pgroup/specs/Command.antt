@@ -5,7 +5,7 @@ use Rattle.pcode_file.specs.InFile.{InFile}
 use Rattle.pcode_file.specs.Checks.{Gives, read_from}
 use Rattle.pcode_ops.specs.Reach.{IsRefusal}
 use Rattle.pgroup.specs.declared.command.Refusal.{Refusal}
-use Rattle.pgroup.specs.declared.command.Refusal.TheVariants.{File, CodeFile, Load, Run, Datagram}
+use Rattle.pgroup.specs.declared.command.Refusal.TheVariants.{CodeFile, Load}
 
 -- why these bytes are no program: they are no code file, or one that is not loaded
 abbrev pub IsNoProgram : List ℕ → Refusal → Type 0
