@@ -1,6 +1,6 @@
 -- Bodies: what is read was written, and what is written is read.
 use Rattle.std.proofs.Common.{◌≡◌, ℕ, ◌<◌, ◌≤◌, ◌⊎◌, inl, inr, Bool, true, false, cond, not, eqb, ltb, leb, List, [], ◌∷◌, ◌++◌, length, Result, Ok, refl, sym, subst, arith}
-use Rattle.std.proofs.lemmas.Bool.{eqb-true, eqb-false, le-ltb, ltb-false, lt-leb, leb-false}
+use Rattle.std.proofs.lemmas.Bool.{eqb-true, eqb-false, le-ltb, ltb-false, lt-leb, leb-false, not-false}
 use Rattle.paxos_msg.specs.declared.message.Body.{Body}
 use Rattle.paxos_msg.specs.declared.message.Body.TheVariants.{Prepare, Promise, Accept, Accepted, Refused, Submit, Ask, Tell}
 use Rattle.paxos_msg.specs.declared.fault.WireFault.{WireFault}
@@ -10,7 +10,8 @@ use Rattle.paxos_msg.specs.Spelling.{number_bytes, ballot_bytes, value_bytes, vo
 use Rattle.paxos_msg.specs.Reading.{byte_at, ballot_at, own_ballot_at, place_at, value_at, own_key_at, votes_at, prepare_at, promise_at, accept_at, accepted_at, refused_at, submit_at, ask_at, tell_at, body_at}
 use Rattle.paxos_msg.specs.Tests.{ballot_lt}
 use Rattle.paxos_msg.specs.Grammar.{AreBytes}
-use Rattle.paxos_msg.proofs.Guards.{bind_ok, unless_ok, ok_is, Takes, takes_then, not_false}
+use Rattle.base.proofs.Steps.{bind_ok, unless_ok, ok_is}
+use Rattle.paxos_msg.proofs.Guards.{Takes, takes_then}
 use Rattle.paxos_msg.proofs.Numbers.{byte_found}
 use Rattle.paxos_msg.proofs.FieldsRead.{ballot_found, ballot_again, own_found, own_again, place_found, place_again, value_found, value_again, own_key_found, own_key_again}
 use Rattle.paxos_msg.proofs.VotesRead.{below_true, true_below, votes_found, votes_again}
@@ -95,7 +96,7 @@ refused_found size sender bytes p h e =
     let promised = ballot_found size a.0.1 b.0 ballot.0.others b.1 in
     let two = takes_then bytes (ballot_bytes a.0.0) a.0.1 (ballot_bytes b.0.0) b.0.1 ballot.0 promised.0 in
     subst (λ (q : Body × List ℕ). IsRead size sender 5 bytes q) (ok_is (Refused a.0.0 b.0.0, b.0.1) p c.1)
-    (record { takes = two; fits = (ballot.1, promised.1, true_below a.0.0 b.0.0 (not_false _ c.0)); kind_is = refl })
+    (record { takes = two; fits = (ballot.1, promised.1, true_below a.0.0 b.0.0 (not-false _ c.0)); kind_is = refl })
 
 submit_found : (size sender : ℕ) (bytes : List ℕ) (p : Body × List ℕ) → AreBytes bytes → submit_at size sender bytes ≡ Ok p → IsRead size sender 6 bytes p
 unfolding submit_at

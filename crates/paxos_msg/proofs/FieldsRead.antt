@@ -1,6 +1,6 @@
 -- Ballots, places and values: what is read was written, and what is written is read.
 use Rattle.std.proofs.Common.{◌≡◌, ℕ, zero, suc, ◌^◌, ◌<◌, ◌≤◌, Bool, true, false, not, ◌&&◌, eqb, ltb, List, [], ◌∷◌, ◌++◌, Ok, refl, ap, subst, arith}
-use Rattle.std.proofs.lemmas.Bool.{eq-eqb, ne_eqb, eqb-true, le-ltb, ltb-false}
+use Rattle.std.proofs.lemmas.Bool.{eq-eqb, ne_eqb, eqb-true, le-ltb, ltb-false, and_parts, not-false}
 use Rattle.paxos_msg.specs.declared.ballot.Ballot.{Ballot}
 use Rattle.paxos_msg.specs.declared.value.Value.{Value}
 use Rattle.paxos_msg.specs.declared.value.Value.TheVariants.{Noop, Key}
@@ -9,7 +9,8 @@ use Rattle.paxos_msg.specs.Fits.{IsCount, IsBallot, IsValue, IsOwnKey}
 use Rattle.paxos_msg.specs.Spelling.{number_bytes, ballot_bytes, value_bytes}
 use Rattle.paxos_msg.specs.Reading.{byte_at, number_at, is_node, ballot_at, own_ballot_at, place_at, key_at, tagged, value_at, own_key_at}
 use Rattle.paxos_msg.specs.Grammar.{AreBytes}
-use Rattle.paxos_msg.proofs.Guards.{bind_ok, unless_ok, last_ok, ok_is, Takes, takes_then, and_true, not_false, zero_false, false_zero, node_found, node_again}
+use Rattle.base.proofs.Steps.{bind_ok, unless_ok, last_ok, ok_is}
+use Rattle.paxos_msg.proofs.Guards.{Takes, takes_then, zero_false, false_zero, node_found, node_again}
 use Rattle.paxos_msg.proofs.Numbers.{byte_found, number_found, number_again}
 
 -- ---- ballots
@@ -25,7 +26,7 @@ ballot_found size bytes p h e =
     let t = byte_found a.0.1 c.0 n.0.others c.1 in
     let made : Ballot × List ℕ = (record { round = a.0.0; node = c.0.0 }, c.0.1) in
     subst (λ (q : Ballot × List ℕ). Takes bytes (ballot_bytes q.0) q.1 × IsBallot size q.0) (ok_is made p d.1)
-    (takes_then bytes (number_bytes a.0.0) a.0.1 (c.0.0 ∷ []) c.0.1 n.0 t.0, ((zero_false a.0.0 b.0, n.1), node_found size c.0.0 (not_false _ d.0)))
+    (takes_then bytes (number_bytes a.0.0) a.0.1 (c.0.0 ∷ []) c.0.1 n.0 t.0, ((zero_false a.0.0 b.0, n.1), node_found size c.0.0 (not-false _ d.0)))
 
 pub ballot_again : (size : ℕ) (b : Ballot) (rest : List ℕ) → IsBallot size b → ballot_at size (ballot_bytes b ++ rest) ≡ Ok (b, rest)
 unfolding ballot_at
@@ -39,7 +40,7 @@ own_found size sender bytes p h e =
     let b = last_ok fault.Ballot (not (eqb a.0.0.node sender)) a.0 p a.2 in
     let f = ballot_found size bytes a.0 h a.1 in
     subst (λ (q : Ballot × List ℕ). Takes bytes (ballot_bytes q.0) q.1 × IsBallot size q.0 × (q.0.node ≡ sender)) b.1
-    (f.0, f.1, eqb-true a.0.0.node sender (not_false _ b.0))
+    (f.0, f.1, eqb-true a.0.0.node sender (not-false _ b.0))
 
 pub own_again : (size sender : ℕ) (b : Ballot) (rest : List ℕ) → IsBallot size b → b.node ≡ sender → own_ballot_at size sender (ballot_bytes b ++ rest) ≡ Ok (b, rest)
 unfolding own_ballot_at
@@ -85,7 +86,7 @@ key_found is_good bytes p h e =
     let three = takes_then (1 ∷ bytes) (1 ∷ a.0.0 ∷ number_bytes c.0.0) c.0.1 (number_bytes f.0.0) f.0.1 two serial.0 in
     let four = takes_then (1 ∷ bytes) (1 ∷ a.0.0 ∷ (number_bytes c.0.0 ++ number_bytes f.0.0)) f.0.1 (k.0.0 ∷ []) k.0.1 three byte.0 in
     subst (λ (q : Value × List ℕ). Takes (1 ∷ bytes) (value_bytes q.0) q.1 × KeyFits is_good q.0) (ok_is (Key a.0.0 c.0.0 f.0.0 k.0.0, k.0.1) p k.2)
-    (four, (not_false _ b.0, (zero_false c.0.0 d.0, start.1), (zero_false f.0.0 g.0, serial.1), byte.1))
+    (four, (not-false _ b.0, (zero_false c.0.0 d.0, start.1), (zero_false f.0.0 g.0, serial.1), byte.1))
 
 key_again : (is_good : ℕ → Bool) (node start serial byte : ℕ) (rest : List ℕ) → is_good node ≡ true → IsCount start → IsCount serial
     → key_at is_good (node ∷ (number_bytes start ++ (number_bytes serial ++ byte ∷ rest))) ≡ Ok (Key node start serial byte, rest)
@@ -122,7 +123,7 @@ value_again size (Key node start serial byte) rest h = key_again (is_node size) 
 own_fits : (size sender : ℕ) (v : Value) → KeyFits (λ node. is_node size node && eqb node sender) v → IsValue size v × IsOwnKey sender v
 own_fits size sender Noop h = absurd h
 own_fits size sender (Key node start serial byte) h =
-    let a = and_true (is_node size node) (eqb node sender) h.0 in
+    let a = and_parts (is_node size node) (eqb node sender) h.0 in
     ((node_found size node a.0, h.1, h.2, h.3), eqb-true node sender a.1)
 
 pub own_key_found : (size sender : ℕ) (bytes : List ℕ) (p : Value × List ℕ) → AreBytes bytes → own_key_at size sender bytes ≡ Ok p → Takes bytes (value_bytes p.0) p.1 × IsValue size p.0 × IsOwnKey sender p.0
@@ -135,7 +136,7 @@ own_key_found size sender (suc zero ∷ bytes) p h e =
     (f.0, g.0, g.1)
 own_key_found size sender (suc (suc b) ∷ bytes) p h e =
     let a = unless_ok fault.Value (not (eqb (suc (suc b)) 1)) (suc (suc b), bytes) (λ key. key_at (λ node. is_node size node && eqb node sender) key.1) p e in
-    let f = eqb-true (suc (suc b)) 1 (not_false _ a.0) in
+    let f = eqb-true (suc (suc b)) 1 (not-false _ a.0) in
     absurd (omega arith)
 
 pub own_key_again : (size sender : ℕ) (v : Value) (rest : List ℕ) → IsValue size v → IsOwnKey sender v → own_key_at size sender (value_bytes v ++ rest) ≡ Ok (v, rest)

@@ -1,5 +1,5 @@
--- What goes on with a growth: more messages, a call of a node, and a restart.
-use Rattle.std.proofs.Common.{◌≡◌, ◌≢◌, ℕ, inl, inr, List, [], ◌∷◌, ◌++◌, Option, Contains, subst, sym}
+-- What goes on with a growth: more messages, a call of a node, and a restart; and which rules still hold after it.
+use Rattle.std.proofs.Common.{◌≡◌, ◌≢◌, ◌↔◌, ℕ, inl, inr, List, [], ◌∷◌, ◌++◌, Option, Contains, subst, sym}
 use Rattle.std.proofs.lemmas.Bool.{cases_eq}
 use Rattle.std.proofs.lemmas.List.{append-nil, append_assoc}
 use Rattle.std.proofs.lemmas.List.Elements.{Contains-append_left}
@@ -8,12 +8,13 @@ use Rattle.paxos_msg.specs.declared.record.Change.{Change}
 use Rattle.paxos_msg.specs.declared.record.Change.TheVariants.{Start, Promise, Ballotted}
 use Rattle.paxos_msg.specs.declared.record.Record.{Record}
 use Rattle.paxos_msg.specs.declared.message.Body.{Body}
-use Rattle.paxos_msg.specs.declared.message.Body.TheVariants.{Accept, Accepted}
+use Rattle.paxos_msg.specs.declared.message.Body.TheVariants as message
+use Rattle.paxos_msg.specs.declared.message.Body.TheVariants.{Prepare, Accept, Accepted, Refused, Submit, Ask, Tell}
 use Rattle.paxos_msg.specs.declared.message.Msg.{Msg}
 use Rattle.paxos_msg.specs.Keys.{Key}
 use Rattle.paxos_msg.specs.Messages.{Sent, IsSaid, messages_of}
 use Rattle.paxos_msg.specs.Records.{MaySave, Stored}
-use Rattle.paxos_msg.specs.Sending.{MaySendAll}
+use Rattle.paxos_msg.specs.Sending.{IsNoNewProposal, KnowsMore, MaySend, MaySendAll}
 use Rattle.paxos_msg.specs.Chosen.{IsChosen}
 use Rattle.paxos_msg.specs.Growth.{Grew, sends, saves}
 
@@ -52,3 +53,39 @@ restarts size i sent records next failed grew may (inl same) others =
     subst (λ (r : ℕ → Record). Grew size sent r) (same_records records next each) grew
 restarts size i sent records next failed grew may (inr (change, tried, e)) others =
     saves sent records next i change grew (may change tried) (record { own = e; others = others })
+
+-- ---- rules that still hold
+
+-- what may be sent, and is no new proposal, may still be sent when more was sent, typed and learned
+pub may_still_send : (size i : ℕ) (typed newer : List Key) (learned now : ℕ → Option Value) (sent more : Sent) (r : Record) (body : Body) → KnowsMore typed newer learned now → IsNoNewProposal sent i body → MaySend size typed learned sent i r body → MaySend size newer now (sent ++ more) i r body
+may_still_send size i typed newer learned now sent more r (Prepare b from) knows old may = may
+may_still_send size i typed newer learned now sent more r (message.Promise b first upto votes) knows old may = may
+may_still_send size i typed newer learned now sent more r (Accept b s v) knows old (own, rule) = (own, inl (Contains-append_left sent more (record { sender = i; body = Accept b s v }) old))
+may_still_send size i typed newer learned now sent more r (Accepted b s v) knows old (said, vote, promised) = (stays_said sent more (Accept b s v) said, vote, promised)
+may_still_send size i typed newer learned now sent more r (Refused b promised) knows old may = may
+may_still_send size i typed newer learned now sent more r (Submit v) knows old may = record { has_key = may.has_key; at_node = may.at_node; known = λ key k. knows.keys key (may.known key k) }
+may_still_send size i typed newer learned now sent more r (Ask from) knows old may = may
+may_still_send size i typed newer learned now sent more r (Tell s v) knows old may = knows.values s v may
+
+-- ---- a call in two halves
+
+both_halves : (size i : ℕ) (typed : List Key) (learned : ℕ → Option Value) (sent : Sent) (r : Record) (bodies more : List Body) → MaySendAll size typed learned sent i r bodies → MaySendAll size typed learned (sent ++ messages_of i bodies) i r more → MaySendAll size typed learned sent i r (bodies ++ more)
+both_halves size i typed learned sent r [] more first then = rw (append-nil sent) at then
+both_halves size i typed learned sent r (body ∷ bodies) more (may, rest) then =
+    let m : Msg = record { sender = i; body = body } in
+    (may, both_halves size i typed learned (sent ++ m ∷ []) r bodies more rest (rw (← append_assoc sent (m ∷ []) (messages_of i bodies)) at then))
+
+first_half : (size i : ℕ) (typed : List Key) (learned : ℕ → Option Value) (sent : Sent) (r : Record) (bodies more : List Body) → MaySendAll size typed learned sent i r (bodies ++ more) → MaySendAll size typed learned sent i r bodies
+first_half size i typed learned sent r [] more all = tt
+first_half size i typed learned sent r (body ∷ bodies) more (may, rest) =
+    (may, first_half size i typed learned (sent ++ record { sender = i; body = body } ∷ []) r bodies more rest)
+
+second_half : (size i : ℕ) (typed : List Key) (learned : ℕ → Option Value) (sent : Sent) (r : Record) (bodies more : List Body) → MaySendAll size typed learned sent i r (bodies ++ more) → MaySendAll size typed learned (sent ++ messages_of i bodies) i r more
+second_half size i typed learned sent r [] more all = rw (append-nil sent) all
+second_half size i typed learned sent r (body ∷ bodies) more (may, rest) =
+    let m : Msg = record { sender = i; body = body } in
+    rw (append_assoc sent (m ∷ []) (messages_of i bodies)) at (second_half size i typed learned (sent ++ m ∷ []) r bodies more rest)
+
+pub halves : (size i : ℕ) (typed : List Key) (learned : ℕ → Option Value) (sent : Sent) (r : Record) (bodies more : List Body) → MaySendAll size typed learned sent i r (bodies ++ more) ↔ (MaySendAll size typed learned sent i r bodies × MaySendAll size typed learned (sent ++ messages_of i bodies) i r more)
+halves size i typed learned sent r bodies more =
+    (λ all. (first_half size i typed learned sent r bodies more all, second_half size i typed learned sent r bodies more all), λ parts. both_halves size i typed learned sent r bodies more parts.0 parts.1)

@@ -1,6 +1,6 @@
 -- The header: what is read was written, and what is written is read.
 use Rattle.std.proofs.Common.{◌≡◌, ℕ, suc, ◌<◌, ◌≤◌, true, false, not, ◌&&◌, ◌||◌, eqb, ltb, List, [], ◌∷◌, ◌++◌, length, Ok, refl, sym, ap, subst, arith}
-use Rattle.std.proofs.lemmas.Bool.{eq-eqb, eqb-true, le-ltb, ltb-false}
+use Rattle.std.proofs.lemmas.Bool.{eq-eqb, eqb-true, le-ltb, ltb-false, or_parts, and_parts, not-false}
 use Rattle.byteorder.specs.Endian.{big_number}
 use Rattle.byteorder.specs.Numbers.{big_number-reads_back}
 use Rattle.paxos_msg.specs.declared.message.Group.{Group}
@@ -9,7 +9,8 @@ use Rattle.paxos_msg.specs.Fits.{IsNode}
 use Rattle.paxos_msg.specs.Spelling.{number_bytes, header_bytes}
 use Rattle.paxos_msg.specs.Reading.{is_node, header_at}
 use Rattle.paxos_msg.specs.Grammar.{AreBytes, IsGroup}
-use Rattle.paxos_msg.proofs.Guards.{unless_ok, ok_is, Takes, or_false, and_true, not_false, zero_false, false_zero, node_found, node_again}
+use Rattle.base.proofs.Steps.{unless_ok, ok_is}
+use Rattle.paxos_msg.proofs.Guards.{Takes, zero_false, false_zero, node_found, node_again}
 use Rattle.paxos_msg.proofs.Numbers.{four_again}
 
 -- a header of the group was read
@@ -45,12 +46,12 @@ ten_found group a b c kind sender size g h i j rest p are e =
     let known = unless_ok fault.Kind (eqb kind 0 || ltb 8 kind) bytes _ p version.1 in
     let here = unless_ok fault.Group (not (eqb size group.size && eqb (big_number 4 (g ∷ h ∷ i ∷ j ∷ [])) group.session)) bytes _ p known.1 in
     let node = unless_ok fault.Sender (not (is_node group.size sender)) bytes _ p here.1 in
-    let magic = and_true (eqb a 80) (eqb b 71) (not_false _ ours.0) in
-    let range = or_false (eqb kind 0) (ltb 8 kind) known.0 in
-    let same = and_true (eqb size group.size) (eqb (big_number 4 (g ∷ h ∷ i ∷ j ∷ [])) group.session) (not_false _ here.0) in
-    let takes = ten_are group a b c kind sender size g h i j rest are (eqb-true a 80 magic.0) (eqb-true b 71 magic.1) (eqb-true c 1 (not_false _ version.0)) (eqb-true size group.size same.0) (eqb-true _ group.session same.1) in
+    let magic = and_parts (eqb a 80) (eqb b 71) (not-false _ ours.0) in
+    let range = or_parts (eqb kind 0) (ltb 8 kind) known.0 in
+    let same = and_parts (eqb size group.size) (eqb (big_number 4 (g ∷ h ∷ i ∷ j ∷ [])) group.session) (not-false _ here.0) in
+    let takes = ten_are group a b c kind sender size g h i j rest are (eqb-true a 80 magic.0) (eqb-true b 71 magic.1) (eqb-true c 1 (not-false _ version.0)) (eqb-true size group.size same.0) (eqb-true _ group.session same.1) in
     subst (λ (q : (ℕ × ℕ) × List ℕ). IsHeader group bytes q) (ok_is ((kind, sender), rest) p node.1)
-    (record { takes = takes; above = zero_false kind range.0; below = ltb-false 8 kind range.1; sender = node_found group.size sender (not_false _ node.0) })
+    (record { takes = takes; above = zero_false kind range.0; below = ltb-false 8 kind range.1; sender = node_found group.size sender (not-false _ node.0) })
 
 pub header_found : (group : Group) (bytes : List ℕ) (p : (ℕ × ℕ) × List ℕ) → AreBytes bytes → header_at group bytes ≡ Ok p → IsHeader group bytes p
 header_found group [] p are e = absurd (short_refused group [] p (omega arith) e)

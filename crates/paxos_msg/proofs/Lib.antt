@@ -22,3 +22,6 @@ pub mod MessagesRead
 pub mod SpellingLengths
 pub mod Answered
 mod Ascending
+pub mod Rules
+pub mod Exact
+pub mod Retold

@@ -1,6 +1,6 @@
 -- The law: a datagram is read as a message just where it is the message's spelling.
 use Rattle.std.proofs.Common.{◌≡◌, ◌↔◌, ℕ, ◌<◌, ◌≤◌, not, eqb, List, [], ◌++◌, length, Ok, refl, sym, ap, subst, ◌∙◌, arith}
-use Rattle.std.proofs.lemmas.Bool.{eqb-true}
+use Rattle.std.proofs.lemmas.Bool.{eqb-true, not-false}
 use Rattle.std.proofs.lemmas.List.{append-nil, nil_from_length}
 use Rattle.paxos_msg.specs.declared.ballot.Ballot.{Ballot}
 use Rattle.paxos_msg.specs.declared.value.Value.{Value}
@@ -14,7 +14,8 @@ use Rattle.paxos_msg.specs.Fits.{AreVotes, IsBallot, IsValue, Fits}
 use Rattle.paxos_msg.specs.Spelling.{ballot_bytes, value_bytes, votes_bytes, kind_of, body_bytes, header_bytes, spelling, Msgs}
 use Rattle.paxos_msg.specs.Reading.{ballot_at, value_at, votes_at, header_at, body_at, message_at}
 use Rattle.paxos_msg.specs.Grammar.{AreBytes, IsGroup}
-use Rattle.paxos_msg.proofs.Guards.{bind_ok, last_ok, ok_is, takes_then, not_false}
+use Rattle.base.proofs.Steps.{bind_ok, last_ok, ok_is}
+use Rattle.paxos_msg.proofs.Guards.{takes_then}
 use Rattle.paxos_msg.proofs.FieldsRead.{ballot_found, ballot_again, value_found, value_again}
 use Rattle.paxos_msg.proofs.VotesRead.{votes_found, votes_again}
 use Rattle.paxos_msg.proofs.BodiesRead.{body_found, body_again}
@@ -54,7 +55,7 @@ message_found group bytes m are e =
     let header = header_found group bytes a.0 are a.1 in
     let body = body_found group.size a.0.0.1 a.0.0.0 a.0.1 b.0 header.above header.below header.takes.others b.1 in
     let both = takes_then bytes (header_bytes group a.0.0.0 a.0.0.1) a.0.1 (body_bytes b.0.0) b.0.1 header.takes body.takes in
-    let end : b.0.1 ≡ [] = nil_from_length b.0.1 (eqb-true (length b.0.1) 0 (not_false _ c.0)) in
+    let end : b.0.1 ≡ [] = nil_from_length b.0.1 (eqb-true (length b.0.1) 0 (not-false _ c.0)) in
     let whole : bytes ≡ header_bytes group (kind_of b.0.0) a.0.0.1 ++ body_bytes b.0.0 = rw (body.kind_is) (both.parts ∙ ap (λ (t : List ℕ). (header_bytes group a.0.0.0 a.0.0.1 ++ body_bytes b.0.0) ++ t) end ∙ append-nil (header_bytes group a.0.0.0 a.0.0.1 ++ body_bytes b.0.0)) in
     subst (λ (n : Msg). Msgs group bytes n) c.1 (record { fits = (header.sender, body.fits); spelled = whole })
 

@@ -7,7 +7,8 @@ use Rattle.paxos_msg.specs.declared.fault.WireFault.TheVariants.{Short}
 use Rattle.paxos_msg.specs.Spelling.{number_bytes}
 use Rattle.paxos_msg.specs.Reading.{byte_at, number_at}
 use Rattle.paxos_msg.specs.Grammar.{AreBytes}
-use Rattle.paxos_msg.proofs.Guards.{Takes, ok_is, last_ok}
+use Rattle.base.proofs.Steps.{ok_is, last_ok}
+use Rattle.paxos_msg.proofs.Guards.{Takes}
 
 pub byte_found : (bytes : List ℕ) (x : ℕ × List ℕ) → AreBytes bytes → byte_at bytes ≡ Ok x → Takes bytes (x.0 ∷ []) x.1 × (x.0 < 256)
 byte_found [] x h e = absurd cc

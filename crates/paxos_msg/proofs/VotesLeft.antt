@@ -3,7 +3,8 @@ use Rattle.std.proofs.Common.{◌≡◌, ℕ, zero, suc, ◌+◌, ◌-◌, ◌<�
 use Rattle.paxos_msg.specs.declared.ballot.Ballot.{Ballot}
 use Rattle.paxos_msg.specs.declared.value.Vote.{Vote}
 use Rattle.paxos_msg.specs.declared.fault.WireFault.{WireFault}
-use Rattle.paxos_msg.specs.Reading.{◌>>=◌, vote_at, votes_at}
+use Rattle.base.specs.Steps.{◌>>=◌}
+use Rattle.paxos_msg.specs.Reading.{vote_at, votes_at}
 use Rattle.paxos_msg.specs.Raw.{raw_vote_at, then_votes, votes_left}
 
 -- no vote is left where none is wanted

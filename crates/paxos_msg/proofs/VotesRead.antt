@@ -1,6 +1,6 @@
 -- Votes: what is read was written, and what is written is read.
 use Rattle.std.proofs.Common.{◌≡◌, ℕ, zero, suc, ◌+◌, ◌^◌, ◌<◌, ◌≤◌, inl, inr, Bool, true, false, ◌&&◌, ◌||◌, eqb, ltb, leb, List, [], ◌∷◌, ◌++◌, length, Ok, refl, sym, ap, subst, append_assoc, arith}
-use Rattle.std.proofs.lemmas.Bool.{eq-eqb, ne_eqb, eqb-true, eqb-false, lt-ltb, le-ltb, ltb-true, ltb-false, lt-leb, leb-false}
+use Rattle.std.proofs.lemmas.Bool.{eq-eqb, ne_eqb, eqb-true, eqb-false, lt-ltb, le-ltb, ltb-true, ltb-false, lt-leb, leb-false, or_parts}
 use Rattle.paxos_msg.specs.declared.ballot.Ballot.{Ballot}
 use Rattle.paxos_msg.specs.declared.value.Vote.{Vote}
 use Rattle.paxos_msg.specs.declared.fault.WireFault.TheVariants as fault
@@ -10,7 +10,8 @@ use Rattle.paxos_msg.specs.Spelling.{number_bytes, ballot_bytes, value_bytes, vo
 use Rattle.paxos_msg.specs.Reading.{number_at, ballot_at, value_at, vote_at, votes_at}
 use Rattle.paxos_msg.specs.Tests.{ballot_lt}
 use Rattle.paxos_msg.specs.Grammar.{AreBytes}
-use Rattle.paxos_msg.proofs.Guards.{bind_ok, unless_ok, ok_is, Takes, takes_then, or_false}
+use Rattle.base.proofs.Steps.{bind_ok, unless_ok, ok_is}
+use Rattle.paxos_msg.proofs.Guards.{Takes, takes_then}
 use Rattle.paxos_msg.proofs.Numbers.{number_found, number_again}
 use Rattle.paxos_msg.proofs.FieldsRead.{ballot_found, ballot_again, value_found, value_again}
 
@@ -64,7 +65,7 @@ vote_found size b first upto low bytes p h e =
     let value = value_found size f.0.1 k.0 ballot.0.others k.1 in
     let two = takes_then bytes (number_bytes a.0.0) a.0.1 (ballot_bytes f.0.0) f.0.1 place.0 ballot.0 in
     let three = takes_then bytes (number_bytes a.0.0 ++ ballot_bytes f.0.0) f.0.1 (value_bytes k.0.0) k.0.1 two value.0 in
-    let range = or_false _ _ d.0 in
+    let range = or_parts _ _ d.0 in
     subst (λ (q : Vote × List ℕ). Takes bytes (vote_bytes q.0) q.1 × IsVote size b first upto q.0 × (low ≤ q.0.place))
     (ok_is (record { place = a.0.0; ballot = f.0.0; value = k.0.0 }, k.0.1) p k.2) (
       three,

@@ -15,3 +15,4 @@ pub mod Growth
 pub mod Nodes
 pub mod Grammar
 pub mod Lengths
+pub mod Codes

@@ -6,7 +6,8 @@ use Rattle.paxos_msg.specs.declared.value.Value.TheVariants as value
 use Rattle.paxos_msg.specs.declared.value.Vote.{Vote}
 use Rattle.paxos_msg.specs.declared.fault.WireFault.{WireFault}
 use Rattle.paxos_msg.specs.declared.fault.WireFault.TheVariants as fault
-use Rattle.paxos_msg.specs.Reading.{◌>>=◌, byte_at, number_at, unless}
+use Rattle.base.specs.Steps.{unless, ◌>>=◌}
+use Rattle.paxos_msg.specs.Reading.{byte_at, number_at}
 
 -- the first n bytes are taken
 abbrev pub Takes : ℕ → List ℕ → List ℕ → Type 0

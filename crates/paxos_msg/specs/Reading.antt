@@ -1,5 +1,6 @@
 -- Reading a datagram from left to right: the message, or the first fault that is met.
 use Rattle.std.specs.Prelude.{◌≡◌, ℕ, zero, suc, ◌+◌, List, [], ◌∷◌, length, drop, slice_index, Result, Ok, Err, nat_lt, nat_le, ◌==◌, ◌&&◌, ◌||◌, not, Bool, if◌then◌else◌}
+use Rattle.base.specs.Steps.{◌>>=◌, unless}
 use Rattle.byteorder.specs.Endian.{big_number}
 use Rattle.paxos_msg.specs.declared.ballot.Ballot.{Ballot}
 use Rattle.paxos_msg.specs.declared.value.Value.{Value}
@@ -13,19 +14,10 @@ use Rattle.paxos_msg.specs.declared.fault.WireFault.{WireFault}
 use Rattle.paxos_msg.specs.declared.fault.WireFault.TheVariants as fault
 use Rattle.paxos_msg.specs.Tests.{ballot_lt}
 
-infixl 10 ◌>>=◌
-abbrev pub ◌>>=◌ : {A B : Type 0} → Result A WireFault → (A → Result B WireFault) → Result B WireFault
-(Ok x) >>= f = f x
-(Err e) >>= f = Err e
-
 -- what a function answered, seen by view, is what reading gives
 abbrev pub Gives : {X Y : Type 0} → (X → Y) → Result X WireFault → Result Y WireFault → Type 0
 Gives view (Ok x) read = read ≡ Ok (view x)
 Gives view (Err e) read = read ≡ Err e
-
--- x, unless this is a fault
-abbrev pub unless : {A : Type 0} → WireFault → Bool → A → Result A WireFault
-unless e b x = if b then Err e else Ok x
 
 -- ---- fields: the value, and the bytes behind it
 

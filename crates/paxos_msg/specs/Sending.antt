@@ -75,3 +75,19 @@ MaySendAll size typed learned sent i r [] = Unit {0}
 MaySendAll size typed learned sent i r (body ∷ more) =
     MaySend size typed learned sent i r body
     × MaySendAll size typed learned (sent ++ record { sender = i; body = body } ∷ []) i r more
+
+-- each typed key is typed still, and each learned value is learned still
+pub record KnowsMore (typed newer : List Key) (learned now : ℕ → Option Value) : Type 0 where
+  pub keys : (key : Key) → Contains typed key → Contains newer key
+  pub values : (s : ℕ) (v : Value) → learned s ≡ Some v → now s ≡ Some v
+
+-- no new proposal: an Accept only where node i has sent it before
+abbrev pub IsNoNewProposal : Sent → ℕ → Body → Type 0
+IsNoNewProposal sent i (Prepare b from) = Unit {0}
+IsNoNewProposal sent i (Promise b first upto votes) = Unit {0}
+IsNoNewProposal sent i (Accept b s v) = IsSent sent i (Accept b s v)
+IsNoNewProposal sent i (Accepted b s v) = Unit {0}
+IsNoNewProposal sent i (Refused b promised) = Unit {0}
+IsNoNewProposal sent i (Submit v) = Unit {0}
+IsNoNewProposal sent i (Ask from) = Unit {0}
+IsNoNewProposal sent i (Tell s v) = Unit {0}

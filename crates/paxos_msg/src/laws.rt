@@ -1,9 +1,10 @@
 //! The laws of the protocol, over its definitions alone.
 
-ghost use Rattle.std.specs.Prelude.{◌≡◌, ◌≢◌, ◌↔◌, ◌⊎◌, ◌<◌, ◌≤◌, ◌+◌, ◌*◌, ◌++◌, ℕ, Bool, IsTrue, List, Option, Some, Contains};
+ghost use Rattle.std.specs.Prelude.{◌≡◌, ◌≢◌, ◌↔◌, ◌⊎◌, ◌<◌, ◌≤◌, ◌+◌, ◌*◌, ◌++◌, ◌∷◌, [], ℕ, Bool, true, false, IsTrue, IsSomeAnd, List, Option, Some, Contains};
 ghost use Rattle.paxos_msg.specs.declared.ballot.Ballot.{Ballot};
-ghost use Rattle.paxos_msg.specs.declared.message.Body.TheVariants.{Accept};
+ghost use Rattle.paxos_msg.specs.declared.message.Body.TheVariants.{Accept, Ask, Prepare, Refused, Submit, Tell};
 ghost use Rattle.paxos_msg.specs.declared.message.Body.{Body};
+ghost use Rattle.paxos_msg.specs.declared.record.Change.TheVariants.{Ballotted, Promise, Start};
 ghost use Rattle.paxos_msg.specs.declared.record.Change.{Change};
 ghost use Rattle.paxos_msg.specs.declared.record.Record.{Record};
 ghost use Rattle.paxos_msg.specs.declared.value.Value.{Value};
@@ -11,10 +12,11 @@ ghost use Rattle.paxos_msg.specs.declared.value.Vote.{Vote};
 ghost use Rattle.paxos_msg.specs.Ballots.{count_of, IsAtMost, IsBelow, IsMajority};
 ghost use Rattle.paxos_msg.specs.Chosen.{IsChosen, IsChosenBy};
 ghost use Rattle.paxos_msg.specs.Growth.{Grew};
-ghost use Rattle.paxos_msg.specs.Keys.{Key};
-ghost use Rattle.paxos_msg.specs.Messages.{IsAscending, IsSaid, messages_of, Sent, vote_at};
-ghost use Rattle.paxos_msg.specs.Records.{MaySave, Stored, with_vote};
-ghost use Rattle.paxos_msg.specs.Sending.{IsFree, MaySendAll};
+ghost use Rattle.paxos_msg.specs.Keys.{Key, keys_of};
+ghost use Rattle.paxos_msg.specs.Messages.{IsAscending, IsPromised, IsSaid, IsSent, messages_of, Sent, vote_at};
+ghost use Rattle.paxos_msg.specs.Records.{changed, empty_record, IsSaved, MaySave, Stored, with_vote};
+ghost use Rattle.paxos_msg.specs.Sending.{IsFree, IsNoNewProposal, KnowsMore, MaySend, MaySendAll};
+ghost use Rattle.paxos_msg.specs.Tests.{ballot_lt, is_majority, same_ballot, same_value};
 
 use crate::ballot::Ballot;
 
@@ -44,6 +46,15 @@ pub fn is_at_most(a: Ballot, b: Ballot) -> bool
     a <= b
 }
 
+/// The tests that the rules are written with hold exactly where their sentences do.
+pub fn tests_are_exact()
+    ensures below { (a b : Ballot) → (ballot_lt a b ≡ true) ↔ IsBelow a b }
+    ensures not_below { (a b : Ballot) → (ballot_lt a b ≡ false) ↔ IsAtMost b a }
+    ensures same { (a b : Ballot) → (same_ballot a b ≡ true) ↔ (a ≡ b) }
+    ensures same_values { (v w : Value) → (same_value v w ≡ true) ↔ (v ≡ w) }
+    ensures majority { (size : ℕ) (members : ℕ → Bool) → (is_majority size members ≡ true) ↔ IsMajority size members }
+{}
+
 /// Two majorities of a group have a node of the group in common.
 pub fn majorities_meet()
     ensures { (size : ℕ) (p q : ℕ → Bool) → IsMajority size p → IsMajority size q →
@@ -71,12 +82,71 @@ pub fn votes_are_by_place()
         Contains votes vote × (vote.place ≡ s) }
 {}
 
-/// As more is sent, what is chosen stays chosen, and what may be saved may still be saved.
+/// What a node may send of its own, with its record r: a Prepare under a ballot of its own that is not
+/// above the promised one; a Refused with the promised ballot; a Submit of keys that were typed at it; an
+/// Ask always; a Tell of what it has learned. A value is free to be proposed if it is a no-op or was
+/// submitted. The rules of Promise, Accept and Accepted are those that agreement stands on.
+pub fn sending_rules()
+    ensures prepare { (size i from : ℕ) (typed : List Key) (learned : ℕ → Option Value) (sent : Sent) (r : Record) (b : Ballot) →
+        MaySend size typed learned sent i r (Prepare b from) ↔ ((b.node ≡ i) × ((p : Ballot) × (r.promised ≡ Some p) × IsAtMost b p)) }
+    ensures refused { (size i : ℕ) (typed : List Key) (learned : ℕ → Option Value) (sent : Sent) (r : Record) (b promised : Ballot) →
+        MaySend size typed learned sent i r (Refused b promised) ↔ ((r.promised ≡ Some promised) × IsBelow b promised) }
+    ensures submit { (size i : ℕ) (typed : List Key) (learned : ℕ → Option Value) (sent : Sent) (r : Record) (v : Value) →
+        MaySend size typed learned sent i r (Submit v)
+        ↔ ((keys_of v ≢ []) × ((key : Key) → Contains (keys_of v) key → (key.node ≡ i) × Contains typed key)) }
+    ensures ask { (size i from : ℕ) (typed : List Key) (learned : ℕ → Option Value) (sent : Sent) (r : Record) →
+        MaySend size typed learned sent i r (Ask from) }
+    ensures tell { (size i s : ℕ) (typed : List Key) (learned : ℕ → Option Value) (sent : Sent) (r : Record) (v : Value) →
+        MaySend size typed learned sent i r (Tell s v) ↔ (learned s ≡ Some v) }
+    ensures free { (sent : Sent) (v : Value) → IsFree sent v ↔ ((v ≡ Value.Noop) ⊎ ((i : ℕ) × IsSent sent i (Submit v))) }
+{}
+
+/// What a node may save, with its record r: a start always; a promise of a ballot greater than the
+/// promised one; a vote for what was proposed, under a ballot that is not below the promised one. A
+/// restart finds the record that was saved, or that record with a change whose save has failed.
+pub fn saving_rules()
+    ensures start { (sent : Sent) (r : Record) → MaySave sent r Start }
+    ensures promise { (sent : Sent) (r : Record) (b : Ballot) →
+        MaySave sent r (Promise b) ↔ ((p : Ballot) → r.promised ≡ Some p → IsBelow p b) }
+    ensures vote { (sent : Sent) (r : Record) (s : ℕ) (b : Ballot) (v : Value) →
+        MaySave sent r (Ballotted s b v) ↔ (IsSaid sent (Accept b s v) × ((p : Ballot) → r.promised ≡ Some p → IsAtMost p b)) }
+    ensures found { (saved : Record) (failed : List Change) → Stored saved failed saved }
+    ensures failed { (saved : Record) (failed : List Change) (change : Change) → Contains failed change → Stored saved failed (changed saved change) }
+    ensures nothing_else { (saved found : Record) (failed : List Change) → Stored saved failed found →
+        (found ≡ saved) ⊎ ((change : Change) × Contains failed change × (found ≡ changed saved change)) }
+{}
+
+/// A save that is allowed never lowers a promise, and of all changes a start alone changes the number of
+/// starts, which it raises by 1.
+pub fn saves_only_raise()
+    ensures promise { (sent : Sent) (r : Record) (change : Change) (p : Ballot) →
+        MaySave sent r change → r.promised ≡ Some p → IsSomeAnd (changed r change).promised (λ q. IsAtMost p q) }
+    ensures start { (r : Record) → (changed r Start).starts ≡ r.starts + 1 }
+    ensures starts { (r : Record) (change : Change) → change ≢ Start → (changed r change).starts ≡ r.starts }
+{}
+
+/// Growth begins with nothing sent and empty records, in a group of any size, and goes on with each
+/// sending and each save that is allowed.
+pub fn growth()
+    ensures begins { (size : ℕ) (records : ℕ → Record) → ((i : ℕ) → records i ≡ empty_record) → Grew size [] records }
+    ensures sends { (size i : ℕ) (typed : List Key) (learned : ℕ → Option Value) (sent : Sent) (records : ℕ → Record) (body : Body) →
+        Grew size sent records → MaySend size typed learned sent i (records i) body →
+        Grew size (sent ++ record { sender = i; body = body } ∷ []) records }
+    ensures saves { (size i : ℕ) (sent : Sent) (records next : ℕ → Record) (change : Change) →
+        Grew size sent records → MaySave sent (records i) change → IsSaved records i change next → Grew size sent next }
+{}
+
+/// As more is sent, what is chosen stays chosen, and what may be saved may still be saved. What may be
+/// sent may still be sent, also when more was typed and learned, but for a new proposal: that asks that
+/// nothing else was proposed under its ballot.
 pub fn sent_only_grows()
     ensures chosen { (size s : ℕ) (sent more : Sent) (v : Value) →
         IsChosen size sent s v → IsChosen size (sent ++ more) s v }
     ensures saving { (sent more : Sent) (r : Record) (change : Change) →
         MaySave sent r change → MaySave (sent ++ more) r change }
+    ensures sending { (size i : ℕ) (typed newer : List Key) (learned now : ℕ → Option Value) (sent more : Sent) (r : Record) (body : Body) →
+        KnowsMore typed newer learned now → IsNoNewProposal sent i body →
+        MaySend size typed learned sent i r body → MaySend size newer now (sent ++ more) i r body }
 {}
 
 /// Agreement: if what was sent and the records grew from nothing, at most one value is chosen at a
@@ -91,11 +161,15 @@ pub fn agreement()
         Grew size sent records → IsChosen size sent s v → IsFree sent v }
 {}
 
-/// What a node may send in one call, one message after another, goes on with the growth.
+/// What a node may send in one call, one message after another, goes on with the growth. It may be
+/// sent in two halves, the second after the first.
 pub fn calls()
-    ensures { (size i : ℕ) (typed : List Key) (learned : ℕ → Option Value) (sent : Sent) (records : ℕ → Record) (bodies : List Body) →
+    ensures grew { (size i : ℕ) (typed : List Key) (learned : ℕ → Option Value) (sent : Sent) (records : ℕ → Record) (bodies : List Body) →
         Grew size sent records → MaySendAll size typed learned sent i (records i) bodies →
         Grew size (sent ++ messages_of i bodies) records }
+    ensures halves { (size i : ℕ) (typed : List Key) (learned : ℕ → Option Value) (sent : Sent) (r : Record) (bodies more : List Body) →
+        MaySendAll size typed learned sent i r (bodies ++ more)
+        ↔ (MaySendAll size typed learned sent i r bodies × MaySendAll size typed learned (sent ++ messages_of i bodies) i r more) }
 {}
 
 /// A restart goes on with the growth: whichever record it finds, if the node might save each change
@@ -107,7 +181,15 @@ pub fn restarts()
         Grew size sent next }
 {}
 
-/// The law of agreement is not empty: in a group of three a key that was typed can be chosen.
+/// The law of agreement is not empty. In a group of three a key that was typed can be chosen. In a group
+/// of five a greater ballot can be told of a vote under a smaller one, at a place above 0, and the key of
+/// that vote be chosen by the greater ballot.
 pub fn possible()
-    ensures { (sent : Sent) × (records : ℕ → Record) × Grew 3 sent records × IsChosen 3 sent 0 (Value.Key 2 1 1 65) }
+    ensures chosen { (sent : Sent) × (records : ℕ → Record) × Grew 3 sent records × IsChosen 3 sent 0 (Value.Key 2 1 1 65) }
+    ensures retold { let lower : Ballot = record { round = 1; node = 1 } in
+        let greater : Ballot = record { round = 2; node = 5 } in
+        let key : Value = Value.Key 4 1 1 65 in
+        (sent : Sent) × (records : ℕ → Record) × Grew 5 sent records
+        × IsPromised sent 3 greater 3 (Some (record { place = 3; ballot = lower; value = key }))
+        × IsChosenBy 5 sent greater 3 key }
 {}

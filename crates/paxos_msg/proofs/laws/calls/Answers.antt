@@ -1,6 +1,9 @@
--- The theorem of `GoesOn`.
-use Rattle.paxos_msg.proofs.GoesOn.{calls}
+-- The theorems of `GoesOn`.
+use Rattle.paxos_msg.proofs.GoesOn.{calls, halves}
 use Rattle.paxos_msg.proofs.laws.calls.Goals as goal
 
-pub returns : goal.returns
-returns c = calls
+pub returns-clause-grew : goal.returns-clause-grew
+returns-clause-grew c = calls
+
+pub returns-clause-halves : goal.returns-clause-halves
+returns-clause-halves c = halves
