@@ -1,5 +1,5 @@
 -- The rules of sending and saving, each as its sentence.
-use Rattle.std.proofs.Common.{◌≡◌, ◌≢◌, ◌↔◌, ◌⊎◌, ℕ, ◌+◌, inl, inr, List, [], Option, None, Some, IfSome, IsSomeAnd, Contains, refl, arith}
+use Rattle.std.proofs.Common.{◌≡◌, ◌≢◌, ◌↔◌, ℕ, List, [], Option, None, Some, IfSome, IsSomeAnd, Contains, refl}
 use Rattle.paxos_msg.specs.declared.ballot.Ballot.{Ballot}
 use Rattle.paxos_msg.specs.declared.value.Value.{Value}
 use Rattle.paxos_msg.specs.declared.record.Record.{Record}

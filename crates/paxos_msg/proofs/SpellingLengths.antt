@@ -10,7 +10,7 @@ use Rattle.paxos_msg.specs.declared.message.Body.TheVariants.{Prepare, Promise, 
 use Rattle.paxos_msg.specs.declared.message.Msg.{Msg}
 use Rattle.paxos_msg.specs.Fits.{IsBody, Fits}
 use Rattle.paxos_msg.specs.Spelling.{value_bytes, vote_bytes, votes_bytes, body_bytes, spelling}
-use Rattle.paxos_msg.specs.Lengths.{IsCounted}
+use Rattle.paxos_msg.specs.Views.{HasUpTo}
 
 pub value_short : (v : Value) → length (value_bytes v) ≤ 11
 value_short Noop = omega arith
@@ -27,7 +27,7 @@ votes_short (v ∷ votes) =
     let c = length-append (vote_bytes v) (votes_bytes votes) in
     omega arith
 
-pub counted : (size sender : ℕ) (body : Body) → IsBody size sender body → IsCounted body
+pub counted : (size sender : ℕ) (body : Body) → IsBody size sender body → HasUpTo 64 body
 counted size sender (Prepare b from) h = tt
 counted size sender (Promise b first upto votes) h = h.4
 counted size sender (Accept b s v) h = tt
@@ -37,7 +37,7 @@ counted size sender (Submit v) h = tt
 counted size sender (Ask from) h = tt
 counted size sender (Tell s v) h = tt
 
-pub body_short : (body : Body) → IsCounted body → length (body_bytes body) ≤ 1294
+pub body_short : (body : Body) → HasUpTo 64 body → length (body_bytes body) ≤ 1294
 body_short (Prepare b from) h = omega arith
 body_short (Promise b first upto votes) h = let a = votes_short votes in omega arith
 body_short (Accept b s v) h = let a = value_short v in omega arith

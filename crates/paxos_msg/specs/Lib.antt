@@ -14,5 +14,4 @@ pub mod Chosen
 pub mod Growth
 pub mod Nodes
 pub mod Grammar
-pub mod Lengths
 pub mod Codes

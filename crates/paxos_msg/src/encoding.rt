@@ -2,8 +2,8 @@
 ghost use Rattle.std.specs.Prelude.{◌≡◌, ◌+◌, ◌≤◌, ◌++◌, [], length, vec_len, vec_capacity, IfOk, IfErr};
 ghost use Rattle.paxos_msg.specs.declared.fault.WireFault.TheVariants as fault;
 ghost use Rattle.paxos_msg.specs.Fits.{Fits};
-ghost use Rattle.paxos_msg.specs.Lengths.{IsCounted};
 ghost use Rattle.paxos_msg.specs.Spelling.{body_bytes, spelling};
+ghost use Rattle.paxos_msg.specs.Views.{HasUpTo};
 
 use crate::fault::WireFault;
 use crate::message::{Body, Group, Msg};
@@ -14,7 +14,7 @@ use std::alloc::Global;
 
 /// Writes a body behind what the vector holds. A promise has at most 64 votes.
 fn put_body(body: &Body, out: &mut Vec<u8>)
-    requires few { IsCounted body.now }
+    requires few { HasUpTo 64 body.now }
     requires room { vec_len out.old + length (body_bytes body.now) ≤ vec_capacity out.old }
     ensures items { out.new.items ≡ out.old.items ++ body_bytes body.now }
     ensures capacity { vec_capacity out.new ≡ vec_capacity out.old }
