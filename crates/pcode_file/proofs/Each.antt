@@ -1,8 +1,8 @@
 -- What is answered for each procedure.
 use Rattle.std.proofs.Common.{◌≡◌, ℕ, zero, suc, ◌+◌, List, [], ◌∷◌, length, Some, Result, Ok, slice_get, refl, ◌∙◌, ap, subst, arith}
+use Rattle.base.proofs.Steps.{bind_ok}
 use Rattle.pcode_file.specs.declared.fault.FileFault.{FileFault}
 use Rattle.pcode_file.specs.Checks.{all_of, first_of}
-use Rattle.pcode_file.proofs.Tests.{bind_ok}
 
 -- the items are what f answers from i on
 abbrev pub Each : {A : Type 0} → (ℕ → Result A FileFault) → ℕ → List A → Type 0

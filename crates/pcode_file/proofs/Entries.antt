@@ -1,19 +1,22 @@
 -- The entries of block 0: which of them is the only one in use.
 use Rattle.std.proofs.Common.{◌≡◌, ◌≢◌, ℕ, zero, suc, ◌+◌, ◌-◌, ◌*◌, ◌<◌, ◌≤◌, ◌⊎◌, inl, inr, Bool, true, false, cond, eqb, ltb, List, Option, Some, None, Ok, refl, sym, ap, subst, arith}
-use Rattle.std.proofs.lemmas.Bool.Decides.{nat_tests}
+use Rattle.std.proofs.lemmas.Bool.{eqb-true, eq-eqb, cases_lt}
 use Rattle.pcode_file.specs.Parts.{word}
 use Rattle.pcode_file.specs.Checks.{used_from, alone, first_alone, entry_of}
 use Rattle.pcode_file.specs.InFile.{IsOnlyEntry}
-use Rattle.pcode_file.proofs.Tests.{lt_false, eq_true, true_eq, false_zero, zero_false, first_or_later}
+use Rattle.pcode_file.proofs.Tests.{false_zero, zero_false}
 
 abbrev AreFree : List ℕ → ℕ → ℕ → Type 0
 AreFree bytes k m = (j : ℕ) → k ≤ j → j < m → word bytes (4 * j + 2) ≡ 0
 
 free_more : (bytes : List ℕ) (k m : ℕ) → word bytes (4 * k + 2) ≡ 0 → AreFree bytes (k + 1) m → AreFree bytes k m
-free_more bytes k m e free j le lt = elim (first_or_later k j le) [ inl same ↦ rw same e | inr later ↦ free j later lt ]
+free_more bytes k m e free j le lt = elim (cases_lt k j) [
+  | inl later ↦ free j (omega arith) lt
+  | inr same ↦ (let here : j ≡ k = omega arith in rw here e)
+]
 
 none_by : (w k : ℕ) (r : Option ℕ) (b : Bool) → eqb w 0 ≡ b → cond b r (Some k) ≡ None → (w ≡ 0) × (r ≡ None)
-none_by w k r true e h = (eq_true w 0 e, h)
+none_by w k r true e h = (eqb-true w 0 e, h)
 none_by w k r false e h = absurd cc
 
 used_none : (bytes : List ℕ) (k n : ℕ) → used_from bytes k n ≡ None → AreFree bytes k (k + n)
@@ -24,7 +27,7 @@ used_none bytes k (suc n) h =
     free_more bytes k (k + suc n) a.0 (λ j le lt. used_none bytes (k + 1) n a.1 j le (omega arith))
 
 some_by : (w k m : ℕ) (r : Option ℕ) (b : Bool) → eqb w 0 ≡ b → cond b r (Some k) ≡ Some m → ((w ≡ 0) × (r ≡ Some m)) ⊎ ((0 < w) × (k ≡ m))
-some_by w k m r true e h = inl (eq_true w 0 e, h)
+some_by w k m r true e h = inl (eqb-true w 0 e, h)
 some_by w k m r false e h = inr (zero_false w e, cc)
 
 record IsUsed (bytes : List ℕ) (k n m : ℕ) : Type 0 where
@@ -52,25 +55,21 @@ none_again : (bytes : List ℕ) (k n : ℕ) → AreFree bytes k (k + n) → used
 unfolding used_from
 none_again bytes k zero free = refl
 none_again bytes k (suc n) free =
-    rw (true_eq _ 0 (free k (omega arith) (omega arith))) (none_again bytes (k + 1) n (λ j le lt. free j (omega arith) (omega arith)))
+    rw (eq-eqb _ 0 (free k (omega arith) (omega arith))) (none_again bytes (k + 1) n (λ j le lt. free j (omega arith) (omega arith)))
 
 some_again : (bytes : List ℕ) (k n m : ℕ) → IsUsed bytes k n m → used_from bytes k n ≡ Some m
 unfolding used_from
 some_again bytes k zero m h = absurd (omega (arith, h.above, h.below))
 some_again bytes k (suc n) m h =
-    elim (first_or_later k m h.above) [
-      | inl same ↦ (let used : 0 < word bytes (4 * k + 2) = rw (← same) h.used in rw (false_zero _ used) (ap Some (sym same)))
-      | inr later ↦ rw (true_eq _ 0 (h.free k (omega arith) (omega arith)))
-          (some_again bytes (k + 1) n m (record { above = later; below = omega (arith, h.below); used = h.used; free = λ j le lt. h.free j (omega arith) lt }))
+    elim (cases_lt k m) [
+      | inl later ↦ rw (eq-eqb _ 0 (h.free k (omega arith) (omega arith)))
+          (some_again bytes (k + 1) n m (record { above = omega arith; below = omega (arith, h.below); used = h.used; free = λ j le lt. h.free j (omega arith) lt }))
+      | inr least ↦ (let same : m ≡ k = omega (arith, h.above) in let used : 0 < word bytes (4 * k + 2) = rw (← same) h.used in rw (false_zero _ used) (ap Some (sym same)))
     ]
-
-sides_by : (j k : ℕ) (b : Bool) → j ≢ k → ltb j k ≡ b → (j < k) ⊎ (k + 1 ≤ j)
-sides_by j k true ne e = inl (grind (arith, nat_tests))
-sides_by j k false ne e = let least = lt_false j k e in inr (omega arith)
 
 others_free : (bytes : List ℕ) (k : ℕ) → k < 16 → AreFree bytes 0 k → AreFree bytes (k + 1) (k + 1 + (16 - (k + 1))) → (j : ℕ) → j < 16 → j ≢ k → word bytes (4 * j + 2) ≡ 0
 others_free bytes k in16 below above j lt ne =
-    elim (sides_by j k (ltb j k) ne refl) [ inl less ↦ below j (omega arith) less | inr more ↦ above j more (omega arith) ]
+    elim (cases_lt j k) [ inl less ↦ below j (omega arith) less | inr more ↦ above j (omega arith) (omega arith) ]
 
 only_by : (bytes : List ℕ) (k m : ℕ) (o : Option ℕ) → IsUsed bytes 0 16 k → used_from bytes (k + 1) (16 - (k + 1)) ≡ o → alone k o ≡ Ok m → IsOnlyEntry bytes m
 only_by bytes k m None u e h =

@@ -1,18 +1,20 @@
 -- One procedure: what is read is there, and what is there is read.
 use Rattle.std.proofs.Common.{◌≡◌, ◌≢◌, ℕ, ◌+◌, ◌-◌, ◌*◌, ◌/◌, ◌%◌, ◌<◌, ◌≤◌, inl, inr, Bool, true, false, cond, ◌&&◌, eqb, ltb, leb, List, length, Option, Some, None, Ok, slice_index, refl, ap, subst, arith}
 use Rattle.std.proofs.lemmas.Bool.Decides.{nat_tests}
+use Rattle.std.proofs.lemmas.Bool.{or_parts, not-false, ltb-false, le-ltb, eqb-true, eq-eqb, leb-false}
+use Rattle.base.proofs.Steps.{guard_ok, bind_ok}
 use Rattle.pcode_file.specs.declared.file.Proc.{Proc}
 use Rattle.pcode_file.specs.Parts.{word}
 use Rattle.pcode_file.specs.Checks.{table_of, is_level, table_from, table_at, low_of, inside, within_part, proc_from, proc_at}
 use Rattle.pcode_file.specs.InFile.{IsLevel, HasTable, Points, HasProc}
-use Rattle.pcode_file.proofs.Tests.{guard_ok, bind_ok, or_false, not_false, lt_false, false_lt, eq_true, true_eq, le_false, false_zero, zero_false}
+use Rattle.pcode_file.proofs.Tests.{false_zero, zero_false}
 
 -- ---- levels
 
 level_by : (i level : ℕ) (b : Bool) → eqb i 1 ≡ b → cond b (eqb level 0) (ltb 0 level && leb level 127) ≡ true → IsLevel i level
-level_by i level true e h = inl (eq_true i 1 e, eq_true level 0 h)
+level_by i level true e h = inl (eqb-true i 1 e, eqb-true level 0 h)
 level_by i level false e h =
-    let other : i ≢ 1 = λ same. let t = true_eq i 1 same in absurd cc in
+    let other : i ≢ 1 = λ same. let t = eq-eqb i 1 same in absurd cc in
     let above : 0 < level = grind (arith, nat_tests) in
     let below : level ≤ 127 = grind (arith, nat_tests) in
     inr (other, above, below)
@@ -21,7 +23,7 @@ level_found : (i level : ℕ) → is_level i level ≡ true → IsLevel i level
 level_found i level h = level_by i level (eqb i 1) refl h
 
 level_again : (i level : ℕ) → IsLevel i level → is_level i level ≡ true
-level_again i level (inl h) = rw (true_eq i 1 h.0) (true_eq level 0 h.1)
+level_again i level (inl h) = rw (eq-eqb i 1 h.0) (eq-eqb level 0 h.1)
 level_again i level (inr h) =
     let other : eqb i 1 ≡ false = grind (arith, nat_tests, h.0) in
     let above : ltb 0 level ≡ true = grind (arith, nat_tests, h.1) in
@@ -51,15 +53,15 @@ table_by segment n i t u e h =
     let c = guard_ok _ _ _ _ b.1 in
     let d = guard_ok _ _ _ _ c.1 in
     let f = guard_ok _ _ _ _ d.1 in
-    let range = or_false _ _ a.0 in
-    let low = or_false _ _ range.0 in
-    let sizes = or_false _ _ f.0 in
-    let even = eq_true _ _ (not_false _ low.0) in
-    let number = eq_true _ _ (not_false _ c.0) in
-    let level = level_found _ _ (not_false _ d.0) in
-    let params = eq_true _ _ (not_false _ sizes.0) in
-    let vars = eq_true _ _ (not_false _ sizes.1) in
-    let made = table_made segment n i t e even (lt_false t 8 low.1) (lt_false _ _ range.1) (zero_false _ b.0) number level params vars in
+    let range = or_parts _ _ a.0 in
+    let low = or_parts _ _ range.0 in
+    let sizes = or_parts _ _ f.0 in
+    let even = eqb-true _ _ (not-false _ low.0) in
+    let number = eqb-true _ _ (not-false _ c.0) in
+    let level = level_found _ _ (not-false _ d.0) in
+    let params = eqb-true _ _ (not-false _ sizes.0) in
+    let vars = eqb-true _ _ (not-false _ sizes.1) in
+    let made = table_made segment n i t e even (ltb-false t 8 low.1) (ltb-false _ _ range.1) (zero_false _ b.0) number level params vars in
     let same : t ≡ u = cc (f.1) in
     (same, made)
 
@@ -73,14 +75,14 @@ table_found segment n i t h =
 
 from_table : (segment : List ℕ) (n i t : ℕ) → HasTable segment n i t → table_from segment n i t ≡ Ok t
 from_table segment n i t h =
-    let even : eqb (t % 2) 0 ≡ true = true_eq _ _ h.even in
-    let above : ltb t 8 ≡ false = false_lt _ _ h.above in
-    let below : ltb (length segment - 2 - 2 * n) (t + 2) ≡ false = false_lt _ _ (omega (arith, h.below)) in
+    let even : eqb (t % 2) 0 ≡ true = eq-eqb _ _ h.even in
+    let above : ltb t 8 ≡ false = le-ltb _ _ h.above in
+    let below : ltb (length segment - 2 - 2 * n) (t + 2) ≡ false = le-ltb _ _ (omega (arith, h.below)) in
     let native : eqb (slice_index segment t) 0 ≡ false = false_zero _ (omega (arith, h.counted, h.number)) in
-    let number : eqb (slice_index segment t) i ≡ true = true_eq _ _ h.number in
+    let number : eqb (slice_index segment t) i ≡ true = eq-eqb _ _ h.number in
     let level : is_level i (slice_index segment (t + 1)) ≡ true = level_again _ _ h.level in
-    let params : eqb (word segment (t - 6) % 2) 0 ≡ true = true_eq _ _ h.params in
-    let vars : eqb (word segment (t - 8) % 2) 0 ≡ true = true_eq _ _ h.vars in
+    let params : eqb (word segment (t - 6) % 2) 0 ≡ true = eq-eqb _ _ h.params in
+    let vars : eqb (word segment (t - 8) % 2) 0 ≡ true = eq-eqb _ _ h.vars in
     rw (even, above, below, native, number, level, params, vars) refl
 
 -- the table that is there is read
@@ -105,16 +107,16 @@ points_found segment i place low end x h =
     let b = part_ok i (ltb y low) tested x a.1 in
     let d = part_ok i (leb end y) last x b.1 in
     let same : place - word segment place ≡ x = cc (d.1) in
-    let one = lt_false _ _ a.0 in
-    let two = lt_false _ _ b.0 in
-    let three = le_false _ _ d.0 in
+    let one = ltb-false _ _ a.0 in
+    let two = ltb-false _ _ b.0 in
+    let three = leb-false _ _ d.0 in
     record { leads = omega (arith, same, one); above = omega (arith, same, two); below = omega (arith, same, three) }
 
 points_again : (segment : List ℕ) (i place low end x : ℕ) → Points segment place low end x → within_part i (inside segment place low end) ≡ Ok x
 points_again segment i place low end x h =
-    let a : ltb place (word segment place) ≡ false = false_lt _ _ (omega (arith, h.leads)) in
+    let a : ltb place (word segment place) ≡ false = le-ltb _ _ (omega (arith, h.leads)) in
     let same : place - word segment place ≡ x = omega (arith, h.leads) in
-    let b : ltb x low ≡ false = false_lt _ _ h.above in
+    let b : ltb x low ≡ false = le-ltb _ _ h.above in
     let d : leb end x ≡ false = grind (arith, nat_tests, h.below) in
     rw (a, same, b, d) refl
 
@@ -144,7 +146,7 @@ proc_found segment n i q h =
     let g = guard_ok _ _ _ q a.2 in
     let e = bind_ok (within_part i (inside segment (a.0 - 2) low (a.0 - 8))) _ q g.1 in
     let x = bind_ok (within_part i (inside segment (a.0 - 4) low (a.0 - 8))) _ q e.2 in
-    let made = made_found segment n i a.0 low e.0 x.0 (table_found segment n i a.0 a.1) (lt_false _ _ g.0) (points_found segment i _ _ _ e.0 e.1) (points_found segment i _ _ _ x.0 x.1) in
+    let made = made_found segment n i a.0 low e.0 x.0 (table_found segment n i a.0 a.1) (ltb-false _ _ g.0) (points_found segment i _ _ _ e.0 e.1) (points_found segment i _ _ _ x.0 x.1) in
     let P : Proc → Type 0 = λ p. HasProc segment n i p × (p.low ≡ low_of segment n p.jtab) in
     subst P (cc (x.2)) (made, refl)
 
@@ -157,7 +159,7 @@ halved a w h = omega arith
 
 from_again : (segment : List ℕ) (n i : ℕ) (q : Proc) → HasProc segment n i q → proc_from segment i q.jtab q.low ≡ Ok q
 from_again segment n i q h =
-    rw (false_lt (q.jtab - 8) q.low h.room, points_again segment i _ _ _ _ h.enter, points_again segment i _ _ _ _ h.exit)
+    rw (le-ltb (q.jtab - 8) q.low h.room, points_again segment i _ _ _ _ h.enter, points_again segment i _ _ _ _ h.exit)
     (ap Ok (same_proc q _ _ _ _ h.number h.level (halved _ _ h.params) (halved _ _ h.vars)))
 
 -- the procedure that is there is read, if its part begins where the dictionary says

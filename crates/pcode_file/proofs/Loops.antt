@@ -2,9 +2,10 @@
 use Rattle.std.proofs.Common.{◌≡◌, ℕ, zero, suc, ◌+◌, ◌-◌, ◌*◌, ◌<◌, ◌≤◌, max, List, [], ◌∷◌, Result, Ok, Err, Option, refl, sym, ◌∙◌, ap, arith, ◌++◌, append_assoc}
 use Rattle.std.proofs.lemmas.List.{append-nil}
 use Rattle.std.specs.Result.{IsOk}
+use Rattle.base.specs.Steps.{◌>>=◌}
 use Rattle.pcode_file.specs.declared.fault.FileFault.{FileFault}
 use Rattle.pcode_file.specs.Parts.{word}
-use Rattle.pcode_file.specs.Checks.{◌>>=◌, used_from, table_of, behind_table, low_from, first_of, all_of}
+use Rattle.pcode_file.specs.Checks.{used_from, table_of, behind_table, low_from, first_of, all_of}
 
 -- an entry that is not in use is passed over
 pub used_next : (bytes : List ℕ) (k n : ℕ) (total : Option ℕ) → k < n → word bytes (4 * k + 2) ≡ 0 → used_from bytes k (n - k) ≡ total → used_from bytes (k + 1) (n - (k + 1)) ≡ total
@@ -77,15 +78,6 @@ all_next f front k n x lt e h =
     let more : n - k ≡ suc (n - (k + 1)) = omega arith in
     let one : with_front front (all_of f (k + 1) (n - k)) ≡ with_front (front ++ x ∷ []) (all_of f (k + 1 + 1) (n - (k + 1))) = rw (more, e) (regroup front x (all_of f (k + 1 + 1) (n - (k + 1)))) in
     sym one ∙ h
-
--- what is refused refuses all
-pub all_bad : {A : Type 0} (f : ℕ → Result A FileFault) (front : List A) (k n : ℕ) (g : FileFault) → k < n → f (k + 1) ≡ Err g
-    → with_front front (all_of f (k + 1) (n - k)) ≡ all_of f 1 n → all_of f 1 n ≡ Err g
-unfolding all_of
-all_bad f front k n g lt e h =
-    let more : n - k ≡ suc (n - (k + 1)) = omega arith in
-    let one : with_front front (all_of f (k + 1) (n - k)) ≡ Err g = rw (more, e) refl in
-    sym h ∙ one
 
 -- with none left, all answers were kept
 pub all_done : {A : Type 0} (f : ℕ → Result A FileFault) (front : List A) (k n : ℕ) → n ≤ k

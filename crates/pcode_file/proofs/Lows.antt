@@ -1,10 +1,9 @@
 -- Where a procedure's part begins: two above the greatest table below its own, or at 0.
 use Rattle.std.proofs.Common.{◌≡◌, ℕ, zero, suc, ◌+◌, ◌<◌, ◌≤◌, max, ◌⊎◌, inl, inr, Bool, true, false, cond, ltb, List, [], ◌∷◌, length, Some, slice_get, refl, subst, arith}
-use Rattle.std.proofs.lemmas.Bool.Decides.{nat_tests}
+use Rattle.std.proofs.lemmas.Bool.{ltb-false, ltb-true, cases_lt}
 use Rattle.pcode_file.specs.declared.file.Proc.{Proc}
 use Rattle.pcode_file.specs.Checks.{table_of, behind_table, low_from}
 use Rattle.pcode_file.specs.InFile.{BeginsAt}
-use Rattle.pcode_file.proofs.Tests.{lt_false}
 
 -- the dictionary's pointers from i on lead to the procedures' tables
 abbrev pub Leads : List ℕ → ℕ → List Proc → Type 0
@@ -28,24 +27,20 @@ first_cons : (q : Proc) (procs : List Proc) (at low : ℕ) → IsFirst procs at 
 first_cons q procs at low (inl e) = inl e
 first_cons q procs at low (inr f) = inr (suc f.0, f.1, f.2, f.3, f.4)
 
-greater_by : (a b : ℕ) (c : Bool) → ltb a b ≡ c → (max a b ≡ a) ⊎ (max a b ≡ b)
-greater_by a b true e = let lt : a < b = grind (arith, nat_tests) in inr (omega arith)
-greater_by a b false e = let le = lt_false a b e in inl (omega arith)
-
 cons_by : (q : Proc) (procs : List Proc) (at low : ℕ) (c : Bool) → ltb q.jtab at ≡ c → BeginsAt procs at low → BeginsAt (q ∷ procs) at (max (cond c (q.jtab + 2) 0) low)
 cons_by q procs at low true e h =
-    let below : q.jtab < at = grind (arith, nat_tests) in
+    let below = ltb-true q.jtab at e in
     let top = max (q.jtab + 2) low in
     let rest : AreBehind procs at top = λ k p g lt. (let one = h.behind k p g lt in omega arith) in
     record {
       behind = behind_cons q procs at top (λ lt. omega arith) rest;
-      first = elim (greater_by (q.jtab + 2) low (ltb (q.jtab + 2) low) refl) [
-        | inl same ↦ inr (0, q, refl, below, same)
-        | inr same ↦ rw same (first_cons q procs at low h.first)
+      first = elim (cases_lt low (q.jtab + 2)) [
+        | inl less ↦ inr (0, q, refl, below, omega arith)
+        | inr more ↦ (let same : top ≡ low = omega arith in rw same (first_cons q procs at low h.first))
       ];
     }
 cons_by q procs at low false e h =
-    let least : at ≤ q.jtab = lt_false q.jtab at e in
+    let least : at ≤ q.jtab = ltb-false q.jtab at e in
     let same : max 0 low ≡ low = omega arith in
     rw same (record {
       behind = behind_cons q procs at low (λ lt. absurd (omega arith)) h.behind;

@@ -1,11 +1,13 @@
 -- The whole file: what is read is there, and what is there is read.
 use Rattle.std.proofs.Common.{◌≡◌, ℕ, ◌+◌, ◌-◌, ◌*◌, ◌<◌, ◌≤◌, ◌^◌, List, length, Some, Result, Ok, Err, IfOk, slice_get, slice_index, refl, sym, ◌∙◌, subst, arith}
+use Rattle.std.specs.Result.{IsOk}
+use Rattle.base.proofs.Steps.{bind_ok}
 use Rattle.pcode_file.specs.declared.fault.FileFault.{FileFault}
 use Rattle.pcode_file.specs.declared.file.Proc.{Proc}
 use Rattle.pcode_file.specs.Parts.{Parts, name_at}
-use Rattle.pcode_file.specs.Checks.{table_of, low_of, segment_of, count_of, table_at, proc_at, all_of, first_of, read_from, Gives}
+use Rattle.pcode_file.specs.Checks.{table_of, low_of, segment_of, count_of, table_at, proc_at, all_of, first_of, read_from, IsChecked, Gives}
 use Rattle.pcode_file.specs.InFile.{HasTable, HasProc, AreProcs, InEntry, InFile, IsWhole}
-use Rattle.pcode_file.proofs.Tests.{bind_ok}
+use Rattle.pcode_file.proofs.Loops.{first_passed}
 use Rattle.pcode_file.proofs.Each.{Each, all_found, all_again, first_again}
 use Rattle.pcode_file.proofs.Lows.{Leads, low_begins, begins_once}
 use Rattle.pcode_file.proofs.Fields.{proc_found, proc_again, table_again}
@@ -83,6 +85,20 @@ read_again bytes p f =
     let tables = first_again (table_at p.segment n) 1 p.procs (λ k q g. (q.jtab, table_again p.segment n (1 + k) q.jtab (h.procs.each k q g).table)) in
     let procs = all_again (proc_at p.segment n) 1 p.procs (λ k q g. proc_read p.segment p.procs k q h.procs g) in
     rw (segment_again bytes f.0 p h, count_again p.segment n h.count h.procs.some h.procs.dictionary, tables, procs, ← h.name, ← h.number) refl
+
+-- what passed all checks is read
+pub checked_read : (bytes : List ℕ) (k : ℕ) (segment : List ℕ) (n : ℕ) (procs : List Proc) → IsChecked bytes k segment n → all_of (proc_at segment n) 1 n ≡ Ok procs
+    → read_from bytes ≡ Ok (record { name = name_at bytes k; segment = segment; number = slice_index segment (length segment - 2); procs = procs })
+unfolding read_from
+checked_read bytes k segment n procs h all = rw (h.entry, h.counted, h.tables, all) refl
+
+ok_by : (bytes : List ℕ) (k : ℕ) (segment : List ℕ) (n : ℕ) (r : Result (List Proc) FileFault) → IsChecked bytes k segment n → all_of (proc_at segment n) 1 n ≡ r → IsOk r → IsOk (read_from bytes)
+ok_by bytes k segment n (Ok procs) h all e = rw (checked_read bytes k segment n procs h all) refl
+ok_by bytes k segment n (Err f) h all e = absurd cc
+
+-- what passed all checks can be read
+pub checked_ok : (bytes : List ℕ) (k : ℕ) (segment : List ℕ) (n : ℕ) → IsChecked bytes k segment n → IsOk (read_from bytes)
+checked_ok bytes k segment n h = ok_by bytes k segment n (all_of (proc_at segment n) 1 n) h refl (first_passed (proc_at segment n) 1 n h.procs)
 
 -- what was answered is in the grammar
 pub found_of : (bytes : List ℕ) (r : Result Parts FileFault) → Gives r (read_from bytes) → IfOk r (InFile bytes)

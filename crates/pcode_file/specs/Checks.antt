@@ -1,15 +1,10 @@
 -- A code file, read by its checks in their order.
 use Rattle.std.specs.Prelude.{◌≡◌, ℕ, zero, suc, ◌+◌, ◌-◌, ◌*◌, ◌/◌, ◌%◌, max, nat_lt, nat_le, ◌==◌, ◌&&◌, ◌||◌, not, if◌then◌else◌, Bool, ◌⊎◌, List, [], ◌∷◌, length, Option, Some, None, Result, Ok, Err, IsOk, slice_index, slice_range}
+use Rattle.base.specs.Steps.{◌>>=◌, unless}
 use Rattle.pcode_file.specs.declared.fault.FileFault.{FileFault}
 use Rattle.pcode_file.specs.declared.fault.FileFault.TheVariants.{Short, NoSegment, SeveralSegments, Unlinked, SegmentRange, DictionaryRange, AttributeRange, Native, Level, OddSize, Memory}
 use Rattle.pcode_file.specs.declared.file.Proc.{Proc}
 use Rattle.pcode_file.specs.Parts.{Parts, word, name_at}
-
--- the first fault, or what comes of the value
-infixl 10 ◌>>=◌
-abbrev pub ◌>>=◌ : {A B : Type 0} → Result A FileFault → (A → Result B FileFault) → Result B FileFault
-(Ok x) >>= f = f x
-(Err e) >>= f = Err e
 
 -- an answer, seen by a view of its value
 abbrev pub seen : {A B : Type 0} → (A → B) → Result A FileFault → Result B FileFault
@@ -51,7 +46,7 @@ segment_of bytes = if nat_lt (length bytes) 512 then Err Short else (entry_of by
 abbrev pub count_of : List ℕ → Result ℕ FileFault
 count_of segment =
     let n = slice_index segment (length segment - 1) in
-    if (n == 0) || nat_lt (length segment) (2 + 2 * n) then Err DictionaryRange else Ok n
+    unless DictionaryRange ((n == 0) || nat_lt (length segment) (2 + 2 * n)) n
 
 -- ---- the fourth check of procedure i, which answers its table's place
 
@@ -143,6 +138,13 @@ read_from bytes =
       number = slice_index s.1 (length s.1 - 2);
       procs = procs;
     })
+
+-- the file passed all checks: entry k is in use, and its segment has n procedures
+pub record IsChecked (bytes : List ℕ) (k : ℕ) (segment : List ℕ) (n : ℕ) : Type 0 where
+  pub entry : segment_of bytes ≡ Ok (k, segment)
+  pub counted : count_of segment ≡ Ok n
+  pub tables : first_of (table_at segment n) 1 n ≡ Ok tt
+  pub procs : first_of (proc_at segment n) 1 n ≡ Ok tt
 
 -- what was answered is what reading gives, unless memory ran out for what would be read
 abbrev pub Gives : {X : Type 0} → Result X FileFault → Result X FileFault → Type 0

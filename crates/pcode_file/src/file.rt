@@ -1,12 +1,12 @@
 //! Code files and procedures.
-ghost use Rattle.std.specs.Prelude.{◌≡◌, ℕ, ◌<◌, ◌≤◌, ◌+◌, ◌*◌, ◌^◌, length, IfOk, IfSome, Ok};
+ghost use Rattle.std.specs.Prelude.{◌≡◌, ℕ, ◌<◌, ◌≤◌, ◌+◌, ◌*◌, ◌^◌, [], length, vec_len, vec_capacity, IfOk, IfSome, MatchResult, Ok, Err};
 ghost use Rattle.pcode_file.specs.InFile.{InFile, HasProc, AreProcs};
 ghost use Rattle.pcode_file.specs.Parts.{Parts, procedure_of, name_at};
-ghost use Rattle.pcode_file.specs.Checks.{Gives, seen, all_of, proc_at, first_of, read_from};
+ghost use Rattle.pcode_file.specs.Checks.{Gives, IsChecked, all_of, proc_at, first_of, read_from};
 
 use crate::checks::{check_procedures, check_tables, count, procedure, segment};
 use crate::fault::FileFault;
-use std::alloc::Global;
+use std::alloc::{AllocError, Global};
 use std::marker::Model;
 
 /// A procedure of a segment. Offsets are in bytes from the segment's start.
@@ -61,21 +61,46 @@ fn numbered(procs: &[Proc], i: u8) -> Option<Proc>
     procs.get(usize::from(i) - 1).copied()
 }
 
-/// The procedures of a segment, in the order of their numbers.
-fn collected(alloc: Global, segment: &[u8], n: u8) -> Result<Vec<Proc>, FileFault>
+/// Room for so many procedures and so many bytes. Here alone a file that is read takes memory, and by
+/// these two numbers alone.
+fn room(alloc: Global, procs: usize, bytes: usize) -> Result<(Vec<Proc>, Vec<u8>), AllocError>
+    ensures procs { IfOk result (λ r. (vec_len r.0 ≡ 0) × (r.0.items ≡ []) × (procs ≤ vec_capacity r.0)) }
+    ensures bytes { IfOk result (λ r. (vec_len r.1 ≡ 0) × (r.1.items ≡ []) × (bytes ≤ vec_capacity r.1)) }
+{
+    Ok((
+        Vec::with_capacity(alloc, procs)?,
+        Vec::with_capacity(alloc, bytes)?,
+    ))
+}
+
+/// The procedures of a segment that passed the checks, in the order of their numbers, in room for them.
+fn collected(room: Vec<Proc>, segment: &[u8], n: u8) -> Vec<Proc>
+    requires empty { (vec_len room ≡ 0) × (room.items ≡ []) }
+    requires room { n ≤ vec_capacity room }
     requires dictionary { 2 + 2 * n ≤ length segment.now }
     requires size { length segment.now < 2 ^ 16 }
     requires checked { first_of (proc_at segment.now n) 1 n ≡ Ok tt }
-    ensures { Gives (seen (λ v. v.items) result) (all_of (proc_at segment.now n) 1 n) }
+    ensures { all_of (proc_at segment.now n) 1 n ≡ Ok result.items }
 {
-    let mut procs = Vec::with_capacity(alloc, usize::from(n))?;
+    let mut procs = room;
     for k in 0..n {
-        let found = procedure(segment, n, k + 1)?;
-        if procs.push(found).is_err() {
-            return Err(FileFault::Memory);
-        }
+        let Ok(found) = procedure(segment, n, k + 1) else {
+            unreachable!()
+        };
+        procs.push(found).unwrap();
     }
-    Ok(procs)
+    procs
+}
+
+/// A copy of a segment's bytes, in room for them.
+fn copied(room: Vec<u8>, segment: &[u8]) -> Vec<u8>
+    requires empty { (vec_len room ≡ 0) × (room.items ≡ []) }
+    requires room { length segment.now ≤ vec_capacity room }
+    ensures { result.items ≡ segment.now }
+{
+    let mut bytes = room;
+    bytes.extend_from_slice(segment).unwrap();
+    bytes
 }
 
 /// The name in entry `k` of block 0, where the names of 8 bytes stand from byte 64 on.
@@ -97,22 +122,33 @@ fn name_of(bytes: &[u8], k: usize) -> [u8; 8]
     ]
 }
 
-/// All checks in their order; then memory is taken.
+/// All checks of a file in their order. The answer is the entry in use, the segment's bytes, and how many
+/// procedures it has; or the first check that fails.
 #[tactic(auto, unfolding(crate::specs::Checks::read_from))]
-fn read_checked(alloc: Global, bytes: &[u8]) -> Result<CodeFile, FileFault>
-    ensures { Gives result (read_from bytes.now) }
+fn checked(bytes: &[u8]) -> Result<(usize, &[u8], u8), FileFault>
+    ensures value { MatchResult result (λ x. IsChecked bytes.now x.0 x.1.now x.2) (λ fault. read_from bytes.now ≡ Err fault) }
+    ensures entry { IfOk result (λ x. (x.0 < 16) × (512 ≤ length bytes.now)) }
+    ensures size { IfOk result (λ x. (2 ≤ length x.1.now) × (length x.1.now < 2 ^ 16)) }
+    ensures some { IfOk result (λ x. (0 < x.2) × (2 + 2 * x.2 ≤ length x.1.now)) }
 {
     let (k, part) = segment(bytes)?;
     let n = count(part)?;
     check_tables(part, n)?;
     check_procedures(part, n)?;
-    let procs = collected(alloc, part, n)?;
-    let segment = Vec::from_slice(alloc, part)?;
+    Ok((k, part, n))
+}
+
+/// All checks in their order; then memory is taken.
+fn read_checked(alloc: Global, bytes: &[u8]) -> Result<CodeFile, FileFault>
+    ensures { Gives result (read_from bytes.now) }
+{
+    let (k, part, n) = checked(bytes)?;
+    let (procs, segment) = room(alloc, usize::from(n), part.len())?;
     Ok(CodeFile {
         name: name_of(bytes, k),
-        segment,
+        segment: copied(segment, part),
         number: part[part.len() - 2],
-        procs,
+        procs: collected(procs, part, n),
     })
 }
 

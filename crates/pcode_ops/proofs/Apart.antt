@@ -1,14 +1,13 @@
 -- The parts of procedures are apart, so each offset of a part has the part's procedure as its owner.
 use Rattle.std.proofs.Common.{if◌then◌else◌, ◌≡◌, ℕ, zero, suc, ◌<◌, ◌≤◌, Bool, true, false, IsTrue, List, [], ◌∷◌, Some, slice_get, Ok, refl, sym, ap, ◌∙◌, subst, inl, inr, arith}
-use Rattle.std.proofs.lemmas.Bool.{cases_eq, cases_lt}
-use Rattle.std.proofs.lemmas.Bool.Decides.{nat_tests}
+use Rattle.std.proofs.lemmas.Bool.{cases_eq, cases_lt, and_parts, leb-true, ltb-true}
 use Rattle.pcode_file.specs.declared.file.Proc.{Proc}
 use Rattle.pcode_file.specs.InFile.{AreProcs}
 use Rattle.pcode_file.specs.Parts.{Parts, end_of, procedure_of}
 use Rattle.pcode_ops.specs.Loading.{is_in, owner}
 
 in_part : (q : Proc) (i : ℕ) → IsTrue (is_in q i) → (q.low ≤ i) × (i < end_of q)
-in_part q i h = (grind (arith, nat_tests), grind (arith, nat_tests))
+in_part q i h = let both = and_parts _ _ h in (leb-true q.low i both.0, ltb-true i (end_of q) both.1)
 
 -- two entries with one table are one
 same_table : (segment : List ℕ) (procs : List Proc) → AreProcs segment procs → (a b : ℕ) (q r : Proc) → slice_get procs a ≡ Some q → slice_get procs b ≡ Some r → q.jtab ≡ r.jtab → q ≡ r

@@ -1,6 +1,6 @@
 -- Case jumps, as a function and as a relation.
 use Rattle.std.proofs.Common.{◌≡◌, ℕ, ◌+◌, ◌*◌, ◌%◌, ◌<◌, ◌≤◌, Bool, true, false, cond, ltb, eqb, length, List, Some, Result, Ok, Err, IfOk, slice_index, refl, ◌∙◌, ap, arith, ℤ, pos, ◌≤ℤ◌, ◌+ℤ◌, ◌-ℤ◌, int_lt, unsigned_abs}
-use Rattle.std.proofs.lemmas.Bool.Decides.{nat_tests}
+use Rattle.std.proofs.lemmas.Bool.{ltb-false, le-ltb, eqb-true, eqb-false, ne_eqb, cond_both}
 use Rattle.std.proofs.lemmas.Int.{ints}
 use Rattle.std.proofs.lemmas.Option.{slice_get_within, slice_get-get_or, get_or_from_slice_get}
 use Rattle.std.specs.Int.{w8, cast_signed}
@@ -37,12 +37,6 @@ signed_found code at w j h =
     let high : slice_index code (at + 1) ≡ word.1 = get_or_from_slice_get code (at + 1) word.1 0 word.3 in
     rw (low, high, h.2, word.4) refl
 
-not_below : (n m : ℕ) → m ≤ n → ltb n m ≡ false
-not_below n m h = grind (arith, nat_tests)
-
-not_none : (n : ℕ) → 0 < n → eqb n 0 ≡ false
-not_none n h = grind (arith, nat_tests)
-
 pub case_jump_found : (code : List ℕ) (at : ℕ) (low high sb : ℤ) (table j : ℕ) → SignedWord code at low (at + 2) → SignedWord code (at + 2) high (at + 4) → low ≤ℤ high
     → WithSigned code (at + 4) 185 sb table → j ≡ table + 2 * cases low high → j ≤ length code → case_jump_at code at ≡ Ok (Xjp low high sb table, j)
 case_jump_found code at low high sb table j a b le u e fits =
@@ -53,29 +47,12 @@ case_jump_found code at low high sb table j a b le u e fits =
     let byte : slice_index code (at + 5) ≡ u.1.0 = rw (← place) (get_or_from_slice_get code (at + 4 + 1) u.1.0 0 u.1.1) in
     let within = slice_get_within code (at + 4 + 1) u.1.0 u.1.1 in
     let behind : table ≡ at + 6 = omega (arith, u.1.3) in
-    let long : ltb (length code) (at + 6) ≡ false = not_below (length code) (at + 6) (omega arith) in
-    let some : eqb (cases low high) 0 ≡ false = not_none (cases low high) (cases_some low high le) in
-    let whole : ltb (length code) (at + 6 + 2 * cases low high) ≡ false = not_below (length code) _ (omega arith) in
+    let long : ltb (length code) (at + 6) ≡ false = le-ltb (length code) (at + 6) (omega arith) in
+    let some : eqb (cases low high) 0 ≡ false = ne_eqb (cases low high) 0 (λ e. absurd (omega (arith, cases_some low high le))) in
+    let whole : ltb (length code) (at + 6 + 2 * cases low high) ≡ false = le-ltb (length code) _ (omega arith) in
     rw (first, second, long, some, jump, whole, byte, u.1.2, e, behind) refl
 
 -- ---- from the function to the relation
-
-guarded : (P : Result (Instr × ℕ) OpFault → Type 0) (b : Bool) (e : OpFault) (r : Result (Instr × ℕ) OpFault) → P (Err e) → (b ≡ false → P r) → P (cond b (Err e) r)
-guarded P true e r f g = f
-guarded P false e r f g = g refl
-
-passed : (P : Result (Instr × ℕ) OpFault → Type 0) (b : Bool) (e : OpFault) (r : Result (Instr × ℕ) OpFault) → P (Err e) → (b ≡ true → P r) → P (cond b r (Err e))
-passed P true e r f g = g refl
-passed P false e r f g = f
-
-false_above : (n m : ℕ) → ltb n m ≡ false → m ≤ n
-false_above n m h = grind (arith, nat_tests)
-
-false_some : (n : ℕ) → eqb n 0 ≡ false → 0 < n
-false_some n h = grind (arith, nat_tests)
-
-true_same : (n m : ℕ) → eqb n m ≡ true → n ≡ m
-true_same n m h = grind (arith, nat_tests)
 
 -- the byte at a place inside is there
 there : (code : List ℕ) (i : ℕ) → i < length code → HasByte code i (slice_index code i)
@@ -97,20 +74,17 @@ case_jump_stands code i e =
     let low = signed_word code at in
     let high = signed_word code (at + 2) in
     let P : Result (Instr × ℕ) OpFault → Type 0 = λ r. IfOk r (λ found. At code i found.0 found.1) in
-    let last : Result (Instr × ℕ) OpFault = Ok (Xjp low high (cast_signed w8 (slice_index code (at + 5))) (at + 6), at + 6 + 2 * cases low high) in
-    let table : Result (Instr × ℕ) OpFault = cond (ltb (length code) (at + 6 + 2 * cases low high)) (Err Cut) last in
-    let jump : Result (Instr × ℕ) OpFault = cond (eqb (slice_index code (at + 4)) 185) table (Err CaseTable) in
-    let form : Result (Instr × ℕ) OpFault = cond (eqb (cases low high) 0) (Err CaseTable) jump in
-    guarded P (ltb (length code) (at + 6)) Cut form tt (λ long.
-    guarded P (eqb (cases low high) 0) CaseTable jump tt (λ some.
-    passed P (eqb (slice_index code (at + 4)) 185) CaseTable table tt (λ is_jump.
-    guarded P (ltb (length code) (at + 6 + 2 * cases low high)) Cut last tt (λ whole.
-    let above = false_above (length code) (at + 6) long in (
+    cond_both (ltb (length code) (at + 6)) (Err Cut) _ P (λ _. tt) (λ long.
+    cond_both (eqb (cases low high) 0) (Err CaseTable) _ P (λ _. tt) (λ some.
+    cond_both (eqb (slice_index code (at + 4)) 185) _ (Err CaseTable) P (λ is_jump.
+    cond_both (ltb (length code) (at + 6 + 2 * cases low high)) (Err Cut) _ P (λ _. tt) (λ whole.
+    let above = ltb-false (length code) (at + 6) long in
+    let other = eqb-false (cases low high) 0 some in (
       e,
       signed_there code at (at + 2) refl (omega arith),
       signed_there code (at + 2) (at + 4) (omega arith) (omega arith),
-      some_cases low high (false_some (cases low high) some),
-      jump_there code at (omega arith) (true_same (slice_index code (at + 4)) 185 is_jump),
+      some_cases low high (omega arith),
+      jump_there code at (omega arith) (eqb-true (slice_index code (at + 4)) 185 is_jump),
       refl,
-      false_above (length code) (at + 6 + 2 * cases low high) whole,
-    )))))
+      ltb-false (length code) (at + 6 + 2 * cases low high) whole,
+    ))) (λ _. tt)))

@@ -1,16 +1,15 @@
 -- From the relation to the function: what stands in a code is decoded.
 use Rattle.std.proofs.Common.{◌≡◌, ℕ, ◌+◌, ◌-◌, ◌*◌, ◌%◌, ◌<◌, ◌≤◌, true, false, cond, ltb, leb, List, Option, Some, Result, Ok, slice_get, refl, arith, inl, inr}
+use Rattle.std.proofs.lemmas.Bool.{lt-ltb}
 use Rattle.std.proofs.lemmas.Bool.Decides.{nat_tests}
+use Rattle.base.specs.Steps.{◌>>=◌}
 use Rattle.pcode_ops.specs.declared.instr.Instr.{Instr}
-use Rattle.pcode_ops.specs.declared.instr.Instr.TheVariants.{Sldc, Ldcn, Ldci, Sldl, Ldl, Stl, Lla, Sldo, Ldo, Sro, Lao, Lod, Str, Lda, Sto, Sind, Ind, Inc, Ixa, Mov, Ldm, Stm, Ldb, Stb, Adi, Sbi, Mpi, Dvi, Modi, Abi, Ngi, Sqi, Chk, Land, Lor, Lnot, Equi, Neqi, Leqi, Lesi, Geqi, Grti, Equ, Neq, Leq, Les, Geq, Grt, Ujp, Fjp, Efj, Nfj, Xjp, Clp, Cgp, Cip, Csp, Rnp, Rbp, Nop}
+use Rattle.pcode_ops.specs.declared.instr.Instr.TheVariants.{Sldc, Ldci, Sldl, Ldl, Stl, Lla, Sldo, Ldo, Sro, Lao, Lod, Str, Lda, Sind, Ind, Inc, Ixa, Mov, Ldm, Stm, Equ, Neq, Leq, Les, Geq, Grt, Ujp, Fjp, Efj, Nfj, Xjp, Clp, Cgp, Cip, Csp, Rnp, Rbp}
 use Rattle.pcode_ops.specs.declared.instr.StandardProcedure.TheVariants.{IoCheck, UnitRead, UnitWrite, IoResult, Halt}
 use Rattle.pcode_ops.specs.declared.fault.OpFault.{OpFault}
 use Rattle.pcode_ops.specs.At.{Big, At}
-use Rattle.pcode_ops.specs.Decoding.{◌>>=◌, or_cut, big_at, instr_of, instr_at}
+use Rattle.pcode_ops.specs.Decoding.{or_cut, big_at, instr_of, instr_at}
 use Rattle.pcode_ops.proofs.CaseJumps.{case_jump_found}
-
-below_true : (n m : ℕ) → n < m → ltb n m ≡ true
-below_true n m h = grind (arith, nat_tests)
 
 -- ---- operands
 
@@ -26,7 +25,7 @@ wide_big i high second low e =
     rw (e, above, less) refl
 
 big_found : (code : List ℕ) (i n j : ℕ) → Big code i n j → big_at code i ≡ Ok (n, j)
-big_found code i n j (inl h) = rw (h.0, below_true n 128 h.1, h.2) refl
+big_found code i n j (inl h) = rw (h.0, lt-ltb n 128 h.1, h.2) refl
 big_found code i n j (inr h) = rw (h.2, h.4, h.5) (wide_big i h.0 (slice_get code (i + 1)) h.1 h.3)
 
 -- the end of an operand of one byte, and of two
@@ -41,7 +40,7 @@ word_end i j e = omega arith
 sldc_found : (code : List ℕ) (i n : ℕ) → n < 128 → instr_of code i (0 + n - 0) ≡ Ok (Sldc n, i + 1)
 sldc_found code i n lt =
     let same : 0 + n - 0 ≡ n = omega arith in
-    let below : ltb n 128 ≡ true = below_true n 128 lt in
+    let below : ltb n 128 ≡ true = lt-ltb n 128 lt in
     rw (same, below) refl
 
 sldl_found : (code : List ℕ) (i n : ℕ) → 1 ≤ n → n < 1 + 16 → instr_of code i (216 + n - 1) ≡ Ok (Sldl n, i + 1)
@@ -81,29 +80,6 @@ at_decoded code i (Sldc n) j h = rw (h.2.0, h.2.1) (sldc_found code i n h.1)
 at_decoded code i (Sldl n) j h = rw (h.2.0, h.2.1) (sldl_found code i n h.0 h.1)
 at_decoded code i (Sldo n) j h = rw (h.2.0, h.2.1) (sldo_found code i n h.0 h.1)
 at_decoded code i (Sind n) j h = rw (h.2.0, h.2.1) (sind_found code i n h.1)
-at_decoded code i Ldcn j h = rw (h.0, h.1) refl
-at_decoded code i Sto j h = rw (h.0, h.1) refl
-at_decoded code i Ldb j h = rw (h.0, h.1) refl
-at_decoded code i Stb j h = rw (h.0, h.1) refl
-at_decoded code i Nop j h = rw (h.0, h.1) refl
-at_decoded code i Adi j h = rw (h.0, h.1) refl
-at_decoded code i Sbi j h = rw (h.0, h.1) refl
-at_decoded code i Mpi j h = rw (h.0, h.1) refl
-at_decoded code i Dvi j h = rw (h.0, h.1) refl
-at_decoded code i Modi j h = rw (h.0, h.1) refl
-at_decoded code i Abi j h = rw (h.0, h.1) refl
-at_decoded code i Ngi j h = rw (h.0, h.1) refl
-at_decoded code i Sqi j h = rw (h.0, h.1) refl
-at_decoded code i Chk j h = rw (h.0, h.1) refl
-at_decoded code i Land j h = rw (h.0, h.1) refl
-at_decoded code i Lor j h = rw (h.0, h.1) refl
-at_decoded code i Lnot j h = rw (h.0, h.1) refl
-at_decoded code i Equi j h = rw (h.0, h.1) refl
-at_decoded code i Neqi j h = rw (h.0, h.1) refl
-at_decoded code i Leqi j h = rw (h.0, h.1) refl
-at_decoded code i Lesi j h = rw (h.0, h.1) refl
-at_decoded code i Geqi j h = rw (h.0, h.1) refl
-at_decoded code i Grti j h = rw (h.0, h.1) refl
 at_decoded code i (Ldl n) j h = rw (h.0, big_found code (i + 1) n j h.1) refl
 at_decoded code i (Stl n) j h = rw (h.0, big_found code (i + 1) n j h.1) refl
 at_decoded code i (Lla n) j h = rw (h.0, big_found code (i + 1) n j h.1) refl
@@ -141,3 +117,4 @@ at_decoded code i (Efj sb) j h = rw (h.0, h.1.1, h.1.2, byte_end i j h.1.3) refl
 at_decoded code i (Nfj sb) j h = rw (h.0, h.1.1, h.1.2, byte_end i j h.1.3) refl
 at_decoded code i (Ldci n) j h = rw (h.0, h.1.2, h.1.3, h.1.4, word_end i j h.1.5) refl
 at_decoded code i (Xjp low high sb table) j h = rw h.0 (case_jump_found code (i + 1 + (i + 1) % 2) low high sb table j h.1 h.2 h.3 h.4 h.5 h.6)
+at_decoded code i _ j h = rw (h.0, h.1) refl

@@ -1,7 +1,10 @@
 -- Where a jump or a case jump leads is reached, where the jump may stand.
 use Rattle.std.proofs.Common.{◌≡◌, ℕ, ◌+◌, ◌-◌, ◌*◌, ◌<◌, ◌&&◌, Bool, true, false, cond, List, Some, None, Result, Ok, Err, inl, inr, refl, subst, arith, ℤ, ◌-ℤ◌, int_le, unsigned_abs}
+use Rattle.std.proofs.lemmas.Bool.{and_parts}
 use Rattle.std.proofs.lemmas.Int.{ints}
 use Rattle.std.specs.Int.{w16, cast_signed}
+use Rattle.base.specs.Steps.{◌>>=◌}
+use Rattle.base.proofs.Steps.{pass_ok}
 use Rattle.pcode_file.specs.declared.file.Proc.{Proc}
 use Rattle.pcode_file.specs.Parts.{Parts, procedure_of}
 use Rattle.pcode_ops.specs.declared.fault.OpFault.{OpFault}
@@ -9,12 +12,12 @@ use Rattle.pcode_ops.specs.declared.fault.OpFault.TheVariants.{Cut, JumpRange}
 use Rattle.pcode_ops.specs.declared.instr.Instr.TheVariants.{Ujp, Fjp, Efj, Nfj, Xjp}
 use Rattle.pcode_ops.specs.declared.look.Onward.{Onward}
 use Rattle.pcode_ops.specs.At.{cases}
-use Rattle.pcode_ops.specs.Decoding.{◌>>=◌, instr_at}
+use Rattle.pcode_ops.specs.Decoding.{instr_at}
 use Rattle.pcode_ops.specs.Jumps.{jump_in, StaysWith, pointed_by, case_of, IsCaseTable}
 use Rattle.pcode_ops.specs.Loading.{is_in, owner, jump_to, entries_in, goes, LeadsTo}
 use Rattle.pcode_ops.specs.Reach.{Reach}
 use Rattle.pcode_ops.specs.Standing.{MayStand}
-use Rattle.pcode_ops.proofs.Standing.{decoded_at, true_both}
+use Rattle.pcode_ops.proofs.Standing.{decoded_at}
 
 -- ---- jumps
 
@@ -22,12 +25,11 @@ use Rattle.pcode_ops.proofs.Standing.{decoded_at, true_both}
 abbrev HasTarget : Result ℕ OpFault → Onward → Type 0
 HasTarget r o = (t : ℕ) × (r ≡ Ok t) × (o.target ≡ Some t)
 
-goes_to : (b : Bool) (next t : ℕ) (o : Onward) → cond b (Ok (record { next = Some next; target = Some t; table = 0; count = 0 })) (Err Cut) ≡ Ok o → o.target ≡ Some t
-goes_to true next t o e = cc
-goes_to false next t o e = absurd cc
+goes_to : (q : Proc) (next t : ℕ) (o : Onward) → goes q next (Some t) ≡ Ok o → o.target ≡ Some t
+goes_to q next t o e = let made = pass_ok (is_in q next) Cut (Ok (record { next = Some next; target = Some t; table = 0; count = 0 })) o e in cc (made.1)
 
 branch_target : (q : Proc) (next : ℕ) (r : Result ℕ OpFault) (o : Onward) → (r >>= λ t. goes q next (Some t)) ≡ Ok o → HasTarget r o
-branch_target q next (Ok t) o e = (t, refl, goes_to (is_in q next) next t o e)
+branch_target q next (Ok t) o e = (t, refl, goes_to q next t o e)
 branch_target q next (Err f) o e = absurd cc
 
 jump_target : (r : Result ℕ OpFault) (o : Onward) → (r >>= λ t. Ok (record { next = None; target = Some t; table = 0; count = 0 })) ≡ Ok o → HasTarget r o
@@ -61,12 +63,11 @@ unequal_jump_stays p n q sb next m at = stays_with p n q sb next m.leads at m.re
 abbrev case_onward : ℕ → ℕ → Onward
 case_onward table count = record { next = Some (table - 2); target = None; table = table; count = count }
 
-entries_by : (b : Bool) (table count : ℕ) (o : Onward) → cond b (Ok (case_onward table count)) (Err JumpRange) ≡ Ok o → (b ≡ true) × (case_onward table count ≡ o)
-entries_by true table count o e = (refl, cc)
-entries_by false table count o e = absurd cc
-
 entries : (p : Parts) (q : Proc) (low high sb : ℤ) (table next : ℕ) → (m : MayStand p q (Xjp low high sb table) next) → (entries_in p.segment q table (cases low high) ≡ true) × (case_onward table (cases low high) ≡ m.leads)
-entries p q low high sb table next m = entries_by (entries_in p.segment q table (cases low high)) table (cases low high) m.leads m.found
+entries p q low high sb table next m =
+    let count = cases low high in
+    let e = pass_ok (entries_in p.segment q table count) JumpRange (Ok (case_onward table count)) m.leads m.found in
+    (e.0, cc (e.1))
 
 -- an index from low to high has an entry
 within_cases : (low high x : ℤ) → int_le low x ≡ true → int_le x high ≡ true → unsigned_abs (x -ℤ low) < cases low high
@@ -75,7 +76,7 @@ within_cases low high x from upto = grind (arith, ints)
 case_by : (segment : List ℕ) (low high x : ℤ) (table : ℕ) (b : Bool) → (int_le low x && int_le x high) ≡ b
     → LeadsTo segment (case_onward table (cases low high)) (cond b (pointed_by segment (table + 2 * unsigned_abs (x -ℤ low))) (table - 2))
 case_by segment low high x table true e =
-    let both = true_both (int_le low x) (int_le x high) e in
+    let both = and_parts (int_le low x) (int_le x high) e in
     inr (inr (unsigned_abs (x -ℤ low), within_cases low high x both.0 both.1, refl))
 case_by segment low high x table false e = inl refl
 

@@ -7,7 +7,8 @@ pub mod Marking
 pub mod Procedures
 pub mod Searching
 pub mod Standing
-pub mod Ending
+pub mod Looking
+pub mod Operands
 pub mod Leading
 pub mod Staying
 pub mod Apart

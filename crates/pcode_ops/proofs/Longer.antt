@@ -1,92 +1,76 @@
--- What stands in the front of a code stands in the whole code.
-use Rattle.std.proofs.Common.{◌≡◌, ℕ, zero, suc, ◌+◌, ◌-◌, inl, inr, List, [], ◌∷◌, take, Ok, arith, ℤ}
+-- What stands in the front of a code stands in the whole code, and ends in the front.
+use Rattle.std.proofs.Common.{◌≡◌, ℕ, ◌+◌, ◌-◌, ◌≤◌, inl, inr, List, length, take, Ok, arith, ℤ}
 use Rattle.std.proofs.lemmas.List.{length-take}
+use Rattle.std.proofs.lemmas.Option.{slice_get_within}
+use Rattle.base.proofs.Lists.{get_taken}
 use Rattle.pcode_ops.specs.declared.instr.Instr.{Instr}
-use Rattle.pcode_ops.specs.declared.instr.Instr.TheVariants.{Sldc, Ldcn, Ldci, Sldl, Ldl, Stl, Lla, Sldo, Ldo, Sro, Lao, Lod, Str, Lda, Sto, Sind, Ind, Inc, Ixa, Mov, Ldm, Stm, Ldb, Stb, Adi, Sbi, Mpi, Dvi, Modi, Abi, Ngi, Sqi, Chk, Land, Lor, Lnot, Equi, Neqi, Leqi, Lesi, Geqi, Grti, Equ, Neq, Leq, Les, Geq, Grt, Ujp, Fjp, Efj, Nfj, Xjp, Clp, Cgp, Cip, Csp, Rnp, Rbp, Nop}
+use Rattle.pcode_ops.specs.declared.instr.Instr.TheVariants.{Sldc, Ldci, Sldl, Ldl, Stl, Lla, Sldo, Ldo, Sro, Lao, Lod, Str, Lda, Sind, Ind, Inc, Ixa, Mov, Ldm, Stm, Equ, Neq, Leq, Les, Geq, Grt, Ujp, Fjp, Efj, Nfj, Xjp, Clp, Cgp, Cip, Csp, Rnp, Rbp}
 use Rattle.pcode_ops.specs.At.{HasByte, Word, SignedWord, Big, Plain, Short, WithByte, WithBig, WithLevels, WithSigned, CaseJump, At}
 use Rattle.pcode_ops.specs.Decoding.{instr_at}
 use Rattle.pcode_ops.proofs.Finding.{at_decoded}
 use Rattle.pcode_ops.proofs.Standing.{decoded_at}
 
--- ---- operands and forms
+-- ---- operands and forms, and that they end in the front
 
 byte_longer : (code : List ℕ) (e i b : ℕ) → HasByte (take e code) i b → HasByte code i b
-byte_longer [] zero i b h = h
-byte_longer [] (suc e) i b h = h
-byte_longer (x ∷ xs) zero i b h = absurd cc
-byte_longer (x ∷ xs) (suc e) zero b h = h
-byte_longer (x ∷ xs) (suc e) (suc i) b h = byte_longer xs e i b h
+byte_longer code e i b h = (get_taken e code i b h).1
 
-plain_longer : (code : List ℕ) (e i op j : ℕ) → Plain (take e code) i op j → Plain code i op j
-plain_longer code e i op j h = (byte_longer code e i op h.0, h.1)
+plain_longer : (code : List ℕ) (e i op j : ℕ) → Plain (take e code) i op j → Plain code i op j × (j ≤ length (take e code))
+plain_longer code e i op j h = ((byte_longer code e i op h.0, h.1), omega (arith, slice_get_within (take e code) i op h.0, h.1))
 
-short_longer : (code : List ℕ) (e i op first count n j : ℕ) → Short (take e code) i op first count n j → Short code i op first count n j
-short_longer code e i op first count n j h = (h.0, h.1, plain_longer code e i (op + n - first) j h.2)
+short_longer : (code : List ℕ) (e i op first count n j : ℕ) → Short (take e code) i op first count n j → Short code i op first count n j × (j ≤ length (take e code))
+short_longer code e i op first count n j h = let one = plain_longer code e i (op + n - first) j h.2 in ((h.0, h.1, one.0), one.1)
 
-with_byte_longer : (code : List ℕ) (e i op n j : ℕ) → WithByte (take e code) i op n j → WithByte code i op n j
-with_byte_longer code e i op n j h = (byte_longer code e i op h.0, (byte_longer code e (i + 1) n h.1.0, h.1.1))
+with_byte_longer : (code : List ℕ) (e i op n j : ℕ) → WithByte (take e code) i op n j → WithByte code i op n j × (j ≤ length (take e code))
+with_byte_longer code e i op n j h =
+    ((byte_longer code e i op h.0, (byte_longer code e (i + 1) n h.1.0, h.1.1)), omega (arith, slice_get_within (take e code) (i + 1) n h.1.0, h.1.1))
 
-big_longer : (code : List ℕ) (e i n j : ℕ) → Big (take e code) i n j → Big code i n j
-big_longer code e i n j (inl h) = inl (byte_longer code e i n h.0, h.1, h.2)
-big_longer code e i n j (inr h) = inr (h.0, h.1, byte_longer code e i (h.0 + 128) h.2, byte_longer code e (i + 1) h.1 h.3, h.4, h.5)
+big_longer : (code : List ℕ) (e i n j : ℕ) → Big (take e code) i n j → Big code i n j × (j ≤ length (take e code))
+big_longer code e i n j (inl h) = (inl (byte_longer code e i n h.0, h.1, h.2), omega (arith, slice_get_within (take e code) i n h.0, h.2))
+big_longer code e i n j (inr h) =
+    (inr (h.0, h.1, byte_longer code e i (h.0 + 128) h.2, byte_longer code e (i + 1) h.1 h.3, h.4, h.5), omega (arith, slice_get_within (take e code) (i + 1) h.1 h.3, h.5))
 
-with_big_longer : (code : List ℕ) (e i op n j : ℕ) → WithBig (take e code) i op n j → WithBig code i op n j
-with_big_longer code e i op n j h = (byte_longer code e i op h.0, big_longer code e (i + 1) n j h.1)
+with_big_longer : (code : List ℕ) (e i op n j : ℕ) → WithBig (take e code) i op n j → WithBig code i op n j × (j ≤ length (take e code))
+with_big_longer code e i op n j h = let one = big_longer code e (i + 1) n j h.1 in ((byte_longer code e i op h.0, one.0), one.1)
 
-with_levels_longer : (code : List ℕ) (e i op levels n j : ℕ) → WithLevels (take e code) i op levels n j → WithLevels code i op levels n j
-with_levels_longer code e i op levels n j h = (byte_longer code e i op h.0, byte_longer code e (i + 1) levels h.1, big_longer code e (i + 2) n j h.2)
+with_levels_longer : (code : List ℕ) (e i op levels n j : ℕ) → WithLevels (take e code) i op levels n j → WithLevels code i op levels n j × (j ≤ length (take e code))
+with_levels_longer code e i op levels n j h = let one = big_longer code e (i + 2) n j h.2 in ((byte_longer code e i op h.0, byte_longer code e (i + 1) levels h.1, one.0), one.1)
 
-with_signed_longer : (code : List ℕ) (e i op : ℕ) (sb : ℤ) (j : ℕ) → WithSigned (take e code) i op sb j → WithSigned code i op sb j
-with_signed_longer code e i op sb j h = (byte_longer code e i op h.0, (h.1.0, byte_longer code e (i + 1) h.1.0 h.1.1, h.1.2, h.1.3))
+with_signed_longer : (code : List ℕ) (e i op : ℕ) (sb : ℤ) (j : ℕ) → WithSigned (take e code) i op sb j → WithSigned code i op sb j × (j ≤ length (take e code))
+with_signed_longer code e i op sb j h =
+    ((byte_longer code e i op h.0, (h.1.0, byte_longer code e (i + 1) h.1.0 h.1.1, h.1.2, h.1.3)), omega (arith, slice_get_within (take e code) (i + 1) h.1.0 h.1.1, h.1.3))
 
-word_longer : (code : List ℕ) (e i n j : ℕ) → Word (take e code) i n j → Word code i n j
-word_longer code e i n j h = (h.0, h.1, byte_longer code e i h.0 h.2, byte_longer code e (i + 1) h.1 h.3, h.4, h.5)
+word_longer : (code : List ℕ) (e i n j : ℕ) → Word (take e code) i n j → Word code i n j × (j ≤ length (take e code))
+word_longer code e i n j h = ((h.0, h.1, byte_longer code e i h.0 h.2, byte_longer code e (i + 1) h.1 h.3, h.4, h.5), omega (arith, slice_get_within (take e code) (i + 1) h.1 h.3, h.5))
+
+with_word_longer : (code : List ℕ) (e i op n j : ℕ) → HasByte (take e code) i op × Word (take e code) (i + 1) n j → (HasByte code i op × Word code (i + 1) n j) × (j ≤ length (take e code))
+with_word_longer code e i op n j h = let one = word_longer code e (i + 1) n j h.1 in ((byte_longer code e i op h.0, one.0), one.1)
 
 signed_word_longer : (code : List ℕ) (e i : ℕ) (w : ℤ) (j : ℕ) → SignedWord (take e code) i w j → SignedWord code i w j
-signed_word_longer code e i w j h = (h.0, word_longer code e i h.0 j h.1, h.2)
+signed_word_longer code e i w j h = (h.0, (word_longer code e i h.0 j h.1).0, h.2)
 
-case_jump_longer : (code : List ℕ) (e i : ℕ) (low high sb : ℤ) (table j : ℕ) → CaseJump (take e code) i low high sb table j → CaseJump code i low high sb table j
+case_jump_longer : (code : List ℕ) (e i : ℕ) (low high sb : ℤ) (table j : ℕ) → CaseJump (take e code) i low high sb table j → CaseJump code i low high sb table j × (j ≤ length (take e code))
 case_jump_longer code e i low high sb table j h = (
-  byte_longer code e i 172 h.0,
-  signed_word_longer code e _ low _ h.1,
-  signed_word_longer code e _ high _ h.2,
-  h.3,
-  with_signed_longer code e _ 185 sb table h.4,
-  h.5,
-  omega (arith, h.6, length-take e code),
+  (
+    byte_longer code e i 172 h.0,
+    signed_word_longer code e _ low _ h.1,
+    signed_word_longer code e _ high _ h.2,
+    h.3,
+    (with_signed_longer code e _ 185 sb table h.4).0,
+    h.5,
+    omega (arith, h.6, length-take e code),
+  ),
+  h.6,
 )
 
 -- ---- instructions
 
-at_longer : (code : List ℕ) (e i : ℕ) (instr : Instr) (j : ℕ) → At (take e code) i instr j → At code i instr j
+at_longer : (code : List ℕ) (e i : ℕ) (instr : Instr) (j : ℕ) → At (take e code) i instr j → At code i instr j × (j ≤ length (take e code))
 at_longer code e i (Sldc n) j h = short_longer code e i 0 0 128 n j h
 at_longer code e i (Sldl n) j h = short_longer code e i 216 1 16 n j h
 at_longer code e i (Sldo n) j h = short_longer code e i 232 1 16 n j h
 at_longer code e i (Sind n) j h = short_longer code e i 248 0 8 n j h
-at_longer code e i (Ldci n) j h = (byte_longer code e i 199 h.0, word_longer code e (i + 1) n j h.1)
-at_longer code e i Ldcn j h = plain_longer code e i 159 j h
-at_longer code e i Sto j h = plain_longer code e i 154 j h
-at_longer code e i Ldb j h = plain_longer code e i 190 j h
-at_longer code e i Stb j h = plain_longer code e i 191 j h
-at_longer code e i Nop j h = plain_longer code e i 215 j h
-at_longer code e i Adi j h = plain_longer code e i 130 j h
-at_longer code e i Sbi j h = plain_longer code e i 149 j h
-at_longer code e i Mpi j h = plain_longer code e i 143 j h
-at_longer code e i Dvi j h = plain_longer code e i 134 j h
-at_longer code e i Modi j h = plain_longer code e i 142 j h
-at_longer code e i Abi j h = plain_longer code e i 128 j h
-at_longer code e i Ngi j h = plain_longer code e i 145 j h
-at_longer code e i Sqi j h = plain_longer code e i 152 j h
-at_longer code e i Chk j h = plain_longer code e i 136 j h
-at_longer code e i Land j h = plain_longer code e i 132 j h
-at_longer code e i Lor j h = plain_longer code e i 141 j h
-at_longer code e i Lnot j h = plain_longer code e i 147 j h
-at_longer code e i Equi j h = plain_longer code e i 195 j h
-at_longer code e i Neqi j h = plain_longer code e i 203 j h
-at_longer code e i Leqi j h = plain_longer code e i 200 j h
-at_longer code e i Lesi j h = plain_longer code e i 201 j h
-at_longer code e i Geqi j h = plain_longer code e i 196 j h
-at_longer code e i Grti j h = plain_longer code e i 197 j h
+at_longer code e i (Ldci n) j h = with_word_longer code e i 199 n j h
 at_longer code e i (Ldl n) j h = with_big_longer code e i 202 n j h
 at_longer code e i (Stl n) j h = with_big_longer code e i 204 n j h
 at_longer code e i (Lla n) j h = with_big_longer code e i 198 n j h
@@ -119,6 +103,14 @@ at_longer code e i (Fjp sb) j h = with_signed_longer code e i 161 sb j h
 at_longer code e i (Efj sb) j h = with_signed_longer code e i 211 sb j h
 at_longer code e i (Nfj sb) j h = with_signed_longer code e i 212 sb j h
 at_longer code e i (Xjp low high sb table) j h = case_jump_longer code e i low high sb table j h
+at_longer code e i _ j h = plain_longer code e i _ j h
+
+front_decoded : (code : List ℕ) (e i : ℕ) (found : Instr × ℕ) → instr_at (take e code) i ≡ Ok found → At code i found.0 found.1 × (found.1 ≤ length (take e code))
+front_decoded code e i found h = at_longer code e i found.0 found.1 (decoded_at (take e code) i found.0 found.1 h)
 
 pub decoded_longer : (code : List ℕ) (e i : ℕ) (found : Instr × ℕ) → instr_at (take e code) i ≡ Ok found → instr_at code i ≡ Ok found
-decoded_longer code e i found h = at_decoded code i found.0 found.1 (at_longer code e i found.0 found.1 (decoded_at (take e code) i found.0 found.1 h))
+decoded_longer code e i found h = at_decoded code i found.0 found.1 (front_decoded code e i found h).0
+
+-- what is decoded of the front ends in the front
+pub decoded_ends : (code : List ℕ) (e i : ℕ) (found : Instr × ℕ) → instr_at (take e code) i ≡ Ok found → found.1 ≤ e
+decoded_ends code e i found h = omega (arith, (front_decoded code e i found h).1, length-take e code)

@@ -1,7 +1,7 @@
 -- One more offset is marked.
-use Rattle.std.proofs.Common.{◌≡◌, ◌≢◌, ℕ, zero, suc, ◌+◌, ◌<◌, ◌≤◌, ◌⊎◌, inl, inr, Bool, true, false, eqb, List, [], ◌∷◌, ◌++◌, length, set, replicate, get_or, Some, slice_get, refl, sym, ◌∙◌, ap, arith, get_or-set_same, get_or-set_other, length-set, length-append}
-use Rattle.std.proofs.lemmas.Bool.Decides.{nat_tests}
-use Rattle.std.proofs.lemmas.Option.{slice_get_within}
+use Rattle.std.proofs.Common.{◌≡◌, ℕ, zero, suc, ◌+◌, ◌<◌, ◌≤◌, ◌⊎◌, inl, inr, Bool, true, false, List, [], ◌∷◌, ◌++◌, length, set, replicate, get_or, Some, slice_get, refl, sym, ◌∙◌, ap, arith, get_or-set_same, get_or-set_other, length-set, length-append}
+use Rattle.std.proofs.lemmas.Bool.{cases_eq}
+use Rattle.base.proofs.Lists.{get_last, get_longer, get_added}
 use Rattle.pcode_ops.specs.Walks.{Marks, flagged, IsMarked, IsListing, Adds}
 
 flagged_set : (flags : List Bool) (i : ℕ) → i < length flags → get_or flags i false ≡ false → flagged (set flags i true) ≡ flagged flags + 1
@@ -33,47 +33,29 @@ push_front [] x k lt = absurd (omega arith)
 push_front (y ∷ ys) x zero lt = refl
 push_front (y ∷ ys) x (suc k) lt = let less : k < length ys = omega arith in push_front ys x k less
 
-push_last : (xs : List ℕ) (x : ℕ) → slice_get (xs ++ x ∷ []) (length xs) ≡ Some x
-push_last [] x = refl
-push_last (y ∷ ys) x = push_last ys x
-
-push_cases : (xs : List ℕ) (x k i : ℕ) → slice_get (xs ++ x ∷ []) k ≡ Some i → (slice_get xs k ≡ Some i) ⊎ ((k ≡ length xs) × (i ≡ x))
-push_cases [] x zero i e = inr (refl, cc)
-push_cases [] x (suc k) i e = absurd cc
-push_cases (y ∷ ys) x zero i e = inl e
-push_cases (y ∷ ys) x (suc k) i e =
-    elim (push_cases ys x k i e) [ inl h ↦ inl h | inr h ↦ inr (ap suc h.0, h.1) ]
-
 -- ---- the flags
 
 abbrev pub marked_with : Marks → ℕ → Marks
 marked_with m at = record { flags = set m.flags at true; found = m.found ++ at ∷ [] }
-
-same_by : (i j : ℕ) (b : Bool) → eqb i j ≡ b → (i ≡ j) ⊎ (i ≢ j)
-same_by i j true e = inl (grind (arith, nat_tests))
-same_by i j false e = inr (λ h. let no : eqb i j ≡ true = grind (arith, nat_tests) in absurd cc)
-
-same_or_not : (i j : ℕ) → (i ≡ j) ⊎ (i ≢ j)
-same_or_not i j = same_by i j (eqb i j) refl
 
 set_marked : (m : Marks) (at : ℕ) → at < length m.flags → IsMarked (marked_with m at) at
 set_marked m at lt = get_or-set_same m.flags at true false lt
 
 set_keeps : (m : Marks) (at i : ℕ) → at < length m.flags → IsMarked m i → IsMarked (marked_with m at) i
 set_keeps m at i lt h =
-    elim (same_or_not i at) [ inl e ↦ rw e (set_marked m at lt) | inr ne ↦ get_or-set_other m.flags at i true false ne ∙ h ]
+    elim (cases_eq i at) [ inl e ↦ rw e (set_marked m at lt) | inr ne ↦ get_or-set_other m.flags at i true false ne ∙ h ]
 
 set_only : (m : Marks) (at i : ℕ) → IsMarked (marked_with m at) i → IsMarked m i ⊎ (i ≡ at)
 set_only m at i h =
-    elim (same_or_not i at) [ inl e ↦ inr e | inr ne ↦ inl (sym (get_or-set_other m.flags at i true false ne) ∙ h) ]
+    elim (cases_eq i at) [ inl e ↦ inr e | inr ne ↦ inl (sym (get_or-set_other m.flags at i true false ne) ∙ h) ]
 
 -- ---- a mark
 
 listed_push : (m : Marks) (at i : ℕ) → IsListing m → IsMarked m i ⊎ (i ≡ at) → (k : ℕ) × (slice_get (marked_with m at).found k ≡ Some i)
 listed_push m at i l (inl h) =
     let old = l.listed i h in
-    (old.0, push_front m.found at old.0 (slice_get_within m.found old.0 i old.1) ∙ old.1)
-listed_push m at i l (inr e) = (length m.found, push_last m.found at ∙ ap Some (sym e))
+    (old.0, get_longer m.found (at ∷ []) old.0 i old.1)
+listed_push m at i l (inr e) = (length m.found, get_last m.found at ∙ ap Some (sym e))
 
 abbrev IsPlace : Marks → ℕ → ℕ → ℕ → Type 0
 IsPlace m at k i = (slice_get m.found k ≡ Some i) ⊎ ((k ≡ length m.found) × (i ≡ at))
@@ -91,8 +73,8 @@ marked_push m at k i lt l (inr h) = rw (h.1) (set_marked m at lt)
 pub listing_push : (m : Marks) (at : ℕ) → at < length m.flags → get_or m.flags at false ≡ false → IsListing m → IsListing (marked_with m at)
 listing_push m at lt un l = record {
   listed = λ i h. listed_push m at i l (set_only m at i h);
-  marked = λ k i h. marked_push m at k i lt l (push_cases m.found at k i h);
-  distinct = λ j k i a b. distinct_push m at j k i l un (push_cases m.found at j i a) (push_cases m.found at k i b);
+  marked = λ k i h. marked_push m at k i lt l (get_added m.found at k i h);
+  distinct = λ j k i a b. distinct_push m at j k i l un (get_added m.found at j i a) (get_added m.found at k i b);
   count = omega (arith, flagged_set m.flags at lt un, l.count, length-append m.found (at ∷ []));
 }
 

@@ -1,6 +1,6 @@
 -- The procedures of a file lie in its segment.
-use Rattle.std.proofs.Common.{◌≡◌, ℕ, ◌+◌, ◌<◌, ◌≤◌, true, leb, ltb, List, length, arith, get_or, refl}
-use Rattle.std.proofs.lemmas.Bool.Decides.{nat_tests}
+use Rattle.std.proofs.Common.{◌≡◌, ℕ, ◌+◌, ◌<◌, ◌≤◌, true, List, length, arith, get_or}
+use Rattle.std.proofs.lemmas.Bool.{and_from, le-leb, lt-ltb}
 use Rattle.std.proofs.lemmas.Option.{slice_get-get_or}
 use Rattle.pcode_file.specs.declared.file.Proc.{Proc}
 use Rattle.pcode_file.specs.Parts.{end_of}
@@ -9,10 +9,7 @@ use Rattle.pcode_ops.specs.Loading.{is_in}
 use Rattle.pcode_ops.specs.Walks.{IsPart, AreParts}
 
 pub is_inside : (q : Proc) (i : ℕ) → q.low ≤ i → i < end_of q → is_in q i ≡ true
-is_inside q i from below =
-    let one : leb q.low i ≡ true = grind (arith, nat_tests) in
-    let two : ltb i (end_of q) ≡ true = grind (arith, nat_tests) in
-    rw (one, two) refl
+is_inside q i from below = and_from _ _ (le-leb q.low i from) (lt-ltb i (end_of q) below)
 
 part_of : (segment : List ℕ) (n i : ℕ) (q : Proc) → HasProc segment n i q → IsPart (length segment) q
 part_of segment n i q h = record {

@@ -1,6 +1,6 @@
 -- The search: what is marked is reached, and when it is over what is reached is marked.
-use Rattle.std.proofs.Common.{◌≡◌, ℕ, ◌+◌, ◌<◌, ◌≤◌, ◌⊎◌, inl, inr, Bool, true, false, ltb, List, length, Some, Ok, Err, slice_get, refl, sym, ◌∙◌, ap, subst, arith, get_or}
-use Rattle.std.proofs.lemmas.Bool.Decides.{nat_tests}
+use Rattle.std.proofs.Common.{◌≡◌, ℕ, ◌+◌, ◌<◌, ◌≤◌, ◌⊎◌, inl, inr, List, length, Some, Ok, Err, slice_get, sym, ◌∙◌, ap, subst, arith, get_or}
+use Rattle.std.proofs.lemmas.Bool.{cases_lt}
 use Rattle.std.proofs.lemmas.Option.{slice_get_within, slice_get-get_or}
 use Rattle.pcode_ops.specs.declared.fault.OpFault.{OpFault}
 use Rattle.pcode_file.specs.declared.file.Proc.{Proc}
@@ -10,12 +10,8 @@ use Rattle.pcode_ops.specs.Loading.{look, LeadsTo}
 use Rattle.pcode_ops.specs.Reach.{Reach, entered, exited, followed}
 use Rattle.pcode_ops.specs.Walks.{Marks, IsMarked, IsListing, Adds, IsStarted, IsSearch, IsExact}
 
-less_by : (k n : ℕ) (b : Bool) → k < n + 1 → ltb k n ≡ b → (k < n) ⊎ (k ≡ n)
-less_by k n true h e = inl (grind (arith, nat_tests))
-less_by k n false h e = let least : n ≤ k = grind (arith, nat_tests) in inr (omega arith)
-
 less_or_last : (k n : ℕ) → k < n + 1 → (k < n) ⊎ (k ≡ n)
-less_or_last k n h = less_by k n (ltb k n) h refl
+less_or_last k n h = elim (cases_lt k n) [ inl less ↦ inl less | inr more ↦ inr (omega arith) ]
 
 -- ---- the starts
 

@@ -1,39 +1,21 @@
 -- From the function to the relation: what is decoded stands in the code.
-use Rattle.std.proofs.Common.{◌≡◌, ℕ, ◌+◌, ◌-◌, ◌*◌, ◌<◌, ◌≤◌, Bool, true, false, cond, ltb, leb, eqb, ◌&&◌, List, [], ◌∷◌, Option, Some, None, Result, Ok, Err, IfOk, slice_get, refl, ◌∙◌, ap, subst, arith, inl, inr, ℤ}
-use Rattle.std.proofs.lemmas.Bool.Decides.{nat_tests}
+use Rattle.std.proofs.Common.{◌≡◌, ℕ, ◌+◌, ◌-◌, Bool, true, false, cond, ltb, leb, eqb, ◌&&◌, List, [], ◌∷◌, Option, Some, None, Result, Ok, Err, IfOk, refl, ◌∙◌, ap, subst, arith, ℤ}
+use Rattle.std.proofs.lemmas.Bool.{ltb-true, leb-true, eqb-true, and_parts, cond_both}
 use Rattle.std.specs.Int.{w8, cast_signed}
+use Rattle.base.specs.Steps.{◌>>=◌}
 use Rattle.pcode_ops.specs.declared.instr.Instr.{Instr}
 use Rattle.pcode_ops.specs.declared.instr.Instr.TheVariants.{Sldc, Ldcn, Ldci, Sldl, Ldl, Stl, Lla, Sldo, Ldo, Sro, Lao, Lod, Str, Lda, Sto, Sind, Ind, Inc, Ixa, Mov, Ldm, Stm, Ldb, Stb, Adi, Sbi, Mpi, Dvi, Modi, Abi, Ngi, Sqi, Chk, Land, Lor, Lnot, Equi, Neqi, Leqi, Lesi, Geqi, Grti, Equ, Neq, Leq, Les, Geq, Grt, Ujp, Fjp, Efj, Nfj, Clp, Cgp, Cip, Rnp, Rbp, Nop}
 use Rattle.pcode_ops.specs.declared.fault.OpFault.{OpFault}
 use Rattle.pcode_ops.specs.declared.fault.OpFault.TheVariants as fault
-use Rattle.pcode_ops.specs.At.{HasByte, Big, At}
-use Rattle.pcode_ops.specs.Decoding.{◌>>=◌, or_cut, byte_at, word_at, big_at, short_of, pointer_of, arithmetic_of, comparison_of, plain_of, typed_of, with_byte_of, with_big_of, with_levels_of, jump_of, is_in, standard_of, or_next, or_else, special_at, jump_or_typed_at, with_operands_at, instr_of, instr_at}
+use Rattle.pcode_ops.specs.At.{HasByte, Word, Big, At}
+use Rattle.pcode_ops.specs.Decoding.{byte_at, word_at, big_at, short_of, pointer_of, arithmetic_of, comparison_of, plain_of, typed_of, with_byte_of, with_big_of, with_levels_of, jump_of, is_in, standard_of, or_next, or_else, special_at, jump_or_typed_at, with_operands_at, instr_of, instr_at}
 use Rattle.pcode_ops.proofs.CaseJumps.{case_jump_stands}
-
-true_below : (n m : ℕ) → ltb n m ≡ true → n < m
-true_below n m h = grind (arith, nat_tests)
-
-pub false_above : (n m : ℕ) → ltb n m ≡ false → m ≤ n
-false_above n m h = grind (arith, nat_tests)
-
-true_same : (n m : ℕ) → eqb n m ≡ true → n ≡ m
-true_same n m h = grind (arith, nat_tests)
-
-pub true_both : (a b : Bool) → (a && b) ≡ true → (a ≡ true) × (b ≡ true)
-true_both true b h = (refl, h)
-true_both false b h = absurd cc
-
-true_le : (n m : ℕ) → leb n m ≡ true → n ≤ m
-true_le n m h = grind (arith, nat_tests)
+use Rattle.pcode_ops.proofs.Operands.{IsBig, step_has, byte_read, word_read, big_read}
 
 -- ---- what is answered stands there
 
 abbrev pub Stands : List ℕ → ℕ → Result (Instr × ℕ) OpFault → Type 0
 Stands code i r = IfOk r (λ found. At code i found.0 found.1)
-
-by_if : (code : List ℕ) (i : ℕ) (b : Bool) (x y : Result (Instr × ℕ) OpFault) → (b ≡ true → Stands code i x) → (b ≡ false → Stands code i y) → Stands code i (cond b x y)
-by_if code i true x y f g = f refl
-by_if code i false x y f g = g refl
 
 -- what a table has for an opcode meets the rule
 abbrev OnForm : {A : Type 0} → (A → Type 0) → Option A → Type 0
@@ -57,54 +39,16 @@ form_stands code i R (Some x) f rest h g k = g x h
 
 -- the byte at i is the opcode that a test names
 opcode : (code : List ℕ) (i op n : ℕ) → HasByte code i op → eqb op n ≡ true → HasByte code i n
-opcode code i op n e t = e ∙ ap Some (true_same op n t)
+opcode code i op n e t = e ∙ ap Some (eqb-true op n t)
 
 -- ---- operands
 
-abbrev IsBig : List ℕ → ℕ → Result (ℕ × ℕ) OpFault → Type 0
-IsBig code i r = IfOk r (λ found. Big code i found.0 found.1)
-
-big_chosen : (code : List ℕ) (i b : ℕ) (test : Bool) (second : Option ℕ) → ltb b 128 ≡ test → slice_get code i ≡ Some b → slice_get code (i + 1) ≡ second
-    → IsBig code i (cond test (Ok (b, i + 1)) (or_cut second >>= λ low. Ok ((b - 128) * 256 + low, i + 2)))
-big_chosen code i b true second t e f = inl (e, true_below b 128 t, refl)
-big_chosen code i b false None t e f = tt
-big_chosen code i b false (Some low) t e f =
-    let least = false_above b 128 t in
-    let whole : b ≡ b - 128 + 128 = omega arith in
-    inr (b - 128, low, e ∙ ap Some whole, f, refl, refl)
-
-big_read : (code : List ℕ) (i : ℕ) (first : Option ℕ) → slice_get code i ≡ first
-    → IsBig code i (or_cut first >>= λ b. cond (ltb b 128) (Ok (b, i + 1)) (or_cut (slice_get code (i + 1)) >>= λ low. Ok ((b - 128) * 256 + low, i + 2)))
-big_read code i None e = tt
-big_read code i (Some b) e = big_chosen code i b (ltb b 128) (slice_get code (i + 1)) refl e refl
-
-big_made : (code : List ℕ) (i at : ℕ) (make : ℕ → Instr) → ((n j : ℕ) → Big code at n j → At code i (make n) j)
-    → (r : Result (ℕ × ℕ) OpFault) → IsBig code at r → Stands code i (r >>= λ b. Ok (make b.0, b.1))
-big_made code i at make f (Err e) h = tt
-big_made code i at make f (Ok b) h = f b.0 b.1 h
+byte_stands : (code : List ℕ) (i at : ℕ) (make : ℕ → Result (Instr × ℕ) OpFault) → ((n : ℕ) → HasByte code at n → Stands code i (make n)) → Stands code i (byte_at code at >>= make)
+byte_stands code i at make f = step_has (HasByte code at) (λ found. At code i found.0 found.1) (byte_at code at) make (byte_read code at) f
 
 big_stands : (code : List ℕ) (i at : ℕ) (make : ℕ → Instr) → ((n j : ℕ) → Big code at n j → At code i (make n) j)
     → Stands code i (big_at code at >>= λ b. Ok (make b.0, b.1))
-big_stands code i at make f = big_made code i at make f (big_at code at) (big_read code at (slice_get code at) refl)
-
-byte_made : (code : List ℕ) (i at : ℕ) (make : ℕ → Result (Instr × ℕ) OpFault) → ((n : ℕ) → HasByte code at n → Stands code i (make n))
-    → (o : Option ℕ) → slice_get code at ≡ o → Stands code i (or_cut o >>= make)
-byte_made code i at make f None e = tt
-byte_made code i at make f (Some n) e = f n e
-
-byte_stands : (code : List ℕ) (i at : ℕ) (make : ℕ → Result (Instr × ℕ) OpFault) → ((n : ℕ) → HasByte code at n → Stands code i (make n))
-    → Stands code i (byte_at code at >>= make)
-byte_stands code i at make f = byte_made code i at make f (slice_get code at) refl
-
-word_made : (code : List ℕ) (i at : ℕ) (make : ℕ → Result (Instr × ℕ) OpFault) → ((low high : ℕ) → HasByte code at low → HasByte code (at + 1) high → Stands code i (make (low + 256 * high)))
-    → (a b : Option ℕ) → slice_get code at ≡ a → slice_get code (at + 1) ≡ b → Stands code i ((or_cut a >>= λ low. or_cut b >>= λ high. Ok (low + 256 * high)) >>= make)
-word_made code i at make f None b e g = tt
-word_made code i at make f (Some low) None e g = tt
-word_made code i at make f (Some low) (Some high) e g = f low high e g
-
-word_stands : (code : List ℕ) (i at : ℕ) (make : ℕ → Result (Instr × ℕ) OpFault) → ((low high : ℕ) → HasByte code at low → HasByte code (at + 1) high → Stands code i (make (low + 256 * high)))
-    → Stands code i (word_at code at >>= make)
-word_stands code i at make f = word_made code i at make f (slice_get code at) (slice_get code (at + 1)) refl refl
+big_stands code i at make f = step_has (IsBig code at) (λ found. At code i found.0 found.1) (big_at code at) (λ b. Ok (make b.0, b.1)) (big_read code at) (λ b h. f b.0 b.1 h)
 
 next_end : (i : ℕ) → i + 2 ≡ i + 1 + 1
 next_end i = omega arith
@@ -117,12 +61,12 @@ IsPlain code i instr = At code i instr (i + 1)
 
 short_form : (code : List ℕ) (i op : ℕ) → HasByte code i op → OnForm (IsPlain code i) (short_of op)
 short_form code i op e =
-    line (IsPlain code i) (ltb op 128) (Sldc op) _ (λ t. let same : op ≡ 0 + op - 0 = omega arith in (omega arith, true_below op 128 t, (e ∙ ap Some same, refl)))
-    (line (IsPlain code i) (leb 216 op && leb op 231) (Sldl (op - 215)) _ (λ t. let a = true_both (leb 216 op) (leb op 231) t in let b = true_le 216 op a.0 in let c = true_le op 231 a.1 in
+    line (IsPlain code i) (ltb op 128) (Sldc op) _ (λ t. let same : op ≡ 0 + op - 0 = omega arith in (omega arith, ltb-true op 128 t, (e ∙ ap Some same, refl)))
+    (line (IsPlain code i) (leb 216 op && leb op 231) (Sldl (op - 215)) _ (λ t. let a = and_parts (leb 216 op) (leb op 231) t in let b = leb-true 216 op a.0 in let c = leb-true op 231 a.1 in
     let same : op ≡ 216 + (op - 215) - 1 = omega arith in (omega arith, omega arith, (e ∙ ap Some same, refl)))
-    (line (IsPlain code i) (leb 232 op && leb op 247) (Sldo (op - 231)) _ (λ t. let a = true_both (leb 232 op) (leb op 247) t in let b = true_le 232 op a.0 in let c = true_le op 247 a.1 in
+    (line (IsPlain code i) (leb 232 op && leb op 247) (Sldo (op - 231)) _ (λ t. let a = and_parts (leb 232 op) (leb op 247) t in let b = leb-true 232 op a.0 in let c = leb-true op 247 a.1 in
     let same : op ≡ 232 + (op - 231) - 1 = omega arith in (omega arith, omega arith, (e ∙ ap Some same, refl)))
-    (line (IsPlain code i) (leb 248 op && leb op 255) (Sind (op - 248)) _ (λ t. let a = true_both (leb 248 op) (leb op 255) t in let b = true_le 248 op a.0 in let c = true_le op 255 a.1 in
+    (line (IsPlain code i) (leb 248 op && leb op 255) (Sind (op - 248)) _ (λ t. let a = and_parts (leb 248 op) (leb op 255) t in let b = leb-true 248 op a.0 in let c = leb-true op 255 a.1 in
     let same : op ≡ 248 + (op - 248) - 0 = omega arith in (omega arith, omega arith, (e ∙ ap Some same, refl))) tt)))
 
 pointer_form : (code : List ℕ) (i op : ℕ) → HasByte code i op → OnForm (IsPlain code i) (pointer_of op)
@@ -222,22 +166,23 @@ jump_form code i op e =
 
 standard_stands : (code : List ℕ) (i n : ℕ) → HasByte code i 158 → HasByte code (i + 1) n → Stands code i (standard_of (i + 2) n)
 standard_stands code i n e h =
-    by_if code i (eqb n 0) _ _ (λ t. (e, (opcode code (i + 1) n 0 h t, next_end i)))
-    (λ _. by_if code i (eqb n 5) _ _ (λ t. (e, (opcode code (i + 1) n 5 h t, next_end i)))
-    (λ _. by_if code i (eqb n 6) _ _ (λ t. (e, (opcode code (i + 1) n 6 h t, next_end i)))
-    (λ _. by_if code i (eqb n 34) _ _ (λ t. (e, (opcode code (i + 1) n 34 h t, next_end i)))
-    (λ _. by_if code i (eqb n 39) _ _ (λ t. (e, (opcode code (i + 1) n 39 h t, next_end i)))
-    (λ _. by_if code i (is_in n (1 ∷ 32 ∷ 33 ∷ [])) (Err fault.Heap) (Err (fault.StandardProcedure n)) (λ _. tt) (λ _. tt))))))
+    cond_both (eqb n 0) _ _ (Stands code i) (λ t. (e, (opcode code (i + 1) n 0 h t, next_end i)))
+    (λ _. cond_both (eqb n 5) _ _ (Stands code i) (λ t. (e, (opcode code (i + 1) n 5 h t, next_end i)))
+    (λ _. cond_both (eqb n 6) _ _ (Stands code i) (λ t. (e, (opcode code (i + 1) n 6 h t, next_end i)))
+    (λ _. cond_both (eqb n 34) _ _ (Stands code i) (λ t. (e, (opcode code (i + 1) n 34 h t, next_end i)))
+    (λ _. cond_both (eqb n 39) _ _ (Stands code i) (λ t. (e, (opcode code (i + 1) n 39 h t, next_end i)))
+    (λ _. cond_both (is_in n (1 ∷ 32 ∷ 33 ∷ [])) (Err fault.Heap) (Err (fault.StandardProcedure n)) (Stands code i) (λ _. tt) (λ _. tt))))))
 
 special_stands : (code : List ℕ) (i op : ℕ) → HasByte code i op → Stands code i (special_at code i op)
 special_stands code i op e =
-    by_if code i (eqb op 199) _ _ (λ t. word_stands code i (i + 1) (λ n. Ok (Ldci n, i + 3)) (λ low high g h. (opcode code i op 199 e t, (low, high, g, h, refl, omega arith))))
-    (λ _. by_if code i (eqb op 158) _ _ (λ t. byte_stands code i (i + 1) (standard_of (i + 2)) (λ n h. standard_stands code i n (opcode code i op 158 e t) h))
-    (λ _. by_if code i (eqb op 172) _ _ (λ t. case_jump_stands code i (opcode code i op 172 e t)) (λ _. tt)))
+    cond_both (eqb op 199) _ _ (Stands code i)
+    (λ t. step_has (λ n. Word code (i + 1) n (i + 1 + 2)) (λ found. At code i found.0 found.1) (word_at code (i + 1)) (λ n. Ok (Ldci n, i + 3)) (word_read code (i + 1)) (λ n h. (opcode code i op 199 e t, (h.0, h.1, h.2, h.3, h.4, omega arith))))
+    (λ _. cond_both (eqb op 158) _ _ (Stands code i) (λ t. byte_stands code i (i + 1) (standard_of (i + 2)) (λ n h. standard_stands code i n (opcode code i op 158 e t) h))
+    (λ _. cond_both (eqb op 172) _ _ (Stands code i) (λ t. case_jump_stands code i (opcode code i op 172 e t)) (λ _. tt)))
 
 -- a type byte other than 6 is refused
 typed_by : (code : List ℕ) (i op n : ℕ) (instr : Instr) → IsTyped code i instr → HasByte code (i + 1) n → Stands code i (cond (eqb n 6) (Ok (instr, i + 2)) (Err (fault.Unsupported op)))
-typed_by code i op n instr f h = by_if code i (eqb n 6) _ _ (λ t. f (opcode code (i + 1) n 6 h t)) (λ _. tt)
+typed_by code i op n instr f h = cond_both (eqb n 6) _ _ (Stands code i) (λ t. f (opcode code (i + 1) n 6 h t)) (λ _. tt)
 
 jump_or_typed_stands : (code : List ℕ) (i op : ℕ) → HasByte code i op → Stands code i (jump_or_typed_at code i op)
 jump_or_typed_stands code i op e =
@@ -263,12 +208,11 @@ instr_stands : (code : List ℕ) (i op : ℕ) → HasByte code i op → Stands c
 instr_stands code i op e =
     form_stands code i (IsPlain code i) (plain_of op) _ _ (plain_form code i op e) (λ instr h. h) (with_operands_stands code i op e)
 
-all_stands : (code : List ℕ) (i : ℕ) (o : Option ℕ) → slice_get code i ≡ o → Stands code i (or_cut o >>= instr_of code i)
-all_stands code i None e = tt
-all_stands code i (Some op) e = instr_stands code i op e
+all_stands : (code : List ℕ) (i : ℕ) → Stands code i (instr_at code i)
+all_stands code i = byte_stands code i i (instr_of code i) (λ op e. instr_stands code i op e)
 
 pub decoded_at : (code : List ℕ) (i : ℕ) (instr : Instr) (j : ℕ) → instr_at code i ≡ Ok (instr, j) → At code i instr j
-decoded_at code i instr j e = let P : Result (Instr × ℕ) OpFault → Type 0 = Stands code i in subst P e (all_stands code i (slice_get code i) refl)
+decoded_at code i instr j e = let P : Result (Instr × ℕ) OpFault → Type 0 = Stands code i in subst P e (all_stands code i)
 
 pub answer_stands : (code : List ℕ) (i : ℕ) (r : Result (Instr × ℕ) OpFault) → r ≡ instr_at code i → IfOk r (λ found. At code i found.0 found.1)
-answer_stands code i r e = rw e (all_stands code i (slice_get code i) refl)
+answer_stands code i r e = rw e (all_stands code i)

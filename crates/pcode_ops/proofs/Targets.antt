@@ -1,6 +1,6 @@
 -- Where jumps lead that loading has let pass.
 use Rattle.std.proofs.Common.{◌≡◌, ℕ, zero, suc, ◌+◌, ◌*◌, ◌<◌, ◌≤◌, Bool, true, false, cond, leb, ltb, length, List, Option, Some, None, Result, Err, IsSome, is_some, refl, arith, ℤ, pos, ◌≤ℤ◌, int_le, unsigned_abs}
-use Rattle.std.proofs.lemmas.Bool.Decides.{nat_tests}
+use Rattle.std.proofs.lemmas.Bool.{and_parts, leb-true, ltb-true}
 use Rattle.std.proofs.lemmas.Int.{ints}
 use Rattle.std.specs.Option.{option_and_then}
 use Rattle.std.specs.Result.{result_ok}
@@ -12,15 +12,13 @@ use Rattle.pcode_ops.specs.At.{cases}
 use Rattle.pcode_ops.specs.Jumps.{jump_in, IsCaseTable}
 use Rattle.pcode_ops.specs.Loading.{is_in, jump_to}
 use Rattle.pcode_ops.proofs.Leading.{each_entry}
-use Rattle.pcode_ops.proofs.Standing.{true_both}
 
 -- ---- an entry of a case table
 
 pub entry_above : (segment : List ℕ) (q : Proc) (low high : ℤ) (table k : ℕ) → IsCaseTable segment q low high table → k < cases low high → word segment (table + 2 * k) ≤ table + 2 * k
 entry_above segment q low high table k h lt =
     let leads = each_entry segment q (cases low high) table k h.entries lt in
-    let above : leb (word segment (table + 2 * k)) (table + 2 * k) ≡ true = (true_both _ _ leads).0 in
-    grind (arith, nat_tests)
+    leb-true _ _ ((and_parts _ _ leads).0)
 
 -- ---- a forward jump
 
@@ -33,8 +31,7 @@ lands : (segment : List ℕ) (q : Proc) (sb : ℤ) (next : ℕ) → pos 0 ≤ℤ
 lands segment q sb next from h =
     let forward : int_le (pos 0) sb ≡ true = grind (arith, ints) in
     let inside : is_in q (next + unsigned_abs sb) ≡ true = passed _ _ _ (rw forward at h) in
-    let below : ltb (next + unsigned_abs sb) (end_of q) ≡ true = (true_both (leb q.low (next + unsigned_abs sb)) (ltb (next + unsigned_abs sb) (end_of q)) inside).1 in
-    grind (arith, nat_tests)
+    ltb-true _ _ ((and_parts (leb q.low (next + unsigned_abs sb)) (ltb (next + unsigned_abs sb) (end_of q)) inside).1)
 
 lands_by : (p : Parts) (n : ℕ) (sb : ℤ) (next : ℕ) (o : Option Proc) → AreProcs p.segment p.procs → pos 0 ≤ℤ sb → procedure_of p.procs n ≡ o
     → IsSome (option_and_then (λ q. result_ok (jump_to p.segment q sb next)) o) → next + unsigned_abs sb < length p.segment

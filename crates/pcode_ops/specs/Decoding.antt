@@ -1,6 +1,7 @@
 -- Decoding as a function: the first fault, or the instruction and the offset after it.
 use Rattle.std.specs.Prelude.{ℕ, ◌+◌, ◌-◌, ◌*◌, ◌%◌, nat_lt, nat_le, ◌==◌, ◌&&◌, if◌then◌else◌, Bool, true, false, List, [], ◌∷◌, length, Option, Some, None, Result, Ok, Err, slice_get, slice_index, ℤ}
 use Rattle.std.specs.Int.{w8, w16, cast_signed}
+use Rattle.base.specs.Steps.{◌>>=◌}
 use Rattle.pcode_file.specs.Parts.{word}
 use Rattle.pcode_ops.specs.declared.instr.Instr.{Instr}
 use Rattle.pcode_ops.specs.declared.instr.Instr.TheVariants.{Sldc, Ldcn, Ldci, Sldl, Ldl, Stl, Lla, Sldo, Ldo, Sro, Lao, Lod, Str, Lda, Sto, Sind, Ind, Inc, Ixa, Mov, Ldm, Stm, Ldb, Stb, Adi, Sbi, Mpi, Dvi, Modi, Abi, Ngi, Sqi, Chk, Land, Lor, Lnot, Equi, Neqi, Leqi, Lesi, Geqi, Grti, Equ, Neq, Leq, Les, Geq, Grt, Ujp, Fjp, Efj, Nfj, Xjp, Clp, Cgp, Cip, Csp, Rnp, Rbp, Nop}
@@ -8,12 +9,6 @@ use Rattle.pcode_ops.specs.declared.instr.StandardProcedure.TheVariants.{IoCheck
 use Rattle.pcode_ops.specs.declared.fault.OpFault.{OpFault}
 use Rattle.pcode_ops.specs.declared.fault.OpFault.TheVariants as fault
 use Rattle.pcode_ops.specs.At.{cases}
-
--- the first fault, or what comes of the value
-infixl 10 ◌>>=◌
-abbrev pub ◌>>=◌ : {A B : Type 0} → Result A OpFault → (A → Result B OpFault) → Result B OpFault
-(Ok x) >>= f = f x
-(Err e) >>= f = Err e
 
 -- ---- operands: the first fault, or the operand and the offset behind it
 

@@ -1,5 +1,6 @@
 -- All checks of an offset in their order: the first fault, or where the offset leads.
 use Rattle.std.specs.Prelude.{◌≡◌, ◌≢◌, ℕ, zero, suc, ◌+◌, ◌-◌, ◌*◌, ◌%◌, ◌<◌, nat_lt, nat_le, ◌==◌, ◌&&◌, ◌||◌, if◌then◌else◌, Bool, true, ◌⊎◌, List, [], ◌∷◌, take, Option, Some, None, Result, Ok, Err, ℤ, pos, int_le, unsigned_abs}
+use Rattle.base.specs.Steps.{◌>>=◌, unless}
 use Rattle.pcode_file.specs.declared.file.Proc.{Proc}
 use Rattle.pcode_file.specs.Parts.{Parts, word, procedure_of, end_of}
 use Rattle.pcode_ops.specs.declared.instr.Instr.{Instr}
@@ -8,7 +9,7 @@ use Rattle.pcode_ops.specs.declared.fault.OpFault.{OpFault}
 use Rattle.pcode_ops.specs.declared.fault.OpFault.TheVariants.{Cut, NoProcedure, CallLevel, LinkDepth, ReturnForm, JumpRange}
 use Rattle.pcode_ops.specs.declared.look.Onward.{Onward}
 use Rattle.pcode_ops.specs.At.{cases}
-use Rattle.pcode_ops.specs.Decoding.{◌>>=◌, instr_at}
+use Rattle.pcode_ops.specs.Decoding.{instr_at}
 
 abbrev pub is_in : Proc → ℕ → Bool
 is_in q i = nat_le q.low i && nat_lt i (end_of q)
@@ -28,7 +29,7 @@ called procs n is_good = callee_by (procedure_of procs n) is_good
 
 -- so many static links up there is a frame
 abbrev pub linked : Proc → ℕ → Result Unit OpFault
-linked q levels = if nat_lt q.level levels then Err LinkDepth else Ok tt
+linked q levels = unless LinkDepth (nat_lt q.level levels) tt
 
 -- whether procedure q of these may hold the instruction: calls, links and returns
 abbrev pub legal : List Proc → Proc → Instr → Result Unit OpFault
@@ -38,7 +39,7 @@ legal procs q (Cip n) = called procs n (λ level. nat_le 1 level && nat_le level
 legal procs q (Lod levels n) = linked q levels
 legal procs q (Str levels n) = linked q levels
 legal procs q (Lda levels n) = linked q levels
-legal procs q (Rnp n) = if (q.number == 1) || nat_lt 2 n then Err ReturnForm else Ok tt
+legal procs q (Rnp n) = unless ReturnForm ((q.number == 1) || nat_lt 2 n) tt
 legal procs q (Rbp n) = if q.number == 1 then Ok tt else Err ReturnForm
 legal procs q _ = Ok tt
 

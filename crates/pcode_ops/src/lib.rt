@@ -12,9 +12,11 @@ mod listing;
 mod look;
 mod opcodes;
 mod program;
+mod text;
 mod walk;
 
 pub use decoding::decode;
 pub use fault::{LoadFault, LoadRefused, OpFault};
 pub use instr::{Instr, StandardProcedure};
 pub use program::Program;
+pub use text::{TextWriter, UpToFault};

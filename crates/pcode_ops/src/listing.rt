@@ -1,5 +1,5 @@
 //! The text of a program: a line for each procedure and for each reached offset.
-ghost use Rattle.std.specs.Prelude.{◌≡◌, ◌+◌, ◌*◌, ◌<◌, ◌≤◌, ◌^◌, length, Ok};
+ghost use Rattle.std.specs.Prelude.{◌≡◌, ◌+◌, ◌*◌, ◌<◌, ◌≤◌, ◌^◌, length, Ok, false, is_err};
 ghost use Rattle.pcode_ops.specs.Loading.{look};
 ghost use Rattle.pcode_ops.specs.Reach.{Reach};
 ghost use Rattle.pcode_ops.specs.Walks.{IsWithin};
@@ -8,8 +8,9 @@ use crate::decoding::get_word;
 use crate::instr::Instr;
 use crate::look::{Onward, end, examine, parts};
 use crate::program::Program;
+use crate::text::TextWriter;
 use pcode_file::Proc;
-use std::io::{self, Write};
+use std::io;
 
 /// The name of an instruction.
 fn name(instr: Instr) -> &'static str {
@@ -78,7 +79,10 @@ fn name(instr: Instr) -> &'static str {
 }
 
 /// Writes an offset, if there is one.
-fn write_offset<W: Write>(writer: &mut W, at: Option<u32>) -> io::Result<()> {
+fn write_offset<W: TextWriter>(writer: &mut W, at: Option<u32>) -> io::Result<()>
+    requires { W.has_failed writer.old ≡ false }
+    ensures { W.has_failed writer.new ≡ is_err result }
+{
     match at {
         Some(offset) => write!(writer, " {offset}"),
         None => Ok(()),
@@ -86,9 +90,16 @@ fn write_offset<W: Write>(writer: &mut W, at: Option<u32>) -> io::Result<()> {
 }
 
 /// Writes what the entries of a case table point to.
-fn write_entries<W: Write>(writer: &mut W, segment: &[u8], table: u32, count: u32) -> io::Result<()>
+fn write_entries<W: TextWriter>(
+    writer: &mut W,
+    segment: &[u8],
+    table: u32,
+    count: u32,
+) -> io::Result<()>
+    requires open { W.has_failed writer.old ≡ false }
     requires table { table + 2 * count ≤ length segment.now }
     requires size { length segment.now < 2 ^ 16 }
+    ensures { W.has_failed writer.new ≡ is_err result }
 {
     for k in 0..count {
         let place = table + 2 * k;
@@ -99,14 +110,16 @@ fn write_entries<W: Write>(writer: &mut W, segment: &[u8], table: u32, count: u3
 }
 
 /// Writes the operands of an instruction, and of a jump where it leads.
-fn write_operands<W: Write>(
+fn write_operands<W: TextWriter>(
     writer: &mut W,
     segment: &[u8],
     instr: Instr,
     onward: Onward,
 ) -> io::Result<()>
+    requires open { W.has_failed writer.old ≡ false }
     requires within { IsWithin (length segment.now) onward }
     requires size { length segment.now < 2 ^ 16 }
+    ensures { W.has_failed writer.new ≡ is_err result }
 {
     match instr {
         Instr::Sldc(n) | Instr::Sldl(n) | Instr::Sldo(n) | Instr::Sind(n) => write!(writer, " {n}"),
@@ -152,19 +165,24 @@ fn onward(program: &Program, at: u32) -> Onward
 }
 
 /// Writes the line of a reached offset.
-fn write_line<W: Write>(writer: &mut W, program: &Program, at: u32) -> io::Result<()>
-    requires { Reach program.now at }
+fn write_line<W: TextWriter>(writer: &mut W, program: &Program, at: u32) -> io::Result<()>
+    requires open { W.has_failed writer.old ≡ false }
+    requires reached { Reach program.now at }
+    ensures { W.has_failed writer.new ≡ is_err result }
 {
     let (&instr, _) = program.instruction(at);
     let name = name(instr);
     write!(writer, "{at:05} {name}")?;
     let segment = program.file().segment();
     write_operands(writer, segment, instr, onward(program, at))?;
-    writeln!(writer)
+    write!(writer, "\n")
 }
 
 /// Writes the line of a procedure, and those of the reached offsets of its part.
-fn write_procedure<W: Write>(writer: &mut W, program: &Program, part: Proc) -> io::Result<()> {
+fn write_procedure<W: TextWriter>(writer: &mut W, program: &Program, part: Proc) -> io::Result<()>
+    requires { W.has_failed writer.old ≡ false }
+    ensures { W.has_failed writer.new ≡ is_err result }
+{
     let Proc {
         number,
         level,
@@ -174,9 +192,9 @@ fn write_procedure<W: Write>(writer: &mut W, program: &Program, part: Proc) -> i
         vars: data,
         ..
     } = part;
-    writeln!(
+    write!(
         writer,
-        "proc {number} level {level} params {params} data {data} enter {enter} exit {exit}"
+        "proc {number} level {level} params {params} data {data} enter {enter} exit {exit}\n"
     )?;
     for at in part.low..end(part) {
         if program.is_start(at) {
@@ -187,7 +205,10 @@ fn write_procedure<W: Write>(writer: &mut W, program: &Program, part: Proc) -> i
 }
 
 /// Writes all procedures in the order of their numbers, up to the writer's first fault.
-pub(crate) fn write_program<W: Write>(writer: &mut W, program: &Program) -> io::Result<()> {
+pub(crate) fn write_program<W: TextWriter>(writer: &mut W, program: &Program) -> io::Result<()>
+    requires { W.has_failed writer.old ≡ false }
+    ensures { W.has_failed writer.new ≡ is_err result }
+{
     for part in parts(program.file()) {
         write_procedure(writer, program, *part)?;
     }

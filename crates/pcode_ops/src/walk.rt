@@ -140,13 +140,14 @@ fn search_on(file: &CodeFile, walk: &mut Walk)
     }
 }
 
-/// The reached offsets; only memory is a reason for none.
-pub(crate) fn walk_over(alloc: Global, file: &CodeFile) -> Result<Walk, AllocError>
-    ensures exact { IfOk result (IsExact file.now) }
-    ensures size { IfOk result (λ w. length w.flags ≡ length file.now.segment) }
+/// The reached offsets, found by a walk that has found nothing yet.
+pub(crate) fn walk_over(blank: Walk, file: &CodeFile) -> Walk
+    requires { blank ≡ record { flags = replicate (length file.now.segment) false; found = [] } }
+    ensures exact { IsExact file.now result }
+    ensures size { length result.flags ≡ length file.now.segment }
 {
-    let mut walk = Walk::new(alloc, file.segment().len())?;
+    let mut walk = blank;
     mark_starts(file, &mut walk);
     search_on(file, &mut walk);
-    Ok(walk)
+    walk
 }

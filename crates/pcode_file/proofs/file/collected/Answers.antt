@@ -1,26 +1,30 @@
-use Rattle.pcode_file.specs.declared.fault.FileFault.TheVariants.{Memory}
-use Rattle.std.proofs.Common.{rules, ◌≡◌, Err, sym, refl, inl, inr, ◌++◌, ◌∷◌, []}
-use Rattle.pcode_file.specs.Checks.{proc_at}
-use Rattle.pcode_file.proofs.Loops.{all_next, all_bad, all_done, first_passed}
+use Rattle.std.proofs.Common.{rules, ◌≡◌, ◌+◌, ◌<◌, ◌++◌, ◌∷◌, [], Ok, Err, vec_len, sym, ◌∙◌, arith}
+use Rattle.std.specs.Vec.{vec_capacity}
+use Rattle.pcode_file.specs.Checks.{proc_at, first_of}
+use Rattle.pcode_file.proofs.Loops.{first_next, first_bad, all_next, all_done}
 use Rattle.pcode_file.proofs.file.collected.Goals as goal
 
-pub returns-in_err-found : goal.returns-in_err-found
-returns-in_err-found c =
-    let e : c.from_residual-in_err-found.result ≡ Err c.in_err-found.field-0.0 = search rules in
-    rw e (inr (all_bad (proc_at c.args.segment.now c.args.n) _ _ _ _ (search rules) (sym c.in_err-found.ensures) c.loop-k.invariant))
+pub unreachable-requires : goal.unreachable-requires
+unreachable-requires c =
+    let f = proc_at c.args.segment.now c.args.n in
+    let refused : f (c.loop-k.k + 1) ≡ Err c.in_default.field-0 = sym c.procedure.ensures ∙ c.in_default.is in
+    let fault = first_bad f c.loop-k.k c.args.n c.in_default.field-0 c.loop-k-test.true refused c.loop-k.invariant.passes in
+    let none : first_of f 1 c.args.n ≡ Ok tt = c.requires.checked in
+    cc
 
 pub loop-k-preserved : goal.loop-k-preserved
 loop-k-preserved c =
-    let pushed : c.push.new.self.items ≡ c.loop-k.procs.items ++ c.in_ok-found.found ∷ [] = search rules in
-    rw pushed (all_next (proc_at c.args.segment.now c.args.n) c.loop-k.procs.items _ _ c.in_ok-found.found (search rules) (sym c.in_ok-found.ensures) c.loop-k.invariant)
+    let f = proc_at c.args.segment.now c.args.n in
+    let found : f (c.loop-k.k + 1) ≡ Ok c.in-Ok.found = sym c.in-Ok.ensures in
+    let fits : vec_len c.loop-k.procs < vec_capacity c.loop-k.procs = omega (arith, c.loop-k.invariant.room, c.loop-k.invariant.kept) in
+    let pushed : c.push.new.self.items ≡ c.loop-k.procs.items ++ c.in-Ok.found ∷ [] = search rules in
+    let kept : vec_len c.push.new.self ≡ vec_len c.loop-k.procs + 1 = search rules in
+    record {
+      room = omega (arith, c.loop-k.invariant.room, c.push.ensures.capacity);
+      kept = omega (arith, kept, c.loop-k.invariant.kept);
+      passes = first_next f _ _ _ c.loop-k-test.true found c.loop-k.invariant.passes;
+      value = rw pushed (all_next f c.loop-k.procs.items _ _ c.in-Ok.found c.loop-k-test.true found c.loop-k.invariant.value);
+    }
 
 pub returns : goal.returns
-returns c = all_done (proc_at c.args.segment.now c.args.n) _ _ _ (search rules) c.loop-k.invariant
-
-pub returns-in_err-procs : goal.returns-in_err-procs
-returns-in_err-procs c =
-    let e : c.from_residual.result ≡ Err Memory = search rules in
-    rw e (inl (refl, first_passed (proc_at c.args.segment.now c.args.n) 1 c.args.n c.requires.checked))
-
-pub returns-then-is_err : goal.returns-then-is_err
-returns-then-is_err c = inl (refl, first_passed (proc_at c.args.segment.now c.args.n) 1 c.args.n c.requires.checked)
+returns c = all_done (proc_at c.args.segment.now c.args.n) _ _ _ (search rules) c.loop-k.invariant.value

@@ -1,16 +1,16 @@
-use Rattle.std.proofs.Common.{rules, ◌≡◌, sym}
-use Rattle.pcode_file.specs.Checks.{proc_at, read_from}
-use Rattle.pcode_file.proofs.Loops.{first_fault}
-use Rattle.pcode_file.proofs.Whole.{whole_by}
+use Rattle.std.proofs.Common.{rules, ◌≡◌, Err, refl, inl}
+use Rattle.pcode_file.specs.declared.fault.FileFault.TheVariants.{Memory}
+use Rattle.pcode_file.proofs.Whole.{whole_by, checked_read, checked_ok}
 use Rattle.pcode_file.proofs.file.read_checked.Goals as goal
 
-pub returns-in_err-check_procedures : goal.returns-in_err-check_procedures
-unfolding read_from
-returns-in_err-check_procedures c =
-    let all = first_fault (proc_at c.in_ok-k.part.now c.in_ok-n.n) 1 c.in_ok-n.n _ (sym c.in_err-check_procedures.ensures) in
-    search rules
+pub returns-in_err-procs : goal.returns-in_err-procs
+returns-in_err-procs c =
+    let e : c.from_residual-in_err-procs.result ≡ Err Memory = search rules in
+    rw e (inl (refl, checked_ok _ _ _ _ c.in_ok-k.ensures.value))
 
 pub invariant_of-result : goal.invariant_of-result
 invariant_of-result c =
-    let same : c.in_ok-segment.segment.items ≡ c.in_ok-k.part.now = search rules in
-    whole_by _ c.in_ok-k.part.now c.in_ok-n.n same (search rules) (search rules) (search rules) (search rules) (search rules)
+    whole_by _ c.in_ok-k.part.now c.in_ok-k.n c.copied.ensures (c.in_ok-k.ensures.size).1 (search rules) (c.in_ok-k.ensures.some).0 (c.in_ok-k.ensures.some).1 c.collected.ensures
+
+pub returns : goal.returns
+returns c = rw (c.name_of.ensures, c.copied.ensures) (checked_read _ _ _ _ _ c.in_ok-k.ensures.value c.collected.ensures)

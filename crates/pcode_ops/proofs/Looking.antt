@@ -1,0 +1,51 @@
+-- The checks of an offset without fault: what each of them found.
+use Rattle.std.proofs.Common.{◌≡◌, ℕ, suc, true, List, [], ◌∷◌, take, Some, slice_get, Result, Ok, Err, refl, subst}
+use Rattle.std.proofs.lemmas.Bool.{cond_both}
+use Rattle.base.proofs.Steps.{bind_ok}
+use Rattle.pcode_file.specs.declared.file.Proc.{Proc}
+use Rattle.pcode_file.specs.Parts.{Parts, end_of}
+use Rattle.pcode_ops.specs.declared.fault.OpFault.{OpFault}
+use Rattle.pcode_ops.specs.declared.instr.Instr.{Instr}
+use Rattle.pcode_ops.specs.declared.look.Onward.{Onward}
+use Rattle.pcode_ops.specs.Decoding.{instr_at}
+use Rattle.pcode_ops.specs.Loading.{is_in, owner, legal, onward, look, IsFine}
+
+-- ---- the owner
+
+-- q is one of the procedures, and the offset lies in its part
+abbrev pub IsOwner : List Proc → ℕ → Proc → Type 0
+IsOwner procs i q = (k : ℕ) × (slice_get procs k ≡ Some q) × (is_in q i ≡ true)
+
+pub owner_is : (procs : List Proc) (i : ℕ) (q : Proc) → owner procs i ≡ Ok q → IsOwner procs i q
+owner_is [] i q e = absurd cc
+owner_is (d ∷ ds) i q e =
+    cond_both (is_in d i) (Ok d) (owner ds i) (λ r. r ≡ Ok q → IsOwner (d ∷ ds) i q)
+    (λ t h. (let same : d ≡ q = cc in let P : Proc → Type 0 = λ x. is_in x i ≡ true in (0, cc, subst P same t)))
+    (λ t h. (let found = owner_is ds i q h in (suc found.0, found.1, found.2))) e
+
+-- ---- the checks, one after the other
+
+-- offset i is owned by q, its instruction is legal there, and leads to `leads`
+pub record IsLooked (p : Parts) (i : ℕ) (q : Proc) (found : Instr × ℕ) (leads : Onward) : Type 0 where
+  pub owned : owner p.procs i ≡ Ok q
+  pub decoded : instr_at (take (end_of q) p.segment) i ≡ Ok found
+  pub legal : legal p.procs q found.0 ≡ Ok tt
+  pub onward : onward p.segment q found.0 found.1 ≡ Ok leads
+  pub looked : look p i ≡ Ok leads
+
+pub looked_is : (p : Parts) (i : ℕ) (leads : Onward) → look p i ≡ Ok leads → (q : Proc) × (found : Instr × ℕ) × IsLooked p i q found leads
+unfolding look
+looked_is p i leads e =
+    let a = bind_ok (owner p.procs i) _ leads e in
+    let q = a.0 in
+    let b = bind_ok (instr_at (take (end_of q) p.segment) i) _ leads a.2 in
+    let c = bind_ok (legal p.procs q b.0.0) _ leads b.2 in
+    (q, b.0, record { owned = a.1; decoded = b.1; legal = c.1; onward = c.2; looked = e })
+
+fine_by : (p : Parts) (i : ℕ) (r : Result Onward OpFault) → look p i ≡ r → IsFine p i → (leads : Onward) × (look p i ≡ Ok leads)
+fine_by p i (Ok leads) e fine = (leads, e)
+fine_by p i (Err f) e fine = absurd (fine f e)
+
+-- an offset without fault leads somewhere
+pub fine_leads : (p : Parts) (i : ℕ) → IsFine p i → (leads : Onward) × (look p i ≡ Ok leads)
+fine_leads p i fine = fine_by p i (look p i) refl fine
