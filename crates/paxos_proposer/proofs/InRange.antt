@@ -1,10 +1,9 @@
 -- What a proposer keeps and proposes stays in its ranges.
-use Rattle.std.proofs.Common.{◌≡◌, ◌≢◌, ◌∙◌, ℕ, zero, ◌+◌, ◌-◌, ◌<◌, ◌≤◌, nat_lt, max, Bool, true, false, List, [], ◌∷◌, ◌++◌, length, replicate, slice_get, slice_set, slice_index, Option, Some, None, IfSome, if◌then◌else◌, inl, inr, refl, sym, ap, subst, arith}
+use Rattle.std.proofs.Common.{◌≡◌, ◌∙◌, ℕ, ◌+◌, ◌-◌, ◌≤◌, nat_lt, max, Bool, true, false, List, [], ◌∷◌, length, slice_set, Option, Some, None, IfSome, if◌then◌else◌, inl, inr, refl, sym, subst, arith}
 use Rattle.std.specs.Prelude.{All}
 use Rattle.std.proofs.lemmas.Bool.{cases_eq, cases_lt}
-use Rattle.std.proofs.lemmas.List.{get_or-set_other, get_or-set_same, set_past}
+use Rattle.std.proofs.lemmas.List.{set_past}
 use Rattle.std.proofs.lemmas.List.Elements.{All-cons, All-filter, All-nil, All-weaker}
-use Rattle.std.specs.List.{filter}
 use Rattle.paxos_msg.specs.declared.ballot.Ballot.{Ballot}
 use Rattle.paxos_msg.specs.declared.message.Body.TheVariants.{Accept, Promise}
 use Rattle.paxos_msg.specs.declared.value.Value.{Value}
@@ -12,7 +11,7 @@ use Rattle.paxos_msg.specs.declared.value.Value.TheVariants.{Noop}
 use Rattle.paxos_msg.specs.declared.value.Vote.{Vote}
 use Rattle.paxos_msg.specs.Fits.{AreVotes, IsBallot, IsBody, IsPlace, IsValue}
 use Rattle.paxos_msg.specs.Messages.{vote_at}
-use Rattle.paxos_proposer.specs.Proposer.{Proposer, after_part, begun, coverage_of, covers, heard, is_covered, is_kept_from, next_of, next_value, proposed_at, proposing, rises, value_or, votes_from}
+use Rattle.paxos_proposer.specs.Proposer.{Proposer, after_part, begun, coverage_of, heard, is_covered, is_kept_from, next_of, next_value, proposed_at, proposing, rises, value_or}
 use Rattle.paxos_proposer.specs.Ranges.{IsInRange}
 use Rattle.paxos_proposer.specs.States.{AreInRange}
 use Rattle.paxos_proposer.proofs.Begun.{none_proposed, replicated}
@@ -71,9 +70,10 @@ module _ (p : Proposer) (h : IsInRange p) where
   next_fits : (offered : Option Value) (v : Value) → IfSome offered (IsValue p.size) → next_value p offered ≡ Some v → IsPlace (next_of p) × IsValue p.size v
   next_fits offered v free e =
       let other : Option Value = if is_kept_from p.kept (next_of p + 1) then Some Noop else offered in
-      let (covered, value) = if_some (is_covered p (next_of p)) (value_or (vote_at p.kept (next_of p)) other) v e in
-      (covered_below p.size (next_of p) p.coverages h.reach covered,
-       kept_or (vote_at p.kept (next_of p)) other v value (λ vote found. found_all (λ k. IsValue p.size k.value) p.kept (next_of p) vote found h.kept) (noop_or (is_kept_from p.kept (next_of p + 1)) offered free))
+      let (covered, value) = if_some (is_covered p (next_of p)) (value_or (vote_at p.kept (next_of p)) other) v e in (
+        covered_below p.size (next_of p) p.coverages h.reach covered,
+        kept_or (vote_at p.kept (next_of p)) other v value (λ vote found. found_all (λ k. IsValue p.size k.value) p.kept (next_of p) vote found h.kept) (noop_or (is_kept_from p.kept (next_of p + 1)) offered free),
+      )
 
   pub next_accept_fits : (offered : Option Value) (v : Value) → IfSome offered (IsValue p.size) → next_value p offered ≡ Some v → IsBody p.size p.ballot.node (Accept p.ballot (next_of p) v)
   next_accept_fits offered v free e = let fits = next_fits offered v free e in (h.ballot, refl, fits.0, fits.1)

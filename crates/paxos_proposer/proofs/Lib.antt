@@ -7,3 +7,4 @@ pub mod Parts
 pub mod Begun
 pub mod Proposals
 pub mod InRange
+pub mod Staying

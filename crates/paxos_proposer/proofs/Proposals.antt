@@ -46,7 +46,7 @@ module _ (p : Proposer) (v : Value) where
       ]
 
 -- nothing is proposed at the next place yet
-none_next : (p : Proposer) → proposed_at p (next_of p) ≡ None
+pub none_next : (p : Proposer) → proposed_at p (next_of p) ≡ None
 none_next p = rw (le-ltb (next_of p) p.first (omega arith)) (slice_get_past p.values (next_of p - p.first) (omega arith))
 
 -- ---- the value at the next place

@@ -1,6 +1,7 @@
 //! The laws of a proposer, over the definitions alone: what it has heard lets it send what it proposes.
 ghost use Rattle.std.specs.Prelude.{◌≡◌, ◌≤◌, ◌++◌, [], ◌∷◌, ℕ, List, Option, Some, IfSome};
 ghost use Rattle.paxos_msg.specs.declared.ballot.Ballot.{Ballot};
+ghost use Rattle.paxos_msg.specs.declared.message.Body.{Body};
 ghost use Rattle.paxos_msg.specs.declared.message.Body.TheVariants.{Accept, Promise};
 ghost use Rattle.paxos_msg.specs.declared.record.Record.{Record};
 ghost use Rattle.paxos_msg.specs.declared.value.Value.{Value};
@@ -11,7 +12,7 @@ ghost use Rattle.paxos_msg.specs.Messages.{IsSaid, IsSent, Sent};
 ghost use Rattle.paxos_msg.specs.Sending.{IsFree, MaySend};
 ghost use Rattle.paxos_proposer.specs.Backed.{IsBacked, IsQuiet};
 ghost use Rattle.paxos_proposer.specs.Ranges.{IsInRange};
-ghost use Rattle.paxos_proposer.specs.Proposer.{Proposer, after_part, begun, next_of, next_value, proposed_at, proposing};
+ghost use Rattle.paxos_proposer.specs.Proposer.{Proposer, after_part, begun, next_of, next_value, on_promise, proposed_at, proposing};
 
 use paxos_msg::laws::votes_are_by_place;
 
@@ -64,4 +65,15 @@ pub fn what_goes_out_fits()
         IsBody p.size p.ballot.node (Accept p.ballot (next_of p) v) }
     ensures again { (p : Proposer) (s : ℕ) (v : Value) → IsInRange p → proposed_at p s ≡ Some v →
         IsBody p.size p.ballot.node (Accept p.ballot s v) }
+{}
+
+/// Its ballot and the group's size stay, whatever it hears and proposes; and so does what it has proposed.
+pub fn ballot_stays()
+    ensures parts { (p : Proposer) (j : ℕ) (body : Body) →
+        ((on_promise p j body).ballot ≡ p.ballot) × ((on_promise p j body).size ≡ p.size) }
+    ensures proposes { (p : Proposer) (o : Option Value) →
+        ((proposing p o).ballot ≡ p.ballot) × ((proposing p o).size ≡ p.size) }
+    ensures proposed { (p : Proposer) (j s : ℕ) (body : Body) → proposed_at (on_promise p j body) s ≡ proposed_at p s }
+    ensures longer { (p : Proposer) (o : Option Value) (s : ℕ) (v : Value) →
+        proposed_at p s ≡ Some v → proposed_at (proposing p o) s ≡ Some v }
 {}

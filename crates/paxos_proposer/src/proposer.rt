@@ -119,6 +119,7 @@ impl Proposer {
         requires ranges { IsBody self.old.rules.size sender view.now.body }
         ensures ok { OnOk result (self.new.rules ≡ on_promise self.old.rules sender view.now.body) }
         ensures answer { IfOk result (λ from. from ≡ asks_after self.old.rules sender view.now.body) }
+        ensures place { IfOk result (λ from. IfSome from (λ place. place ≤ 65535)) }
         ensures err { OnErr result (self.new.rules ≡ self.old.rules) }
         ensures memory { OnErr result (result ≡ Err ProposerFault.Memory) }
         ensures room { self.old.room ≤ self.new.room }

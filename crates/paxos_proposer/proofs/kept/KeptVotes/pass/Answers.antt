@@ -1,5 +1,5 @@
 -- The first of the votes that are left is passed where it is at the place.
-use Rattle.std.proofs.Common.{◌≡◌, ◌+◌, ◌≤◌, ◌∙◌, List, Some, ap, drop, slice_get, subst, sym}
+use Rattle.std.proofs.Common.{◌≡◌, ◌+◌, ◌≤◌, ◌∙◌, List, Some, ap, slice_get, subst, sym}
 use Rattle.std.specs.Prelude.{All}
 use Rattle.std.proofs.lemmas.Bool.{ltb-true}
 use Rattle.paxos_msg.specs.declared.value.Vote.{Vote}

@@ -1,8 +1,7 @@
 -- What is kept is from the next place on, as before.
-use Rattle.std.proofs.Common.{◌≡◌, ◌+◌, ◌≤◌, ◌∙◌, ap, arith, length, rules, sym}
+use Rattle.std.proofs.Common.{◌≡◌, ◌+◌, ◌∙◌, ap, arith, length, rules, sym}
 use Rattle.paxos_proposer.specs.Proposer.{next_of}
 use Rattle.paxos_proposer.specs.States.{State}
-use Rattle.paxos_proposer.proofs.Counting.{set_reach}
 use Rattle.paxos_proposer.proofs.Passing.{ahead_heard}
 use Rattle.paxos_proposer.proofs.proposer.Proposer.on_promise.Goals as goal
 
