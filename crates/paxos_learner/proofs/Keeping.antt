@@ -1,26 +1,20 @@
 -- What a learner keeps stays true when a place is learned, and when the front rises.
-use Rattle.std.proofs.Common.{◌≡◌, ◌≢◌, ◌∙◌, ℕ, zero, suc, ◌+◌, ◌<◌, ◌≤◌, nat_lt, min, Bool, true, false, cond, IsTrue, List, [], ◌∷◌, ◌++◌, length, take, drop, map, Option, None, Some, is_some, is_none, inl, inr, if◌then◌else◌, slice_index, length-append, refl, sym, ap, arith}
-use Rattle.std.proofs.lemmas.Bool.{and_parts, cases_eq, cases_lt, ne_eqb, lt-ltb, le-ltb, true≢false}
+use Rattle.std.proofs.Common.{◌≡◌, ◌∙◌, ℕ, zero, suc, ◌+◌, ◌<◌, ◌≤◌, nat_lt, min, Bool, true, false, IsTrue, List, [], ◌∷◌, ◌++◌, length, take, drop, map, Option, None, Some, is_some, is_none, inl, inr, if◌then◌else◌, slice_index, length-append, refl, sym, ap, arith}
+use Rattle.std.proofs.lemmas.Bool.{and_parts, cases_eq, cases_lt, lt-ltb, le-ltb, true≢false}
 use Rattle.std.proofs.lemmas.List.{take_all, take-append-le, take-append-drop, map-append, get_or_append_left, get_or_push, length_push}
 use Rattle.std.specs.List.{list_any}
 use Rattle.std.specs.Ordering.{nat_cmp}
-use Rattle.std.specs.Cmp.{nat_cmp_total, unsigned_tied}
-use Rattle.std.specs.FinMap.{FinMap, get, insert, get-insert, empty, get-empty}
+use Rattle.std.specs.FinMap.{FinMap, get, insert, empty, get-empty}
 use Rattle.paxos_msg.specs.declared.value.Value.{Value}
-use Rattle.paxos_msg.specs.declared.value.Value.TheVariants as value
-use Rattle.paxos_msg.specs.Keys.{Key}
+use Rattle.indexmap.specs.IndexSet.{insert_all, insert_key}
+use Rattle.paxos_msg.specs.Keys.{Key, keys_of}
 use Rattle.paxos_learner.specs.Input.{same_key, keys_in_order, values_below, input_of}
 use Rattle.paxos_learner.specs.Entered.{Entered, entered, count_below}
-use Rattle.paxos_learner.specs.Kept.{IsInputOf, IsKept}
+use Rattle.paxos_learner.specs.Kept.{IsInputOf}
 use Rattle.paxos_learner.specs.Learner.{Learner, IsFront, front_of, is_open}
 use Rattle.paxos_learner.proofs.KeysOnce.{keys_entered}
 use Rattle.paxos_learner.proofs.ValuesBelow.{values_more, same_below}
-
--- ---- a map with one place more
-
--- the other places have what they had
-get_other : (learned : FinMap nat_cmp Value) (s : ℕ) (v : Value) (q : ℕ) → q ≢ s → get (insert learned s v) q ≡ get learned q
-get_other learned s v q ne = get-insert nat_cmp_total learned s v q ∙ ap (λ (b : Bool). cond b (Some v) (get learned q)) (unsigned_tied q s ∙ ne_eqb q s ne)
+use Rattle.paxos_learner.proofs.OnePlace.{get_other}
 
 -- ---- a place is learned
 
@@ -95,20 +89,23 @@ take_more_or_same : (there : Bool) (keys more : List Key) (n : ℕ) → n ≤ le
 take_more_or_same true keys more n low = refl
 take_more_or_same false keys more n low = take-append-le n keys more low
 
--- a front of the keys is one of the keys with those of a value more
-take_entered : (keys : List Key) (v : Value) (n : ℕ) → n ≤ length keys → take n (entered keys v) ≡ take n keys
-take_entered keys value.Noop n low = refl
-take_entered keys (value.Key node start serial byte) n low = take_more_or_same (list_any (same_key _) keys) keys _ n low
-
 -- a longer list is no shorter
 no_fewer : (there : Bool) (keys more : List Key) → length keys ≤ length (if there then keys else keys ++ more)
 no_fewer true keys more = omega arith
 no_fewer false keys more = omega (arith, length-append keys more)
 
--- there are no fewer keys with those of a value more
-entered_no_fewer : (keys : List Key) (v : Value) → length keys ≤ length (entered keys v)
-entered_no_fewer keys value.Noop = omega arith
-entered_no_fewer keys (value.Key node start serial byte) = no_fewer (list_any (same_key _) keys) keys _
+-- a front of the keys is one of the keys with more
+take_entered : (keys more : List Key) (n : ℕ) → n ≤ length keys → take n (insert_all same_key keys more) ≡ take n keys
+take_entered keys [] n low = refl
+take_entered keys (k ∷ more) n low =
+    take_entered (insert_key same_key keys k) more n (omega (arith, no_fewer (list_any (same_key k) keys) keys (k ∷ []))) ∙ take_more_or_same (list_any (same_key k) keys) keys (k ∷ []) n low
+
+-- there are no fewer keys with more
+entered_no_fewer : (keys more : List Key) → length keys ≤ length (insert_all same_key keys more)
+entered_no_fewer keys [] = omega arith
+entered_no_fewer keys (k ∷ more) =
+    let one = no_fewer (list_any (same_key k) keys) keys (k ∷ []) in
+    omega (arith, entered_no_fewer (insert_key same_key keys k) more)
 
 -- the next place has entered the input
 pub record IsNext (e : Entered) (v : Value) (new : Entered) : Type 0 where
@@ -137,7 +134,7 @@ module _ (learned : FinMap nat_cmp Value) (e : Entered) (v : Value) (new : Enter
 
   -- there are no fewer keys than before
   more_keys : length e.keys ≤ length new.keys
-  more_keys = rw next.keys (entered_no_fewer e.keys v)
+  more_keys = rw next.keys (entered_no_fewer e.keys (keys_of v))
 
   -- whatever holds of each place so far and of this one
   each_place : (P : ℕ → Type 0) → ((s : ℕ) → s < length e.ends → P s) → ((s : ℕ) → s ≡ length e.ends → P s) → (s : ℕ) → s < length new.ends → P s
@@ -154,7 +151,7 @@ module _ (learned : FinMap nat_cmp Value) (e : Entered) (v : Value) (new : Enter
     keys = all_keys ∙ ap (λ (n : ℕ). keys_in_order (values_below learned n)) (sym longer);
     within = each_place (λ s. slice_index new.ends s ≤ length new.keys) (λ s low. omega (arith, end_before s low, h.within s low, more_keys)) (λ s same. omega (arith, end_here s same));
     ends = each_place (λ s. take (slice_index new.ends s) new.keys ≡ keys_in_order (values_below learned (s + 1)))
-        (λ s low. rw (end_before s low, next.keys) (take_entered e.keys v (slice_index e.ends s) (h.within s low) ∙ h.ends s low))
+        (λ s low. rw (end_before s low, next.keys) (take_entered e.keys (keys_of v) (slice_index e.ends s) (h.within s low) ∙ h.ends s low))
         (λ s same. rw (end_here s same) (take_all (length new.keys) new.keys (omega arith) ∙ all_keys ∙ ap (λ (n : ℕ). keys_in_order (values_below learned (n + 1))) (sym same)));
     room = λ s there. omega (arith, h.room s there, longer, next.room);
     small = h.small;
@@ -194,7 +191,7 @@ pub front_is_here : (learned : FinMap nat_cmp Value) (e : Entered) → IsInputOf
 front_is_here learned e h none = record { below = h.below; here = none }
 
 -- the input of no place is that of the empty map
-input_of_none : (e : Entered) → e.keys ≡ [] → e.ends ≡ [] → IsInputOf empty e
+pub input_of_none : (e : Entered) → e.keys ≡ [] → e.ends ≡ [] → IsInputOf empty e
 input_of_none e no_keys no_ends =
     let none : length e.ends ≡ 0 = ap length no_ends in
     record {
@@ -205,11 +202,3 @@ input_of_none e no_keys no_ends =
       room = λ s there. absurd (true≢false (sym there ∙ ap is_some (get-empty nat_cmp s)));
       small = λ s there. absurd (true≢false (sym there ∙ ap is_some (get-empty nat_cmp s)));
     }
-
--- nothing is learned yet
-pub kept_none : (size : ℕ) (learned : FinMap nat_cmp Value) (e : Entered) → size ≤ 9 → learned ≡ empty → e.keys ≡ [] → e.ends ≡ [] → IsKept size learned e
-kept_none size learned e small none no_keys no_ends = rw none (record {
-  size_small = small;
-  input = input_of_none e no_keys no_ends;
-  here = get-empty nat_cmp (length e.ends);
-})

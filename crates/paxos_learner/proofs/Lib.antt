@@ -1,6 +1,12 @@
 pub mod PlaceEntries
+pub mod OnePlace
 pub mod Stored
 pub mod Fronts
 pub mod KeysOnce
 pub mod ValuesBelow
 pub mod Keeping
+pub mod Hearing
+pub mod Backing
+pub mod Growing
+pub mod FrontValues
+pub mod Knowing

@@ -1,17 +1,17 @@
 -- Keys as they are stored, and as they are seen.
-use Rattle.std.proofs.Common.{◌≡◌, ◌∙◌, ℕ, Bool, true, false, if◌then◌else◌, ◌||◌, List, [], ◌∷◌, ◌++◌, map, drop, zero, suc, refl, ap}
+use Rattle.std.proofs.Common.{◌≡◌, ◌∙◌, ℕ, Bool, true, false, if◌then◌else◌, ◌||◌, List, [], ◌∷◌, ◌++◌, map, refl, ap}
 use Rattle.std.proofs.lemmas.List.{map-append}
 use Rattle.std.specs.List.{list_any}
 use Rattle.indexmap.specs.IndexSet.{insert_key}
 use Rattle.paxos_msg.specs.Keys.{Key}
-use Rattle.paxos_learner.specs.declared.input.TypedKey.{TypedKey}
+use Rattle.paxos_learner.specs.declared.keys.TypedKey.{TypedKey}
 use Rattle.paxos_learner.specs.Input.{same_key}
 use Rattle.paxos_learner.specs.Entered.{key_of}
 
 -- a test that tells stored keys apart as they are told apart where they are seen
 module _ (test : TypedKey → TypedKey → Bool) (alike : (a b : TypedKey) → test a b ≡ same_key (key_of a) (key_of b)) where
   -- a key is stored exactly if it is seen
-  any_stored : (keys : List TypedKey) (k : TypedKey) → list_any (test k) keys ≡ list_any (same_key (key_of k)) (map key_of keys)
+  pub any_stored : (keys : List TypedKey) (k : TypedKey) → list_any (test k) keys ≡ list_any (same_key (key_of k)) (map key_of keys)
   any_stored [] k = refl
   any_stored (x ∷ keys) k = λ i. alike k x i || any_stored keys k i
 
@@ -24,9 +24,7 @@ module _ (test : TypedKey → TypedKey → Bool) (alike : (a b : TypedKey) → t
   pub insert_stored : (keys : List TypedKey) (k : TypedKey) → map key_of (insert_key test keys k) ≡ insert_key same_key (map key_of keys) (key_of k)
   insert_stored keys k = by_test (list_any (test k) keys) keys k ∙ ap (λ b. if b then map key_of keys else map key_of keys ++ key_of k ∷ []) (any_stored keys k)
 
--- the bytes of stored keys from the n-th on are those of the keys that are seen
-pub drop_stored : (n : ℕ) (keys : List TypedKey) → map (λ (k : TypedKey). k.byte) (drop n keys) ≡ map (λ (k : Key). k.byte) (drop n (map key_of keys))
-drop_stored zero [] = refl
-drop_stored zero (k ∷ keys) = ap (λ (bytes : List ℕ). k.byte ∷ bytes) (drop_stored zero keys)
-drop_stored (suc n) [] = refl
-drop_stored (suc n) (k ∷ keys) = drop_stored n keys
+-- the bytes of stored keys are those of the keys that are seen
+pub bytes_stored : (keys : List TypedKey) → map (λ (k : TypedKey). k.byte) keys ≡ map (λ (k : Key). k.byte) (map key_of keys)
+bytes_stored [] = refl
+bytes_stored (k ∷ keys) = ap (λ (bytes : List ℕ). k.byte ∷ bytes) (bytes_stored keys)

@@ -29,3 +29,11 @@ same_range f g a (suc n) same = λ i. cons_option (same a (omega arith) (omega a
 -- maps that agree below n have the same values there
 pub same_below : (learned other : FinMap nat_cmp Value) (n : ℕ) → ((s : ℕ) → s < n → get learned s ≡ get other s) → values_below learned n ≡ values_below other n
 same_below learned other n same = same_range (get learned) (get other) 0 n (λ s low high. same s (omega arith))
+
+-- numbers in a row begin with fewer of them
+pub range_parts : (a n m : ℕ) → n ≤ m → (rest : List ℕ) × (range_with_len a m ≡ range_with_len a n ++ rest)
+range_parts a zero m low = (range_with_len a m, refl)
+range_parts a (suc n) zero low = absurd (omega arith)
+range_parts a (suc n) (suc m) low =
+    let h = range_parts (a + 1) n m (omega arith) in
+    (h.0, ap (λ (rest : List ℕ). a ∷ rest) h.1)

@@ -1,10 +1,9 @@
 -- The input as it is kept: its keys so far, and how many of them there were after each place.
 use Rattle.std.specs.Prelude.{ℕ, zero, suc, ◌<◌, ◌≤◌, nat_lt, List, length, slice_index, if◌then◌else◌}
-use Rattle.indexmap.specs.IndexSet.{insert_key}
+use Rattle.indexmap.specs.IndexSet.{insert_all}
 use Rattle.paxos_msg.specs.declared.value.Value.{Value}
-use Rattle.paxos_msg.specs.declared.value.Value.TheVariants as value
-use Rattle.paxos_msg.specs.Keys.{Key}
-use Rattle.paxos_learner.specs.declared.input.TypedKey.{TypedKey}
+use Rattle.paxos_msg.specs.Keys.{Key, keys_of}
+use Rattle.paxos_learner.specs.declared.keys.TypedKey.{TypedKey}
 use Rattle.paxos_learner.specs.Input.{same_key}
 
 -- the keys that the values of the places so far have, each once; how many there were after each of these places; and how many places
@@ -12,6 +11,11 @@ use Rattle.paxos_learner.specs.Input.{same_key}
 pub record Entered : Type 0 where
   pub keys : List Key
   pub ends : List ℕ
+  pub room : ℕ
+
+-- keys, each once, and how many keys more there is room for
+pub record Keys : Type 0 where
+  pub keys : List Key
   pub room : ℕ
 
 -- the key that is stored so
@@ -24,10 +28,9 @@ pub record IsCounted (keys : List Key) (ends : List ℕ) : Type 0 where
   pub within : (s : ℕ) → s < length ends → slice_index ends s ≤ length keys
   pub small : length ends ≤ 65536
 
--- the keys with those of one value more
+-- the keys with those of one value more, each that is new at the end
 abbrev pub entered : List Key → Value → List Key
-entered keys value.Noop = keys
-entered keys (value.Key node start serial byte) = insert_key same_key keys (record { node = node; start = start; serial = serial; byte = byte })
+entered keys v = insert_all same_key keys (keys_of v)
 
 -- how many keys the places below this one have
 abbrev pub count_below : Entered → ℕ → ℕ

@@ -1,10 +1,11 @@
 -- The input: the bytes of the keys of the learned values below the front, each key once.
-use Rattle.std.specs.Prelude.{ℕ, ◌==◌, ◌&&◌, not, Bool, List, [], ◌∷◌, map, filter, filter_map, flat_map}
+use Rattle.std.specs.Prelude.{◌≡◌, ℕ, ◌==◌, ◌&&◌, not, Bool, Contains, List, [], ◌∷◌, Some, map, filter, filter_map, flat_map}
 use Rattle.std.specs.List.{range_with_len}
 use Rattle.std.specs.Ordering.{nat_cmp}
 use Rattle.std.specs.FinMap.{FinMap, get}
 use Rattle.paxos_msg.specs.declared.value.Value.{Value}
 use Rattle.paxos_msg.specs.Keys.{Key, keys_of}
+use Rattle.paxos_learner.specs.Learner.{front_of}
 
 -- whether all four fields are the same
 abbrev pub same_key : Key → Key → Bool
@@ -26,3 +27,18 @@ input_of values = map (λ k. k.byte) (keys_in_order values)
 -- the values at the places below n, in order of place
 abbrev pub values_below : FinMap nat_cmp Value → ℕ → List Value
 values_below learned n = filter_map (get learned) (range_with_len 0 n)
+
+-- the key stands in the value that is learned at some place
+pub record StandsIn (learned : FinMap nat_cmp Value) (k : Key) : Type 0 where
+  pub place : ℕ
+  pub value : Value
+  pub is_learned : get learned place ≡ Some value
+  pub has : Contains (keys_of value) k
+
+-- the learned values at the places below the front
+abbrev pub front_values : FinMap nat_cmp Value → List Value
+front_values learned = values_below learned (front_of learned)
+
+-- the learned input
+abbrev pub learned_input : FinMap nat_cmp Value → List ℕ
+learned_input learned = input_of (front_values learned)

@@ -1,10 +1,12 @@
 -- What a learner keeps beside what it has learned.
-use Rattle.std.specs.Prelude.{◌≡◌, ℕ, ◌+◌, ◌<◌, ◌≤◌, IsTrue, length, take, slice_index, None, is_some}
+use Rattle.std.specs.Prelude.{◌≡◌, ℕ, ◌+◌, ◌<◌, ◌≤◌, IsTrue, List, length, take, slice_index, Contains, Some, None, is_some}
 use Rattle.std.specs.Ordering.{nat_cmp}
 use Rattle.std.specs.FinMap.{FinMap, get}
 use Rattle.paxos_msg.specs.declared.value.Value.{Value}
+use Rattle.paxos_msg.specs.Keys.{Key, keys_of}
 use Rattle.paxos_learner.specs.Entered.{Entered}
-use Rattle.paxos_learner.specs.Input.{keys_in_order, values_below}
+use Rattle.paxos_learner.specs.Growth.{AreInWindow}
+use Rattle.paxos_learner.specs.Input.{StandsIn, keys_in_order, values_below}
 
 -- The input has the keys of the places so far, all of which are learned, and there is room for each place that is learned.
 pub record IsInputOf (learned : FinMap nat_cmp Value) (e : Entered) : Type 0 where
@@ -15,8 +17,15 @@ pub record IsInputOf (learned : FinMap nat_cmp Value) (e : Entered) : Type 0 whe
   pub room : (s : ℕ) → IsTrue (is_some (get learned s)) → s < length e.ends + e.room
   pub small : (s : ℕ) → IsTrue (is_some (get learned s)) → s < 65536
 
--- the input goes up to the front, which isn't learned
-pub record IsKept (size : ℕ) (learned : FinMap nat_cmp Value) (e : Entered) : Type 0 where
+-- the keys that stand in learned values are these
+pub record AreKnown (learned : FinMap nat_cmp Value) (keys : List Key) : Type 0 where
+  pub stand : (k : Key) → Contains keys k → StandsIn learned k
+  pub all : (s : ℕ) (v : Value) → get learned s ≡ Some v → (k : Key) → Contains (keys_of v) k → Contains keys k
+
+-- The input goes up to the front, which isn't learned; the known keys are those of all learned values.
+pub record IsKept (size : ℕ) (learned : FinMap nat_cmp Value) (e : Entered) (known : List Key) : Type 0 where
   pub size_small : size ≤ 9
   pub input : IsInputOf learned e
   pub here : get learned (length e.ends) ≡ None
+  pub window : AreInWindow learned
+  pub keys : AreKnown learned known

@@ -1,7 +1,7 @@
 -- What a learner knows, and what it makes of what it hears.
 use Rattle.std.specs.Prelude.{◌≡◌, ℕ, ◌+◌, ◌==◌, ◌<◌, nat_lt, ◌&&◌, Bool, IsTrue, List, [], ◌∷◌, Option, Some, None, is_some, is_none, if◌then◌else◌}
 use Rattle.std.specs.Ordering.{nat_cmp}
-use Rattle.std.specs.FinMap.{FinMap, get, insert, remove, keys}
+use Rattle.std.specs.FinMap.{FinMap, empty, get, insert, remove, keys}
 use Rattle.paxos_msg.specs.declared.ballot.Ballot.{Ballot}
 use Rattle.paxos_msg.specs.declared.value.Value.{Value}
 use Rattle.paxos_msg.specs.Tests.{is_majority}
@@ -14,6 +14,10 @@ pub record Learner : Type 0 where
   pub size : ℕ
   pub learned : FinMap nat_cmp Value
   pub tallies : FinMap nat_cmp Tally
+
+-- a learner that has heard nothing
+abbrev pub new_learner : ℕ → Learner
+new_learner size = record { size = size; learned = empty; tallies = empty }
 
 -- the least place from s on that isn't among these, which ascend
 abbrev pub first_missing : ℕ → List ℕ → ℕ

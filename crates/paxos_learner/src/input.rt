@@ -1,43 +1,33 @@
 //! The input: the bytes of the keys of the places below the front, each key once.
-ghost use Rattle.std.specs.Prelude.{◌≡◌, ◌+◌, ◌<◌, ◌≤◌, [], ◌∷◌, ◌++◌, OnOk, length, drop, map};
-ghost use Rattle.paxos_learner.specs.Entered.{entered, count_below};
+ghost use Rattle.std.specs.Prelude.{◌≡◌, ◌↔◌, ◌+◌, ◌<◌, ◌≤◌, [], ◌∷◌, ◌++◌, IsTrue, OnOk, Contains, length, drop, map, option_map, slice_get};
+ghost use Rattle.paxos_learner.specs.Entered.{entered, count_below, key_of};
 
-use indexmap::IndexSet;
+use crate::keys::{KeySet, TypedKey};
 use paxos_msg::Value;
 use std::alloc::{AllocError, Global};
 use std::marker::Model;
 
-/// A typed character: the node, which of its starts, which key of that start, and the character.
-#[derive(Clone, Copy, PartialEq, Eq, Hash)]
-struct TypedKey {
-    node: u8,
-    start: u32,
-    serial: u32,
-    byte: u8,
-}
-
 /// The keys that the places so far have, each once, in order. Places come one after another, from 0 on.
 #[derive(Drop)]
 pub struct Input {
-    keys: IndexSet<TypedKey>,
+    keys: KeySet,
     // How many keys there were after each place.
     ends: Vec<u32>,
 }
 
 impl Model for Input {
-    ghost use Rattle.std.specs.Prelude.{◌-◌, map, min, vec_len, vec_capacity};
-    ghost use Rattle.indexmap.specs.IndexSet.{spare};
-    ghost use Rattle.paxos_learner.specs.Entered.{Entered, key_of, IsCounted};
+    ghost use Rattle.std.specs.Prelude.{◌-◌, min, vec_len, vec_capacity};
+    ghost use Rattle.paxos_learner.specs.Entered.{Entered, IsCounted};
 
     ghost Value = { Entered };
 
     ghost view = { λ i. record {
-      keys = map key_of i.keys.keys;
+      keys = i.keys.keys;
       ends = i.ends.items;
-      room = min (vec_capacity i.ends - vec_len i.ends) (spare i.keys);
+      room = min (vec_capacity i.ends - vec_len i.ends) i.keys.room;
     } };
 
-    ghost invariant = { λ i. IsCounted (map key_of i.keys.keys) i.ends.items };
+    ghost invariant = { λ i. IsCounted i.keys.keys i.ends.items };
 }
 
 impl Input {
@@ -47,7 +37,7 @@ impl Input {
         ensures ends { result.ends ≡ [] }
     {
         Input {
-            keys: IndexSet::new(alloc),
+            keys: KeySet::new(alloc),
             ends: Vec::new(alloc),
         }
     }
@@ -79,21 +69,7 @@ impl Input {
         ensures ends { self.new.ends ≡ self.old.ends ++ length self.new.keys ∷ [] }
         ensures room { self.old.room ≤ self.new.room + 1 }
     {
-        if let Value::Key {
-            node,
-            start,
-            serial,
-            byte,
-        } = value
-        {
-            let key = TypedKey {
-                node,
-                start,
-                serial,
-                byte,
-            };
-            self.keys.insert(key).unwrap();
-        }
+        self.keys.insert(value);
         let count = self.keys.len() as u32;
         self.ends.push(count).unwrap();
     }
@@ -116,10 +92,30 @@ impl Input {
     pub fn after(&self, place: u32) -> InputAfter<'_>
         ensures { result ≡ map (λ k. k.byte) (drop (count_below self.now place) self.now.keys) }
     {
-        let keys = self.keys.as_slice();
         InputAfter {
-            keys: &keys[self.count_below(place)..],
+            keys: self.keys.from_index(self.count_below(place)),
         }
+    }
+
+    /// How many bytes the input has.
+    pub fn len(&self) -> usize
+        ensures { result ≡ length self.now.keys }
+    {
+        self.keys.len()
+    }
+
+    /// The byte of the input at the index.
+    pub fn byte_at(&self, index: usize) -> Option<u8>
+        ensures { result ≡ option_map (λ k. k.byte) (slice_get self.now.keys index) }
+    {
+        self.keys.byte_at(index)
+    }
+
+    /// Whether the key is one of the input's.
+    pub fn contains(&self, key: TypedKey) -> bool
+        ensures { IsTrue result ↔ Contains self.now.keys (key_of key) }
+    {
+        self.keys.contains(key)
     }
 }
 

@@ -1,12 +1,15 @@
 //! A learner.
-ghost use Rattle.std.specs.Prelude.{◌≡◌, ◌<◌, ◌≤◌, ◌++◌, IsTrue, IfOk, None, OnOk, OnErr, length, min};
-ghost use Rattle.std.specs.FinMap.{empty, get};
-ghost use Rattle.paxos_learner.specs.Input.{input_of, values_below};
+ghost use Rattle.std.specs.Prelude.{◌≡◌, ◌↔◌, ◌+◌, ◌<◌, ◌≤◌, ◌++◌, IsSome, IsTrue, IfOk, None, OnOk, OnErr, Contains, length, min, slice_get};
+ghost use Rattle.std.specs.FinMap.{get};
+ghost use Rattle.paxos_learner.specs.Entered.{key_of};
+ghost use Rattle.paxos_learner.specs.Growth.{AreInWindow};
+ghost use Rattle.paxos_learner.specs.Input.{StandsIn, front_values, input_of, keys_in_order, learned_input, values_below};
 ghost use Rattle.paxos_learner.specs.Kept.{IsInputOf};
-ghost use Rattle.paxos_learner.specs.Learner.{IsFront, front_of, is_open, learn, on_accepted, on_tell};
+ghost use Rattle.paxos_learner.specs.Learner.{IsFront, front_of, is_open, learn, new_learner, on_accepted, on_tell};
 
 use crate::heard::{Heard, LearnerFault};
 use crate::input::{Input, InputAfter};
+use crate::keys::{KeySet, TypedKey};
 use crate::place_map::PlaceMap;
 use crate::tally::{Tally, tallied};
 use paxos_msg::{Ballot, Value};
@@ -25,6 +28,8 @@ pub struct Learner {
     tallies: PlaceMap<Tally>,
     // The input of the places below the front.
     input: Input,
+    // The keys of the values that are learned, above a hole too.
+    known: KeySet,
 }
 
 impl Model for Learner {
@@ -39,7 +44,7 @@ impl Model for Learner {
 
     ghost view = { λ l. record { size = l.size; learned = l.learned.map; tallies = l.tallies.map } };
 
-    ghost invariant = { λ l. IsKept l.size l.learned.map l.input };
+    ghost invariant = { λ l. IsKept l.size l.learned.map l.input l.known.keys };
 }
 
 /// Enters the values at the places from the end of the input on, up to one that is not learned.
@@ -57,13 +62,14 @@ impl Learner {
     /// A learner that has heard nothing. It takes no memory. A group has at most 9 nodes.
     pub fn new(alloc: Global, size: u8) -> Learner
         requires { size ≤ 9 }
-        ensures { result ≡ record { size = size; learned = empty; tallies = empty } }
+        ensures { result ≡ new_learner size }
     {
         Learner {
             size,
             learned: PlaceMap::new(alloc),
             tallies: PlaceMap::new(alloc),
             input: Input::new(alloc),
+            known: KeySet::new(alloc),
         }
     }
 
@@ -84,8 +90,10 @@ impl Learner {
     {
         let places = place + 1 - self.input.places();
         self.learned.make_room()?;
+        self.known.reserve(1)?;
         self.input.reserve(places as usize)?;
         self.learned.insert(place, value);
+        self.known.insert(value);
         self.tallies.remove(place);
         raise_front(&self.learned, &mut self.input);
         Ok(())
@@ -145,7 +153,9 @@ impl Learner {
 
     /// The value that is learned at the place, which may be any number.
     pub fn learned(&self, place: u32) -> Option<Value>
-        ensures { result ≡ get self.now.learned place }
+        ensures value { result ≡ get self.now.learned place }
+        ensures place { IsSome result → place ≤ 65535 }
+        ensures window { IsSome result → place < front_of self.now.learned + 1024 }
     {
         self.learned.get(place)
     }
@@ -155,6 +165,7 @@ impl Learner {
         ensures front { result ≡ front_of self.now.learned }
         ensures least { IsFront self.now.learned result }
         ensures few { result ≤ 65536 }
+        ensures window { AreInWindow self.now.learned }
     {
         self.input.places()
     }
@@ -162,8 +173,36 @@ impl Learner {
     /// The input bytes that the places from this one up to the front add, none from the front on. A key
     /// that stands at several places is read at the first. The place may be any number.
     pub fn input_after(&self, place: u32) -> InputAfter<'_>
-        ensures { input_of (values_below self.now.learned (min place (front_of self.now.learned))) ++ result ≡ input_of (values_below self.now.learned (front_of self.now.learned)) }
+        ensures { input_of (values_below self.now.learned (min place (front_of self.now.learned))) ++ result ≡ learned_input self.now.learned }
     {
         self.input.after(place)
+    }
+
+    /// How many bytes the learned input has.
+    pub fn input_len(&self) -> usize
+        ensures { result ≡ length (learned_input self.now.learned) }
+    {
+        self.input.len()
+    }
+
+    /// The byte of the learned input at the index, counted from 0.
+    pub fn input_at(&self, index: usize) -> Option<u8>
+        ensures { result ≡ slice_get (learned_input self.now.learned) index }
+    {
+        self.input.byte_at(index)
+    }
+
+    /// Whether the key is read in the learned input: it stands at a place below the front.
+    pub fn has_read(&self, key: TypedKey) -> bool
+        ensures { IsTrue result ↔ Contains (keys_in_order (front_values self.now.learned)) (key_of key) }
+    {
+        self.input.contains(key)
+    }
+
+    /// Whether the key stands in a learned value at any place, one above the front among them.
+    pub fn has_learned(&self, key: TypedKey) -> bool
+        ensures { IsTrue result ↔ StandsIn self.now.learned (key_of key) }
+    {
+        self.known.contains(key)
     }
 }

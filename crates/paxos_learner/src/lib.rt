@@ -4,12 +4,15 @@
 
 mod heard;
 mod input;
+mod keys;
+pub mod laws;
 mod learner;
 mod place_map;
 mod tally;
 
 pub use heard::{Heard, LearnerFault};
 pub use input::InputAfter;
+pub use keys::TypedKey;
 pub use learner::Learner;
 
 #[cfg(test)]

@@ -1,7 +1,7 @@
 //! What was heard of a place that is not learned.
 ghost use Rattle.std.specs.Prelude.{◌≡◌, ◌≤◌};
 ghost use Rattle.paxos_msg.specs.Ballots.{count_of};
-ghost use Rattle.paxos_msg.specs.Tests.{ballot_lt, is_majority};
+ghost use Rattle.paxos_msg.specs.Tests.{is_majority};
 ghost use Rattle.paxos_learner.specs.Tallies.{begun, joined, tallied, has_node};
 
 use paxos_msg::{Ballot, Value};
@@ -93,13 +93,6 @@ impl Tally {
     }
 }
 
-/// Whether a ballot is below another.
-fn is_below(ballot: Ballot, other: Ballot) -> bool
-    ensures { result ≡ ballot_lt ballot other }
-{
-    ballot.round < other.round || (ballot.round == other.round && ballot.node < other.node)
-}
-
 /// The tally at a place, where it changes, after the node was heard to accept the value under the ballot.
 /// A node is 0 to 9.
 pub fn tallied(old: Option<Tally>, node: u8, ballot: Ballot, value: Value) -> Option<Tally>
@@ -107,7 +100,7 @@ pub fn tallied(old: Option<Tally>, node: u8, ballot: Ballot, value: Value) -> Op
     ensures { result ≡ tallied old node ballot value }
 {
     match old {
-        Some(tally) if !is_below(tally.ballot, ballot) => {
+        Some(tally) if ballot <= tally.ballot => {
             if tally.ballot == ballot && tally.value == value {
                 tally.joined(node)
             } else {

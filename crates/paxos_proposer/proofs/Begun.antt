@@ -10,7 +10,7 @@ use Rattle.paxos_proposer.specs.Proposer.{begun, covers}
 use Rattle.paxos_proposer.specs.Backed.{IsBacked}
 
 -- the same number everywhere is at most that number, and 0 behind the end
-replicated : (n i from : ℕ) → slice_index (replicate n from) i ≤ from
+pub replicated : (n i from : ℕ) → slice_index (replicate n from) i ≤ from
 replicated n i from =
     elim (cases_lt i n) [
       | inl lt ↦ omega (arith, get_or-replicate n i from 0 lt)
@@ -24,7 +24,7 @@ none_covers n i from s le member =
     omega (arith, replicated n i from)
 
 -- and nothing is proposed
-none_proposed : (t : Bool) (i : ℕ) (v : Value) → (if t then None else slice_get {X = Value} [] i) ≡ Some v → ⊥
+pub none_proposed : (t : Bool) (i : ℕ) (v : Value) → (if t then None else slice_get {X = Value} [] i) ≡ Some v → ⊥
 none_proposed true i v e = cc
 none_proposed false i v e = cc
 

@@ -1,6 +1,7 @@
 -- Counting the nodes of which something holds, and those that have promised above a place.
-use Rattle.std.proofs.Common.{◌≡◌, ℕ, zero, suc, ◌+◌, ◌≤◌, Bool, true, false, List, if◌then◌else◌, add-one, refl, inl, inr, arith}
-use Rattle.std.proofs.lemmas.Bool.{cases_lt}
+use Rattle.std.proofs.Common.{◌≡◌, ℕ, zero, suc, ◌+◌, ◌<◌, ◌≤◌, Bool, true, false, List, length, slice_set, if◌then◌else◌, add-one, refl, inl, inr, arith}
+use Rattle.std.proofs.lemmas.Bool.{cases_eq, cases_lt}
+use Rattle.std.proofs.lemmas.List.{get_or-set_other, get_or-set_same}
 use Rattle.std.proofs.lemmas.Bool.Decides.{nat_tests}
 use Rattle.paxos_msg.specs.Ballots.{count_of}
 use Rattle.paxos_msg.specs.Tests.{is_majority}
@@ -27,3 +28,12 @@ covered_below size s coverages h covered =
       | inl below ↦ omega arith
       | inr high ↦ let none = none_counted coverages s size high h in absurd (grind (arith, nat_tests))
     ]
+
+-- a part that reaches no further than the last place leaves all within it
+pub set_reach : (coverages : List ℕ) (j upto : ℕ) → j < length coverages → upto ≤ 65536 → AreInRange coverages → AreInRange (slice_set coverages j upto)
+set_reach coverages j upto node low h = record {
+  upto = λ i. elim (cases_eq i j) [
+    | inl same ↦ rw (same, get_or-set_same coverages j upto 0 node) low
+    | inr ne ↦ rw (get_or-set_other coverages j i upto 0 ne) (h.upto i)
+  ];
+}

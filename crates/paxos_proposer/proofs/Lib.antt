@@ -1,7 +1,10 @@
 pub mod Counting
 pub mod LastVote
+pub mod Passing
 pub mod Reported
 pub mod Growing
 pub mod Parts
 pub mod Begun
 pub mod Proposals
+pub mod InRange
+pub mod Staying

@@ -16,6 +16,7 @@ use Rattle.paxos_msg.specs.Sending.{IsFree, IsSafe, IsUnproposed, MaySend}
 use Rattle.paxos_proposer.specs.Proposer.{Proposer, covers, is_covered, is_kept_from, value_or, next_of, next_value, proposed_at, proposing}
 use Rattle.paxos_proposer.specs.Backed.{IsBacked}
 use Rattle.paxos_proposer.proofs.Growing.{stays_with, heard_stays}
+use Rattle.paxos_proposer.proofs.Passing.{left_at}
 
 -- ---- the values that are proposed, after one more
 
@@ -34,10 +35,10 @@ pushed_there (x ∷ xs) v zero ne = refl
 pushed_there (x ∷ xs) v (suc i) ne = pushed_there xs v i (λ e. ne (omega arith))
 
 module _ (p : Proposer) (v : Value) where
-  proposed_here : (s : ℕ) → s ≡ next_of p → proposed_at (proposing p (Some v)) s ≡ Some v
+  pub proposed_here : (s : ℕ) → s ≡ next_of p → proposed_at (proposing p (Some v)) s ≡ Some v
   proposed_here s e = rw (le-ltb s p.first (omega arith)) (pushed_here p.values v (s - p.first) (omega arith))
 
-  proposed_there : (s : ℕ) → s ≢ next_of p → proposed_at (proposing p (Some v)) s ≡ proposed_at p s
+  pub proposed_there : (s : ℕ) → s ≢ next_of p → proposed_at (proposing p (Some v)) s ≡ proposed_at p s
   proposed_there s ne =
       elim (cases_lt s p.first) [
         | inl low ↦ rw (lt-ltb s p.first low) refl
@@ -45,12 +46,12 @@ module _ (p : Proposer) (v : Value) where
       ]
 
 -- nothing is proposed at the next place yet
-none_next : (p : Proposer) → proposed_at p (next_of p) ≡ None
+pub none_next : (p : Proposer) → proposed_at p (next_of p) ≡ None
 none_next p = rw (le-ltb (next_of p) p.first (omega arith)) (slice_get_past p.values (next_of p - p.first) (omega arith))
 
 -- ---- the value at the next place
 
-if_some : {X : Type 0} (t : Bool) (x : Option X) (v : X) → (if t then x else None) ≡ Some v → (t ≡ true) × (x ≡ Some v)
+pub if_some : {X : Type 0} (t : Bool) (x : Option X) (v : X) → (if t then x else None) ≡ Some v → (t ≡ true) × (x ≡ Some v)
 if_some true x v e = (refl, e)
 if_some false x v e = cc
 
@@ -127,7 +128,8 @@ module _ (sent : Sent) (me : ℕ) (p : Proposer) (h : IsBacked sent me p) (v : V
     nodes = h.nodes;
     heard = λ s above.
         let grown = length_push p.values v in
-        heard_stays sent (sent ++ said ∷ []) (stays_with sent said) p.ballot s (covers p.coverages s) (vote_at p.kept s) (h.heard s (omega arith));
+        rw (left_at (next_of p + 1) s p.kept (omega arith))
+        (heard_stays sent (sent ++ said ∷ []) (stays_with sent said) p.ballot s (covers p.coverages s) (vote_at p.kept s) (h.heard s (omega arith)));
     sent_all = sent_all;
     only = only;
   }

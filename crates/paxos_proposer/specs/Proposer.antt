@@ -1,5 +1,5 @@
 -- One ballot: what was promised for it, and what is proposed under it.
-use Rattle.std.specs.Prelude.{◌≡◌, ℕ, ◌+◌, ◌-◌, max, nat_le, nat_lt, ◌&&◌, Bool, List, [], ◌∷◌, ◌++◌, length, replicate, slice_get, slice_index, slice_set, Option, Some, None, if◌then◌else◌}
+use Rattle.std.specs.Prelude.{◌≡◌, ℕ, ◌+◌, ◌-◌, max, nat_le, nat_lt, ◌&&◌, Bool, List, [], ◌∷◌, ◌++◌, filter, length, replicate, slice_get, slice_index, slice_set, Option, Some, None, if◌then◌else◌}
 use Rattle.std.specs.List.{list_any}
 use Rattle.paxos_msg.specs.declared.ballot.Ballot.{Ballot}
 use Rattle.paxos_msg.specs.declared.value.Value.{Value}
@@ -12,8 +12,8 @@ use Rattle.paxos_msg.specs.Records.{with_vote}
 use Rattle.paxos_msg.specs.Tests.{ballot_lt, is_majority}
 
 -- Of a proposer in a group of that size: below which place each acceptor's promises reach, by the acceptor's number, which
--- is 1 to 9; of the votes that they reported, the one to keep for each place, in ascending order of place; and the values that are
--- proposed, at the first place and on, one after another.
+-- is 1 to 9; of the votes that they reported, the one to keep for each place from the next one on, in ascending order of place; and
+-- the values that are proposed, at the first place and on, one after another.
 pub record Proposer : Type 0 where
   pub ballot : Ballot
   pub size : ℕ
@@ -130,10 +130,14 @@ next_value p offered =
     then value_or (vote_at p.kept (next_of p)) (if is_kept_from p.kept (next_of p + 1) then Some Noop else offered)
     else None
 
--- the proposer after it has proposed the value, if there is one
+-- the votes at place s and above it
+abbrev pub votes_from : ℕ → List Vote → List Vote
+votes_from s votes = filter (λ vote. nat_le s vote.place) votes
+
+-- the proposer after it has proposed the value, if there is one; a vote that was kept at the place counts no more
 abbrev pub proposing : Proposer → Option Value → Proposer
 proposing p None = p
-proposing p (Some v) = record p { values = p.values ++ v ∷ [] }
+proposing p (Some v) = record p { values = p.values ++ v ∷ []; kept = votes_from (next_of p + 1) p.kept }
 
 -- its proposal of a value, as a vote under its ballot
 abbrev pub proposal : Proposer → Value → Vote

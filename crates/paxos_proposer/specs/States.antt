@@ -1,7 +1,8 @@
 -- What contracts see of a proposer, and what always holds of it.
-use Rattle.std.specs.Prelude.{◌≡◌, ℕ, ◌+◌, ◌≤◌, List, length, slice_index}
+use Rattle.std.specs.Prelude.{◌≡◌, ℕ, ◌+◌, ◌≤◌, All, List, drop, length, slice_index}
+use Rattle.paxos_msg.specs.declared.value.Vote.{Vote}
 use Rattle.paxos_msg.specs.Messages.{IsAscending}
-use Rattle.paxos_proposer.specs.Proposer.{Proposer}
+use Rattle.paxos_proposer.specs.Proposer.{Proposer, next_of}
 
 -- what it knows, and how many more proposals are sure to find room
 pub record State : Type 0 where
@@ -12,10 +13,16 @@ pub record State : Type 0 where
 pub record AreInRange (coverages : List ℕ) : Type 0 where
   pub upto : (i : ℕ) → slice_index coverages i ≤ 65536
 
--- what always holds of a proposer: a group has at most nine nodes, the kept votes ascend, and at most all places have a proposal
+-- the votes that were passed are the first ones, and the others ascend
+pub record AreLeft (votes : List Vote) (passed : ℕ) : Type 0 where
+  pub within : passed ≤ length votes
+  pub ascending : IsAscending (drop passed votes)
+
+-- what always holds of a proposer: a group has at most nine nodes, votes are kept from the next place on, and at most all places have
+-- a proposal
 pub record IsWhole (p : Proposer) : Type 0 where
   pub few : p.size ≤ 9
   pub nodes : length p.coverages ≡ 10
   pub reach : AreInRange p.coverages
-  pub ascending : IsAscending p.kept
+  pub ahead : All (λ vote. next_of p ≤ vote.place) p.kept
   pub places : p.first + length p.values ≤ 65536

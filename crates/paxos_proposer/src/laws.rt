@@ -1,16 +1,18 @@
 //! The laws of a proposer, over the definitions alone: what it has heard lets it send what it proposes.
 ghost use Rattle.std.specs.Prelude.{◌≡◌, ◌≤◌, ◌++◌, [], ◌∷◌, ℕ, List, Option, Some, IfSome};
 ghost use Rattle.paxos_msg.specs.declared.ballot.Ballot.{Ballot};
+ghost use Rattle.paxos_msg.specs.declared.message.Body.{Body};
 ghost use Rattle.paxos_msg.specs.declared.message.Body.TheVariants.{Accept, Promise};
 ghost use Rattle.paxos_msg.specs.declared.record.Record.{Record};
 ghost use Rattle.paxos_msg.specs.declared.value.Value.{Value};
 ghost use Rattle.paxos_msg.specs.declared.value.Vote.{Vote};
-ghost use Rattle.paxos_msg.specs.Fits.{IsBody};
+ghost use Rattle.paxos_msg.specs.Fits.{IsBallot, IsBody, IsValue};
 ghost use Rattle.paxos_msg.specs.Keys.{Key};
 ghost use Rattle.paxos_msg.specs.Messages.{IsSaid, IsSent, Sent};
 ghost use Rattle.paxos_msg.specs.Sending.{IsFree, MaySend};
 ghost use Rattle.paxos_proposer.specs.Backed.{IsBacked, IsQuiet};
-ghost use Rattle.paxos_proposer.specs.Proposer.{Proposer, after_part, begun, next_of, next_value, proposed_at, proposing};
+ghost use Rattle.paxos_proposer.specs.Ranges.{IsInRange};
+ghost use Rattle.paxos_proposer.specs.Proposer.{Proposer, after_part, begun, next_of, next_value, on_promise, proposed_at, proposing};
 
 use paxos_msg::laws::votes_are_by_place;
 
@@ -47,4 +49,31 @@ pub fn proposals_may_be_sent()
 /// It stays backed as more is sent, if nothing new is proposed under its ballot.
 pub fn stays_backed()
     ensures { (sent next : Sent) (me : ℕ) (p : Proposer) → IsQuiet p.ballot sent next → IsBacked sent me p → IsBacked next me p }
+{}
+
+/// What goes out fits. A proposer that has heard nothing is in its ranges; it is so after a part of a promise, and
+/// after a proposal of its own, if what is offered is. Then each Accept that it gives, or gives again, has a spelling
+/// as a message of the ballot's node.
+pub fn what_goes_out_fits()
+    ensures begins { (b : Ballot) (from size : ℕ) → IsBallot size b → from ≤ 65536 → IsInRange (begun b from size) }
+    ensures parts { (j first upto : ℕ) (p : Proposer) (votes : List Vote) →
+        IsInRange p → IsBody p.size j (Promise p.ballot first upto votes) → IsInRange (after_part p j first upto votes) }
+    ensures proposes { (p : Proposer) (offered : Option Value) →
+        IsInRange p → IfSome offered (IsValue p.size) → IsInRange (proposing p (next_value p offered)) }
+    ensures sends { (p : Proposer) (offered : Option Value) (v : Value) →
+        IsInRange p → IfSome offered (IsValue p.size) → next_value p offered ≡ Some v →
+        IsBody p.size p.ballot.node (Accept p.ballot (next_of p) v) }
+    ensures again { (p : Proposer) (s : ℕ) (v : Value) → IsInRange p → proposed_at p s ≡ Some v →
+        IsBody p.size p.ballot.node (Accept p.ballot s v) }
+{}
+
+/// Its ballot and the group's size stay, whatever it hears and proposes; and so does what it has proposed.
+pub fn ballot_stays()
+    ensures parts { (p : Proposer) (j : ℕ) (body : Body) →
+        ((on_promise p j body).ballot ≡ p.ballot) × ((on_promise p j body).size ≡ p.size) }
+    ensures proposes { (p : Proposer) (o : Option Value) →
+        ((proposing p o).ballot ≡ p.ballot) × ((proposing p o).size ≡ p.size) }
+    ensures proposed { (p : Proposer) (j s : ℕ) (body : Body) → proposed_at (on_promise p j body) s ≡ proposed_at p s }
+    ensures longer { (p : Proposer) (o : Option Value) (s : ℕ) (v : Value) →
+        proposed_at p s ≡ Some v → proposed_at (proposing p o) s ≡ Some v }
 {}

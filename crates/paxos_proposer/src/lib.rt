@@ -4,6 +4,7 @@
 mod covering;
 mod fault;
 mod hearing;
+mod kept;
 pub mod laws;
 mod proposer;
 mod rounds;

@@ -1,20 +1,17 @@
 //! A proposer under one ballot.
-ghost use Rattle.std.specs.Prelude.{◌≡◌, ◌↔◌, ◌+◌, ◌<◌, ◌≤◌, Err, IsTrue, IsSome, IfOk, OnOk, OnErr, IsErrOf, option_map};
+ghost use Rattle.std.specs.Prelude.{◌≡◌, ◌↔◌, ◌+◌, ◌<◌, ◌≤◌, Err, IsTrue, IsSome, IfOk, IfSome, OnOk, OnErr, IsErrOf, option_map};
 ghost use Rattle.paxos_msg.specs.Fits.{IsBody};
 ghost use Rattle.paxos_proposer.specs.Proposer.{IsPart, asks_after, begun, coverage_of, is_covered, is_kept_from, next_of, next_value, on_promise, proposal, proposed_at, proposing};
 
 use crate::covering::count_covering;
 use crate::fault::ProposerFault;
-use crate::hearing::hear_votes;
-use paxos_msg::{Ballot, BodyView, Value, View, Vote, find_vote};
+use crate::kept::KeptVotes;
+use paxos_msg::{Ballot, BodyView, Value, View, Vote};
 use std::alloc::Global;
 use std::marker::Model;
 
 /// How many places there are: they are 0 to 65,535.
 const PLACES: u32 = 65_536;
-
-/// How many votes a part of a promise reports at most.
-const PART_VOTES: usize = 64;
 
 /// How many proposals `reserve` makes room for.
 const RESERVED_PROPOSALS: usize = 17;
@@ -28,8 +25,8 @@ pub struct Proposer {
     size: u8,
     /// Below which place the promises reach, by the acceptor's number, which is 1 to 9.
     coverages: [u32; 10],
-    /// The vote to keep for each place, of those that were reported, in ascending order of place.
-    kept: Vec<Vote>,
+    /// The vote to keep for each place from the next one on, of those that were reported.
+    kept: KeptVotes,
     first: u32,
     /// What is proposed, at the first place and on, one after another.
     values: Vec<Value>,
@@ -59,7 +56,7 @@ impl Proposer {
             ballot,
             size,
             coverages: [from; 10],
-            kept: Vec::new(alloc),
+            kept: KeptVotes::new(alloc),
             first: from,
             values: Vec::new(alloc),
         }
@@ -97,14 +94,10 @@ impl Proposer {
     }
 
     /// Whether a vote is kept at the place or above it.
-    #[tactic(auto, using(crate::proofs::LastVote::any_from))]
     pub fn is_kept_from(&self, place: u32) -> bool
         ensures { result ≡ is_kept_from self.now.rules.kept place }
     {
-        match self.kept.last() {
-            Some(vote) => place <= vote.place,
-            None => false,
-        }
+        self.kept.is_from(place)
     }
 
     /// What is proposed at the place, which may be any number.
@@ -126,6 +119,7 @@ impl Proposer {
         requires ranges { IsBody self.old.rules.size sender view.now.body }
         ensures ok { OnOk result (self.new.rules ≡ on_promise self.old.rules sender view.now.body) }
         ensures answer { IfOk result (λ from. from ≡ asks_after self.old.rules sender view.now.body) }
+        ensures place { IfOk result (λ from. IfSome from (λ place. place ≤ 65535)) }
         ensures err { OnErr result (self.new.rules ≡ self.old.rules) }
         ensures memory { OnErr result (result ≡ Err ProposerFault.Memory) }
         ensures room { self.old.room ≤ self.new.room }
@@ -145,8 +139,7 @@ impl Proposer {
             return Ok(None);
         }
         let low = reached.max(self.next_place());
-        self.kept.reserve(PART_VOTES)?;
-        hear_votes(low, votes.iter(), &mut self.kept);
+        self.kept.hear(low, votes.iter())?;
         self.coverages[node] = *upto;
         if *upto < PLACES {
             Ok(Some(*upto))
@@ -165,7 +158,7 @@ impl Proposer {
         if !self.is_covered(place) {
             return None;
         }
-        if let Some(vote) = find_vote(&self.kept, place) {
+        if let Some(vote) = self.kept.at(place) {
             return Some(vote.value);
         }
         if self.is_kept_from(place + 1) {
@@ -176,11 +169,12 @@ impl Proposer {
 
     /// Proposes at the next place, if it may: once a majority's promises reach above it, the value of the
     /// vote that is kept there, a no-op where one is kept above, and else what is offered. The answer is
-    /// the proposal. `PlacesSpent` where a value is offered and the next place is 65,536; it comes before
+    /// the proposal, and the vote that was kept there is dropped. `PlacesSpent` where a value is offered and the next place is 65,536; it comes before
     /// `Memory`. After an error nothing has changed.
     pub fn next_accept(&mut self, offered: Option<Value>) -> Result<Option<Vote>, ProposerFault>
         ensures ok { OnOk result (self.new.rules ≡ proposing self.old.rules (next_value self.old.rules offered)) }
         ensures answer { IfOk result (λ vote. vote ≡ option_map (proposal self.old.rules) (next_value self.old.rules offered)) }
+        ensures place { IfOk result (λ vote. IfSome vote (λ v. v.place ≤ 65535)) }
         ensures spent { IsErrOf result ProposerFault.PlacesSpent ↔ (IsSome offered × (next_of self.old.rules ≡ 65536)) }
         ensures err { OnErr result (self.new.rules ≡ self.old.rules) }
         ensures others { ¬ IsErrOf result ProposerFault.RoundsSpent }
@@ -195,6 +189,7 @@ impl Proposer {
             return Ok(None);
         };
         self.values.push(value)?;
+        self.kept.pass(place);
         Ok(Some(Vote {
             place,
             ballot: self.ballot,

@@ -1,0 +1,13 @@
+-- When all that a proposer sends is in its ranges.
+use Rattle.std.specs.Prelude.{◌≡◌, ℕ, All, Some}
+use Rattle.paxos_msg.specs.declared.value.Value.{Value}
+use Rattle.paxos_msg.specs.Fits.{IsBallot, IsPlace, IsValue}
+use Rattle.paxos_proposer.specs.Proposer.{Proposer, proposed_at}
+use Rattle.paxos_proposer.specs.States.{AreInRange}
+
+-- its ballot, its coverages, the values of the votes that it keeps, and what it has proposed are in their ranges
+pub record IsInRange (p : Proposer) : Type 0 where
+  pub ballot : IsBallot p.size p.ballot
+  pub reach : AreInRange p.coverages
+  pub kept : All (λ vote. IsValue p.size vote.value) p.kept
+  pub proposed : (s : ℕ) (v : Value) → proposed_at p s ≡ Some v → IsPlace s × IsValue p.size v
