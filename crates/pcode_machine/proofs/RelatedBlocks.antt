@@ -11,7 +11,7 @@ use Rattle.pcode_machine.specs.Bytes.{byte_address, byte_pushed, byte_loaded, by
 use Rattle.pcode_machine.specs.Effects.{MoveBlock, LoadBlock, StoreBlock, LoadByte, StoreByte}
 use Rattle.pcode_machine.specs.Step.{FailsBy}
 use Rattle.pcode_machine.proofs.Agreeing.{Meets, none_is}
-use Rattle.pcode_machine.proofs.Lists.{get_none}
+use Rattle.base.proofs.Lists.{get_none}
 
 -- ---- words are copied
 
