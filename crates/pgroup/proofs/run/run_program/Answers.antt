@@ -1,12 +1,9 @@
-use Rattle.std.proofs.Common.{◌≡◌, ◌+◌, ◌<◌, ◌∙◌, arith, add-one, subst}
+use Rattle.std.proofs.Common.{◌≡◌, ◌+◌, ◌<◌, ◌∙◌, arith, add-one, refl, subst}
 use Rattle.std.proofs.lemmas.Result.{err_from_is_err_and}
 use Rattle.pcode_file.specs.Parts.{Parts}
 use Rattle.pcode_machine.specs.Turns.{AreQuiet}
-use Rattle.pgroup.proofs.Running.{Laws, Reached-start, no_run, spent, reached_quiet, next_turn, last_turn, failed_turn}
+use Rattle.pgroup.proofs.Running.{Laws, Reached-start, spent, reached_quiet, next_turn, last_turn, failed_turn}
 use Rattle.pgroup.proofs.run.run_program.Goals as goal
-
-pub returns-in_default : goal.returns-in_default
-returns-in_default g c = no_run _ _ c.args.steps (record { longer = c.same_run_on_longer_input.ensures; there = c.run_is_after.ensures })
 
 pub loop-done-init : goal.loop-done-init
 loop-done-init g c = record { program = c.in-Ok.ensures.program; run = rw c.in-Ok.ensures.start (Reached-start _ _); few = omega arith }
@@ -49,5 +46,7 @@ returns-in_err-finish g c =
     let laws : Laws = record { longer = c.same_run_on_longer_input.ensures; there = c.run_is_after.ensures } in
     let P : Parts → Type 0 = λ p. AreQuiet p c.advance-done.result c.loop-done.machine.state c.advance-done.new.self.state in
     let before = reached_quiet c.advance-done.result c.loop-done.invariant.run (subst P c.loop-done.invariant.program c.advance-done.ensures.quiet) in
+    let same = c.advance-done.ensures.program ∙ c.loop-done.invariant.program in
     let p = err_from_is_err_and c.from_residual.result c.from_residual.ensures.1 in
-    rw p.1 (failed_turn c.advance-done.new.self.program c.turn.new.machine.state c.args.steps c.in_err-finish.field-0.0 p.0 laws before c.in_err-finish.ensures.turn p.2)
+    let less : c.loop-done.done + c.advance-done.result < c.args.steps = omega arith in
+    rw p.1 (failed_turn _ c.turn.new.machine.state c.args.steps c.in_err-finish.field-0.0 p.0 laws same before c.in_err-finish.ensures.turn less p.2)
