@@ -19,4 +19,5 @@ pub mod Prefixes
 pub mod Runs
 pub mod Turns
 pub mod InCode
+pub mod Loaded
 pub mod Ready
