@@ -77,7 +77,7 @@ reached_one {p} {from} {to} {n} {s} {t} r q = record {
   faultless = r.faultless;
 }
 
-pub reached_quiet : {p : Parts} {from to : Streams} {n : ℕ} {s t : State} (k : ℕ) → Reached p from to n s → AreQuiet p k s t → Reached p from to (n + k) t
+reached_quiet : {p : Parts} {from to : Streams} {n : ℕ} {s t : State} (k : ℕ) → Reached p from to n s → AreQuiet p k s t → Reached p from to (n + k) t
 unfolding AreQuiet
 reached_quiet {p} {from} {to} {n} {s} {t} zero r h =
     let none : n ≡ n + 0 = omega arith in
@@ -88,6 +88,12 @@ reached_quiet {p} {from} {to} {n} {s} {t} (suc k) r h =
     let one : suc (n + k) ≡ n + suc k = omega arith in
     let P : ℕ → Type 0 = λ m. Reached p from to m t in
     subst P one (reached_one (reached_quiet k r h.1) h.2)
+
+-- the same by what a machine over the program says
+pub reached_on : {p q : Parts} {from to : Streams} {n : ℕ} {s t : State} (k : ℕ) → q ≡ p → Reached p from to n s → AreQuiet q k s t → Reached p from to (n + k) t
+reached_on {p} {q} {from} {to} {n} {s} {t} k e r h =
+    let P : Parts → Type 0 = λ o. AreQuiet o k s t in
+    reached_quiet k r (subst P e h)
 
 -- ---- what was reached, as the run tells it
 
