@@ -1,5 +1,5 @@
 -- What it says that an answer agrees with the relations of its effect.
-use Rattle.std.proofs.Common.{◌≡◌, ℕ, Option, Some, None, IsSome, IsNone, MatchOption, Result, Ok, Err, MatchResult, refl}
+use Rattle.std.proofs.Common.{◌≡◌, ℕ, ◌<◌, List, [], ◌∷◌, length, Option, Some, None, IsSome, IsNone, MatchOption, Result, Ok, Err, MatchResult, refl, arith}
 use Rattle.pcode_machine.specs.declared.turn.Stop.{Stop}
 use Rattle.pcode_machine.specs.declared.turn.Stop.TheVariants.{Normal, Error}
 use Rattle.pcode_machine.specs.Configuration.{State}
@@ -35,3 +35,17 @@ not_none (Some w) e h = absurd cc
 pub none_is : {A : Type 0} (o : Option A) → IsNone o → o ≡ None
 none_is None h = refl
 none_is (Some v) h = absurd cc
+
+-- ---- what a list that is too short comes to
+
+pub below_one : {R : Type 0} (f : List ℕ → R) (r : R) → f [] ≡ r → (st : List ℕ) → length st < 1 → f st ≡ r
+below_one f r none [] h = none
+below_one f r none (a ∷ rest) h = absurd (omega arith)
+
+pub below_two : {R : Type 0} (f : List ℕ → R) (r : R) → f [] ≡ r → ((a : ℕ) → f (a ∷ []) ≡ r) → (st : List ℕ) → length st < 2 → f st ≡ r
+below_two f r none one [] h = none
+below_two f r none one (a ∷ rest) h = below_one (λ l. f (a ∷ l)) r (one a) rest (omega arith)
+
+pub below_three : {R : Type 0} (f : List ℕ → R) (r : R) → f [] ≡ r → ((a : ℕ) → f (a ∷ []) ≡ r) → ((a b : ℕ) → f (a ∷ b ∷ []) ≡ r) → (st : List ℕ) → length st < 3 → f st ≡ r
+below_three f r none one two [] h = none
+below_three f r none one two (a ∷ rest) h = below_two (λ l. f (a ∷ l)) r (one a) (two a) rest (omega arith)

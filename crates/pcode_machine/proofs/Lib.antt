@@ -1,5 +1,4 @@
 pub mod Inputs
-pub mod Lists
 pub mod Live
 pub mod Agreeing
 pub mod RelatedWords
@@ -14,6 +13,9 @@ pub mod Staying
 pub mod Starting
 pub mod Longer
 pub mod Waits
+pub mod Prefixes
+pub mod Outputs
 pub mod Steps
+pub mod Alone
 pub mod Numbered
 pub mod Quiet

@@ -10,8 +10,8 @@ use Rattle.pcode_machine.specs.Blocks.{is_block, block_moved, block_loaded, bloc
 use Rattle.pcode_machine.specs.Bytes.{byte_address, byte_pushed, byte_loaded, byte_stored}
 use Rattle.pcode_machine.specs.Effects.{MoveBlock, LoadBlock, StoreBlock, LoadByte, StoreByte}
 use Rattle.pcode_machine.specs.Step.{FailsBy}
-use Rattle.pcode_machine.proofs.Agreeing.{Meets, none_is}
-use Rattle.pcode_machine.proofs.Lists.{get_none}
+use Rattle.pcode_machine.proofs.Agreeing.{Meets, none_is, below_one, below_two, below_three}
+use Rattle.base.proofs.Lists.{get_none}
 
 -- ---- words are copied
 
@@ -27,13 +27,8 @@ move_holds n j s [] e = inl (refl, rw e (omega arith))
 move_holds n j s (from ∷ []) e = inl (refl, rw e (omega arith))
 move_holds n j s (from ∷ to ∷ rest) e = move_by n j from to s rest (is_block s.words from n) (is_block s.words to n) e refl refl
 
-move_few : (n j : ℕ) (s : State) (st : List ℕ) → length st < 2 → block_moved n j s st ≡ Err (Error 0)
-move_few n j s [] h = refl
-move_few n j s (from ∷ []) h = refl
-move_few n j s (from ∷ to ∷ rest) h = absurd (omega arith)
-
 pub move_fails : (n j e : ℕ) (s : State) → FailsBy (MoveBlock n) s e → block_moved n j s s.stack ≡ Err (Error e)
-move_fails n j e s (inl h) = rw (move_few n j s s.stack h.1, h.0) refl
+move_fails n j e s (inl h) = rw (below_two (block_moved n j s) _ refl (λ v. refl) s.stack h.1, h.0) refl
 move_fails n j e s (inr h) = rw (h.4, h.5, h.0) refl
 
 -- ---- words take a pointer's place
@@ -53,12 +48,8 @@ pub load_block_goes : (n j pointer : ℕ) (s t : State) (rest : List ℕ) → s.
     → t ≡ record s { stack = block_of s.words (pointer / 2) n ++ rest; next = j } → block_loaded n j s s.stack ≡ Ok t
 load_block_goes n j pointer s t rest e live room is = rw (e, live, le-ltb 1024 (length rest + n) room, is) refl
 
-load_few : (n j : ℕ) (s : State) (st : List ℕ) → length st < 1 → block_loaded n j s st ≡ Err (Error 0)
-load_few n j s [] h = refl
-load_few n j s (pointer ∷ rest) h = absurd (omega arith)
-
 pub load_block_fails : (n j e : ℕ) (s : State) → FailsBy (LoadBlock n) s e → block_loaded n j s s.stack ≡ Err (Error e)
-load_block_fails n j e s (inl h) = rw (load_few n j s s.stack h.1, h.0) refl
+load_block_fails n j e s (inl h) = rw (below_one (block_loaded n j s) _ refl s.stack h.1, h.0) refl
 load_block_fails n j e s (inr (pointer, rest, st, inl h)) = rw (st, h.1, h.0) refl
 load_block_fails n j e s (inr (pointer, rest, st, inr h)) = rw (st, h.1, lt-ltb 1024 (length rest + n) h.2, h.0) refl
 
@@ -92,13 +83,8 @@ load_byte_holds j s [] e = inl (refl, rw e (omega arith))
 load_byte_holds j s (index ∷ []) e = inl (refl, rw e (omega arith))
 load_byte_holds j s (index ∷ base ∷ rest) e = byte_by j index base s rest (byte_at s.words (byte_address base index)) e refl
 
-byte_few : (j : ℕ) (s : State) (st : List ℕ) → length st < 2 → byte_loaded j s st ≡ Err (Error 0)
-byte_few j s [] h = refl
-byte_few j s (index ∷ []) h = refl
-byte_few j s (index ∷ base ∷ rest) h = absurd (omega arith)
-
 pub load_byte_fails : (j e : ℕ) (s : State) → FailsBy LoadByte s e → byte_loaded j s s.stack ≡ Err (Error e)
-load_byte_fails j e s (inl h) = rw (byte_few j s s.stack h.1, h.0) refl
+load_byte_fails j e s (inl h) = rw (below_two (byte_loaded j s) _ refl (λ v. refl) s.stack h.1, h.0) refl
 load_byte_fails j e s (inr h) = rw (h.4, none_is _ h.5, h.0) refl
 
 byte_to : (j v index base : ℕ) (s : State) (rest : List ℕ) (o : Option ℕ) → s.stack ≡ v ∷ index ∷ base ∷ rest → byte_at s.words (byte_address base index) ≡ o
@@ -113,12 +99,6 @@ store_byte_holds j s (v ∷ []) e = inl (refl, rw e (omega arith))
 store_byte_holds j s (v ∷ index ∷ []) e = inl (refl, rw e (omega arith))
 store_byte_holds j s (v ∷ index ∷ base ∷ rest) e = byte_to j v index base s rest (byte_at s.words (byte_address base index)) e refl
 
-store_few : (j : ℕ) (s : State) (st : List ℕ) → length st < 3 → byte_stored j s st ≡ Err (Error 0)
-store_few j s [] h = refl
-store_few j s (v ∷ []) h = refl
-store_few j s (v ∷ index ∷ []) h = refl
-store_few j s (v ∷ index ∷ base ∷ rest) h = absurd (omega arith)
-
 pub store_byte_fails : (j e : ℕ) (s : State) → FailsBy StoreByte s e → byte_stored j s s.stack ≡ Err (Error e)
-store_byte_fails j e s (inl h) = rw (store_few j s s.stack h.1, h.0) refl
+store_byte_fails j e s (inl h) = rw (below_three (byte_stored j s) _ refl (λ v. refl) (λ v w. refl) s.stack h.1, h.0) refl
 store_byte_fails j e s (inr h) = rw (h.5, none_is _ h.6, h.0) refl

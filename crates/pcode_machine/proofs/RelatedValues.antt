@@ -1,5 +1,5 @@
 -- Effects that pop what they go by: changes, operations, the check and branches, as relations and as functions.
-use Rattle.std.proofs.Common.{◌≡◌, ℕ, ◌<◌, List, [], ◌∷◌, length, Result, Ok, Err, refl, arith, inl, inr}
+use Rattle.std.proofs.Common.{◌≡◌, ℕ, List, [], ◌∷◌, Result, Ok, Err, refl, arith, inl, inr}
 use Rattle.pcode_machine.specs.declared.operations.Change.{Change}
 use Rattle.pcode_machine.specs.declared.operations.Operation.{Operation}
 use Rattle.pcode_machine.specs.declared.turn.Stop.TheVariants.{Error}
@@ -9,7 +9,7 @@ use Rattle.pcode_machine.specs.Operations.{value_of, replaced, put_above, combin
 use Rattle.pcode_machine.specs.Jumps.{branched, branched_by_two}
 use Rattle.pcode_machine.specs.Effects.{Replace, Combine, Check, Branch, BranchByTwo}
 use Rattle.pcode_machine.specs.Step.{HasTooFew, FailsBy}
-use Rattle.pcode_machine.proofs.Agreeing.{Meets}
+use Rattle.pcode_machine.proofs.Agreeing.{Meets, below_one, below_two, below_three}
 
 -- ---- a word gives way to another
 
@@ -17,12 +17,8 @@ pub replace_holds : (f : Change) (j : ℕ) (s : State) (st : List ℕ) → s.sta
 replace_holds f j s [] e = (refl, rw e (omega arith))
 replace_holds f j s (a ∷ rest) e = (a, rest, e, refl)
 
-replace_few : (f : Change) (j : ℕ) (s : State) (st : List ℕ) → length st < 1 → replaced f j s st ≡ Err (Error 0)
-replace_few f j s [] h = refl
-replace_few f j s (a ∷ rest) h = absurd (omega arith)
-
 pub replace_fails : (f : Change) (j e : ℕ) (s : State) → HasTooFew 1 s e → replaced f j s s.stack ≡ Err (Error e)
-replace_fails f j e s h = rw (replace_few f j s s.stack h.1, h.0) refl
+replace_fails f j e s h = rw (below_one (replaced f j s) _ refl s.stack h.1, h.0) refl
 
 -- ---- two words give way to one
 
@@ -35,13 +31,8 @@ combine_holds f j s [] e = inl (refl, rw e (omega arith))
 combine_holds f j s (b ∷ []) e = inl (refl, rw e (omega arith))
 combine_holds f j s (b ∷ a ∷ rest) e = combine_by f j b a s rest (value_of f a b) e refl
 
-combine_few : (f : Operation) (j : ℕ) (s : State) (st : List ℕ) → length st < 2 → combined f j s st ≡ Err (Error 0)
-combine_few f j s [] h = refl
-combine_few f j s (b ∷ []) h = refl
-combine_few f j s (b ∷ a ∷ rest) h = absurd (omega arith)
-
 pub combine_fails : (f : Operation) (j e : ℕ) (s : State) → FailsBy (Combine f) s e → combined f j s s.stack ≡ Err (Error e)
-combine_fails f j e s (inl h) = rw (combine_few f j s s.stack h.1, h.0) refl
+combine_fails f j e s (inl h) = rw (below_two (combined f j s) _ refl (λ v. refl) s.stack h.1, h.0) refl
 combine_fails f j e s (inr h) = rw (h.3, h.4) refl
 
 -- ---- a word stays that lies between two others
@@ -56,14 +47,8 @@ check_holds j s (high ∷ []) e = inl (refl, rw e (omega arith))
 check_holds j s (high ∷ low ∷ []) e = inl (refl, rw e (omega arith))
 check_holds j s (high ∷ low ∷ v ∷ rest) e = check_by j high low v s rest (checked_of v low high) e refl
 
-check_few : (j : ℕ) (s : State) (st : List ℕ) → length st < 3 → checked j s st ≡ Err (Error 0)
-check_few j s [] h = refl
-check_few j s (high ∷ []) h = refl
-check_few j s (high ∷ low ∷ []) h = refl
-check_few j s (high ∷ low ∷ v ∷ rest) h = absurd (omega arith)
-
 pub check_fails : (j e : ℕ) (s : State) → FailsBy Check s e → checked j s s.stack ≡ Err (Error e)
-check_fails j e s (inl h) = rw (check_few j s s.stack h.1, h.0) refl
+check_fails j e s (inl h) = rw (below_three (checked j s) _ refl (λ v. refl) (λ v w. refl) s.stack h.1, h.0) refl
 check_fails j e s (inr h) = rw (h.4, h.5) refl
 
 -- ---- execution goes on where popped words say
@@ -72,22 +57,13 @@ pub branch_holds : (to : ℕ → ℕ) (j : ℕ) (s : State) (st : List ℕ) → 
 branch_holds to j s [] e = (refl, rw e (omega arith))
 branch_holds to j s (v ∷ rest) e = (v, rest, e, refl)
 
-branch_few : (to : ℕ → ℕ) (s : State) (st : List ℕ) → length st < 1 → branched to s st ≡ Err (Error 0)
-branch_few to s [] h = refl
-branch_few to s (v ∷ rest) h = absurd (omega arith)
-
 pub branch_fails : (to : ℕ → ℕ) (e : ℕ) (s : State) → HasTooFew 1 s e → branched to s s.stack ≡ Err (Error e)
-branch_fails to e s h = rw (branch_few to s s.stack h.1, h.0) refl
+branch_fails to e s h = rw (below_one (branched to s) _ refl s.stack h.1, h.0) refl
 
 pub branch_two_holds : (to : ℕ → ℕ → ℕ) (j : ℕ) (s : State) (st : List ℕ) → s.stack ≡ st → Meets (BranchByTwo to) j s (branched_by_two to s st)
 branch_two_holds to j s [] e = (refl, rw e (omega arith))
 branch_two_holds to j s (b ∷ []) e = (refl, rw e (omega arith))
 branch_two_holds to j s (b ∷ a ∷ rest) e = (b, a, rest, e, refl)
 
-branch_two_few : (to : ℕ → ℕ → ℕ) (s : State) (st : List ℕ) → length st < 2 → branched_by_two to s st ≡ Err (Error 0)
-branch_two_few to s [] h = refl
-branch_two_few to s (b ∷ []) h = refl
-branch_two_few to s (b ∷ a ∷ rest) h = absurd (omega arith)
-
 pub branch_two_fails : (to : ℕ → ℕ → ℕ) (e : ℕ) (s : State) → HasTooFew 2 s e → branched_by_two to s s.stack ≡ Err (Error e)
-branch_two_fails to e s h = rw (branch_two_few to s s.stack h.1, h.0) refl
+branch_two_fails to e s h = rw (below_two (branched_by_two to s) _ refl (λ v. refl) s.stack h.1, h.0) refl

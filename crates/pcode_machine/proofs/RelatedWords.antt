@@ -1,5 +1,5 @@
 -- Effects that move single words, as relations and as functions.
-use Rattle.std.proofs.Common.{◌≡◌, ℕ, ◌/◌, ◌<◌, ◌≤◌, Bool, true, false, cond, ltb, List, [], ◌∷◌, length, Option, Some, None, is_some, Ok, Err, refl, ap, arith, inl, inr}
+use Rattle.std.proofs.Common.{◌≡◌, ℕ, ◌/◌, ◌≤◌, Bool, true, false, cond, ltb, List, [], ◌∷◌, length, Option, Some, None, is_some, Ok, Err, refl, ap, arith, inl, inr}
 use Rattle.std.proofs.lemmas.Bool.{ltb-true, ltb-false, lt-ltb, le-ltb}
 use Rattle.pcode_frames.specs.Words.{word_at, with_word}
 use Rattle.pcode_machine.specs.declared.turn.Stop.TheVariants.{Error}
@@ -9,7 +9,7 @@ use Rattle.pcode_machine.specs.Stores.{stored}
 use Rattle.pcode_machine.specs.Pointers.{behind, pointed, fetched_by, fetched, stored_at}
 use Rattle.pcode_machine.specs.Effects.{Push, Load, Store, Fetch, StoreAt}
 use Rattle.pcode_machine.specs.Step.{Pushes, FailsBy}
-use Rattle.pcode_machine.proofs.Agreeing.{Meets, not_some, not_none, none_is}
+use Rattle.pcode_machine.proofs.Agreeing.{Meets, not_some, not_none, none_is, below_one, below_two}
 
 -- ---- a word is pushed, which needs room
 
@@ -69,12 +69,8 @@ pub fetch_holds : (n j : ℕ) (s : State) (st : List ℕ) → s.stack ≡ st →
 fetch_holds n j s [] e = inl (refl, rw e (omega arith))
 fetch_holds n j s (pointer ∷ rest) e = fetch_by n j pointer s rest (pointed s.words (behind pointer n)) e refl
 
-fetch_few : (n j : ℕ) (s : State) (st : List ℕ) → length st < 1 → fetched n j s st ≡ Err (Error 0)
-fetch_few n j s [] h = refl
-fetch_few n j s (pointer ∷ rest) h = absurd (omega arith)
-
 pub fetch_fails : (n j e : ℕ) (s : State) → FailsBy (Fetch n) s e → fetched n j s s.stack ≡ Err (Error e)
-fetch_fails n j e s (inl h) = rw (fetch_few n j s s.stack h.1, h.0) refl
+fetch_fails n j e s (inl h) = rw (below_one (fetched n j s) _ refl s.stack h.1, h.0) refl
 fetch_fails n j e s (inr h) = rw (h.3, none_is _ h.4, h.0) refl
 
 -- ---- a word is popped to where the pointer below it points
@@ -89,11 +85,6 @@ store_at_holds j s [] e = inl (refl, rw e (omega arith))
 store_at_holds j s (v ∷ []) e = inl (refl, rw e (omega arith))
 store_at_holds j s (v ∷ pointer ∷ rest) e = store_to j v pointer s rest (pointed s.words pointer) e refl
 
-store_at_few : (j : ℕ) (s : State) (st : List ℕ) → length st < 2 → stored_at j s st ≡ Err (Error 0)
-store_at_few j s [] h = refl
-store_at_few j s (v ∷ []) h = refl
-store_at_few j s (v ∷ pointer ∷ rest) h = absurd (omega arith)
-
 pub store_at_fails : (j e : ℕ) (s : State) → FailsBy StoreAt s e → stored_at j s s.stack ≡ Err (Error e)
-store_at_fails j e s (inl h) = rw (store_at_few j s s.stack h.1, h.0) refl
+store_at_fails j e s (inl h) = rw (below_two (stored_at j s) _ refl (λ v. refl) s.stack h.1, h.0) refl
 store_at_fails j e s (inr h) = rw (h.4, none_is _ h.5, h.0) refl

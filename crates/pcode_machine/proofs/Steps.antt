@@ -1,5 +1,7 @@
 -- A step as a relation is a step of the function.
-use Rattle.std.proofs.Common.{◌≡◌, ◌↔◌, ℕ, List, Option, Some, None, slice_get, MatchOption, Result, Ok, Err, MatchResult, refl, sym, subst}
+use Rattle.std.proofs.Common.{◌≡◌, ◌↔◌, ℕ, ◌≤◌, List, length, Option, Some, None, IsSome, slice_get, MatchOption, Result, Ok, Err, MatchResult, refl, sym, subst}
+use Rattle.std.proofs.lemmas.Option.{slice_get_past}
+use Rattle.base.proofs.Lists.{get_none}
 use Rattle.pcode_file.specs.Parts.{Parts}
 use Rattle.pcode_ops.specs.declared.instr.Instr.{Instr}
 use Rattle.pcode_ops.specs.declared.fault.OpFault.{OpFault}
@@ -17,7 +19,7 @@ use Rattle.pcode_frames.specs.Words.{byte_at}
 use Rattle.pcode_machine.specs.Configuration.{State, Configuration, current_of}
 use Rattle.pcode_machine.specs.Execute.{execute}
 use Rattle.pcode_machine.specs.Outcome.{Outcome, Goes, Stops, Waiting, Stuck, outcome, in_frame, pending, moved, decoded, after_effect, on_some, written, taken}
-use Rattle.pcode_machine.specs.Step.{Executes, Moves, Acts, Step, StopsBy, StopsIn, EndsIn, Ends}
+use Rattle.pcode_machine.specs.Step.{Executes, Moves, Acts, Step, StopsBy, StopsIn, EndsIn, Ends, WaitsIn, Awaits}
 use Rattle.pcode_machine.proofs.Related.{Fails, execute_agrees}
 
 -- an instruction is decoded exactly where it stands
@@ -62,13 +64,30 @@ frame_stops p known x c (Some f) e h = pending_stops p known x c f c.state.trans
 pub end_is : (p : Parts) → Decodes p.segment → (x : List ℕ) (c : Configuration) (e : End) → Ends p c e → outcome p x c ≡ Stops e
 end_is p known x c e h = frame_stops p known x c (current_of c.state.frames) e h
 
+-- ---- a wait by the relation is the wait of the function
+
+read_waits : (x : List ℕ) (c : Configuration) (f : Frame) (t : Transfer) (o : Option ℕ) → byte_at c.state.words t.address ≡ o → IsSome o → length x ≤ c.read → moved Reading x c f t ≡ Waiting
+read_waits x c f t None e h past = absurd cc
+read_waits x c f t (Some old) e h past = rw (e, slice_get_past x c.read past) refl
+
+moved_waits : (dir : Direction) (x : List ℕ) (c : Configuration) (f : Frame) (t : Transfer) → dir ≡ Reading → IsSome (byte_at c.state.words t.address) → length x ≤ c.read → moved dir x c f t ≡ Waiting
+moved_waits Writing x c f t e h past = absurd cc
+moved_waits Reading x c f t e h past = read_waits x c f t (byte_at c.state.words t.address) refl h past
+
+pending_waits : (p : Parts) (x : List ℕ) (c : Configuration) (f : Frame) (o : Option Transfer) → WaitsIn x c o → pending p x c f o ≡ Waiting
+pending_waits p x c f None h = absurd h
+pending_waits p x c f (Some t) h = moved_waits t.direction x c f t h.0 h.1 h.2
+
+pub wait_is : (p : Parts) (x : List ℕ) (c : Configuration) → Awaits x c → outcome p x c ≡ Waiting
+wait_is p x c h = let P : Option Frame → Type 0 = λ o. in_frame p x c o ≡ Waiting in subst P (sym h.1) (pending_waits p x c h.0 c.state.transfer h.2)
+
 -- ---- what the function gives meets the relations
 
 -- what comes of a configuration in a frame, as the relations say it
 abbrev Meets : Parts → List ℕ → Configuration → Frame → Option Transfer → Outcome → Type 0
 Meets p x c f o (Goes d) = Acts p x c f o d
 Meets p x c f o (Stops e) = StopsIn p c f o e
-Meets p x c f o Waiting = Unit {0}
+Meets p x c f o Waiting = WaitsIn x c o
 Meets p x c f o Stuck = Unit {0}
 
 write_meets : (p : Parts) (x : List ℕ) (c : Configuration) (f : Frame) (t : Transfer) (o : Option ℕ) → t.direction ≡ Writing → byte_at c.state.words t.address ≡ o
@@ -78,7 +97,7 @@ write_meets p x c f t (Some b) w e = let P : Direction → Type 0 = λ k. Moves 
 
 found_meets : (p : Parts) (x : List ℕ) (c : Configuration) (f : Frame) (t : Transfer) (old : ℕ) (o : Option ℕ) → t.direction ≡ Reading → byte_at c.state.words t.address ≡ Some old → slice_get x c.read ≡ o
     → Meets p x c f (Some t) (on_some o Waiting (λ b. Goes (taken c t b)))
-found_meets p x c f t old None w e g = tt
+found_meets p x c f t old None w e g = (w, rw e refl, get_none x c.read g)
 found_meets p x c f t old (Some b) w e g = let P : Direction → Type 0 = λ k. Moves k x c t (taken c t b) in subst P (sym w) (old, b, e, g, refl)
 
 read_meets : (p : Parts) (x : List ℕ) (c : Configuration) (f : Frame) (t : Transfer) (o : Option ℕ) → t.direction ≡ Reading → byte_at c.state.words t.address ≡ o
@@ -111,13 +130,13 @@ pending_meets p known x c f (Some t) = moved_meets p x c f t t.direction refl
 abbrev MeetsIn : Parts → List ℕ → Configuration → Option Frame → Outcome → Type 0
 MeetsIn p x c o (Goes d) = (f : Frame) × (o ≡ Some f) × Acts p x c f c.state.transfer d
 MeetsIn p x c o (Stops e) = EndsIn p c o e
-MeetsIn p x c o Waiting = Unit {0}
+MeetsIn p x c o Waiting = (f : Frame) × (o ≡ Some f) × WaitsIn x c c.state.transfer
 MeetsIn p x c o Stuck = Unit {0}
 
 in_its_frame : (p : Parts) (x : List ℕ) (c : Configuration) (f : Frame) (o : Outcome) → Meets p x c f c.state.transfer o → MeetsIn p x c (Some f) o
 in_its_frame p x c f (Goes d) h = (f, refl, h)
 in_its_frame p x c f (Stops e) h = h
-in_its_frame p x c f Waiting h = tt
+in_its_frame p x c f Waiting h = (f, refl, h)
 in_its_frame p x c f Stuck h = tt
 
 frame_meets : (p : Parts) → Decodes p.segment → (x : List ℕ) (c : Configuration) (o : Option Frame) → MeetsIn p x c o (in_frame p x c o)
@@ -129,3 +148,6 @@ is_step p known x c d e = let P = MeetsIn p x c (current_of c.state.frames) in s
 
 pub is_end : (p : Parts) → Decodes p.segment → (x : List ℕ) (c : Configuration) (e : End) → outcome p x c ≡ Stops e → Ends p c e
 is_end p known x c end e = let P = MeetsIn p x c (current_of c.state.frames) in subst P e (frame_meets p known x c (current_of c.state.frames))
+
+pub is_wait : (p : Parts) → Decodes p.segment → (x : List ℕ) (c : Configuration) → outcome p x c ≡ Waiting → Awaits x c
+is_wait p known x c e = let P = MeetsIn p x c (current_of c.state.frames) in subst P e (frame_meets p known x c (current_of c.state.frames))

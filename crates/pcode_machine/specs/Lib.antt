@@ -15,7 +15,9 @@ pub mod Effects
 pub mod Execute
 pub mod Outcome
 pub mod Step
+pub mod Prefixes
 pub mod Runs
 pub mod Turns
 pub mod InCode
+pub mod Loaded
 pub mod Ready

@@ -1,7 +1,8 @@
 -- Runs of a program on a whole input, and its output after some steps.
-use Rattle.std.specs.Prelude.{◌≡◌, ℕ, zero, suc, List, [], ◌++◌}
+use Rattle.std.specs.Prelude.{◌≡◌, ℕ, zero, suc, List, []}
 use Rattle.pcode_file.specs.Parts.{Parts}
 use Rattle.pcode_machine.specs.Configuration.{Configuration, joined, start}
+use Rattle.pcode_machine.specs.Prefixes.{IsPrefix}
 use Rattle.pcode_machine.specs.Outcome.{Outcome, Goes, Stops, Waiting, Stuck, outcome}
 
 -- where a program begins: nothing read, nothing written
@@ -26,7 +27,7 @@ out p x n = (after p x n).output
 
 -- y is output on x: the output after some steps begins with it
 abbrev pub IsOutput : Parts → List ℕ → List ℕ → Type 0
-IsOutput p x y = (n : ℕ) × (rest : List ℕ) × (out p x n ≡ y ++ rest)
+IsOutput p x y = (n : ℕ) × IsPrefix y (out p x n)
 
 -- n steps on the input x, each of which exists, lead from the start to c
 unfoldable pub Leads : Parts → List ℕ → ℕ → Configuration → Type 0

@@ -70,7 +70,7 @@ impl MachineParts {
 
     /// Pops so many words to where the pointer below them points, the top to the first, pops the
     /// pointer, and goes on at an offset.
-    #[tactic(auto, using(crate::proofs::Lists::drop_next))]
+    #[tactic(auto, using(base::proofs::Lists::drop_next))]
     pub fn store_block(&mut self, words: u16, next: u32) -> Result<(), Stop>
         ensures value { block_stored words next (state_of self.old) ≡ answered result (state_of self.new) }
         ensures err { OnErr result (self.new ≡ self.old) }

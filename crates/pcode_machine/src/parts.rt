@@ -1,7 +1,12 @@
 //! What a machine keeps beside its program.
+ghost use Rattle.std.specs.Prelude.{◌≡◌, ◌+◌, IfOk, nat_le, if◌then◌else◌};
+ghost use Rattle.pcode_machine.specs.Configuration.{framed, unframed};
+ghost use Rattle.pcode_machine.specs.Ready.{state_of};
 
 use crate::turn::Transfer;
+use pcode_file::Proc;
 use pcode_frames::{Frames, Memory, Stack};
+use std::alloc::{AllocError, Global};
 
 /// What a machine keeps beside its program. Instructions and transfers change these parts, and their
 /// contracts speak of the state that the parts stand for.
@@ -17,4 +22,34 @@ pub struct MachineParts {
     pub io_result: u16,
     /// The bytes that are still to be moved.
     pub transfer: Option<Transfer>,
+}
+
+impl MachineParts {
+    /// Room for a machine over any program: no word is live, and there is no frame.
+    pub fn new(alloc: Global) -> Result<MachineParts, AllocError>
+        ensures { IfOk result (λ m. state_of m ≡ unframed 0) }
+    {
+        Ok(MachineParts {
+            memory: Memory::new(alloc)?,
+            stack: Stack::new(alloc)?,
+            frames: Frames::new(alloc)?,
+            next: 0,
+            io_result: 0,
+            transfer: None,
+        })
+    }
+
+    /// Puts the main frame into the room, if it fits, and goes to ENTER of the main program.
+    pub fn start(&mut self, main: Proc)
+        requires { state_of self.old ≡ unframed 0 }
+        ensures state { state_of self.new ≡ (if nat_le (main.params + main.vars) 16383 then framed main.enter (main.params + main.vars) else unframed main.enter) }
+        ensures next { self.new.next ≡ main.enter }
+    {
+        self.next = main.enter;
+        // Parameters and data together may exceed 16 bits.
+        if let Ok(size) = u16::try_from(u32::from(main.params) + u32::from(main.vars)) {
+            // A refusal leaves no frame, which is what a main frame that does not fit leaves.
+            let _fits = self.frames.start(&mut self.memory, size);
+        }
+    }
 }

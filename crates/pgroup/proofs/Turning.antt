@@ -19,6 +19,9 @@ makes-wrote t = record { steps = λ before output. rw (add-zero (length before))
 pub makes-took : {p : Parts} {old new : State} {b : ℕ} → IsTurn p (b ∷ []) old Took new → Makes p old new (b ∷ []) []
 makes-took t = record { steps = λ before output. rw (append-nil output) (t.tells before output) }
 
+pub makes-echo : {p : Parts} {old new : State} {b e : ℕ} → IsTurn p (b ∷ []) old (TookAndWrote e) new → Makes p old new (b ∷ []) (e ∷ [])
+makes-echo t = record { steps = t.tells }
+
 -- a configuration that waits goes on with one more byte, and takes it
 abbrev pub GoesOn : Type 0
 GoesOn = (p : Parts) (x : List ℕ) (b : ℕ) (c : Configuration) → c.read ≡ length x → outcome p x c ≡ Waiting

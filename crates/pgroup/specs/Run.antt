@@ -1,6 +1,7 @@
 -- What a run of a program does to a reader and a writer.
-use Rattle.std.specs.Prelude.{◌≡◌, ◌≢◌, ℕ, ◌+◌, ◌<◌, List, [], ◌++◌, length, Option, Some, None, Result, Ok, Err}
-use Rattle.std.specs.Io.KnownBytes.{Keeps, Appends, Consumes, IsAtEnd}
+use Rattle.std.specs.Prelude.{◌≡◌, ◌≢◌, ℕ, ◌+◌, ◌<◌, List, [], ◌∷◌, ◌++◌, length, Option, Some, None, Result, Ok, Err}
+use Rattle.std.specs.Option.{option_to_list}
+use Rattle.std.specs.Io.KnownBytes.{IsAtEnd}
 use Rattle.pcode_file.specs.Parts.{Parts}
 use Rattle.pcode_machine.specs.declared.turn.End.{End}
 use Rattle.pcode_machine.specs.declared.turn.End.TheVariants as ends
@@ -11,13 +12,12 @@ use Rattle.pgroup.specs.declared.run.Finish.{Finish}
 use Rattle.pgroup.specs.declared.run.Finish.TheVariants as finish
 use Rattle.pgroup.specs.declared.run.RunIo.{RunIo}
 use Rattle.pgroup.specs.declared.run.RunIo.TheVariants as io
-use Rattle.pgroup.specs.Streams.{Streams, HasRisen}
+use Rattle.pgroup.specs.Streams.{Streams, HasMoved, HasNoFault, HasReadFault, HasWriteFault}
 
--- n steps on an input, each of which exists, and no others were made: all the input was read, and the output was written
-pub record HasRun (p : Parts) (from to : Streams) (input : List ℕ) (n : ℕ) : Type 0 where
+-- n steps on an input, each of which exists, have taken all of it
+pub record HasRun (p : Parts) (input : List ℕ) (n : ℕ) : Type 0 where
   pub made : Leads p input n (after p input n)
-  pub read : Consumes from.reader to.reader input
-  pub written : Appends from.writer to.writer (out p input n)
+  pub taken : (after p input n).read ≡ length input
 
 -- why a run of at most so many steps was over after n of them
 abbrev pub IsOver : Parts → Option (List ℕ) → List ℕ → ℕ → ℕ → Finish → Type 0
@@ -26,18 +26,46 @@ IsOver p r input n steps finish.Normal = (n < steps) × (outcome p input (after 
 IsOver p r input n steps (finish.Error e) = (n < steps) × (e ≢ ends.Normal) × (outcome p input (after p input n) ≡ Stops e)
 IsOver p r input n steps finish.Waits = (n < steps) × (outcome p input (after p input n) ≡ Waiting) × IsAtEnd r
 
--- what a fault was caused by: no step was made, a read failed, or a write failed or took nothing
-abbrev pub IsCaused : Streams → Streams → ℕ → RunIo → Type 0
-IsCaused from to n io.Memory = n ≡ 0
-IsCaused from to n io.Read = HasRisen from.read_faults to.read_faults
-IsCaused from to n io.Write = HasRisen from.write_faults to.write_faults
+-- The run is over: n steps took all bytes that were read, their output was written, and nothing failed.
+pub record Finishes (p : Parts) (from to : Streams) (steps : ℕ) (f : Finish) : Type 0 where
+  pub input : List ℕ
+  pub n : ℕ
+  pub run : HasRun p input n
+  pub moved : HasMoved from to input (out p input n)
+  pub faultless : HasNoFault from to
+  pub over : IsOver p to.reader input n steps f
 
--- A run that is over made n steps on the bytes that it read, and wrote their output. After a fault what was
--- written is the output of the steps made before, on the bytes read.
+-- A read failed: fewer steps than were allowed took all bytes that were read, their output was written, and the machine waits.
+pub record FailsToRead (p : Parts) (from to : Streams) (steps : ℕ) : Type 0 where
+  pub input : List ℕ
+  pub n : ℕ
+  pub few : n < steps
+  pub run : HasRun p input n
+  pub moved : HasMoved from to input (out p input n)
+  pub waits : outcome p input (after p input n) ≡ Waiting
+  pub fault : HasReadFault from to
+
+-- A write failed: of fewer steps than were allowed the output was written, and not the byte that the next step writes. All bytes
+-- that were read were taken by these steps, or are the one that the next step takes.
+pub record FailsToWrite (p : Parts) (from to : Streams) (steps : ℕ) : Type 0 where
+  pub input : List ℕ
+  pub n : ℕ
+  pub few : n < steps
+  pub run : HasRun p input n
+  pub took : Option ℕ
+  pub byte : ℕ
+  pub state : State
+  pub next : outcome p (input ++ option_to_list took) (after p input n)
+      ≡ Goes (joined state (length input + length (option_to_list took)) (out p input n ++ byte ∷ []))
+  pub moved : HasMoved from to (input ++ option_to_list took) (out p input n)
+  pub fault : HasWriteFault from to
+
+-- what a run of at most so many steps does; without memory it does nothing
 abbrev pub RunsTo : Parts → Streams → Streams → ℕ → Result Finish RunIo → Type 0
-RunsTo p from to steps (Ok f) =
-    (input : List ℕ) × (n : ℕ) × HasRun p from to input n × ((after p input n).read ≡ length input) × IsOver p to.reader input n steps f
-RunsTo p from to steps (Err e) = (input : List ℕ) × (n : ℕ) × HasRun p from to input n × IsCaused from to n e
+RunsTo p from to steps (Ok f) = Finishes p from to steps f
+RunsTo p from to steps (Err io.Memory) = to ≡ from
+RunsTo p from to steps (Err io.Read) = FailsToRead p from to steps
+RunsTo p from to steps (Err io.Write) = FailsToWrite p from to steps
 
 -- ---- one turn of the run, as the machine's state sees it
 
@@ -60,31 +88,28 @@ Halts p s r (finish.Error e) = EndsBy p s e × (e ≢ ends.Normal)
 Halts p s r finish.Waits = WaitsOn p s × IsAtEnd r
 Halts p s r finish.Steps = ⊥
 
--- a fault of this turn, and no lower count of faults
-abbrev pub Failed : Streams → Streams → RunIo → Type 0
-Failed from to io.Memory = ⊥
-Failed from to io.Read = HasRisen from.read_faults to.read_faults
-Failed from to io.Write = HasRisen from.write_faults to.write_faults
+-- a byte could not be written: that of a step which takes the byte that was read, if one was
+pub record LosesByte (p : Parts) (old new : State) (from to : Streams) : Type 0 where
+  pub took : Option ℕ
+  pub byte : ℕ
+  pub makes : Makes p old new (option_to_list took) (byte ∷ [])
+  pub moved : HasMoved from to (option_to_list took) []
+  pub fault : HasWriteFault from to
 
--- the counts of faults stay as they are
-pub record HasNoFault (from to : Streams) : Type 0 where
-  pub read : to.read_faults ≡ from.read_faults
-  pub write : to.write_faults ≡ from.write_faults
-
--- one turn of the run: a step, a finish, or a fault after which nothing more was written
+-- one turn of the run: a step, a finish, or a fault
 abbrev pub Turns : Parts → State → State → Streams → Streams → Result (Option Finish) RunIo → Type 0
-Turns p old new from to (Ok None) =
-    (took : List ℕ) × (wrote : List ℕ) × Makes p old new took wrote × Consumes from.reader to.reader took × Appends from.writer to.writer wrote × HasNoFault from to
-Turns p old new from to (Ok (Some f)) = Halts p old to.reader f × Consumes from.reader to.reader [] × Keeps from.writer to.writer × HasNoFault from to
-Turns p old new from to (Err e) = (took : List ℕ) × Consumes from.reader to.reader took × Keeps from.writer to.writer × Failed from to e
+Turns p old new from to (Ok None) = (took : List ℕ) × (wrote : List ℕ) × Makes p old new took wrote × HasMoved from to took wrote × HasNoFault from to
+Turns p old new from to (Ok (Some f)) = Halts p old to.reader f × HasMoved from to [] [] × HasNoFault from to
+Turns p old new from to (Err io.Memory) = ⊥
+Turns p old new from to (Err io.Read) = WaitsOn p old × HasMoved from to [] [] × HasReadFault from to
+Turns p old new from to (Err io.Write) = LosesByte p old new from to
 
 -- n steps were made, on some input, up to this state of the machine, and nothing has failed
 pub record Reached (p : Parts) (from to : Streams) (n : ℕ) (s : State) : Type 0 where
   pub input : List ℕ
   pub output : List ℕ
   pub made : Leads p input n (joined s (length input) output)
-  pub read : Consumes from.reader to.reader input
-  pub written : Appends from.writer to.writer output
+  pub moved : HasMoved from to input output
   pub faultless : HasNoFault from to
 
 -- how a run is over where the program has ended

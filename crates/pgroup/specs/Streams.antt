@@ -1,5 +1,7 @@
--- What is known of a reader and a writer, and when a fault of theirs is told.
-use Rattle.std.specs.Prelude.{◌≡◌, ℕ, ◌-◌, ◌^◌, ◌<◌, ◌⊎◌, List, Option}
+-- What is known of a reader and a writer, what moved, and which faults of theirs were counted.
+use Rattle.std.specs.Prelude.{◌≡◌, ℕ, List, Option}
+use Rattle.std.specs.Io.KnownBytes.{Appends, Consumes}
+use Rattle.base.specs.Faults.{HasRisen}
 
 -- the bytes that a reader has left and a writer holds, where they are known, and how often each has failed
 pub record Streams : Type 0 where
@@ -8,6 +10,22 @@ pub record Streams : Type 0 where
   pub read_faults : ℕ
   pub write_faults : ℕ
 
--- one more fault was counted; a count at its greatest value stays there
-abbrev pub HasRisen : ℕ → ℕ → Type 0
-HasRisen old new = (old < new) ⊎ (old ≡ 2 ^ 64 - 1)
+-- these bytes were read, and those were written
+pub record HasMoved (from to : Streams) (took wrote : List ℕ) : Type 0 where
+  pub read : Consumes from.reader to.reader took
+  pub written : Appends from.writer to.writer wrote
+
+-- no fault was counted
+pub record HasNoFault (from to : Streams) : Type 0 where
+  pub read : to.read_faults ≡ from.read_faults
+  pub write : to.write_faults ≡ from.write_faults
+
+-- one more failed read was counted, and no failed write
+pub record HasReadFault (from to : Streams) : Type 0 where
+  pub read : HasRisen from.read_faults to.read_faults
+  pub write : to.write_faults ≡ from.write_faults
+
+-- one more failed write was counted, and no failed read
+pub record HasWriteFault (from to : Streams) : Type 0 where
+  pub read : to.read_faults ≡ from.read_faults
+  pub write : HasRisen from.write_faults to.write_faults

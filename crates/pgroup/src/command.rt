@@ -68,17 +68,6 @@ impl From<FileFault> for Refusal {
     }
 }
 
-impl From<RunIo> for Refusal {
-    ghost use Rattle.std.specs.Prelude.{◌≡◌};
-    ghost use Rattle.pgroup.specs.declared.command.Refusal.TheVariants.{Run};
-
-    ghost from_gives = { λ fault r. r ≡ Run fault };
-
-    fn from(fault: RunIo) -> Refusal {
-        Refusal::Run(fault)
-    }
-}
-
 /// The built-in code file: block 0, then the segment.
 fn built_in() -> [u8; 540] {
     let mut bytes = [0u8; 540];
@@ -111,7 +100,7 @@ fn run_bytes<R: Read, W: Write>(
     let program = load(alloc, bytes)?;
     let mut reader = CountingReader::new(reader);
     let mut writer = CountingWriter::new(writer);
-    Ok(run_program(alloc, &mut reader, &mut writer, &program, steps)?)
+    run_program(alloc, &mut reader, &mut writer, &program, steps).map_err(Refusal::Run)
 }
 
 /// Runs the program of a code file.

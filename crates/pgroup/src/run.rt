@@ -1,10 +1,10 @@
 //! A program over a reader and a writer.
-ghost use Rattle.std.specs.Prelude.{◌≡◌, ◌≢◌, ℕ, List, [], ◌∷◌, ◌++◌, length, Option, IsNone, MatchResult, OnOk, OnErr};
+ghost use Rattle.std.specs.Prelude.{◌≡◌, ℕ, List, [], ◌∷◌, MatchResult};
 ghost use Rattle.std.specs.Io.KnownBytes.{Keeps, Appends};
-ghost use Rattle.pgroup.specs.Streams.{HasRisen};
+ghost use Rattle.base.specs.Faults.{HasRisen};
 ghost use Rattle.pgroup.specs.Run.{Makes, WaitsOn, Turns, RunsTo, finish_of};
 
-use crate::streams::{ByteReader, ByteWriter};
+use crate::streams::{ByteReader, ByteWriter, ReadFault, WriteFault};
 use pcode_machine::laws::{goes_on_with_a_byte, run_is_after, same_run_on_longer_input};
 use pcode_machine::{End, Machine, Turn};
 use pcode_ops::Program;
@@ -48,37 +48,27 @@ fn finish_by(end: End) -> Finish
     }
 }
 
-/// Writes one byte.
-fn write_one<W: ByteWriter>(writer: &mut W, byte: u8) -> Result<(), RunIo>
-    ensures bytes { MatchResult result
-        (λ _. Appends (W.contents writer.old) (W.contents writer.new) (byte ∷ []))
-        (λ e. (e ≡ RunIo.Write) × Keeps (W.contents writer.old) (W.contents writer.new)) }
-    ensures faults { MatchResult result
-        (λ _. W.write_faults writer.new ≡ W.write_faults writer.old)
-        (λ _. HasRisen (W.write_faults writer.old) (W.write_faults writer.new)) }
-{
-    match writer.write_byte(byte) {
-        Ok(()) => Ok(()),
-        Err(_) => Err(RunIo::Write),
-    }
-}
-
 /// Gives a byte to a machine that waits for one, and writes its echo.
-fn feed<W: ByteWriter>(writer: &mut W, machine: &mut Machine<'_>, byte: u8) -> Result<(), RunIo>
+fn feed<W: ByteWriter>(
+    writer: &mut W,
+    machine: &mut Machine<'_>,
+    byte: u8,
+) -> Result<(), WriteFault>
     requires { WaitsOn machine.old.program machine.old.state }
     ensures program { machine.new.program ≡ machine.old.program }
     ensures made { MatchResult result
         (λ _. (wrote : List ℕ) × Makes machine.old.program machine.old.state machine.new.state (byte ∷ []) wrote
         × Appends (W.contents writer.old) (W.contents writer.new) wrote
         × (W.write_faults writer.new ≡ W.write_faults writer.old))
-        (λ e. (e ≡ RunIo.Write) × Keeps (W.contents writer.old) (W.contents writer.new)
+        (λ _. (echo : ℕ) × Makes machine.old.program machine.old.state machine.new.state (byte ∷ []) (echo ∷ [])
+        × Keeps (W.contents writer.old) (W.contents writer.new)
         × HasRisen (W.write_faults writer.old) (W.write_faults writer.new)) }
 {
     // A machine that waits goes on with a byte, and takes it.
     goes_on_with_a_byte();
     match machine.step(Some(byte)) {
         Turn::Took => Ok(()),
-        Turn::TookAndWrote(echo) => write_one(writer, echo),
+        Turn::TookAndWrote(echo) => writer.write_byte(echo),
         _ => unreachable!(),
     }
 }
@@ -96,18 +86,18 @@ fn turn<R: ByteReader, W: ByteWriter>(
 {
     match machine.step(None) {
         Turn::Went => Ok(None),
-        Turn::Wrote(byte) => {
-            write_one(writer, byte)?;
-            Ok(None)
-        }
+        Turn::Wrote(byte) => match writer.write_byte(byte) {
+            Ok(()) => Ok(None),
+            Err(WriteFault) => Err(RunIo::Write),
+        },
         Turn::Ended(end) => Ok(Some(finish_by(end))),
         Turn::Waits => match reader.read_byte() {
-            Ok(Some(byte)) => {
-                feed(writer, machine, byte)?;
-                Ok(None)
-            }
+            Ok(Some(byte)) => match feed(writer, machine, byte) {
+                Ok(()) => Ok(None),
+                Err(_) => Err(RunIo::Write),
+            },
             Ok(None) => Ok(Some(Finish::Waits)),
-            Err(_) => Err(RunIo::Read),
+            Err(ReadFault) => Err(RunIo::Read),
         },
         Turn::Took | Turn::TookAndWrote(_) => unreachable!(),
     }

@@ -6,8 +6,9 @@
 ghost use Rattle.std.specs.Prelude.{◌≡◌, ℕ, List, [], ◌∷◌, Option, IsNone, MatchResult};
 ghost use Rattle.std.specs.Option.{option_to_list};
 ghost use Rattle.std.specs.Io.KnownBytes.{Keeps, Appends, Consumes, IsAtEnd};
-ghost use Rattle.pgroup.specs.Streams.{HasRisen};
+ghost use Rattle.base.specs.Faults.{HasRisen};
 
+use base::count_fault;
 use std::io::{Read, Write};
 
 /// A read failed.
@@ -82,7 +83,7 @@ impl<R: Read> ByteReader for CountingReader<R> {
             Ok(0) => Ok(None),
             Ok(_) => Ok(Some(buffer[0])),
             Err(_) => {
-                self.faults = self.faults.saturating_add(1);
+                self.faults = count_fault(self.faults);
                 Err(ReadFault)
             }
         }
@@ -114,7 +115,7 @@ impl<W: Write> ByteWriter for CountingWriter<W> {
         match self.inner.write(&[byte]) {
             Ok(1) => Ok(()),
             _ => {
-                self.faults = self.faults.saturating_add(1);
+                self.faults = count_fault(self.faults);
                 Err(WriteFault)
             }
         }

@@ -31,12 +31,16 @@ fn edited(alloc: Global, bytes: &[u8], at: usize, edit: &[u8]) -> Result<Vec<u8>
     Ok(all)
 }
 
-/// A code file of 1,024 bytes with this segment as its entry 1.
+/// A code file with this segment as its entry 1, and zeros up to 1,024 bytes.
 fn code_file(alloc: Global, segment: &[u8]) -> Result<Vec<u8>, AllocError> {
     let [low, high] = u16::try_from(segment.len()).unwrap_or(0).to_le_bytes();
-    let empty = vec![in alloc; 0u8; 1024]?;
-    let entry = edited(alloc, empty.as_slice(), 4, &[1, 0, low, high])?;
-    edited(alloc, entry.as_slice(), 512, segment)
+    let empty = vec![in alloc; 0u8; 512]?;
+    let mut file = edited(alloc, empty.as_slice(), 4, &[1, 0, low, high])?;
+    file.extend_from_slice(segment)?;
+    for _ in file.len()..1024 {
+        file.push(0)?;
+    }
+    Ok(file)
 }
 
 /// What a command did.
@@ -220,10 +224,14 @@ const BUDGETS: [(&[&str], Outcome); 6] = [
     (&["--steps", "0011"], Outcome::Prints(b"A")),
 ];
 
+/// What `check` prints of the program that prints A.
+const CHECKED: Outcome = Outcome::Prints(b"ok segment 1 procedures 1 reached 10\n");
+
 #[test]
 fn prints_a(rt: HostRuntime) -> Result<(), Fail> {
     does(&rt, &[], Outcome::Prints(b"A"))?;
     let file = code_file(rt.alloc(), &PRINTS_A)?;
+    comes_to(&rt, "check", file.as_slice(), &[], CHECKED)?;
     for (more, outcome) in BUDGETS {
         comes_to(&rt, "run", file.as_slice(), more, outcome)?;
     }
@@ -244,7 +252,8 @@ fn unit_three_and_no_length(rt: HostRuntime) -> Result<(), Fail> {
 /// Faults of block 0, at offsets of the file.
 const BAD_BLOCKS: [Edit; 6] = [
     (6, &[0x00, 0x00], Outcome::Refused("F2")),
-    (10, &[0x1c, 0x00], Outcome::Refused("F3")),
+    // Entry 2 as entry 1.
+    (8, &[0x01, 0x00, 0x1c, 0x00], Outcome::Refused("F3")),
     (194, &[0x01, 0x00], Outcome::Refused("F4")),
     (6, &[0x02, 0x02], Outcome::Refused("F5")),
     (4, &[0x00, 0x00], Outcome::Refused("F5")),
@@ -265,28 +274,11 @@ const BAD_SEGMENTS: [Edit; 8] = [
 
 #[test]
 fn bad_files(rt: HostRuntime) -> Result<(), Fail> {
-    agrees_from(&rt, "run", &PRINTS_A, 0, &BAD_BLOCKS)?;
-    agrees(&rt, "run", &PRINTS_A, &BAD_SEGMENTS)
-}
-
-#[test]
-fn short_file(rt: HostRuntime) -> Result<(), Fail> {
     let file = code_file(rt.alloc(), &PRINTS_A)?;
     let short = file.as_slice().get(..511).unwrap_or(&[]);
-    comes_to(&rt, "run", short, &[], Outcome::Refused("F1"))
-}
-
-/// Faults of instructions.
-const BAD_OPCODES: [Edit; 4] = [
-    (0, &[0xd0, 0xab], Outcome::Refused("O6 at 0 opcode 208")),
-    (11, &[0x09, 0xc1], Outcome::Refused("O13 at 10 procedure 9")),
-    (12, &[0x41, 0x41], Outcome::Refused("O1 at 13")),
-    (12, &[0x41, 0xc1], Outcome::Refused("O1 at 13")),
-];
-
-#[test]
-fn bad_opcodes(rt: HostRuntime) -> Result<(), Fail> {
-    agrees(&rt, "run", &PRINTS_A, &BAD_OPCODES)
+    comes_to(&rt, "run", short, &[], Outcome::Refused("F1"))?;
+    agrees_from(&rt, "run", &PRINTS_A, 0, &BAD_BLOCKS)?;
+    agrees(&rt, "run", &PRINTS_A, &BAD_SEGMENTS)
 }
 
 /// A writer that fails at its first write, or takes nothing.

@@ -1,19 +1,11 @@
 //! Which values are chosen by what was sent.
+use super::datagrams::{BALLOT as FIRST, FIRST_KEY as KEY};
 use paxos_msg::choosing::{is_chosen, is_majority};
 use paxos_msg::{Ballot, Body, Msg, Value, Votes};
 use std::alloc::{AllocError, Global};
 use std::test::Fail;
 
-const FIRST: Ballot = Ballot { round: 1, node: 1 };
-
 const SECOND: Ballot = Ballot { round: 2, node: 2 };
-
-const KEY: Value = Value::Key {
-    node: 2,
-    start: 1,
-    serial: 1,
-    byte: 0x48,
-};
 
 /// Node `sender` says that it has accepted the key at place 0 under a ballot.
 fn accepted(sender: u8, ballot: Ballot) -> Msg {

@@ -14,6 +14,17 @@ const GROUP: Group = Group {
     session: 7,
 };
 
+/// The first ballot of node 1.
+pub const BALLOT: Ballot = Ballot { round: 1, node: 1 };
+
+/// A key: the first of the first start of node 2.
+pub const FIRST_KEY: Value = Value::Key {
+    node: 2,
+    start: 1,
+    serial: 1,
+    byte: 0x48,
+};
+
 /// Prepare of node 1 under ballot 1.1 from place 0.
 const PREPARE: [u8; 19] = [
     0x50, 0x47, 0x01, 0x01, 0x01, 0x03, 0x00, 0x00, 0x00, 0x07, 0x00, 0x00, 0x00, 0x01, 0x01, 0x00,
@@ -102,6 +113,7 @@ const LONGER: [u8; 20] = [
 #[test]
 fn prepare_and_accept_bytes(rt: HostRuntime) -> Result<(), Fail> {
     shows(&rt, &PREPARE, PREPARED)?;
+    shows(&rt, &PREPARE[..18], Refused("G1"))?;
     shows(&rt, &ACCEPT, ACCEPTED)?;
     shows(&rt, &LONGER, Refused("G12"))?;
     refuses(&rt, &PREPARE, &BAD_PREPARES)?;
@@ -135,19 +147,14 @@ fn promise_with(alloc: Global, count: u32) -> Result<Msg, AllocError> {
     for place in 0..count {
         votes.push(Vote {
             place,
-            ballot: Ballot { round: 1, node: 1 },
-            value: Value::Key {
-                node: 2,
-                start: 1,
-                serial: 1,
-                byte: 0x48,
-            },
+            ballot: BALLOT,
+            value: FIRST_KEY,
         })?;
     }
     Ok(Msg {
         sender: 2,
         body: Body::Promise {
-            ballot: Ballot { round: 1, node: 1 },
+            ballot: BALLOT,
             first: 0,
             upto: 65536,
             votes: Votes::new(votes),
@@ -171,11 +178,7 @@ const BAD_VOTES: [Edit; 3] = [(47, &[0], "G10"), (31, &[2], "G7"), (18, &[1], "G
 #[test]
 fn promise_bytes_and_parts(rt: HostRuntime) -> Result<(), Fail> {
     shows(&rt, &PROMISE, Prints(NO_VOTES))?;
-    refuses(&rt, &PROMISE, &[(23, &[0x41], "G11")])
-}
-
-#[test]
-fn promise_with_votes(rt: HostRuntime) -> Result<(), Fail> {
+    refuses(&rt, &PROMISE, &[(23, &[0x41], "G11")])?;
     let two = promise_with(rt.alloc(), 2)?;
     assert!(rt; fits(&two, GROUP));
     let bytes = encode(rt.alloc(), &two, GROUP)?;
@@ -192,8 +195,6 @@ fn longest_promise(rt: HostRuntime) -> Result<(), Fail> {
     assert!(rt; !fits(&too_many, GROUP));
     Ok(())
 }
-
-const BALLOT: Ballot = Ballot { round: 1, node: 1 };
 
 const KEY: Value = Value::Key {
     node: 2,
@@ -247,14 +248,6 @@ fn other_kinds(rt: HostRuntime) -> Result<(), Fail> {
     }
     Ok(())
 }
-
-/// A key: the first of the first start of node 2.
-const FIRST_KEY: Value = Value::Key {
-    node: 2,
-    start: 1,
-    serial: 1,
-    byte: 0x48,
-};
 
 #[test]
 fn single_fields(rt: HostRuntime) {

@@ -1,9 +1,8 @@
 //! The programs of `examples/`: what each prints on an input. The texts follow from what the programs are
 //! for, by hand; the primes are those below 1,000. `test`, at the repository's top, looks whether the bytes
 //! here are those of the code files there.
-use super::{Outcome, edited, meets, perform_on};
+use super::{Outcome, code_file, meets, perform_on};
 use crate::hex::bytes_of;
-use std::alloc::Global;
 use std::test::Fail;
 
 /// Repeats lines up to a full stop.
@@ -58,19 +57,10 @@ const EXAMPLES: [(&str, &str, &str); 8] = [
     ),
 ];
 
-/// The code file whose segment has these hexadecimal digits.
-fn file_of(alloc: Global, digits: &str) -> Result<Vec<u8>, Fail> {
-    let segment = bytes_of(alloc, digits)?;
-    let [low, high] = u16::try_from(segment.len()).unwrap_or(0).to_le_bytes();
-    let empty = vec![in alloc; 0u8; 512]?;
-    let mut file = edited(alloc, empty.as_slice(), 4, &[1, 0, low, high])?;
-    file.extend_from_slice(segment.as_slice())?;
-    Ok(file)
-}
-
 /// Whether a program prints this on an input, and ends.
 fn prints(rt: &HostRuntime, digits: &str, input: &str, output: &'static str) -> Result<bool, Fail> {
-    let file = file_of(rt.alloc(), digits)?;
+    let segment = bytes_of(rt.alloc(), digits)?;
+    let file = code_file(rt.alloc(), segment.as_slice())?;
     let mut input = input.as_bytes();
     let done = perform_on(rt, "run", file.as_slice(), &[], &mut input)?;
     Ok(meets(rt.alloc(), &done, Outcome::Prints(output.as_bytes()))?)

@@ -3,6 +3,7 @@ use super::Outcome::{Prints, Refused};
 use super::segments::{CASES, LINKS, PRINTS_A, READS, RECURSION};
 use super::{Done, Edit, Outcome, agrees, code_file, comes_to, path_of, words_of};
 use crate::command::command;
+use std::alloc::{AllocError, Global};
 use std::fs;
 use std::io::{self, ErrorKind, Write};
 use std::test::Fail;
@@ -72,8 +73,7 @@ proc 2 level 1 params 0 data 0 enter 0 exit 2
 ";
 
 /// What `check` prints of each segment.
-const REACHED: [(&[u8], Outcome); 5] = [
-    (&PRINTS_A, Prints(b"ok segment 1 procedures 1 reached 10\n")),
+const REACHED: [(&[u8], Outcome); 4] = [
     (&READS, Prints(b"ok segment 1 procedures 1 reached 19\n")),
     (&CASES, Prints(b"ok segment 1 procedures 1 reached 18\n")),
     (&LINKS, Prints(b"ok segment 1 procedures 4 reached 34\n")),
@@ -107,24 +107,28 @@ fn listings(rt: HostRuntime) -> Result<(), Fail> {
     all_come_to(&rt, "list", &LISTED)
 }
 
-/// Faults of the program that prints A.
-const FAULTY_OFFSETS: [Edit; 12] = [
-    (0, &[0x81, 0xab, 0x03], Refused("O2 at 0")),
-    (0, &[0x85, 0xab, 0x03], Refused("O3 at 0")),
-    (0, &[0xa6, 0xab, 0x03], Refused("O4 at 0")),
-    (0, &[0xcd, 0x00, 0x13], Refused("O5 at 0")),
-    (0, &[0xd0, 0xab, 0x03], Refused("O6 at 0 opcode 208")),
-    // The type byte of EQU.
+/// Faults of the program that prints A: the instruction is cut at 13; real numbers, sets, strings, and an
+/// opcode that is none; a standard procedure that is none, and one of the heap.
+const BAD_OPCODES: [Edit; 7] = [
+    (12, &[0xd7, 0xd7], Refused("O1 at 13")),
+    (0, &[0x81], Refused("O2 at 0")),
+    (0, &[0x85], Refused("O3 at 0")),
+    (0, &[0xa6], Refused("O4 at 0")),
+    (0, &[0xd0], Refused("O6 at 0 opcode 208")),
+    (11, &[0x09], Refused("O13 at 10 procedure 9")),
+    (11, &[0x01], Refused("O14 at 10")),
+];
+
+/// The type byte of EQU, RNP in procedure 1, a call of a procedure 0, and the least of two faulty offsets.
+const FAULTY_OFFSETS: [Edit; 4] = [
     (0, &[0xaf, 0x02, 0x03], Refused("O6 at 0 opcode 175")),
-    (11, &[0x09, 0xc1, 0x00], Refused("O13 at 10 procedure 9")),
-    (11, &[0x01, 0xc1, 0x00], Refused("O14 at 10")),
-    (11, &[0x06, 0xd7, 0xd7], Refused("O1 at 13")),
-    // RNP in procedure 1, and a call of a procedure 0.
     (11, &[0x06, 0xad, 0x00], Refused("O12 at 12")),
     (0, &[0xcf, 0x00, 0x00], Refused("O9 at 0")),
-    // The least of two faulty offsets.
     (0, &[0x41, 0xd0, 0x81], Refused("O6 at 1 opcode 208")),
 ];
+
+/// CXP 0,19, a call into the operating system.
+const SYSTEM_CALL: [Edit; 1] = [(0, &[0xcd, 0x00, 0x13], Refused("O5 at 0"))];
 
 /// Each of the three commands comes to what it has to on each of these edits of a segment.
 fn all_agree(rt: &HostRuntime, segment: &[u8], edits: &[Edit]) -> Result<(), Fail> {
@@ -135,8 +139,14 @@ fn all_agree(rt: &HostRuntime, segment: &[u8], edits: &[Edit]) -> Result<(), Fai
 }
 
 #[test]
-fn faulty_offsets(rt: HostRuntime) -> Result<(), Fail> {
+fn bad_opcodes(rt: HostRuntime) -> Result<(), Fail> {
+    all_agree(&rt, &PRINTS_A, &BAD_OPCODES)?;
     all_agree(&rt, &PRINTS_A, &FAULTY_OFFSETS)
+}
+
+#[test]
+fn system_call_refused(rt: HostRuntime) -> Result<(), Fail> {
+    all_agree(&rt, &PRINTS_A, &SYSTEM_CALL)
 }
 
 /// Faults of calls, links and returns.
@@ -168,7 +178,7 @@ const FAULTY_CASES: [Edit; 4] = [
 ];
 
 #[test]
-fn faulty_calls_and_jumps(rt: HostRuntime) -> Result<(), Fail> {
+fn bad_calls_and_jumps(rt: HostRuntime) -> Result<(), Fail> {
     all_agree(&rt, &LINKS, &FAULTY_CALLS)?;
     all_agree(&rt, &READS, &FAULTY_JUMPS)?;
     all_agree(&rt, &CASES, &FAULTY_CASES)
@@ -194,6 +204,39 @@ const FAULTY_PROCEDURES: [Edit; 6] = [
 #[test]
 fn faulty_procedures(rt: HostRuntime) -> Result<(), Fail> {
     all_agree(&rt, &RECURSION, &FAULTY_PROCEDURES)
+}
+
+/// Procedure 1 calls procedure 255 and writes A. Its attribute table follows at 16, and the parts of the
+/// others at 26.
+const CALLS_THE_LAST: [u8; 26] = [
+    0xcf, 0xff, 0x41, 0xab, 0x03, 0x01, 0xa5, 0x03, 0x00, 0x01, 0x00, 0x00, 0x9e, 0x06, 0xc1, 0x00,
+    0x02, 0x00, 0x04, 0x00, 0x06, 0x00, 0x16, 0x00, 0x01, 0x00,
+];
+
+/// A segment of 255 procedures, as many as there can be: each but the first has 12 bytes, an RNP and its
+/// attribute table at lex level 1. So the table of procedure i ends at 12 i + 13, and its pointer, which
+/// stands at 3,584 - 2 i, is 3,572 - 14 i.
+fn many_procedures(alloc: Global) -> Result<Vec<u8>, AllocError> {
+    let mut segment = Vec::from_slice(alloc, &CALLS_THE_LAST)?;
+    for number in 2..=255u8 {
+        segment.extend_from_slice(&[0xad, 0, 0, 0, 0, 0, 6, 0, 8, 0, number, 1])?;
+    }
+    for k in 0..254u16 {
+        segment.extend_from_slice(&(2 + 14 * k).to_le_bytes())?;
+    }
+    // The first procedure's table ends at 25, and its pointer stands at 3,582.
+    segment.extend_from_slice(&3558u16.to_le_bytes())?;
+    segment.extend_from_slice(&[1, 255])?;
+    Ok(segment)
+}
+
+#[test]
+fn as_many_procedures_as_there_can_be(rt: HostRuntime) -> Result<(), Fail> {
+    let segment = many_procedures(rt.alloc())?;
+    let file = code_file(rt.alloc(), segment.as_slice())?;
+    let checked = Prints(b"ok segment 1 procedures 255 reached 265\n");
+    comes_to(&rt, "check", file.as_slice(), &[], checked)?;
+    comes_to(&rt, "run", file.as_slice(), &[], Prints(b"A"))
 }
 
 /// A writer that takes its first write and fails at the second.

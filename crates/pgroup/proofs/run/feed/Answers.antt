@@ -1,6 +1,6 @@
 use Rattle.std.proofs.Common.{[], refl}
 use Rattle.std.proofs.KnownBytes.{Appends-nil}
-use Rattle.pgroup.proofs.Turning.{makes-took, takes-fed, not-takes}
+use Rattle.pgroup.proofs.Turning.{makes-took, makes-echo, takes-fed, not-takes}
 use Rattle.pgroup.proofs.run.feed.Goals as goal
 
 pub unreachable-requires : goal.unreachable-requires

@@ -1,12 +1,7 @@
-use Rattle.std.proofs.Common.{◌≡◌, ◌+◌, ◌<◌, ◌∙◌, arith, add-one, subst}
+use Rattle.std.proofs.Common.{◌≡◌, ◌+◌, ◌<◌, ◌∙◌, arith, add-one}
 use Rattle.std.proofs.lemmas.Result.{err_from_is_err_and}
-use Rattle.pcode_file.specs.Parts.{Parts}
-use Rattle.pcode_machine.specs.Turns.{AreQuiet}
-use Rattle.pgroup.proofs.Running.{Laws, Reached-start, no_run, spent, reached_quiet, next_turn, last_turn, failed_turn}
+use Rattle.pgroup.proofs.Running.{Laws, Reached-start, spent, reached_on, next_turn, last_turn, failed_turn}
 use Rattle.pgroup.proofs.run.run_program.Goals as goal
-
-pub returns-in_default : goal.returns-in_default
-returns-in_default g c = no_run _ _ c.args.steps (record { longer = c.same_run_on_longer_input.ensures; there = c.run_is_after.ensures })
 
 pub loop-done-init : goal.loop-done-init
 loop-done-init g c = record { program = c.in-Ok.ensures.program; run = rw c.in-Ok.ensures.start (Reached-start _ _); few = omega arith }
@@ -14,40 +9,33 @@ loop-done-init g c = record { program = c.in-Ok.ensures.program; run = rw c.in-O
 pub loop-done-preserved : goal.loop-done-preserved
 loop-done-preserved g c =
     let laws : Laws = record { longer = c.same_run_on_longer_input.ensures; there = c.run_is_after.ensures } in
-    let P : Parts → Type 0 = λ p. AreQuiet p c.advance-done.result c.loop-done.machine.state c.advance-done.new.self.state in
-    let before = reached_quiet c.advance-done.result c.loop-done.invariant.run (subst P c.loop-done.invariant.program c.advance-done.ensures.quiet) in
+    let before = reached_on c.advance-done.result c.loop-done.invariant.program c.loop-done.invariant.run c.advance-done.ensures.quiet in
     let same = c.advance-done.ensures.program ∙ c.loop-done.invariant.program in
     let turn = rw c.in_default-2.is at c.in_ok-finish.ensures.turn in
     record { program = c.turn.ensures.program ∙ same; run = rw add-one (next_turn laws same before turn); few = omega arith }
 
 pub returns : goal.returns
 returns g c =
-    let laws : Laws = record { longer = c.same_run_on_longer_input.ensures; there = c.run_is_after.ensures } in
     let all : c.loop-done.done ≡ c.args.steps = omega arith in
-    spent laws c.loop-done.invariant.run all
+    spent (record { longer = c.same_run_on_longer_input.ensures; there = c.run_is_after.ensures }) c.loop-done.invariant.run all
 
 pub returns-then-done-steps : goal.returns-then-done-steps
 returns-then-done-steps g c =
-    let laws : Laws = record { longer = c.same_run_on_longer_input.ensures; there = c.run_is_after.ensures } in
-    let P : Parts → Type 0 = λ p. AreQuiet p c.advance-done.result c.loop-done.machine.state c.advance-done.new.self.state in
-    let before = reached_quiet c.advance-done.result c.loop-done.invariant.run (subst P c.loop-done.invariant.program c.advance-done.ensures.quiet) in
+    let before = reached_on c.advance-done.result c.loop-done.invariant.program c.loop-done.invariant.run c.advance-done.ensures.quiet in
     let all : c.loop-done.done + c.advance-done.result ≡ c.args.steps = omega arith in
-    spent laws before all
+    spent (record { longer = c.same_run_on_longer_input.ensures; there = c.run_is_after.ensures }) before all
 
 pub returns-in-Some : goal.returns-in-Some
 returns-in-Some g c =
     let laws : Laws = record { longer = c.same_run_on_longer_input.ensures; there = c.run_is_after.ensures } in
-    let P : Parts → Type 0 = λ p. AreQuiet p c.advance-done.result c.loop-done.machine.state c.advance-done.new.self.state in
-    let before = reached_quiet c.advance-done.result c.loop-done.invariant.run (subst P c.loop-done.invariant.program c.advance-done.ensures.quiet) in
-    let same = c.advance-done.ensures.program ∙ c.loop-done.invariant.program in
-    let turn = rw c.in-Some.is at c.in_ok-finish.ensures.turn in
+    let before = reached_on c.advance-done.result c.loop-done.invariant.program c.loop-done.invariant.run c.advance-done.ensures.quiet in
     let less : c.loop-done.done + c.advance-done.result < c.args.steps = omega arith in
-    last_turn c.turn.new.machine.state c.in-Some.finish laws same before turn less
+    last_turn c.turn.new.machine.state c.in-Some.finish laws (c.advance-done.ensures.program ∙ c.loop-done.invariant.program) before (rw c.in-Some.is at c.in_ok-finish.ensures.turn) less
 
 pub returns-in_err-finish : goal.returns-in_err-finish
 returns-in_err-finish g c =
     let laws : Laws = record { longer = c.same_run_on_longer_input.ensures; there = c.run_is_after.ensures } in
-    let P : Parts → Type 0 = λ p. AreQuiet p c.advance-done.result c.loop-done.machine.state c.advance-done.new.self.state in
-    let before = reached_quiet c.advance-done.result c.loop-done.invariant.run (subst P c.loop-done.invariant.program c.advance-done.ensures.quiet) in
+    let before = reached_on c.advance-done.result c.loop-done.invariant.program c.loop-done.invariant.run c.advance-done.ensures.quiet in
     let p = err_from_is_err_and c.from_residual.result c.from_residual.ensures.1 in
-    rw p.1 (failed_turn c.advance-done.new.self.program c.turn.new.machine.state c.args.steps c.in_err-finish.field-0.0 p.0 laws before c.in_err-finish.ensures.turn p.2)
+    let less : c.loop-done.done + c.advance-done.result < c.args.steps = omega arith in
+    rw p.1 (failed_turn _ c.turn.new.machine.state c.args.steps c.in_err-finish.field-0.0 p.0 laws (c.advance-done.ensures.program ∙ c.loop-done.invariant.program) before c.in_err-finish.ensures.turn less p.2)
