@@ -58,7 +58,7 @@ fn led(alloc: Global) -> Result<Vec<Msg>, AllocError> {
 }
 
 #[test]
-fn repeats_are_one_vote(rt: HostRuntime) -> Result<(), Fail> {
+fn a_node_counts_once(rt: HostRuntime) -> Result<(), Fail> {
     let mut sent = led(rt.alloc())?;
     for _ in 0..5 {
         sent.push(accepted(1, FIRST))?;
@@ -78,7 +78,7 @@ fn repeats_are_one_vote(rt: HostRuntime) -> Result<(), Fail> {
 }
 
 #[test]
-fn ballots_after_restart(rt: HostRuntime) -> Result<(), Fail> {
+fn ballots_are_not_added(rt: HostRuntime) -> Result<(), Fail> {
     // Node 1 begins a second ballot of its own, and nobody accepts under either.
     let mut sent = Vec::new(rt.alloc());
     for round in 1..=2u32 {
