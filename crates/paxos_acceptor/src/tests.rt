@@ -2,10 +2,10 @@
 ghost use Rattle.std.specs.Prelude.{◌≡◌};
 
 use crate::{
-    Acceptor, AcceptorFault, FileStore, Me, MemoryStore, Store, StoreFault, record_decode,
-    record_encode,
+    Acceptor, AcceptorFault, FileStore, Me, MemoryStore, OpenRefused, Store, StoreFault,
+    record_decode, record_encode,
 };
-use paxos_msg::{Ballot, Body, Group, Record, Value, Vote, Votes};
+use paxos_msg::{Ballot, Body, Change, Group, Record, Value, Vote, Votes};
 use std::alloc::Global;
 use std::fs;
 use std::process::Abort;
@@ -114,20 +114,24 @@ fn fails_at_will(rt: HostRuntime) -> Result<(), Fail> {
         let votes = if is_kept { 1 } else { 0 };
         assert_eq!(rt; acceptor.record().votes.as_slice().len(), votes);
     }
+    takes_a_plan_back(&rt, rt.alloc());
     refuses_records(&rt, rt.alloc())?;
     Ok(())
 }
 
-/// There is no start after 4,294,967,295 of them, and no record with a vote above its promise.
-fn refuses_records(rt: &impl Abort, alloc: Global) -> Result<(), Fail> {
-    let spent = Record {
-        starts: u32::MAX,
-        promised: None,
-        votes: Votes::new(Vec::new(alloc)),
-    };
-    let mut acceptor = opened(rt, alloc, MemoryStore::new(spent));
-    assert_eq!(rt; acceptor.new_start(), Err(AcceptorFault::StartsSpent));
+/// A plan that is taken back leaves the next save as it is.
+fn takes_a_plan_back(rt: &impl Abort, alloc: Global) {
+    let mut acceptor = opened(rt, alloc, MemoryStore::new(Record::new(alloc)));
+    acceptor.fail_next(Some(false));
+    acceptor.fail_next(None);
+    assert_eq!(rt; acceptor.new_start(), Ok(1));
+    assert!(rt; !acceptor.is_closed());
+    let store = acceptor.into_store();
+    assert_eq!(rt; (store.stored().starts, store.faults()), (1, 0));
+}
 
+/// No record has a vote above its promise.
+fn refuses_records(rt: &impl Abort, alloc: Global) -> Result<(), Fail> {
     let mut votes = Vec::new(alloc);
     votes.push(vote_for_none(0, SECOND))?;
     let bad = Record {
@@ -181,10 +185,20 @@ fn record_bytes(rt: HostRuntime) -> Result<(), Fail> {
     of_another[3] = 1;
     let of_another = record_decode(rt.alloc(), of_another.as_slice(), ME).err();
     assert_eq!(rt; of_another, Some(StoreFault::Bad));
+
+    // 4,294,967,295 starts are a record, and there is none after them.
+    let mut spent = BYTES;
+    spent[9] = 0xFF;
+    spent[10] = 0xFF;
+    spent[11] = 0xFF;
+    spent[12] = 0xFF;
+    let spent = record_decode(rt.alloc(), spent.as_slice(), ME)?;
+    let mut acceptor = opened(&rt, rt.alloc(), MemoryStore::new(spent));
+    assert_eq!(rt; acceptor.new_start(), Err(AcceptorFault::StartsSpent));
     Ok(())
 }
 
-/// A file keeps what was saved. Where there is no folder for it, all saves fail.
+/// A file keeps what was saved, each save built on the one before. Where there is no folder for it, all saves fail.
 #[test]
 fn keeps_a_record_in_a_file(rt: HostRuntime) -> Result<(), Fail> {
     let store = FileStore::new(rt, "no_such_folder/record", ME)?;
@@ -197,8 +211,68 @@ fn keeps_a_record_in_a_file(rt: HostRuntime) -> Result<(), Fail> {
     let _ = fs::remove_file(&rt, path);
     let mut acceptor = opened(&rt, rt.alloc(), FileStore::new(rt, path, ME)?);
     assert_eq!(rt; acceptor.new_start(), Ok(1));
+    assert!(rt; acceptor.prepare(FIRST, 0).is_ok());
+    assert!(rt; acceptor.accept(FIRST, 3, Value::Noop).is_ok());
+    let mut acceptor = opened(&rt, rt.alloc(), FileStore::new(rt, path, ME)?);
+    assert_eq!(rt; acceptor.new_start(), Ok(2));
     let acceptor = opened(&rt, rt.alloc(), FileStore::new(rt, path, ME)?);
-    assert_eq!(rt; acceptor.record().starts, 1);
+    let record = acceptor.record();
+    assert_eq!(rt; (record.starts, record.promised), (2, Some(FIRST)));
+    assert_eq!(rt;
+        record.votes.as_slice(),
+        [vote_for_none(3, FIRST)].as_slice()
+    );
+    fs::remove_file(&rt, path)?;
+    Ok(())
+}
+
+/// What can't be read is no missing file: a folder in the place of the file, and a path through a file.
+#[test]
+fn files_that_cannot_be_read(rt: HostRuntime) -> Result<(), Fail> {
+    let folder = "folder_of_a_test";
+    let _ = fs::remove_dir(&rt, folder);
+    fs::create_dir(&rt, folder)?;
+    let file = "file_of_a_test";
+    fs::write(&rt, file, b"")?;
+    for path in [folder, "file_of_a_test/record"] {
+        match Acceptor::open(rt.alloc(), FileStore::new(rt, path, ME)?, ME) {
+            Ok(_) => panic!(rt; "{path} was opened"),
+            Err(OpenRefused { fault, store }) => {
+                assert_eq!(rt; (fault, store.faults()), (AcceptorFault::Store, 1));
+            }
+        }
+    }
+    // An empty file is no record.
+    let fault = match Acceptor::open(rt.alloc(), FileStore::new(rt, file, ME)?, ME) {
+        Ok(_) => None,
+        Err(refused) => Some((refused.fault, refused.store.faults())),
+    };
+    assert_eq!(rt; fault, Some((AcceptorFault::BadRecord, 0)));
+    fs::remove_dir(&rt, folder)?;
+    fs::remove_file(&rt, file)?;
+    Ok(())
+}
+
+/// After a save that failed a store saves no more until it is loaded: here a folder lies where the fresh file would.
+#[test]
+fn saves_no_more_after_a_fault(rt: HostRuntime) -> Result<(), Fail> {
+    let path = "faulty_record_of_a_test";
+    let fresh_path = "faulty_record_of_a_test.new";
+    let _ = fs::remove_file(&rt, path);
+    let _ = fs::remove_dir(&rt, fresh_path);
+    let mut store = FileStore::new(rt, path, ME)?;
+    assert_eq!(rt; store.load()?.starts, 0);
+    store.save(&Change::Start)?;
+
+    fs::create_dir(&rt, fresh_path)?;
+    assert_eq!(rt; store.save(&Change::Start), Err(StoreFault::Device));
+    fs::remove_dir(&rt, fresh_path)?;
+    assert_eq!(rt; store.save(&Change::Start), Err(StoreFault::Device));
+    assert_eq!(rt; store.faults(), 2);
+
+    assert_eq!(rt; store.load()?.starts, 1);
+    store.save(&Change::Start)?;
+    assert_eq!(rt; store.load()?.starts, 2);
     fs::remove_file(&rt, path)?;
     Ok(())
 }
