@@ -125,7 +125,8 @@ impl<R: Files + AllocGlobal + Copy + Drop> Store for FileStore<R> {
         ensures me { self.new.me ≡ self.old.me }
         ensures cause { HasCause (IsErrOf result StoreFault.Device) self.old.faults self.new.faults }
     {
-        self.found = None;
+        // Until it is read nothing is known of it.
+        self.found.take();
         let read = match read_synced(&self.rt, self.path.as_str()) {
             Ok(read) => read,
             Err(e) if e.kind() == io::ErrorKind::OutOfMemory => return Err(StoreFault::Memory),

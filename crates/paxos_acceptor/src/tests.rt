@@ -2,8 +2,8 @@
 ghost use Rattle.std.specs.Prelude.{◌≡◌};
 
 use crate::{
-    Acceptor, AcceptorFault, FileStore, Me, MemoryStore, OpenRefused, Store, StoreFault,
-    record_decode, record_encode,
+    Acceptor, AcceptorFault, FileStore, Me, MemoryStore, Store, StoreFault, record_decode,
+    record_encode,
 };
 use paxos_msg::{Ballot, Body, Change, Group, Record, Value, Vote, Votes};
 use std::alloc::Global;
@@ -198,25 +198,32 @@ fn record_bytes(rt: HostRuntime) -> Result<(), Fail> {
     Ok(())
 }
 
-/// A file keeps what was saved, each save built on the one before. Where there is no folder for it, all saves fail.
+/// Where there is no folder for a file, it is as a missing one, and no save succeeds.
 #[test]
-fn keeps_a_record_in_a_file(rt: HostRuntime) -> Result<(), Fail> {
+fn no_folder_for_a_file(rt: HostRuntime) -> Result<(), Fail> {
     let store = FileStore::new(rt, "no_such_folder/record", ME)?;
     let mut acceptor = opened(&rt, rt.alloc(), store);
     assert_eq!(rt; acceptor.new_start(), Err(AcceptorFault::Store));
     assert_eq!(rt; acceptor.new_start(), Err(AcceptorFault::Closed));
     assert_eq!(rt; acceptor.into_store().faults(), 1);
+    Ok(())
+}
 
+/// A file keeps what was saved, each save built on the one before.
+#[test]
+fn keeps_a_record_in_a_file(rt: HostRuntime) -> Result<(), Fail> {
     let path = "record_of_a_test";
     let _ = fs::remove_file(&rt, path);
-    let mut acceptor = opened(&rt, rt.alloc(), FileStore::new(rt, path, ME)?);
-    assert_eq!(rt; acceptor.new_start(), Ok(1));
-    assert!(rt; acceptor.prepare(FIRST, 0).is_ok());
-    assert!(rt; acceptor.accept(FIRST, 3, Value::Noop).is_ok());
-    let mut acceptor = opened(&rt, rt.alloc(), FileStore::new(rt, path, ME)?);
-    assert_eq!(rt; acceptor.new_start(), Ok(2));
-    let acceptor = opened(&rt, rt.alloc(), FileStore::new(rt, path, ME)?);
-    let record = acceptor.record();
+    let mut store = FileStore::new(rt, path, ME)?;
+    assert_eq!(rt; store.load()?.starts, 0);
+    store.save(&Change::Start)?;
+    store.save(&Change::Promise(FIRST))?;
+    store.save(&Change::Ballotted(3, FIRST, Value::Noop))?;
+
+    let mut store = FileStore::new(rt, path, ME)?;
+    assert_eq!(rt; store.load()?.starts, 1);
+    store.save(&Change::Start)?;
+    let record = FileStore::new(rt, path, ME)?.load()?;
     assert_eq!(rt; (record.starts, record.promised), (2, Some(FIRST)));
     assert_eq!(rt;
         record.votes.as_slice(),
@@ -226,30 +233,30 @@ fn keeps_a_record_in_a_file(rt: HostRuntime) -> Result<(), Fail> {
     Ok(())
 }
 
-/// What can't be read is no missing file: a folder in the place of the file, and a path through a file.
+/// How a store in the file of that path is refused, and how many faults it has had.
+fn refusal(rt: HostRuntime, path: &str) -> Result<Option<(AcceptorFault, u64)>, Fail> {
+    match Acceptor::open(rt.alloc(), FileStore::new(rt, path, ME)?, ME) {
+        Ok(_) => Ok(None),
+        Err(refused) => Ok(Some((refused.fault, refused.store.faults()))),
+    }
+}
+
+/// What can't be read is no missing file: a folder in the place of the file, and a path through a file. An empty file is no
+/// record.
 #[test]
 fn files_that_cannot_be_read(rt: HostRuntime) -> Result<(), Fail> {
-    let folder = "folder_of_a_test";
-    let _ = fs::remove_dir(&rt, folder);
-    fs::create_dir(&rt, folder)?;
-    let file = "file_of_a_test";
-    fs::write(&rt, file, b"")?;
-    for path in [folder, "file_of_a_test/record"] {
-        match Acceptor::open(rt.alloc(), FileStore::new(rt, path, ME)?, ME) {
-            Ok(_) => panic!(rt; "{path} was opened"),
-            Err(OpenRefused { fault, store }) => {
-                assert_eq!(rt; (fault, store.faults()), (AcceptorFault::Store, 1));
-            }
-        }
-    }
-    // An empty file is no record.
-    let fault = match Acceptor::open(rt.alloc(), FileStore::new(rt, file, ME)?, ME) {
-        Ok(_) => None,
-        Err(refused) => Some((refused.fault, refused.store.faults())),
-    };
-    assert_eq!(rt; fault, Some((AcceptorFault::BadRecord, 0)));
-    fs::remove_dir(&rt, folder)?;
-    fs::remove_file(&rt, file)?;
+    let _ = fs::remove_dir(&rt, "folder_of_a_test");
+    fs::create_dir(&rt, "folder_of_a_test")?;
+    fs::write(&rt, "file_of_a_test", b"")?;
+    let failed = Some((AcceptorFault::Store, 1));
+    assert_eq!(rt; refusal(rt, "folder_of_a_test")?, failed);
+    assert_eq!(rt; refusal(rt, "file_of_a_test/record")?, failed);
+    assert_eq!(rt;
+        refusal(rt, "file_of_a_test")?,
+        Some((AcceptorFault::BadRecord, 0))
+    );
+    fs::remove_dir(&rt, "folder_of_a_test")?;
+    fs::remove_file(&rt, "file_of_a_test")?;
     Ok(())
 }
 
