@@ -14,24 +14,13 @@ use Rattle.paxos_msg.specs.Keys.{Key}
 use Rattle.paxos_msg.specs.Messages.{IsAscending, IsSaid, Sent, vote_at}
 use Rattle.paxos_msg.specs.Records.{changed, with_vote}
 use Rattle.paxos_msg.specs.Sending.{MaySend}
-use Rattle.paxos_msg.specs.Tests.{ballot_lt, same_ballot}
 use Rattle.paxos_acceptor.specs.Answers.{accept_of, accepted, after, Answer, part_of, prepare_of, prepared, voted}
 use Rattle.paxos_acceptor.specs.Backed.{IsBacked, IsVoteBacked}
+use Rattle.paxos_acceptor.specs.Cases.{greater_promise, is_promised, value_under}
+use Rattle.paxos_acceptor.proofs.ByCases.{greater_is, no_greater, promised_is, under_is}
 use Rattle.paxos_acceptor.proofs.Reports.{reports}
 
 -- ---- ballots
-
-below_is : (a b : Ballot) → ballot_lt a b ≡ true → IsBelow a b
-below_is a b h = grind (arith, nat_tests)
-
-not_below : (a b : Ballot) → ballot_lt a b ≡ false → IsAtMost b a
-not_below a b h = grind (arith, nat_tests)
-
-same_is : (a b : Ballot) → same_ballot a b ≡ true → a ≡ b
-same_is a b h =
-    let round : a.round ≡ b.round = grind (arith, nat_tests) in
-    let node : a.node ≡ b.node = grind (arith, nat_tests) in
-    λ i. record { round = round i; node = node i }
 
 -- of two ballots that are at most one another the promised one is the other
 both_at_most : (promised : Option Ballot) (b : Ballot) → IfSome promised (λ p. IsAtMost p b) → IsSomeAnd promised (λ p. IsAtMost b p) → promised ≡ Some b
@@ -71,8 +60,8 @@ pub record MayAnswer (size i : ℕ) (typed : List Key) (learned : ℕ → Option
 
 module _ (size i : ℕ) (typed : List Key) (learned : ℕ → Option Value) (sent : Sent) (r : Record) (h : IsBacked sent r) where
   -- a greater promised ballot refuses
-  refused : (p b : Ballot) → r.promised ≡ Some p → ballot_lt b p ≡ true → MayAnswer size i typed learned sent r (record { saves = None; says = Refused b p })
-  refused p b e t = record { sends = (e, below_is b p t); backed = h }
+  refused : (p b : Ballot) → (r.promised ≡ Some p) × IsBelow b p → MayAnswer size i typed learned sent r (record { saves = None; says = Refused b p })
+  refused p b greater = record { sends = (greater.0, greater.1); backed = h }
 
   -- ---- a Prepare
 
@@ -89,17 +78,16 @@ module _ (size i : ℕ) (typed : List Key) (learned : ℕ → Option Value) (sen
       };
     }
 
-    prepare_if : (p : Ballot) → r.promised ≡ Some p → (t u : Bool) → ballot_lt b p ≡ t → same_ballot p b ≡ u → MayAnswer size i typed learned sent r (if t then record { saves = None; says = Refused b p } else record { saves = if u then None else Some (change.Promise b); says = part_of r b from })
-    prepare_if p e true u f g = refused p b e f
-    prepare_if p e false true f g = promised_already (e ∙ ap (λ (c : Ballot). Some c) (same_is p b g))
-    prepare_if p e false false f g = promised_now (if_some r.promised p (λ q. IsAtMost q b) e (not_below b p f))
+    promised_by : IfSome r.promised (λ p. IsAtMost p b) → (t : Bool) → is_promised r.promised b ≡ t → MayAnswer size i typed learned sent r (record { saves = if t then None else Some (change.Promise b); says = part_of r b from })
+    promised_by rises true e = promised_already (promised_is r.promised b e)
+    promised_by rises false e = promised_now rises
 
-    prepare_by : (o : Option Ballot) → r.promised ≡ o → MayAnswer size i typed learned sent r (prepared o r b from)
-    prepare_by None e = promised_now (if_none r.promised (λ q. IsAtMost q b) e)
-    prepare_by (Some p) e = prepare_if p e (ballot_lt b p) (same_ballot p b) refl refl
+    prepare_by : (greater : Option Ballot) → greater_promise r.promised b ≡ greater → MayAnswer size i typed learned sent r (prepared greater r b from)
+    prepare_by (Some p) e = refused p b (greater_is r.promised b p e)
+    prepare_by None e = promised_by (no_greater r.promised b e) (is_promised r.promised b) refl
 
     pub prepare_may : MayAnswer size i typed learned sent r (prepare_of r b from)
-    prepare_may = prepare_by r.promised refl
+    prepare_may = prepare_by (greater_promise r.promised b) refl
 
   -- ---- an Accept
 
@@ -123,34 +111,29 @@ module _ (size i : ℕ) (typed : List Key) (learned : ℕ → Option Value) (sen
     }
 
     -- the vote that stands there under the same ballot is told again
-    told_again : (vote : Vote) → IfSome r.promised (λ p. IsAtMost p b) → vote_at r.votes s ≡ Some vote → vote.ballot ≡ b → MayAnswer size i typed learned sent r (record { saves = None; says = Accepted b s vote.value })
-    told_again vote rises e same =
+    told_again : (w : Value) (vote : Vote) → IfSome r.promised (λ p. IsAtMost p b) → vote_at r.votes s ≡ Some vote → vote.ballot ≡ b → vote.value ≡ w → MayAnswer size i typed learned sent r (record { saves = None; says = Accepted b s w })
+    told_again w vote rises e ballot value =
         let backed : IsVoteBacked sent r s vote = of_some (vote_at r.votes s) vote (IsVoteBacked sent r s) e (h.votes s) in
         let place : vote.place ≡ s = (law.found r.votes s vote e).1 in
+        let same : vote ≡ record { place = s; ballot = b; value = w } = λ j. record { place = place j; ballot = ballot j; value = value j } in
         record {
           sends = (
-            subst (λ (c : Ballot). IsSaid sent (Accept c s vote.value)) same backed.proposed,
-            e ∙ ap (λ (w : Vote). Some w) (λ j. record { place = place j; ballot = same j; value = vote.value }),
-            both_at_most r.promised b rises (subst (λ (c : Ballot). IsSomeAnd r.promised (λ p. IsAtMost c p)) same backed.in_promise),
+            subst (λ (x : Vote). IsSaid sent (Accept x.ballot s x.value)) same backed.proposed,
+            e ∙ ap (λ (x : Vote). Some x) same,
+            both_at_most r.promised b rises (subst (λ (c : Ballot). IsSomeAnd r.promised (λ p. IsAtMost c p)) ballot backed.in_promise),
           );
           backed = h;
         }
 
-    vote_if : (vote : Vote) → IfSome r.promised (λ p. IsAtMost p b) → vote_at r.votes s ≡ Some vote → (t : Bool) → same_ballot vote.ballot b ≡ t → MayAnswer size i typed learned sent r (if t then record { saves = None; says = Accepted b s vote.value } else record { saves = Some (change.Ballotted s b v); says = Accepted b s v })
-    vote_if vote rises e true f = told_again vote rises e (same_is vote.ballot b f)
-    vote_if vote rises e false f = voted_now rises
+    vote_by : IfSome r.promised (λ p. IsAtMost p b) → (under : Option Value) → value_under (vote_at r.votes s) b ≡ under → MayAnswer size i typed learned sent r (voted under b s v)
+    vote_by rises None e = voted_now rises
+    vote_by rises (Some w) e =
+        let (vote, there, ballot, value) = under_is (vote_at r.votes s) b w e in
+        told_again w vote rises there ballot value
 
-    vote_by : (o : Option Vote) → IfSome r.promised (λ p. IsAtMost p b) → vote_at r.votes s ≡ o → MayAnswer size i typed learned sent r (voted o b s v)
-    vote_by None rises e = voted_now rises
-    vote_by (Some vote) rises e = vote_if vote rises e (same_ballot vote.ballot b) refl
-
-    accept_if : (p : Ballot) → r.promised ≡ Some p → (t : Bool) → ballot_lt b p ≡ t → MayAnswer size i typed learned sent r (if t then record { saves = None; says = Refused b p } else voted (vote_at r.votes s) b s v)
-    accept_if p e true f = refused p b e f
-    accept_if p e false f = vote_by (vote_at r.votes s) (if_some r.promised p (λ q. IsAtMost q b) e (not_below b p f)) refl
-
-    accept_by : (o : Option Ballot) → r.promised ≡ o → MayAnswer size i typed learned sent r (accepted o r b s v)
-    accept_by None e = vote_by (vote_at r.votes s) (if_none r.promised (λ q. IsAtMost q b) e) refl
-    accept_by (Some p) e = accept_if p e (ballot_lt b p) refl
+    accept_by : (greater : Option Ballot) → greater_promise r.promised b ≡ greater → MayAnswer size i typed learned sent r (accepted greater r b s v)
+    accept_by (Some p) e = refused p b (greater_is r.promised b p e)
+    accept_by None e = vote_by (no_greater r.promised b e) (value_under (vote_at r.votes s) b) refl
 
     pub accept_may : MayAnswer size i typed learned sent r (accept_of r b s v)
-    accept_may = accept_by r.promised refl
+    accept_may = accept_by (greater_promise r.promised b) refl

@@ -1,4 +1,6 @@
+pub mod ByCases
 pub mod Ranges
+pub mod Fitting
 pub mod Parts
 pub mod Reports
 pub mod Backing

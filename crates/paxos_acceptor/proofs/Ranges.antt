@@ -12,8 +12,6 @@ use Rattle.paxos_msg.specs.Ballots.{IsAtMost}
 use Rattle.paxos_msg.specs.Fits.{IsBallot, IsPlace, IsValue, IsVote, AreVotes}
 use Rattle.paxos_msg.specs.Messages.{AreAbove, IsAscending}
 use Rattle.paxos_msg.specs.Records.{changed, with_vote}
-use Rattle.paxos_msg.specs.Tests.{ballot_lt}
-use Rattle.paxos_acceptor.specs.Cases.{greater_promise}
 use Rattle.paxos_acceptor.specs.Records.{AreKept, IsRecord}
 
 module _ (size upto : ℕ) (b : Ballot) where
@@ -33,12 +31,12 @@ module _ (size upto : ℕ) (b : Ballot) where
 at_most_trans : (a b c : Ballot) → IsAtMost a b → IsAtMost b c → IsAtMost a c
 at_most_trans a b c h k = grind arith
 
-at_most_itself : (b : Ballot) → IsAtMost b b
+pub at_most_itself : (b : Ballot) → IsAtMost b b
 at_most_itself b = grind arith
 
 module _ (size upto : ℕ) (p b : Ballot) (rises : IsAtMost p b) where
   -- a vote that may stand under a ballot may stand under each greater one, and from each smaller place on
-  raised : (low under : ℕ) (x : Vote) → under ≤ x.place → IsVote size p low upto x → IsVote size b under upto x
+  pub raised : (low under : ℕ) (x : Vote) → under ≤ x.place → IsVote size p low upto x → IsVote size b under upto x
   raised low under x le h = record {
     from_low = le;
     below_upto = h.below_upto;
@@ -47,18 +45,18 @@ module _ (size upto : ℕ) (p b : Ballot) (rises : IsAtMost p b) where
     value = h.value;
   }
 
-  all_raised : (votes : List Vote) (low : ℕ) → AreVotes size p low upto votes → AreVotes size b low upto votes
-  all_raised [] low h = tt
-  all_raised (x ∷ xs) low h = (raised low low x h.0.from_low h.0, all_raised xs (x.place + 1) h.1)
+  pub all_raised : (votes : List Vote) (low under : ℕ) → under ≤ low → AreVotes size p low upto votes → AreVotes size b under upto votes
+  all_raised [] low under le h = tt
+  all_raised (x ∷ xs) low under le h = (raised low under x (omega (arith, h.0.from_low)) h.0, all_raised xs (x.place + 1) (x.place + 1) (omega arith) h.1)
 
   -- so may all of them, with one more
   with_by : (x vote : Vote) (xs : List Vote) (low : ℕ) → AreVotes size p low upto (x ∷ xs) → IsVote size b low upto vote → (x.place < vote.place → AreVotes size b (x.place + 1) upto (with_vote xs vote)) → (t u : Bool) → nat_lt vote.place x.place ≡ t → (x.place == vote.place) ≡ u → AreVotes size b low upto (if t then vote ∷ (x ∷ xs) else (if u then vote ∷ xs else x ∷ with_vote xs vote))
   with_by x vote xs low h k rest true u e f =
       let below : vote.place < x.place = ltb-true vote.place x.place e in
-      (k, (raised low (vote.place + 1) x (omega arith) h.0, all_raised xs (x.place + 1) h.1))
+      (k, (raised low (vote.place + 1) x (omega arith) h.0, all_raised xs (x.place + 1) (x.place + 1) (omega arith) h.1))
   with_by x vote xs low h k rest false true e f =
       let same : x.place ≡ vote.place = grind (arith, nat_tests) in
-      (k, subst (λ (s : ℕ). AreVotes size b (s + 1) upto xs) same (all_raised xs (x.place + 1) h.1))
+      (k, subst (λ (s : ℕ). AreVotes size b (s + 1) upto xs) same (all_raised xs (x.place + 1) (x.place + 1) (omega arith) h.1))
   with_by x vote xs low h k rest false false e f =
       (raised low low x h.0.from_low h.0, rest (grind (arith, nat_tests)))
 
@@ -87,7 +85,7 @@ record_in_order size r h = in_order size r.promised r.votes h.kept
 -- a ballot that is promised leaves each vote where it may stand
 kept_promised : (size : ℕ) (b : Ballot) (promised : Option Ballot) (votes : List Vote) → IfSome promised (λ p. IsAtMost p b) → IsBallot size b → AreKept size promised votes → AreKept size (Some b) votes
 kept_promised size b None votes rises ballot h = (ballot, subst (AreVotes size b 0 65536) (sym h) tt)
-kept_promised size b (Some p) votes rises ballot h = (ballot, all_raised size 65536 p b rises votes 0 h.1)
+kept_promised size b (Some p) votes rises ballot h = (ballot, all_raised size 65536 p b rises votes 0 0 (omega arith) h.1)
 
 -- a vote under it joins them
 kept_voted : (size : ℕ) (promised : Option Ballot) (votes : List Vote) (vote : Vote) → IfSome promised (λ p. IsAtMost p vote.ballot) → IsVote size vote.ballot 0 65536 vote → AreKept size promised votes → AreKept size (Some vote.ballot) (with_vote votes vote)
@@ -118,12 +116,3 @@ kept_within size (Some b) votes h = places_within size b votes 0 h.1
 
 pub record_within : (size : ℕ) (r : Record) → IsRecord size r → All (λ vote. vote.place ≤ 65535) r.votes
 record_within size r h = kept_within size r.promised r.votes h.kept
-
-not_below : (p b : Ballot) (t : Bool) → ballot_lt b p ≡ t → (if t then Some p else None) ≡ None → IsAtMost p b
-not_below p b true e h = absurd cc
-not_below p b false e h = grind (arith, nat_tests)
-
--- where no greater ballot is promised, the promised one is at most this
-pub no_greater : (promised : Option Ballot) (b : Ballot) → greater_promise promised b ≡ None → IfSome promised (λ p. IsAtMost p b)
-no_greater None b h = tt
-no_greater (Some p) b h = not_below p b (ballot_lt b p) refl h

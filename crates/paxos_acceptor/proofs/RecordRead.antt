@@ -1,8 +1,9 @@
 -- The law: bytes are read as a record just where they are its spelling.
 use Rattle.std.proofs.Common.{if◌then◌else◌, ◌≡◌, ◌↔◌, ℕ, zero, suc, ◌+◌, ◌<◌, ◌≤◌, ◌^◌, eqb, Bool, true, false, not, ◌&&◌, List, [], ◌∷◌, ◌++◌, length, Option, Some, None, IfSome, Result, Ok, Err, refl, ap, ◌∙◌, sym, subst, append_assoc, arith}
-use Rattle.std.proofs.lemmas.Bool.{eq-eqb, eqb-true, ne_eqb}
+use Rattle.std.proofs.lemmas.Bool.{and_parts, eq-eqb, eqb-true, ne_eqb, not-false}
 use Rattle.std.proofs.lemmas.Bool.Decides.{nat_tests}
 use Rattle.std.proofs.lemmas.List.{append-nil, nil_from_length}
+use Rattle.base.proofs.Steps.{bind_ok, last_ok, ok_is}
 use Rattle.paxos_msg.specs.declared.ballot.Ballot.{Ballot}
 use Rattle.paxos_msg.specs.declared.value.Vote.{Vote}
 use Rattle.paxos_msg.specs.declared.record.Record.{Record}
@@ -10,7 +11,8 @@ use Rattle.paxos_msg.specs.declared.fault.WireFault.{WireFault}
 use Rattle.paxos_msg.specs.declared.fault.WireFault.TheVariants as fault
 use Rattle.paxos_msg.specs.Fits.{IsBallot, AreVotes}
 use Rattle.paxos_msg.specs.Grammar.{AreBytes}
-use Rattle.paxos_msg.specs.Reading.{◌>>=◌, unless, number_at, ballot_at, votes_at}
+use Rattle.base.specs.Steps.{◌>>=◌, unless}
+use Rattle.paxos_msg.specs.Reading.{number_at, ballot_at, votes_at}
 use Rattle.paxos_msg.specs.Spelling.{number_bytes, ballot_bytes, votes_bytes}
 use Rattle.paxos_acceptor.specs.declared.me.Me.{Me}
 use Rattle.paxos_acceptor.specs.Records.{AreKept, IsRecord, Rec, header_bytes, promised_bytes, record_bytes}
@@ -27,30 +29,6 @@ few_kept size (Some b) votes h = let f = few size b 0 65536 votes (omega arith) 
 
 pub few_votes : (size : ℕ) (r : Record) → IsRecord size r → length r.votes ≤ 65536
 few_votes size r h = few_kept size r.promised r.votes h.kept
-
--- ---- steps and tests that did not fail
-
-bind_ok : {A B : Type 0} (r : Result A WireFault) (f : A → Result B WireFault) (y : B) → (r >>= f) ≡ Ok y → (x : A) × (r ≡ Ok x) × (f x ≡ Ok y)
-bind_ok (Ok x) f y h = (x, refl, h)
-bind_ok (Err e) f y h = absurd cc
-
-last_ok : {A : Type 0} (e : WireFault) (b : Bool) (x y : A) → unless e b x ≡ Ok y → (b ≡ false) × (x ≡ y)
-last_ok e true x y h = absurd cc
-last_ok e false x y h = (refl, cc)
-
-abbrev done : {A : Type 0} → A → Result A WireFault
-done x = Ok x
-
-ok_is : {A : Type 0} (x y : A) → done x ≡ done y → x ≡ y
-ok_is x y h = cc
-
-not_false : (a : Bool) → not a ≡ false → a ≡ true
-not_false true h = refl
-not_false false h = absurd cc
-
-and_true : (a b : Bool) → (a && b) ≡ true → (a ≡ true) × (b ≡ true)
-and_true true b h = (refl, h)
-and_true false b h = absurd cc
 
 -- ---- the parts
 
@@ -102,7 +80,7 @@ module _ (F : Fields) where
       let front : bytes ≡ 80 ∷ 82 ∷ 1 ∷ me.node ∷ me.group.size ∷ g.0 =
       byte_found 80 bytes a.0 a.1 ∙ ap (λ (xs : List ℕ). 80 ∷ xs) (byte_found 82 a.0 b.0 b.1 ∙ ap (λ (xs : List ℕ). 82 ∷ xs) (byte_found 1 b.0 c.0 c.1 ∙ ap (λ (xs : List ℕ). 1 ∷ xs) (byte_found me.node c.0 d.0 d.1 ∙ ap (λ (xs : List ℕ). me.node ∷ xs) (byte_found me.group.size d.0 g.0 g.1)))) in
       let number = (F.numbers g.0 s.0.0 s.0.1 (others_of bytes (80 ∷ 82 ∷ 1 ∷ me.node ∷ me.group.size ∷ []) g.0 are front)).0 s.1 in
-      let session : s.0.0 ≡ me.group.session = eqb-true s.0.0 me.group.session (not_false _ t.0) in
+      let session : s.0.0 ≡ me.group.session = eqb-true s.0.0 me.group.session (not-false _ t.0) in
       let behind : g.0 ≡ number_bytes me.group.session ++ rest = number.1 ∙ ap (λ (n : ℕ). number_bytes n ++ s.0.1) session ∙ ap (λ (xs : List ℕ). number_bytes me.group.session ++ xs) t.1 in
       front ∙ ap (λ (xs : List ℕ). 80 ∷ 82 ∷ 1 ∷ me.node ∷ me.group.size ∷ xs) behind
 
@@ -146,13 +124,13 @@ module _ (F : Fields) where
   votes_found : (size n : ℕ) (p : Option Ballot) (bytes : List ℕ) (votes : List Vote) → AreBytes bytes → IsPromise size p → votes_of size p n bytes ≡ Ok votes → AreKept size p votes × (length votes ≡ n) × (bytes ≡ votes_bytes votes)
   votes_found size n None bytes votes are h e =
       let a = last_ok fault.Ballot (not (eqb n 0 && eqb (length bytes) 0)) [] votes e in
-      let b = and_true (eqb n 0) (eqb (length bytes) 0) (not_false _ a.0) in
+      let b = and_parts (eqb n 0) (eqb (length bytes) 0) (not-false _ a.0) in
       let none : votes ≡ [] = sym a.1 in
       rw none (refl, sym (eqb-true n 0 b.0), nil_from_length bytes (eqb-true (length bytes) 0 b.1))
   votes_found size n (Some b) bytes votes are h e =
       let a = bind_ok (votes_at size b 0 65536 0 n bytes) _ votes e in
       let c = last_ok fault.Trailing (not (eqb (length a.0.1) 0)) a.0.0 votes a.2 in
-      let none : a.0.1 ≡ [] = nil_from_length a.0.1 (eqb-true (length a.0.1) 0 (not_false _ c.0)) in
+      let none : a.0.1 ≡ [] = nil_from_length a.0.1 (eqb-true (length a.0.1) 0 (not-false _ c.0)) in
       let v = (F.votes size n b bytes a.0.0 a.0.1 are).0 a.1 in
       rw (← c.1) ((h, v.0), v.1, v.2 ∙ ap (λ (xs : List ℕ). votes_bytes a.0.0 ++ xs) none ∙ append-nil (votes_bytes a.0.0))
 

@@ -11,7 +11,7 @@ use Rattle.paxos_msg.specs.declared.message.Body.{Body}
 use Rattle.paxos_msg.specs.declared.message.Body.TheVariants.{Promise, Accepted, Refused}
 use Rattle.paxos_msg.specs.Messages.{vote_at}
 use Rattle.paxos_msg.specs.Records.{changed}
-use Rattle.paxos_msg.specs.Tests.{ballot_lt, same_ballot}
+use Rattle.paxos_acceptor.specs.Cases.{greater_promise, is_promised, value_under}
 
 -- the change that is saved, if any, and then the answer
 pub record Answer : Type 0 where
@@ -39,29 +39,25 @@ upto_of votes = if nat_lt 64 (length votes) then behind_last (take 64 votes) els
 abbrev pub part_of : Record → Ballot → ℕ → Body
 part_of r b from = Promise b from (upto_of (votes_from from r.votes)) (take 64 (votes_from from r.votes))
 
--- by the promised ballot: a greater one refuses, the same one needs no save
+-- by the greater promised ballot, if there is one, which refuses; where it is this ballot that is promised nothing is saved
 abbrev pub prepared : Option Ballot → Record → Ballot → ℕ → Answer
-prepared None r b from = record { saves = Some (change.Promise b); says = part_of r b from }
-prepared (Some p) r b from =
-    if ballot_lt b p then record { saves = None; says = Refused b p }
-    else record { saves = if same_ballot p b then None else Some (change.Promise b); says = part_of r b from }
+prepared (Some p) r b from = record { saves = None; says = Refused b p }
+prepared None r b from = record { saves = if is_promised r.promised b then None else Some (change.Promise b); says = part_of r b from }
 
 -- the answer to a Prepare of ballot b for the places from this one on
 abbrev pub prepare_of : Record → Ballot → ℕ → Answer
-prepare_of r b from = prepared r.promised r b from
+prepare_of r b from = prepared (greater_promise r.promised b) r b from
 
--- by the vote at the place: one under the same ballot is told again
-abbrev pub voted : Option Vote → Ballot → ℕ → Value → Answer
+-- by the value voted for under this very ballot, if there is one, which is told again
+abbrev pub voted : Option Value → Ballot → ℕ → Value → Answer
+voted (Some w) b s v = record { saves = None; says = Accepted b s w }
 voted None b s v = record { saves = Some (change.Ballotted s b v); says = Accepted b s v }
-voted (Some vote) b s v =
-    if same_ballot vote.ballot b then record { saves = None; says = Accepted b s vote.value }
-    else record { saves = Some (change.Ballotted s b v); says = Accepted b s v }
 
--- by the promised ballot: a greater one refuses
+-- by the greater promised ballot, if there is one, which refuses
 abbrev pub accepted : Option Ballot → Record → Ballot → ℕ → Value → Answer
-accepted None r b s v = voted (vote_at r.votes s) b s v
-accepted (Some p) r b s v = if ballot_lt b p then record { saves = None; says = Refused b p } else voted (vote_at r.votes s) b s v
+accepted (Some p) r b s v = record { saves = None; says = Refused b p }
+accepted None r b s v = voted (value_under (vote_at r.votes s) b) b s v
 
 -- the answer to an Accept of v at s under ballot b
 abbrev pub accept_of : Record → Ballot → ℕ → Value → Answer
-accept_of r b s v = accepted r.promised r b s v
+accept_of r b s v = accepted (greater_promise r.promised b) r b s v

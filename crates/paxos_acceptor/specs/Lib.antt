@@ -8,3 +8,4 @@ pub mod Backed
 pub mod Memories
 pub mod Cases
 pub mod Saves
+pub mod Files

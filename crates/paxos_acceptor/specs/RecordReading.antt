@@ -5,7 +5,8 @@ use Rattle.paxos_msg.specs.declared.value.Vote.{Vote}
 use Rattle.paxos_msg.specs.declared.record.Record.{Record}
 use Rattle.paxos_msg.specs.declared.fault.WireFault.{WireFault}
 use Rattle.paxos_msg.specs.declared.fault.WireFault.TheVariants as fault
-use Rattle.paxos_msg.specs.Reading.{◌>>=◌, unless, number_at, ballot_at, votes_at}
+use Rattle.base.specs.Steps.{◌>>=◌, unless}
+use Rattle.paxos_msg.specs.Reading.{number_at, ballot_at, votes_at}
 use Rattle.paxos_acceptor.specs.declared.me.Me.{Me}
 use Rattle.paxos_acceptor.specs.declared.store.StoreFault.{StoreFault}
 use Rattle.paxos_acceptor.specs.declared.store.StoreFault.TheVariants as store

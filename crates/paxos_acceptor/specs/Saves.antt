@@ -1,17 +1,20 @@
 -- What a change leaves that is saved.
-use Rattle.std.specs.Prelude.{◌≡◌, ◌↔◌, ◌≤◌, ◌⊎◌, ℕ, Bool, true, Result, Err, OnOk, OnErr, IsErrOf}
+use Rattle.std.specs.Prelude.{◌≡◌, ◌↔◌, ◌⊎◌, Bool, true, None, Result, Err, OnOk, OnErr, IsErrOf}
 use Rattle.paxos_msg.specs.declared.record.Record.{Record}
-use Rattle.paxos_acceptor.specs.Stores.{HasRisen, IsOneOf}
+use Rattle.paxos_acceptor.specs.Stores.{StoreState, FailsAsTold, HasCause, IsOneOf}
 use Rattle.paxos_acceptor.specs.declared.fault.AcceptorFault.{AcceptorFault}
 use Rattle.paxos_acceptor.specs.declared.fault.AcceptorFault.TheVariants.{Memory, Store}
 
--- At Ok the store has this record. Where memory was wanted it has the old one; after a device's fault, whose count rose, it has the
--- old or the new one, and is given up.
-pub record Saves {S T : Type 0} (honest : Type 0) (stored : S → Record) (faults : S → ℕ) (old new : S) (is_closed : Bool) (result : Result T AcceptorFault) (next : Record) : Type 0 where
-  pub saved : honest → OnOk result (stored new ≡ next)
-  pub memory : honest → IsErrOf result Memory → stored new ≡ stored old
-  pub device : honest → IsErrOf result Store → IsOneOf (stored new) (stored old) next
-  pub later : faults old ≤ faults new
-  pub cause : IsErrOf result Store → HasRisen (faults old) (faults new)
+-- At Ok the store has this record, and where memory was wanted the old one. After a device's fault, which is counted, it has the
+-- old or the new one, as it was told to if it fails at will, and is given up.
+pub record Saves {T : Type 0} (honest at_will : Type 0) (old new : StoreState) (is_closed : Bool) (result : Result T AcceptorFault) (next : Record) : Type 0 where
+  pub saved : honest → OnOk result (new.stored ≡ next)
+  pub memory : honest → IsErrOf result Memory → new.stored ≡ old.stored
+  pub device : honest → IsErrOf result Store → IsOneOf new.stored old.stored next
+  pub told : at_will → IsErrOf result Store → FailsAsTold old.plan old.stored next new.stored
+  pub unplanned : OnOk result (old.plan ≡ None)
+  pub used_up : IsErrOf result Store → new.plan ≡ None
+  pub plan : ¬ IsErrOf result Store → new.plan ≡ old.plan
+  pub cause : HasCause (IsErrOf result Store) old.faults new.faults
   pub closed : (is_closed ≡ true) ↔ IsErrOf result Store
   pub others : OnErr result ((result ≡ Err Memory) ⊎ (result ≡ Err Store))

@@ -3,6 +3,7 @@ use Rattle.std.specs.Prelude.{◌≡◌, Bool, false}
 use Rattle.paxos_msg.specs.declared.record.Record.{Record}
 use Rattle.paxos_acceptor.specs.declared.me.Me.{Me}
 use Rattle.paxos_acceptor.specs.Records.{IsRecord}
+use Rattle.paxos_acceptor.specs.Stores.{StoreState}
 
 -- whose acceptor it is, its record, whether it gave its store up, and the store
 pub record State (S : Type 0) : Type 0 where
@@ -12,6 +13,6 @@ pub record State (S : Type 0) : Type 0 where
   pub store : S
 
 -- The record is in its ranges. An honest store has it, unless the store was given up.
-pub record IsInStep {S : Type 0} (honest : Type 0) (stored : S → Record) (state : State S) : Type 0 where
-  pub ranges : IsRecord state.me.group.size state.kept
-  pub in_step : honest → state.is_closed ≡ false → stored state.store ≡ state.kept
+pub record IsInStep {S : Type 0} (honest : Type 0) (state : S → StoreState) (a : State S) : Type 0 where
+  pub ranges : IsRecord a.me.group.size a.kept
+  pub in_step : honest → a.is_closed ≡ false → (state a.store).stored ≡ a.kept

@@ -1,12 +1,12 @@
 //! An acceptor.
-ghost use Rattle.std.specs.Prelude.{◌≡◌, ◌≢◌, ◌↔◌, false, IfOk, IfErr, IsErrOf};
+ghost use Rattle.std.specs.Prelude.{◌≡◌, ◌≢◌, ◌↔◌, false, None, Some, IfOk, IfErr, IsErrOf, MatchResult};
 ghost use Rattle.paxos_msg.specs.declared.record.Change.TheVariants.{Start};
 ghost use Rattle.paxos_msg.specs.Fits.{IsBallot, IsPlace, IsValue};
-ghost use Rattle.paxos_msg.specs.Records.{changed};
-ghost use Rattle.paxos_acceptor.specs.Answers.{accept_of, after, prepare_of};
+ghost use Rattle.paxos_acceptor.specs.Answers.{accept_of, prepare_of};
+ghost use Rattle.paxos_acceptor.specs.Cases.{greater_promise};
 ghost use Rattle.paxos_acceptor.specs.Follows.{Follows};
 ghost use Rattle.paxos_acceptor.specs.Records.{IsRecord};
-ghost use Rattle.paxos_acceptor.specs.Stores.{HasRisen};
+ghost use Rattle.paxos_acceptor.specs.Stores.{HasCause};
 
 use crate::cases::{greater_promise, is_promised, value_under};
 use crate::codec::record_fits;
@@ -37,7 +37,7 @@ impl<S: Store> Model for Acceptor<S> {
 
     ghost view = { λ a. record { me = a.me; kept = a.record; is_closed = a.is_closed; store = a.store } };
 
-    ghost invariant = { λ a. IsInStep S.honest S.stored (record { me = a.me; kept = a.record; is_closed = a.is_closed; store = a.store }) };
+    ghost invariant = { λ a. IsInStep S.honest S.state (record { me = a.me; kept = a.record; is_closed = a.is_closed; store = a.store }) };
 }
 
 /// A store that an acceptor was not opened over, and why.
@@ -60,53 +60,76 @@ fn fault_of_load(fault: StoreFault) -> AcceptorFault
     }
 }
 
+/// An acceptor over the store, of which this record was loaded, if that is in its ranges. It takes no memory.
+fn over<S: Store>(
+    alloc: Global,
+    store: S,
+    kept: Record,
+    me: Me,
+) -> Result<Acceptor<S>, OpenRefused<S>>
+    requires { S.honest → (S.state store).stored ≡ kept }
+    ensures ok { IfOk result (λ a. a ≡ record { me = me; kept = kept; is_closed = false; store = store }) }
+    ensures ranges { IfOk result (λ _. IsRecord me.group.size kept) }
+    ensures err { IfErr result (λ e. (e.fault ≡ AcceptorFault.BadRecord) × (e.store ≡ store) × ¬ IsRecord me.group.size kept) }
+{
+    if !record_fits(&kept, me) {
+        let fault = AcceptorFault::BadRecord;
+        return Err(OpenRefused { fault, store });
+    }
+    Ok(Acceptor {
+        record: kept,
+        me,
+        is_closed: false,
+        store,
+        alloc,
+    })
+}
+
 impl<S: Store> Acceptor<S> {
     /// Loads the store's record. `Memory`, `Store` and `BadRecord` are what the load met; `BadRecord`, which comes last, is also
     /// a record out of its ranges. A refusal gives the store back.
     pub fn open(alloc: Global, store: S, me: Me) -> Result<Acceptor<S>, OpenRefused<S>>
-        ensures loaded { S.honest → IfOk result (λ a. (a.kept ≡ S.stored store) × (S.stored a.store ≡ S.stored store)) }
+        ensures loaded { S.honest → IfOk result (λ a. (a.kept ≡ (S.state store).stored) × ((S.state a.store).stored ≡ (S.state store).stored)) }
         ensures open { IfOk result (λ a. (a.is_closed ≡ false) × (a.me ≡ me)) }
         ensures ranges { IfOk result (λ a. IsRecord me.group.size a.kept) }
-        ensures same { S.honest → IfErr result (λ e. S.stored e.store ≡ S.stored store) }
-        ensures cause { IfErr result (λ e. e.fault ≡ AcceptorFault.Store → HasRisen (S.faults store) (S.faults e.store)) }
-        ensures bad { S.honest → IfErr result (λ e. e.fault ≡ AcceptorFault.BadRecord → ¬ IsRecord me.group.size (S.stored store)) }
+        ensures same { S.honest → IfErr result (λ e. (S.state e.store).stored ≡ (S.state store).stored) }
+        ensures bad { S.honest → IfErr result (λ e. e.fault ≡ AcceptorFault.BadRecord → ¬ IsRecord me.group.size (S.state store).stored) }
+        ensures plan { MatchResult result (λ a. (S.state a.store).plan ≡ (S.state store).plan) (λ e. (S.state e.store).plan ≡ (S.state store).plan) }
+        ensures sure { S.fails_at_will → IfErr result (λ e. e.fault ≢ AcceptorFault.Store) }
+        ensures quiet { IfOk result (λ a. (S.state a.store).faults ≡ (S.state store).faults) }
+        ensures cause { IfErr result (λ e. HasCause (e.fault ≡ AcceptorFault.Store) (S.state store).faults (S.state e.store).faults) }
         ensures others { IfErr result (λ e. (e.fault ≢ AcceptorFault.Closed) × (e.fault ≢ AcceptorFault.StartsSpent)) }
     {
         let mut store = store;
-        let kept = match store.load() {
-            Ok(kept) => kept,
+        match store.load() {
+            Ok(kept) => over(alloc, store, kept, me),
             Err(fault) => {
                 let fault = fault_of_load(fault);
-                return Err(OpenRefused { fault, store });
+                Err(OpenRefused { fault, store })
             }
-        };
-        if !record_fits(&kept, me) {
-            return Err(OpenRefused {
-                fault: AcceptorFault::BadRecord,
-                store,
-            });
         }
-        Ok(Acceptor {
-            record: kept,
-            me,
-            is_closed: false,
-            store,
-            alloc,
-        })
     }
 
-    /// The record.
+    /// The record, which is in its ranges. An honest store has the same one, unless it has failed.
     pub fn record(&self) -> &Record
         ensures same { result.now ≡ self.now.kept }
         ensures ranges { IsRecord self.now.me.group.size self.now.kept }
+        ensures stored { S.honest → self.now.is_closed ≡ false → (S.state self.now.store).stored ≡ self.now.kept }
     {
         &self.record
+    }
+
+    /// Whether the store has failed, so that each further call is `Closed`.
+    pub fn is_closed(&self) -> bool
+        ensures { result ≡ self.now.is_closed }
+    {
+        self.is_closed
     }
 
     /// Counts one more start, and answers how many there were with it. `StartsSpent` after 4,294,967,295.
     pub fn new_start(&mut self) -> Result<u32, AcceptorFault>
         ensures answer { IfOk result (λ starts. starts ≡ self.new.kept.starts) }
-        ensures follows { Follows S.honest S.stored S.faults self.old self.new result (changed self.old.kept Start) }
+        ensures follows { Follows S.honest S.fails_at_will S.state self.old self.new (Some Start) result }
         ensures spent { IsErrOf result AcceptorFault.StartsSpent ↔ ((self.old.is_closed ≡ false) × (self.old.kept.starts ≡ 4294967295)) }
         ensures others { ¬ IsErrOf result AcceptorFault.BadRecord }
     {
@@ -122,11 +145,12 @@ impl<S: Store> Acceptor<S> {
     }
 
     /// Answers a Prepare: promises the ballot, unless a greater one is promised, and reports the votes at places from `from` on, at
-    /// most 64 of them. A promise that is new is saved before it is answered.
+    /// most 64 of them. A promise that is new is saved before it is answered. A refusal takes no memory.
     pub fn prepare(&mut self, ballot: Ballot, from: u32) -> Result<Body, AcceptorFault>
         requires ballot { IsBallot self.old.me.group.size ballot }
         ensures answer { IfOk result (λ body. body ≡ (prepare_of self.old.kept ballot from).says) }
-        ensures follows { Follows S.honest S.stored S.faults self.old self.new result (after self.old.kept (prepare_of self.old.kept ballot from).saves) }
+        ensures follows { Follows S.honest S.fails_at_will S.state self.old self.new (prepare_of self.old.kept ballot from).saves result }
+        ensures memory { IsErrOf result AcceptorFault.Memory → greater_promise self.old.kept.promised ballot ≡ None }
         ensures others { ¬ IsErrOf result AcceptorFault.BadRecord × ¬ IsErrOf result AcceptorFault.StartsSpent }
     {
         if self.is_closed {
@@ -149,7 +173,7 @@ impl<S: Store> Acceptor<S> {
     }
 
     /// Answers an Accept: votes for the value at the place, unless a greater ballot is promised. A vote that is new is saved before it
-    /// is answered; one under the same ballot is told again.
+    /// is answered; one under the same ballot is told again. What saves nothing takes no memory.
     pub fn accept(
         &mut self,
         ballot: Ballot,
@@ -160,7 +184,8 @@ impl<S: Store> Acceptor<S> {
         requires place { IsPlace place }
         requires value { IsValue self.old.me.group.size value }
         ensures answer { IfOk result (λ body. body ≡ (accept_of self.old.kept ballot place value).says) }
-        ensures follows { Follows S.honest S.stored S.faults self.old self.new result (after self.old.kept (accept_of self.old.kept ballot place value).saves) }
+        ensures follows { Follows S.honest S.fails_at_will S.state self.old self.new (accept_of self.old.kept ballot place value).saves result }
+        ensures memory { IsErrOf result AcceptorFault.Memory → (accept_of self.old.kept ballot place value).saves ≢ None }
         ensures others { ¬ IsErrOf result AcceptorFault.BadRecord × ¬ IsErrOf result AcceptorFault.StartsSpent }
     {
         if self.is_closed {
@@ -202,10 +227,11 @@ impl<S: Store> Acceptor<S> {
         self.store
     }
 
-    /// Passed on to the store.
+    /// Passed on to the store: how its next save is to fail, if at all.
     pub fn fail_next(&mut self, plan: Option<bool>)
-        ensures same { S.honest → S.stored self.new.store ≡ S.stored self.old.store }
-        ensures faults { S.faults self.new.store ≡ S.faults self.old.store }
+        ensures same { S.honest → (S.state self.new.store).stored ≡ (S.state self.old.store).stored }
+        ensures plan { S.fails_at_will → (S.state self.new.store).plan ≡ plan }
+        ensures faults { (S.state self.new.store).faults ≡ (S.state self.old.store).faults }
         ensures rest { (self.new.me ≡ self.old.me) × (self.new.kept ≡ self.old.kept) × (self.new.is_closed ≡ self.old.is_closed) }
     {
         self.store.fail_next(plan);

@@ -1,21 +1,25 @@
 //! A store in a file.
-ghost use Rattle.std.specs.Prelude.{◌≡◌, ◌≤◌, IfOk, IfSome, IsNone};
+ghost use Rattle.base.specs.Faults.{HasRisen};
+ghost use Rattle.std.specs.Prelude.{◌≡◌, None, Some, IfOk, IfSome, IsErrOf, IsNone, IsOk, OnErr};
+ghost use Rattle.paxos_msg.specs.declared.record.Record.{Record};
 ghost use Rattle.paxos_msg.specs.Records.{changed, empty_record};
-ghost use Rattle.paxos_acceptor.specs.Records.{IsRecord};
-ghost use Rattle.paxos_acceptor.specs.Stores.{HasRisen};
+ghost use Rattle.paxos_acceptor.specs.Files.{Notes};
+ghost use Rattle.paxos_acceptor.specs.Records.{IsRecord, Rec};
+ghost use Rattle.paxos_acceptor.specs.Stores.{HasCause};
 
 use crate::codec::{record_decode, record_encode, record_fits};
 use crate::disk::{read_synced, write_synced};
 use crate::me::Me;
 use crate::store::{Store, StoreFault};
+use base::count_fault;
 use paxos_msg::{Change, Record};
-use std::alloc::AllocError;
+use std::alloc::{AllocError, Global};
 use std::io;
 use std::marker::Model;
 use std::rt::Files;
 
-/// A record in a file, which each save writes anew beside it and then puts in its place. What can be known of it is how
-/// often the device has failed.
+/// A record in a file, which each save writes anew beside it and then puts in its place. What can be known of it is what it has
+/// found or saved there last, and how often the device has failed. After a fault it saves no more until it is loaded again.
 #[derive(Drop)]
 pub struct FileStore<R> {
     rt: R,
@@ -27,24 +31,30 @@ pub struct FileStore<R> {
 }
 
 impl<R> Model for FileStore<R> {
-    ghost use Rattle.std.specs.Prelude.{ℕ, IfSome};
+    ghost use Rattle.std.specs.Prelude.{IfSome};
+    ghost use Rattle.paxos_acceptor.specs.Files.{Filed};
     ghost use Rattle.paxos_acceptor.specs.Records.{IsRecord};
 
-    ghost Value = { ℕ };
+    ghost Value = { Filed };
 
-    ghost view = { λ s. s.faults };
+    ghost view = { λ s. record { me = s.me; found = s.found; faults = s.faults } };
 
     ghost invariant = { λ s. IfSome s.found (IsRecord s.me.group.size) };
 }
 
-/// Counts a fault of the device.
-fn count_fault(faults: &mut u64) -> StoreFault
-    ensures device { result ≡ StoreFault.Device }
-    ensures later { faults.old ≤ faults.new }
-    ensures risen { HasRisen faults.old faults.new }
+/// The record that the file has: the empty one, where there is no file.
+fn record_in(alloc: Global, file: &Option<Vec<u8>>, me: Me) -> Result<Record, StoreFault>
+    ensures missing { IsNone file.now → IfOk result (λ r. r ≡ empty_record) }
+    ensures found { IfSome file.now (λ bytes. IfOk result (λ r. Rec me bytes.items r)) }
+    ensures only { IfSome file.now (λ bytes. (r : Record) → Rec me bytes.items r → IfOk result (λ found. found ≡ r)) }
+    ensures bad { IsErrOf result StoreFault.Bad → IfSome file.now (λ bytes. (r : Record) → ¬ Rec me bytes.items r) }
+    ensures no_file_is_good { IsNone file.now → IsOk result }
+    ensures others { ¬ IsErrOf result StoreFault.Device }
 {
-    *faults = faults.saturating_add(1);
-    StoreFault::Device
+    match file {
+        Some(bytes) => record_decode(alloc, bytes.as_slice(), me),
+        None => Ok(Record::new(alloc)),
+    }
 }
 
 /// A copy of the record: said apart, so that callers know it for the same.
@@ -71,10 +81,24 @@ fn next_record(found: &Record, change: Change, me: Me) -> Result<Option<Record>,
     Ok(Some(next))
 }
 
+impl<R> FileStore<R> {
+    /// Counts a fault of the device, after which it is not known what the file has.
+    fn give_up(&mut self) -> StoreFault
+        ensures device { result ≡ StoreFault.Device }
+        ensures me { self.new.me ≡ self.old.me }
+        ensures lost { self.new.found ≡ None }
+        ensures counted { HasRisen self.old.faults self.new.faults }
+    {
+        self.found = None;
+        self.faults = count_fault(self.faults);
+        StoreFault::Device
+    }
+}
+
 impl<R: Files + AllocGlobal + Copy + Drop> FileStore<R> {
     /// A store in the file of that path, for the record of that node. It touches no file yet.
     pub fn new(rt: R, path: &str, me: Me) -> Result<FileStore<R>, AllocError>
-        ensures { IfOk result (λ store. store ≡ 0) }
+        ensures { IfOk result (λ store. store ≡ record { me = me; found = None; faults = 0 }) }
     {
         let alloc = rt.alloc();
         Ok(FileStore {
@@ -89,44 +113,58 @@ impl<R: Files + AllocGlobal + Copy + Drop> FileStore<R> {
 }
 
 impl<R: Files + AllocGlobal + Copy + Drop> Store for FileStore<R> {
-    ghost stored = { λ _. empty_record };
+    ghost state = { λ s. record { stored = empty_record; plan = None; faults = s.faults } };
 
     ghost honest = { ⊥ };
 
-    ghost faults = { λ s. s };
+    ghost fails_at_will = { ⊥ };
 
-    fn load(&mut self) -> Result<Record, StoreFault> {
-        let alloc = self.rt.alloc();
-        let record = match read_synced(&self.rt, self.path.as_str()) {
-            Ok(Some(bytes)) => record_decode(alloc, bytes.as_slice(), self.me)?,
-            Ok(None) => Record::new(alloc),
+    fn load(&mut self) -> Result<Record, StoreFault>
+        ensures found { IfOk result (λ r. self.new.found ≡ Some r) }
+        ensures lost { OnErr result (self.new.found ≡ None) }
+        ensures me { self.new.me ≡ self.old.me }
+        ensures cause { HasCause (IsErrOf result StoreFault.Device) self.old.faults self.new.faults }
+    {
+        // Until it is read nothing is known of it.
+        self.found.take();
+        let read = match read_synced(&self.rt, self.path.as_str()) {
+            Ok(read) => read,
             Err(e) if e.kind() == io::ErrorKind::OutOfMemory => return Err(StoreFault::Memory),
-            Err(_) => return Err(count_fault(&mut self.faults)),
+            Err(_) => return Err(self.give_up()),
         };
+        let record = record_in(self.rt.alloc(), &read, self.me)?;
         self.found = Some(record.clone()?);
         Ok(record)
     }
 
-    fn save(&mut self, change: &Change) -> Result<(), StoreFault> {
+    fn save(&mut self, change: &Change) -> Result<(), StoreFault>
+        ensures notes { Notes self.old self.new change.now result }
+        ensures me { self.new.me ≡ self.old.me }
+        ensures good { ¬ IsErrOf result StoreFault.Bad }
+        ensures cause { HasCause (IsErrOf result StoreFault.Device) self.old.faults self.new.faults }
+    {
         let Some(found) = &self.found else {
-            return Err(count_fault(&mut self.faults));
+            return Err(self.give_up());
         };
         let Some(next) = next_record(found, *change, self.me)? else {
-            return Err(count_fault(&mut self.faults));
+            return Err(self.give_up());
         };
         let bytes = record_encode(self.rt.alloc(), &next, self.me)?;
         let path = self.path.as_str();
         if write_synced(&self.rt, path, self.fresh_path.as_str(), bytes.as_slice()).is_err() {
-            self.found = None;
-            return Err(count_fault(&mut self.faults));
+            return Err(self.give_up());
         }
         self.found = Some(next);
         Ok(())
     }
 
-    fn faults(&self) -> u64 {
+    fn faults(&self) -> u64
+        ensures { result ≡ self.now.faults }
+    {
         self.faults
     }
 
-    fn fail_next(&mut self, _plan: Option<bool>) {}
+    fn fail_next(&mut self, _plan: Option<bool>)
+        ensures { self.new ≡ self.old }
+    {}
 }

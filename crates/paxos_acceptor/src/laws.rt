@@ -1,10 +1,12 @@
 //! The laws of an acceptor, over the definitions alone: what it answers may be sent, over the record after its save.
-ghost use Rattle.std.specs.Prelude.{◌++◌, ℕ, List, Option, IfSome};
+ghost use Rattle.std.specs.Prelude.{◌≡◌, ◌≢◌, ◌+◌, ◌++◌, ◌<◌, ◌⊎◌, ℕ, List, Option, IfSome};
 ghost use Rattle.paxos_msg.specs.declared.ballot.Ballot.{Ballot};
 ghost use Rattle.paxos_msg.specs.declared.message.Body.TheVariants.{Accept};
+ghost use Rattle.paxos_msg.specs.declared.record.Change.{Change};
 ghost use Rattle.paxos_msg.specs.declared.record.Change.TheVariants.{Start};
 ghost use Rattle.paxos_msg.specs.declared.record.Record.{Record};
 ghost use Rattle.paxos_msg.specs.declared.value.Value.{Value};
+ghost use Rattle.paxos_msg.specs.Fits.{IsBallot, IsBody, IsPlace, IsValue};
 ghost use Rattle.paxos_msg.specs.Keys.{Key};
 ghost use Rattle.paxos_msg.specs.Messages.{IsSaid, Sent};
 ghost use Rattle.paxos_msg.specs.Records.{changed, empty_record, MaySave};
@@ -12,6 +14,7 @@ ghost use Rattle.paxos_msg.specs.Sending.{MaySend};
 ghost use Rattle.paxos_acceptor.specs.Answers.{accept_of, after, prepare_of};
 ghost use Rattle.paxos_acceptor.specs.Backed.{IsBacked};
 ghost use Rattle.paxos_acceptor.specs.Records.{IsRecord};
+ghost use Rattle.paxos_acceptor.specs.Stores.{IsOneOf};
 
 use paxos_msg::laws::votes_are_by_place;
 
@@ -41,3 +44,25 @@ pub fn votes_may_be_sent()
 {
     votes_are_by_place();
 }
+
+/// What goes out fits: over a record in its ranges the answer to a Prepare is in its ranges, whichever node sends it, and so
+/// is the record after its save.
+pub fn promises_fit()
+    ensures says { (size i from : ℕ) (r : Record) (b : Ballot) → IsRecord size r → IsBallot size b → IsPlace from → IsBody size i (prepare_of r b from).says }
+    ensures kept { (size from : ℕ) (r : Record) (b : Ballot) → IsRecord size r → IsBallot size b → IsPlace from → IsRecord size (after r (prepare_of r b from).saves) }
+{}
+
+/// The answer to an Accept, likewise.
+pub fn votes_fit()
+    ensures says { (size i s : ℕ) (r : Record) (b : Ballot) (v : Value) → IsRecord size r → IsBallot size b → IsPlace s → IsValue size v → IsBody size i (accept_of r b s v).says }
+    ensures kept { (size s : ℕ) (r : Record) (b : Ballot) (v : Value) → IsRecord size r → IsBallot size b → IsPlace s → IsValue size v → IsRecord size (after r (accept_of r b s v).saves) }
+{}
+
+/// A start is counted once, where there is one to spare, and nothing else counts as one. After a save of it that failed the
+/// stored starts are those before, or one more.
+pub fn starts_are_counted()
+    ensures one_more { (r : Record) → (changed r Start).starts ≡ r.starts + 1 }
+    ensures others { (r : Record) (change : Change) → change ≢ Start → (changed r change).starts ≡ r.starts }
+    ensures failed { (r left : Record) → IsOneOf left r (changed r Start) → (left.starts ≡ r.starts) ⊎ (left.starts ≡ r.starts + 1) }
+    ensures fits { (size : ℕ) (r : Record) → IsRecord size r → r.starts < 4294967295 → IsRecord size (changed r Start) }
+{}

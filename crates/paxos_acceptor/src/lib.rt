@@ -13,6 +13,7 @@ mod memory;
 mod part;
 mod saving;
 mod store;
+mod synced;
 #[cfg(test)]
 mod tests;
 

@@ -6,6 +6,7 @@ ghost use Rattle.paxos_acceptor.specs.Memories.{SavesByPlan};
 ghost use Rattle.paxos_acceptor.specs.Stores.{HasCause};
 
 use crate::store::{Store, StoreFault};
+use base::count_fault;
 use paxos_msg::{Change, Record};
 use std::marker::Model;
 
@@ -18,17 +19,17 @@ pub struct MemoryStore {
 }
 
 impl Model for MemoryStore {
-    ghost use Rattle.paxos_acceptor.specs.Memories.{Memory};
+    ghost use Rattle.paxos_acceptor.specs.Stores.{StoreState};
 
-    ghost Value = { Memory };
+    ghost Value = { StoreState };
 
-    ghost view = { λ s. record { kept = s.record; plan = s.plan; faults = s.faults } };
+    ghost view = { λ s. record { stored = s.record; plan = s.plan; faults = s.faults } };
 }
 
 impl MemoryStore {
     /// A store that has the record, and no fault.
     pub fn new(kept: Record) -> MemoryStore
-        ensures { (result.kept ≡ kept) × (result.plan ≡ None) × (result.faults ≡ 0) }
+        ensures { (result.stored ≡ kept) × (result.plan ≡ None) × (result.faults ≡ 0) }
     {
         MemoryStore {
             record: kept,
@@ -39,21 +40,21 @@ impl MemoryStore {
 
     /// The record that a load finds.
     pub fn stored(&self) -> &Record
-        ensures { result.now ≡ self.now.kept }
+        ensures { result.now ≡ self.now.stored }
     {
         &self.record
     }
 }
 
 impl Store for MemoryStore {
-    ghost stored = { λ s. s.kept };
+    ghost state = { λ s. s };
 
     ghost honest = { Unit {0} };
 
-    ghost faults = { λ s. s.faults };
+    ghost fails_at_will = { Unit {0} };
 
     fn load(&mut self) -> Result<Record, StoreFault>
-        ensures found { IfOk result (λ found. found ≡ self.old.kept) }
+        ensures found { IfOk result (λ found. found ≡ self.old.stored) }
         ensures err { OnErr result (result ≡ Err StoreFault.Memory) }
         ensures same { self.new ≡ self.old }
     {
@@ -61,11 +62,11 @@ impl Store for MemoryStore {
     }
 
     fn save(&mut self, change: &Change) -> Result<(), StoreFault>
-        requires starts { change.now ≡ Start → self.old.kept.starts < 4294967295 }
-        requires ascending { IsAscending self.old.kept.votes }
+        requires starts { change.now ≡ Start → self.old.stored.starts < 4294967295 }
+        requires ascending { IsAscending self.old.stored.votes }
         ensures by_plan { SavesByPlan self.old self.new change.now result }
         ensures good { ¬ IsErrOf result StoreFault.Bad }
-        ensures cause { HasCause self.old.faults self.new.faults result }
+        ensures cause { HasCause (IsErrOf result StoreFault.Device) self.old.faults self.new.faults }
     {
         if self.plan != Some(false) {
             self.record.change(*change)?;
@@ -74,7 +75,7 @@ impl Store for MemoryStore {
             return Ok(());
         }
         self.plan = None;
-        self.faults = self.faults.saturating_add(1);
+        self.faults = count_fault(self.faults);
         Err(StoreFault::Device)
     }
 

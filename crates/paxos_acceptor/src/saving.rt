@@ -16,9 +16,9 @@ pub(crate) fn save_to<S: Store>(
     change: Change,
 ) -> Result<(), AcceptorFault>
     requires open { is_closed.old ≡ false }
-    requires starts { S.honest → change ≡ Start → (S.stored store.old).starts < 4294967295 }
-    requires ascending { S.honest → IsAscending (S.stored store.old).votes }
-    ensures { Saves S.honest S.stored S.faults store.old store.new is_closed.new result (changed (S.stored store.old) change) }
+    requires starts { S.honest → change ≡ Start → (S.state store.old).stored.starts < 4294967295 }
+    requires ascending { S.honest → IsAscending (S.state store.old).stored.votes }
+    ensures { Saves S.honest S.fails_at_will (S.state store.old) (S.state store.new) is_closed.new result (changed (S.state store.old).stored change) }
 {
     match store.save(&change) {
         Ok(()) => Ok(()),
@@ -40,8 +40,8 @@ pub(crate) fn save_vote<S: Store>(
 ) -> Result<(), AcceptorFault>
     requires open { is_closed.old ≡ false }
     requires in_order { IsAscending votes.old.items }
-    requires ascending { S.honest → IsAscending (S.stored store.old).votes }
-    ensures saves { Saves S.honest S.stored S.faults store.old store.new is_closed.new result (changed (S.stored store.old) (Ballotted vote.place vote.ballot vote.value)) }
+    requires ascending { S.honest → IsAscending (S.state store.old).stored.votes }
+    ensures saves { Saves S.honest S.fails_at_will (S.state store.old) (S.state store.new) is_closed.new result (changed (S.state store.old).stored (Ballotted vote.place vote.ballot vote.value)) }
     ensures ok { OnOk result (votes.new.items ≡ with_vote votes.old.items vote) }
     ensures err { OnErr result (votes.new.items ≡ votes.old.items) }
 {

@@ -1,11 +1,10 @@
 //! A place that keeps a record.
-ghost use Rattle.std.specs.Prelude.{◌≡◌, ◌<◌, ℕ, IfOk, OnOk, IsErrOf};
-ghost use Rattle.paxos_msg.specs.declared.record.Record.{Record};
+ghost use Rattle.std.specs.Prelude.{◌≡◌, ◌<◌, None, IfOk, OnOk, IsErrOf};
 ghost use Rattle.paxos_msg.specs.declared.record.Change.TheVariants.{Start};
 ghost use Rattle.paxos_msg.specs.Messages.{IsAscending};
 ghost use Rattle.paxos_msg.specs.Records.{changed};
 ghost use Rattle.paxos_acceptor.specs.declared.store.StoreFault.TheVariants.{Memory, Device, Bad};
-ghost use Rattle.paxos_acceptor.specs.Stores.{HasCause, IsOneOf};
+ghost use Rattle.paxos_acceptor.specs.Stores.{StoreState, FailsAsTold, HasCause, IsOneOf};
 
 use paxos_msg::{Change, Record};
 use std::alloc::{AllocError, AllocFailed};
@@ -40,41 +39,50 @@ impl<T: Drop> From<AllocFailed<T>> for StoreFault {
 
 /// What keeps a record, over restarts too. Of an honest store it is known which record.
 pub trait Store {
-    /// The record that a load finds, also after a restart.
-    ghost stored: { Self → Record };
+    /// The record that a load finds, also after a restart; the fault that the next save is told to have, if any; and how often
+    /// the device has failed.
+    ghost state: { Self → StoreState };
 
     /// That such a store gives back what was saved. Where that can't be shown, as of a file, nothing is known
     /// of the record.
     ghost honest: { Type 0 };
 
-    /// How often the device has failed.
-    ghost faults: { Self → ℕ };
+    /// That the device of such a store fails as `fail_next` told it to, and else not.
+    ghost fails_at_will: { Type 0 };
 
     /// The record that is stored.
     fn load(&mut self) -> Result<Record, StoreFault>
-        ensures found { honest → IfOk result (λ found. found ≡ stored self.old) }
-        ensures same { honest → stored self.new ≡ stored self.old }
+        ensures found { honest → IfOk result (λ found. found ≡ (state self.old).stored) }
+        ensures same { honest → (state self.new).stored ≡ (state self.old).stored }
         ensures good { honest → ¬ IsErrOf result Bad }
-        ensures cause { HasCause (faults self.old) (faults self.new) result };
+        ensures plan { (state self.new).plan ≡ (state self.old).plan }
+        ensures sure { fails_at_will → ¬ IsErrOf result Device }
+        ensures cause { HasCause (IsErrOf result Device) (state self.old).faults (state self.new).faults };
 
     /// Changes the record that is stored. The record has to have its votes in order, and a start to spare.
-    /// A save that fails by the device leaves the old record or the changed one.
+    /// A save that fails by the device leaves the old record or the changed one, and uses up the plan; one that fails at will
+    /// leaves what it was told to.
     fn save(&mut self, change: &Change) -> Result<(), StoreFault>
-        requires starts { honest → change.now ≡ Start → (stored self.old).starts < 4294967295 }
-        requires ascending { honest → IsAscending (stored self.old).votes }
-        ensures saved { honest → OnOk result (stored self.new ≡ changed (stored self.old) change.now) }
-        ensures memory { honest → IsErrOf result Memory → stored self.new ≡ stored self.old }
-        ensures device { honest → IsErrOf result Device → IsOneOf (stored self.new) (stored self.old) (changed (stored self.old) change.now) }
+        requires starts { honest → change.now ≡ Start → (state self.old).stored.starts < 4294967295 }
+        requires ascending { honest → IsAscending (state self.old).stored.votes }
+        ensures saved { honest → OnOk result ((state self.new).stored ≡ changed (state self.old).stored change.now) }
+        ensures memory { honest → IsErrOf result Memory → (state self.new).stored ≡ (state self.old).stored }
+        ensures device { honest → IsErrOf result Device → IsOneOf (state self.new).stored (state self.old).stored (changed (state self.old).stored change.now) }
+        ensures told { fails_at_will → IsErrOf result Device → FailsAsTold (state self.old).plan (state self.old).stored (changed (state self.old).stored change.now) (state self.new).stored }
+        ensures unplanned { OnOk result ((state self.old).plan ≡ None) }
+        ensures used_up { IsErrOf result Device → (state self.new).plan ≡ None }
+        ensures plan { ¬ IsErrOf result Device → (state self.new).plan ≡ (state self.old).plan }
         ensures good { ¬ IsErrOf result Bad }
-        ensures cause { HasCause (faults self.old) (faults self.new) result };
+        ensures cause { HasCause (IsErrOf result Device) (state self.old).faults (state self.new).faults };
 
     /// How often the device has failed. The count stops at its greatest value, where it counts as risen.
     fn faults(&self) -> u64
-        ensures { result ≡ faults self.now };
+        ensures { result ≡ (state self.now).faults };
 
     /// Makes the next save of a store that can fail at will a fault of the device, which leaves the changed
     /// record (`Some(true)`) or the old one (`Some(false)`); `None` takes that back.
     fn fail_next(&mut self, plan: Option<bool>)
-        ensures same { honest → stored self.new ≡ stored self.old }
-        ensures faults { faults self.new ≡ faults self.old };
+        ensures same { honest → (state self.new).stored ≡ (state self.old).stored }
+        ensures plan { fails_at_will → (state self.new).plan ≡ plan }
+        ensures faults { (state self.new).faults ≡ (state self.old).faults };
 }

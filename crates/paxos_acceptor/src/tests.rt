@@ -5,7 +5,7 @@ use crate::{
     Acceptor, AcceptorFault, FileStore, Me, MemoryStore, Store, StoreFault, record_decode,
     record_encode,
 };
-use paxos_msg::{Ballot, Body, Group, Record, Value, Vote, Votes};
+use paxos_msg::{Ballot, Body, Change, Group, Record, Value, Vote, Votes};
 use std::alloc::Global;
 use std::fs;
 use std::process::Abort;
@@ -114,20 +114,24 @@ fn fails_at_will(rt: HostRuntime) -> Result<(), Fail> {
         let votes = if is_kept { 1 } else { 0 };
         assert_eq!(rt; acceptor.record().votes.as_slice().len(), votes);
     }
+    takes_a_plan_back(&rt, rt.alloc());
     refuses_records(&rt, rt.alloc())?;
     Ok(())
 }
 
-/// There is no start after 4,294,967,295 of them, and no record with a vote above its promise.
-fn refuses_records(rt: &impl Abort, alloc: Global) -> Result<(), Fail> {
-    let spent = Record {
-        starts: u32::MAX,
-        promised: None,
-        votes: Votes::new(Vec::new(alloc)),
-    };
-    let mut acceptor = opened(rt, alloc, MemoryStore::new(spent));
-    assert_eq!(rt; acceptor.new_start(), Err(AcceptorFault::StartsSpent));
+/// A plan that is taken back leaves the next save as it is.
+fn takes_a_plan_back(rt: &impl Abort, alloc: Global) {
+    let mut acceptor = opened(rt, alloc, MemoryStore::new(Record::new(alloc)));
+    acceptor.fail_next(Some(false));
+    acceptor.fail_next(None);
+    assert_eq!(rt; acceptor.new_start(), Ok(1));
+    assert!(rt; !acceptor.is_closed());
+    let store = acceptor.into_store();
+    assert_eq!(rt; (store.stored().starts, store.faults()), (1, 0));
+}
 
+/// No record has a vote above its promise.
+fn refuses_records(rt: &impl Abort, alloc: Global) -> Result<(), Fail> {
     let mut votes = Vec::new(alloc);
     votes.push(vote_for_none(0, SECOND))?;
     let bad = Record {
@@ -181,24 +185,101 @@ fn record_bytes(rt: HostRuntime) -> Result<(), Fail> {
     of_another[3] = 1;
     let of_another = record_decode(rt.alloc(), of_another.as_slice(), ME).err();
     assert_eq!(rt; of_another, Some(StoreFault::Bad));
+
+    // 4,294,967,295 starts are a record, and there is none after them.
+    let mut spent = BYTES;
+    spent[9] = 0xFF;
+    spent[10] = 0xFF;
+    spent[11] = 0xFF;
+    spent[12] = 0xFF;
+    let spent = record_decode(rt.alloc(), spent.as_slice(), ME)?;
+    let mut acceptor = opened(&rt, rt.alloc(), MemoryStore::new(spent));
+    assert_eq!(rt; acceptor.new_start(), Err(AcceptorFault::StartsSpent));
     Ok(())
 }
 
-/// A file keeps what was saved. Where there is no folder for it, all saves fail.
+/// Where there is no folder for a file, it is as a missing one, and no save succeeds.
 #[test]
-fn keeps_a_record_in_a_file(rt: HostRuntime) -> Result<(), Fail> {
+fn no_folder_for_a_file(rt: HostRuntime) -> Result<(), Fail> {
     let store = FileStore::new(rt, "no_such_folder/record", ME)?;
     let mut acceptor = opened(&rt, rt.alloc(), store);
     assert_eq!(rt; acceptor.new_start(), Err(AcceptorFault::Store));
     assert_eq!(rt; acceptor.new_start(), Err(AcceptorFault::Closed));
     assert_eq!(rt; acceptor.into_store().faults(), 1);
+    Ok(())
+}
 
+/// A file keeps what was saved, each save built on the one before.
+#[test]
+fn keeps_a_record_in_a_file(rt: HostRuntime) -> Result<(), Fail> {
     let path = "record_of_a_test";
     let _ = fs::remove_file(&rt, path);
-    let mut acceptor = opened(&rt, rt.alloc(), FileStore::new(rt, path, ME)?);
-    assert_eq!(rt; acceptor.new_start(), Ok(1));
-    let acceptor = opened(&rt, rt.alloc(), FileStore::new(rt, path, ME)?);
-    assert_eq!(rt; acceptor.record().starts, 1);
+    let mut store = FileStore::new(rt, path, ME)?;
+    assert_eq!(rt; store.load()?.starts, 0);
+    store.save(&Change::Start)?;
+    store.save(&Change::Promise(FIRST))?;
+    store.save(&Change::Ballotted(3, FIRST, Value::Noop))?;
+
+    let mut store = FileStore::new(rt, path, ME)?;
+    assert_eq!(rt; store.load()?.starts, 1);
+    store.save(&Change::Start)?;
+    let record = FileStore::new(rt, path, ME)?.load()?;
+    assert_eq!(rt; (record.starts, record.promised), (2, Some(FIRST)));
+    assert_eq!(rt;
+        record.votes.as_slice(),
+        [vote_for_none(3, FIRST)].as_slice()
+    );
+    fs::remove_file(&rt, path)?;
+    Ok(())
+}
+
+/// How a store in the file of that path is refused, and how many faults it has had.
+fn refusal(rt: HostRuntime, path: &str) -> Result<Option<(AcceptorFault, u64)>, Fail> {
+    match Acceptor::open(rt.alloc(), FileStore::new(rt, path, ME)?, ME) {
+        Ok(_) => Ok(None),
+        Err(refused) => Ok(Some((refused.fault, refused.store.faults()))),
+    }
+}
+
+/// What can't be read is no missing file: a folder in the place of the file, and a path through a file. An empty file is no
+/// record.
+#[test]
+fn files_that_cannot_be_read(rt: HostRuntime) -> Result<(), Fail> {
+    let _ = fs::remove_dir(&rt, "folder_of_a_test");
+    fs::create_dir(&rt, "folder_of_a_test")?;
+    fs::write(&rt, "file_of_a_test", b"")?;
+    let failed = Some((AcceptorFault::Store, 1));
+    assert_eq!(rt; refusal(rt, "folder_of_a_test")?, failed);
+    assert_eq!(rt; refusal(rt, "file_of_a_test/record")?, failed);
+    assert_eq!(rt;
+        refusal(rt, "file_of_a_test")?,
+        Some((AcceptorFault::BadRecord, 0))
+    );
+    fs::remove_dir(&rt, "folder_of_a_test")?;
+    fs::remove_file(&rt, "file_of_a_test")?;
+    Ok(())
+}
+
+/// After a save that failed a store saves no more until it is loaded: here a folder lies where the fresh file would.
+#[test]
+fn saves_no_more_after_a_fault(rt: HostRuntime) -> Result<(), Fail> {
+    let path = "faulty_record_of_a_test";
+    let fresh_path = "faulty_record_of_a_test.new";
+    let _ = fs::remove_file(&rt, path);
+    let _ = fs::remove_dir(&rt, fresh_path);
+    let mut store = FileStore::new(rt, path, ME)?;
+    assert_eq!(rt; store.load()?.starts, 0);
+    store.save(&Change::Start)?;
+
+    fs::create_dir(&rt, fresh_path)?;
+    assert_eq!(rt; store.save(&Change::Start), Err(StoreFault::Device));
+    fs::remove_dir(&rt, fresh_path)?;
+    assert_eq!(rt; store.save(&Change::Start), Err(StoreFault::Device));
+    assert_eq!(rt; store.faults(), 2);
+
+    assert_eq!(rt; store.load()?.starts, 1);
+    store.save(&Change::Start)?;
+    assert_eq!(rt; store.load()?.starts, 2);
     fs::remove_file(&rt, path)?;
     Ok(())
 }

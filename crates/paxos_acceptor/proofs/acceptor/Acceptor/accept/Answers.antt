@@ -1,6 +1,7 @@
 use Rattle.std.proofs.Common.{◌≡◌, rules}
 use Rattle.paxos_msg.specs.Records.{with_vote}
-use Rattle.paxos_acceptor.proofs.Ranges.{no_greater, record_in_order, stored_in_order, vote_in_ranges}
+use Rattle.paxos_acceptor.proofs.ByCases.{no_greater}
+use Rattle.paxos_acceptor.proofs.Ranges.{record_in_order, stored_in_order, vote_in_ranges}
 use Rattle.paxos_acceptor.proofs.acceptor.Acceptor.accept.Goals as goal
 
 pub find_vote-vote-requires : goal.find_vote-vote-requires

@@ -1,5 +1,6 @@
 use Rattle.std.proofs.Common.{rules}
-use Rattle.paxos_acceptor.proofs.Ranges.{no_greater, promise_in_ranges, record_in_order, record_within, stored_in_order}
+use Rattle.paxos_acceptor.proofs.ByCases.{no_greater}
+use Rattle.paxos_acceptor.proofs.Ranges.{promise_in_ranges, record_in_order, record_within, stored_in_order}
 use Rattle.paxos_acceptor.proofs.acceptor.Acceptor.prepare.Goals as goal
 
 pub part_from-requires-clause-in_order : goal.part_from-requires-clause-in_order

@@ -1,0 +1,21 @@
+-- A store in a file: what it has in memory of it.
+use Rattle.std.specs.Prelude.{◌≡◌, ℕ, Option, Some, None, IsSomeAnd, Result, OnOk, IsErrOf}
+use Rattle.paxos_msg.specs.declared.record.Record.{Record}
+use Rattle.paxos_msg.specs.declared.record.Change.{Change}
+use Rattle.paxos_msg.specs.Records.{changed}
+use Rattle.paxos_acceptor.specs.declared.me.Me.{Me}
+use Rattle.paxos_acceptor.specs.declared.store.StoreFault.{StoreFault}
+use Rattle.paxos_acceptor.specs.declared.store.StoreFault.TheVariants as fault
+
+-- whose record it is, the record that the file is known to have, if any, and how often the device failed
+pub record Filed : Type 0 where
+  pub me : Me
+  pub found : Option Record
+  pub faults : ℕ
+
+-- A save is built on what is known, and is known then itself. After a fault of the device nothing is known; where memory is wanted
+-- all is as it was.
+pub record Notes {T : Type 0} (old new : Filed) (change : Change) (result : Result T StoreFault) : Type 0 where
+  pub made : OnOk result (IsSomeAnd old.found (λ r. new.found ≡ Some (changed r change)))
+  pub lost : IsErrOf result fault.Device → new.found ≡ None
+  pub memory : IsErrOf result fault.Memory → new ≡ old
