@@ -79,8 +79,9 @@ pub trait Store {
     fn faults(&self) -> u64
         ensures { result ≡ (state self.now).faults };
 
-    /// Makes the next save of a store that can fail at will a fault of the device, which leaves the changed
-    /// record (`Some(true)`) or the old one (`Some(false)`); `None` takes that back.
+    /// Plans a fault of the device for the next save of a store that can fail at will, which then leaves the
+    /// changed record (`Some(true)`) or the old one (`Some(false)`); `None` takes that back. A save that finds
+    /// no memory leaves the plan.
     fn fail_next(&mut self, plan: Option<bool>)
         ensures same { honest → (state self.new).stored ≡ (state self.old).stored }
         ensures plan { fails_at_will → (state self.new).plan ≡ plan }

@@ -5,8 +5,8 @@ use std::io::{self, Write};
 use std::path::Path;
 use std::rt::Files;
 
-/// A file that was written and synced. There is none that was not, only such a file takes the place of another, and none
-/// is let go without taking it.
+/// A file that was written and synced: there is none that was not. The code of this crate gives a file another's path by
+/// `put_at` alone, and so never before its sync.
 pub(crate) struct Synced<'a> {
     path: &'a str,
 }

@@ -1,5 +1,5 @@
-//! The learner: what is learned at each place, from what the acceptors say that they have accepted, and
-//! the input that the learned keys are.
+//! The learner: what is learned at each place, from what the acceptors say that they have accepted
+//! and what other nodes tell, and the input that the keys below the front are.
 #![tactic(auto)]
 
 mod heard;

@@ -14,7 +14,7 @@ pub enum ProposerFault {
     /// There is no greater round than the greatest one, 4,294,967,295.
     #[error("P2")]
     RoundsSpent,
-    /// A value is offered, and each place up to the last, 65,535, has a proposal.
+    /// A value is offered, and the next place is 65,536: there is none behind the last, 65,535.
     #[error("P3")]
     PlacesSpent,
 }

@@ -18,7 +18,7 @@ const RESERVED_PROPOSALS: usize = 17;
 
 /// A proposer under one ballot: from what the acceptors promise it finds the value that it may propose
 /// at each place, one place after another. A look, and a proposal, take a search; a part of a promise
-/// takes one for each vote in it, and moves the kept votes behind that one.
+/// takes two for each vote in it, and may move the kept votes for each.
 #[derive(Drop)]
 pub struct Proposer {
     ballot: Ballot,

@@ -16,8 +16,8 @@ use Rattle.pcode_machine.specs.Configuration.{State}
 abbrev pub frame_up : List Frame → ℕ → Option Frame
 frame_up fs n = option_and_then (λ k. slice_get fs k) (link_up_of fs n)
 
--- The index of the frame that the procedure in frame f links procedure n to, which may be one around it: so many static links
--- up from the current frame as the caller's level is above the level of the procedure around n.
+-- The index of the frame to which the procedure in frame f links procedure n: one lex level further out than n, which is so many
+-- static links up from the current frame as the caller's level is above that.
 abbrev pub link_outward : Parts → Frame → ℕ → List Frame → Option ℕ
 link_outward p f n fs =
     option_and_then (λ (caller : Proc). option_and_then (λ (callee : Proc). link_up_of fs (caller.level + 1 - callee.level)) (procedure_of p.procs n))

@@ -27,8 +27,8 @@ impl MachineParts {
         }
     }
 
-    /// The index of the frame to which the procedure in the current frame links a procedure around
-    /// which it may stand itself.
+    /// The index of the frame to which the procedure in the current frame links another one, which may be
+    /// one around it: one lex level further out than that other.
     pub fn link_outward(&self, program: &Program, frame: Frame, number: u8) -> Option<u16>
         ensures { result ≡ link_outward program.now frame number self.now.frames }
     {

@@ -1,4 +1,4 @@
-//! Instructions that store a word of a frame: STL, SRO.
+//! Instructions that store a word of a frame: STL, STR, SRO.
 ghost use Rattle.std.specs.Prelude.{◌≡◌, ◌+◌, if◌then◌else◌, is_some, None, Some, OnErr};
 ghost use Rattle.pcode_frames.specs.Words.{word_at};
 ghost use Rattle.pcode_machine.specs.Stores.{stored};

@@ -19,8 +19,8 @@ use std::io::{self, Read, Write};
 use std::rt::Files;
 use thiserror::Error;
 
-/// The code file of the built-in program's segment, which writes one letter: an entry of block 0 says that
-/// it has 28 bytes and begins in block 1.
+/// The segment of the built-in program, which writes one letter: 28 bytes, that begin in block 1 of its code
+/// file.
 static SEGMENT: [u8; 28] = [
     0x41, 0xab, 0x03, 0x01, 0xa5, 0x03, 0x00, 0x01, 0x00, 0x00, 0x9e, 0x06, 0xc1, 0x00, 0x02, 0x00,
     0x04, 0x00, 0x06, 0x00, 0x14, 0x00, 0x01, 0x00, 0x02, 0x00, 0x01, 0x01,

@@ -107,7 +107,7 @@ fn listings(rt: HostRuntime) -> Result<(), Fail> {
     all_come_to(&rt, "list", &LISTED)
 }
 
-/// Faults of the program that prints A: the instruction is cut at 13; real numbers, sets, strings, and an
+/// Faults of the program that prints A: nothing stands behind the one at 13; real numbers, sets, strings, and an
 /// opcode that is none; a standard procedure that is none, and one of the heap.
 const BAD_OPCODES: [Edit; 7] = [
     (12, &[0xd7, 0xd7], Refused("O1 at 13")),
