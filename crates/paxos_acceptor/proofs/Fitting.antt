@@ -1,5 +1,5 @@
 -- What an acceptor answers over a record in its ranges is in its ranges, and so is the record after its save.
-use Rattle.std.proofs.Common.{◌≡◌, ℕ, zero, suc, ◌+◌, ◌-◌, ◌==◌, ◌<◌, ◌≤◌, nat_le, nat_lt, Bool, true, false, if◌then◌else◌, List, [], ◌∷◌, Option, Some, None, IfSome, length, take, min, slice_get, refl, subst, sym, arith}
+use Rattle.std.proofs.Common.{◌≡◌, ℕ, zero, suc, ◌+◌, ◌-◌, ◌==◌, ◌<◌, ◌≤◌, nat_le, nat_lt, Bool, true, false, if◌then◌else◌, List, [], ◌∷◌, Option, Some, None, IfSome, length, take, min, slice_get, refl, subst, arith}
 use Rattle.std.specs.Option.{option_map_or}
 use Rattle.std.proofs.lemmas.List.{length-take}
 use Rattle.std.proofs.lemmas.Bool.Decides.{nat_tests}
@@ -13,7 +13,7 @@ use Rattle.paxos_msg.specs.Ballots.{IsAtMost, IsBelow}
 use Rattle.paxos_msg.specs.Fits.{IsBallot, IsPlace, IsValue, IsVote, AreVotes, IsBody}
 use Rattle.paxos_msg.specs.Messages.{vote_at}
 use Rattle.paxos_msg.specs.Records.{changed}
-use Rattle.paxos_acceptor.specs.Answers.{Answer, accept_of, accepted, after, behind_last, part_of, prepare_of, prepared, upto_of, voted, votes_from}
+use Rattle.paxos_acceptor.specs.Answers.{Answer, accept_of, accepted, after, behind_last, part_of, prepare_of, prepared, voted, votes_from}
 use Rattle.paxos_acceptor.specs.Cases.{greater_promise, is_promised, value_under}
 use Rattle.paxos_acceptor.specs.Records.{AreKept, IsRecord}
 use Rattle.paxos_acceptor.proofs.ByCases.{greater_is, no_greater, under_is}

@@ -1,17 +1,14 @@
 -- The law: bytes are read as a record just where they are its spelling.
-use Rattle.std.proofs.Common.{if◌then◌else◌, ◌≡◌, ◌↔◌, ℕ, zero, suc, ◌+◌, ◌<◌, ◌≤◌, ◌^◌, eqb, Bool, true, false, not, ◌&&◌, List, [], ◌∷◌, ◌++◌, length, Option, Some, None, IfSome, Result, Ok, Err, refl, ap, ◌∙◌, sym, subst, append_assoc, arith}
+use Rattle.std.proofs.Common.{if◌then◌else◌, ◌≡◌, ◌↔◌, ℕ, suc, ◌+◌, ◌<◌, ◌≤◌, ◌^◌, eqb, Bool, true, false, not, ◌&&◌, List, [], ◌∷◌, ◌++◌, length, Option, Some, None, Ok, Err, refl, ap, ◌∙◌, sym, subst, append_assoc, arith}
 use Rattle.std.proofs.lemmas.Bool.{and_parts, eq-eqb, eqb-true, ne_eqb, not-false}
-use Rattle.std.proofs.lemmas.Bool.Decides.{nat_tests}
 use Rattle.std.proofs.lemmas.List.{append-nil, nil_from_length}
 use Rattle.base.proofs.Steps.{bind_ok, last_ok, ok_is}
 use Rattle.paxos_msg.specs.declared.ballot.Ballot.{Ballot}
 use Rattle.paxos_msg.specs.declared.value.Vote.{Vote}
 use Rattle.paxos_msg.specs.declared.record.Record.{Record}
-use Rattle.paxos_msg.specs.declared.fault.WireFault.{WireFault}
 use Rattle.paxos_msg.specs.declared.fault.WireFault.TheVariants as fault
 use Rattle.paxos_msg.specs.Fits.{IsBallot, AreVotes}
 use Rattle.paxos_msg.specs.Grammar.{AreBytes}
-use Rattle.base.specs.Steps.{◌>>=◌, unless}
 use Rattle.paxos_msg.specs.Reading.{number_at, ballot_at, votes_at}
 use Rattle.paxos_msg.specs.Spelling.{number_bytes, ballot_bytes, votes_bytes}
 use Rattle.paxos_acceptor.specs.declared.me.Me.{Me}

@@ -1,5 +1,5 @@
 -- Reading a record from left to right. Which fault it has does not matter: whatever it is, the bytes are no record.
-use Rattle.std.specs.Prelude.{◌≡◌, ℕ, ◌==◌, not, ◌&&◌, Bool, List, [], ◌∷◌, length, drop, Option, Some, None, Result, Ok, Err, IsErr, if◌then◌else◌}
+use Rattle.std.specs.Prelude.{◌≡◌, ℕ, ◌==◌, not, ◌&&◌, List, [], ◌∷◌, length, Option, Some, None, Result, Ok, Err, IsErr, if◌then◌else◌}
 use Rattle.paxos_msg.specs.declared.ballot.Ballot.{Ballot}
 use Rattle.paxos_msg.specs.declared.value.Vote.{Vote}
 use Rattle.paxos_msg.specs.declared.record.Record.{Record}
