@@ -39,9 +39,10 @@ word_end i j e = omega arith
 
 sldc_found : (code : List ℕ) (i n : ℕ) → n < 128 → instr_of code i (0 + n - 0) ≡ Ok (Sldc n, i + 1)
 sldc_found code i n lt =
+    let found : Result (Instr × ℕ) OpFault = Ok (Sldc n, i + 1) in
     let same : 0 + n - 0 ≡ n = omega arith in
     let below : ltb n 128 ≡ true = lt-ltb n 128 lt in
-    rw (same, below) refl
+    rw (same, below) (refl {a = found})
 
 sldl_found : (code : List ℕ) (i n : ℕ) → 1 ≤ n → n < 1 + 16 → instr_of code i (216 + n - 1) ≡ Ok (Sldl n, i + 1)
 sldl_found code i n above below =

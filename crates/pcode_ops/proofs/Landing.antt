@@ -9,12 +9,12 @@ use Rattle.pcode_file.specs.declared.file.Proc.{Proc}
 use Rattle.pcode_file.specs.Parts.{Parts, procedure_of}
 use Rattle.pcode_ops.specs.declared.fault.OpFault.{OpFault}
 use Rattle.pcode_ops.specs.declared.fault.OpFault.TheVariants.{Cut, JumpRange}
-use Rattle.pcode_ops.specs.declared.instr.Instr.TheVariants.{Ujp, Fjp, Efj, Nfj, Xjp}
+use Rattle.pcode_ops.specs.declared.instr.Instr.TheVariants.{Ujp, Xjp}
 use Rattle.pcode_ops.specs.declared.look.Onward.{Onward}
 use Rattle.pcode_ops.specs.At.{cases}
 use Rattle.pcode_ops.specs.Decoding.{instr_at}
 use Rattle.pcode_ops.specs.Jumps.{jump_in, StaysWith, pointed_by, case_of, IsCaseTable}
-use Rattle.pcode_ops.specs.Loading.{is_in, owner, jump_to, entries_in, goes, LeadsTo}
+use Rattle.pcode_ops.specs.Loading.{is_in, owner, jump_to, entries_in, goes, branch_to, LeadsTo}
 use Rattle.pcode_ops.specs.Reach.{Reach}
 use Rattle.pcode_ops.specs.Standing.{MayStand}
 use Rattle.pcode_ops.proofs.Standing.{decoded_at}
@@ -49,14 +49,10 @@ stays_with p n q sb next o at reached h =
 pub jump_stays : (p : Parts) (n : ℕ) (q : Proc) (sb : ℤ) (next : ℕ) → MayStand p q (Ujp sb) next → procedure_of p.procs n ≡ Some q → StaysWith p n q sb next
 jump_stays p n q sb next m at = stays_with p n q sb next m.leads at m.reached (jump_target (jump_to p.segment q sb next) m.leads m.found)
 
-pub false_jump_stays : (p : Parts) (n : ℕ) (q : Proc) (sb : ℤ) (next : ℕ) → MayStand p q (Fjp sb) next → procedure_of p.procs n ≡ Some q → StaysWith p n q sb next
-false_jump_stays p n q sb next m at = stays_with p n q sb next m.leads at m.reached (branch_target q next (jump_to p.segment q sb next) m.leads m.found)
-
-pub equal_jump_stays : (p : Parts) (n : ℕ) (q : Proc) (sb : ℤ) (next : ℕ) → MayStand p q (Efj sb) next → procedure_of p.procs n ≡ Some q → StaysWith p n q sb next
-equal_jump_stays p n q sb next m at = stays_with p n q sb next m.leads at m.reached (branch_target q next (jump_to p.segment q sb next) m.leads m.found)
-
-pub unequal_jump_stays : (p : Parts) (n : ℕ) (q : Proc) (sb : ℤ) (next : ℕ) → MayStand p q (Nfj sb) next → procedure_of p.procs n ≡ Some q → StaysWith p n q sb next
-unequal_jump_stays p n q sb next m at = stays_with p n q sb next m.leads at m.reached (branch_target q next (jump_to p.segment q sb next) m.leads m.found)
+-- a jump that may also go on behind itself
+pub branch_stays : (p : Parts) (n : ℕ) (q : Proc) (sb : ℤ) (next : ℕ) (o : Onward) → procedure_of p.procs n ≡ Some q → ((k : ℕ) → LeadsTo p.segment o k → Reach p k × (owner p.procs k ≡ Ok q))
+    → branch_to p.segment q sb next ≡ Ok o → StaysWith p n q sb next
+branch_stays p n q sb next o at reached found = stays_with p n q sb next o at reached (branch_target q next (jump_to p.segment q sb next) o found)
 
 -- ---- case jumps
 

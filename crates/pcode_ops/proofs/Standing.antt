@@ -1,14 +1,14 @@
 -- From the function to the relation: what is decoded stands in the code.
-use Rattle.std.proofs.Common.{◌≡◌, ℕ, ◌+◌, ◌-◌, Bool, true, false, cond, ltb, leb, eqb, ◌&&◌, List, [], ◌∷◌, Option, Some, None, Result, Ok, Err, IfOk, refl, ◌∙◌, ap, subst, arith, ℤ}
+use Rattle.std.proofs.Common.{◌≡◌, ℕ, ◌+◌, ◌-◌, Bool, true, cond, ltb, leb, eqb, ◌&&◌, List, [], ◌∷◌, Option, Some, None, Result, Ok, Err, IfOk, refl, ◌∙◌, ap, subst, arith, ℤ}
 use Rattle.std.proofs.lemmas.Bool.{ltb-true, leb-true, eqb-true, and_parts, cond_both}
 use Rattle.std.specs.Int.{w8, cast_signed}
 use Rattle.base.specs.Steps.{◌>>=◌}
 use Rattle.pcode_ops.specs.declared.instr.Instr.{Instr}
-use Rattle.pcode_ops.specs.declared.instr.Instr.TheVariants.{Sldc, Ldcn, Ldci, Sldl, Ldl, Stl, Lla, Sldo, Ldo, Sro, Lao, Lod, Str, Lda, Sto, Sind, Ind, Inc, Ixa, Mov, Ldm, Stm, Ldb, Stb, Adi, Sbi, Mpi, Dvi, Modi, Abi, Ngi, Sqi, Chk, Land, Lor, Lnot, Equi, Neqi, Leqi, Lesi, Geqi, Grti, Equ, Neq, Leq, Les, Geq, Grt, Ujp, Fjp, Efj, Nfj, Clp, Cgp, Cip, Rnp, Rbp, Nop}
+use Rattle.pcode_ops.specs.declared.instr.Instr.TheVariants.{Sldc, Ldci, Sldl, Sldo, Sind}
 use Rattle.pcode_ops.specs.declared.fault.OpFault.{OpFault}
 use Rattle.pcode_ops.specs.declared.fault.OpFault.TheVariants as fault
 use Rattle.pcode_ops.specs.At.{HasByte, Word, Big, At}
-use Rattle.pcode_ops.specs.Decoding.{byte_at, word_at, big_at, short_of, pointer_of, arithmetic_of, comparison_of, plain_of, typed_of, with_byte_of, with_big_of, with_levels_of, jump_of, is_in, standard_of, or_next, or_else, special_at, jump_or_typed_at, with_operands_at, instr_of, instr_at}
+use Rattle.pcode_ops.specs.Decoding.{in_table, byte_at, word_at, big_at, short_of, pointer_opcodes, arithmetic_opcodes, comparison_opcodes, plain_of, typed_opcodes, byte_opcodes, big_opcodes, levels_opcodes, jump_opcodes, is_in, standard_of, or_next, or_else, special_at, jump_or_typed_at, with_operands_at, instr_of, instr_at}
 use Rattle.pcode_ops.proofs.CaseJumps.{case_jump_stands}
 use Rattle.pcode_ops.proofs.Operands.{IsBig, step_has, byte_read, word_read, big_read}
 
@@ -24,8 +24,20 @@ OnForm R (Some x) = R x
 
 -- a line of a table, and the lines below it
 line : {A : Type 0} (R : A → Type 0) (b : Bool) (x : A) (rest : Option A) → (b ≡ true → R x) → OnForm R rest → OnForm R (cond b (Some x) rest)
-line R true x rest f g = f refl
-line R false x rest f g = g
+line R b x rest f g = cond_both b (Some x) rest (OnForm R) f (λ _. g)
+
+-- the byte at i is the opcode that a test names
+opcode : (code : List ℕ) (i op n : ℕ) → HasByte code i op → eqb op n ≡ true → HasByte code i n
+opcode code i op n e t = e ∙ ap Some (eqb-true op n t)
+
+-- each line of a table meets the rule, where its opcode is the byte at i
+abbrev AreLines : {A : Type 0} → List ℕ → ℕ → (A → Type 0) → List (ℕ × A) → Type 0
+AreLines code i R [] = Unit {0}
+AreLines code i R (row ∷ rows) = (HasByte code i row.0 → R row.1) × AreLines code i R rows
+
+lines : {A : Type 0} (code : List ℕ) (i op : ℕ) (R : A → Type 0) (rows : List (ℕ × A)) → HasByte code i op → AreLines code i R rows → OnForm R (in_table op rows)
+lines code i op R [] e h = tt
+lines code i op R (row ∷ rows) e h = line R (eqb op row.0) row.1 (in_table op rows) (λ t. h.0 (opcode code i op row.0 e t)) (lines code i op R rows e h.1)
 
 -- the first of two tables
 either : (R : Instr → Type 0) (o next : Option Instr) → OnForm R o → OnForm R next → OnForm R (or_else o next)
@@ -36,10 +48,6 @@ form_stands : {A : Type 0} (code : List ℕ) (i : ℕ) (R : A → Type 0) (o : O
     → OnForm R o → ((x : A) → R x → Stands code i (f x)) → Stands code i rest → Stands code i (or_next o f rest)
 form_stands code i R None f rest h g k = k
 form_stands code i R (Some x) f rest h g k = g x h
-
--- the byte at i is the opcode that a test names
-opcode : (code : List ℕ) (i op n : ℕ) → HasByte code i op → eqb op n ≡ true → HasByte code i n
-opcode code i op n e t = e ∙ ap Some (eqb-true op n t)
 
 -- ---- operands
 
@@ -69,98 +77,45 @@ short_form code i op e =
     (line (IsPlain code i) (leb 248 op && leb op 255) (Sind (op - 248)) _ (λ t. let a = and_parts (leb 248 op) (leb op 255) t in let b = leb-true 248 op a.0 in let c = leb-true op 255 a.1 in
     let same : op ≡ 248 + (op - 248) - 0 = omega arith in (omega arith, omega arith, (e ∙ ap Some same, refl))) tt)))
 
-pointer_form : (code : List ℕ) (i op : ℕ) → HasByte code i op → OnForm (IsPlain code i) (pointer_of op)
-pointer_form code i op e =
-    line (IsPlain code i) (eqb op 159) Ldcn _ (λ t. (opcode code i op 159 e t, refl))
-    (line (IsPlain code i) (eqb op 154) Sto _ (λ t. (opcode code i op 154 e t, refl))
-    (line (IsPlain code i) (eqb op 190) Ldb _ (λ t. (opcode code i op 190 e t, refl))
-    (line (IsPlain code i) (eqb op 191) Stb _ (λ t. (opcode code i op 191 e t, refl))
-    (line (IsPlain code i) (eqb op 215) Nop _ (λ t. (opcode code i op 215 e t, refl)) tt))))
+pointer_form : (code : List ℕ) (i op : ℕ) → HasByte code i op → OnForm (IsPlain code i) (in_table op pointer_opcodes)
+pointer_form code i op e = lines code i op (IsPlain code i) pointer_opcodes e ((λ g. (g, refl)), ((λ g. (g, refl)), ((λ g. (g, refl)), ((λ g. (g, refl)), ((λ g. (g, refl)), tt)))))
 
-arithmetic_form : (code : List ℕ) (i op : ℕ) → HasByte code i op → OnForm (IsPlain code i) (arithmetic_of op)
-arithmetic_form code i op e =
-    line (IsPlain code i) (eqb op 130) Adi _ (λ t. (opcode code i op 130 e t, refl))
-    (line (IsPlain code i) (eqb op 149) Sbi _ (λ t. (opcode code i op 149 e t, refl))
-    (line (IsPlain code i) (eqb op 143) Mpi _ (λ t. (opcode code i op 143 e t, refl))
-    (line (IsPlain code i) (eqb op 134) Dvi _ (λ t. (opcode code i op 134 e t, refl))
-    (line (IsPlain code i) (eqb op 142) Modi _ (λ t. (opcode code i op 142 e t, refl))
-    (line (IsPlain code i) (eqb op 128) Abi _ (λ t. (opcode code i op 128 e t, refl))
-    (line (IsPlain code i) (eqb op 145) Ngi _ (λ t. (opcode code i op 145 e t, refl))
-    (line (IsPlain code i) (eqb op 152) Sqi _ (λ t. (opcode code i op 152 e t, refl))
-    (line (IsPlain code i) (eqb op 136) Chk _ (λ t. (opcode code i op 136 e t, refl))
-    (line (IsPlain code i) (eqb op 132) Land _ (λ t. (opcode code i op 132 e t, refl))
-    (line (IsPlain code i) (eqb op 141) Lor _ (λ t. (opcode code i op 141 e t, refl))
-    (line (IsPlain code i) (eqb op 147) Lnot _ (λ t. (opcode code i op 147 e t, refl)) tt)))))))))))
+arithmetic_form : (code : List ℕ) (i op : ℕ) → HasByte code i op → OnForm (IsPlain code i) (in_table op arithmetic_opcodes)
+arithmetic_form code i op e = lines code i op (IsPlain code i) arithmetic_opcodes e ((λ g. (g, refl)), ((λ g. (g, refl)), ((λ g. (g, refl)), ((λ g. (g, refl)), ((λ g. (g, refl)), ((λ g. (g, refl)), ((λ g. (g, refl)), ((λ g. (g, refl)), ((λ g. (g, refl)), ((λ g. (g, refl)), ((λ g. (g, refl)), ((λ g. (g, refl)), tt))))))))))))
 
-comparison_form : (code : List ℕ) (i op : ℕ) → HasByte code i op → OnForm (IsPlain code i) (comparison_of op)
-comparison_form code i op e =
-    line (IsPlain code i) (eqb op 195) Equi _ (λ t. (opcode code i op 195 e t, refl))
-    (line (IsPlain code i) (eqb op 203) Neqi _ (λ t. (opcode code i op 203 e t, refl))
-    (line (IsPlain code i) (eqb op 200) Leqi _ (λ t. (opcode code i op 200 e t, refl))
-    (line (IsPlain code i) (eqb op 201) Lesi _ (λ t. (opcode code i op 201 e t, refl))
-    (line (IsPlain code i) (eqb op 196) Geqi _ (λ t. (opcode code i op 196 e t, refl))
-    (line (IsPlain code i) (eqb op 197) Grti _ (λ t. (opcode code i op 197 e t, refl)) tt)))))
+comparison_form : (code : List ℕ) (i op : ℕ) → HasByte code i op → OnForm (IsPlain code i) (in_table op comparison_opcodes)
+comparison_form code i op e = lines code i op (IsPlain code i) comparison_opcodes e ((λ g. (g, refl)), ((λ g. (g, refl)), ((λ g. (g, refl)), ((λ g. (g, refl)), ((λ g. (g, refl)), ((λ g. (g, refl)), tt))))))
 
 -- the instruction is its opcode and the type byte 6
 abbrev IsTyped : List ℕ → ℕ → Instr → Type 0
 IsTyped code i instr = HasByte code (i + 1) 6 → At code i instr (i + 2)
 
-typed_form : (code : List ℕ) (i op : ℕ) → HasByte code i op → OnForm (IsTyped code i) (typed_of op)
-typed_form code i op e =
-    line (IsTyped code i) (eqb op 175) Equ _ (λ t. λ h. (opcode code i op 175 e t, (h, next_end i)))
-    (line (IsTyped code i) (eqb op 183) Neq _ (λ t. λ h. (opcode code i op 183 e t, (h, next_end i)))
-    (line (IsTyped code i) (eqb op 180) Leq _ (λ t. λ h. (opcode code i op 180 e t, (h, next_end i)))
-    (line (IsTyped code i) (eqb op 181) Les _ (λ t. λ h. (opcode code i op 181 e t, (h, next_end i)))
-    (line (IsTyped code i) (eqb op 176) Geq _ (λ t. λ h. (opcode code i op 176 e t, (h, next_end i)))
-    (line (IsTyped code i) (eqb op 177) Grt _ (λ t. λ h. (opcode code i op 177 e t, (h, next_end i))) tt)))))
+typed_form : (code : List ℕ) (i op : ℕ) → HasByte code i op → OnForm (IsTyped code i) (in_table op typed_opcodes)
+typed_form code i op e = lines code i op (IsTyped code i) typed_opcodes e ((λ g h. (g, (h, next_end i))), ((λ g h. (g, (h, next_end i))), ((λ g h. (g, (h, next_end i))), ((λ g h. (g, (h, next_end i))), ((λ g h. (g, (h, next_end i))), ((λ g h. (g, (h, next_end i))), tt))))))
 
 abbrev TakesByte : List ℕ → ℕ → (ℕ → Instr) → Type 0
 TakesByte code i make = (n : ℕ) → HasByte code (i + 1) n → At code i (make n) (i + 2)
 
-byte_form : (code : List ℕ) (i op : ℕ) → HasByte code i op → OnForm (TakesByte code i) (with_byte_of op)
-byte_form code i op e =
-    line (TakesByte code i) (eqb op 188) (λ n. Ldm n) _ (λ t. λ n h. (opcode code i op 188 e t, (h, next_end i)))
-    (line (TakesByte code i) (eqb op 189) (λ n. Stm n) _ (λ t. λ n h. (opcode code i op 189 e t, (h, next_end i)))
-    (line (TakesByte code i) (eqb op 206) (λ n. Clp n) _ (λ t. λ n h. (opcode code i op 206 e t, (h, next_end i)))
-    (line (TakesByte code i) (eqb op 207) (λ n. Cgp n) _ (λ t. λ n h. (opcode code i op 207 e t, (h, next_end i)))
-    (line (TakesByte code i) (eqb op 174) (λ n. Cip n) _ (λ t. λ n h. (opcode code i op 174 e t, (h, next_end i)))
-    (line (TakesByte code i) (eqb op 173) (λ n. Rnp n) _ (λ t. λ n h. (opcode code i op 173 e t, (h, next_end i)))
-    (line (TakesByte code i) (eqb op 193) (λ n. Rbp n) _ (λ t. λ n h. (opcode code i op 193 e t, (h, next_end i))) tt))))))
+byte_form : (code : List ℕ) (i op : ℕ) → HasByte code i op → OnForm (TakesByte code i) (in_table op byte_opcodes)
+byte_form code i op e = lines code i op (TakesByte code i) byte_opcodes e ((λ g n h. (g, (h, next_end i))), ((λ g n h. (g, (h, next_end i))), ((λ g n h. (g, (h, next_end i))), ((λ g n h. (g, (h, next_end i))), ((λ g n h. (g, (h, next_end i))), ((λ g n h. (g, (h, next_end i))), ((λ g n h. (g, (h, next_end i))), tt)))))))
 
 abbrev TakesBig : List ℕ → ℕ → (ℕ → Instr) → Type 0
 TakesBig code i make = (n j : ℕ) → Big code (i + 1) n j → At code i (make n) j
 
-big_form : (code : List ℕ) (i op : ℕ) → HasByte code i op → OnForm (TakesBig code i) (with_big_of op)
-big_form code i op e =
-    line (TakesBig code i) (eqb op 202) (λ n. Ldl n) _ (λ t. λ n j h. (opcode code i op 202 e t, h))
-    (line (TakesBig code i) (eqb op 204) (λ n. Stl n) _ (λ t. λ n j h. (opcode code i op 204 e t, h))
-    (line (TakesBig code i) (eqb op 198) (λ n. Lla n) _ (λ t. λ n j h. (opcode code i op 198 e t, h))
-    (line (TakesBig code i) (eqb op 169) (λ n. Ldo n) _ (λ t. λ n j h. (opcode code i op 169 e t, h))
-    (line (TakesBig code i) (eqb op 171) (λ n. Sro n) _ (λ t. λ n j h. (opcode code i op 171 e t, h))
-    (line (TakesBig code i) (eqb op 165) (λ n. Lao n) _ (λ t. λ n j h. (opcode code i op 165 e t, h))
-    (line (TakesBig code i) (eqb op 163) (λ n. Ind n) _ (λ t. λ n j h. (opcode code i op 163 e t, h))
-    (line (TakesBig code i) (eqb op 162) (λ n. Inc n) _ (λ t. λ n j h. (opcode code i op 162 e t, h))
-    (line (TakesBig code i) (eqb op 164) (λ n. Ixa n) _ (λ t. λ n j h. (opcode code i op 164 e t, h))
-    (line (TakesBig code i) (eqb op 168) (λ n. Mov n) _ (λ t. λ n j h. (opcode code i op 168 e t, h)) tt)))))))))
+big_form : (code : List ℕ) (i op : ℕ) → HasByte code i op → OnForm (TakesBig code i) (in_table op big_opcodes)
+big_form code i op e = lines code i op (TakesBig code i) big_opcodes e ((λ g n j h. (g, h)), ((λ g n j h. (g, h)), ((λ g n j h. (g, h)), ((λ g n j h. (g, h)), ((λ g n j h. (g, h)), ((λ g n j h. (g, h)), ((λ g n j h. (g, h)), ((λ g n j h. (g, h)), ((λ g n j h. (g, h)), ((λ g n j h. (g, h)), tt))))))))))
 
 abbrev TakesLevels : List ℕ → ℕ → (ℕ → ℕ → Instr) → Type 0
 TakesLevels code i make = (levels n j : ℕ) → HasByte code (i + 1) levels → Big code (i + 2) n j → At code i (make levels n) j
 
-levels_form : (code : List ℕ) (i op : ℕ) → HasByte code i op → OnForm (TakesLevels code i) (with_levels_of op)
-levels_form code i op e =
-    line (TakesLevels code i) (eqb op 182) (λ levels n. Lod levels n) _ (λ t. λ levels n j g h. (opcode code i op 182 e t, g, h))
-    (line (TakesLevels code i) (eqb op 184) (λ levels n. Str levels n) _ (λ t. λ levels n j g h. (opcode code i op 184 e t, g, h))
-    (line (TakesLevels code i) (eqb op 178) (λ levels n. Lda levels n) _ (λ t. λ levels n j g h. (opcode code i op 178 e t, g, h)) tt))
+levels_form : (code : List ℕ) (i op : ℕ) → HasByte code i op → OnForm (TakesLevels code i) (in_table op levels_opcodes)
+levels_form code i op e = lines code i op (TakesLevels code i) levels_opcodes e ((λ g levels n j a h. (g, a, h)), ((λ g levels n j a h. (g, a, h)), ((λ g levels n j a h. (g, a, h)), tt)))
 
 abbrev TakesSigned : List ℕ → ℕ → (ℤ → Instr) → Type 0
 TakesSigned code i make = (b : ℕ) → HasByte code (i + 1) b → At code i (make (cast_signed w8 b)) (i + 2)
 
-jump_form : (code : List ℕ) (i op : ℕ) → HasByte code i op → OnForm (TakesSigned code i) (jump_of op)
-jump_form code i op e =
-    line (TakesSigned code i) (eqb op 185) (λ sb. Ujp sb) _ (λ t. λ b h. (opcode code i op 185 e t, (b, h, refl, next_end i)))
-    (line (TakesSigned code i) (eqb op 161) (λ sb. Fjp sb) _ (λ t. λ b h. (opcode code i op 161 e t, (b, h, refl, next_end i)))
-    (line (TakesSigned code i) (eqb op 211) (λ sb. Efj sb) _ (λ t. λ b h. (opcode code i op 211 e t, (b, h, refl, next_end i)))
-    (line (TakesSigned code i) (eqb op 212) (λ sb. Nfj sb) _ (λ t. λ b h. (opcode code i op 212 e t, (b, h, refl, next_end i))) tt)))
+jump_form : (code : List ℕ) (i op : ℕ) → HasByte code i op → OnForm (TakesSigned code i) (in_table op jump_opcodes)
+jump_form code i op e = lines code i op (TakesSigned code i) jump_opcodes e ((λ g b h. (g, (b, h, refl, next_end i))), ((λ g b h. (g, (b, h, refl, next_end i))), ((λ g b h. (g, (b, h, refl, next_end i))), ((λ g b h. (g, (b, h, refl, next_end i))), tt))))
 
 -- ---- instructions
 
@@ -186,23 +141,23 @@ typed_by code i op n instr f h = cond_both (eqb n 6) _ _ (Stands code i) (λ t. 
 
 jump_or_typed_stands : (code : List ℕ) (i op : ℕ) → HasByte code i op → Stands code i (jump_or_typed_at code i op)
 jump_or_typed_stands code i op e =
-    form_stands code i (TakesSigned code i) (jump_of op) _ _ (jump_form code i op e) (λ make f. byte_stands code i (i + 1) (λ b. Ok (make (cast_signed w8 b), i + 2)) (λ b h. f b h))
-    (form_stands code i (IsTyped code i) (typed_of op) _ _ (typed_form code i op e) (λ instr f. byte_stands code i (i + 1) (λ n. cond (eqb n 6) (Ok (instr, i + 2)) (Err (fault.Unsupported op))) (λ n h. typed_by code i op n instr f h))
+    form_stands code i (TakesSigned code i) (in_table op jump_opcodes) _ _ (jump_form code i op e) (λ make f. byte_stands code i (i + 1) (λ b. Ok (make (cast_signed w8 b), i + 2)) (λ b h. f b h))
+    (form_stands code i (IsTyped code i) (in_table op typed_opcodes) _ _ (typed_form code i op e) (λ instr f. byte_stands code i (i + 1) (λ n. cond (eqb n 6) (Ok (instr, i + 2)) (Err (fault.Unsupported op))) (λ n h. typed_by code i op n instr f h))
     (special_stands code i op e))
 
 with_operands_stands : (code : List ℕ) (i op : ℕ) → HasByte code i op → Stands code i (with_operands_at code i op)
 with_operands_stands code i op e =
-    form_stands code i (TakesByte code i) (with_byte_of op) _ _ (byte_form code i op e) (λ make f. byte_stands code i (i + 1) (λ n. Ok (make n, i + 2)) (λ n h. f n h))
-    (form_stands code i (TakesBig code i) (with_big_of op) _ _ (big_form code i op e) (λ make f. big_stands code i (i + 1) make f)
-    (form_stands code i (TakesLevels code i) (with_levels_of op) _ _ (levels_form code i op e)
+    form_stands code i (TakesByte code i) (in_table op byte_opcodes) _ _ (byte_form code i op e) (λ make f. byte_stands code i (i + 1) (λ n. Ok (make n, i + 2)) (λ n h. f n h))
+    (form_stands code i (TakesBig code i) (in_table op big_opcodes) _ _ (big_form code i op e) (λ make f. big_stands code i (i + 1) make f)
+    (form_stands code i (TakesLevels code i) (in_table op levels_opcodes) _ _ (levels_form code i op e)
     (λ make f. byte_stands code i (i + 1) (λ levels. big_at code (i + 2) >>= λ n. Ok (make levels n.0, n.1)) (λ levels g. big_stands code i (i + 2) (make levels) (λ n j h. f levels n j g h)))
     (jump_or_typed_stands code i op e)))
 
 plain_form : (code : List ℕ) (i op : ℕ) → HasByte code i op → OnForm (IsPlain code i) (plain_of op)
 plain_form code i op e =
     either (IsPlain code i) (short_of op) _ (short_form code i op e)
-    (either (IsPlain code i) (pointer_of op) _ (pointer_form code i op e)
-    (either (IsPlain code i) (arithmetic_of op) _ (arithmetic_form code i op e) (comparison_form code i op e)))
+    (either (IsPlain code i) (in_table op pointer_opcodes) _ (pointer_form code i op e)
+    (either (IsPlain code i) (in_table op arithmetic_opcodes) _ (arithmetic_form code i op e) (comparison_form code i op e)))
 
 instr_stands : (code : List ℕ) (i op : ℕ) → HasByte code i op → Stands code i (instr_of code i op)
 instr_stands code i op e =

@@ -29,6 +29,11 @@ big_at code i = byte_at code i >>= λ first.
 
 -- ---- what an opcode stands for: a table for each form
 
+-- what a table has for an opcode
+abbrev pub in_table : {A : Type 0} → ℕ → List (ℕ × A) → Option A
+in_table op [] = None
+in_table op (row ∷ rows) = if op == row.0 then Some row.1 else in_table op rows
+
 -- an instruction that is its opcode alone
 abbrev pub short_of : ℕ → Option Instr
 short_of op =
@@ -38,91 +43,47 @@ short_of op =
     else if nat_le 248 op && nat_le op 255 then Some (Sind (op - 248))
     else None
 
-abbrev pub pointer_of : ℕ → Option Instr
-pointer_of op =
-    if op == 159 then Some Ldcn
-    else if op == 154 then Some Sto
-    else if op == 190 then Some Ldb
-    else if op == 191 then Some Stb
-    else if op == 215 then Some Nop
-    else None
+-- instructions on pointers, NIL among them, and none at all
+abbrev pub pointer_opcodes : List (ℕ × Instr)
+pointer_opcodes =
+    (159, Ldcn) ∷ (154, Sto) ∷ (190, Ldb) ∷ (191, Stb) ∷ (215, Nop) ∷ []
 
-abbrev pub arithmetic_of : ℕ → Option Instr
-arithmetic_of op =
-    if op == 130 then Some Adi
-    else if op == 149 then Some Sbi
-    else if op == 143 then Some Mpi
-    else if op == 134 then Some Dvi
-    else if op == 142 then Some Modi
-    else if op == 128 then Some Abi
-    else if op == 145 then Some Ngi
-    else if op == 152 then Some Sqi
-    else if op == 136 then Some Chk
-    else if op == 132 then Some Land
-    else if op == 141 then Some Lor
-    else if op == 147 then Some Lnot
-    else None
+abbrev pub arithmetic_opcodes : List (ℕ × Instr)
+arithmetic_opcodes =
+    (130, Adi) ∷ (149, Sbi) ∷ (143, Mpi) ∷ (134, Dvi) ∷ (142, Modi) ∷ (128, Abi) ∷ (145, Ngi) ∷ (152, Sqi)
+    ∷ (136, Chk) ∷ (132, Land) ∷ (141, Lor) ∷ (147, Lnot) ∷ []
 
-abbrev pub comparison_of : ℕ → Option Instr
-comparison_of op =
-    if op == 195 then Some Equi
-    else if op == 203 then Some Neqi
-    else if op == 200 then Some Leqi
-    else if op == 201 then Some Lesi
-    else if op == 196 then Some Geqi
-    else if op == 197 then Some Grti
-    else None
+-- comparisons of integers
+abbrev pub comparison_opcodes : List (ℕ × Instr)
+comparison_opcodes =
+    (195, Equi) ∷ (203, Neqi) ∷ (200, Leqi) ∷ (201, Lesi) ∷ (196, Geqi) ∷ (197, Grti) ∷ []
 
 -- a comparison with a type byte, which is 6
-abbrev pub typed_of : ℕ → Option Instr
-typed_of op =
-    if op == 175 then Some Equ
-    else if op == 183 then Some Neq
-    else if op == 180 then Some Leq
-    else if op == 181 then Some Les
-    else if op == 176 then Some Geq
-    else if op == 177 then Some Grt
-    else None
+abbrev pub typed_opcodes : List (ℕ × Instr)
+typed_opcodes =
+    (175, Equ) ∷ (183, Neq) ∷ (180, Leq) ∷ (181, Les) ∷ (176, Geq) ∷ (177, Grt) ∷ []
 
-abbrev pub with_byte_of : ℕ → Option (ℕ → Instr)
-with_byte_of op =
-    if op == 188 then Some (λ n. Ldm n)
-    else if op == 189 then Some (λ n. Stm n)
-    else if op == 206 then Some (λ n. Clp n)
-    else if op == 207 then Some (λ n. Cgp n)
-    else if op == 174 then Some (λ n. Cip n)
-    else if op == 173 then Some (λ n. Rnp n)
-    else if op == 193 then Some (λ n. Rbp n)
-    else None
+-- with an operand of one byte
+abbrev pub byte_opcodes : List (ℕ × (ℕ → Instr))
+byte_opcodes =
+    (188, λ n. Ldm n) ∷ (189, λ n. Stm n) ∷ (206, λ n. Clp n) ∷ (207, λ n. Cgp n) ∷ (174, λ n. Cip n)
+    ∷ (173, λ n. Rnp n) ∷ (193, λ n. Rbp n) ∷ []
 
-abbrev pub with_big_of : ℕ → Option (ℕ → Instr)
-with_big_of op =
-    if op == 202 then Some (λ n. Ldl n)
-    else if op == 204 then Some (λ n. Stl n)
-    else if op == 198 then Some (λ n. Lla n)
-    else if op == 169 then Some (λ n. Ldo n)
-    else if op == 171 then Some (λ n. Sro n)
-    else if op == 165 then Some (λ n. Lao n)
-    else if op == 163 then Some (λ n. Ind n)
-    else if op == 162 then Some (λ n. Inc n)
-    else if op == 164 then Some (λ n. Ixa n)
-    else if op == 168 then Some (λ n. Mov n)
-    else None
+-- with an operand of one or two bytes
+abbrev pub big_opcodes : List (ℕ × (ℕ → Instr))
+big_opcodes =
+    (202, λ n. Ldl n) ∷ (204, λ n. Stl n) ∷ (198, λ n. Lla n) ∷ (169, λ n. Ldo n) ∷ (171, λ n. Sro n)
+    ∷ (165, λ n. Lao n) ∷ (163, λ n. Ind n) ∷ (162, λ n. Inc n) ∷ (164, λ n. Ixa n) ∷ (168, λ n. Mov n) ∷ []
 
-abbrev pub with_levels_of : ℕ → Option (ℕ → ℕ → Instr)
-with_levels_of op =
-    if op == 182 then Some (λ levels n. Lod levels n)
-    else if op == 184 then Some (λ levels n. Str levels n)
-    else if op == 178 then Some (λ levels n. Lda levels n)
-    else None
+-- with levels and an offset
+abbrev pub levels_opcodes : List (ℕ × (ℕ → ℕ → Instr))
+levels_opcodes =
+    (182, λ levels n. Lod levels n) ∷ (184, λ levels n. Str levels n) ∷ (178, λ levels n. Lda levels n) ∷ []
 
-abbrev pub jump_of : ℕ → Option (ℤ → Instr)
-jump_of op =
-    if op == 185 then Some (λ sb. Ujp sb)
-    else if op == 161 then Some (λ sb. Fjp sb)
-    else if op == 211 then Some (λ sb. Efj sb)
-    else if op == 212 then Some (λ sb. Nfj sb)
-    else None
+-- jumps with a signed byte
+abbrev pub jump_opcodes : List (ℕ × (ℤ → Instr))
+jump_opcodes =
+    (185, λ sb. Ujp sb) ∷ (161, λ sb. Fjp sb) ∷ (211, λ sb. Efj sb) ∷ (212, λ sb. Nfj sb) ∷ []
 
 abbrev pub is_in : ℕ → List ℕ → Bool
 is_in op [] = false
@@ -176,7 +137,7 @@ or_else (Some x) next = Some x
 
 -- the instruction of an opcode that has no operand
 abbrev pub plain_of : ℕ → Option Instr
-plain_of op = or_else (short_of op) (or_else (pointer_of op) (or_else (arithmetic_of op) (comparison_of op)))
+plain_of op = or_else (short_of op) (or_else (in_table op pointer_opcodes) (or_else (in_table op arithmetic_opcodes) (in_table op comparison_opcodes)))
 
 -- opcodes with a form of their own, and those without an instruction
 abbrev pub special_at : List ℕ → ℕ → ℕ → Result (Instr × ℕ) OpFault
@@ -189,16 +150,16 @@ special_at code i op =
 -- a jump, a comparison with a type byte, and the rest
 abbrev pub jump_or_typed_at : List ℕ → ℕ → ℕ → Result (Instr × ℕ) OpFault
 jump_or_typed_at code i op =
-    or_next (jump_of op) (λ make. byte_at code (i + 1) >>= λ b. Ok (make (cast_signed w8 b), i + 2))
-    (or_next (typed_of op) (λ instr. byte_at code (i + 1) >>= λ t. if t == 6 then Ok (instr, i + 2) else Err (fault.Unsupported op))
+    or_next (in_table op jump_opcodes) (λ make. byte_at code (i + 1) >>= λ b. Ok (make (cast_signed w8 b), i + 2))
+    (or_next (in_table op typed_opcodes) (λ instr. byte_at code (i + 1) >>= λ t. if t == 6 then Ok (instr, i + 2) else Err (fault.Unsupported op))
     (special_at code i op))
 
 -- an operand of one byte, of one or two bytes, or of levels and an offset, and the rest
 abbrev pub with_operands_at : List ℕ → ℕ → ℕ → Result (Instr × ℕ) OpFault
 with_operands_at code i op =
-    or_next (with_byte_of op) (λ make. byte_at code (i + 1) >>= λ n. Ok (make n, i + 2))
-    (or_next (with_big_of op) (λ make. big_at code (i + 1) >>= λ n. Ok (make n.0, n.1))
-    (or_next (with_levels_of op) (λ make. byte_at code (i + 1) >>= λ levels. big_at code (i + 2) >>= λ n. Ok (make levels n.0, n.1))
+    or_next (in_table op byte_opcodes) (λ make. byte_at code (i + 1) >>= λ n. Ok (make n, i + 2))
+    (or_next (in_table op big_opcodes) (λ make. big_at code (i + 1) >>= λ n. Ok (make n.0, n.1))
+    (or_next (in_table op levels_opcodes) (λ make. byte_at code (i + 1) >>= λ levels. big_at code (i + 2) >>= λ n. Ok (make levels n.0, n.1))
     (jump_or_typed_at code i op)))
 
 abbrev pub instr_of : List ℕ → ℕ → ℕ → Result (Instr × ℕ) OpFault

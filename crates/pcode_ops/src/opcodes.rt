@@ -2,7 +2,7 @@
 ghost use Rattle.std.specs.Prelude.{◌≡◌, is_some};
 ghost use Rattle.std.specs.Int.{w8, cast_signed};
 ghost use Rattle.std.specs.Option.{option_map};
-ghost use Rattle.pcode_ops.specs.Decoding.{short_of, pointer_of, arithmetic_of, comparison_of, plain_of, typed_of, with_byte_of, with_big_of, with_levels_of, jump_of, refusal_of};
+ghost use Rattle.pcode_ops.specs.Decoding.{in_table, short_of, pointer_opcodes, arithmetic_opcodes, comparison_opcodes, plain_of, typed_opcodes, byte_opcodes, big_opcodes, levels_opcodes, jump_opcodes, refusal_of};
 
 use crate::fault::OpFault;
 use crate::instr::Instr;
@@ -24,7 +24,7 @@ fn short(opcode: u8) -> Option<Instr>
 /// An instruction on pointers, NIL among them, or none at all.
 #[inline(always)]
 fn pointer(opcode: u8) -> Option<Instr>
-    ensures { result ≡ pointer_of opcode }
+    ensures { result ≡ in_table opcode pointer_opcodes }
 {
     match opcode {
         159 => Some(Instr::Ldcn),
@@ -39,7 +39,7 @@ fn pointer(opcode: u8) -> Option<Instr>
 /// An instruction of arithmetic or logic.
 #[inline(always)]
 fn arithmetic(opcode: u8) -> Option<Instr>
-    ensures { result ≡ arithmetic_of opcode }
+    ensures { result ≡ in_table opcode arithmetic_opcodes }
 {
     match opcode {
         130 => Some(Instr::Adi),
@@ -61,7 +61,7 @@ fn arithmetic(opcode: u8) -> Option<Instr>
 /// A comparison of integers.
 #[inline(always)]
 fn comparison(opcode: u8) -> Option<Instr>
-    ensures { result ≡ comparison_of opcode }
+    ensures { result ≡ in_table opcode comparison_opcodes }
 {
     match opcode {
         195 => Some(Instr::Equi),
@@ -94,7 +94,7 @@ pub(crate) fn plain(opcode: u8) -> Option<Instr>
 /// A comparison with a type byte.
 #[inline(always)]
 pub(crate) fn typed(opcode: u8) -> Option<Instr>
-    ensures { result ≡ typed_of opcode }
+    ensures { result ≡ in_table opcode typed_opcodes }
 {
     match opcode {
         175 => Some(Instr::Equ),
@@ -110,7 +110,7 @@ pub(crate) fn typed(opcode: u8) -> Option<Instr>
 /// Whether an opcode has an operand of one byte alone.
 #[inline(always)]
 pub(crate) fn takes_byte(opcode: u8) -> bool
-    ensures { result ≡ is_some (with_byte_of opcode) }
+    ensures { result ≡ is_some (in_table opcode byte_opcodes) }
 {
     matches!(opcode, 188 | 189 | 206 | 207 | 174 | 173 | 193)
 }
@@ -118,7 +118,7 @@ pub(crate) fn takes_byte(opcode: u8) -> bool
 /// The instruction of an opcode with an operand of one byte.
 #[inline(always)]
 pub(crate) fn with_byte(opcode: u8, n: u8) -> Option<Instr>
-    ensures { result ≡ option_map (λ make. make n) (with_byte_of opcode) }
+    ensures { result ≡ option_map (λ make. make n) (in_table opcode byte_opcodes) }
 {
     match opcode {
         188 => Some(Instr::Ldm(n)),
@@ -135,7 +135,7 @@ pub(crate) fn with_byte(opcode: u8, n: u8) -> Option<Instr>
 /// Whether an opcode has an operand of one or two bytes.
 #[inline(always)]
 pub(crate) fn takes_big(opcode: u8) -> bool
-    ensures { result ≡ is_some (with_big_of opcode) }
+    ensures { result ≡ is_some (in_table opcode big_opcodes) }
 {
     matches!(
         opcode,
@@ -146,7 +146,7 @@ pub(crate) fn takes_big(opcode: u8) -> bool
 /// The instruction of an opcode with an operand of one or two bytes.
 #[inline(always)]
 pub(crate) fn with_big(opcode: u8, n: u16) -> Option<Instr>
-    ensures { result ≡ option_map (λ make. make n) (with_big_of opcode) }
+    ensures { result ≡ option_map (λ make. make n) (in_table opcode big_opcodes) }
 {
     match opcode {
         202 => Some(Instr::Ldl(n)),
@@ -166,7 +166,7 @@ pub(crate) fn with_big(opcode: u8, n: u16) -> Option<Instr>
 /// Whether an opcode has an operand of levels and one of an offset.
 #[inline(always)]
 pub(crate) fn takes_levels(opcode: u8) -> bool
-    ensures { result ≡ is_some (with_levels_of opcode) }
+    ensures { result ≡ is_some (in_table opcode levels_opcodes) }
 {
     matches!(opcode, 182 | 184 | 178)
 }
@@ -174,7 +174,7 @@ pub(crate) fn takes_levels(opcode: u8) -> bool
 /// The instruction of an opcode with an operand of levels and one of an offset.
 #[inline(always)]
 pub(crate) fn with_levels(opcode: u8, levels: u8, n: u16) -> Option<Instr>
-    ensures { result ≡ option_map (λ make. make levels n) (with_levels_of opcode) }
+    ensures { result ≡ option_map (λ make. make levels n) (in_table opcode levels_opcodes) }
 {
     match opcode {
         182 => Some(Instr::Lod(levels, n)),
@@ -187,7 +187,7 @@ pub(crate) fn with_levels(opcode: u8, levels: u8, n: u16) -> Option<Instr>
 /// Whether an opcode is a jump with a signed byte.
 #[inline(always)]
 pub(crate) fn is_jump(opcode: u8) -> bool
-    ensures { result ≡ is_some (jump_of opcode) }
+    ensures { result ≡ is_some (in_table opcode jump_opcodes) }
 {
     matches!(opcode, 185 | 161 | 211 | 212)
 }
@@ -195,7 +195,7 @@ pub(crate) fn is_jump(opcode: u8) -> bool
 /// The jump of an opcode with a signed byte, which is given as it stands.
 #[inline(always)]
 pub(crate) fn jump(opcode: u8, byte: u8) -> Option<Instr>
-    ensures { result ≡ option_map (λ make. make (cast_signed w8 byte)) (jump_of opcode) }
+    ensures { result ≡ option_map (λ make. make (cast_signed w8 byte)) (in_table opcode jump_opcodes) }
 {
     let sb = byte.cast_signed();
     match opcode {
