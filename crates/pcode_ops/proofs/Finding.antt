@@ -1,7 +1,6 @@
 -- From the relation to the function: what stands in a code is decoded.
 use Rattle.std.proofs.Common.{◌≡◌, ℕ, ◌+◌, ◌-◌, ◌*◌, ◌%◌, ◌<◌, ◌≤◌, true, false, cond, ltb, leb, List, Option, Some, Result, Ok, slice_get, refl, arith, inl, inr}
-use Rattle.std.proofs.lemmas.Bool.{lt-ltb}
-use Rattle.std.proofs.lemmas.Bool.Decides.{nat_tests}
+use Rattle.std.proofs.lemmas.Bool.{lt-ltb, le-ltb, le-leb, lt-leb}
 use Rattle.base.specs.Steps.{◌>>=◌}
 use Rattle.pcode_ops.specs.declared.instr.Instr.{Instr}
 use Rattle.pcode_ops.specs.declared.instr.Instr.TheVariants.{Sldc, Ldci, Sldl, Ldl, Stl, Lla, Sldo, Ldo, Sro, Lao, Lod, Str, Lda, Sind, Ind, Inc, Ixa, Mov, Ldm, Stm, Equ, Neq, Leq, Les, Geq, Grt, Ujp, Fjp, Efj, Nfj, Xjp, Clp, Cgp, Cip, Csp, Rnp, Rbp}
@@ -20,7 +19,7 @@ big_from i b second = cond (ltb b 128) (Ok (b, i + 1)) (or_cut second >>= λ low
 -- a first byte that is not below 128
 wide_big : (i high : ℕ) (second : Option ℕ) (low : ℕ) → second ≡ Some low → big_from i (high + 128) second ≡ Ok (high * 256 + low, i + 2)
 wide_big i high second low e =
-    let above : ltb (high + 128) 128 ≡ false = grind (arith, nat_tests) in
+    let above : ltb (high + 128) 128 ≡ false = le-ltb (high + 128) 128 (omega arith) in
     let less : high + 128 - 128 ≡ high = omega arith in
     rw (e, above, less) refl
 
@@ -46,31 +45,31 @@ sldc_found code i n lt =
 
 sldl_found : (code : List ℕ) (i n : ℕ) → 1 ≤ n → n < 1 + 16 → instr_of code i (216 + n - 1) ≡ Ok (Sldl n, i + 1)
 sldl_found code i n above below =
-    let a : ltb (216 + n - 1) 128 ≡ false = grind (arith, nat_tests) in
-    let b : leb 216 (216 + n - 1) ≡ true = grind (arith, nat_tests) in
-    let c : leb (216 + n - 1) 231 ≡ true = grind (arith, nat_tests) in
+    let a : ltb (216 + n - 1) 128 ≡ false = le-ltb (216 + n - 1) 128 (omega arith) in
+    let b : leb 216 (216 + n - 1) ≡ true = le-leb 216 (216 + n - 1) (omega arith) in
+    let c : leb (216 + n - 1) 231 ≡ true = le-leb (216 + n - 1) 231 (omega arith) in
     let number : 216 + n - 1 - 215 ≡ n = omega arith in
     rw (a, b, c, number) refl
 
 sldo_found : (code : List ℕ) (i n : ℕ) → 1 ≤ n → n < 1 + 16 → instr_of code i (232 + n - 1) ≡ Ok (Sldo n, i + 1)
 sldo_found code i n above below =
-    let a : ltb (232 + n - 1) 128 ≡ false = grind (arith, nat_tests) in
-    let b : leb 216 (232 + n - 1) ≡ true = grind (arith, nat_tests) in
-    let c : leb (232 + n - 1) 231 ≡ false = grind (arith, nat_tests) in
-    let d : leb 232 (232 + n - 1) ≡ true = grind (arith, nat_tests) in
-    let e : leb (232 + n - 1) 247 ≡ true = grind (arith, nat_tests) in
+    let a : ltb (232 + n - 1) 128 ≡ false = le-ltb (232 + n - 1) 128 (omega arith) in
+    let b : leb 216 (232 + n - 1) ≡ true = le-leb 216 (232 + n - 1) (omega arith) in
+    let c : leb (232 + n - 1) 231 ≡ false = lt-leb (232 + n - 1) 231 (omega arith) in
+    let d : leb 232 (232 + n - 1) ≡ true = le-leb 232 (232 + n - 1) (omega arith) in
+    let e : leb (232 + n - 1) 247 ≡ true = le-leb (232 + n - 1) 247 (omega arith) in
     let number : 232 + n - 1 - 231 ≡ n = omega arith in
     rw (a, b, c, d, e, number) refl
 
 sind_found : (code : List ℕ) (i n : ℕ) → n < 0 + 8 → instr_of code i (248 + n - 0) ≡ Ok (Sind n, i + 1)
 sind_found code i n below =
-    let a : ltb (248 + n - 0) 128 ≡ false = grind (arith, nat_tests) in
-    let b : leb 216 (248 + n - 0) ≡ true = grind (arith, nat_tests) in
-    let c : leb (248 + n - 0) 231 ≡ false = grind (arith, nat_tests) in
-    let d : leb 232 (248 + n - 0) ≡ true = grind (arith, nat_tests) in
-    let e : leb (248 + n - 0) 247 ≡ false = grind (arith, nat_tests) in
-    let f : leb 248 (248 + n - 0) ≡ true = grind (arith, nat_tests) in
-    let g : leb (248 + n - 0) 255 ≡ true = grind (arith, nat_tests) in
+    let a : ltb (248 + n - 0) 128 ≡ false = le-ltb (248 + n - 0) 128 (omega arith) in
+    let b : leb 216 (248 + n - 0) ≡ true = le-leb 216 (248 + n - 0) (omega arith) in
+    let c : leb (248 + n - 0) 231 ≡ false = lt-leb (248 + n - 0) 231 (omega arith) in
+    let d : leb 232 (248 + n - 0) ≡ true = le-leb 232 (248 + n - 0) (omega arith) in
+    let e : leb (248 + n - 0) 247 ≡ false = lt-leb (248 + n - 0) 247 (omega arith) in
+    let f : leb 248 (248 + n - 0) ≡ true = le-leb 248 (248 + n - 0) (omega arith) in
+    let g : leb (248 + n - 0) 255 ≡ true = le-leb (248 + n - 0) 255 (omega arith) in
     let number : 248 + n - 0 - 248 ≡ n = omega arith in
     rw (a, b, c, d, e, f, g, number) refl
 
