@@ -7,13 +7,14 @@ use Rattle.paxos_msg.specs.declared.fault.WireFault.{WireFault}
 use Rattle.paxos_msg.specs.declared.fault.WireFault.TheVariants as fault
 use Rattle.paxos_msg.specs.Fits.{IsBody}
 use Rattle.paxos_msg.specs.Spelling.{number_bytes, ballot_bytes, value_bytes, votes_bytes, kind_of, body_bytes}
-use Rattle.paxos_msg.specs.Reading.{byte_at, ballot_at, own_ballot_at, place_at, value_at, own_key_at, votes_at, prepare_at, promise_at, accept_at, accepted_at, refused_at, submit_at, ask_at, tell_at, body_at}
+use Rattle.paxos_msg.specs.Reading.{byte_at, ballot_at, own_ballot_at, place_at, value_at, own_keys_at, votes_at, prepare_at, promise_at, accept_at, accepted_at, refused_at, submit_at, ask_at, tell_at, body_at}
 use Rattle.paxos_msg.specs.Tests.{ballot_lt}
 use Rattle.paxos_msg.specs.Grammar.{AreBytes}
 use Rattle.base.proofs.Steps.{bind_ok, unless_ok, ok_is}
 use Rattle.paxos_msg.proofs.Guards.{Takes, takes_then}
 use Rattle.paxos_msg.proofs.Numbers.{byte_found}
-use Rattle.paxos_msg.proofs.FieldsRead.{ballot_found, ballot_again, own_found, own_again, place_found, place_again, value_found, value_again, own_key_found, own_key_again}
+use Rattle.paxos_msg.proofs.FieldsRead.{ballot_found, ballot_again, own_found, own_again, place_found, place_again}
+use Rattle.paxos_msg.proofs.ValuesRead.{value_found, value_again, own_keys_found, own_keys_again}
 use Rattle.paxos_msg.proofs.VotesRead.{below_true, true_below, votes_found, votes_again}
 
 -- a body of that kind from that sender was read
@@ -41,7 +42,7 @@ promise_found size sender bytes p h e =
     let c = bind_ok (place_at 65536 b.0.1) _ p b.2 in
     let d = unless_ok fault.Place (leb c.0.0 b.0.0) c.0 _ p c.2 in
     let f = bind_ok (byte_at c.0.1) _ p d.1 in
-    let g = unless_ok fault.Count (ltb 64 f.0.0) f.0 _ p f.2 in
+    let g = unless_ok fault.Count (ltb 8 f.0.0) f.0 _ p f.2 in
     let k = bind_ok (votes_at size a.0.0 b.0.0 c.0.0 0 f.0.0 f.0.1) _ p g.1 in
     let ballot = ballot_found size bytes a.0 h a.1 in
     let first = place_found 65535 a.0.1 b.0 ballot.0.others b.1 in
@@ -53,7 +54,7 @@ promise_found size sender bytes p h e =
     let four = takes_then bytes (ballot_bytes a.0.0 ++ number_bytes b.0.0 ++ number_bytes c.0.0) c.0.1 (f.0.0 ∷ []) f.0.1 three count.0 in
     let five = takes_then bytes (ballot_bytes a.0.0 ++ number_bytes b.0.0 ++ number_bytes c.0.0 ++ f.0.0 ∷ []) f.0.1 (votes_bytes k.0.0) k.0.1 four votes.0 in
     let six = subst (λ (n : ℕ). Takes bytes (ballot_bytes a.0.0 ++ number_bytes b.0.0 ++ number_bytes c.0.0 ++ n ∷ votes_bytes k.0.0) k.0.1) (sym votes.2) five in
-    let small : length k.0.0 ≤ 64 = rw (votes.2) (ltb-false 64 f.0.0 g.0) in
+    let small : length k.0.0 ≤ 8 = rw (votes.2) (ltb-false 8 f.0.0 g.0) in
     subst (λ (q : Body × List ℕ). IsRead size sender 2 bytes q) (ok_is (Promise a.0.0 b.0.0 c.0.0 k.0.0, k.0.1) p k.2)
     (record { takes = six; fits = (ballot.1, first.1, upto.1, leb-false c.0.0 b.0.0 d.0, small, votes.1); kind_is = refl })
 
@@ -101,8 +102,8 @@ refused_found size sender bytes p h e =
 submit_found : (size sender : ℕ) (bytes : List ℕ) (p : Body × List ℕ) → AreBytes bytes → submit_at size sender bytes ≡ Ok p → IsRead size sender 6 bytes p
 unfolding submit_at
 submit_found size sender bytes p h e =
-    let a = bind_ok (own_key_at size sender bytes) _ p e in
-    let key = own_key_found size sender bytes a.0 h a.1 in
+    let a = bind_ok (own_keys_at size sender bytes) _ p e in
+    let key = own_keys_found size sender bytes a.0 h a.1 in
     subst (λ (q : Body × List ℕ). IsRead size sender 6 bytes q) (ok_is (Submit a.0.0, a.0.1) p a.2)
     (record { takes = key.0; fits = (key.1, key.2); kind_is = refl })
 
@@ -169,7 +170,7 @@ body_again size sender (Prepare b from) rest h =
     rw (own_again size sender b (number_bytes from ++ rest) h.0 h.1, place_again 65535 from rest (omega arith) h.2) refl
 body_again size sender (Promise b first upto votes) rest h =
     let low : leb upto first ≡ false = lt-leb upto first h.3 in
-    let few : ltb 64 (length votes) ≡ false = le-ltb 64 (length votes) h.4 in
+    let few : ltb 8 (length votes) ≡ false = le-ltb 8 (length votes) h.4 in
     rw (ballot_again size b (number_bytes first ++ (number_bytes upto ++ length votes ∷ (votes_bytes votes ++ rest))) h.0, place_again 65535 first (number_bytes upto ++ length votes ∷ (votes_bytes votes ++ rest)) (omega arith) h.1, place_again 65536 upto (length votes ∷ (votes_bytes votes ++ rest)) (omega arith) h.2, low, few, votes_again size b first upto 0 first votes rest h.2 (omega arith) (omega arith) h.5) refl
 body_again size sender (Accept b s v) rest h =
     rw (own_again size sender b (number_bytes s ++ (value_bytes v ++ rest)) h.0 h.1, place_again 65535 s (value_bytes v ++ rest) (omega arith) h.2, value_again size v rest h.3) refl
@@ -177,7 +178,7 @@ body_again size sender (Accepted b s v) rest h =
     rw (ballot_again size b (number_bytes s ++ (value_bytes v ++ rest)) h.0, place_again 65535 s (value_bytes v ++ rest) (omega arith) h.1, value_again size v rest h.2) refl
 body_again size sender (Refused b promised) rest h =
     rw (ballot_again size b (ballot_bytes promised ++ rest) h.0, ballot_again size promised rest h.1, below_true b promised h.2) refl
-body_again size sender (Submit v) rest h = rw (own_key_again size sender v rest h.0 h.1) refl
+body_again size sender (Submit v) rest h = rw (own_keys_again size sender v rest h.0 h.1) refl
 body_again size sender (Ask from) rest h = rw (place_again 65536 from rest (omega arith) h) refl
 body_again size sender (Tell s v) rest h =
     rw (place_again 65535 s (value_bytes v ++ rest) (omega arith) h.0, value_again size v rest h.1) refl

@@ -1,10 +1,12 @@
 -- The tests that the rules are written with say what they test.
-use Rattle.std.proofs.Common.{◌≡◌, ◌↔◌, ℕ, ◌*◌, ◌==◌, Bool, true, false, ◌&&◌, refl, arith}
+use Rattle.std.proofs.Common.{◌≡◌, ◌↔◌, ℕ, ◌*◌, ◌==◌, Bool, true, false, ◌&&◌, nat_eq, refl, sym, arith}
 use Rattle.std.proofs.lemmas.Bool.{and_parts, eq-eqb, eqb-true, ltb-true, lt-ltb}
+use Rattle.std.specs.Cmp.Lexicographic.{pointwise, same_text}
+use Rattle.std.proofs.lemmas.Cmp.{nat_list_eq_equiv}
 use Rattle.std.proofs.lemmas.Bool.Decides.{nat_tests}
 use Rattle.paxos_msg.specs.declared.ballot.Ballot.{Ballot}
 use Rattle.paxos_msg.specs.declared.value.Value.{Value}
-use Rattle.paxos_msg.specs.declared.value.Value.TheVariants.{Noop, Key}
+use Rattle.paxos_msg.specs.declared.value.Value.TheVariants.{Noop, Keys}
 use Rattle.paxos_msg.specs.Ballots.{IsAtMost, IsBelow, IsMajority, count_of}
 use Rattle.paxos_msg.specs.Tests.{ballot_lt, is_majority, same_ballot, same_value}
 
@@ -40,19 +42,21 @@ same a b = (same_true a b, true_same a b)
 
 value_true : (v w : Value) → same_value v w ≡ true → v ≡ w
 value_true Noop Noop e = refl
-value_true Noop (Key node start serial byte) e = absurd cc
-value_true (Key node start serial byte) Noop e = absurd cc
-value_true (Key node start serial byte) (Key n a m c) e =
-    let one = and_parts (node == n) ((start == a) && ((serial == m) && (byte == c))) e in
-    let two = and_parts (start == a) ((serial == m) && (byte == c)) one.1 in
-    let three = both serial m byte c two.1 in
-    let first : node ≡ n = eqb-true node n one.0 in
-    let second : start ≡ a = eqb-true start a two.0 in
-    λ i. Key (first i) (second i) (three.0 i) (three.1 i)
+value_true Noop (Keys node start first bytes) e = absurd cc
+value_true (Keys node start first bytes) Noop e = absurd cc
+value_true (Keys node start first bytes) (Keys n s f b) e =
+    let one = and_parts (node == n) ((start == s) && ((first == f) && pointwise nat_eq bytes b)) e in
+    let two = and_parts (start == s) ((first == f) && pointwise nat_eq bytes b) one.1 in
+    let three = and_parts (first == f) (pointwise nat_eq bytes b) two.1 in
+    let by_node : node ≡ n = eqb-true node n one.0 in
+    let by_start : start ≡ s = eqb-true start s two.0 in
+    let by_first : first ≡ f = eqb-true first f three.0 in
+    let by_bytes : bytes ≡ b = same_text bytes b (sym three.1) in
+    λ i. Keys (by_node i) (by_start i) (by_first i) (by_bytes i)
 
 itself : (v : Value) → same_value v v ≡ true
 itself Noop = refl
-itself (Key node start serial byte) = rw (eq-eqb node node refl, eq-eqb start start refl, eq-eqb serial serial refl, eq-eqb byte byte refl) refl
+itself (Keys node start first bytes) = rw (eq-eqb node node refl, eq-eqb start start refl, eq-eqb first first refl, nat_list_eq_equiv.refl bytes) refl
 
 true_value : (v w : Value) → v ≡ w → same_value v w ≡ true
 true_value v w e = rw e (itself w)

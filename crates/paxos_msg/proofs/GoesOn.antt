@@ -63,7 +63,7 @@ may_still_send size i typed newer learned now sent more r (message.Promise b fir
 may_still_send size i typed newer learned now sent more r (Accept b s v) knows old (own, rule) = (own, inl (Contains-append_left sent more (record { sender = i; body = Accept b s v }) old))
 may_still_send size i typed newer learned now sent more r (Accepted b s v) knows old (said, vote, promised) = (stays_said sent more (Accept b s v) said, vote, promised)
 may_still_send size i typed newer learned now sent more r (Refused b promised) knows old may = may
-may_still_send size i typed newer learned now sent more r (Submit v) knows old may = record { has_key = may.has_key; at_node = may.at_node; known = λ key k. knows.keys key (may.known key k) }
+may_still_send size i typed newer learned now sent more r (Submit v) knows old may = record { own = may.own; known = λ key k. knows.keys key (may.known key k) }
 may_still_send size i typed newer learned now sent more r (Ask from) knows old may = may
 may_still_send size i typed newer learned now sent more r (Tell s v) knows old may = knows.values s v may
 

@@ -1,5 +1,5 @@
 -- What a reading takes from the front of bytes, and the tests of a reading.
-use Rattle.std.proofs.Common.{◌≡◌, ℕ, ◌<◌, true, false, eqb, ltb, leb, List, ◌++◌, refl, ap, ◌∙◌, sym, append_assoc, arith}
+use Rattle.std.proofs.Common.{◌≡◌, ℕ, zero, suc, ◌<◌, true, false, eqb, ltb, leb, List, [], ◌∷◌, ◌++◌, take, drop, slice_index, refl, ap, ◌∙◌, sym, append_assoc, arith}
 use Rattle.std.proofs.lemmas.Bool.{and_parts, lt-ltb, ltb-true, le-leb, leb-true}
 use Rattle.std.proofs.lemmas.Bool.Decides.{nat_tests}
 use Rattle.paxos_msg.specs.Reading.{is_node}
@@ -13,6 +13,19 @@ pub record Takes (bytes text rest : List ℕ) : Type 0 where
 
 pub takes_then : (a x b y c : List ℕ) → Takes a x b → Takes b y c → Takes a (x ++ y) c
 takes_then a x b y c p q = record { parts = p.parts ∙ ap (λ (t : List ℕ). x ++ t) q.parts ∙ sym (append_assoc x y c); others = q.others }
+
+-- ---- bytes in front of others, and behind them
+
+pub bytes_before : (n : ℕ) (bytes : List ℕ) → AreBytes bytes → (i : ℕ) → slice_index (take n bytes) i < 256
+bytes_before zero bytes h i = omega arith
+bytes_before (suc n) [] h i = omega arith
+bytes_before (suc n) (b ∷ bytes) h zero = h zero
+bytes_before (suc n) (b ∷ bytes) h (suc i) = bytes_before n bytes (λ j. h (suc j)) i
+
+pub bytes_behind : (n : ℕ) (bytes : List ℕ) → AreBytes bytes → AreBytes (drop n bytes)
+bytes_behind zero bytes h = h
+bytes_behind (suc n) [] h = λ i. omega arith
+bytes_behind (suc n) (b ∷ bytes) h = bytes_behind n bytes (λ i. h (suc i))
 
 -- ---- tests
 

@@ -1,4 +1,5 @@
 pub mod VotesLeft
+pub mod Filled
 pub mod BallotOrder
 pub mod Meeting
 pub mod SentLemmas
@@ -15,6 +16,8 @@ pub mod AcceptedCount
 pub mod Guards
 pub mod Numbers
 pub mod FieldsRead
+pub mod OwnKeys
+pub mod ValuesRead
 pub mod VotesRead
 pub mod BodiesRead
 pub mod HeaderRead

@@ -16,7 +16,8 @@ use Rattle.paxos_msg.specs.Reading.{ballot_at, value_at, votes_at, header_at, bo
 use Rattle.paxos_msg.specs.Grammar.{AreBytes, IsGroup}
 use Rattle.base.proofs.Steps.{bind_ok, last_ok, ok_is}
 use Rattle.paxos_msg.proofs.Guards.{takes_then}
-use Rattle.paxos_msg.proofs.FieldsRead.{ballot_found, ballot_again, value_found, value_again}
+use Rattle.paxos_msg.proofs.FieldsRead.{ballot_found, ballot_again}
+use Rattle.paxos_msg.proofs.ValuesRead.{value_found, value_again}
 use Rattle.paxos_msg.proofs.VotesRead.{votes_found, votes_again}
 use Rattle.paxos_msg.proofs.BodiesRead.{body_found, body_again}
 use Rattle.paxos_msg.proofs.HeaderRead.{header_found, header_again}

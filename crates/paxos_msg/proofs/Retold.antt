@@ -30,7 +30,7 @@ greater = record { round = 2; node = 5 }
 
 -- the key that was typed at node 4
 abbrev key : Value
-key = value.Key 4 1 1 65
+key = value.Keys 4 1 1 (65 ∷ [])
 
 abbrev typed : List Key
 typed = record { node = 4; start = 1; serial = 1; byte = 65 } ∷ []
@@ -133,7 +133,7 @@ only_key k (zero, below, e) = sym (ap (λ (x : Key). x.node) e)
 only_key k (suc n, below, e) = absurd (omega arith)
 
 is_typed : IsTyped typed 4 key
-is_typed = record { has_key = λ e. cc; at_node = only_key; known = λ k h. h }
+is_typed = record { own = record { has_key = λ e. cc; at_node = only_key }; known = λ k h. h }
 
 -- a record without votes reports none
 silent : (r : Record) → r.votes ≡ [] → IsReport r 3 4 []

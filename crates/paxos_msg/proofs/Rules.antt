@@ -38,7 +38,7 @@ some_if o P = (if_there o P, there_if o P)
 
 -- its keys were typed at the node
 pub typed_is : (typed : List Key) (i : ℕ) (v : Value) → IsTyped typed i v ↔ ((keys_of v ≢ []) × ((key : Key) → Contains (keys_of v) key → (key.node ≡ i) × Contains typed key))
-typed_is typed i v = (λ h. (h.has_key, λ key k. (h.at_node key k, h.known key k)), λ h. record { has_key = h.0; at_node = λ key k. (h.1 key k).0; known = λ key k. (h.1 key k).1 })
+typed_is typed i v = (λ h. (h.own.has_key, λ key k. (h.own.at_node key k, h.known key k)), λ h. record { own = record { has_key = h.0; at_node = λ key k. (h.1 key k).0 }; known = λ key k. (h.1 key k).1 })
 
 -- ---- a save
 

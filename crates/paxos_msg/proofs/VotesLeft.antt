@@ -1,11 +1,12 @@
 -- Reading votes one after the other.
-use Rattle.std.proofs.Common.{◌≡◌, ℕ, zero, suc, ◌+◌, ◌-◌, ◌<◌, ◌≤◌, List, [], ◌∷◌, length, Result, Ok, Err, refl, ap, arith}
+use Rattle.std.proofs.Common.{◌≡◌, ℕ, zero, suc, ◌+◌, ◌-◌, ◌<◌, ◌≤◌, List, [], ◌∷◌, length, drop, Result, Ok, Err, refl, ap, ◌∙◌, arith}
+use Rattle.std.proofs.lemmas.List.{drop-drop}
 use Rattle.paxos_msg.specs.declared.ballot.Ballot.{Ballot}
 use Rattle.paxos_msg.specs.declared.value.Vote.{Vote}
 use Rattle.paxos_msg.specs.declared.fault.WireFault.{WireFault}
 use Rattle.base.specs.Steps.{◌>>=◌}
 use Rattle.paxos_msg.specs.Reading.{vote_at, votes_at}
-use Rattle.paxos_msg.specs.Raw.{raw_vote_at, then_votes, votes_left}
+use Rattle.paxos_msg.specs.Raw.{Takes, raw_vote_at, then_votes, votes_left}
 
 -- no vote is left where none is wanted
 pub none_left : (n : ℕ) (bytes : List ℕ) → n ≡ 0 → votes_left n bytes ≡ []
@@ -79,3 +80,8 @@ goes_on size b first upto count bytes low left less rest behind v one_less h raw
       ok = λ end k. so_far.ok end (rw (first_left left rest behind v lt raw, first_at size b first upto low left rest behind v lt h, e) (ap (with_first v) k));
       err = λ fault k. so_far.err fault (rw (first_at size b first upto low left rest behind v lt h, e) (ap (with_first v) k));
     }
+
+-- ---- what a value takes behind the place and the ballot of its vote
+
+pub behind_ballot : (bytes a b : List ℕ) (n : ℕ) → Takes 4 bytes a → Takes 5 a b → drop n b ≡ drop (9 + n) bytes
+behind_ballot bytes a b n place ballot = ap (λ (t : List ℕ). drop n t) (ballot.1 ∙ ap (λ (t : List ℕ). drop 5 t) place.1 ∙ drop-drop 5 4 bytes) ∙ drop-drop n 9 bytes

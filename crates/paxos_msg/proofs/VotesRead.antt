@@ -13,7 +13,8 @@ use Rattle.paxos_msg.specs.Grammar.{AreBytes}
 use Rattle.base.proofs.Steps.{bind_ok, unless_ok, ok_is}
 use Rattle.paxos_msg.proofs.Guards.{Takes, takes_then}
 use Rattle.paxos_msg.proofs.Numbers.{number_found, number_again}
-use Rattle.paxos_msg.proofs.FieldsRead.{ballot_found, ballot_again, value_found, value_again}
+use Rattle.paxos_msg.proofs.FieldsRead.{ballot_found, ballot_again}
+use Rattle.paxos_msg.proofs.ValuesRead.{value_found, value_again}
 
 -- ---- the order of ballots
 

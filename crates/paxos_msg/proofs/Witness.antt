@@ -34,7 +34,7 @@ ballot = record { round = 1; node = 1 }
 
 -- the key that was typed at node 2
 abbrev key : Value
-key = value.Key 2 1 1 65
+key = value.Keys 2 1 1 (65 ∷ [])
 
 abbrev typed : List Key
 typed = record { node = 2; start = 1; serial = 1; byte = 65 } ∷ []
@@ -92,7 +92,7 @@ only_key k (zero, below, e) = sym (ap (λ (x : Key). x.node) e)
 only_key k (suc n, below, e) = absurd (omega arith)
 
 is_typed : IsTyped typed 2 key
-is_typed = record { has_key = λ e. cc; at_node = only_key; known = λ k h. h }
+is_typed = record { own = record { has_key = λ e. cc; at_node = only_key }; known = λ k h. h }
 
 -- an empty record's report has no vote
 silent : (r : Record) → r.votes ≡ [] → IsReport r 0 1 []

@@ -9,6 +9,8 @@ use Rattle.paxos_msg.specs.declared.message.Body.{Body}
 use Rattle.paxos_msg.specs.declared.message.Body.TheVariants as body
 use Rattle.paxos_msg.specs.declared.message.Msg.{Msg}
 use Rattle.paxos_msg.specs.Ballots.{IsBelow, IsAtMost}
+use Rattle.paxos_msg.specs.Grammar.{AreBytes}
+use Rattle.paxos_msg.specs.Keys.{AreOwnKeys}
 
 -- a node of a group of that size
 abbrev pub IsNode : ℕ → ℕ → Type 0
@@ -24,14 +26,13 @@ IsBallot size b = IsCount b.round × IsNode size b.node
 abbrev pub IsPlace : ℕ → Type 0
 IsPlace s = s ≤ 65535
 
+-- 1 to 32 characters, whose keys' serials, from this one on, are from 1 on and fit four bytes
+abbrev pub IsBatch : ℕ → List ℕ → Type 0
+IsBatch first bytes = (0 < first) × (0 < length bytes) × (length bytes ≤ 32) × (first + length bytes ≤ 2 ^ 32) × AreBytes bytes
+
 abbrev pub IsValue : ℕ → Value → Type 0
 IsValue size value.Noop = Unit {0}
-IsValue size (value.Key node start serial byte) = IsNode size node × IsCount start × IsCount serial × (byte < 256)
-
--- a key that was typed at the node
-abbrev pub IsOwnKey : ℕ → Value → Type 0
-IsOwnKey i value.Noop = ⊥
-IsOwnKey i (value.Key node start serial byte) = node ≡ i
+IsValue size (value.Keys node start first bytes) = IsNode size node × IsCount start × IsBatch first bytes
 
 -- a vote at a place from low up to upto, under a ballot that is not above b
 pub record IsVote (size : ℕ) (b : Ballot) (low upto : ℕ) (vote : Vote) : Type 0 where
@@ -50,11 +51,11 @@ AreVotes size b low upto (vote ∷ votes) = IsVote size b low upto vote × AreVo
 abbrev pub IsBody : ℕ → ℕ → Body → Type 0
 IsBody size i (body.Prepare b from) = IsBallot size b × (b.node ≡ i) × IsPlace from
 IsBody size i (body.Promise b first upto votes) =
-    IsBallot size b × IsPlace first × (upto ≤ 65536) × (first < upto) × (length votes ≤ 64) × AreVotes size b first upto votes
+    IsBallot size b × IsPlace first × (upto ≤ 65536) × (first < upto) × (length votes ≤ 8) × AreVotes size b first upto votes
 IsBody size i (body.Accept b s v) = IsBallot size b × (b.node ≡ i) × IsPlace s × IsValue size v
 IsBody size i (body.Accepted b s v) = IsBallot size b × IsPlace s × IsValue size v
 IsBody size i (body.Refused b promised) = IsBallot size b × IsBallot size promised × IsBelow b promised
-IsBody size i (body.Submit v) = IsValue size v × IsOwnKey i v
+IsBody size i (body.Submit v) = IsValue size v × AreOwnKeys i v
 IsBody size i (body.Ask from) = from ≤ 65536
 IsBody size i (body.Tell s v) = IsPlace s × IsValue size v
 

@@ -1,4 +1,5 @@
 pub mod Ballots
+pub mod Characters
 pub mod Tests
 pub mod Keys
 pub mod Fits

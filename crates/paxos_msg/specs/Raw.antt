@@ -1,5 +1,5 @@
--- Reading fields as they stand, whatever their numbers are, and how many bytes a field takes.
-use Rattle.std.specs.Prelude.{◌≡◌, ◌≤◌, ℕ, zero, suc, List, [], ◌∷◌, length, drop, Result, Ok, Err, ◌==◌, if◌then◌else◌}
+-- Reading fields as they stand, whatever their numbers are.
+use Rattle.std.specs.Prelude.{◌≡◌, ◌≤◌, ℕ, zero, suc, List, [], ◌∷◌, length, drop, Result, Ok, Err, ◌==◌, nat_lt, ◌||◌, if◌then◌else◌}
 use Rattle.paxos_msg.specs.declared.ballot.Ballot.{Ballot}
 use Rattle.paxos_msg.specs.declared.value.Value.{Value}
 use Rattle.paxos_msg.specs.declared.value.Value.TheVariants as value
@@ -7,16 +7,11 @@ use Rattle.paxos_msg.specs.declared.value.Vote.{Vote}
 use Rattle.paxos_msg.specs.declared.fault.WireFault.{WireFault}
 use Rattle.paxos_msg.specs.declared.fault.WireFault.TheVariants as fault
 use Rattle.base.specs.Steps.{unless, ◌>>=◌}
-use Rattle.paxos_msg.specs.Reading.{byte_at, number_at}
+use Rattle.paxos_msg.specs.Reading.{byte_at, bytes_at, characters_at, number_at, vote_at}
 
 -- the first n bytes are taken
 abbrev pub Takes : ℕ → List ℕ → List ℕ → Type 0
 Takes n bytes rest = (n ≤ length bytes) × (rest ≡ drop n bytes)
-
--- how many bytes a value takes
-abbrev pub value_length : Value → ℕ
-value_length value.Noop = 1
-value_length (value.Key node start serial byte) = 11
 
 -- ---- fields as they stand, whatever their numbers are
 
@@ -26,28 +21,34 @@ raw_ballot_at bytes = do
   node ← byte_at round.1
   Ok (record { round = round.0; node = node.0 }, node.1)
 
--- the fields of a key behind its node
-unfoldable pub raw_key_at : ℕ → List ℕ → Result (Value × List ℕ) WireFault
-raw_key_at node bytes = do
-  start ← number_at bytes
-  serial ← number_at start.1
-  byte ← byte_at serial.1
-  Ok (value.Key node start.0 serial.0 byte.0, byte.1)
+-- the characters of a batch behind their count, of which there have to be 1 to 32
+unfoldable pub raw_characters_at : List ℕ → Result (List ℕ × List ℕ) WireFault
+raw_characters_at bytes = do
+  count ← byte_at bytes
+  some ← unless fault.Value ((count.0 == 0) || nat_lt 32 count.0) count
+  bytes_at some.0 some.1
 
--- the same, from a start and a serial of 1 on
-unfoldable pub key_rest_at : ℕ → List ℕ → Result (Value × List ℕ) WireFault
-key_rest_at node bytes = do
+-- the fields of a batch behind its node
+unfoldable pub raw_keys_at : ℕ → List ℕ → Result (Value × List ℕ) WireFault
+raw_keys_at node bytes = do
+  start ← number_at bytes
+  first ← number_at start.1
+  characters ← raw_characters_at first.1
+  Ok (value.Keys node start.0 first.0 characters.0, characters.1)
+
+-- the same, where start and serials are in their ranges
+unfoldable pub keys_rest_at : ℕ → List ℕ → Result (Value × List ℕ) WireFault
+keys_rest_at node bytes = do
   start ← number_at bytes
   started ← unless fault.Value (start.0 == 0) start
-  serial ← number_at started.1
-  counted ← unless fault.Value (serial.0 == 0) serial
-  byte ← byte_at counted.1
-  Ok (value.Key node started.0 counted.0 byte.0, byte.1)
+  first ← number_at started.1
+  characters ← characters_at first.0 first.1
+  Ok (value.Keys node started.0 first.0 characters.0, characters.1)
 
 abbrev pub raw_tagged : ℕ → List ℕ → Result (Value × List ℕ) WireFault
 raw_tagged tag bytes =
     if tag == 0 then Ok (value.Noop, bytes)
-    else (if tag == 1 then (byte_at bytes >>= λ node. raw_key_at node.0 node.1) else Err fault.Value)
+    else (if tag == 1 then (byte_at bytes >>= λ node. raw_keys_at node.0 node.1) else Err fault.Value)
 
 unfoldable pub raw_value_at : List ℕ → Result (Value × List ℕ) WireFault
 raw_value_at bytes = byte_at bytes >>= λ tag. raw_tagged tag.0 tag.1
@@ -60,6 +61,13 @@ raw_vote_at bytes = do
   Ok (record { place = place.0; ballot = ballot.0; value = value.0 }, value.1)
 
 -- ---- votes as they stand
+
+-- a vote at this place is read from the front of the bytes, and as it stands it is the same
+pub record PassesVote (size : ℕ) (b : Ballot) (first upto low : ℕ) (bytes : List ℕ) (place : ℕ) (rest : List ℕ) : Type 0 where
+  pub vote : Vote
+  pub at_place : vote.place ≡ place
+  pub read : vote_at size b first upto low bytes ≡ Ok (vote, rest)
+  pub raw : raw_vote_at bytes ≡ Ok (vote, rest)
 
 abbrev pub then_votes : Result (Vote × List ℕ) WireFault → (List ℕ → List Vote) → List Vote
 then_votes (Ok x) others = x.0 ∷ others x.1

@@ -1,10 +1,10 @@
 -- Reading a datagram from left to right: the message, or the first fault that is met.
-use Rattle.std.specs.Prelude.{◌≡◌, ℕ, zero, suc, ◌+◌, List, [], ◌∷◌, length, drop, slice_index, Result, Ok, Err, nat_lt, nat_le, ◌==◌, ◌&&◌, ◌||◌, not, Bool, if◌then◌else◌}
+use Rattle.std.specs.Prelude.{◌≡◌, ℕ, zero, suc, ◌+◌, List, [], ◌∷◌, length, take, drop, slice_index, Result, Ok, Err, nat_lt, nat_le, ◌==◌, ◌&&◌, ◌||◌, not, Bool, if◌then◌else◌}
 use Rattle.base.specs.Steps.{◌>>=◌, unless}
 use Rattle.byteorder.specs.Endian.{big_number}
 use Rattle.paxos_msg.specs.declared.ballot.Ballot.{Ballot}
 use Rattle.paxos_msg.specs.declared.value.Value.{Value}
-use Rattle.paxos_msg.specs.declared.value.Value.TheVariants.{Noop, Key}
+use Rattle.paxos_msg.specs.declared.value.Value.TheVariants.{Noop, Keys}
 use Rattle.paxos_msg.specs.declared.value.Vote.{Vote}
 use Rattle.paxos_msg.specs.declared.message.Group.{Group}
 use Rattle.paxos_msg.specs.declared.message.Body.{Body}
@@ -27,6 +27,10 @@ byte_at (b ∷ bytes) = Ok (b, bytes)
 
 abbrev pub number_at : List ℕ → Result (ℕ × List ℕ) WireFault
 number_at bytes = if nat_lt (length bytes) 4 then Err fault.Short else Ok (big_number 4 bytes, drop 4 bytes)
+
+-- so many bytes
+abbrev pub bytes_at : ℕ → List ℕ → Result (List ℕ × List ℕ) WireFault
+bytes_at n bytes = if nat_lt (length bytes) n then Err fault.Short else Ok (take n bytes, drop n bytes)
 
 -- a node of a group of that size
 abbrev pub is_node : ℕ → ℕ → Bool
@@ -51,32 +55,42 @@ place_at most bytes = do
   place ← number_at bytes
   unless fault.Place (nat_lt most place.0) place
 
--- the fields of a key behind its tag; its node has to pass the test
-unfoldable pub key_at : (ℕ → Bool) → List ℕ → Result (Value × List ℕ) WireFault
-key_at is_good bytes = do
+-- whether so many keys whose serials go on from this one are a batch: 1 to 32 keys with serials of 1 to 4,294,967,295
+abbrev pub is_batch : ℕ → ℕ → Bool
+is_batch first count = nat_lt 0 first && (nat_lt 0 count && (nat_le count 32 && nat_le (first + count) 4294967296))
+
+-- the characters of a batch behind their count, whose first key has this serial
+unfoldable pub characters_at : ℕ → List ℕ → Result (List ℕ × List ℕ) WireFault
+characters_at first bytes = do
+  count ← byte_at bytes
+  good ← unless fault.Value (not (is_batch first count.0)) count
+  bytes_at good.0 good.1
+
+-- the fields of a batch behind its tag; its node has to pass the test
+unfoldable pub keys_at : (ℕ → Bool) → List ℕ → Result (Value × List ℕ) WireFault
+keys_at is_good bytes = do
   node ← byte_at bytes
   there ← unless fault.Value (not (is_good node.0)) node
   start ← number_at there.1
   started ← unless fault.Value (start.0 == 0) start
-  serial ← number_at started.1
-  counted ← unless fault.Value (serial.0 == 0) serial
-  byte ← byte_at counted.1
-  Ok (Key there.0 started.0 counted.0 byte.0, byte.1)
+  first ← number_at started.1
+  characters ← characters_at first.0 first.1
+  Ok (Keys there.0 started.0 first.0 characters.0, characters.1)
 
 abbrev pub tagged : ℕ → ℕ → List ℕ → Result (Value × List ℕ) WireFault
 tagged size tag bytes =
     if tag == 0 then Ok (Noop, bytes)
-    else (if tag == 1 then key_at (is_node size) bytes else Err fault.Value)
+    else (if tag == 1 then keys_at (is_node size) bytes else Err fault.Value)
 
 unfoldable pub value_at : ℕ → List ℕ → Result (Value × List ℕ) WireFault
 value_at size bytes = byte_at bytes >>= λ tag. tagged size tag.0 tag.1
 
--- a key that was typed at the sender
-unfoldable pub own_key_at : ℕ → ℕ → List ℕ → Result (Value × List ℕ) WireFault
-own_key_at size sender bytes = do
+-- keys that were typed at the sender
+unfoldable pub own_keys_at : ℕ → ℕ → List ℕ → Result (Value × List ℕ) WireFault
+own_keys_at size sender bytes = do
   tag ← byte_at bytes
-  key ← unless fault.Value (not (tag.0 == 1)) tag
-  key_at (λ node. is_node size node && (node == sender)) key.1
+  keys ← unless fault.Value (not (tag.0 == 1)) tag
+  keys_at (λ node. is_node size node && (node == sender)) keys.1
 
 -- ---- the votes of a promise under ballot b, from first up to upto
 
@@ -113,7 +127,7 @@ promise_at size bytes = do
   upto ← place_at 65536 first.1
   above ← unless fault.Place (nat_le upto.0 first.0) upto
   count ← byte_at above.1
-  few ← unless fault.Count (nat_lt 64 count.0) count
+  few ← unless fault.Count (nat_lt 8 count.0) count
   votes ← votes_at size b.0 first.0 above.0 0 few.0 few.1
   Ok (Promise b.0 first.0 above.0 votes.0, votes.1)
 
@@ -139,7 +153,7 @@ refused_at size bytes = do
   Ok (Refused b.0 above.0, above.1)
 
 unfoldable pub submit_at : ℕ → ℕ → List ℕ → Result (Body × List ℕ) WireFault
-submit_at size sender bytes = own_key_at size sender bytes >>= λ key. Ok (Submit key.0, key.1)
+submit_at size sender bytes = own_keys_at size sender bytes >>= λ keys. Ok (Submit keys.0, keys.1)
 
 unfoldable pub ask_at : List ℕ → Result (Body × List ℕ) WireFault
 ask_at bytes = place_at 65536 bytes >>= λ from. Ok (Ask from.0, from.1)
@@ -168,7 +182,7 @@ unfoldable pub header_at : Group → List ℕ → Result ((ℕ × ℕ) × List �
 header_at group bytes = do
   long ← unless fault.Short (nat_lt (length bytes) 10) bytes
   ours ← unless fault.Magic (not ((slice_index long 0 == 80) && (slice_index long 1 == 71))) long
-  version ← unless fault.Version (not (slice_index ours 2 == 1)) ours
+  version ← unless fault.Version (not (slice_index ours 2 == 2)) ours
   kind ← unless fault.Kind ((slice_index version 3 == 0) || nat_lt 8 (slice_index version 3)) version
   here ← unless fault.Group (not ((slice_index kind 5 == group.size) && (big_number 4 (drop 6 kind) == group.session))) kind
   sender ← unless fault.Sender (not (is_node group.size (slice_index here 4))) here

@@ -8,7 +8,7 @@ use Rattle.paxos_msg.specs.declared.record.Record.{Record}
 use Rattle.paxos_msg.specs.declared.message.Body.{Body}
 use Rattle.paxos_msg.specs.declared.message.Body.TheVariants.{Prepare, Promise, Accept, Accepted, Refused, Submit, Ask, Tell}
 use Rattle.paxos_msg.specs.Ballots.{IsBelow, IsAtMost, IsMajority}
-use Rattle.paxos_msg.specs.Keys.{Key, keys_of}
+use Rattle.paxos_msg.specs.Keys.{AreOwnKeys, Key, keys_of}
 use Rattle.paxos_msg.specs.Messages.{Sent, IsSent, IsSaid, IsPromised, vote_at}
 
 -- a member reported this vote, and no member one of a greater ballot
@@ -49,10 +49,9 @@ pub record IsReport (r : Record) (first upto : ℕ) (votes : List Vote) : Type 0
   pub within : (vote : Vote) → Contains votes vote → (first ≤ vote.place) × (vote.place < upto)
   pub whole : (s : ℕ) → first ≤ s → s < upto → vote_at votes s ≡ vote_at r.votes s
 
--- each key of v is among the typed keys and was typed at node i, and there is such a key
+-- v has keys of node i alone, each of which is among the typed keys
 pub record IsTyped (typed : List Key) (i : ℕ) (v : Value) : Type 0 where
-  pub has_key : keys_of v ≢ []
-  pub at_node : (key : Key) → Contains (keys_of v) key → key.node ≡ i
+  pub own : AreOwnKeys i v
   pub known : (key : Key) → Contains (keys_of v) key → Contains typed key
 
 -- Whether node i may send this after what was sent, where these keys were typed, it has learned these values, and its

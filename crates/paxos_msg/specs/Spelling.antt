@@ -3,7 +3,7 @@ use Rattle.std.specs.Prelude.{◌≡◌, ℕ, List, [], ◌∷◌, ◌++◌, len
 use Rattle.byteorder.specs.Endian.{big_bytes}
 use Rattle.paxos_msg.specs.declared.ballot.Ballot.{Ballot}
 use Rattle.paxos_msg.specs.declared.value.Value.{Value}
-use Rattle.paxos_msg.specs.declared.value.Value.TheVariants.{Noop, Key}
+use Rattle.paxos_msg.specs.declared.value.Value.TheVariants.{Noop, Keys}
 use Rattle.paxos_msg.specs.declared.value.Vote.{Vote}
 use Rattle.paxos_msg.specs.declared.message.Group.{Group}
 use Rattle.paxos_msg.specs.declared.message.Body.{Body}
@@ -20,7 +20,7 @@ ballot_bytes b = number_bytes b.round ++ b.node ∷ []
 
 abbrev pub value_bytes : Value → List ℕ
 value_bytes Noop = 0 ∷ []
-value_bytes (Key node start serial byte) = 1 ∷ node ∷ (number_bytes start ++ number_bytes serial ++ byte ∷ [])
+value_bytes (Keys node start first bytes) = 1 ∷ node ∷ (number_bytes start ++ number_bytes first ++ length bytes ∷ bytes)
 
 abbrev pub vote_bytes : Vote → List ℕ
 vote_bytes v = number_bytes v.place ++ ballot_bytes v.ballot ++ value_bytes v.value
@@ -49,9 +49,9 @@ body_bytes (Submit v) = value_bytes v
 body_bytes (Ask from) = number_bytes from
 body_bytes (Tell s v) = number_bytes s ++ value_bytes v
 
--- `PG`, version 1, kind, sender, and the group
+-- `PG`, version 2, kind, sender, and the group
 abbrev pub header_bytes : Group → ℕ → ℕ → List ℕ
-header_bytes group kind sender = 80 ∷ 71 ∷ 1 ∷ kind ∷ sender ∷ group.size ∷ number_bytes group.session
+header_bytes group kind sender = 80 ∷ 71 ∷ 2 ∷ kind ∷ sender ∷ group.size ∷ number_bytes group.session
 
 abbrev pub spelling : Group → Msg → List ℕ
 spelling group m = header_bytes group (kind_of m.body) m.sender ++ body_bytes m.body

@@ -1,8 +1,9 @@
 -- Tests that the rules are written with.
-use Rattle.std.specs.Prelude.{ℕ, ◌*◌, ◌==◌, nat_lt, Bool, true, false, ◌&&◌, ◌||◌}
+use Rattle.std.specs.Prelude.{ℕ, ◌*◌, ◌==◌, nat_eq, nat_lt, Bool, true, false, ◌&&◌, ◌||◌}
+use Rattle.std.specs.Cmp.Lexicographic.{pointwise}
 use Rattle.paxos_msg.specs.declared.ballot.Ballot.{Ballot}
 use Rattle.paxos_msg.specs.declared.value.Value.{Value}
-use Rattle.paxos_msg.specs.declared.value.Value.TheVariants.{Noop, Key}
+use Rattle.paxos_msg.specs.declared.value.Value.TheVariants.{Noop, Keys}
 use Rattle.paxos_msg.specs.Ballots.{count_of}
 
 -- whether ballot a is below ballot b
@@ -14,9 +15,9 @@ same_ballot a b = (a.round == b.round) && (a.node == b.node)
 
 abbrev pub same_value : Value → Value → Bool
 same_value Noop Noop = true
-same_value Noop (Key node start serial byte) = false
-same_value (Key node start serial byte) Noop = false
-same_value (Key node start serial byte) (Key n a m c) = (node == n) && ((start == a) && ((serial == m) && (byte == c)))
+same_value Noop (Keys node start first bytes) = false
+same_value (Keys node start first bytes) Noop = false
+same_value (Keys node start first bytes) (Keys n s f b) = (node == n) && ((start == s) && ((first == f) && pointwise nat_eq bytes b))
 
 -- whether the members are a majority of the nodes 1 to size
 abbrev pub is_majority : ℕ → (ℕ → Bool) → Bool

@@ -7,8 +7,9 @@ ghost use Rattle.paxos_msg.specs.Chosen.{IsChosen, IsChosenBy};
 ghost use Rattle.paxos_msg.specs.Messages.{IsSent};
 ghost use Rattle.paxos_msg.specs.Nodes.{is_in};
 
+use crate::ballot::Ballot;
 use crate::message::{Body, Msg};
-use crate::value::{Value, Vote};
+use crate::value::Value;
 
 /// How many of the nodes 1 to `size` stand in the list.
 #[tactic(auto, using(crate::proofs::Counting::count_next))]
@@ -33,45 +34,47 @@ pub fn is_majority(size: u8, members: &[u8]) -> bool
     usize::from(size) < 2 * count_nodes(size, members)
 }
 
-/// Whether by this message the node says that it has voted so.
-fn says_accepted(m: &Msg, node: u8, vote: Vote) -> bool
-    ensures { IsTrue result ↔ (m.now ≡ record { sender = node; body = Accepted vote.ballot vote.place vote.value }) }
+/// Whether two values are the same.
+fn is_same(value: Value, other: Value) -> bool
+    ensures { IsTrue result ↔ (value ≡ other) }
+{
+    value == other
+}
+
+/// Whether by this message the node says that it has accepted the value at the place under the ballot.
+fn says_accepted(m: &Msg, node: u8, ballot: Ballot, place: u32, value: &Value) -> bool
+    ensures { IsTrue result ↔ (m.now ≡ record { sender = node; body = Accepted ballot place value.now }) }
 {
     match &m.body {
         Body::Accepted {
-            ballot,
-            place,
-            value,
-        } => {
-            m.sender == node
-                && *ballot == vote.ballot
-                && *place == vote.place
-                && *value == vote.value
-        }
+            ballot: under,
+            place: at,
+            value: accepted,
+        } => m.sender == node && *under == ballot && *at == place && is_same(*accepted, *value),
         _ => false,
     }
 }
 
-/// Whether the node has sent that it has voted so.
-fn has_accepted(sent: &[Msg], node: u8, vote: Vote) -> bool
-    ensures { IsTrue result ↔ IsSent sent.now node (Accepted vote.ballot vote.place vote.value) }
+/// Whether the node has sent that it has accepted the value at the place under the ballot.
+fn has_accepted(sent: &[Msg], node: u8, ballot: Ballot, place: u32, value: &Value) -> bool
+    ensures { IsTrue result ↔ IsSent sent.now node (Accepted ballot place value.now) }
 {
     for i in 0..sent.len() {
-        if says_accepted(&sent[i], node, vote) {
+        if says_accepted(&sent[i], node, ballot, place, value) {
             return true;
         }
     }
     false
 }
 
-/// Whether the vote's ballot has chosen its value at its place, by these messages.
+/// Whether the ballot has chosen the value at the place, by these messages.
 #[tactic(auto, using(crate::proofs::Counting::none_counted))]
-fn is_chosen_by(size: u8, sent: &[Msg], vote: Vote) -> bool
-    ensures { IsTrue result ↔ IsChosenBy size sent.now vote.ballot vote.place vote.value }
+fn is_chosen_by(size: u8, sent: &[Msg], ballot: Ballot, place: u32, value: &Value) -> bool
+    ensures { IsTrue result ↔ IsChosenBy size sent.now ballot place value.now }
 {
     let mut accepted: usize = 0;
     for before in 0..size {
-        if has_accepted(sent, before + 1, vote) {
+        if has_accepted(sent, before + 1, ballot, place, value) {
             accepted += 1;
         }
     }
@@ -82,14 +85,10 @@ fn is_chosen_by(size: u8, sent: &[Msg], vote: Vote) -> bool
 pub fn is_chosen(size: u8, sent: &[Msg], place: u32, value: Value) -> bool
     ensures { IsTrue result ↔ IsChosen size sent.now place value }
 {
+    let value = &value;
     for i in 0..sent.len() {
         if let Body::Accepted { ballot, .. } = &sent[i].body {
-            let vote = Vote {
-                place,
-                ballot: *ballot,
-                value,
-            };
-            if is_chosen_by(size, sent, vote) {
+            if is_chosen_by(size, sent, *ballot, place, value) {
                 return true;
             }
         }

@@ -1,8 +1,8 @@
 //! Reading a datagram.
-ghost use Rattle.std.specs.Prelude.{◌≡◌, ◌≤◌, IfOk, Ok, length};
-ghost use Rattle.paxos_msg.specs.Reading.{Gives, number_at, ballot_at, value_at, votes_at, prepare_at, promise_at, accept_at, accepted_at, refused_at, submit_at, ask_at, tell_at, body_at, header_at, message_at};
+ghost use Rattle.std.specs.Prelude.{◌≡◌, ◌≤◌, ◌<◌, IfErr, IfOk, Err, Ok, length};
+ghost use Rattle.paxos_msg.specs.Reading.{Gives, number_at, ballot_at, value_at, vote_at, votes_at, prepare_at, promise_at, accept_at, accepted_at, refused_at, submit_at, ask_at, tell_at, body_at, header_at, message_at};
 ghost use Rattle.paxos_msg.specs.declared.message.Msg.{Msg};
-ghost use Rattle.paxos_msg.specs.Raw.{votes_left};
+ghost use Rattle.paxos_msg.specs.Raw.{PassesVote, votes_left};
 ghost use Rattle.paxos_msg.specs.Spelling.{Msgs};
 ghost use Rattle.paxos_msg.specs.Views.{GivesField, HasUpTo, said};
 
@@ -11,11 +11,23 @@ use crate::fault::WireFault;
 use crate::lent::LentVotes;
 use crate::message::Group;
 use crate::reading::{
-    Part, ballot_of, byte_of, number_of, own_ballot_of, own_key_of, place_of, value_of, vote_of,
+    Part, ballot_of, byte_of, number_of, own_ballot_of, own_keys_of, place_of, value_of, vote_of,
 };
 use crate::value::Value;
 use crate::view::{BodyView, View};
 use byteorder::{BigEndian, ByteOrder};
+
+/// Goes over one vote, and answers its place and the bytes behind it. The faults are the vote's.
+fn pass_vote(part: Part, low: u32, bytes: &[u8]) -> Result<(u32, &[u8]), WireFault>
+    ensures read { IfOk result (λ x. PassesVote part.size part.ballot part.first part.upto low bytes.now x.0 x.1.now) }
+    ensures err { IfErr result (λ e. vote_at part.size part.ballot part.first part.upto low bytes.now ≡ Err e) }
+    ensures place { IfOk result (λ x. x.0 < part.upto) }
+{
+    match vote_of(part, low, bytes) {
+        Ok((vote, taken)) => Ok((vote.place, &bytes[taken..])),
+        Err(fault) => Err(fault),
+    }
+}
 
 /// Goes over that many votes of a promise, and answers the bytes behind them. The faults are those of
 /// the first vote that has one.
@@ -28,9 +40,9 @@ fn after_votes(part: Part, count: u32, bytes: &[u8]) -> Result<&[u8], WireFault>
     let mut rest = bytes;
     let mut low = 0;
     for _ in 0..count {
-        let (vote, behind) = vote_of(part, low, rest)?;
+        let (place, behind) = pass_vote(part, low, rest)?;
         rest = behind;
-        low = vote.place + 1;
+        low = place + 1;
     }
     Ok(rest)
 }
@@ -39,7 +51,7 @@ fn after_votes(part: Part, count: u32, bytes: &[u8]) -> Result<&[u8], WireFault>
 #[tactic(auto, unfolding(crate::specs::Reading::prepare_at))]
 fn prepare_of(size: u8, sender: u8, bytes: &[u8]) -> Result<(BodyView<'_>, &[u8]), WireFault>
     ensures exact { Gives (λ x. (said x.0, x.1.now)) result (prepare_at size sender bytes.now) }
-    ensures few { IfOk result (λ x. HasUpTo 64 (said x.0)) }
+    ensures few { IfOk result (λ x. HasUpTo 8 (said x.0)) }
 {
     let (ballot, rest) = own_ballot_of(size, sender, bytes)?;
     let (from, rest) = place_of(65_535, rest)?;
@@ -47,11 +59,11 @@ fn prepare_of(size: u8, sender: u8, bytes: &[u8]) -> Result<(BodyView<'_>, &[u8]
 }
 
 /// The body of a Promise. Place where `upto` is above 65,536 or not above `first`, Count where there are
-/// more than 64 votes.
+/// more than 8 votes.
 #[tactic(auto, unfolding(crate::specs::Reading::promise_at))]
 fn promise_of(size: u8, bytes: &[u8]) -> Result<(BodyView<'_>, &[u8]), WireFault>
     ensures exact { Gives (λ x. (said x.0, x.1.now)) result (promise_at size bytes.now) }
-    ensures few { IfOk result (λ x. HasUpTo 64 (said x.0)) }
+    ensures few { IfOk result (λ x. HasUpTo 8 (said x.0)) }
 {
     let (ballot, rest) = ballot_of(size, bytes)?;
     let (first, rest) = place_of(65_535, rest)?;
@@ -60,7 +72,7 @@ fn promise_of(size: u8, bytes: &[u8]) -> Result<(BodyView<'_>, &[u8]), WireFault
         return Err(WireFault::Place);
     }
     let (count, rest) = byte_of(rest)?;
-    if count > 64 {
+    if count > 8 {
         return Err(WireFault::Count);
     }
     let part = Part {
@@ -84,41 +96,41 @@ fn promise_of(size: u8, bytes: &[u8]) -> Result<(BodyView<'_>, &[u8]), WireFault
 #[tactic(auto, unfolding(crate::specs::Reading::accept_at))]
 fn accept_of(size: u8, sender: u8, bytes: &[u8]) -> Result<(BodyView<'_>, &[u8]), WireFault>
     ensures exact { Gives (λ x. (said x.0, x.1.now)) result (accept_at size sender bytes.now) }
-    ensures few { IfOk result (λ x. HasUpTo 64 (said x.0)) }
+    ensures few { IfOk result (λ x. HasUpTo 8 (said x.0)) }
 {
     let (ballot, rest) = own_ballot_of(size, sender, bytes)?;
     let (place, rest) = place_of(65_535, rest)?;
-    let (value, rest) = value_of(size, rest)?;
+    let (value, taken) = value_of(size, rest)?;
     let body = BodyView::Accept {
         ballot,
         place,
         value,
     };
-    Ok((body, rest))
+    Ok((body, &rest[taken..]))
 }
 
 /// The body of an Accepted: a ballot, a place and a value.
 #[tactic(auto, unfolding(crate::specs::Reading::accepted_at))]
 fn accepted_of(size: u8, bytes: &[u8]) -> Result<(BodyView<'_>, &[u8]), WireFault>
     ensures exact { Gives (λ x. (said x.0, x.1.now)) result (accepted_at size bytes.now) }
-    ensures few { IfOk result (λ x. HasUpTo 64 (said x.0)) }
+    ensures few { IfOk result (λ x. HasUpTo 8 (said x.0)) }
 {
     let (ballot, rest) = ballot_of(size, bytes)?;
     let (place, rest) = place_of(65_535, rest)?;
-    let (value, rest) = value_of(size, rest)?;
+    let (value, taken) = value_of(size, rest)?;
     let body = BodyView::Accepted {
         ballot,
         place,
         value,
     };
-    Ok((body, rest))
+    Ok((body, &rest[taken..]))
 }
 
 /// The body of a Refused. Ballot also where what was promised is not above the refused ballot.
 #[tactic(auto, unfolding(crate::specs::Reading::refused_at))]
 fn refused_of(size: u8, bytes: &[u8]) -> Result<(BodyView<'_>, &[u8]), WireFault>
     ensures exact { Gives (λ x. (said x.0, x.1.now)) result (refused_at size bytes.now) }
-    ensures few { IfOk result (λ x. HasUpTo 64 (said x.0)) }
+    ensures few { IfOk result (λ x. HasUpTo 8 (said x.0)) }
 {
     let (ballot, rest) = ballot_of(size, bytes)?;
     let (promised, rest) = ballot_of(size, rest)?;
@@ -128,21 +140,21 @@ fn refused_of(size: u8, bytes: &[u8]) -> Result<(BodyView<'_>, &[u8]), WireFault
     Ok((BodyView::Refused { ballot, promised }, rest))
 }
 
-/// The body of a Submit: a key that was typed at the sender.
+/// The body of a Submit: keys that were typed at the sender.
 #[tactic(auto, unfolding(crate::specs::Reading::submit_at))]
 fn submit_of(size: u8, sender: u8, bytes: &[u8]) -> Result<(BodyView<'_>, &[u8]), WireFault>
     ensures exact { Gives (λ x. (said x.0, x.1.now)) result (submit_at size sender bytes.now) }
-    ensures few { IfOk result (λ x. HasUpTo 64 (said x.0)) }
+    ensures few { IfOk result (λ x. HasUpTo 8 (said x.0)) }
 {
-    let (key, rest) = own_key_of(size, sender, bytes)?;
-    Ok((BodyView::Submit { key }, rest))
+    let (key, taken) = own_keys_of(size, sender, bytes)?;
+    Ok((BodyView::Submit { key }, &bytes[taken..]))
 }
 
 /// The body of an Ask: a place, which is at most 65,536.
 #[tactic(auto, unfolding(crate::specs::Reading::ask_at))]
 fn ask_of(bytes: &[u8]) -> Result<(BodyView<'_>, &[u8]), WireFault>
     ensures exact { Gives (λ x. (said x.0, x.1.now)) result (ask_at bytes.now) }
-    ensures few { IfOk result (λ x. HasUpTo 64 (said x.0)) }
+    ensures few { IfOk result (λ x. HasUpTo 8 (said x.0)) }
 {
     let (from, rest) = place_of(65_536, bytes)?;
     Ok((BodyView::Ask { from }, rest))
@@ -152,18 +164,18 @@ fn ask_of(bytes: &[u8]) -> Result<(BodyView<'_>, &[u8]), WireFault>
 #[tactic(auto, unfolding(crate::specs::Reading::tell_at))]
 fn tell_of(size: u8, bytes: &[u8]) -> Result<(BodyView<'_>, &[u8]), WireFault>
     ensures exact { Gives (λ x. (said x.0, x.1.now)) result (tell_at size bytes.now) }
-    ensures few { IfOk result (λ x. HasUpTo 64 (said x.0)) }
+    ensures few { IfOk result (λ x. HasUpTo 8 (said x.0)) }
 {
     let (place, rest) = place_of(65_535, bytes)?;
-    let (value, rest) = value_of(size, rest)?;
-    Ok((BodyView::Tell { place, value }, rest))
+    let (value, taken) = value_of(size, rest)?;
+    Ok((BodyView::Tell { place, value }, &rest[taken..]))
 }
 
 /// The body of a message of that kind from that sender, and the bytes behind it.
 #[tactic(auto, unfolding(crate::specs::Reading::body_at))]
 fn body_of(size: u8, kind: u8, sender: u8, bytes: &[u8]) -> Result<(BodyView<'_>, &[u8]), WireFault>
     ensures exact { Gives (λ x. (said x.0, x.1.now)) result (body_at size kind sender bytes.now) }
-    ensures few { IfOk result (λ x. HasUpTo 64 (said x.0)) }
+    ensures few { IfOk result (λ x. HasUpTo 8 (said x.0)) }
 {
     match kind {
         1 => prepare_of(size, sender, bytes),
@@ -189,7 +201,7 @@ fn header_of(group: Group, bytes: &[u8]) -> Result<((u8, u8), &[u8]), WireFault>
     if !(bytes[0] == 80 && bytes[1] == 71) {
         return Err(WireFault::Magic);
     }
-    if bytes[2] != 1 {
+    if bytes[2] != 2 {
         return Err(WireFault::Version);
     }
     if bytes[3] == 0 || bytes[3] > 8 {
@@ -209,18 +221,19 @@ fn header_of(group: Group, bytes: &[u8]) -> Result<((u8, u8), &[u8]), WireFault>
 #[tactic(auto, unfolding(crate::specs::Reading::message_at))]
 fn message_of(bytes: &[u8], group: Group) -> Result<View<'_>, WireFault>
     ensures exact { Gives (λ view. view) result (message_at group bytes.now) }
-    ensures few { IfOk result (λ view. HasUpTo 64 view.body) }
+    ensures few { IfOk result (λ view. HasUpTo 8 view.body) }
 {
     let ((kind, sender), rest) = header_of(group, bytes)?;
-    let (body, rest) = body_of(group.size, kind, sender, rest)?;
-    if !rest.is_empty() {
-        return Err(WireFault::Trailing);
+    // No `?`: the prover has no rule for one on a value and a reference together.
+    match body_of(group.size, kind, sender, rest) {
+        Ok((body, [])) => Ok(View { sender, body }),
+        Ok(_) => Err(WireFault::Trailing),
+        Err(fault) => Err(fault),
     }
-    Ok(View { sender, body })
 }
 
 /// The message that is all of the datagram, or the first fault from the left. Its votes stay in the
-/// datagram, at most 64. No memory is taken, so Memory is never answered.
+/// datagram, at most 8. No memory is taken, so Memory is never answered.
 pub fn decode(bytes: &[u8], group: Group) -> Result<View<'_>, WireFault>
     // What is read is spelled so.
     ensures found { IfOk result (λ view. Msgs group bytes.now view) }
@@ -228,8 +241,8 @@ pub fn decode(bytes: &[u8], group: Group) -> Result<View<'_>, WireFault>
     ensures only { (m : Msg) → Msgs group bytes.now m → Gives (λ view. view) result (Ok m) }
     // Which check is the first that fails.
     ensures exact { Gives (λ view. view) result (message_at group bytes.now) }
-    // At most 64 votes may be counted or collected.
-    ensures few { IfOk result (λ view. HasUpTo 64 view.body) }
+    // At most 8 votes may be counted or collected.
+    ensures few { IfOk result (λ view. HasUpTo 8 view.body) }
 {
     message_of(bytes, group)
 }
@@ -243,18 +256,14 @@ pub fn read_ballot(bytes: &[u8], group: Group) -> Result<(Ballot, usize), WireFa
     Ok((ballot, 5))
 }
 
-/// The value at the front of the bytes, and how many bytes it takes: 1 where it is no key, 11 for a key.
-/// Value where its tag is neither 0 nor 1, its node is not of the group, or its start or its serial is
-/// 0; Short where it ends too soon.
+/// The value at the front of the bytes, and how many bytes it takes: 1 where it is no key, and 11 and one for
+/// each of its 1 to 32 characters else. Value where its tag is neither 0 nor 1, its node is not of the group, its
+/// start is 0, or, at the count, the first serial is 0, the count is 0 or above 32, or the last serial is above
+/// 4,294,967,295; Short where it ends too soon.
 pub fn read_value(bytes: &[u8], group: Group) -> Result<(Value, usize), WireFault>
     ensures exact { GivesField bytes.now result (value_at group.size bytes.now) }
 {
-    let (value, _) = value_of(group.size, bytes)?;
-    let length = match value {
-        Value::Noop => 1,
-        Value::Key { .. } => 11,
-    };
-    Ok((value, length))
+    value_of(group.size, bytes)
 }
 
 /// The votes at the front of the bytes, so many of them, and the bytes behind them: at places that ascend,

@@ -12,9 +12,9 @@ use crate::spelling::{
 };
 use std::alloc::Global;
 
-/// Writes a body behind what the vector holds. A promise has at most 64 votes.
+/// Writes a body behind what the vector holds. A promise has at most 8 votes.
 fn put_body(body: &Body, out: &mut Vec<u8>)
-    requires few { HasUpTo 64 body.now }
+    requires few { HasUpTo 8 body.now }
     requires room { vec_len out.old + length (body_bytes body.now) ≤ vec_capacity out.old }
     ensures items { out.new.items ≡ out.old.items ++ body_bytes body.now }
     ensures capacity { vec_capacity out.new ≡ vec_capacity out.old }
@@ -53,7 +53,7 @@ fn put_body(body: &Body, out: &mut Vec<u8>)
     }
 }
 
-/// Writes the datagram of a message that fits, at most 1,304 bytes, into an empty vector with room for
+/// Writes the datagram of a message that fits, at most 440 bytes, into an empty vector with room for
 /// 1,400. It takes no memory.
 pub fn encode_into(message: &Msg, group: Group, out: &mut Vec<u8>)
     requires fits { Fits group message.now }
@@ -66,7 +66,7 @@ pub fn encode_into(message: &Msg, group: Group, out: &mut Vec<u8>)
     put_body(&message.body, out);
 }
 
-/// The datagram of a message that fits, at most 1,304 bytes. The refusal is `Memory`, and comes where
+/// The datagram of a message that fits, at most 440 bytes. The refusal is `Memory`, and comes where
 /// there is no memory for 1,400 bytes.
 pub fn encode(alloc: Global, message: &Msg, group: Group) -> Result<Vec<u8>, WireFault>
     requires fits { Fits group message.now }

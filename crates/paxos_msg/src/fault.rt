@@ -10,7 +10,7 @@ pub enum WireFault {
     /// It does not begin with the bytes `PG`.
     #[error("G2")]
     Magic,
-    /// Its version is not 1.
+    /// Its version is not 2.
     #[error("G3")]
     Version,
     /// Its kind is not 1 to 8.
@@ -29,13 +29,13 @@ pub enum WireFault {
     /// A place is out of range.
     #[error("G8")]
     Place,
-    /// A value is out of range, or a submitted one is not a key of the sender.
+    /// A value is out of range, or a submitted one has no keys of the sender.
     #[error("G9")]
     Value,
     /// A vote's place is not above the one before.
     #[error("G10")]
     Order,
-    /// A promise has more than 64 votes.
+    /// A promise has more than 8 votes.
     #[error("G11")]
     Count,
     /// Bytes are left over.

@@ -32,14 +32,14 @@ pub fn value_is_spelling()
     ensures read { (size : ℕ) (bytes : List ℕ) (v : Value) (rest : List ℕ) → AreBytes bytes → (value_at size bytes ≡ Ok (v, rest)) ↔ (IsValue size v × (bytes ≡ value_bytes v ++ rest)) }
 {}
 
-/// The spelling of a message that fits has at most 1,304 bytes.
+/// The spelling of a message that fits has at most 440 bytes.
 pub fn spelling_is_short()
-    ensures short { (group : Group) (m : Msg) → Fits group m → length (spelling group m) ≤ 1304 }
+    ensures short { (group : Group) (m : Msg) → Fits group m → length (spelling group m) ≤ 440 }
 {}
 
-/// The spelling of a value has at most 11 bytes.
+/// The spelling of a value that fits has at most 43 bytes.
 pub fn value_is_short()
-    ensures short { (v : Value) → length (value_bytes v) ≤ 11 }
+    ensures short { (size : ℕ) (v : Value) → IsValue size v → length (value_bytes v) ≤ 43 }
 {}
 
 /// A number is read from the front of bytes just where they begin with its spelling.
@@ -54,7 +54,7 @@ pub fn votes_are_spelling()
         (votes_at size b 0 65536 0 n bytes ≡ Ok (votes, rest)) ↔ (AreVotes size b 0 65536 votes × (length votes ≡ n) × (bytes ≡ votes_bytes votes ++ rest)) }
 {}
 
-/// The spelling of votes has at most 20 bytes for each.
+/// The spelling of votes that fit has at most 52 bytes for each.
 pub fn votes_are_short()
-    ensures short { (votes : List Vote) → length (votes_bytes votes) ≤ 20 * length votes }
+    ensures short { (size low upto : ℕ) (b : Ballot) (votes : List Vote) → AreVotes size b low upto votes → length (votes_bytes votes) ≤ 52 * length votes }
 {}

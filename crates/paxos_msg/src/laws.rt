@@ -185,10 +185,10 @@ pub fn restarts()
 /// of five a greater ballot can be told of a vote under a smaller one, at a place above 0, and the key of
 /// that vote be chosen by the greater ballot.
 pub fn possible()
-    ensures chosen { (sent : Sent) × (records : ℕ → Record) × Grew 3 sent records × IsChosen 3 sent 0 (Value.Key 2 1 1 65) }
+    ensures chosen { (sent : Sent) × (records : ℕ → Record) × Grew 3 sent records × IsChosen 3 sent 0 (Value.Keys 2 1 1 (65 ∷ [])) }
     ensures retold { let lower : Ballot = record { round = 1; node = 1 } in
         let greater : Ballot = record { round = 2; node = 5 } in
-        let key : Value = Value.Key 4 1 1 65 in
+        let key : Value = Value.Keys 4 1 1 (65 ∷ []) in
         (sent : Sent) × (records : ℕ → Record) × Grew 5 sent records
         × IsPromised sent 3 greater 3 (Some (record { place = 3; ballot = lower; value = key }))
         × IsChosenBy 5 sent greater 3 key }

@@ -71,7 +71,8 @@ impl<'a> Iterator for LentVotes<'a> {
             return None;
         }
         match raw_vote_of(self.bytes) {
-            Ok((vote, rest)) => {
+            Ok((vote, taken)) => {
+                let (_, rest) = self.bytes.split_at(taken);
                 self.bytes = rest;
                 self.count -= 1;
                 Some(vote)

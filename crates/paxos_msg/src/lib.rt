@@ -3,6 +3,7 @@
 #![tactic(auto)]
 
 mod ballot;
+mod characters;
 pub mod choosing;
 mod decoding;
 mod encoding;
@@ -21,6 +22,7 @@ mod voted;
 mod votes;
 
 pub use ballot::Ballot;
+pub use characters::Characters;
 pub use decoding::{decode, read_ballot, read_number, read_value, read_votes};
 pub use encoding::{encode, encode_into};
 pub use fault::WireFault;

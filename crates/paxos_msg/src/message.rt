@@ -45,7 +45,7 @@ pub enum Body {
         ballot: Ballot,
         promised: Ballot,
     },
-    /// A node asks the leader to put its key at a place.
+    /// A node asks the leader to put its keys at a place.
     Submit {
         key: Value,
     },

@@ -2,10 +2,12 @@
 ghost use Rattle.std.specs.Prelude.{◌≡◌, ◌↔◌, ◌≤◌, ◌<◌, IsTrue};
 ghost use Rattle.paxos_msg.specs.declared.message.Body.TheVariants as body;
 ghost use Rattle.paxos_msg.specs.Ballots.{IsBelow, IsAtMost};
-ghost use Rattle.paxos_msg.specs.Fits.{IsNode, IsBallot, IsValue, IsOwnKey, IsVote, AreVotes, IsBody, Fits};
+ghost use Rattle.paxos_msg.specs.Keys.{AreOwnKeys};
+ghost use Rattle.paxos_msg.specs.Fits.{IsNode, IsBallot, IsBatch, IsValue, IsVote, AreVotes, IsBody, Fits};
 
 use crate::ballot::Ballot;
 use crate::message::{Body, Group, Msg};
+use crate::reading::is_batch;
 use crate::value::{Value, Vote};
 
 /// Whether a group of that size has the node.
@@ -22,29 +24,41 @@ pub fn fits_ballot(size: u8, ballot: Ballot) -> bool
     0 < ballot.round && is_node(size, ballot.node)
 }
 
-/// Whether a value is no key, or one of a node of a group of that size, whose start and serial are at
-/// least 1.
+/// Whether there are 1 to 32 characters, and the serials of their keys, from this one on, are 1 to 4,294,967,295.
+fn fits_batch(first: u32, bytes: &[u8]) -> bool
+    ensures { IsTrue result ↔ IsBatch first bytes.now }
+{
+    bytes.len() <= 32 && is_batch(first, bytes.len() as u8)
+}
+
+/// Whether a value is no key, or keys of a node of a group of that size, whose start is at least 1 and whose
+/// serials are 1 to 4,294,967,295.
 fn fits_value(size: u8, value: Value) -> bool
     ensures { IsTrue result ↔ IsValue size value }
 {
     match value {
         Value::Noop => true,
-        Value::Key {
+        Value::Keys {
             node,
             start,
-            serial,
-            byte: _,
-        } => is_node(size, node) && 0 < start && 0 < serial,
+            first,
+            bytes,
+        } => is_node(size, node) && 0 < start && fits_batch(first, bytes.as_slice()),
     }
 }
 
-/// Whether a value is a key that was typed at the node.
-fn is_own_key(node: u8, value: Value) -> bool
-    ensures { IsTrue result ↔ IsOwnKey node value }
+/// Whether a value has keys, all of which were typed at the node.
+fn are_own_keys(node: u8, value: Value) -> bool
+    ensures { IsTrue result ↔ AreOwnKeys node value }
 {
     match value {
         Value::Noop => false,
-        Value::Key { node: typed, .. } => typed == node,
+        Value::Keys {
+            node: typed, bytes, ..
+        } => {
+            let _bytes = bytes.len();
+            typed == node
+        }
     }
 }
 
@@ -90,7 +104,7 @@ pub fn fits_votes(size: u8, ballot: Ballot, first: u32, upto: u32, votes: &[Vote
 }
 
 /// Whether a promise is in its ranges: `upto` is at most 65,536, `first` is below it, and there are at
-/// most 64 votes, each in order.
+/// most 8 votes, each in order.
 fn fits_promise(size: u8, ballot: Ballot, first: u32, upto: u32, votes: &[Vote]) -> bool
     ensures { IsTrue result ↔ IsBody size 0 (body.Promise ballot first upto votes.now) }
 {
@@ -98,7 +112,7 @@ fn fits_promise(size: u8, ballot: Ballot, first: u32, upto: u32, votes: &[Vote])
         && first <= 65535
         && upto <= 65536
         && first < upto
-        && votes.len() <= 64
+        && votes.len() <= 8
         && fits_votes(size, ballot, first, upto, votes)
 }
 
@@ -136,7 +150,7 @@ fn fits_body(size: u8, sender: u8, body: &Body) -> bool
                 && fits_ballot(size, *promised)
                 && is_below(*ballot, *promised)
         }
-        Body::Submit { key } => fits_value(size, *key) && is_own_key(sender, *key),
+        Body::Submit { key } => fits_value(size, *key) && are_own_keys(sender, *key),
         Body::Ask { from } => *from <= 65536,
         Body::Tell { place, value } => *place <= 65535 && fits_value(size, *value),
     }

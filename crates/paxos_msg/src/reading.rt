@@ -1,10 +1,12 @@
 //! The fields of a datagram. Each function reads the field at the front of the bytes, and answers it
-//! and the bytes behind it.
-ghost use Rattle.std.specs.Prelude.{◌≡◌, ◌≤◌, ◌<◌, IfOk, Ok};
-ghost use Rattle.paxos_msg.specs.Reading.{Gives, byte_at, number_at, ballot_at, own_ballot_at, place_at, value_at, own_key_at, vote_at};
-ghost use Rattle.paxos_msg.specs.Raw.{Takes, value_length, raw_ballot_at, raw_key_at, raw_value_at, raw_vote_at, key_rest_at};
+//! and the bytes behind it, or, where it has a value, how many bytes it takes.
+ghost use Rattle.std.specs.Prelude.{◌≡◌, ◌≤◌, ◌<◌, IfOk, Ok, drop};
+ghost use Rattle.paxos_msg.specs.Reading.{Gives, byte_at, bytes_at, number_at, ballot_at, own_ballot_at, place_at, is_batch, characters_at, value_at, own_keys_at, vote_at};
+ghost use Rattle.paxos_msg.specs.Raw.{Takes, raw_ballot_at, raw_characters_at, raw_keys_at, raw_value_at, raw_vote_at, keys_rest_at};
+ghost use Rattle.paxos_msg.specs.Views.{GivesField};
 
 use crate::ballot::Ballot;
+use crate::characters::Characters;
 use crate::fault::WireFault;
 use crate::value::{Value, Vote};
 use byteorder::{BigEndian, ByteOrder};
@@ -48,7 +50,8 @@ pub(crate) fn number_of(bytes: &[u8]) -> Result<(u32, &[u8]), WireFault>
 #[inline]
 #[tactic(auto, unfolding(crate::specs::Raw::raw_ballot_at))]
 fn raw_ballot_of(bytes: &[u8]) -> Result<(Ballot, &[u8]), WireFault>
-    ensures { Gives (λ x. (x.0, x.1.now)) result (raw_ballot_at bytes.now) }
+    ensures exact { Gives (λ x. (x.0, x.1.now)) result (raw_ballot_at bytes.now) }
+    ensures taken { IfOk result (λ x. Takes 5 bytes.now x.1.now) }
 {
     let (round, rest) = number_of(bytes)?;
     let (node, rest) = byte_of(rest)?;
@@ -106,98 +109,148 @@ pub(crate) fn place_of(most: u32, bytes: &[u8]) -> Result<(u32, &[u8]), WireFaul
     Ok((place, rest))
 }
 
-/// The fields of a key behind its node, as they stand.
+/// So many characters, 1 to 32. Short where there are fewer.
 #[inline]
-#[tactic(auto, unfolding(crate::specs::Raw::raw_key_at))]
-fn raw_key_of(node: u8, bytes: &[u8]) -> Result<(Value, &[u8]), WireFault>
-    ensures { Gives (λ x. (x.0, x.1.now)) result (raw_key_at node bytes.now) }
+fn characters_in(count: u8, bytes: &[u8]) -> Result<(Characters, usize), WireFault>
+    requires some { 0 < count }
+    requires few { count ≤ 32 }
+    ensures { GivesField bytes.now result (bytes_at count bytes.now) }
 {
-    let (start, rest) = number_of(bytes)?;
-    let (serial, rest) = number_of(rest)?;
-    let (byte, rest) = byte_of(rest)?;
-    let key = Value::Key {
-        node,
-        start,
-        serial,
-        byte,
-    };
-    Ok((key, rest))
+    let count = usize::from(count);
+    if bytes.len() < count {
+        return Err(WireFault::Short);
+    }
+    Ok((Characters::new(&bytes[..count]).unwrap(), count))
 }
 
-/// A value as it stands. Value where its tag is neither 0 nor 1; Short where it ends too soon.
+/// Characters behind their count. Value where they are none or above 32; Short where they end too soon.
+#[inline]
+#[tactic(auto, unfolding(crate::specs::Raw::raw_characters_at))]
+fn raw_characters_of(bytes: &[u8]) -> Result<(Characters, usize), WireFault>
+    ensures { GivesField bytes.now result (raw_characters_at bytes.now) }
+{
+    let (count, rest) = byte_of(bytes)?;
+    if count == 0 || count > 32 {
+        return Err(WireFault::Value);
+    }
+    let (characters, taken) = characters_in(count, rest)?;
+    Ok((characters, 1 + taken))
+}
+
+/// Whether so many keys whose serials go on from this one are a batch: 1 to 32 keys with serials of 1 to
+/// 4,294,967,295.
+#[inline]
+pub(crate) fn is_batch(first: u32, count: u8) -> bool
+    ensures { result ≡ is_batch first count }
+{
+    0 < first && 0 < count && count <= 32 && first - 1 <= u32::MAX - u32::from(count)
+}
+
+/// The characters of a batch behind their count, whose first key has this serial. Value where they are no batch;
+/// Short where they end too soon.
+#[inline]
+#[tactic(auto, unfolding(crate::specs::Reading::characters_at, crate::specs::Raw::raw_characters_at))]
+fn characters_of(first: u32, bytes: &[u8]) -> Result<(Characters, usize), WireFault>
+    ensures exact { GivesField bytes.now result (characters_at first bytes.now) }
+    ensures raw { IfOk result (λ x. raw_characters_at bytes.now ≡ Ok (x.0, drop x.1 bytes.now)) }
+{
+    let (count, rest) = byte_of(bytes)?;
+    if !is_batch(first, count) {
+        return Err(WireFault::Value);
+    }
+    let (characters, taken) = characters_in(count, rest)?;
+    Ok((characters, 1 + taken))
+}
+
+/// The fields of a batch behind its node, as they stand.
+#[inline]
+#[tactic(auto, unfolding(crate::specs::Raw::raw_keys_at))]
+fn raw_keys_of(node: u8, bytes: &[u8]) -> Result<(Value, usize), WireFault>
+    ensures { GivesField bytes.now result (raw_keys_at node bytes.now) }
+{
+    let (start, rest) = number_of(bytes)?;
+    let (first, rest) = number_of(rest)?;
+    let (bytes, taken) = raw_characters_of(rest)?;
+    let keys = Value::Keys {
+        node,
+        start,
+        first,
+        bytes,
+    };
+    Ok((keys, 8 + taken))
+}
+
+/// A value as it stands. Value where its tag is neither 0 nor 1, or it has no characters or more than 32; Short
+/// where it ends too soon.
 #[inline]
 #[tactic(auto, unfolding(crate::specs::Raw::raw_value_at))]
-fn raw_value_of(bytes: &[u8]) -> Result<(Value, &[u8]), WireFault>
-    ensures { Gives (λ x. (x.0, x.1.now)) result (raw_value_at bytes.now) }
+fn raw_value_of(bytes: &[u8]) -> Result<(Value, usize), WireFault>
+    ensures { GivesField bytes.now result (raw_value_at bytes.now) }
 {
     let (tag, rest) = byte_of(bytes)?;
     if tag == 0 {
-        return Ok((Value::Noop, rest));
+        return Ok((Value::Noop, 1));
     }
     if tag != 1 {
         return Err(WireFault::Value);
     }
     let (node, rest) = byte_of(rest)?;
-    raw_key_of(node, rest)
+    let (keys, taken) = raw_keys_of(node, rest)?;
+    Ok((keys, 2 + taken))
 }
 
 /// A vote as it stands.
 #[inline]
-#[tactic(auto, unfolding(crate::specs::Raw::raw_vote_at))]
-pub(crate) fn raw_vote_of(bytes: &[u8]) -> Result<(Vote, &[u8]), WireFault>
-    ensures { Gives (λ x. (x.0, x.1.now)) result (raw_vote_at bytes.now) }
+#[tactic(auto, using(crate::proofs::VotesLeft::behind_ballot), unfolding(crate::specs::Raw::raw_vote_at))]
+pub(crate) fn raw_vote_of(bytes: &[u8]) -> Result<(Vote, usize), WireFault>
+    ensures { GivesField bytes.now result (raw_vote_at bytes.now) }
 {
     let (place, rest) = number_of(bytes)?;
     let (ballot, rest) = raw_ballot_of(rest)?;
-    let (value, rest) = raw_value_of(rest)?;
+    let (value, taken) = raw_value_of(rest)?;
     let vote = Vote {
         place,
         ballot,
         value,
     };
-    Ok((vote, rest))
+    Ok((vote, 9 + taken))
 }
 
-/// The fields of a key behind its node. Value where its start or its serial is 0; Short where it ends
-/// too soon.
+/// The fields of a batch behind its node. Value where its start is 0 or its characters are no batch; Short where it
+/// ends too soon.
 #[inline]
-#[tactic(auto, unfolding(crate::specs::Raw::key_rest_at, crate::specs::Raw::raw_key_at))]
-fn key_rest_of(node: u8, bytes: &[u8]) -> Result<(Value, &[u8]), WireFault>
-    ensures exact { Gives (λ x. (x.0, x.1.now)) result (key_rest_at node bytes.now) }
-    ensures raw { IfOk result (λ x. raw_key_at node bytes.now ≡ Ok (x.0, x.1.now)) }
-    ensures taken { IfOk result (λ x. Takes 9 bytes.now x.1.now) }
-    ensures key { IfOk result (λ x. value_length x.0 ≡ 11) }
+#[tactic(auto, unfolding(crate::specs::Raw::keys_rest_at, crate::specs::Raw::raw_keys_at))]
+fn keys_rest_of(node: u8, bytes: &[u8]) -> Result<(Value, usize), WireFault>
+    ensures exact { GivesField bytes.now result (keys_rest_at node bytes.now) }
+    ensures raw { IfOk result (λ x. raw_keys_at node bytes.now ≡ Ok (x.0, drop x.1 bytes.now)) }
 {
     let (start, rest) = number_of(bytes)?;
     if start == 0 {
         return Err(WireFault::Value);
     }
-    let (serial, rest) = number_of(rest)?;
-    if serial == 0 {
-        return Err(WireFault::Value);
-    }
-    let (byte, rest) = byte_of(rest)?;
-    let key = Value::Key {
+    let (first, rest) = number_of(rest)?;
+    let (bytes, taken) = characters_of(first, rest)?;
+    let keys = Value::Keys {
         node,
         start,
-        serial,
-        byte,
+        first,
+        bytes,
     };
-    Ok((key, rest))
+    Ok((keys, 8 + taken))
 }
 
-/// A value: no key, or a key of a node of a group of that size. Value where its tag is neither 0 nor 1,
-/// its node is not of the group, or its start or its serial is 0; Short where it ends too soon.
+/// A value, and how many bytes it takes: no key, or a batch of keys of a node of a group of that size. Value where its
+/// tag is neither 0 nor 1, its node is not of the group, its start is 0 or its characters are no batch; Short where it
+/// ends too soon.
 #[inline]
-#[tactic(auto, unfolding(crate::specs::Reading::value_at, crate::specs::Reading::key_at, crate::specs::Raw::key_rest_at, crate::specs::Raw::raw_value_at))]
-pub(crate) fn value_of(size: u8, bytes: &[u8]) -> Result<(Value, &[u8]), WireFault>
-    ensures exact { Gives (λ x. (x.0, x.1.now)) result (value_at size bytes.now) }
-    ensures raw { IfOk result (λ x. raw_value_at bytes.now ≡ Ok (x.0, x.1.now)) }
-    ensures taken { IfOk result (λ x. Takes (value_length x.0) bytes.now x.1.now) }
+#[tactic(auto, unfolding(crate::specs::Reading::value_at, crate::specs::Reading::keys_at, crate::specs::Raw::keys_rest_at, crate::specs::Raw::raw_value_at))]
+pub(crate) fn value_of(size: u8, bytes: &[u8]) -> Result<(Value, usize), WireFault>
+    ensures exact { GivesField bytes.now result (value_at size bytes.now) }
+    ensures raw { IfOk result (λ x. raw_value_at bytes.now ≡ Ok (x.0, drop x.1 bytes.now)) }
 {
     let (tag, rest) = byte_of(bytes)?;
     if tag == 0 {
-        return Ok((Value::Noop, rest));
+        return Ok((Value::Noop, 1));
     }
     if tag != 1 {
         return Err(WireFault::Value);
@@ -206,15 +259,16 @@ pub(crate) fn value_of(size: u8, bytes: &[u8]) -> Result<(Value, &[u8]), WireFau
     if !(0 < node && node <= size) {
         return Err(WireFault::Value);
     }
-    key_rest_of(node, rest)
+    let (keys, taken) = keys_rest_of(node, rest)?;
+    Ok((keys, 2 + taken))
 }
 
-/// A key that was typed at the sender. Value where the tag is not 1, the node is not of the group or
-/// not the sender, or the start or the serial is 0; Short where it ends too soon.
+/// Keys that were typed at the sender, and how many bytes they take. Value where the tag is not 1, the node is not of
+/// the group or not the sender, the start is 0 or the characters are no batch; Short where they end too soon.
 #[inline]
-#[tactic(auto, unfolding(crate::specs::Reading::own_key_at, crate::specs::Reading::key_at, crate::specs::Raw::key_rest_at))]
-pub(crate) fn own_key_of(size: u8, sender: u8, bytes: &[u8]) -> Result<(Value, &[u8]), WireFault>
-    ensures { Gives (λ x. (x.0, x.1.now)) result (own_key_at size sender bytes.now) }
+#[tactic(auto, unfolding(crate::specs::Reading::own_keys_at, crate::specs::Reading::keys_at, crate::specs::Raw::keys_rest_at))]
+pub(crate) fn own_keys_of(size: u8, sender: u8, bytes: &[u8]) -> Result<(Value, usize), WireFault>
+    ensures { GivesField bytes.now result (own_keys_at size sender bytes.now) }
 {
     let (tag, rest) = byte_of(bytes)?;
     if tag != 1 {
@@ -224,17 +278,18 @@ pub(crate) fn own_key_of(size: u8, sender: u8, bytes: &[u8]) -> Result<(Value, &
     if !(0 < node && node <= size && node == sender) {
         return Err(WireFault::Value);
     }
-    key_rest_of(node, rest)
+    let (keys, taken) = keys_rest_of(node, rest)?;
+    Ok((keys, 2 + taken))
 }
 
 /// A vote at a place from `low` on, which is one above the vote before. Order where its place is below
 /// `low`, Place where the promise does not speak of it, Ballot where its ballot is out of range or above
 /// the promise's, and the faults of a value.
 #[inline]
-#[tactic(auto, unfolding(crate::specs::Reading::vote_at, crate::specs::Raw::raw_vote_at))]
-pub(crate) fn vote_of(part: Part, low: u32, bytes: &[u8]) -> Result<(Vote, &[u8]), WireFault>
-    ensures exact { Gives (λ x. (x.0, x.1.now)) result (vote_at part.size part.ballot part.first part.upto low bytes.now) }
-    ensures raw { IfOk result (λ x. raw_vote_at bytes.now ≡ Ok (x.0, x.1.now)) }
+#[tactic(auto, using(crate::proofs::VotesLeft::behind_ballot), unfolding(crate::specs::Reading::vote_at, crate::specs::Raw::raw_vote_at))]
+pub(crate) fn vote_of(part: Part, low: u32, bytes: &[u8]) -> Result<(Vote, usize), WireFault>
+    ensures exact { GivesField bytes.now result (vote_at part.size part.ballot part.first part.upto low bytes.now) }
+    ensures raw { IfOk result (λ x. raw_vote_at bytes.now ≡ Ok (x.0, drop x.1 bytes.now)) }
     ensures place { IfOk result (λ x. x.0.place < part.upto) }
 {
     let (place, rest) = number_of(bytes)?;
@@ -248,11 +303,11 @@ pub(crate) fn vote_of(part: Part, low: u32, bytes: &[u8]) -> Result<(Vote, &[u8]
     if part.ballot < ballot {
         return Err(WireFault::Ballot);
     }
-    let (value, rest) = value_of(part.size, rest)?;
+    let (value, taken) = value_of(part.size, rest)?;
     let vote = Vote {
         place,
         ballot,
         value,
     };
-    Ok((vote, rest))
+    Ok((vote, 9 + taken))
 }

@@ -4,8 +4,12 @@ ghost use Rattle.std.specs.Prelude.{◌≡◌, ◌+◌, ◌≤◌, ◌++◌, ◌
 ghost use Rattle.paxos_msg.specs.Spelling.{number_bytes, ballot_bytes, value_bytes, vote_bytes, votes_bytes, kind_of, header_bytes};
 
 use crate::ballot::Ballot;
+use crate::characters::Characters;
 use crate::message::{Body, Group};
 use crate::value::{Value, Vote};
+
+/// The version of the datagrams.
+const VERSION: u8 = 2;
 
 /// Writes a byte.
 fn put_byte(byte: u8, out: &mut Vec<u8>)
@@ -15,6 +19,18 @@ fn put_byte(byte: u8, out: &mut Vec<u8>)
     ensures capacity { vec_capacity out.new ≡ vec_capacity out.old }
 {
     out.push_reserved(byte);
+}
+
+/// Writes bytes.
+fn put_bytes(bytes: &[u8], out: &mut Vec<u8>)
+    requires room { vec_len out.old + length bytes.now ≤ vec_capacity out.old }
+    ensures items { out.new.items ≡ out.old.items ++ bytes.now }
+    ensures len { vec_len out.new ≡ vec_len out.old + length bytes.now }
+    ensures capacity { vec_capacity out.new ≡ vec_capacity out.old }
+{
+    for byte in bytes {
+        out.push_reserved(*byte);
+    }
 }
 
 /// Writes a number behind what the vector holds: four bytes, its high byte first, for which it has to have
@@ -44,8 +60,19 @@ pub fn put_ballot(ballot: Ballot, out: &mut Vec<u8>)
     put_byte(ballot.node, out);
 }
 
-/// Writes a value behind what the vector holds: a 0 for no key; or a 1, and the key's node, start, serial
-/// and byte, eleven bytes. The vector has to have room for them.
+/// Writes characters: how many there are, in a byte, and each of them.
+fn put_characters(characters: Characters, out: &mut Vec<u8>)
+    requires room { vec_len out.old + 1 + length characters ≤ vec_capacity out.old }
+    ensures items { out.new.items ≡ out.old.items ++ length characters ∷ characters }
+    ensures len { vec_len out.new ≡ vec_len out.old + 1 + length characters }
+    ensures capacity { vec_capacity out.new ≡ vec_capacity out.old }
+{
+    put_byte(characters.len(), out);
+    put_bytes(characters.as_slice(), out);
+}
+
+/// Writes a value behind what the vector holds: a 0 for no key; or a 1, and the keys' node, start, first serial,
+/// count, in a byte, and characters, 12 to 43 bytes. The vector has to have room for them.
 pub fn put_value(value: Value, out: &mut Vec<u8>)
     requires room { vec_len out.old + length (value_bytes value) ≤ vec_capacity out.old }
     ensures items { out.new.items ≡ out.old.items ++ value_bytes value }
@@ -54,17 +81,17 @@ pub fn put_value(value: Value, out: &mut Vec<u8>)
 {
     match value {
         Value::Noop => put_byte(0, out),
-        Value::Key {
+        Value::Keys {
             node,
             start,
-            serial,
-            byte,
+            first,
+            bytes,
         } => {
             put_byte(1, out);
             put_byte(node, out);
             put_number(start, out);
-            put_number(serial, out);
-            put_byte(byte, out);
+            put_number(first, out);
+            put_characters(bytes, out);
         }
     }
 }
@@ -97,7 +124,7 @@ pub fn put_votes(votes: &[Vote], out: &mut Vec<u8>)
 /// Writes what is in a promise: its ballot, the places from `first` up to `upto`, how many votes there
 /// are, in a byte, and the votes.
 pub(crate) fn put_promise(ballot: Ballot, first: u32, upto: u32, votes: &[Vote], out: &mut Vec<u8>)
-    requires few { length votes.now ≤ 64 }
+    requires few { length votes.now ≤ 8 }
     requires room { vec_len out.old + 14 + length (votes_bytes votes.now) ≤ vec_capacity out.old }
     ensures items { out.new.items ≡ out.old.items ++ (ballot_bytes ballot ++ number_bytes first ++ number_bytes upto ++ length votes.now ∷ votes_bytes votes.now) }
     ensures len { vec_len out.new ≡ vec_len out.old + 14 + length (votes_bytes votes.now) }
@@ -131,7 +158,7 @@ pub(crate) fn put_header(group: Group, kind: u8, sender: u8, out: &mut Vec<u8>)
 {
     put_byte(b'P', out);
     put_byte(b'G', out);
-    put_byte(1, out);
+    put_byte(VERSION, out);
     put_byte(kind, out);
     put_byte(sender, out);
     put_byte(group.size, out);

@@ -13,7 +13,7 @@ pub enum BodyView<'a> {
         from: u32,
     },
     /// An acceptor promises, and reports its votes at the places from `first` up to, and without,
-    /// `upto`: at most 64.
+    /// `upto`: at most 8.
     Promise {
         ballot: Ballot,
         first: u32,
@@ -37,7 +37,7 @@ pub enum BodyView<'a> {
         ballot: Ballot,
         promised: Ballot,
     },
-    /// A node asks the leader to put its key at a place.
+    /// A node asks the leader to put its keys at a place.
     Submit {
         key: Value,
     },

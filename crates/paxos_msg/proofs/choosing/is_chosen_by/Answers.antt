@@ -9,7 +9,7 @@ use Rattle.paxos_msg.proofs.choosing.is_chosen_by.Goals as goal
 
 pub loop-before-preserved : goal.loop-before-preserved
 loop-before-preserved c =
-    let P = HasAccepted c.args.sent.now c.args.vote.ballot c.args.vote.place c.args.vote.value in
+    let P = HasAccepted c.args.sent.now c.args.ballot c.args.place c.args.value.now in
     elim c.if-has_accepted.branch [
       | then-has_accepted w ↦ record {
         counted = rw w.accepted-is (counted_in P c.loop-before.before c.loop-before.accepted c.loop-before.invariant.counted (c.has_accepted.ensures.0 w.if-has_accepted.true));
@@ -24,6 +24,6 @@ loop-before-preserved c =
 pub returns : goal.returns
 returns c =
     let all : c.loop-before.before ≡ c.args.size = omega arith in
-    let by_count : IsChosenBy c.args.size c.args.sent.now c.args.vote.ballot c.args.vote.place c.args.vote.value ↔ (c.args.size < 2 * c.loop-before.accepted)
-    = chosen_by_count c.args.size c.loop-before.before c.args.sent.now c.args.vote.ballot c.args.vote.place c.args.vote.value c.loop-before.accepted all c.loop-before.invariant.counted in
+    let by_count : IsChosenBy c.args.size c.args.sent.now c.args.ballot c.args.place c.args.value.now ↔ (c.args.size < 2 * c.loop-before.accepted)
+    = chosen_by_count c.args.size c.loop-before.before c.args.sent.now c.args.ballot c.args.place c.args.value.now c.loop-before.accepted all c.loop-before.invariant.counted in
     (λ t. by_count.1 (grind (arith, nat_tests)), λ h. grind (arith, nat_tests, by_count.0 h))

@@ -6,6 +6,6 @@ use Rattle.paxos_msg.proofs.choosing.is_chosen_by.Given as goal
 
 abbrev pub invariant-loop-before : goal.invariant-loop-before
 invariant-loop-before l = record {
-  counted : IsCounted (HasAccepted l.sent l.vote.ballot l.vote.place l.vote.value) l.before l.accepted;
+  counted : IsCounted (HasAccepted l.sent l.ballot l.place l.value) l.before l.accepted;
   few : l.accepted ≤ l.before;
 }

@@ -1,0 +1,13 @@
+-- The node that a batch names is that of all its keys.
+use Rattle.std.proofs.Common.{◌<◌, length, arith}
+use Rattle.std.proofs.lemmas.Bool.Decides.{nat_tests}
+use Rattle.paxos_msg.proofs.OwnKeys.{own_keys, owner}
+use Rattle.paxos_msg.proofs.ranges.are_own_keys.Goals as goal
+
+pub returns-in-Keys : goal.returns-in-Keys
+returns-in-Keys c =
+    let some : 0 < length c.in-Keys.bytes = omega (arith, c.len-bytes.ensures.len, c.len-bytes.ensures.some) in
+    rw c.in-Keys.is (
+      λ t. own_keys c.in-Keys.typed c.in-Keys.start c.in-Keys.first c.args.node c.in-Keys.bytes some (grind (arith, nat_tests)),
+      λ own. grind (arith, nat_tests, owner c.in-Keys.typed c.in-Keys.start c.in-Keys.first c.args.node c.in-Keys.bytes some own),
+    )

@@ -1,0 +1,85 @@
+//! The characters of one value.
+ghost use Rattle.std.specs.Prelude.{◌≡◌, ◌<◌, ◌≤◌, ◌↔◌, ◌∷◌, [], IfSome, IsSome, length};
+
+use std::fmt;
+use std::marker::Model;
+
+/// One to 32 characters. They lie in the value itself, so that a copy takes no memory.
+#[derive(Clone, Copy, Debug, PartialEq, Eq, Hash)]
+pub struct Characters {
+    len: u8,
+    // Behind the characters there are zeros.
+    bytes: [u8; 32],
+}
+
+impl Model for Characters {
+    ghost use Rattle.std.specs.Prelude.{ℕ, List, ◌-◌, ◌++◌, length, replicate, take};
+    ghost use Rattle.paxos_msg.specs.Characters.{IsFilled, bytes_back, len_back};
+
+    ghost Value = { List ℕ };
+
+    ghost view = { λ c. take c.len c.bytes };
+
+    ghost invariant = { λ c. IsFilled c.len c.bytes };
+
+    ghost inverse = { λ l. record { len = length l; bytes = l ++ replicate (32 - length l) 0 } };
+
+    ghost inverse_ok = { λ c h. λ i. record { len = len_back c.len c.bytes h i; bytes = bytes_back c.len c.bytes h i } };
+}
+
+impl Characters {
+    /// The characters of a slice, if it has 1 to 32 of them.
+    pub fn new(bytes: &[u8]) -> Option<Characters>
+        ensures same { IfSome result (λ c. c ≡ bytes.now) }
+        ensures some { IsSome result ↔ ((0 < length bytes.now) × (length bytes.now ≤ 32)) }
+    {
+        if bytes.is_empty() || bytes.len() > 32 {
+            return None;
+        }
+        let mut all = [0; 32];
+        all[..bytes.len()].copy_from_slice(bytes);
+        Some(Characters {
+            len: bytes.len() as u8,
+            bytes: all,
+        })
+    }
+
+    /// The characters, 1 to 32 of them.
+    pub fn as_slice(&self) -> &[u8]
+        ensures same { result.now ≡ self.now }
+        ensures some { 0 < length self.now }
+        ensures few { length self.now ≤ 32 }
+    {
+        &self.bytes[..usize::from(self.len)]
+    }
+
+    /// How many characters there are, 1 to 32.
+    pub fn len(&self) -> u8
+        ensures len { result ≡ length self.now }
+        ensures some { 0 < result }
+        ensures few { result ≤ 32 }
+    {
+        self.len
+    }
+}
+
+/// One character.
+impl From<u8> for Characters {
+    ghost from_gives = { λ byte c. c ≡ byte ∷ [] };
+
+    fn from(byte: u8) -> Self {
+        let mut bytes = [0; 32];
+        bytes[0] = byte;
+        Characters { len: 1, bytes }
+    }
+}
+
+/// Characters are written as two hexadecimal digits each, in capitals.
+impl fmt::Display for Characters {
+    fn fmt<W: fmt::Write>(&self, f: &mut fmt::Formatter<W>) -> fmt::Result {
+        for byte in self.as_slice() {
+            write!(f, "{byte:02X}")?;
+        }
+        Ok(())
+    }
+}
