@@ -18,6 +18,7 @@ pub mod Numbers
 pub mod FieldsRead
 pub mod OwnKeys
 pub mod ValuesRead
+pub mod Version1Read
 pub mod VotesRead
 pub mod BodiesRead
 pub mod HeaderRead

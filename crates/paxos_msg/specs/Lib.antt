@@ -5,6 +5,7 @@ pub mod Keys
 pub mod Fits
 pub mod Spelling
 pub mod Reading
+pub mod Version1
 pub mod Raw
 pub mod Views
 pub mod Messages

@@ -10,6 +10,7 @@ ghost use Rattle.paxos_msg.specs.Fits.{AreVotes, IsBallot, IsValue, Fits};
 ghost use Rattle.paxos_msg.specs.Spelling.{Msgs, ballot_bytes, number_bytes, value_bytes, votes_bytes, spelling};
 ghost use Rattle.paxos_msg.specs.Reading.{ballot_at, number_at, value_at, votes_at, message_at};
 ghost use Rattle.paxos_msg.specs.Grammar.{AreBytes, IsGroup};
+ghost use Rattle.paxos_msg.specs.Version1.{IsSingle, value_at_v1, value_bytes_v1};
 
 /// A datagram is read as a message just where the message fits and the datagram is its spelling.
 pub fn reading_is_spelling()
@@ -30,6 +31,11 @@ pub fn ballot_is_spelling()
 /// A value is read from the front of bytes just where it fits and they begin with its spelling.
 pub fn value_is_spelling()
     ensures read { (size : ℕ) (bytes : List ℕ) (v : Value) (rest : List ℕ) → AreBytes bytes → (value_at size bytes ≡ Ok (v, rest)) ↔ (IsValue size v × (bytes ≡ value_bytes v ++ rest)) }
+{}
+
+/// A value of version 1 is read from the front of bytes just where it fits, has at most one key, and they begin with its spelling.
+pub fn value_v1_is_spelling()
+    ensures read { (size : ℕ) (bytes : List ℕ) (v : Value) (rest : List ℕ) → AreBytes bytes → (value_at_v1 size bytes ≡ Ok (v, rest)) ↔ (IsValue size v × IsSingle v × (bytes ≡ value_bytes_v1 v ++ rest)) }
 {}
 
 /// The spelling of a message that fits has at most 440 bytes.

@@ -54,7 +54,9 @@ fn are_own_keys(node: u8, value: Value) -> bool
     match value {
         Value::Noop => false,
         Value::Keys {
-            node: typed, bytes, ..
+            node: typed,
+            bytes,
+            ..
         } => {
             let _bytes = bytes.len();
             typed == node
