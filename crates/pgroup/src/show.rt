@@ -14,7 +14,7 @@ fn write_vote<W: Write>(writer: &mut W, vote: Vote) -> io::Result<()> {
 
 /// Writes the line of a message, and one for each vote of a promise.
 pub fn write_message<W: Write>(writer: &mut W, view: &View<'_>) -> io::Result<()>
-    requires { HasUpTo 64 (view.now).body }
+    requires { HasUpTo 8 (view.now).body }
 {
     let sender = view.sender;
     match &view.body {

@@ -1,5 +1,5 @@
 //! Which values are chosen by what was sent.
-use super::datagrams::{BALLOT as FIRST, FIRST_KEY as KEY};
+use super::datagrams::{BALLOT as FIRST, first_key};
 use paxos_msg::choosing::{is_chosen, is_majority};
 use paxos_msg::{Ballot, Body, Msg, Value, Votes};
 use std::alloc::{AllocError, Global};
@@ -14,7 +14,7 @@ fn accepted(sender: u8, ballot: Ballot) -> Msg {
         body: Body::Accepted {
             ballot,
             place: 0,
-            value: KEY,
+            value: first_key(),
         },
     }
 }
@@ -43,14 +43,14 @@ fn led(alloc: Global) -> Result<Vec<Msg>, AllocError> {
     }
     sent.push(Msg {
         sender: 2,
-        body: Body::Submit { key: KEY },
+        body: Body::Submit { key: first_key() },
     })?;
     sent.push(Msg {
         sender: 1,
         body: Body::Accept {
             ballot: FIRST,
             place: 0,
-            value: KEY,
+            value: first_key(),
         },
     })?;
     sent.push(accepted(1, FIRST))?;
@@ -63,14 +63,14 @@ fn a_node_counts_once(rt: HostRuntime) -> Result<(), Fail> {
     for _ in 0..5 {
         sent.push(accepted(1, FIRST))?;
     }
-    assert!(rt; !is_chosen(3, sent.as_slice(), 0, KEY));
+    assert!(rt; !is_chosen(3, sent.as_slice(), 0, first_key()));
     sent.push(accepted(2, FIRST))?;
     // Two of four are no majority.
     for (size, place, value, answer) in [
-        (3, 0, KEY, true),
+        (3, 0, first_key(), true),
         (3, 0, Value::Noop, false),
-        (3, 1, KEY, false),
-        (4, 0, KEY, false),
+        (3, 1, first_key(), false),
+        (4, 0, first_key(), false),
     ] {
         assert_eq!(rt; is_chosen(size, sent.as_slice(), place, value), answer);
     }
@@ -90,13 +90,13 @@ fn ballots_are_not_added(rt: HostRuntime) -> Result<(), Fail> {
             },
         })?;
     }
-    assert!(rt; !is_chosen(3, sent.as_slice(), 0, KEY));
+    assert!(rt; !is_chosen(3, sent.as_slice(), 0, first_key()));
     // Acceptances under two ballots are not added.
     sent.push(accepted(1, FIRST))?;
     sent.push(accepted(2, SECOND))?;
-    assert!(rt; !is_chosen(3, sent.as_slice(), 0, KEY));
+    assert!(rt; !is_chosen(3, sent.as_slice(), 0, first_key()));
     sent.push(accepted(3, SECOND))?;
-    assert!(rt; is_chosen(3, sent.as_slice(), 0, KEY));
+    assert!(rt; is_chosen(3, sent.as_slice(), 0, first_key()));
     Ok(())
 }
 
