@@ -4,8 +4,8 @@ use Rattle.std.proofs.Common.{◌≡◌, ℕ, ◌*◌, ◌<◌, ◌≤◌, ◌�
 use Rattle.paxos_msg.specs.declared.ballot.Ballot.{Ballot}
 use Rattle.paxos_msg.specs.declared.value.Value.{Value}
 use Rattle.paxos_msg.specs.declared.message.Body.TheVariants.{Accepted}
-use Rattle.paxos_msg.specs.declared.message.Msg.{Msg}
-use Rattle.paxos_msg.specs.Messages.{Sent, IsSent}
+use Rattle.paxos_msg.specs.Batches.{Msg, Sent}
+use Rattle.paxos_msg.specs.Messages.{IsSent}
 use Rattle.paxos_msg.specs.Chosen.{IsChosen, IsChosenBy}
 use Rattle.paxos_msg.proofs.Meeting.{majorities_meet}
 use Rattle.paxos_msg.proofs.Counting.{IsCounted, count_grows}

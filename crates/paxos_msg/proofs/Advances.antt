@@ -3,13 +3,11 @@ use Rattle.std.proofs.Common.{◌≡◌, ℕ, inl, inr, Option, Some, None, IfSo
 use Rattle.std.proofs.lemmas.Bool.{cases_eq}
 use Rattle.std.proofs.lemmas.Option.{IfSome_then}
 use Rattle.paxos_msg.specs.declared.ballot.Ballot.{Ballot}
-use Rattle.paxos_msg.specs.declared.value.Vote.{Vote}
-use Rattle.paxos_msg.specs.declared.record.Change.{Change}
+use Rattle.paxos_msg.specs.Batches.{Change, Record, Sent, Vote}
 use Rattle.paxos_msg.specs.declared.record.Change.TheVariants.{Start, Promise, Ballotted}
 use Rattle.paxos_msg.specs.Ballots.{IsBelow, IsAtMost}
-use Rattle.paxos_msg.specs.declared.record.Record.{Record}
 use Rattle.paxos_msg.specs.declared.message.Body.TheVariants.{Accept}
-use Rattle.paxos_msg.specs.Messages.{Sent, IsSaid, vote_at}
+use Rattle.paxos_msg.specs.Messages.{IsSaid, vote_at}
 use Rattle.paxos_msg.specs.Records.{changed, MaySave, IsSaved}
 use Rattle.paxos_msg.proofs.BallotOrder.{at_most_refl, at_most_trans, at_most_from_below}
 use Rattle.paxos_msg.proofs.WithVote.{vote_at-with_vote_same, vote_at-with_vote_other}

@@ -4,14 +4,12 @@ use Rattle.paxos_msg.specs.declared.ballot.Ballot.{Ballot}
 use Rattle.paxos_msg.specs.declared.value.Value.{Value}
 use Rattle.paxos_msg.proofs.Advances.{IsRight}
 use Rattle.paxos_msg.specs.Ballots.{IsBelow, IsAtMost}
-use Rattle.paxos_msg.specs.declared.record.Record.{Record}
-use Rattle.paxos_msg.specs.declared.message.Body.{Body}
+use Rattle.paxos_msg.specs.Batches.{Body, Grew, IsFree, Record, Sent}
 use Rattle.paxos_msg.specs.declared.message.Body.TheVariants.{Promise, Accept, Accepted}
-use Rattle.paxos_msg.specs.Messages.{Sent, IsSent, IsSaid, vote_at}
+use Rattle.paxos_msg.specs.Messages.{IsSent, IsSaid, vote_at}
 use Rattle.paxos_msg.specs.Records.{empty_record}
-use Rattle.paxos_msg.specs.Sending.{IsFree}
 use Rattle.paxos_msg.specs.Chosen.{IsChosen, IsChosenBy}
-use Rattle.paxos_msg.specs.Growth.{Grew, nothing, sends, saves}
+use Rattle.paxos_msg.specs.Growth.{nothing, sends, saves}
 use Rattle.paxos_msg.proofs.BallotOrder.{at_most_cases, at_most_from_below, order_cases}
 use Rattle.paxos_msg.proofs.Meeting.{majorities_meet}
 use Rattle.paxos_msg.proofs.Invariant.{Invariant}

@@ -1,7 +1,7 @@
 -- An answer that gives what is read gives what is spelled, and the other way round.
 use Rattle.std.proofs.Common.{ℕ, List, Result, Ok, Err, IfOk, rules, sym, ◌∙◌}
 use Rattle.paxos_msg.specs.declared.message.Group.{Group}
-use Rattle.paxos_msg.specs.declared.message.Msg.{Msg}
+use Rattle.paxos_msg.specs.Batches.{Msg}
 use Rattle.paxos_msg.specs.declared.fault.WireFault.{WireFault}
 use Rattle.paxos_msg.specs.Reading.{Gives, message_at}
 use Rattle.paxos_msg.specs.Spelling.{Msgs}

@@ -7,7 +7,7 @@ use Rattle.std.proofs.lemmas.Cmp.{ranked}
 use Rattle.std.proofs.lemmas.List.Sorted.{IsNonDecreasingBy-from_default}
 use Rattle.std.proofs.lemmas.Bool.{cases_lt, eq-eqb, ne_eqb}
 use Rattle.std.proofs.lemmas.Bool.Decides.{nat_tests}
-use Rattle.paxos_msg.specs.declared.value.Vote.{Vote}
+use Rattle.paxos_msg.specs.Batches.{Vote}
 use Rattle.paxos_msg.specs.Messages.{AreAbove, IsAscending, vote_at}
 use Rattle.paxos_msg.specs.Places.{IsGapIn, IsPlaceIn}
 use Rattle.paxos_msg.specs.Records.{with_vote}

@@ -4,19 +4,16 @@ use Rattle.std.proofs.lemmas.Bool.{cases_eq}
 use Rattle.std.proofs.lemmas.List.{append-nil, append_assoc}
 use Rattle.std.proofs.lemmas.List.Elements.{Contains-append_left}
 use Rattle.paxos_msg.specs.declared.value.Value.{Value}
-use Rattle.paxos_msg.specs.declared.record.Change.{Change}
+use Rattle.paxos_msg.specs.Batches.{Body, Change, Grew, MaySend, MaySendAll, Msg, Record, Sent}
 use Rattle.paxos_msg.specs.declared.record.Change.TheVariants.{Start, Promise, Ballotted}
-use Rattle.paxos_msg.specs.declared.record.Record.{Record}
-use Rattle.paxos_msg.specs.declared.message.Body.{Body}
 use Rattle.paxos_msg.specs.declared.message.Body.TheVariants as message
 use Rattle.paxos_msg.specs.declared.message.Body.TheVariants.{Prepare, Accept, Accepted, Refused, Submit, Ask, Tell}
-use Rattle.paxos_msg.specs.declared.message.Msg.{Msg}
 use Rattle.paxos_msg.specs.Keys.{Key}
-use Rattle.paxos_msg.specs.Messages.{Sent, IsSaid, messages_of}
+use Rattle.paxos_msg.specs.Messages.{IsSaid, messages_of}
 use Rattle.paxos_msg.specs.Records.{MaySave, Stored}
-use Rattle.paxos_msg.specs.Sending.{IsNoNewProposal, KnowsMore, MaySend, MaySendAll}
+use Rattle.paxos_msg.specs.Sending.{IsNoNewProposal, KnowsMore}
 use Rattle.paxos_msg.specs.Chosen.{IsChosen}
-use Rattle.paxos_msg.specs.Growth.{Grew, sends, saves}
+use Rattle.paxos_msg.specs.Growth.{sends, saves}
 
 -- ---- more messages
 

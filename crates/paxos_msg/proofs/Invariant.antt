@@ -2,12 +2,10 @@
 use Rattle.std.proofs.Common.{◌≡◌, ℕ, Bool, IsTrue, Option, IfSome, IsSomeAnd}
 use Rattle.paxos_msg.specs.declared.ballot.Ballot.{Ballot}
 use Rattle.paxos_msg.specs.declared.value.Value.{Value}
-use Rattle.paxos_msg.specs.declared.value.Vote.{Vote}
+use Rattle.paxos_msg.specs.Batches.{IsFree, Record, Sent, Vote}
 use Rattle.paxos_msg.specs.Ballots.{IsBelow, IsAtMost, IsMajority}
-use Rattle.paxos_msg.specs.declared.record.Record.{Record}
 use Rattle.paxos_msg.specs.declared.message.Body.TheVariants.{Accept, Accepted}
-use Rattle.paxos_msg.specs.Messages.{Sent, IsSent, IsSaid, IsPromised, vote_at}
-use Rattle.paxos_msg.specs.Sending.{IsFree}
+use Rattle.paxos_msg.specs.Messages.{IsSent, IsSaid, IsPromised, vote_at}
 use Rattle.paxos_msg.proofs.Advances.{HasPromised, HasVoted, IsRight}
 
 -- what node i accepted at s below b is under no greater ballot than the reported vote's, which was proposed

@@ -10,6 +10,7 @@ pub mod Saves
 pub mod Sends
 pub mod Agreement
 pub mod GoesOn
+pub mod Migration
 pub mod Witness
 pub mod Counting
 pub mod AcceptedCount

@@ -1,7 +1,7 @@
 -- The keys of a batch are all of its node.
 use Rattle.std.proofs.Common.{◌≡◌, ◌≢◌, ℕ, zero, suc, ◌+◌, ◌<◌, List, [], ◌∷◌, length, Contains, ap, refl, sym, arith}
 use Rattle.paxos_msg.specs.declared.value.Value.TheVariants.{Keys}
-use Rattle.paxos_msg.specs.Keys.{AreOwnKeys, Key, keys_from}
+use Rattle.paxos_msg.specs.Keys.{AreOwnKeys, batches, Key, keys_from}
 
 same_node : (node start first : ℕ) (bytes : List ℕ) (key : Key) → Contains (keys_from node start first bytes) key → key.node ≡ node
 same_node node start first [] key (i, below, at) = absurd (omega arith)
@@ -17,13 +17,13 @@ first_of node start first [] h = absurd (omega arith)
 first_of node start first (byte ∷ bytes) h = (record { node = node; start = start; serial = first; byte = byte }, (0, omega arith, refl), refl)
 
 -- the keys of a batch are own keys of the node that it names, and of no other
-pub own_keys : (node start first i : ℕ) (bytes : List ℕ) → 0 < length bytes → node ≡ i → AreOwnKeys i (Keys node start first bytes)
+pub own_keys : (node start first i : ℕ) (bytes : List ℕ) → 0 < length bytes → node ≡ i → AreOwnKeys batches i (Keys node start first bytes)
 own_keys node start first i bytes some e = record {
   has_key = some_keys node start first bytes some;
   at_node = λ key k. rw (sym e) (same_node node start first bytes key k);
 }
 
-pub owner : (node start first i : ℕ) (bytes : List ℕ) → 0 < length bytes → AreOwnKeys i (Keys node start first bytes) → node ≡ i
+pub owner : (node start first i : ℕ) (bytes : List ℕ) → 0 < length bytes → AreOwnKeys batches i (Keys node start first bytes) → node ≡ i
 owner node start first i bytes some h =
     let (key, k, e) = first_of node start first bytes some in
     rw e at (h.at_node key k)

@@ -4,20 +4,17 @@ use Rattle.std.proofs.lemmas.Bool.{eqb-true, or_cases}
 use Rattle.paxos_msg.specs.declared.ballot.Ballot.{Ballot}
 use Rattle.paxos_msg.specs.declared.value.Value.{Value}
 use Rattle.paxos_msg.specs.declared.value.Value.TheVariants as value
-use Rattle.paxos_msg.specs.declared.value.Vote.{Vote}
+use Rattle.paxos_msg.specs.Batches.{Body, Grew, IsSafe, IsTyped, Msg, Record, Sent, Vote}
 use Rattle.paxos_msg.specs.declared.record.Change.TheVariants.{Ballotted}
 use Rattle.paxos_msg.specs.declared.record.Change.TheVariants.{Promise as ToPromise}
-use Rattle.paxos_msg.specs.declared.record.Record.{Record}
-use Rattle.paxos_msg.specs.declared.message.Body.{Body}
 use Rattle.paxos_msg.specs.declared.message.Body.TheVariants.{Prepare, Promise, Accept, Accepted, Refused, Submit, Ask, Tell}
-use Rattle.paxos_msg.specs.declared.message.Msg.{Msg}
 use Rattle.paxos_msg.specs.Ballots.{IsAtMost}
 use Rattle.paxos_msg.specs.Keys.{Key}
-use Rattle.paxos_msg.specs.Messages.{Sent, IsSent, IsSaid, IsPromised}
+use Rattle.paxos_msg.specs.Messages.{IsSent, IsSaid, IsPromised}
 use Rattle.paxos_msg.specs.Records.{empty_record}
-use Rattle.paxos_msg.specs.Sending.{IsGreatest, IsSafe, IsUnproposed, IsReport, IsTyped}
+use Rattle.paxos_msg.specs.Sending.{IsGreatest, IsUnproposed, IsReport}
 use Rattle.paxos_msg.specs.Chosen.{IsChosenBy}
-use Rattle.paxos_msg.specs.Growth.{Grew, nothing, sends, saves}
+use Rattle.paxos_msg.specs.Growth.{nothing, sends, saves}
 use Rattle.paxos_msg.proofs.Witness.{with_change, with_change-saved}
 
 -- ---- the records

@@ -2,14 +2,11 @@
 use Rattle.std.proofs.Common.{◌≡◌, ◌≢◌, ◌↔◌, ℕ, List, [], Option, None, Some, IfSome, IsSomeAnd, Contains, refl}
 use Rattle.paxos_msg.specs.declared.ballot.Ballot.{Ballot}
 use Rattle.paxos_msg.specs.declared.value.Value.{Value}
-use Rattle.paxos_msg.specs.declared.record.Record.{Record}
-use Rattle.paxos_msg.specs.declared.record.Change.{Change}
+use Rattle.paxos_msg.specs.Batches.{Change, IsTyped, Record, Sent}
 use Rattle.paxos_msg.specs.declared.record.Change.TheVariants.{Start, Promise, Ballotted}
 use Rattle.paxos_msg.specs.Ballots.{IsAtMost, IsBelow}
 use Rattle.paxos_msg.specs.Keys.{Key, keys_of}
-use Rattle.paxos_msg.specs.Messages.{Sent}
 use Rattle.paxos_msg.specs.Records.{changed, MaySave}
-use Rattle.paxos_msg.specs.Sending.{IsTyped}
 use Rattle.paxos_msg.proofs.BallotOrder.{at_most_refl, at_most_from_below}
 
 -- ---- facts of an option

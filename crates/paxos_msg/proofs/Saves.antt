@@ -2,10 +2,9 @@
 use Rattle.std.proofs.Common.{ℕ, IfSome, IsSomeAnd}
 use Rattle.paxos_msg.specs.declared.ballot.Ballot.{Ballot}
 use Rattle.paxos_msg.specs.declared.value.Value.{Value}
-use Rattle.paxos_msg.specs.declared.record.Change.{Change}
+use Rattle.paxos_msg.specs.Batches.{Change, Record, Sent}
 use Rattle.paxos_msg.specs.Ballots.{IsBelow}
-use Rattle.paxos_msg.specs.declared.record.Record.{Record}
-use Rattle.paxos_msg.specs.Messages.{Sent, vote_at}
+use Rattle.paxos_msg.specs.Messages.{vote_at}
 use Rattle.paxos_msg.specs.Records.{MaySave, IsSaved}
 use Rattle.paxos_msg.proofs.BallotOrder.{below_at_most}
 use Rattle.paxos_msg.proofs.Advances.{HasPromised, HasVoted, IsRight, after_save, promise_rises, promise_kept, votes_right, vote_kept}

@@ -3,15 +3,12 @@ use Rattle.std.proofs.Common.{◌≡◌, ℕ, ◌⊎◌, inl, inr, List, [], ◌
 use Rattle.std.proofs.lemmas.Option.{IfSome_then}
 use Rattle.paxos_msg.specs.declared.ballot.Ballot.{Ballot}
 use Rattle.paxos_msg.specs.declared.value.Value.{Value}
-use Rattle.paxos_msg.specs.declared.value.Vote.{Vote}
+use Rattle.paxos_msg.specs.Batches.{Body, IsFree, IsSafe, MaySend, Msg, Record, Sent, Vote}
 use Rattle.paxos_msg.specs.Ballots.{IsBelow, IsAtMost}
-use Rattle.paxos_msg.specs.declared.record.Record.{Record}
-use Rattle.paxos_msg.specs.declared.message.Body.{Body}
 use Rattle.paxos_msg.specs.declared.message.Body.TheVariants.{Promise, Accept, Accepted, Submit}
-use Rattle.paxos_msg.specs.declared.message.Msg.{Msg}
 use Rattle.paxos_msg.specs.Keys.{Key}
-use Rattle.paxos_msg.specs.Messages.{Sent, IsSent, IsSaid, IsPromised, vote_at}
-use Rattle.paxos_msg.specs.Sending.{MaySend, IsSafe, IsGreatest, IsBest, IsFree}
+use Rattle.paxos_msg.specs.Messages.{IsSent, IsSaid, IsPromised, vote_at}
+use Rattle.paxos_msg.specs.Sending.{IsGreatest, IsBest}
 use Rattle.paxos_msg.proofs.BallotOrder.{at_most_refl, at_most_trans, at_most_both, below_at_most, not_both, order_cases}
 use Rattle.paxos_msg.proofs.SentLemmas.{still_said, sent_cases, rule_of, sent_or_may}
 use Rattle.paxos_msg.proofs.Advances.{HasPromised, HasVoted, IsRight, some_at, both_known}

@@ -2,12 +2,9 @@
 use Rattle.std.proofs.Common.{◌≡◌, ℕ, ◌⊎◌, inl, inr, List, [], ◌∷◌, ◌++◌, Option, subst}
 use Rattle.std.proofs.lemmas.List.Elements.{Contains-append_left, Contains-push_cases}
 use Rattle.paxos_msg.specs.declared.value.Value.{Value}
-use Rattle.paxos_msg.specs.declared.record.Record.{Record}
-use Rattle.paxos_msg.specs.declared.message.Body.{Body}
-use Rattle.paxos_msg.specs.declared.message.Msg.{Msg}
+use Rattle.paxos_msg.specs.Batches.{Body, MaySend, Msg, Record, Sent}
 use Rattle.paxos_msg.specs.Keys.{Key}
-use Rattle.paxos_msg.specs.Messages.{Sent, IsSent, IsSaid}
-use Rattle.paxos_msg.specs.Sending.{MaySend}
+use Rattle.paxos_msg.specs.Messages.{IsSent, IsSaid}
 
 pub still_sent : (sent : Sent) (m : Msg) (i : ℕ) (body : Body) → IsSent sent i body → IsSent (sent ++ m ∷ []) i body
 still_sent sent m i body h = Contains-append_left sent (m ∷ []) (record { sender = i; body = body }) h

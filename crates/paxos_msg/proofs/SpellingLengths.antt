@@ -4,11 +4,9 @@ use Rattle.std.proofs.lemmas.List.{length-append}
 use Rattle.paxos_msg.specs.declared.ballot.Ballot.{Ballot}
 use Rattle.paxos_msg.specs.declared.value.Value.{Value}
 use Rattle.paxos_msg.specs.declared.value.Value.TheVariants.{Noop, Keys}
-use Rattle.paxos_msg.specs.declared.value.Vote.{Vote}
+use Rattle.paxos_msg.specs.Batches.{Body, Msg, Vote}
 use Rattle.paxos_msg.specs.declared.message.Group.{Group}
-use Rattle.paxos_msg.specs.declared.message.Body.{Body}
 use Rattle.paxos_msg.specs.declared.message.Body.TheVariants.{Prepare, Promise, Accept, Accepted, Refused, Submit, Ask, Tell}
-use Rattle.paxos_msg.specs.declared.message.Msg.{Msg}
 use Rattle.paxos_msg.specs.Fits.{AreVotes, IsBody, IsValue, IsVote, Fits}
 use Rattle.paxos_msg.specs.Spelling.{value_bytes, vote_bytes, votes_bytes, body_bytes, spelling}
 use Rattle.paxos_msg.specs.Views.{HasUpTo}

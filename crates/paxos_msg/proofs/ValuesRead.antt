@@ -8,7 +8,7 @@ use Rattle.paxos_msg.specs.declared.value.Value.TheVariants.{Noop, Keys}
 use Rattle.paxos_msg.specs.declared.fault.WireFault.TheVariants as fault
 use Rattle.paxos_msg.specs.Fits.{IsBatch, IsCount, IsValue}
 use Rattle.paxos_msg.specs.Grammar.{AreBytes}
-use Rattle.paxos_msg.specs.Keys.{AreOwnKeys}
+use Rattle.paxos_msg.specs.Keys.{AreOwnKeys, batches}
 use Rattle.paxos_msg.specs.Reading.{byte_at, bytes_at, number_at, is_batch, is_node, characters_at, keys_at, tagged, value_at, own_keys_at}
 use Rattle.paxos_msg.specs.Spelling.{number_bytes, value_bytes}
 use Rattle.base.proofs.Steps.{bind_ok, guard_ok, unless_ok, ok_is}
@@ -118,13 +118,13 @@ value_again size (Keys node start first bytes) rest h = keys_again (is_node size
 
 -- ---- keys of the sender
 
-own_fit : (size sender : ℕ) (v : Value) → KeysFit (λ node. is_node size node && eqb node sender) v → IsValue size v × AreOwnKeys sender v
+own_fit : (size sender : ℕ) (v : Value) → KeysFit (λ node. is_node size node && eqb node sender) v → IsValue size v × AreOwnKeys batches sender v
 own_fit size sender Noop h = absurd h
 own_fit size sender (Keys node start first bytes) h =
     let a = and_parts (is_node size node) (eqb node sender) h.0 in
     ((node_found size node a.0, h.1, h.2), own_keys node start first sender bytes h.2.1 (eqb-true node sender a.1))
 
-pub own_keys_found : (size sender : ℕ) (bytes : List ℕ) (p : Value × List ℕ) → AreBytes bytes → own_keys_at size sender bytes ≡ Ok p → Takes bytes (value_bytes p.0) p.1 × IsValue size p.0 × AreOwnKeys sender p.0
+pub own_keys_found : (size sender : ℕ) (bytes : List ℕ) (p : Value × List ℕ) → AreBytes bytes → own_keys_at size sender bytes ≡ Ok p → Takes bytes (value_bytes p.0) p.1 × IsValue size p.0 × AreOwnKeys batches sender p.0
 unfolding own_keys_at
 own_keys_found size sender [] p h e = absurd cc
 own_keys_found size sender (zero ∷ bytes) p h e = absurd cc
@@ -137,7 +137,7 @@ own_keys_found size sender (suc (suc b) ∷ bytes) p h e =
     let f = eqb-true (suc (suc b)) 1 (not-false _ a.0) in
     absurd (omega arith)
 
-pub own_keys_again : (size sender : ℕ) (v : Value) (rest : List ℕ) → IsValue size v → AreOwnKeys sender v → own_keys_at size sender (value_bytes v ++ rest) ≡ Ok (v, rest)
+pub own_keys_again : (size sender : ℕ) (v : Value) (rest : List ℕ) → IsValue size v → AreOwnKeys batches sender v → own_keys_at size sender (value_bytes v ++ rest) ≡ Ok (v, rest)
 unfolding own_keys_at
 own_keys_again size sender Noop rest h own = absurd (own.has_key refl)
 own_keys_again size sender (Keys node start first bytes) rest h own =

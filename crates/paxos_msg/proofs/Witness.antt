@@ -4,18 +4,16 @@ use Rattle.std.proofs.lemmas.Bool.{ne_eqb, eq-eqb, eqb-true, or_cases}
 use Rattle.paxos_msg.specs.declared.ballot.Ballot.{Ballot}
 use Rattle.paxos_msg.specs.declared.value.Value.{Value}
 use Rattle.paxos_msg.specs.declared.value.Value.TheVariants as value
-use Rattle.paxos_msg.specs.declared.record.Change.{Change}
+use Rattle.paxos_msg.specs.Batches.{Change, Grew, IsSafe, IsTyped, Msg, Record, Sent}
 use Rattle.paxos_msg.specs.declared.record.Change.TheVariants.{Ballotted}
 use Rattle.paxos_msg.specs.declared.record.Change.TheVariants.{Promise as ToPromise}
-use Rattle.paxos_msg.specs.declared.record.Record.{Record}
 use Rattle.paxos_msg.specs.declared.message.Body.TheVariants.{Prepare, Promise, Accept, Accepted, Submit}
-use Rattle.paxos_msg.specs.declared.message.Msg.{Msg}
 use Rattle.paxos_msg.specs.Keys.{Key}
-use Rattle.paxos_msg.specs.Messages.{Sent, IsSent, IsSaid, IsPromised}
+use Rattle.paxos_msg.specs.Messages.{IsSent, IsSaid, IsPromised}
 use Rattle.paxos_msg.specs.Records.{empty_record, changed, IsSaved}
-use Rattle.paxos_msg.specs.Sending.{IsSafe, IsUnproposed, IsReport, IsTyped}
+use Rattle.paxos_msg.specs.Sending.{IsUnproposed, IsReport}
 use Rattle.paxos_msg.specs.Chosen.{IsChosen}
-use Rattle.paxos_msg.specs.Growth.{Grew, nothing, sends, saves}
+use Rattle.paxos_msg.specs.Growth.{nothing, sends, saves}
 
 -- ---- the records
 

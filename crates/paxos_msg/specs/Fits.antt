@@ -3,14 +3,12 @@ use Rattle.std.specs.Prelude.{◌≡◌, ℕ, ◌+◌, ◌^◌, ◌<◌, ◌≤�
 use Rattle.paxos_msg.specs.declared.ballot.Ballot.{Ballot}
 use Rattle.paxos_msg.specs.declared.value.Value.{Value}
 use Rattle.paxos_msg.specs.declared.value.Value.TheVariants as value
-use Rattle.paxos_msg.specs.declared.value.Vote.{Vote}
+use Rattle.paxos_msg.specs.Batches.{Body, Msg, Vote}
 use Rattle.paxos_msg.specs.declared.message.Group.{Group}
-use Rattle.paxos_msg.specs.declared.message.Body.{Body}
 use Rattle.paxos_msg.specs.declared.message.Body.TheVariants as body
-use Rattle.paxos_msg.specs.declared.message.Msg.{Msg}
 use Rattle.paxos_msg.specs.Ballots.{IsBelow, IsAtMost}
 use Rattle.paxos_msg.specs.Grammar.{AreBytes}
-use Rattle.paxos_msg.specs.Keys.{AreOwnKeys}
+use Rattle.paxos_msg.specs.Keys.{AreOwnKeys, batches}
 
 -- a node of a group of that size
 abbrev pub IsNode : ℕ → ℕ → Type 0
@@ -55,7 +53,7 @@ IsBody size i (body.Promise b first upto votes) =
 IsBody size i (body.Accept b s v) = IsBallot size b × (b.node ≡ i) × IsPlace s × IsValue size v
 IsBody size i (body.Accepted b s v) = IsBallot size b × IsPlace s × IsValue size v
 IsBody size i (body.Refused b promised) = IsBallot size b × IsBallot size promised × IsBelow b promised
-IsBody size i (body.Submit v) = IsValue size v × AreOwnKeys i v
+IsBody size i (body.Submit v) = IsValue size v × AreOwnKeys batches i v
 IsBody size i (body.Ask from) = from ≤ 65536
 IsBody size i (body.Tell s v) = IsPlace s × IsValue size v
 

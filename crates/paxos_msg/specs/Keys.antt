@@ -21,7 +21,16 @@ abbrev pub keys_of : Value → List Key
 keys_of value.Noop = []
 keys_of (value.Keys node start first bytes) = keys_from node start first bytes
 
+-- what the rules ask of a type of values: which of them is no key, and the keys of each, in order
+pub record Values (V : Type 0) : Type 0 where
+  pub noop : V
+  pub keys : V → List Key
+
+-- the values of today: each is a batch of keys, or none
+abbrev pub batches : Values Value
+batches = record { noop = value.Noop; keys = keys_of }
+
 -- the value has a key, and each of its keys was typed at node i
-pub record AreOwnKeys (i : ℕ) (v : Value) : Type 0 where
-  pub has_key : keys_of v ≢ []
-  pub at_node : (key : Key) → Contains (keys_of v) key → key.node ≡ i
+pub record AreOwnKeys {V : Type 0} (values : Values V) (i : ℕ) (v : V) : Type 0 where
+  pub has_key : values.keys v ≢ []
+  pub at_node : (key : Key) → Contains (values.keys v) key → key.node ≡ i

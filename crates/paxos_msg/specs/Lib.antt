@@ -14,6 +14,8 @@ pub mod Records
 pub mod Sending
 pub mod Chosen
 pub mod Growth
+pub mod Batches
+pub mod Migration
 pub mod Nodes
 pub mod Grammar
 pub mod Codes

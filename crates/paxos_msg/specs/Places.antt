@@ -3,13 +3,13 @@ use Rattle.std.specs.Prelude.{◌≡◌, ℕ, ◌<◌, ◌≤◌, List, length, 
 use Rattle.paxos_msg.specs.declared.value.Vote.{Vote}
 
 -- the vote at index i is at place s, and those before it at smaller places
-pub record IsPlaceIn (votes : List Vote) (s i : ℕ) : Type 0 where
+pub record IsPlaceIn {V : Type 0} (votes : List (Vote V)) (s i : ℕ) : Type 0 where
   pub in_range : i < length votes
-  pub same : (d : Vote) → (get_or votes i d).place ≡ s
-  pub before : (j : ℕ) (d : Vote) → j < i → (get_or votes j d).place < s
+  pub same : (d : Vote V) → (get_or votes i d).place ≡ s
+  pub before : (j : ℕ) (d : Vote V) → j < i → (get_or votes j d).place < s
 
 -- the votes before index i are at places below s, and those from there on at places above it
-pub record IsGapIn (votes : List Vote) (s i : ℕ) : Type 0 where
+pub record IsGapIn {V : Type 0} (votes : List (Vote V)) (s i : ℕ) : Type 0 where
   pub in_range : i ≤ length votes
-  pub before : (j : ℕ) (d : Vote) → j < i → (get_or votes j d).place < s
-  pub after : (j : ℕ) (d : Vote) → i ≤ j → j < length votes → s < (get_or votes j d).place
+  pub before : (j : ℕ) (d : Vote V) → j < i → (get_or votes j d).place < s
+  pub after : (j : ℕ) (d : Vote V) → i ≤ j → j < length votes → s < (get_or votes j d).place

@@ -1,87 +1,85 @@
--- What a node may send.
+-- What a node may send, whichever type the values have: which of them is no key, and the keys of each, are a parameter.
 use Rattle.std.specs.Prelude.{◌≡◌, ◌≢◌, ℕ, ◌<◌, ◌≤◌, ◌⊎◌, Bool, IsTrue, List, [], ◌∷◌, ◌++◌, Option, Some, None, IfSome, IsSomeAnd, MatchOption, Contains}
 use Rattle.paxos_msg.specs.declared.ballot.Ballot.{Ballot}
-use Rattle.paxos_msg.specs.declared.value.Value.{Value}
-use Rattle.paxos_msg.specs.declared.value.Value.TheVariants.{Noop}
 use Rattle.paxos_msg.specs.declared.value.Vote.{Vote}
 use Rattle.paxos_msg.specs.declared.record.Record.{Record}
 use Rattle.paxos_msg.specs.declared.message.Body.{Body}
 use Rattle.paxos_msg.specs.declared.message.Body.TheVariants.{Prepare, Promise, Accept, Accepted, Refused, Submit, Ask, Tell}
 use Rattle.paxos_msg.specs.Ballots.{IsBelow, IsAtMost, IsMajority}
-use Rattle.paxos_msg.specs.Keys.{AreOwnKeys, Key, keys_of}
+use Rattle.paxos_msg.specs.Keys.{AreOwnKeys, Key, Values}
 use Rattle.paxos_msg.specs.Messages.{Sent, IsSent, IsSaid, IsPromised, vote_at}
 
 -- a member reported this vote, and no member one of a greater ballot
-pub record IsGreatest (members : ℕ → Bool) (reported : ℕ → Option Vote) (vote : Vote) : Type 0 where
+pub record IsGreatest {V : Type 0} (members : ℕ → Bool) (reported : ℕ → Option (Vote V)) (vote : Vote V) : Type 0 where
   pub reporter : ℕ
   pub is_member : IsTrue (members reporter)
   pub reports : reported reporter ≡ Some vote
   pub greatest : (i : ℕ) → IsTrue (members i) → IfSome (reported i) (λ other. IsAtMost other.ballot vote.ballot)
 
 -- the vote of the greatest ballot among those that the members reported, or none if they reported none
-abbrev pub IsBest : (ℕ → Bool) → (ℕ → Option Vote) → Option Vote → Type 0
+abbrev pub IsBest : {V : Type 0} → (ℕ → Bool) → (ℕ → Option (Vote V)) → Option (Vote V) → Type 0
 IsBest members reported None = (i : ℕ) → IsTrue (members i) → reported i ≡ None
 IsBest members reported (Some vote) = IsGreatest members reported vote
 
 -- v is a no-op or was submitted
-abbrev pub IsFree : Sent → Value → Type 0
-IsFree sent v = (v ≡ Noop) ⊎ IsSaid sent (Submit v)
+abbrev pub IsFree : {V : Type 0} → Values V → Sent V → V → Type 0
+IsFree values sent v = (v ≡ values.noop) ⊎ IsSaid sent (Submit v)
 
 -- A majority has single promises for ballot b and place s, one each. If they report votes, v is the value of the
 -- one with the greatest ballot; if they report none, v is a no-op or was submitted.
-pub record IsSafe (size : ℕ) (sent : Sent) (b : Ballot) (s : ℕ) (v : Value) : Type 0 where
+pub record IsSafe {V : Type 0} (values : Values V) (size : ℕ) (sent : Sent V) (b : Ballot) (s : ℕ) (v : V) : Type 0 where
   pub members : ℕ → Bool
-  pub reported : ℕ → Option Vote
-  pub best : Option Vote
+  pub reported : ℕ → Option (Vote V)
+  pub best : Option (Vote V)
   pub majority : IsMajority size members
   pub promised : (i : ℕ) → IsTrue (members i) → IsPromised sent i b s (reported i)
   pub is_best : IsBest members reported best
-  pub value : MatchOption best (IsFree sent v) (λ vote. v ≡ vote.value)
+  pub value : MatchOption best (IsFree values sent v) (λ vote. v ≡ vote.value)
 
 -- nothing was proposed under ballot b at place s
-abbrev pub IsUnproposed : Sent → Ballot → ℕ → Type 0
-IsUnproposed sent b s = (v : Value) → ¬ IsSaid sent (Accept b s v)
+abbrev pub IsUnproposed : {V : Type 0} → Sent V → Ballot → ℕ → Type 0
+IsUnproposed {V} sent b s = (v : V) → ¬ IsSaid sent (Accept b s v)
 
 -- The votes report record r from first up to upto: each is one of its votes and lies there, and at each place there
 -- they have the vote that the record has, or none if it has none.
-pub record IsReport (r : Record) (first upto : ℕ) (votes : List Vote) : Type 0 where
-  pub own : (vote : Vote) → Contains votes vote → Contains r.votes vote
-  pub within : (vote : Vote) → Contains votes vote → (first ≤ vote.place) × (vote.place < upto)
+pub record IsReport {V : Type 0} (r : Record V) (first upto : ℕ) (votes : List (Vote V)) : Type 0 where
+  pub own : (vote : Vote V) → Contains votes vote → Contains r.votes vote
+  pub within : (vote : Vote V) → Contains votes vote → (first ≤ vote.place) × (vote.place < upto)
   pub whole : (s : ℕ) → first ≤ s → s < upto → vote_at votes s ≡ vote_at r.votes s
 
 -- v has keys of node i alone, each of which is among the typed keys
-pub record IsTyped (typed : List Key) (i : ℕ) (v : Value) : Type 0 where
-  pub own : AreOwnKeys i v
-  pub known : (key : Key) → Contains (keys_of v) key → Contains typed key
+pub record IsTyped {V : Type 0} (values : Values V) (typed : List Key) (i : ℕ) (v : V) : Type 0 where
+  pub own : AreOwnKeys values i v
+  pub known : (key : Key) → Contains (values.keys v) key → Contains typed key
 
 -- Whether node i may send this after what was sent, where these keys were typed, it has learned these values, and its
 -- stored record is r.
-abbrev pub MaySend : ℕ → List Key → (ℕ → Option Value) → Sent → ℕ → Record → Body → Type 0
-MaySend size typed learned sent i r (Prepare b from) = (b.node ≡ i) × IsSomeAnd r.promised (λ p. IsAtMost b p)
-MaySend size typed learned sent i r (Promise b first upto votes) = (r.promised ≡ Some b) × IsReport r first upto votes
-MaySend size typed learned sent i r (Accept b s v) =
-    (b.node ≡ i) × (IsSent sent i (Accept b s v) ⊎ (IsUnproposed sent b s × IsSafe size sent b s v))
-MaySend size typed learned sent i r (Accepted b s v) =
+abbrev pub MaySend : {V : Type 0} → Values V → ℕ → List Key → (ℕ → Option V) → Sent V → ℕ → Record V → Body V → Type 0
+MaySend values size typed learned sent i r (Prepare b from) = (b.node ≡ i) × IsSomeAnd r.promised (λ p. IsAtMost b p)
+MaySend values size typed learned sent i r (Promise b first upto votes) = (r.promised ≡ Some b) × IsReport r first upto votes
+MaySend values size typed learned sent i r (Accept b s v) =
+    (b.node ≡ i) × (IsSent sent i (Accept b s v) ⊎ (IsUnproposed sent b s × IsSafe values size sent b s v))
+MaySend values size typed learned sent i r (Accepted b s v) =
     IsSaid sent (Accept b s v) × (vote_at r.votes s ≡ Some (record { place = s; ballot = b; value = v })) × (r.promised ≡ Some b)
-MaySend size typed learned sent i r (Refused b promised) = (r.promised ≡ Some promised) × IsBelow b promised
-MaySend size typed learned sent i r (Submit v) = IsTyped typed i v
-MaySend size typed learned sent i r (Ask from) = Unit {0}
-MaySend size typed learned sent i r (Tell s v) = learned s ≡ Some v
+MaySend values size typed learned sent i r (Refused b promised) = (r.promised ≡ Some promised) × IsBelow b promised
+MaySend values size typed learned sent i r (Submit v) = IsTyped values typed i v
+MaySend values size typed learned sent i r (Ask from) = Unit {0}
+MaySend values size typed learned sent i r (Tell s v) = learned s ≡ Some v
 
 -- whether node i may send these in one call, each after the earlier ones
-abbrev pub MaySendAll : ℕ → List Key → (ℕ → Option Value) → Sent → ℕ → Record → List Body → Type 0
-MaySendAll size typed learned sent i r [] = Unit {0}
-MaySendAll size typed learned sent i r (body ∷ more) =
-    MaySend size typed learned sent i r body
-    × MaySendAll size typed learned (sent ++ record { sender = i; body = body } ∷ []) i r more
+abbrev pub MaySendAll : {V : Type 0} → Values V → ℕ → List Key → (ℕ → Option V) → Sent V → ℕ → Record V → List (Body V) → Type 0
+MaySendAll values size typed learned sent i r [] = Unit {0}
+MaySendAll values size typed learned sent i r (body ∷ more) =
+    MaySend values size typed learned sent i r body
+    × MaySendAll values size typed learned (sent ++ record { sender = i; body = body } ∷ []) i r more
 
 -- each typed key is typed still, and each learned value is learned still
-pub record KnowsMore (typed newer : List Key) (learned now : ℕ → Option Value) : Type 0 where
+pub record KnowsMore {V : Type 0} (typed newer : List Key) (learned now : ℕ → Option V) : Type 0 where
   pub keys : (key : Key) → Contains typed key → Contains newer key
-  pub values : (s : ℕ) (v : Value) → learned s ≡ Some v → now s ≡ Some v
+  pub values : (s : ℕ) (v : V) → learned s ≡ Some v → now s ≡ Some v
 
 -- no new proposal: an Accept only where node i has sent it before
-abbrev pub IsNoNewProposal : Sent → ℕ → Body → Type 0
+abbrev pub IsNoNewProposal : {V : Type 0} → Sent V → ℕ → Body V → Type 0
 IsNoNewProposal sent i (Prepare b from) = Unit {0}
 IsNoNewProposal sent i (Promise b first upto votes) = Unit {0}
 IsNoNewProposal sent i (Accept b s v) = IsSent sent i (Accept b s v)

@@ -1,6 +1,6 @@
 -- What a message that lies in a datagram says, and a field that is read alone.
 use Rattle.std.specs.Prelude.{◌≡◌, ◌≤◌, ℕ, List, length, drop, Result, Ok, Err}
-use Rattle.paxos_msg.specs.declared.message.Body.{Body}
+use Rattle.paxos_msg.specs.Batches.{Body}
 use Rattle.paxos_msg.specs.declared.message.Body.TheVariants.{Prepare, Promise, Accept, Accepted, Refused, Submit, Ask, Tell}
 use Rattle.paxos_msg.specs.declared.view.BodyView.{BodyView}
 use Rattle.paxos_msg.specs.declared.view.BodyView.TheVariants as body

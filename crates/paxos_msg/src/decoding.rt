@@ -1,7 +1,7 @@
 //! Reading a datagram.
 ghost use Rattle.std.specs.Prelude.{◌≡◌, ◌≤◌, ◌<◌, IfErr, IfOk, Err, Ok, length};
 ghost use Rattle.paxos_msg.specs.Reading.{Gives, number_at, ballot_at, value_at, vote_at, votes_at, prepare_at, promise_at, accept_at, accepted_at, refused_at, submit_at, ask_at, tell_at, body_at, header_at, message_at};
-ghost use Rattle.paxos_msg.specs.declared.message.Msg.{Msg};
+ghost use Rattle.paxos_msg.specs.Batches.{Msg};
 ghost use Rattle.paxos_msg.specs.Raw.{PassesVote, votes_left};
 ghost use Rattle.paxos_msg.specs.Spelling.{Msgs};
 ghost use Rattle.paxos_msg.specs.Views.{GivesField, HasUpTo, said};

@@ -3,9 +3,8 @@
 ghost use Rattle.std.specs.Prelude.{◌≡◌, ◌↔◌, ◌++◌, ◌<◌, ◌≤◌, ◌*◌, ◌^◌, ℕ, List, length, Ok};
 ghost use Rattle.paxos_msg.specs.declared.ballot.Ballot.{Ballot};
 ghost use Rattle.paxos_msg.specs.declared.value.Value.{Value};
-ghost use Rattle.paxos_msg.specs.declared.value.Vote.{Vote};
+ghost use Rattle.paxos_msg.specs.Batches.{Msg, Vote};
 ghost use Rattle.paxos_msg.specs.declared.message.Group.{Group};
-ghost use Rattle.paxos_msg.specs.declared.message.Msg.{Msg};
 ghost use Rattle.paxos_msg.specs.Fits.{AreVotes, IsBallot, IsValue, Fits};
 ghost use Rattle.paxos_msg.specs.Spelling.{Msgs, ballot_bytes, number_bytes, value_bytes, votes_bytes, spelling};
 ghost use Rattle.paxos_msg.specs.Reading.{ballot_at, number_at, value_at, votes_at, message_at};

@@ -3,19 +3,20 @@
 ghost use Rattle.std.specs.Prelude.{◌≡◌, ◌≢◌, ◌↔◌, ◌⊎◌, ◌<◌, ◌≤◌, ◌+◌, ◌*◌, ◌++◌, ◌∷◌, [], ℕ, Bool, true, false, IsTrue, IsSomeAnd, List, Option, Some, Contains};
 ghost use Rattle.paxos_msg.specs.declared.ballot.Ballot.{Ballot};
 ghost use Rattle.paxos_msg.specs.declared.message.Body.TheVariants.{Accept, Ask, Prepare, Refused, Submit, Tell};
-ghost use Rattle.paxos_msg.specs.declared.message.Body.{Body};
+ghost use Rattle.paxos_msg.specs.Batches.{Body, Change, Grew, IsFree, MaySend, MaySendAll, Record, Sent, Vote};
 ghost use Rattle.paxos_msg.specs.declared.record.Change.TheVariants.{Ballotted, Promise, Start};
-ghost use Rattle.paxos_msg.specs.declared.record.Change.{Change};
-ghost use Rattle.paxos_msg.specs.declared.record.Record.{Record};
 ghost use Rattle.paxos_msg.specs.declared.value.Value.{Value};
-ghost use Rattle.paxos_msg.specs.declared.value.Vote.{Vote};
 ghost use Rattle.paxos_msg.specs.Ballots.{count_of, IsAtMost, IsBelow, IsMajority};
 ghost use Rattle.paxos_msg.specs.Chosen.{IsChosen, IsChosenBy};
-ghost use Rattle.paxos_msg.specs.Growth.{Grew};
 ghost use Rattle.paxos_msg.specs.Keys.{Key, keys_of};
-ghost use Rattle.paxos_msg.specs.Messages.{IsAscending, IsPromised, IsSaid, IsSent, messages_of, Sent, vote_at};
+ghost use Rattle.std.specs.Option.{option_to_list};
+ghost use Rattle.paxos_msg.specs.declared.record.Record as v1_record;
+ghost use Rattle.paxos_msg.specs.Growth as v1_growth;
+ghost use Rattle.paxos_msg.specs.Messages as v1;
+ghost use Rattle.paxos_msg.specs.Migration.{as_batch, record_with, sent_with, single_keys};
+ghost use Rattle.paxos_msg.specs.Messages.{IsAscending, IsPromised, IsSaid, IsSent, messages_of, vote_at};
 ghost use Rattle.paxos_msg.specs.Records.{changed, empty_record, IsSaved, MaySave, Stored, with_vote};
-ghost use Rattle.paxos_msg.specs.Sending.{IsFree, IsNoNewProposal, KnowsMore, MaySend, MaySendAll};
+ghost use Rattle.paxos_msg.specs.Sending.{IsNoNewProposal, KnowsMore};
 ghost use Rattle.paxos_msg.specs.Tests.{ballot_lt, is_majority, same_ballot, same_value};
 
 use crate::ballot::Ballot;
@@ -179,6 +180,17 @@ pub fn restarts()
         Grew size sent records → ((change : Change) → Contains failed change → MaySave sent (records i) change) →
         Stored (records i) failed (next i) → ((j : ℕ) → j ≢ i → next j ≡ records j) →
         Grew size sent next }
+{}
+
+/// A migration goes on with the growth. In version 1 a value was a key, or none. With each key as a batch of one, what grew then by the
+/// same rules of sending and saving has grown now, and what was chosen is chosen, so that agreement reaches over the migration. A batch of one
+/// has its key.
+pub fn migration()
+    ensures grew { (size : ℕ) (sent : v1.Sent (Option Key)) (records : ℕ → v1_record.Record (Option Key)) →
+        v1_growth.Grew single_keys size sent records → Grew size (sent_with as_batch sent) (λ i. record_with as_batch (records i)) }
+    ensures chosen { (size s : ℕ) (sent : v1.Sent (Option Key)) (v : Option Key) →
+        IsChosen size sent s v → IsChosen size (sent_with as_batch sent) s (as_batch v) }
+    ensures keys { (v : Option Key) → keys_of (as_batch v) ≡ option_to_list v }
 {}
 
 /// The law of agreement is not empty. In a group of three a key that was typed can be chosen. In a group

@@ -14,7 +14,7 @@ pub struct LentVotes<'a> {
 
 impl<'a> Model for LentVotes<'a> {
     ghost use Rattle.std.specs.Prelude.{List};
-    ghost use Rattle.paxos_msg.specs.declared.value.Vote.{Vote};
+    ghost use Rattle.paxos_msg.specs.Batches.{Vote};
     ghost use Rattle.paxos_msg.specs.Raw.{votes_left};
 
     ghost Value = { List Vote };

@@ -14,7 +14,7 @@ pub struct Group {
 
 /// What a message says. Places are 0 to 65,535.
 #[derive(Drop)]
-pub enum Body {
+pub enum Body<V = Value> {
     /// The proposer asks for promises under its ballot, for places from `from` on.
     Prepare {
         ballot: Ballot,
@@ -26,19 +26,19 @@ pub enum Body {
         ballot: Ballot,
         first: u32,
         upto: u32,
-        votes: Votes,
+        votes: Votes<V>,
     },
     /// The proposer asks to accept a value at a place.
     Accept {
         ballot: Ballot,
         place: u32,
-        value: Value,
+        value: V,
     },
     /// An acceptor has accepted it.
     Accepted {
         ballot: Ballot,
         place: u32,
-        value: Value,
+        value: V,
     },
     /// An acceptor has promised a greater ballot.
     Refused {
@@ -47,7 +47,7 @@ pub enum Body {
     },
     /// A node asks the leader to put its keys at a place.
     Submit {
-        key: Value,
+        key: V,
     },
     /// A node asks for what is learned from a place on, which is at most 65,536.
     Ask {
@@ -56,14 +56,14 @@ pub enum Body {
     /// A node tells what it has learned at a place.
     Tell {
         place: u32,
-        value: Value,
+        value: V,
     },
 }
 
 /// A message and the node that sent it.
 #[derive(Drop)]
-pub struct Msg {
+pub struct Msg<V = Value> {
     /// From 1 to the group's size.
     pub sender: u8,
-    pub body: Body,
+    pub body: Body<V>,
 }

@@ -2,7 +2,7 @@
 ghost use Rattle.std.specs.Prelude.{◌≡◌, ◌↔◌, ◌≤◌, ◌<◌, IsTrue};
 ghost use Rattle.paxos_msg.specs.declared.message.Body.TheVariants as body;
 ghost use Rattle.paxos_msg.specs.Ballots.{IsBelow, IsAtMost};
-ghost use Rattle.paxos_msg.specs.Keys.{AreOwnKeys};
+ghost use Rattle.paxos_msg.specs.Keys.{AreOwnKeys, batches};
 ghost use Rattle.paxos_msg.specs.Fits.{IsNode, IsBallot, IsBatch, IsValue, IsVote, AreVotes, IsBody, Fits};
 
 use crate::ballot::Ballot;
@@ -49,7 +49,7 @@ fn fits_value(size: u8, value: Value) -> bool
 
 /// Whether a value has keys, all of which were typed at the node.
 fn are_own_keys(node: u8, value: Value) -> bool
-    ensures { IsTrue result ↔ AreOwnKeys node value }
+    ensures { IsTrue result ↔ AreOwnKeys batches node value }
 {
     match value {
         Value::Noop => false,

@@ -11,24 +11,24 @@ use std::alloc::{AllocError, Global};
 
 /// What an acceptor keeps in its store.
 #[derive(Clone, Drop)]
-pub struct Record {
+pub struct Record<V = Value> {
     /// How often the node was started.
     pub starts: u32,
     /// The greatest ballot that it has promised.
     pub promised: Option<Ballot>,
     /// At most one vote for each place, none above the promised ballot.
-    pub votes: Votes,
+    pub votes: Votes<V>,
 }
 
 /// One change of a record.
 #[derive(Clone, Copy, Debug, PartialEq, Eq)]
-pub enum Change {
+pub enum Change<V = Value> {
     /// One more start.
     Start,
     /// The promised ballot becomes this one.
     Promise(Ballot),
     /// The vote at the place becomes this one, and the promised ballot its ballot.
-    Ballotted(u32, Ballot, Value),
+    Ballotted(u32, Ballot, V),
 }
 
 impl Record {

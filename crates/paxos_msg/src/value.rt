@@ -38,10 +38,13 @@ impl fmt::Display for Value {
 }
 
 /// A vote for a value at a place under a ballot.
+///
+/// Votes, messages and records are over any type of values, so that the laws can speak of those of an earlier version. Where none is
+/// named it is [`Value`].
 #[derive(Clone, Copy, Debug, PartialEq, Eq, Hash)]
-pub struct Vote {
+pub struct Vote<V = Value> {
     /// From 0 to 65,535.
     pub place: u32,
     pub ballot: Ballot,
-    pub value: Value,
+    pub value: V,
 }

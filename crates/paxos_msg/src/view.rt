@@ -61,7 +61,7 @@ pub struct View<'a> {
 }
 
 impl<'a> Model for View<'a> {
-    ghost use Rattle.paxos_msg.specs.declared.message.Msg.{Msg};
+    ghost use Rattle.paxos_msg.specs.Batches.{Msg};
     ghost use Rattle.paxos_msg.specs.Views.{said};
 
     ghost Value = { Msg };

@@ -3,7 +3,7 @@ ghost use Rattle.std.specs.Prelude.{◌≡◌, length, OnOk, OnErr};
 ghost use Rattle.paxos_msg.specs.Messages.{IsAscending};
 ghost use Rattle.paxos_msg.specs.Records.{with_vote};
 
-use crate::value::Vote;
+use crate::value::{Value, Vote};
 use crate::voted::insert_vote;
 use std::alloc::AllocError;
 use std::marker::Model;
@@ -11,15 +11,15 @@ use std::marker::Model;
 /// A list of votes, in ascending order of place. It is made from a `Vec` and gives it back; neither
 /// takes memory.
 #[derive(Clone, Drop)]
-pub struct Votes {
-    items: Vec<Vote>,
+pub struct Votes<V = Value> {
+    items: Vec<Vote<V>>,
 }
 
-impl Model for Votes {
+impl<V> Model for Votes<V> {
     ghost use Rattle.std.specs.Prelude.{List};
     ghost use Rattle.paxos_msg.specs.declared.value.Vote.{Vote};
 
-    ghost Value = { List Vote };
+    ghost Value = { List (Vote V) };
 
     ghost view = { λ v. v.items.items };
 }

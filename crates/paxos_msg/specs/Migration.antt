@@ -1,0 +1,54 @@
+-- Messages and records whose values are replaced, and the values of version 1 by batches of one key.
+use Rattle.std.specs.Prelude.{ℕ, List, [], ◌∷◌, map, Option, Some, None}
+use Rattle.std.specs.Option.{option_to_list}
+use Rattle.paxos_msg.specs.declared.value.Value.{Value}
+use Rattle.paxos_msg.specs.declared.value.Value.TheVariants.{Noop, Keys}
+use Rattle.paxos_msg.specs.declared.value.Vote.{Vote}
+use Rattle.paxos_msg.specs.declared.record.Record.{Record}
+use Rattle.paxos_msg.specs.declared.record.Change.{Change}
+use Rattle.paxos_msg.specs.declared.record.Change.TheVariants as change
+use Rattle.paxos_msg.specs.declared.message.Body.{Body}
+use Rattle.paxos_msg.specs.declared.message.Body.TheVariants.{Prepare, Promise, Accept, Accepted, Refused, Submit, Ask, Tell}
+use Rattle.paxos_msg.specs.declared.message.Msg.{Msg}
+use Rattle.paxos_msg.specs.Keys.{Key, Values}
+use Rattle.paxos_msg.specs.Messages.{Sent}
+
+-- ---- with other values
+
+abbrev pub vote_with : {V W : Type 0} → (V → W) → Vote V → Vote W
+vote_with f vote = record { place = vote.place; ballot = vote.ballot; value = f vote.value }
+
+abbrev pub body_with : {V W : Type 0} → (V → W) → Body V → Body W
+body_with f (Prepare b from) = Prepare b from
+body_with f (Promise b first upto votes) = Promise b first upto (map (vote_with f) votes)
+body_with f (Accept b s v) = Accept b s (f v)
+body_with f (Accepted b s v) = Accepted b s (f v)
+body_with f (Refused b promised) = Refused b promised
+body_with f (Submit v) = Submit (f v)
+body_with f (Ask from) = Ask from
+body_with f (Tell s v) = Tell s (f v)
+
+abbrev pub msg_with : {V W : Type 0} → (V → W) → Msg V → Msg W
+msg_with f m = record { sender = m.sender; body = body_with f m.body }
+
+abbrev pub sent_with : {V W : Type 0} → (V → W) → Sent V → Sent W
+sent_with f sent = map (msg_with f) sent
+
+abbrev pub record_with : {V W : Type 0} → (V → W) → Record V → Record W
+record_with f r = record { starts = r.starts; promised = r.promised; votes = map (vote_with f) r.votes }
+
+abbrev pub change_with : {V W : Type 0} → (V → W) → Change V → Change W
+change_with f change.Start = change.Start
+change_with f (change.Promise b) = change.Promise b
+change_with f (change.Ballotted s b v) = change.Ballotted s b (f v)
+
+-- ---- version 1
+
+-- the values of version 1: a key, or none
+abbrev pub single_keys : Values (Option Key)
+single_keys = record { noop = None; keys = option_to_list }
+
+-- the value of today for one of version 1: a key is a batch of one
+abbrev pub as_batch : Option Key → Value
+as_batch None = Noop
+as_batch (Some k) = Keys k.node k.start k.serial (k.byte ∷ [])
