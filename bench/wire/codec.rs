@@ -6,14 +6,27 @@ pub struct Ballot {
     pub node: u8,
 }
 
+/// The characters of a batch, and how many they are.
+#[derive(Clone, Copy)]
+pub struct Characters {
+    pub len: u8,
+    pub bytes: [u8; 32],
+}
+
+impl Characters {
+    pub fn as_slice(&self) -> &[u8] {
+        &self.bytes[..usize::from(self.len)]
+    }
+}
+
 #[derive(Clone, Copy)]
 pub enum Value {
     Noop,
-    Key {
+    Keys {
         node: u8,
         start: u32,
-        serial: u32,
-        byte: u8,
+        first: u32,
+        bytes: Characters,
     },
 }
 
@@ -147,33 +160,45 @@ impl<'a> Reader<'a> {
         }
     }
 
-    /// The fields of a key behind its node.
-    fn key_of(&mut self, node: u8) -> Result<Value, Fault> {
+    /// So many characters, at most 32.
+    fn characters(&mut self, len: u8) -> Result<Characters, Fault> {
+        let (front, rest) = self.0.split_at_checked(usize::from(len)).ok_or(Fault::Short)?;
+        self.0 = rest;
+        let mut bytes = [0; 32];
+        bytes[..front.len()].copy_from_slice(front);
+        Ok(Characters { len, bytes })
+    }
+
+    /// The fields of a batch behind its node.
+    fn keys_of(&mut self, node: u8) -> Result<Value, Fault> {
         let start = self.count()?;
-        let serial = self.count()?;
-        let byte = self.byte()?;
-        Ok(Value::Key {
+        let first = self.number()?;
+        let len = self.byte()?;
+        if first == 0 || len == 0 || len > 32 || first.checked_add(u32::from(len) - 1).is_none() {
+            return Err(Fault::Value);
+        }
+        Ok(Value::Keys {
             node,
             start,
-            serial,
-            byte,
+            first,
+            bytes: self.characters(len)?,
         })
     }
 
-    fn key(&mut self, size: u8) -> Result<Value, Fault> {
+    fn keys(&mut self, size: u8) -> Result<Value, Fault> {
         let node = self.node(size, Fault::Value)?;
-        self.key_of(node)
+        self.keys_of(node)
     }
 
     fn value(&mut self, size: u8) -> Result<Value, Fault> {
         match self.byte()? {
             0 => Ok(Value::Noop),
-            1 => self.key(size),
+            1 => self.keys(size),
             _ => Err(Fault::Value),
         }
     }
 
-    fn own_key(&mut self, size: u8, sender: u8) -> Result<Value, Fault> {
+    fn own_keys(&mut self, size: u8, sender: u8) -> Result<Value, Fault> {
         if self.byte()? != 1 {
             return Err(Fault::Value);
         }
@@ -181,7 +206,7 @@ impl<'a> Reader<'a> {
         if node != sender {
             return Err(Fault::Value);
         }
-        self.key_of(node)
+        self.keys_of(node)
     }
 
     fn promise(&mut self, size: u8) -> Result<Body<Lent<'a>>, Fault> {
@@ -192,7 +217,7 @@ impl<'a> Reader<'a> {
             return Err(Fault::Place);
         }
         let count = self.byte()?;
-        if count > 64 {
+        if count > 8 {
             return Err(Fault::Count);
         }
         let votes = Lent {
@@ -249,7 +274,7 @@ impl<'a> Reader<'a> {
                 Body::Refused { ballot, promised }
             }
             6 => Body::Submit {
-                key: self.own_key(size, sender)?,
+                key: self.own_keys(size, sender)?,
             },
             7 => Body::Ask {
                 from: self.place(65_536)?,
@@ -267,12 +292,21 @@ impl<'a> Reader<'a> {
         let node = self.byte().ok()?;
         let value = match self.byte().ok()? {
             0 => Value::Noop,
-            _ => Value::Key {
-                node: self.byte().ok()?,
-                start: self.number().ok()?,
-                serial: self.number().ok()?,
-                byte: self.byte().ok()?,
-            },
+            _ => {
+                let node = self.byte().ok()?;
+                let start = self.number().ok()?;
+                let first = self.number().ok()?;
+                let len = self.byte().ok()?;
+                if len > 32 {
+                    return None;
+                }
+                Value::Keys {
+                    node,
+                    start,
+                    first,
+                    bytes: self.characters(len).ok()?,
+                }
+            }
         };
         Some(Vote {
             place,
@@ -304,7 +338,7 @@ pub fn decode(bytes: &[u8], group: Group) -> Result<Message<Lent<'_>>, Fault> {
     if bytes[..2] != *b"PG" {
         return Err(Fault::Magic);
     }
-    if bytes[2] != 1 {
+    if bytes[2] != 2 {
         return Err(Fault::Version);
     }
     let kind = bytes[3];

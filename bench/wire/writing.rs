@@ -12,12 +12,19 @@ fn is_ballot(size: u8, ballot: Ballot) -> bool {
 fn is_value(size: u8, value: Value) -> bool {
     match value {
         Value::Noop => true,
-        Value::Key {
+        Value::Keys {
             node,
             start,
-            serial,
-            ..
-        } => is_node(size, node) && 0 < start && 0 < serial,
+            first,
+            bytes,
+        } => {
+            is_node(size, node)
+                && 0 < start
+                && 0 < first
+                && 0 < bytes.len
+                && bytes.len <= 32
+                && first.checked_add(u32::from(bytes.len) - 1).is_some()
+        }
     }
 }
 
@@ -55,7 +62,7 @@ pub fn fits(message: &Message<Vec<Vote>>, group: Group) -> bool {
                     && *first <= 65_535
                     && *upto <= 65_536
                     && first < upto
-                    && votes.len() <= 64
+                    && votes.len() <= 8
                     && are_votes(size, *ballot, *first, *upto, votes)
             }
             Body::Accept {
@@ -77,7 +84,7 @@ pub fn fits(message: &Message<Vec<Vote>>, group: Group) -> bool {
                 is_ballot(size, *ballot) && is_ballot(size, *promised) && ballot < promised
             }
             Body::Submit { key } => {
-                is_value(size, *key) && matches!(key, Value::Key { node, .. } if *node == sender)
+                is_value(size, *key) && matches!(key, Value::Keys { node, .. } if *node == sender)
             }
             Body::Ask { from } => *from <= 65_536,
             Body::Tell { place, value } => *place <= 65_535 && is_value(size, *value),
@@ -96,17 +103,18 @@ fn put_ballot(ballot: Ballot, out: &mut Vec<u8>) {
 fn put_value(value: Value, out: &mut Vec<u8>) {
     match value {
         Value::Noop => out.push(0),
-        Value::Key {
+        Value::Keys {
             node,
             start,
-            serial,
-            byte,
+            first,
+            bytes,
         } => {
             out.push(1);
             out.push(node);
             put_number(start, out);
-            put_number(serial, out);
-            out.push(byte);
+            put_number(first, out);
+            out.push(bytes.len);
+            out.extend_from_slice(bytes.as_slice());
         }
     }
 }
@@ -118,7 +126,7 @@ fn put_vote(vote: Vote, out: &mut Vec<u8>) {
 }
 
 fn put_header(kind: u8, sender: u8, group: Group, out: &mut Vec<u8>) {
-    out.extend_from_slice(&[b'P', b'G', 1, kind, sender, group.size]);
+    out.extend_from_slice(&[b'P', b'G', 2, kind, sender, group.size]);
     put_number(group.session, out);
 }
 
