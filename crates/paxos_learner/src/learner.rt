@@ -80,20 +80,20 @@ impl Learner {
         place < self.known_front() + 1024 && self.learned(place).is_none()
     }
 
-    /// Learns the value at the place, which is open. The room for it, and for what the front may rise by,
-    /// is made first, so that after an error nothing has changed.
-    fn learn(&mut self, place: u32, value: Value) -> Result<(), AllocError>
+    /// Learns the value at the place, which is open. The room for it, and for what the front may rise by, at
+    /// most 32 keys a place, is made first, so that after an error nothing has changed.
+    fn learn(&mut self, place: u32, value: &Value) -> Result<(), AllocError>
         requires open { IsTrue (is_open self.old place) }
         requires place { place ≤ 65535 }
-        ensures ok { OnOk result (self.new ≡ (learn self.old place value).learner) }
+        ensures ok { OnOk result (self.new ≡ (learn self.old place value.now).learner) }
         ensures err { OnErr result (self.new ≡ self.old) }
     {
         let places = place + 1 - self.input.places();
         self.learned.make_room()?;
-        self.known.reserve(1)?;
+        self.known.reserve(32)?;
         self.input.reserve(places as usize)?;
-        self.learned.insert(place, value);
-        self.known.insert(value);
+        self.learned.insert(place, *value);
+        self.known.insert(*value);
         self.tallies.remove(place);
         raise_front(&self.learned, &mut self.input);
         Ok(())
@@ -126,7 +126,7 @@ impl Learner {
             return Ok(Heard::Passed);
         };
         if tally.is_majority(self.size) {
-            self.learn(place, tally.value())?;
+            self.learn(place, &tally.value())?;
             return Ok(Heard::Learned);
         }
         self.tallies.make_room()?;
@@ -145,7 +145,7 @@ impl Learner {
         ensures err { OnErr result (self.new ≡ self.old) }
     {
         if self.is_open(place) {
-            self.learn(place, value)?;
+            self.learn(place, &value)?;
             return Ok(Heard::Learned);
         }
         Ok(Heard::Passed)
