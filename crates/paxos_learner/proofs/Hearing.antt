@@ -1,10 +1,11 @@
 -- What a learner becomes when it hears of a place, by cases.
-use Rattle.std.proofs.Common.{◌≡◌, ℕ, ◌==◌, ◌&&◌, Bool, true, false, IsTrue, Option, Some, None, if◌then◌else◌, refl, subst}
+use Rattle.std.proofs.Common.{◌≡◌, ℕ, ◌==◌, ◌&&◌, Bool, true, false, IsTrue, Option, Some, None, if◌then◌else◌, nat_eq, refl, subst, sym}
 use Rattle.std.proofs.lemmas.Bool.{and_parts, eqb-true}
+use Rattle.std.specs.Cmp.Lexicographic.{pointwise, same_text}
 use Rattle.std.specs.FinMap.{get, insert}
 use Rattle.paxos_msg.specs.declared.ballot.Ballot.{Ballot}
 use Rattle.paxos_msg.specs.declared.value.Value.{Value}
-use Rattle.paxos_msg.specs.declared.value.Value.TheVariants.{Noop, Key}
+use Rattle.paxos_msg.specs.declared.value.Value.TheVariants.{Noop, Keys}
 use Rattle.paxos_msg.specs.Tests.{ballot_lt, is_majority, same_ballot, same_value}
 use Rattle.paxos_learner.specs.Tallies.{Tally, begun, has_node, joined, tallied, with_node}
 use Rattle.paxos_learner.specs.Learner.{Learner, Hearing, counted, is_open, learn, on_accepted, on_tell}
@@ -20,13 +21,13 @@ same_ballot-true a b e =
 
 same_value-true : (v w : Value) → same_value v w ≡ true → v ≡ w
 same_value-true Noop Noop e = refl
-same_value-true Noop (Key node start serial byte) e = absurd cc
-same_value-true (Key node start serial byte) Noop e = absurd cc
-same_value-true (Key node start serial byte) (Key n a m c) e =
-    let f = and_parts (node == n) ((start == a) && ((serial == m) && (byte == c))) e in
-    let g = and_parts (start == a) ((serial == m) && (byte == c)) f.1 in
-    let h = and_parts (serial == m) (byte == c) g.1 in
-    λ i. Key (eqb-true node n f.0 i) (eqb-true start a g.0 i) (eqb-true serial m h.0 i) (eqb-true byte c h.1 i)
+same_value-true Noop (Keys node start first bytes) e = absurd cc
+same_value-true (Keys node start first bytes) Noop e = absurd cc
+same_value-true (Keys node start first bytes) (Keys n s f b) e =
+    let one = and_parts (node == n) ((start == s) && ((first == f) && pointwise nat_eq bytes b)) e in
+    let two = and_parts (start == s) ((first == f) && pointwise nat_eq bytes b) one.1 in
+    let three = and_parts (first == f) (pointwise nat_eq bytes b) two.1 in
+    λ i. Keys (eqb-true node n one.0 i) (eqb-true start s two.0 i) (eqb-true first f three.0 i) (same_text bytes b (sym three.1) i)
 
 -- ---- the tally
 

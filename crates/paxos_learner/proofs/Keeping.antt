@@ -1,7 +1,7 @@
 -- What a learner keeps stays true when a place is learned, and when the front rises.
-use Rattle.std.proofs.Common.{◌≡◌, ◌∙◌, ℕ, zero, suc, ◌+◌, ◌<◌, ◌≤◌, nat_lt, min, Bool, true, false, IsTrue, List, [], ◌∷◌, ◌++◌, length, take, drop, map, Option, None, Some, is_some, is_none, inl, inr, if◌then◌else◌, slice_index, length-append, refl, sym, ap, arith}
+use Rattle.std.proofs.Common.{◌≡◌, ◌∙◌, ℕ, zero, suc, ◌+◌, ◌*◌, ◌<◌, ◌≤◌, nat_lt, min, Bool, true, false, IsTrue, List, [], ◌∷◌, ◌++◌, length, take, drop, map, Option, None, Some, is_some, is_none, inl, inr, if◌then◌else◌, slice_index, refl, sym, ap, arith}
 use Rattle.std.proofs.lemmas.Bool.{and_parts, cases_eq, cases_lt, lt-ltb, le-ltb, true≢false}
-use Rattle.std.proofs.lemmas.List.{take_all, take-append-le, take-append-drop, map-append, get_or_append_left, get_or_push, length_push}
+use Rattle.std.proofs.lemmas.List.{take_all, take-append-le, take-append-drop, map-append}
 use Rattle.std.specs.List.{list_any}
 use Rattle.std.specs.Ordering.{nat_cmp}
 use Rattle.std.specs.FinMap.{FinMap, get, insert, empty, get-empty}
@@ -12,6 +12,7 @@ use Rattle.paxos_learner.specs.Input.{same_key, keys_in_order, values_below, inp
 use Rattle.paxos_learner.specs.Entered.{Entered, entered, count_below}
 use Rattle.paxos_learner.specs.Kept.{IsInputOf}
 use Rattle.paxos_learner.specs.Learner.{Learner, IsFront, front_of, is_open}
+use Rattle.paxos_learner.proofs.Ends.{each_place, end_before, end_here, entered_no_fewer, longer, no_fewer}
 use Rattle.paxos_learner.proofs.KeysOnce.{keys_entered}
 use Rattle.paxos_learner.proofs.ValuesBelow.{values_more, same_below}
 use Rattle.paxos_learner.proofs.OnePlace.{get_other}
@@ -40,13 +41,14 @@ module _ (learned : FinMap nat_cmp Value) (e : Entered) (s : ℕ) (v : Value) (h
       ]
 
   -- the input is that of the map with this place more, if there is room for it
-  pub input_of_learned : s < length e.ends + e.room → s < 65536 → IsInputOf (insert learned s v) e
-  input_of_learned room small = record {
+  pub input_of_learned : s < length e.ends + e.room → 32 * (s + 1) ≤ e.key_room + 32 * length e.ends → s < 65536 → IsInputOf (insert learned s v) e
+  input_of_learned room key_room small = record {
     below = λ i low. ap is_some (get_other learned s v i (λ same. omega (arith, not_below learned e s h none))) ∙ h.below i low;
     keys = h.keys ∙ ap keys_in_order (sym (same_values (length e.ends) (omega arith)));
     within = h.within;
     ends = λ i low. h.ends i low ∙ ap keys_in_order (sym (same_values (i + 1) (omega arith)));
     room = one_or_other (λ q. q < length e.ends + e.room) room h.room;
+    key_room = one_or_other (λ q. 32 * (q + 1) ≤ e.key_room + 32 * length e.ends) key_room h.key_room;
     small = one_or_other (λ q. q < 65536) small h.small;
   }
 
@@ -60,39 +62,30 @@ pub open_is_none : (l : Learner) (s : ℕ) → IsTrue (is_open l s) → get l.le
 open_is_none l s test = none_from_test (get l.learned s) (and_parts (is_none (get l.learned s)) (nat_lt s (front_of l.learned + 1024)) test).0
 
 -- more room changes nothing
-input_of_roomier : (learned : FinMap nat_cmp Value) (e new : Entered) → IsInputOf learned e → new.keys ≡ e.keys → new.ends ≡ e.ends → e.room ≤ new.room → IsInputOf learned new
-input_of_roomier learned e new h keys ends room = record {
+input_of_roomier : (learned : FinMap nat_cmp Value) (e new : Entered) → IsInputOf learned e → new.keys ≡ e.keys → new.ends ≡ e.ends → e.room ≤ new.room → e.key_room ≤ new.key_room → IsInputOf learned new
+input_of_roomier learned e new h keys ends room key_room = record {
   below = rw ends h.below;
   keys = rw (keys, ends) h.keys;
   within = rw (keys, ends) h.within;
   ends = rw (keys, ends) h.ends;
   room = λ s there. omega (arith, ap length ends, h.room s there);
+  key_room = λ s there. omega (arith, ap length ends, h.key_room s there);
   small = h.small;
 }
 
 -- a place is learned once there is room for it
 pub input_of_more : (learned more : FinMap nat_cmp Value) (e new : Entered) (s : ℕ) (v : Value) → IsInputOf learned e → get learned s ≡ None → more ≡ insert learned s v
-    → new.keys ≡ e.keys → new.ends ≡ e.ends → e.room ≤ new.room → s < length e.ends + new.room → s < 65536 → IsInputOf more new
-input_of_more learned more e new s v h none is keys ends room there small =
-    rw is (input_of_learned learned new s v (input_of_roomier learned e new h keys ends room) none (omega (arith, ap length ends)) small)
+    → new.keys ≡ e.keys → new.ends ≡ e.ends → e.room ≤ new.room → e.key_room ≤ new.key_room
+    → s < length e.ends + new.room → 32 * (s + 1) ≤ new.key_room + 32 * length e.ends → s < 65536 → IsInputOf more new
+input_of_more learned more e new s v h none is keys ends room key_room there keys_there small =
+    rw is (input_of_learned learned new s v (input_of_roomier learned e new h keys ends room key_room) none (omega (arith, ap length ends)) (omega (arith, ap length ends)) small)
 
 -- ---- the front rises
-
--- a place that is learned is one of those that there may be, and there is room for it
-pub may_rise : (learned : FinMap nat_cmp Value) (e : Entered) (v : Value) → IsInputOf learned e → get learned (length e.ends) ≡ Some v → (0 < e.room) × (length e.ends < 65536)
-may_rise learned e v h here =
-    let there : IsTrue (is_some (get learned (length e.ends))) = ap is_some here in
-    (omega (arith, h.room (length e.ends) there), h.small (length e.ends) there)
 
 -- a front of a list is one of a longer list
 take_more_or_same : (there : Bool) (keys more : List Key) (n : ℕ) → n ≤ length keys → take n (if there then keys else keys ++ more) ≡ take n keys
 take_more_or_same true keys more n low = refl
 take_more_or_same false keys more n low = take-append-le n keys more low
-
--- a longer list is no shorter
-no_fewer : (there : Bool) (keys more : List Key) → length keys ≤ length (if there then keys else keys ++ more)
-no_fewer true keys more = omega arith
-no_fewer false keys more = omega (arith, length-append keys more)
 
 -- a front of the keys is one of the keys with more
 take_entered : (keys more : List Key) (n : ℕ) → n ≤ length keys → take n (insert_all same_key keys more) ≡ take n keys
@@ -100,62 +93,43 @@ take_entered keys [] n low = refl
 take_entered keys (k ∷ more) n low =
     take_entered (insert_key same_key keys k) more n (omega (arith, no_fewer (list_any (same_key k) keys) keys (k ∷ []))) ∙ take_more_or_same (list_any (same_key k) keys) keys (k ∷ []) n low
 
--- there are no fewer keys with more
-entered_no_fewer : (keys more : List Key) → length keys ≤ length (insert_all same_key keys more)
-entered_no_fewer keys [] = omega arith
-entered_no_fewer keys (k ∷ more) =
-    let one = no_fewer (list_any (same_key k) keys) keys (k ∷ []) in
-    omega (arith, entered_no_fewer (insert_key same_key keys k) more)
-
 -- the next place has entered the input
 pub record IsNext (e : Entered) (v : Value) (new : Entered) : Type 0 where
   pub keys : new.keys ≡ entered e.keys v
   pub ends : new.ends ≡ e.ends ++ length new.keys ∷ []
   pub room : e.room ≤ new.room + 1
+  pub key_room : e.key_room ≤ new.key_room + 32
 
 module _ (learned : FinMap nat_cmp Value) (e : Entered) (v : Value) (new : Entered) (h : IsInputOf learned e) (here : get learned (length e.ends) ≡ Some v) (next : IsNext e v new) where
-  -- there is one place more
-  longer : length new.ends ≡ length e.ends + 1
-  longer = ap length next.ends ∙ length_push e.ends (length new.keys)
-
   -- the keys are those of one value more
   all_keys : new.keys ≡ keys_in_order (values_below learned (length e.ends + 1))
   all_keys =
       next.keys ∙ ap (λ (keys : List Key). entered keys v) h.keys ∙ sym (keys_entered (values_below learned (length e.ends)) v)
       ∙ ap keys_in_order (sym (values_more learned (length e.ends) v here))
 
-  -- the places before end where they did
-  end_before : (s : ℕ) → s < length e.ends → slice_index new.ends s ≡ slice_index e.ends s
-  end_before s low = ap (λ (ends : List ℕ). slice_index ends s) next.ends ∙ get_or_append_left e.ends _ 0 s low
-
-  -- this one ends with all keys
-  end_here : (s : ℕ) → s ≡ length e.ends → slice_index new.ends s ≡ length new.keys
-  end_here s same = ap (λ (ends : List ℕ). slice_index ends s) next.ends ∙ get_or_push e.ends (length new.keys) 0 s (sym same)
-
   -- there are no fewer keys than before
   more_keys : length e.keys ≤ length new.keys
   more_keys = rw next.keys (entered_no_fewer e.keys (keys_of v))
 
-  -- whatever holds of each place so far and of this one
-  each_place : (P : ℕ → Type 0) → ((s : ℕ) → s < length e.ends → P s) → ((s : ℕ) → s ≡ length e.ends → P s) → (s : ℕ) → s < length new.ends → P s
-  each_place P before at_end s low =
-      elim (cases_lt s (length e.ends)) [
-        | inl less ↦ before s less
-        | inr high ↦ at_end s (omega (arith, longer))
-      ]
-
   -- the input is that of the same map
   pub input_of_risen : IsInputOf learned new
-  input_of_risen = record {
-    below = each_place (λ s. IsTrue (is_some (get learned s))) h.below (λ s same. rw same (ap is_some here));
-    keys = all_keys ∙ ap (λ (n : ℕ). keys_in_order (values_below learned n)) (sym longer);
-    within = each_place (λ s. slice_index new.ends s ≤ length new.keys) (λ s low. omega (arith, end_before s low, h.within s low, more_keys)) (λ s same. omega (arith, end_here s same));
-    ends = each_place (λ s. take (slice_index new.ends s) new.keys ≡ keys_in_order (values_below learned (s + 1)))
-        (λ s low. rw (end_before s low, next.keys) (take_entered e.keys (keys_of v) (slice_index e.ends s) (h.within s low) ∙ h.ends s low))
-        (λ s same. rw (end_here s same) (take_all (length new.keys) new.keys (omega arith) ∙ all_keys ∙ ap (λ (n : ℕ). keys_in_order (values_below learned (n + 1))) (sym same)));
-    room = λ s there. omega (arith, h.room s there, longer, next.room);
-    small = h.small;
-  }
+  input_of_risen =
+      let n = length new.keys in
+      let one : length new.ends ≡ length e.ends + 1 = longer e.ends new.ends n next.ends in
+      let before = end_before e.ends new.ends n next.ends in
+      let at_end = end_here e.ends new.ends n next.ends in
+      let each = each_place e.ends new.ends n next.ends in
+      record {
+        below = each (λ s. IsTrue (is_some (get learned s))) h.below (λ s same. rw same (ap is_some here));
+        keys = all_keys ∙ ap (λ (i : ℕ). keys_in_order (values_below learned i)) (sym one);
+        within = each (λ s. slice_index new.ends s ≤ n) (λ s low. omega (arith, before s low, h.within s low, more_keys)) (λ s same. omega (arith, at_end s same));
+        ends = each (λ s. take (slice_index new.ends s) new.keys ≡ keys_in_order (values_below learned (s + 1)))
+            (λ s low. rw (before s low, next.keys) (take_entered e.keys (keys_of v) (slice_index e.ends s) (h.within s low) ∙ h.ends s low))
+            (λ s same. rw (at_end s same) (take_all n new.keys (omega arith) ∙ all_keys ∙ ap (λ (i : ℕ). keys_in_order (values_below learned (i + 1))) (sym same)));
+        room = λ s there. omega (arith, h.room s there, one, next.room);
+        key_room = λ s there. omega (arith, h.key_room s there, one, next.key_room);
+        small = h.small;
+      }
 
 -- ---- the input from a place on
 
@@ -200,5 +174,6 @@ input_of_none e no_keys no_ends =
       within = λ s low. absurd (omega arith);
       ends = λ s low. absurd (omega arith);
       room = λ s there. absurd (true≢false (sym there ∙ ap is_some (get-empty nat_cmp s)));
+      key_room = λ s there. absurd (true≢false (sym there ∙ ap is_some (get-empty nat_cmp s)));
       small = λ s there. absurd (true≢false (sym there ∙ ap is_some (get-empty nat_cmp s)));
     }

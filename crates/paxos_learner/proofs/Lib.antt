@@ -4,6 +4,7 @@ pub mod Stored
 pub mod Fronts
 pub mod KeysOnce
 pub mod ValuesBelow
+pub mod Ends
 pub mod Keeping
 pub mod Hearing
 pub mod Backing

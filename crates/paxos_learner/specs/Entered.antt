@@ -1,5 +1,5 @@
 -- The input as it is kept: its keys so far, and how many of them there were after each place.
-use Rattle.std.specs.Prelude.{ℕ, zero, suc, ◌<◌, ◌≤◌, nat_lt, List, length, slice_index, if◌then◌else◌}
+use Rattle.std.specs.Prelude.{ℕ, zero, suc, ◌*◌, ◌<◌, ◌≤◌, nat_lt, List, length, slice_index, if◌then◌else◌}
 use Rattle.indexmap.specs.IndexSet.{insert_all}
 use Rattle.paxos_msg.specs.declared.value.Value.{Value}
 use Rattle.paxos_msg.specs.Keys.{Key, keys_of}
@@ -7,11 +7,12 @@ use Rattle.paxos_learner.specs.declared.keys.TypedKey.{TypedKey}
 use Rattle.paxos_learner.specs.Input.{same_key}
 
 -- the keys that the values of the places so far have, each once; how many there were after each of these places; and how many places
--- more there is room for
+-- and keys more there is room for
 pub record Entered : Type 0 where
   pub keys : List Key
   pub ends : List ℕ
   pub room : ℕ
+  pub key_room : ℕ
 
 -- keys, each once, and how many keys more there is room for
 pub record Keys : Type 0 where
@@ -22,9 +23,9 @@ pub record Keys : Type 0 where
 abbrev pub key_of : TypedKey → Key
 key_of k = record { node = k.node; start = k.start; serial = k.serial; byte = k.byte }
 
--- There are no more keys than places, no place has more before it than there are, and a group has 65,536 places.
+-- There are at most 32 keys for each place, no place has more before it than there are, and a group has 65,536 places.
 pub record IsCounted (keys : List Key) (ends : List ℕ) : Type 0 where
-  pub few : length keys ≤ length ends
+  pub few : length keys ≤ 32 * length ends
   pub within : (s : ℕ) → s < length ends → slice_index ends s ≤ length keys
   pub small : length ends ≤ 65536
 

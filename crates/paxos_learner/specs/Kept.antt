@@ -1,5 +1,5 @@
 -- What a learner keeps beside what it has learned.
-use Rattle.std.specs.Prelude.{◌≡◌, ℕ, ◌+◌, ◌<◌, ◌≤◌, IsTrue, List, length, take, slice_index, Contains, Some, None, is_some}
+use Rattle.std.specs.Prelude.{◌≡◌, ℕ, ◌+◌, ◌*◌, ◌<◌, ◌≤◌, IsTrue, List, length, take, slice_index, Contains, Some, None, is_some}
 use Rattle.std.specs.Ordering.{nat_cmp}
 use Rattle.std.specs.FinMap.{FinMap, get}
 use Rattle.paxos_msg.specs.declared.value.Value.{Value}
@@ -8,13 +8,15 @@ use Rattle.paxos_learner.specs.Entered.{Entered}
 use Rattle.paxos_learner.specs.Growth.{AreInWindow}
 use Rattle.paxos_learner.specs.Input.{StandsIn, keys_in_order, values_below}
 
--- The input has the keys of the places so far, all of which are learned, and there is room for each place that is learned.
+-- The input has the keys of the places so far, all of which are learned, and there is room for each place that is learned, and for
+-- 32 keys at each place up to it.
 pub record IsInputOf (learned : FinMap nat_cmp Value) (e : Entered) : Type 0 where
   pub below : (s : ℕ) → s < length e.ends → IsTrue (is_some (get learned s))
   pub keys : e.keys ≡ keys_in_order (values_below learned (length e.ends))
   pub within : (s : ℕ) → s < length e.ends → slice_index e.ends s ≤ length e.keys
   pub ends : (s : ℕ) → s < length e.ends → take (slice_index e.ends s) e.keys ≡ keys_in_order (values_below learned (s + 1))
   pub room : (s : ℕ) → IsTrue (is_some (get learned s)) → s < length e.ends + e.room
+  pub key_room : (s : ℕ) → IsTrue (is_some (get learned s)) → 32 * (s + 1) ≤ e.key_room + 32 * length e.ends
   pub small : (s : ℕ) → IsTrue (is_some (get learned s)) → s < 65536
 
 -- the keys that stand in learned values are these

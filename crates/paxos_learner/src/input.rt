@@ -1,5 +1,5 @@
 //! The input: the bytes of the keys of the places below the front, each key once.
-ghost use Rattle.std.specs.Prelude.{◌≡◌, ◌↔◌, ◌+◌, ◌<◌, ◌≤◌, [], ◌∷◌, ◌++◌, IsTrue, OnOk, Contains, length, drop, map, option_map, slice_get};
+ghost use Rattle.std.specs.Prelude.{◌≡◌, ◌↔◌, ◌+◌, ◌*◌, ◌<◌, ◌≤◌, [], ◌∷◌, ◌++◌, IsTrue, OnOk, Contains, length, drop, map, option_map, slice_get};
 ghost use Rattle.paxos_learner.specs.Entered.{entered, count_below, key_of};
 
 use crate::keys::{KeySet, TypedKey};
@@ -16,7 +16,7 @@ pub struct Input {
 }
 
 impl Model for Input {
-    ghost use Rattle.std.specs.Prelude.{◌-◌, min, vec_len, vec_capacity};
+    ghost use Rattle.std.specs.Prelude.{◌-◌, vec_len, vec_capacity};
     ghost use Rattle.paxos_learner.specs.Entered.{Entered, IsCounted};
 
     ghost Value = { Entered };
@@ -24,7 +24,8 @@ impl Model for Input {
     ghost view = { λ i. record {
       keys = i.keys.keys;
       ends = i.ends.items;
-      room = min (vec_capacity i.ends - vec_len i.ends) i.keys.room;
+      room = vec_capacity i.ends - vec_len i.ends;
+      key_room = i.keys.room;
     } };
 
     ghost invariant = { λ i. IsCounted i.keys.keys i.ends.items };
@@ -50,24 +51,29 @@ impl Input {
         self.ends.len() as u32
     }
 
-    /// Makes room for so many places more. After an error nothing has changed.
-    pub fn reserve(&mut self, additional: usize) -> Result<(), AllocError>
+    /// Makes room for so many places more, of which each may have 32 keys. After an error nothing has changed.
+    pub fn reserve(&mut self, places: usize) -> Result<(), AllocError>
+        requires { places ≤ 65536 }
         ensures keys { self.new.keys ≡ self.old.keys }
         ensures ends { self.new.ends ≡ self.old.ends }
-        ensures ok { OnOk result (additional ≤ self.new.room) }
+        ensures ok { OnOk result (places ≤ self.new.room) }
+        ensures keys_ok { OnOk result (32 * places ≤ self.new.key_room) }
         ensures room { self.old.room ≤ self.new.room }
+        ensures key_room { self.old.key_room ≤ self.new.key_room }
     {
-        self.keys.reserve(additional)?;
-        self.ends.reserve(additional)
+        self.keys.reserve(32 * places)?;
+        self.ends.reserve(places)
     }
 
-    /// Puts the value of the next place in, for which there is room.
+    /// Puts the value of the next place in, at most 32 keys, for which there is room.
     pub fn enter(&mut self, value: Value)
         requires room { 0 < self.old.room }
+        requires key_room { 32 ≤ self.old.key_room }
         requires few { length self.old.ends < 65536 }
         ensures keys { self.new.keys ≡ entered self.old.keys value }
         ensures ends { self.new.ends ≡ self.old.ends ++ length self.new.keys ∷ [] }
         ensures room { self.old.room ≤ self.new.room + 1 }
+        ensures key_room { self.old.key_room ≤ self.new.key_room + 32 }
     {
         self.keys.insert(value);
         let count = self.keys.len() as u32;

@@ -1,8 +1,9 @@
 //! Keys, and sets of them.
 ghost use Rattle.std.specs.Prelude.{◌≡◌, ◌↔◌, ◌+◌, ◌<◌, ◌≤◌, [], IsTrue, OnOk, Contains, drop, length, map, option_map, slice_get};
-ghost use Rattle.std.specs.Option.{option_to_list};
-ghost use Rattle.paxos_msg.specs.Keys.{keys_of};
+ghost use Rattle.indexmap.specs.IndexSet.{insert_all, insert_key};
+ghost use Rattle.paxos_msg.specs.Keys.{keys_from};
 ghost use Rattle.paxos_learner.specs.Entered.{entered, key_of};
+ghost use Rattle.paxos_learner.specs.Input.{same_key};
 
 use indexmap::IndexSet;
 use paxos_msg::Value;
@@ -16,30 +17,10 @@ pub struct TypedKey {
     pub node: u8,
     /// Which start of that node it was, from 1 on.
     pub start: u32,
-    /// Which key of that start it is, from 1 on.
-    pub serial: u32,
+    /// Which key of that start it is, from 1 on: at most 4,294,967,295 in a value that is in its ranges.
+    pub serial: u64,
     /// The character.
     pub byte: u8,
-}
-
-/// The key of a value, if it has one.
-fn key_in(value: Value) -> Option<TypedKey>
-    ensures { map key_of (option_to_list result) ≡ keys_of value }
-{
-    match value {
-        Value::Noop => None,
-        Value::Key {
-            node,
-            start,
-            serial,
-            byte,
-        } => Some(TypedKey {
-            node,
-            start,
-            serial,
-            byte,
-        }),
-    }
 }
 
 /// Keys, each once, in the order in which they came.
@@ -77,15 +58,52 @@ impl KeySet {
         self.keys.reserve(additional)
     }
 
-    /// Puts the keys of a value in, for which there is room: each that is not there yet, at the end.
-    pub fn insert(&mut self, value: Value)
+    /// Puts a key in, for which there is room: at the end, if it is not there yet.
+    fn insert_key(&mut self, key: TypedKey)
         requires { 0 < self.old.room }
-        ensures keys { self.new.keys ≡ entered self.old.keys value }
+        ensures keys { self.new.keys ≡ insert_key same_key self.old.keys (key_of key) }
         ensures room { self.old.room ≤ self.new.room + 1 }
         ensures few { length self.new.keys ≤ length self.old.keys + 1 }
     {
-        if let Some(key) = key_in(value) {
-            self.keys.insert(key).unwrap();
+        self.keys.insert(key).unwrap();
+    }
+
+    /// Puts the keys with these characters in, whose serials go on from `first`, one after another.
+    fn insert_batch(&mut self, node: u8, start: u32, first: u32, bytes: &[u8])
+        requires room { length bytes.now ≤ self.old.room }
+        requires few { length bytes.now ≤ 32 }
+        ensures keys { self.new.keys ≡ insert_all same_key self.old.keys (keys_from node start first bytes.now) }
+        ensures room { self.old.room ≤ self.new.room + length bytes.now }
+        ensures few { length self.new.keys ≤ length self.old.keys + length bytes.now }
+    {
+        let mut serial = u64::from(first);
+        for byte in bytes {
+            self.insert_key(TypedKey {
+                node,
+                start,
+                serial,
+                byte: *byte,
+            });
+            serial += 1;
+        }
+    }
+
+    /// Puts the keys of a value in, at most 32, for which there is room: each that is not there yet, at the
+    /// end.
+    pub fn insert(&mut self, value: Value)
+        requires { 32 ≤ self.old.room }
+        ensures keys { self.new.keys ≡ entered self.old.keys value }
+        ensures room { self.old.room ≤ self.new.room + 32 }
+        ensures few { length self.new.keys ≤ length self.old.keys + 32 }
+    {
+        if let Value::Keys {
+            node,
+            start,
+            first,
+            bytes,
+        } = value
+        {
+            self.insert_batch(node, start, first, bytes.as_slice());
         }
     }
 

@@ -18,8 +18,9 @@ use std::marker::Model;
 
 /// Learns the value of each place, 0 to 65,535, in a group of `size` nodes, from what its acceptors say.
 ///
-/// A look, and what is heard of one place, take a search; a learned place takes as many steps more as
-/// the front then rises by. No call goes over all places.
+/// A look, and what is heard of one place, take a search; a learned place takes one more for each of its
+/// keys, at most 32, and for each key of the places that the front then rises by. No call goes over all
+/// places.
 #[derive(Drop)]
 pub struct Learner {
     size: u8,
@@ -80,20 +81,20 @@ impl Learner {
         place < self.known_front() + 1024 && self.learned(place).is_none()
     }
 
-    /// Learns the value at the place, which is open. The room for it, and for what the front may rise by,
-    /// is made first, so that after an error nothing has changed.
-    fn learn(&mut self, place: u32, value: Value) -> Result<(), AllocError>
+    /// Learns the value at the place, which is open. The room for it, and for what the front may rise by, at
+    /// most 32 keys a place, is made first, so that after an error nothing has changed.
+    fn learn(&mut self, place: u32, value: &Value) -> Result<(), AllocError>
         requires open { IsTrue (is_open self.old place) }
         requires place { place ≤ 65535 }
-        ensures ok { OnOk result (self.new ≡ (learn self.old place value).learner) }
+        ensures ok { OnOk result (self.new ≡ (learn self.old place value.now).learner) }
         ensures err { OnErr result (self.new ≡ self.old) }
     {
         let places = place + 1 - self.input.places();
         self.learned.make_room()?;
-        self.known.reserve(1)?;
+        self.known.reserve(32)?;
         self.input.reserve(places as usize)?;
-        self.learned.insert(place, value);
-        self.known.insert(value);
+        self.learned.insert(place, *value);
+        self.known.insert(*value);
         self.tallies.remove(place);
         raise_front(&self.learned, &mut self.input);
         Ok(())
@@ -104,8 +105,8 @@ impl Learner {
     /// A place counts if it is not learned, and less than 1,024 above the front. There a greater ballot
     /// than before begins anew, and a node counts once. `Learned`: more than half of the nodes 1 to `size`
     /// have accepted the value under one ballot. `Counted`: so many have not yet, but this one is new.
-    /// `Passed`: nothing has changed. `Memory` comes where there is no room for what is new, and then
-    /// nothing has changed.
+    /// `Passed`: nothing has changed. `Memory` comes where there is no room for what is new, reckoned with 32
+    /// keys at each place up to a learned one, and then nothing has changed.
     pub fn on_accepted(
         &mut self,
         sender: u8,
@@ -126,7 +127,7 @@ impl Learner {
             return Ok(Heard::Passed);
         };
         if tally.is_majority(self.size) {
-            self.learn(place, tally.value())?;
+            self.learn(place, &tally.value())?;
             return Ok(Heard::Learned);
         }
         self.tallies.make_room()?;
@@ -145,7 +146,7 @@ impl Learner {
         ensures err { OnErr result (self.new ≡ self.old) }
     {
         if self.is_open(place) {
-            self.learn(place, value)?;
+            self.learn(place, &value)?;
             return Ok(Heard::Learned);
         }
         Ok(Heard::Passed)
@@ -171,7 +172,8 @@ impl Learner {
     }
 
     /// The input bytes that the places from this one up to the front add, none from the front on. A key
-    /// that stands at several places is read at the first. The place may be any number.
+    /// that stands at several places is read at the first, so of a batch that overlaps an earlier one the
+    /// new keys alone are added. The place may be any number.
     pub fn input_after(&self, place: u32) -> InputAfter<'_>
         ensures { input_of (values_below self.now.learned (min place (front_of self.now.learned))) ++ result ≡ learned_input self.now.learned }
     {

@@ -14,14 +14,14 @@ raise_front-requires c =
     let none : get c.self.inside.learned.map c.args.place ≡ None
     = ap (λ (l : Learner). get l.learned c.args.place) c.self.view_is ∙ open_is_none c.args.self.now c.args.place c.requires.open in
     let kept = c.in_ok-reserve-2.ensures in
-    input_of_more c.self.inside.learned.map _ c.self.inside.input _ c.args.place c.args.value c.self.invariant.input none
-    (c.insert.ensures ∙ ap (λ m. insert m c.args.place c.args.value) c.in_ok-make_room.ensures.map) kept.keys kept.ends kept.room (omega arith) (omega arith)
+    input_of_more c.self.inside.learned.map _ c.self.inside.input _ c.args.place c.args.value.now c.self.invariant.input none
+    (c.insert.ensures ∙ ap (λ m. insert m c.args.place c.args.value.now) c.in_ok-make_room.ensures.map) kept.keys kept.ends kept.room kept.key_room (omega arith) (omega arith) (omega arith)
 
 pub invariant_of-self-2 : goal.invariant_of-self-2
 invariant_of-self-2 c =
     let learned = c.self.inside.learned.map in
     let s = c.args.place in
-    let v = c.args.value in
+    let v = c.args.value.now in
     let h = c.self.invariant in
     let none : get learned s ≡ None = ap (λ (l : Learner). get l.learned s) c.self.view_is ∙ open_is_none c.args.self.now s c.requires.open in
     let near : s < front_of learned + 1024 = subst (λ (l : Learner). s < front_of l.learned + 1024) (sym c.self.view_is) (open_below c.args.self.now s c.requires.open) in
