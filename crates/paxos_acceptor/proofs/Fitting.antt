@@ -99,20 +99,20 @@ module _ (size upto : ℕ) (b : Ballot) where
       rw (behind_is x xs) (omega arith, behind_above x xs low h, tight x xs low h)
 
 -- the bounds of a part, by whether it has all votes
-part_if : (size : ℕ) (b : Ballot) (from : ℕ) (votes : List Vote) (t : Bool) → nat_lt 64 (length votes) ≡ t → IsPlace from → AreVotes size b from 65536 votes
-    → ((if t then behind_last (take 64 votes) else 65536) ≤ 65536) × (from < (if t then behind_last (take 64 votes) else 65536)) × AreVotes size b from (if t then behind_last (take 64 votes) else 65536) (take 64 votes)
+part_if : (size : ℕ) (b : Ballot) (from : ℕ) (votes : List Vote) (t : Bool) → nat_lt 8 (length votes) ≡ t → IsPlace from → AreVotes size b from 65536 votes
+    → ((if t then behind_last (take 8 votes) else 65536) ≤ 65536) × (from < (if t then behind_last (take 8 votes) else 65536)) × AreVotes size b from (if t then behind_last (take 8 votes) else 65536) (take 8 votes)
 part_if size b from votes true e place h =
-    let more : 0 < length (take 64 votes) = few (length votes) (length-take 64 votes) (grind (arith, nat_tests)) in
-    first_part size 65536 b (take 64 votes) from more (omega arith) (first_ones size 65536 b 64 votes from h)
+    let more : 0 < length (take 8 votes) = few (length votes) (length-take 8 votes) (grind (arith, nat_tests)) in
+    first_part size 65536 b (take 8 votes) from more (omega arith) (first_ones size 65536 b 8 votes from h)
   where
-    few : {k : ℕ} (n : ℕ) → k ≡ min 64 n → 64 < n → 0 < k
+    few : {k : ℕ} (n : ℕ) → k ≡ min 8 n → 8 < n → 0 < k
     few n e h = omega arith
-part_if size b from votes false e place h = (omega arith, omega arith, first_ones size 65536 b 64 votes from h)
+part_if size b from votes false e place h = (omega arith, omega arith, first_ones size 65536 b 8 votes from h)
 
 part_fits : (size i : ℕ) (r : Record) (b : Ballot) (from : ℕ) → IsBallot size b → IsPlace from → AreVotes size b 0 65536 r.votes → IsBody size i (part_of r b from)
 part_fits size i r b from ballot place h =
-    let p = part_if size b from (votes_from from r.votes) (nat_lt 64 (length (votes_from from r.votes))) refl place (from_on size 65536 b r.votes from 0 h) in
-    let short : length (take 64 (votes_from from r.votes)) ≤ 64 = omega (arith, length-take 64 (votes_from from r.votes)) in
+    let p = part_if size b from (votes_from from r.votes) (nat_lt 8 (length (votes_from from r.votes))) refl place (from_on size 65536 b r.votes from 0 h) in
+    let short : length (take 8 (votes_from from r.votes)) ≤ 8 = omega (arith, length-take 8 (votes_from from r.votes)) in
     (ballot, place, p.0, p.1, short, p.2)
 
 -- the promised ballot is in its ranges

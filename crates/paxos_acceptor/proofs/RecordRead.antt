@@ -1,5 +1,5 @@
 -- The law: bytes are read as a record just where they are its spelling.
-use Rattle.std.proofs.Common.{if◌then◌else◌, ◌≡◌, ◌↔◌, ℕ, suc, ◌+◌, ◌<◌, ◌≤◌, ◌^◌, eqb, Bool, true, false, not, ◌&&◌, List, [], ◌∷◌, ◌++◌, length, Option, Some, None, Ok, Err, refl, ap, ◌∙◌, sym, subst, append_assoc, arith}
+use Rattle.std.proofs.Common.{if◌then◌else◌, ◌≡◌, ◌↔◌, ℕ, suc, ◌+◌, ◌*◌, ◌<◌, ◌≤◌, ◌^◌, eqb, Bool, true, false, not, ◌&&◌, List, [], ◌∷◌, ◌++◌, length, Option, Some, None, Ok, Err, refl, ap, ◌∙◌, sym, subst, append_assoc, arith}
 use Rattle.std.proofs.lemmas.Bool.{and_parts, eq-eqb, eqb-true, ne_eqb, not-false}
 use Rattle.std.proofs.lemmas.List.{append-nil, nil_from_length}
 use Rattle.base.proofs.Steps.{bind_ok, last_ok, ok_is}
@@ -26,6 +26,16 @@ few_kept size (Some b) votes h = let f = few size b 0 65536 votes (omega arith) 
 
 pub few_votes : (size : ℕ) (r : Record) → IsRecord size r → length r.votes ≤ 65536
 few_votes size r h = few_kept size r.promised r.votes h.kept
+
+-- votes that are kept are spelled shortly, where all votes in their ranges are
+short_kept : ((size low upto : ℕ) (b : Ballot) (votes : List Vote) → AreVotes size b low upto votes → length (votes_bytes votes) ≤ 52 * length votes)
+    → (size : ℕ) (promised : Option Ballot) (votes : List Vote) → AreKept size promised votes → length (votes_bytes votes) ≤ 52 * length votes
+short_kept law size None votes h = rw h (omega arith)
+short_kept law size (Some b) votes h = law size 0 65536 b votes h.1
+
+pub short_votes : ((size low upto : ℕ) (b : Ballot) (votes : List Vote) → AreVotes size b low upto votes → length (votes_bytes votes) ≤ 52 * length votes)
+    → (size : ℕ) (r : Record) → IsRecord size r → length (votes_bytes r.votes) ≤ 52 * length r.votes
+short_votes law size r h = short_kept law size r.promised r.votes h.kept
 
 -- ---- the parts
 
@@ -64,24 +74,24 @@ kept_promise size None votes h = tt
 kept_promise size (Some b) votes h = h.0
 
 module _ (F : Fields) where
-  header_found : (me : Me) (bytes rest : List ℕ) → AreBytes bytes → header_at me bytes ≡ Ok rest → bytes ≡ header_bytes me ++ rest
+  header_found : (me : Me) (bytes rest : List ℕ) → AreBytes bytes → header_at me bytes ≡ Ok rest → bytes ≡ header_bytes 2 me ++ rest
   unfolding header_at
   header_found me bytes rest are e =
       let a = bind_ok (behind_byte 80 bytes) _ rest e in
       let b = bind_ok (behind_byte 82 a.0) _ rest a.2 in
-      let c = bind_ok (behind_byte 1 b.0) _ rest b.2 in
+      let c = bind_ok (behind_byte 2 b.0) _ rest b.2 in
       let d = bind_ok (behind_byte me.node c.0) _ rest c.2 in
       let g = bind_ok (behind_byte me.group.size d.0) _ rest d.2 in
       let s = bind_ok (number_at g.0) _ rest g.2 in
       let t = last_ok fault.Group (not (eqb s.0.0 me.group.session)) s.0.1 rest s.2 in
-      let front : bytes ≡ 80 ∷ 82 ∷ 1 ∷ me.node ∷ me.group.size ∷ g.0 =
-      byte_found 80 bytes a.0 a.1 ∙ ap (λ (xs : List ℕ). 80 ∷ xs) (byte_found 82 a.0 b.0 b.1 ∙ ap (λ (xs : List ℕ). 82 ∷ xs) (byte_found 1 b.0 c.0 c.1 ∙ ap (λ (xs : List ℕ). 1 ∷ xs) (byte_found me.node c.0 d.0 d.1 ∙ ap (λ (xs : List ℕ). me.node ∷ xs) (byte_found me.group.size d.0 g.0 g.1)))) in
-      let number = (F.numbers g.0 s.0.0 s.0.1 (others_of bytes (80 ∷ 82 ∷ 1 ∷ me.node ∷ me.group.size ∷ []) g.0 are front)).0 s.1 in
+      let front : bytes ≡ 80 ∷ 82 ∷ 2 ∷ me.node ∷ me.group.size ∷ g.0 =
+      byte_found 80 bytes a.0 a.1 ∙ ap (λ (xs : List ℕ). 80 ∷ xs) (byte_found 82 a.0 b.0 b.1 ∙ ap (λ (xs : List ℕ). 82 ∷ xs) (byte_found 2 b.0 c.0 c.1 ∙ ap (λ (xs : List ℕ). 2 ∷ xs) (byte_found me.node c.0 d.0 d.1 ∙ ap (λ (xs : List ℕ). me.node ∷ xs) (byte_found me.group.size d.0 g.0 g.1)))) in
+      let number = (F.numbers g.0 s.0.0 s.0.1 (others_of bytes (80 ∷ 82 ∷ 2 ∷ me.node ∷ me.group.size ∷ []) g.0 are front)).0 s.1 in
       let session : s.0.0 ≡ me.group.session = eqb-true s.0.0 me.group.session (not-false _ t.0) in
       let behind : g.0 ≡ number_bytes me.group.session ++ rest = number.1 ∙ ap (λ (n : ℕ). number_bytes n ++ s.0.1) session ∙ ap (λ (xs : List ℕ). number_bytes me.group.session ++ xs) t.1 in
-      front ∙ ap (λ (xs : List ℕ). 80 ∷ 82 ∷ 1 ∷ me.node ∷ me.group.size ∷ xs) behind
+      front ∙ ap (λ (xs : List ℕ). 80 ∷ 82 ∷ 2 ∷ me.node ∷ me.group.size ∷ xs) behind
 
-  header_again : (me : Me) (rest : List ℕ) → me.group.session < 2 ^ 32 → AreBytes (number_bytes me.group.session ++ rest) → header_at me (header_bytes me ++ rest) ≡ Ok rest
+  header_again : (me : Me) (rest : List ℕ) → me.group.session < 2 ^ 32 → AreBytes (number_bytes me.group.session ++ rest) → header_at me (header_bytes 2 me ++ rest) ≡ Ok rest
   unfolding header_at
   header_again me rest small are =
       rw (eq-eqb me.node me.node refl, eq-eqb me.group.size me.group.size refl, (F.numbers (number_bytes me.group.session ++ rest) me.group.session rest are).1 (small, refl), eq-eqb me.group.session me.group.session refl) refl
@@ -136,7 +146,7 @@ module _ (F : Fields) where
   votes_again size (Some b) votes are h = rw ((F.votes size (length votes) b (votes_bytes votes) votes [] are).1 (h.1, refl, sym (append-nil (votes_bytes votes)))) refl
 
   head_found : (me : Me) (bytes : List ℕ) (starts : ℕ) (p : Option Ballot) (n : ℕ) (rest : List ℕ) → AreBytes bytes → head_at me bytes ≡ Ok ((starts, p, n), rest) →
-      (starts < 2 ^ 32) × IsPromise me.group.size p × (bytes ≡ header_bytes me ++ (number_bytes starts ++ (promised_bytes p ++ (number_bytes n ++ rest)))) × AreBytes rest
+      (starts < 2 ^ 32) × IsPromise me.group.size p × (bytes ≡ header_bytes 2 me ++ (number_bytes starts ++ (promised_bytes p ++ (number_bytes n ++ rest)))) × AreBytes rest
   unfolding head_at
   head_found me bytes starts p n rest are e =
       let a = bind_ok (header_at me bytes) _ ((starts, p, n), rest) e in
@@ -145,24 +155,24 @@ module _ (F : Fields) where
       let d = bind_ok (number_at c.0.1) _ ((starts, p, n), rest) c.2 in
       let all : ((b.0.0, c.0.0, d.0.0), d.0.1) ≡ ((starts, p, n), rest) = ok_is ((b.0.0, c.0.0, d.0.0), d.0.1) ((starts, p, n), rest) d.2 in
       let one = header_found me bytes a.0 are a.1 in
-      let are_one = others_of bytes (header_bytes me) a.0 are one in
+      let are_one = others_of bytes (header_bytes 2 me) a.0 are one in
       let two = (F.numbers a.0 b.0.0 b.0.1 are_one).0 b.1 in
       let are_two = others_of a.0 (number_bytes b.0.0) b.0.1 are_one two.1 in
       let three = promised_found me.group.size b.0.1 c.0.0 c.0.1 are_two c.1 in
       let are_three = others_of b.0.1 (promised_bytes c.0.0) c.0.1 are_two three.1 in
       let four = (F.numbers c.0.1 d.0.0 d.0.1 are_three).0 d.1 in
       let are_four = others_of c.0.1 (number_bytes d.0.0) d.0.1 are_three four.1 in
-      let parts : bytes ≡ header_bytes me ++ (number_bytes b.0.0 ++ (promised_bytes c.0.0 ++ (number_bytes d.0.0 ++ d.0.1))) =
-      one ∙ ap (λ (xs : List ℕ). header_bytes me ++ xs) (two.1 ∙ ap (λ (xs : List ℕ). number_bytes b.0.0 ++ xs) (three.1 ∙ ap (λ (xs : List ℕ). promised_bytes c.0.0 ++ xs) four.1)) in
-      subst (λ (x : (ℕ × Option Ballot × ℕ) × List ℕ). (x.0.0 < 2 ^ 32) × IsPromise me.group.size x.0.1 × (bytes ≡ header_bytes me ++ (number_bytes x.0.0 ++ (promised_bytes x.0.1 ++ (number_bytes x.0.2 ++ x.1)))) × AreBytes x.1)
+      let parts : bytes ≡ header_bytes 2 me ++ (number_bytes b.0.0 ++ (promised_bytes c.0.0 ++ (number_bytes d.0.0 ++ d.0.1))) =
+      one ∙ ap (λ (xs : List ℕ). header_bytes 2 me ++ xs) (two.1 ∙ ap (λ (xs : List ℕ). number_bytes b.0.0 ++ xs) (three.1 ∙ ap (λ (xs : List ℕ). promised_bytes c.0.0 ++ xs) four.1)) in
+      subst (λ (x : (ℕ × Option Ballot × ℕ) × List ℕ). (x.0.0 < 2 ^ 32) × IsPromise me.group.size x.0.1 × (bytes ≡ header_bytes 2 me ++ (number_bytes x.0.0 ++ (promised_bytes x.0.1 ++ (number_bytes x.0.2 ++ x.1)))) × AreBytes x.1)
       all (two.0, three.0, parts, are_four)
 
   head_again : (me : Me) (starts : ℕ) (p : Option Ballot) (n : ℕ) (rest : List ℕ) → me.group.session < 2 ^ 32 → starts < 2 ^ 32 → IsPromise me.group.size p → n < 2 ^ 32 →
-      AreBytes (header_bytes me ++ (number_bytes starts ++ (promised_bytes p ++ (number_bytes n ++ rest)))) →
-      head_at me (header_bytes me ++ (number_bytes starts ++ (promised_bytes p ++ (number_bytes n ++ rest)))) ≡ Ok ((starts, p, n), rest)
+      AreBytes (header_bytes 2 me ++ (number_bytes starts ++ (promised_bytes p ++ (number_bytes n ++ rest)))) →
+      head_at me (header_bytes 2 me ++ (number_bytes starts ++ (promised_bytes p ++ (number_bytes n ++ rest)))) ≡ Ok ((starts, p, n), rest)
   unfolding head_at
   head_again me starts p n rest small few_starts h few_n are =
-      let session = others (80 ∷ 82 ∷ 1 ∷ me.node ∷ me.group.size ∷ []) (number_bytes me.group.session ++ (number_bytes starts ++ (promised_bytes p ++ (number_bytes n ++ rest)))) are in
+      let session = others (80 ∷ 82 ∷ 2 ∷ me.node ∷ me.group.size ∷ []) (number_bytes me.group.session ++ (number_bytes starts ++ (promised_bytes p ++ (number_bytes n ++ rest)))) are in
       let one = others (number_bytes me.group.session) (number_bytes starts ++ (promised_bytes p ++ (number_bytes n ++ rest))) session in
       let two = others (number_bytes starts) (promised_bytes p ++ (number_bytes n ++ rest)) one in
       let three = others (promised_bytes p) (number_bytes n ++ rest) two in
@@ -174,7 +184,7 @@ module _ (F : Fields) where
       ) refl
 
   -- the record's bytes, one part behind the other
-  parts_of : (me : Me) (r : Record) → record_bytes me r ≡ header_bytes me ++ (number_bytes r.starts ++ (promised_bytes r.promised ++ (number_bytes (length r.votes) ++ votes_bytes r.votes)))
+  parts_of : (me : Me) (r : Record) → record_bytes me r ≡ header_bytes 2 me ++ (number_bytes r.starts ++ (promised_bytes r.promised ++ (number_bytes (length r.votes) ++ votes_bytes r.votes)))
   parts_of me r = simp append_assoc
 
   record_found : (me : Me) (bytes : List ℕ) (r : Record) → AreBytes bytes → record_at me bytes ≡ Ok r → Rec me bytes r
@@ -186,17 +196,17 @@ module _ (F : Fields) where
       let votes = votes_found me.group.size a.0.0.2 a.0.0.1 a.0.1 b.0 head.3 head.1 b.1 in
       let this : Record = record { starts = a.0.0.0; promised = a.0.0.1; votes = b.0 } in
       let is : this ≡ r = ok_is this r b.2 in
-      let spelled : bytes ≡ header_bytes me ++ (number_bytes a.0.0.0 ++ (promised_bytes a.0.0.1 ++ (number_bytes (length b.0) ++ votes_bytes b.0))) =
-      head.2 ∙ ap (λ (xs : List ℕ). header_bytes me ++ (number_bytes a.0.0.0 ++ (promised_bytes a.0.0.1 ++ xs))) (ap (λ (n : ℕ). number_bytes n ++ a.0.1) (sym votes.1) ∙ ap (λ (xs : List ℕ). number_bytes (length b.0) ++ xs) votes.2) in
+      let spelled : bytes ≡ header_bytes 2 me ++ (number_bytes a.0.0.0 ++ (promised_bytes a.0.0.1 ++ (number_bytes (length b.0) ++ votes_bytes b.0))) =
+      head.2 ∙ ap (λ (xs : List ℕ). header_bytes 2 me ++ (number_bytes a.0.0.0 ++ (promised_bytes a.0.0.1 ++ xs))) (ap (λ (n : ℕ). number_bytes n ++ a.0.1) (sym votes.1) ∙ ap (λ (xs : List ℕ). number_bytes (length b.0) ++ xs) votes.2) in
       subst (Rec me bytes) is (record { ranges = record { starts = head.0; kept = votes.0 }; spelled = spelled ∙ sym (parts_of me this) })
 
   record_again : (me : Me) (bytes : List ℕ) (r : Record) → me.group.session < 2 ^ 32 → AreBytes bytes → Rec me bytes r → record_at me bytes ≡ Ok r
   unfolding record_at
   record_again me bytes r small are h =
       let parts = h.spelled ∙ parts_of me r in
-      let now : AreBytes (header_bytes me ++ (number_bytes r.starts ++ (promised_bytes r.promised ++ (number_bytes (length r.votes) ++ votes_bytes r.votes)))) = subst AreBytes parts are in
+      let now : AreBytes (header_bytes 2 me ++ (number_bytes r.starts ++ (promised_bytes r.promised ++ (number_bytes (length r.votes) ++ votes_bytes r.votes)))) = subst AreBytes parts are in
       let counted : List ℕ = number_bytes (length r.votes) ++ votes_bytes r.votes in
-      let are_counted : AreBytes counted = others (promised_bytes r.promised) counted (others (number_bytes r.starts) (promised_bytes r.promised ++ counted) (others (header_bytes me) (number_bytes r.starts ++ (promised_bytes r.promised ++ counted)) now)) in
+      let are_counted : AreBytes counted = others (promised_bytes r.promised) counted (others (number_bytes r.starts) (promised_bytes r.promised ++ counted) (others (header_bytes 2 me) (number_bytes r.starts ++ (promised_bytes r.promised ++ counted)) now)) in
       let votes : AreBytes (votes_bytes r.votes) = others (number_bytes (length r.votes)) (votes_bytes r.votes) are_counted in
       let few_n = few_votes me.group.size r h.ranges in
       rw (

@@ -103,15 +103,15 @@ within_by n xs vote true e up place h =
     omega arith
 within_by n xs vote false e up place h = omega arith
 
--- the first 64 votes from a place on report the record up to there
-pub reports : (r : Record) (from : ℕ) → IsAscending r.votes → All (λ vote. vote.place ≤ 65535) r.votes → IsReport r from (upto_of (votes_from from r.votes)) (take 64 (votes_from from r.votes))
+-- the first 8 votes from a place on report the record up to there
+pub reports : (r : Record) (from : ℕ) → IsAscending r.votes → All (λ vote. vote.place ≤ 65535) r.votes → IsReport r from (upto_of (votes_from from r.votes)) (take 8 (votes_from from r.votes))
 reports r from up places =
     let rest : List Vote = votes_from from r.votes in
     let rest_up : IsAscending rest = ascending_from r.votes from up in
     record {
-      own = λ vote h. from_in r.votes from vote (first_in 64 rest vote h);
+      own = λ vote h. from_in r.votes from vote (first_in 8 rest vote h);
       within = λ vote h.
-          let there : Contains rest vote = first_in 64 rest vote h in
-          (places_from r.votes from vote there, within_by 63 rest vote (nat_lt 64 (length rest)) refl rest_up (All-contains (λ x. x.place ≤ 65535) r.votes vote places (from_in r.votes from vote there)) h);
-      whole = λ s low high. whole_by 63 rest s (nat_lt 64 (length rest)) refl rest_up high ∙ said_from r.votes from s low;
+          let there : Contains rest vote = first_in 8 rest vote h in
+          (places_from r.votes from vote there, within_by 7 rest vote (nat_lt 8 (length rest)) refl rest_up (All-contains (λ x. x.place ≤ 65535) r.votes vote places (from_in r.votes from vote there)) h);
+      whole = λ s low high. whole_by 7 rest s (nat_lt 8 (length rest)) refl rest_up high ∙ said_from r.votes from s low;
     }

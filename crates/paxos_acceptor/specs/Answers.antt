@@ -31,13 +31,13 @@ votes_from from votes = filter (λ vote. nat_le from vote.place) votes
 abbrev pub behind_last : List Vote → ℕ
 behind_last votes = option_map_or (λ vote. vote.place + 1) (slice_get votes (length votes - 1)) 0
 
--- up to where a part speaks that reports the first 64 of these votes: over all places, unless there are more
+-- up to where a part speaks that reports the first 8 of these votes: over all places, unless there are more
 abbrev pub upto_of : List Vote → ℕ
-upto_of votes = if nat_lt 64 (length votes) then behind_last (take 64 votes) else 65536
+upto_of votes = if nat_lt 8 (length votes) then behind_last (take 8 votes) else 65536
 
 -- the part of a promise that speaks of the places from this one on
 abbrev pub part_of : Record → Ballot → ℕ → Body
-part_of r b from = Promise b from (upto_of (votes_from from r.votes)) (take 64 (votes_from from r.votes))
+part_of r b from = Promise b from (upto_of (votes_from from r.votes)) (take 8 (votes_from from r.votes))
 
 -- by the greater promised ballot, if there is one, which refuses; where it is this ballot that is promised nothing is saved
 abbrev pub prepared : Option Ballot → Record → Ballot → ℕ → Answer

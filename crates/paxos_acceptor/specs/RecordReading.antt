@@ -21,7 +21,7 @@ unfoldable pub header_at : Me → List ℕ → Result (List ℕ) WireFault
 header_at me bytes = do
   p ← behind_byte 80 bytes
   r ← behind_byte 82 p
-  version ← behind_byte 1 r
+  version ← behind_byte 2 r
   node ← behind_byte me.node version
   size ← behind_byte me.group.size node
   session ← number_at size

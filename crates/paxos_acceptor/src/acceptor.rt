@@ -1,5 +1,6 @@
 //! An acceptor.
 ghost use Rattle.std.specs.Prelude.{◌≡◌, ◌≢◌, ◌↔◌, false, None, Some, IfOk, IfErr, IsErrOf, MatchResult};
+ghost use Rattle.paxos_msg.specs.declared.message.Body.TheVariants.{Accepted};
 ghost use Rattle.paxos_msg.specs.declared.record.Change.TheVariants.{Start};
 ghost use Rattle.paxos_msg.specs.Fits.{IsBallot, IsPlace, IsValue};
 ghost use Rattle.paxos_acceptor.specs.Answers.{accept_of, prepare_of};
@@ -85,6 +86,17 @@ fn over<S: Store>(
     })
 }
 
+/// The answer that tells a vote.
+fn accepted(vote: &Vote) -> Body
+    ensures { result ≡ Accepted vote.now.ballot vote.now.place vote.now.value }
+{
+    Body::Accepted {
+        ballot: vote.ballot,
+        place: vote.place,
+        value: vote.value,
+    }
+}
+
 impl<S: Store> Acceptor<S> {
     /// Loads the store's record. `Memory`, `Store` and `BadRecord` are what the load met; `BadRecord`, which comes last, is also
     /// a record out of its ranges. A refusal gives the store back.
@@ -145,7 +157,7 @@ impl<S: Store> Acceptor<S> {
     }
 
     /// Answers a Prepare: promises the ballot, unless a greater one is promised, and reports the votes at places from `from` on, at
-    /// most 64 of them. A promise that is new is saved before it is answered. A refusal takes no memory.
+    /// most 8 of them. A promise that is new is saved before it is answered. A refusal takes no memory.
     pub fn prepare(&mut self, ballot: Ballot, from: u32) -> Result<Body, AcceptorFault>
         requires ballot { IsBallot self.old.me.group.size ballot }
         ensures answer { IfOk result (λ body. body ≡ (prepare_of self.old.kept ballot from).says) }
@@ -209,15 +221,11 @@ impl<S: Store> Acceptor<S> {
             ballot,
             value,
         };
-        let saved = save_vote(&mut self.store, &mut self.is_closed, &mut votes, vote);
+        let saved = save_vote(&mut self.store, &mut self.is_closed, &mut votes, &vote);
         self.record.votes = Votes::new(votes);
         saved?;
         self.record.promised = Some(ballot);
-        Ok(Body::Accepted {
-            ballot,
-            place,
-            value,
-        })
+        Ok(accepted(&vote))
     }
 
     /// The store as it is.

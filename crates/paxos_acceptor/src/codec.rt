@@ -1,5 +1,5 @@
 //! A record as bytes.
-ghost use Rattle.std.specs.Prelude.{◌≡◌, ◌↔◌, ◌++◌, ◌^◌, ◌<◌, ◌≤◌, ℕ, List, length, IfOk, OnOk, IsErrOf, IsTrue, OnErr, Ok, Err, Some};
+ghost use Rattle.std.specs.Prelude.{◌≡◌, ◌↔◌, ◌++◌, ◌*◌, ◌^◌, ◌<◌, ◌≤◌, ℕ, List, length, IfOk, OnOk, IsErrOf, IsTrue, OnErr, Ok, Err, Some};
 ghost use Rattle.paxos_msg.specs.declared.record.Record.{Record};
 ghost use Rattle.paxos_msg.specs.Grammar.{AreBytes};
 ghost use Rattle.paxos_msg.specs.Reading.{Gives, number_at};
@@ -65,7 +65,7 @@ fn after_header(me: Me, bytes: &[u8]) -> Result<&[u8], WireFault>
 {
     let rest = after_byte(b'P', bytes)?;
     let rest = after_byte(b'R', rest)?;
-    let rest = after_byte(1, rest)?;
+    let rest = after_byte(2, rest)?;
     let rest = after_byte(me.node, rest)?;
     let rest = after_byte(me.group.size, rest)?;
     let (session, rest) = number_of(rest)?;
@@ -186,9 +186,9 @@ fn record_is_spelling()
 
 /// Writes the bytes that stand before a record.
 fn put_header(me: Me, out: &mut Vec<u8>) -> Result<(), AllocError>
-    ensures { OnOk result (out.new.items ≡ out.old.items ++ header_bytes me) }
+    ensures { OnOk result (out.new.items ≡ out.old.items ++ header_bytes 2 me) }
 {
-    out.extend_from_slice(&[b'P', b'R', 1, me.node, me.group.size])?;
+    out.extend_from_slice(&[b'P', b'R', 2, me.node, me.group.size])?;
     out.reserve(4)?;
     put_number(me.group.session, out);
     Ok(())
@@ -210,11 +210,11 @@ fn put_promised(promised: Option<Ballot>, out: &mut Vec<u8>) -> Result<(), Alloc
 
 /// Writes how many votes there are, and the votes.
 fn put_kept(votes: &[Vote], out: &mut Vec<u8>) -> Result<(), AllocError>
-    requires { length votes.now < 2 ^ 32 }
+    requires few { length votes.now < 2 ^ 32 }
+    requires short { length (votes_bytes votes.now) ≤ 52 * length votes.now }
     ensures { OnOk result (out.new.items ≡ out.old.items ++ (number_bytes (length votes.now) ++ votes_bytes votes.now)) }
 {
-    votes_are_short();
-    out.reserve(4 + 20 * votes.len())?;
+    out.reserve(4 + 52 * votes.len())?;
     put_number(votes.len() as u32, out);
     put_votes(votes, out);
     Ok(())
@@ -226,7 +226,7 @@ pub fn record_encode(alloc: Global, kept: &Record, me: Me) -> Result<Vec<u8>, St
     ensures ok { IfOk result (λ bytes. bytes.items ≡ record_bytes me kept.now) }
     ensures err { OnErr result (result ≡ Err StoreFault.Memory) }
 {
-    few_votes();
+    kept_votes_are_few();
     let mut out = Vec::new(alloc);
     put_header(me, &mut out)?;
     out.reserve(4)?;
@@ -236,7 +236,10 @@ pub fn record_encode(alloc: Global, kept: &Record, me: Me) -> Result<Vec<u8>, St
     Ok(out)
 }
 
-/// A record has at most 65,536 votes.
-fn few_votes()
-    ensures { (size : ℕ) (r : Record) → IsRecord size r → length r.votes ≤ 65536 }
-{}
+/// A record has at most 65,536 votes, each of which is spelled with at most 52 bytes.
+fn kept_votes_are_few()
+    ensures few { (size : ℕ) (r : Record) → IsRecord size r → length r.votes ≤ 65536 }
+    ensures short { (size : ℕ) (r : Record) → IsRecord size r → length (votes_bytes r.votes) ≤ 52 * length r.votes }
+{
+    votes_are_short();
+}

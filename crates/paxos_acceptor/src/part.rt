@@ -8,7 +8,7 @@ use paxos_msg::{Ballot, Body, Vote, Votes};
 use std::alloc::{AllocError, Global};
 
 /// How many votes a part reports at most.
-const MOST_VOTES: usize = 64;
+const MOST_VOTES: usize = 8;
 
 /// How many votes are at places before this one: by one search.
 fn count_before(votes: &[Vote], from: u32) -> usize
@@ -49,7 +49,7 @@ fn first_votes(alloc: Global, votes: &[Vote], most: usize) -> Result<Vec<Vote>, 
     votes.iter().copied().take(most).collect(alloc)
 }
 
-/// The part that speaks of the places from `first` on: it reports the first 64 votes there.
+/// The part that speaks of the places from `first` on: it reports the first 8 votes there.
 pub(crate) fn part_from(
     alloc: Global,
     ballot: Ballot,
@@ -58,7 +58,7 @@ pub(crate) fn part_from(
 ) -> Result<Body, AllocError>
     requires in_order { IsAscending votes.now }
     requires places { All (λ vote. vote.place ≤ 65535) votes.now }
-    ensures { IfOk result (λ part. part ≡ body.Promise ballot first (upto_of (votes_from first votes.now)) (take 64 (votes_from first votes.now))) }
+    ensures { IfOk result (λ part. part ≡ body.Promise ballot first (upto_of (votes_from first votes.now)) (take 8 (votes_from first votes.now))) }
 {
     let remaining = &votes[count_before(votes, first)..];
     Ok(Body::Promise {

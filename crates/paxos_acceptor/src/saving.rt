@@ -36,19 +36,19 @@ pub(crate) fn save_vote<S: Store>(
     store: &mut S,
     is_closed: &mut bool,
     votes: &mut Vec<Vote>,
-    vote: Vote,
+    vote: &Vote,
 ) -> Result<(), AcceptorFault>
     requires open { is_closed.old ≡ false }
     requires in_order { IsAscending votes.old.items }
     requires ascending { S.honest → IsAscending (S.state store.old).stored.votes }
-    ensures saves { Saves S.honest S.fails_at_will (S.state store.old) (S.state store.new) is_closed.new result (changed (S.state store.old).stored (Ballotted vote.place vote.ballot vote.value)) }
-    ensures ok { OnOk result (votes.new.items ≡ with_vote votes.old.items vote) }
+    ensures saves { Saves S.honest S.fails_at_will (S.state store.old) (S.state store.new) is_closed.new result (changed (S.state store.old).stored (Ballotted vote.now.place vote.now.ballot vote.now.value)) }
+    ensures ok { OnOk result (votes.new.items ≡ with_vote votes.old.items vote.now) }
     ensures err { OnErr result (votes.new.items ≡ votes.old.items) }
 {
     votes.reserve(1)?;
     let change = Change::Ballotted(vote.place, vote.ballot, vote.value);
     save_to(store, is_closed, change)?;
-    match insert_vote(votes, vote) {
+    match insert_vote(votes, *vote) {
         Ok(()) => Ok(()),
         Err(_) => unreachable!(),
     }

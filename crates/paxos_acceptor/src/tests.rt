@@ -5,7 +5,7 @@ use crate::{
     Acceptor, AcceptorFault, FileStore, Me, MemoryStore, Store, StoreFault, record_decode,
     record_encode,
 };
-use paxos_msg::{Ballot, Body, Change, Group, Record, Value, Vote, Votes};
+use paxos_msg::{Ballot, Body, Change, Characters, Group, Record, Value, Vote, Votes};
 use std::alloc::Global;
 use std::fs;
 use std::process::Abort;
@@ -57,7 +57,7 @@ fn part_of(answer: Result<Body, AcceptorFault>) -> Option<(u32, u32, Votes)> {
     }
 }
 
-/// After 65 votes from place 0 on a promise has two parts.
+/// Of 65 votes from place 0 on a promise has nine parts.
 #[test]
 fn promise_bytes_and_parts(rt: HostRuntime) -> Result<(), Fail> {
     let mut votes = Vec::new(rt.alloc());
@@ -72,7 +72,7 @@ fn promise_bytes_and_parts(rt: HostRuntime) -> Result<(), Fail> {
     let mut acceptor = opened(&rt, rt.alloc(), MemoryStore::new(record));
 
     let (first, upto, votes) = part_of(acceptor.prepare(SECOND, 0)).expect(&rt, "a promise");
-    assert_eq!(rt; (first, upto, votes.as_slice().len()), (0, 64, 64));
+    assert_eq!(rt; (first, upto, votes.as_slice().len()), (0, 8, 8));
 
     let answer = acceptor.accept(SECOND, 70, Value::Noop);
     let is_accepted = match answer {
@@ -81,6 +81,8 @@ fn promise_bytes_and_parts(rt: HostRuntime) -> Result<(), Fail> {
     };
     assert!(rt; is_accepted);
 
+    let (first, upto, votes) = part_of(acceptor.prepare(SECOND, 56)).expect(&rt, "a promise");
+    assert_eq!(rt; (first, upto, votes.as_slice().len()), (56, 64, 8));
     let (first, upto, votes) = part_of(acceptor.prepare(SECOND, 64)).expect(&rt, "a promise");
     assert_eq!(rt; (first, upto), (64, 65_536));
     let expected = [vote_for_none(64, FIRST), vote_for_none(70, SECOND)];
@@ -150,10 +152,10 @@ fn refuses_records(rt: &impl Abort, alloc: Global) -> Result<(), Fail> {
 }
 
 /// The record of one start, one promise and one vote, byte by byte.
-const BYTES: [u8; 42] = [
-    0x50, 0x52, 0x01, 0x02, 0x03, 0x00, 0x00, 0x00, 0x07, 0x00, 0x00, 0x00, 0x01, 0x00, 0x00, 0x00,
+const BYTES: [u8; 43] = [
+    0x50, 0x52, 0x02, 0x02, 0x03, 0x00, 0x00, 0x00, 0x07, 0x00, 0x00, 0x00, 0x01, 0x00, 0x00, 0x00,
     0x01, 0x01, 0x00, 0x00, 0x00, 0x01, 0x00, 0x00, 0x00, 0x00, 0x00, 0x00, 0x00, 0x01, 0x01, 0x01,
-    0x02, 0x00, 0x00, 0x00, 0x01, 0x00, 0x00, 0x00, 0x01, 0x48,
+    0x02, 0x00, 0x00, 0x00, 0x01, 0x00, 0x00, 0x00, 0x01, 0x01, 0x48,
 ];
 
 /// A record has one spelling, and other bytes are of none.
@@ -162,11 +164,11 @@ fn record_bytes(rt: HostRuntime) -> Result<(), Fail> {
     let vote = Vote {
         place: 0,
         ballot: FIRST,
-        value: Value::Key {
+        value: Value::Keys {
             node: 2,
             start: 1,
-            serial: 1,
-            byte: 0x48,
+            first: 1,
+            bytes: Characters::from(0x48),
         },
     };
     let record = record_decode(rt.alloc(), BYTES.as_slice(), ME)?;
@@ -175,7 +177,7 @@ fn record_bytes(rt: HostRuntime) -> Result<(), Fail> {
     let bytes = record_encode(rt.alloc(), &record, ME)?;
     assert_eq!(rt; bytes.as_slice(), BYTES.as_slice());
 
-    let shorter = record_decode(rt.alloc(), &BYTES[..41], ME).err();
+    let shorter = record_decode(rt.alloc(), &BYTES[..42], ME).err();
     assert_eq!(rt; shorter, Some(StoreFault::Bad));
     let mut longer = bytes;
     longer.push(0)?;

@@ -9,7 +9,7 @@ use std::alloc::{AllocError, Global};
 use std::marker::Model;
 
 /// How many votes a part of a promise reports at most.
-const PART_VOTES: usize = 64;
+const PART_VOTES: usize = 8;
 
 /// The vote to keep for each place, in ascending order of place. Votes are passed from the front on, each
 /// by one step; what was passed is taken out when the next part is heard.
@@ -69,9 +69,9 @@ impl KeptVotes {
         }
     }
 
-    /// Keeps these votes too, at most 64, one after another. After an error nothing has changed.
+    /// Keeps these votes too, at most 8, one after another. After an error nothing has changed.
     pub fn hear(&mut self, low: u32, votes: LentVotes<'_>) -> Result<(), AllocError>
-        requires { length votes ≤ 64 }
+        requires { length votes ≤ 8 }
         ensures ok { OnOk result (self.new ≡ heard low self.old votes.entry) }
         ensures err { OnErr result (self.new ≡ self.old) }
     {

@@ -188,13 +188,14 @@ impl Proposer {
         let Some(value) = self.next_value(offered) else {
             return Ok(None);
         };
-        self.values.push(value)?;
-        self.kept.pass(place);
-        Ok(Some(Vote {
+        let proposal = Vote {
             place,
             ballot: self.ballot,
             value,
-        }))
+        };
+        self.values.push(proposal.value)?;
+        self.kept.pass(place);
+        Ok(Some(proposal))
     }
 
     /// Makes room for 17 more proposals: none of the next 17 `next_accept` is `Memory`.

@@ -2,7 +2,9 @@
 ghost use Rattle.std.specs.Prelude.{◌≡◌, ◌≤◌};
 
 use crate::{Proposer, ProposerFault, next_ballot};
-use paxos_msg::{Ballot, Body, BodyView, Group, Msg, Value, Vote, Votes, decode, encode, fits};
+use paxos_msg::{
+    Ballot, Body, BodyView, Characters, Group, Msg, Value, Vote, Votes, decode, encode, fits,
+};
 use std::alloc::Global;
 use std::test::Fail;
 
@@ -14,11 +16,11 @@ const GROUP: Group = Group {
 
 /// A key of the first start of the node.
 fn key(node: u8, serial: u32, byte: u8) -> Value {
-    Value::Key {
+    Value::Keys {
         node,
         start: 1,
-        serial,
-        byte,
+        first: serial,
+        bytes: Characters::from(byte),
     }
 }
 

@@ -1,0 +1,8 @@
+use Rattle.paxos_acceptor.proofs.RecordRead.{few_votes, short_votes}
+use Rattle.paxos_acceptor.proofs.codec.kept_votes_are_few.Goals as goal
+
+pub returns-clause-few : goal.returns-clause-few
+returns-clause-few c = few_votes
+
+pub returns-clause-short : goal.returns-clause-short
+returns-clause-short c = short_votes c.votes_are_short.ensures.short
