@@ -7,7 +7,8 @@ use Rattle.std.specs.FinMap.{get, empty, get-empty}
 use Rattle.paxos_msg.specs.declared.ballot.Ballot.{Ballot}
 use Rattle.paxos_msg.specs.declared.value.Value.{Value}
 use Rattle.paxos_msg.specs.declared.message.Body.TheVariants.{Accepted, Tell}
-use Rattle.paxos_msg.specs.Messages.{Sent, IsSent, IsSaid}
+use Rattle.paxos_msg.specs.Messages.{IsSent, IsSaid}
+use Rattle.paxos_msg.specs.Batches.{Sent}
 use Rattle.paxos_learner.specs.Tallies.{Tally, begun, has_node, no_nodes, tallied, with_node}
 use Rattle.paxos_learner.specs.Learner.{Learner, learn, new_learner, on_accepted, on_tell}
 use Rattle.paxos_learner.specs.Backed.{IsBacked, IsTallied, MayLearn, Stays}

@@ -2,9 +2,9 @@
 use Rattle.std.specs.Prelude.{◌≡◌, ℕ, ◌⊎◌, IsTrue, Some}
 use Rattle.std.specs.FinMap.{get}
 use Rattle.paxos_msg.specs.declared.value.Value.{Value}
-use Rattle.paxos_msg.specs.declared.message.Body.{Body}
+use Rattle.paxos_msg.specs.Batches.{Body, Sent}
 use Rattle.paxos_msg.specs.declared.message.Body.TheVariants.{Accepted, Tell}
-use Rattle.paxos_msg.specs.Messages.{Sent, IsSent, IsSaid}
+use Rattle.paxos_msg.specs.Messages.{IsSent, IsSaid}
 use Rattle.paxos_msg.specs.Chosen.{IsChosen}
 use Rattle.paxos_learner.specs.Tallies.{Tally, has_node}
 use Rattle.paxos_learner.specs.Learner.{Learner}

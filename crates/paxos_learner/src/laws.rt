@@ -8,7 +8,8 @@ ghost use Rattle.paxos_msg.specs.declared.message.Body.TheVariants.{Accepted, Te
 ghost use Rattle.paxos_msg.specs.declared.value.Value.{Value};
 ghost use Rattle.paxos_msg.specs.Fits.{IsValue};
 ghost use Rattle.paxos_msg.specs.Keys.{Key};
-ghost use Rattle.paxos_msg.specs.Messages.{IsSaid, IsSent, Sent};
+ghost use Rattle.paxos_msg.specs.Messages.{IsSaid, IsSent};
+ghost use Rattle.paxos_msg.specs.Batches.{Sent};
 ghost use Rattle.paxos_learner.specs.Backed.{IsBacked, Stays};
 ghost use Rattle.paxos_learner.specs.Growth.{AreInWindow, HasLearnedMore, IsInRange};
 ghost use Rattle.paxos_learner.specs.Input.{front_values, input_of, keys_in_order, learned_input, values_below};

@@ -21,8 +21,8 @@ fn put_byte(byte: u8, out: &mut Vec<u8>)
     out.push_reserved(byte);
 }
 
-/// Writes bytes.
-fn put_bytes(bytes: &[u8], out: &mut Vec<u8>)
+/// Writes bytes, one after the other.
+fn put_each(bytes: &[u8], out: &mut Vec<u8>)
     requires room { vec_len out.old + length bytes.now ≤ vec_capacity out.old }
     ensures items { out.new.items ≡ out.old.items ++ bytes.now }
     ensures len { vec_len out.new ≡ vec_len out.old + length bytes.now }
@@ -31,6 +31,28 @@ fn put_bytes(bytes: &[u8], out: &mut Vec<u8>)
     for byte in bytes {
         out.push_reserved(*byte);
     }
+}
+
+/// Writes bytes, eight at a time: the length of the vector then stays in a register for eight of them.
+fn put_bytes(bytes: &[u8], out: &mut Vec<u8>)
+    requires room { vec_len out.old + length bytes.now ≤ vec_capacity out.old }
+    ensures items { out.new.items ≡ out.old.items ++ bytes.now }
+    ensures len { vec_len out.new ≡ vec_len out.old + length bytes.now }
+    ensures capacity { vec_capacity out.new ≡ vec_capacity out.old }
+{
+    let mut rest = bytes;
+    while let [a, b, c, d, e, f, g, h, behind @ ..] = rest {
+        out.push_reserved(*a);
+        out.push_reserved(*b);
+        out.push_reserved(*c);
+        out.push_reserved(*d);
+        out.push_reserved(*e);
+        out.push_reserved(*f);
+        out.push_reserved(*g);
+        out.push_reserved(*h);
+        rest = behind;
+    }
+    put_each(rest, out);
 }
 
 /// Writes a number behind what the vector holds: four bytes, its high byte first, for which it has to have

@@ -5,7 +5,8 @@ use Rattle.std.proofs.lemmas.List.{length-replicate, get_or-replicate, get_or_pa
 use Rattle.paxos_msg.specs.declared.ballot.Ballot.{Ballot}
 use Rattle.paxos_msg.specs.declared.value.Value.{Value}
 use Rattle.paxos_msg.specs.declared.message.Body.TheVariants.{Accept}
-use Rattle.paxos_msg.specs.Messages.{Sent, IsSaid}
+use Rattle.paxos_msg.specs.Messages.{IsSaid}
+use Rattle.paxos_msg.specs.Batches.{Sent}
 use Rattle.paxos_proposer.specs.Proposer.{begun, covers}
 use Rattle.paxos_proposer.specs.Backed.{IsBacked}
 

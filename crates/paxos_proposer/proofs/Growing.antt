@@ -2,11 +2,9 @@
 use Rattle.std.proofs.Common.{ℕ, ◌++◌, [], ◌∷◌, Bool, Option}
 use Rattle.std.proofs.lemmas.List.Elements.{Contains-append_left}
 use Rattle.paxos_msg.specs.declared.ballot.Ballot.{Ballot}
-use Rattle.paxos_msg.specs.declared.value.Vote.{Vote}
-use Rattle.paxos_msg.specs.declared.message.Body.{Body}
+use Rattle.paxos_msg.specs.Batches.{Body, Msg, Sent, Vote}
 use Rattle.paxos_msg.specs.declared.message.Body.TheVariants.{Promise, Accept}
-use Rattle.paxos_msg.specs.declared.message.Msg.{Msg}
-use Rattle.paxos_msg.specs.Messages.{Sent, IsSent, IsPromised, vote_at}
+use Rattle.paxos_msg.specs.Messages.{IsSent, IsPromised, vote_at}
 use Rattle.paxos_proposer.specs.Proposer.{Proposer, covers}
 use Rattle.paxos_proposer.specs.Backed.{IsHeard, IsBacked, IsQuiet}
 

@@ -8,7 +8,7 @@ use Rattle.paxos_msg.specs.declared.ballot.Ballot.{Ballot}
 use Rattle.paxos_msg.specs.declared.message.Body.TheVariants.{Accept, Promise}
 use Rattle.paxos_msg.specs.declared.value.Value.{Value}
 use Rattle.paxos_msg.specs.declared.value.Value.TheVariants.{Noop}
-use Rattle.paxos_msg.specs.declared.value.Vote.{Vote}
+use Rattle.paxos_msg.specs.Batches.{Vote}
 use Rattle.paxos_msg.specs.Fits.{AreVotes, IsBallot, IsBody, IsPlace, IsValue}
 use Rattle.paxos_msg.specs.Messages.{vote_at}
 use Rattle.paxos_proposer.specs.Proposer.{Proposer, after_part, begun, coverage_of, heard, is_covered, is_kept_from, next_of, next_value, proposed_at, proposing, rises, value_or}

@@ -5,11 +5,11 @@ use Rattle.std.proofs.lemmas.Bool.Decides.{nat_tests}
 use Rattle.std.proofs.lemmas.List.{get_or-set_same, get_or-set_other, length-set}
 use Rattle.std.proofs.lemmas.Option.{IfSome_then}
 use Rattle.paxos_msg.specs.declared.ballot.Ballot.{Ballot}
-use Rattle.paxos_msg.specs.declared.value.Vote.{Vote}
+use Rattle.paxos_msg.specs.Batches.{Sent, Vote}
 use Rattle.paxos_msg.specs.declared.message.Body.TheVariants.{Promise}
 use Rattle.paxos_msg.specs.Ballots.{IsAtMost}
 use Rattle.paxos_msg.specs.Fits.{AreVotes, IsBody}
-use Rattle.paxos_msg.specs.Messages.{Sent, IsSent, IsPromised, vote_at}
+use Rattle.paxos_msg.specs.Messages.{IsSent, IsPromised, vote_at}
 use Rattle.paxos_msg.specs.Sending.{IsBest, IsGreatest}
 use Rattle.paxos_msg.specs.Tests.{ballot_lt}
 use Rattle.paxos_proposer.specs.Proposer.{Proposer, covers, coverage_of, heard, next_of, rises, after_part}

@@ -5,14 +5,12 @@ use Rattle.std.proofs.lemmas.List.{length_push}
 use Rattle.std.proofs.lemmas.List.Elements.{Contains-push, Contains-push_cases}
 use Rattle.std.proofs.lemmas.Option.{slice_get_past}
 use Rattle.paxos_msg.specs.declared.message.Body.TheVariants.{Accept}
-use Rattle.paxos_msg.specs.declared.message.Msg.{Msg}
-use Rattle.paxos_msg.specs.declared.record.Record.{Record}
+use Rattle.paxos_msg.specs.Batches.{IsFree, IsSafe, MaySend, Msg, Record, Sent, Vote}
 use Rattle.paxos_msg.specs.declared.value.Value.{Value}
 use Rattle.paxos_msg.specs.declared.value.Value.TheVariants.{Noop}
-use Rattle.paxos_msg.specs.declared.value.Vote.{Vote}
 use Rattle.paxos_msg.specs.Keys.{Key}
-use Rattle.paxos_msg.specs.Messages.{Sent, IsSent, IsSaid, vote_at}
-use Rattle.paxos_msg.specs.Sending.{IsFree, IsSafe, IsUnproposed, MaySend}
+use Rattle.paxos_msg.specs.Messages.{IsSent, IsSaid, vote_at}
+use Rattle.paxos_msg.specs.Sending.{IsUnproposed}
 use Rattle.paxos_proposer.specs.Proposer.{Proposer, covers, is_covered, is_kept_from, value_or, next_of, next_value, proposed_at, proposing}
 use Rattle.paxos_proposer.specs.Backed.{IsBacked}
 use Rattle.paxos_proposer.proofs.Growing.{stays_with, heard_stays}

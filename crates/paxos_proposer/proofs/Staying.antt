@@ -1,10 +1,9 @@
 -- What stays of a proposer, whatever it hears and proposes.
 use Rattle.std.proofs.Common.{◌≡◌, ◌∙◌, ℕ, Bool, true, false, List, Option, Some, None, if◌then◌else◌, inl, inr, refl}
 use Rattle.std.proofs.lemmas.Bool.{cases_eq}
-use Rattle.paxos_msg.specs.declared.message.Body.{Body}
+use Rattle.paxos_msg.specs.Batches.{Body, Vote}
 use Rattle.paxos_msg.specs.declared.message.Body.TheVariants as body
 use Rattle.paxos_msg.specs.declared.value.Value.{Value}
-use Rattle.paxos_msg.specs.declared.value.Vote.{Vote}
 use Rattle.paxos_proposer.specs.Proposer.{Proposer, next_of, on_promise, proposed_at, proposing, rises}
 use Rattle.paxos_proposer.proofs.Proposals.{none_next, proposed_there}
 

@@ -4,8 +4,7 @@ use Rattle.std.specs.List.{list_any}
 use Rattle.paxos_msg.specs.declared.ballot.Ballot.{Ballot}
 use Rattle.paxos_msg.specs.declared.value.Value.{Value}
 use Rattle.paxos_msg.specs.declared.value.Value.TheVariants.{Noop}
-use Rattle.paxos_msg.specs.declared.value.Vote.{Vote}
-use Rattle.paxos_msg.specs.declared.message.Body.{Body}
+use Rattle.paxos_msg.specs.Batches.{Body, Vote}
 use Rattle.paxos_msg.specs.declared.message.Body.TheVariants as body
 use Rattle.paxos_msg.specs.Messages.{vote_at}
 use Rattle.paxos_msg.specs.Records.{with_vote}

@@ -1,6 +1,6 @@
 -- What contracts see of a proposer, and what always holds of it.
 use Rattle.std.specs.Prelude.{◌≡◌, ℕ, ◌+◌, ◌≤◌, All, List, drop, length, slice_index}
-use Rattle.paxos_msg.specs.declared.value.Vote.{Vote}
+use Rattle.paxos_msg.specs.Batches.{Vote}
 use Rattle.paxos_msg.specs.Messages.{IsAscending}
 use Rattle.paxos_proposer.specs.Proposer.{Proposer, next_of}
 

@@ -22,7 +22,7 @@ pub(crate) struct KeptVotes {
 
 impl Model for KeptVotes {
     ghost use Rattle.std.specs.Prelude.{List, drop};
-    ghost use Rattle.paxos_msg.specs.declared.value.Vote.{Vote};
+    ghost use Rattle.paxos_msg.specs.Batches.{Vote};
     ghost use Rattle.paxos_proposer.specs.States.{AreLeft};
 
     ghost Value = { List Vote };

@@ -1,15 +1,12 @@
 //! The laws of a proposer, over the definitions alone: what it has heard lets it send what it proposes.
 ghost use Rattle.std.specs.Prelude.{◌≡◌, ◌≤◌, ◌++◌, [], ◌∷◌, ℕ, List, Option, Some, IfSome};
 ghost use Rattle.paxos_msg.specs.declared.ballot.Ballot.{Ballot};
-ghost use Rattle.paxos_msg.specs.declared.message.Body.{Body};
+ghost use Rattle.paxos_msg.specs.Batches.{Body, IsFree, MaySend, Record, Sent, Vote};
 ghost use Rattle.paxos_msg.specs.declared.message.Body.TheVariants.{Accept, Promise};
-ghost use Rattle.paxos_msg.specs.declared.record.Record.{Record};
 ghost use Rattle.paxos_msg.specs.declared.value.Value.{Value};
-ghost use Rattle.paxos_msg.specs.declared.value.Vote.{Vote};
 ghost use Rattle.paxos_msg.specs.Fits.{IsBallot, IsBody, IsValue};
 ghost use Rattle.paxos_msg.specs.Keys.{Key};
-ghost use Rattle.paxos_msg.specs.Messages.{IsSaid, IsSent, Sent};
-ghost use Rattle.paxos_msg.specs.Sending.{IsFree, MaySend};
+ghost use Rattle.paxos_msg.specs.Messages.{IsSaid, IsSent};
 ghost use Rattle.paxos_proposer.specs.Backed.{IsBacked, IsQuiet};
 ghost use Rattle.paxos_proposer.specs.Ranges.{IsInRange};
 ghost use Rattle.paxos_proposer.specs.Proposer.{Proposer, after_part, begun, next_of, next_value, on_promise, proposed_at, proposing};

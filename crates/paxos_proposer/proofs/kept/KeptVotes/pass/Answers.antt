@@ -2,7 +2,7 @@
 use Rattle.std.proofs.Common.{◌≡◌, ◌+◌, ◌≤◌, ◌∙◌, List, Some, ap, slice_get, subst, sym}
 use Rattle.std.specs.Prelude.{All}
 use Rattle.std.proofs.lemmas.Bool.{ltb-true}
-use Rattle.paxos_msg.specs.declared.value.Vote.{Vote}
+use Rattle.paxos_msg.specs.Batches.{Vote}
 use Rattle.paxos_proposer.specs.Proposer.{votes_from}
 use Rattle.paxos_proposer.proofs.Passing.{get_at, pass_none, pass_one}
 use Rattle.paxos_proposer.proofs.kept.KeptVotes.pass.Goals as goal
