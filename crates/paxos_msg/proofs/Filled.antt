@@ -1,5 +1,5 @@
 -- Characters that were copied over zeros.
-use Rattle.std.proofs.Common.{◌≡◌, ℕ, ◌<◌, ◌≤◌, ◌-◌, ◌++◌, List, drop, length, replicate, take, refl, sym, arith}
+use Rattle.std.proofs.Common.{◌≡◌, ℕ, ◌<◌, ◌≤◌, ◌-◌, ◌++◌, List, drop, length, replicate, take, refl, arith}
 use Rattle.std.proofs.lemmas.List.{drop-replicate, length-append, length-replicate, take_at}
 use Rattle.paxos_msg.specs.Characters.{IsFilled}
 

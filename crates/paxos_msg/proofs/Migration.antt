@@ -1,5 +1,5 @@
 -- What grew goes on to have grown when values are replaced by others with the same keys.
-use Rattle.std.proofs.Common.{◌≡◌, ◌≢◌, ◌∙◌, ℕ, zero, suc, ◌==◌, inl, inr, Bool, true, false, IsTrue, List, [], ◌∷◌, ◌++◌, map, Option, Some, None, IfSome, MatchOption, Contains, if◌then◌else◌, subst, sym, ap, refl, arith}
+use Rattle.std.proofs.Common.{◌≡◌, ◌∙◌, ℕ, zero, suc, inl, inr, Bool, List, [], ◌∷◌, map, Option, Some, None, IfSome, MatchOption, Contains, subst, sym, ap, refl, arith}
 use Rattle.std.specs.Option.{option_map}
 use Rattle.std.proofs.lemmas.Bool.{cases_eq, eq-eqb, ne_eqb}
 use Rattle.std.proofs.lemmas.Bool.Decides.{nat_tests}
@@ -15,11 +15,11 @@ use Rattle.paxos_msg.specs.declared.message.Msg.{Msg}
 use Rattle.paxos_msg.specs.Ballots.{IsAtMost}
 use Rattle.paxos_msg.specs.Chosen.{IsChosen}
 use Rattle.paxos_msg.specs.Growth.{Grew, nothing, sends, saves}
-use Rattle.paxos_msg.specs.Keys.{AreOwnKeys, Key, Values}
+use Rattle.paxos_msg.specs.Keys.{Key, Values}
 use Rattle.paxos_msg.specs.Messages.{IsPromised, IsSaid, IsSent, Sent, vote_at}
 use Rattle.paxos_msg.specs.Migration.{body_with, change_with, msg_with, record_with, sent_with, vote_with}
 use Rattle.paxos_msg.specs.Records.{changed, IsSaved, MaySave, with_vote}
-use Rattle.paxos_msg.specs.Sending.{IsBest, IsFree, IsGreatest, IsReport, IsSafe, IsTyped, IsUnproposed, MaySend}
+use Rattle.paxos_msg.specs.Sending.{IsBest, IsFree, IsReport, IsSafe, IsTyped, IsUnproposed, MaySend}
 
 -- ---- elements
 

@@ -1,5 +1,5 @@
 -- Values: what is read was written, and what is written is read.
-use Rattle.std.proofs.Common.{◌≡◌, ◌↔◌, ◌∙◌, IsTrue, ℕ, zero, suc, ◌+◌, ◌^◌, ◌<◌, ◌≤◌, Bool, true, false, not, ◌&&◌, eqb, ltb, leb, List, [], ◌∷◌, ◌++◌, length, take, drop, slice_index, Ok, refl, sym, ap, subst, arith}
+use Rattle.std.proofs.Common.{◌≡◌, ◌↔◌, ◌∙◌, IsTrue, ℕ, zero, suc, ◌+◌, ◌^◌, ◌<◌, ◌≤◌, Bool, true, false, not, ◌&&◌, eqb, ltb, leb, List, [], ◌∷◌, ◌++◌, length, take, drop, Ok, refl, sym, ap, subst, arith}
 use Rattle.std.proofs.Math.Seq.{drop-append_seam, take-append_seam}
 use Rattle.std.proofs.lemmas.Bool.{eq-eqb, ne_eqb, eqb-true, le-ltb, lt-ltb, le-leb, ltb-false, ltb-true, leb-true, and_parts, not-false}
 use Rattle.std.proofs.lemmas.List.{length-append, length-take-le, take-append-drop}
@@ -9,7 +9,7 @@ use Rattle.paxos_msg.specs.declared.fault.WireFault.TheVariants as fault
 use Rattle.paxos_msg.specs.Fits.{IsBatch, IsCount, IsValue}
 use Rattle.paxos_msg.specs.Grammar.{AreBytes}
 use Rattle.paxos_msg.specs.Keys.{AreOwnKeys, batches}
-use Rattle.paxos_msg.specs.Reading.{byte_at, bytes_at, number_at, is_batch, is_node, characters_at, keys_at, tagged, value_at, own_keys_at}
+use Rattle.paxos_msg.specs.Reading.{byte_at, number_at, is_batch, is_node, characters_at, keys_at, tagged, value_at, own_keys_at}
 use Rattle.paxos_msg.specs.Spelling.{number_bytes, value_bytes}
 use Rattle.base.proofs.Steps.{bind_ok, guard_ok, unless_ok, ok_is}
 use Rattle.paxos_msg.proofs.Guards.{Takes, bytes_before, bytes_behind, takes_then, zero_false, false_zero, node_found, node_again}
