@@ -11,8 +11,10 @@ ghost use Rattle.paxos_msg.specs.Chosen.{IsChosen, IsChosenBy};
 ghost use Rattle.paxos_msg.specs.Keys.{Key, keys_of};
 ghost use Rattle.std.specs.Option.{option_to_list};
 ghost use Rattle.paxos_msg.specs.declared.record.Record as v1_record;
+ghost use Rattle.paxos_msg.specs.Fits.{IsValue};
 ghost use Rattle.paxos_msg.specs.Growth as v1_growth;
 ghost use Rattle.paxos_msg.specs.Messages as v1;
+ghost use Rattle.paxos_msg.specs.Version1.{IsSingle};
 ghost use Rattle.paxos_msg.specs.Migration.{as_batch, record_with, sent_with, single_keys};
 ghost use Rattle.paxos_msg.specs.Messages.{IsAscending, IsPromised, IsSaid, IsSent, messages_of, vote_at};
 ghost use Rattle.paxos_msg.specs.Records.{changed, empty_record, IsSaved, MaySave, Stored, with_vote};
@@ -184,13 +186,14 @@ pub fn restarts()
 
 /// A migration goes on with the growth. In version 1 a value was a key, or none. With each key as a batch of one, what grew then by the
 /// same rules of sending and saving has grown now, and what was chosen is chosen, so that agreement reaches over the migration. A batch of one
-/// has its key.
+/// has its key; and the values that fit and have at most one key are those of version 1, each as a batch of one.
 pub fn migration()
     ensures grew { (size : ℕ) (sent : v1.Sent (Option Key)) (records : ℕ → v1_record.Record (Option Key)) →
         v1_growth.Grew single_keys size sent records → Grew size (sent_with as_batch sent) (λ i. record_with as_batch (records i)) }
     ensures chosen { (size s : ℕ) (sent : v1.Sent (Option Key)) (v : Option Key) →
         IsChosen size sent s v → IsChosen size (sent_with as_batch sent) s (as_batch v) }
     ensures keys { (v : Option Key) → keys_of (as_batch v) ≡ option_to_list v }
+    ensures single { (size : ℕ) (v : Value) → IsValue size v → IsSingle v ↔ ((old : Option Key) × (v ≡ as_batch old)) }
 {}
 
 /// The law of agreement is not empty. In a group of three a key that was typed can be chosen. In a group
