@@ -1,5 +1,5 @@
 -- Keys as they are stored, and as they are seen.
-use Rattle.std.proofs.Common.{◌≡◌, ◌∙◌, ℕ, Bool, true, false, if◌then◌else◌, ◌||◌, List, [], ◌∷◌, ◌++◌, map, refl, ap}
+use Rattle.std.proofs.Common.{◌≡◌, ◌∙◌, ℕ, ◌==◌, ◌&&◌, Bool, true, false, if◌then◌else◌, ◌||◌, List, [], ◌∷◌, ◌++◌, map, refl, ap}
 use Rattle.std.proofs.lemmas.List.{map-append}
 use Rattle.std.specs.List.{list_any}
 use Rattle.indexmap.specs.IndexSet.{insert_key}
@@ -7,6 +7,21 @@ use Rattle.paxos_msg.specs.Keys.{Key}
 use Rattle.paxos_learner.specs.declared.keys.TypedKey.{TypedKey}
 use Rattle.paxos_learner.specs.Input.{same_key}
 use Rattle.paxos_learner.specs.Entered.{key_of}
+
+-- four tests hold in any order
+any_order : (a b c d : Bool) → c && (b && (a && d)) ≡ a && (b && (c && d))
+any_order true true true d = refl
+any_order true true false d = refl
+any_order true false true d = refl
+any_order true false false d = refl
+any_order false true true d = refl
+any_order false true false d = refl
+any_order false false true d = refl
+any_order false false false d = refl
+
+-- stored keys are compared field by field, from the serial on
+pub same_stored : (a b : TypedKey) → (a.serial == b.serial) && ((a.start == b.start) && ((a.node == b.node) && (a.byte == b.byte))) ≡ same_key (key_of a) (key_of b)
+same_stored a b = any_order (a.node == b.node) (a.start == b.start) (a.serial == b.serial) (a.byte == b.byte)
 
 -- a test that tells stored keys apart as they are told apart where they are seen
 module _ (test : TypedKey → TypedKey → Bool) (alike : (a b : TypedKey) → test a b ≡ same_key (key_of a) (key_of b)) where

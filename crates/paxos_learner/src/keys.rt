@@ -10,15 +10,16 @@ use paxos_msg::Value;
 use std::alloc::{AllocError, Global};
 use std::marker::Model;
 
-/// A typed character: the node, which of its starts, which key of that start, and the character.
+/// A typed character: the node, which of its starts, which key of that start, and the character. The widest
+/// field comes first, so that a key takes 16 bytes.
 #[derive(Clone, Copy, Debug, PartialEq, Eq, Hash)]
 pub struct TypedKey {
-    /// The node at which it was typed, 1 to the group's size.
-    pub node: u8,
-    /// Which start of that node it was, from 1 on.
-    pub start: u32,
     /// Which key of that start it is, from 1 on: at most 4,294,967,295 in a value that is in its ranges.
     pub serial: u64,
+    /// Which start of that node it was, from 1 on.
+    pub start: u32,
+    /// The node at which it was typed, 1 to the group's size.
+    pub node: u8,
     /// The character.
     pub byte: u8,
 }
@@ -79,9 +80,9 @@ impl KeySet {
         let mut serial = u64::from(first);
         for byte in bytes {
             self.insert_key(TypedKey {
-                node,
-                start,
                 serial,
+                start,
+                node,
                 byte: *byte,
             });
             serial += 1;
