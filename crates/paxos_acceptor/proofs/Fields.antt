@@ -24,4 +24,3 @@ others (x ∷ front) rest h = others front rest (λ i. h (suc i))
 
 pub others_of : (bytes front rest : List ℕ) → AreBytes bytes → bytes ≡ front ++ rest → AreBytes rest
 others_of bytes front rest h e = others front rest (subst AreBytes e h)
-

@@ -17,9 +17,7 @@ use paxos_msg::grammar::{
     ballot_is_spelling, number_is_spelling, value_v1_is_spelling, votes_are_short,
     votes_are_spelling,
 };
-use paxos_msg::{
-    Ballot, Record, Vote, fits_ballot, fits_votes, put_ballot, put_number, put_votes,
-};
+use paxos_msg::{Ballot, Record, Vote, fits_ballot, fits_votes, put_ballot, put_number, put_votes};
 use std::alloc::{AllocError, Global};
 
 /// Whether the votes may stand beside the promised ballot: without one there are none, and else their places

@@ -88,7 +88,12 @@ fn head_of(version: Version, me: Me, bytes: &[u8]) -> Result<(Head, &[u8]), Wire
 }
 
 /// The votes under the ballot, so many of them, which have to be all of the bytes. They stay in the bytes.
-fn lent_votes(group: Group, ballot: Ballot, count: u32, bytes: &[u8]) -> Result<LentVotes<'_>, WireFault>
+fn lent_votes(
+    group: Group,
+    ballot: Ballot,
+    count: u32,
+    bytes: &[u8],
+) -> Result<LentVotes<'_>, WireFault>
     ensures exact { Gives (λ x. x) result (votes_of Two group.size (Some ballot) count bytes.now) }
     ensures few { IfOk result (λ x. length x ≤ count) }
 {

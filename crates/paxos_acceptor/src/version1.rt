@@ -11,7 +11,12 @@ use std::alloc::Global;
 
 /// The vote at the front of the bytes, and the bytes behind it. Its place is `low` at least, and its ballot is `most` at most.
 #[tactic(auto, unfolding(crate::specs::RecordReading::vote_at_v1))]
-fn vote_of_v1(group: Group, most: Ballot, low: u32, bytes: &[u8]) -> Result<(Vote, &[u8]), WireFault>
+fn vote_of_v1(
+    group: Group,
+    most: Ballot,
+    low: u32,
+    bytes: &[u8],
+) -> Result<(Vote, &[u8]), WireFault>
     ensures exact { Gives (λ x. (x.0, x.1.now)) result (vote_at_v1 group.size most low bytes.now) }
     ensures place { IfOk result (λ x. x.0.place ≤ 65535) }
 {

@@ -156,7 +156,7 @@ fn promise_bytes_and_parts(rt: HostRuntime) -> Result<(), Fail> {
         Ok(Some(vote(65_535, 5, 3, offered)))
     );
     assert_eq!(rt;
-        leader.propose(Some(offered)),
+        leader.propose(Some(Value::Noop)),
         Err(ProposerFault::PlacesSpent)
     );
     assert_eq!(rt; leader.propose(None), Ok(None));
