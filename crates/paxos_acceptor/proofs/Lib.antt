@@ -4,4 +4,9 @@ pub mod Fitting
 pub mod Parts
 pub mod Reports
 pub mod Backing
+mod Fields
+mod FewVotes
+mod VotesV1
+mod Migrating
 mod RecordRead
+mod Apart

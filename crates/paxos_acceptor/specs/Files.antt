@@ -1,11 +1,17 @@
 -- A store in a file: what it has in memory of it.
-use Rattle.std.specs.Prelude.{◌≡◌, ℕ, Option, Some, None, IsSomeAnd, Result, OnOk, IsErrOf}
+use Rattle.std.specs.Prelude.{◌≡◌, ℕ, ◌⊎◌, List, Option, Some, None, IsSomeAnd, Result, OnOk, IsErrOf}
 use Rattle.paxos_msg.specs.declared.record.Record.{Record}
 use Rattle.paxos_msg.specs.declared.record.Change.{Change}
 use Rattle.paxos_msg.specs.Records.{changed}
 use Rattle.paxos_acceptor.specs.declared.me.Me.{Me}
 use Rattle.paxos_acceptor.specs.declared.store.StoreFault.{StoreFault}
 use Rattle.paxos_acceptor.specs.declared.store.StoreFault.TheVariants as fault
+use Rattle.paxos_acceptor.specs.Records.{Rec}
+use Rattle.paxos_acceptor.specs.Version1.{Rec1}
+
+-- the bytes of a file are the spelling of the record, in version 2 or in version 1
+abbrev pub IsWritten : Me → List ℕ → Record → Type 0
+IsWritten me bytes r = Rec me bytes r ⊎ Rec1 me bytes r
 
 -- whose record it is, the record that the file is known to have, if any, and how often the device failed
 pub record Filed : Type 0 where

@@ -1,5 +1,6 @@
 pub mod Answers
 pub mod Records
+pub mod Version1
 pub mod RecordReading
 pub mod Stores
 pub mod States

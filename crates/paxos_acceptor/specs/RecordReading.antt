@@ -1,5 +1,5 @@
 -- Reading a record from left to right. Which fault it has does not matter: whatever it is, the bytes are no record.
-use Rattle.std.specs.Prelude.{◌≡◌, ℕ, ◌==◌, not, ◌&&◌, List, [], ◌∷◌, length, Option, Some, None, Result, Ok, Err, IsErr, if◌then◌else◌}
+use Rattle.std.specs.Prelude.{◌≡◌, ℕ, zero, suc, ◌+◌, ◌==◌, nat_lt, not, ◌&&◌, List, [], ◌∷◌, length, Option, Some, None, Result, Ok, Err, IsErr, if◌then◌else◌}
 use Rattle.paxos_msg.specs.declared.ballot.Ballot.{Ballot}
 use Rattle.paxos_msg.specs.declared.value.Vote.{Vote}
 use Rattle.paxos_msg.specs.declared.record.Record.{Record}
@@ -7,7 +7,11 @@ use Rattle.paxos_msg.specs.declared.fault.WireFault.{WireFault}
 use Rattle.paxos_msg.specs.declared.fault.WireFault.TheVariants as fault
 use Rattle.base.specs.Steps.{◌>>=◌, unless}
 use Rattle.paxos_msg.specs.Reading.{number_at, ballot_at, votes_at}
+use Rattle.paxos_msg.specs.Tests.{ballot_lt}
+use Rattle.paxos_msg.specs.Version1.{value_at_v1}
 use Rattle.paxos_acceptor.specs.declared.me.Me.{Me}
+use Rattle.paxos_acceptor.specs.declared.version.Version.{Version}
+use Rattle.paxos_acceptor.specs.declared.version.Version.TheVariants.{One, Two}
 use Rattle.paxos_acceptor.specs.declared.store.StoreFault.{StoreFault}
 use Rattle.paxos_acceptor.specs.declared.store.StoreFault.TheVariants as store
 
@@ -16,13 +20,18 @@ abbrev pub behind_byte : ℕ → List ℕ → Result (List ℕ) WireFault
 behind_byte byte [] = Err fault.Short
 behind_byte byte (b ∷ bytes) = if b == byte then Ok bytes else Err fault.Magic
 
--- the bytes behind a header of this record
-unfoldable pub header_at : Me → List ℕ → Result (List ℕ) WireFault
-header_at me bytes = do
+-- the byte that tells the version
+abbrev pub version_byte : Version → ℕ
+version_byte One = 1
+version_byte Two = 2
+
+-- the bytes behind a header of this record in that version
+unfoldable pub header_at : Version → Me → List ℕ → Result (List ℕ) WireFault
+header_at version me bytes = do
   p ← behind_byte 80 bytes
   r ← behind_byte 82 p
-  version ← behind_byte 2 r
-  node ← behind_byte me.node version
+  told ← behind_byte (version_byte version) r
+  node ← behind_byte me.node told
   size ← behind_byte me.group.size node
   session ← number_at size
   unless fault.Group (not (session.0 == me.group.session)) session.1
@@ -39,25 +48,49 @@ some_ballot_at size bytes = ballot_at size bytes >>= λ b. Ok (Some b.0, b.1)
 unfoldable pub promised_at : ℕ → List ℕ → Result (Option Ballot × List ℕ) WireFault
 promised_at size bytes = number_at bytes >>= λ round. if round.0 == 0 then zero_at round.1 else some_ballot_at size bytes
 
+-- a vote of version 1 at a place from low on, not above ballot b; low is one above the place of the vote before
+unfoldable pub vote_at_v1 : ℕ → Ballot → ℕ → List ℕ → Result (Vote × List ℕ) WireFault
+vote_at_v1 size b low bytes = do
+  place ← number_at bytes
+  above ← unless fault.Order (nat_lt place.0 low) place
+  there ← unless fault.Place (nat_lt 65535 above.0) above
+  ballot ← ballot_at size there.1
+  not_above ← unless fault.Ballot (ballot_lt b ballot.0) ballot
+  value ← value_at_v1 size not_above.1
+  Ok (record { place = there.0; ballot = not_above.0; value = value.0 }, value.1)
+
+-- so many of them
+unfoldable pub votes_at_v1 : ℕ → Ballot → ℕ → ℕ → List ℕ → Result (List Vote × List ℕ) WireFault
+votes_at_v1 size b low zero bytes = Ok ([], bytes)
+votes_at_v1 size b low (suc n) bytes = do
+  vote ← vote_at_v1 size b low bytes
+  others ← votes_at_v1 size b (vote.0.place + 1) n vote.1
+  Ok (vote.0 ∷ others.0, others.1)
+
+-- so many votes under ballot b in that version
+abbrev pub votes_in : Version → ℕ → Ballot → ℕ → List ℕ → Result (List Vote × List ℕ) WireFault
+votes_in One size b n bytes = votes_at_v1 size b 0 n bytes
+votes_in Two size b n bytes = votes_at size b 0 65536 0 n bytes
+
 -- so many votes that are all of the bytes; without a promise there are none
-abbrev pub votes_of : ℕ → Option Ballot → ℕ → List ℕ → Result (List Vote) WireFault
-votes_of size None n bytes = unless fault.Ballot (not ((n == 0) && (length bytes == 0))) []
-votes_of size (Some b) n bytes = votes_at size b 0 65536 0 n bytes >>= λ votes. unless fault.Trailing (not (length votes.1 == 0)) votes.0
+abbrev pub votes_of : Version → ℕ → Option Ballot → ℕ → List ℕ → Result (List Vote) WireFault
+votes_of version size None n bytes = unless fault.Ballot (not ((n == 0) && (length bytes == 0))) []
+votes_of version size (Some b) n bytes = votes_in version size b n bytes >>= λ votes. unless fault.Trailing (not (length votes.1 == 0)) votes.0
 
 -- what stands before the votes: starts, promised ballot and number of votes
-unfoldable pub head_at : Me → List ℕ → Result ((ℕ × Option Ballot × ℕ) × List ℕ) WireFault
-head_at me bytes = do
-  behind ← header_at me bytes
+unfoldable pub head_at : Version → Me → List ℕ → Result ((ℕ × Option Ballot × ℕ) × List ℕ) WireFault
+head_at version me bytes = do
+  behind ← header_at version me bytes
   starts ← number_at behind
   promised ← promised_at me.group.size starts.1
   count ← number_at promised.1
   Ok ((starts.0, promised.0, count.0), count.1)
 
--- the record that is all of the bytes
-unfoldable pub record_at : Me → List ℕ → Result Record WireFault
-record_at me bytes = do
-  head ← head_at me bytes
-  votes ← votes_of me.group.size head.0.1 head.0.2 head.1
+-- the record that is all of the bytes, in that version
+unfoldable pub record_at : Version → Me → List ℕ → Result Record WireFault
+record_at version me bytes = do
+  head ← head_at version me bytes
+  votes ← votes_of version me.group.size head.0.1 head.0.2 head.1
   Ok (record { starts = head.0.0; promised = head.0.1; votes = votes })
 
 -- what is read is this; or the answer is Bad, and there is nothing to read; or memory ran out

@@ -3,12 +3,13 @@ ghost use Rattle.base.specs.Faults.{HasRisen};
 ghost use Rattle.std.specs.Prelude.{◌≡◌, None, Some, IfOk, IfSome, IsErrOf, IsNone, IsOk, OnErr};
 ghost use Rattle.paxos_msg.specs.declared.record.Record.{Record};
 ghost use Rattle.paxos_msg.specs.Records.{changed, empty_record};
-ghost use Rattle.paxos_acceptor.specs.Files.{Notes};
-ghost use Rattle.paxos_acceptor.specs.Records.{IsRecord, Rec};
+ghost use Rattle.paxos_acceptor.specs.Files.{IsWritten, Notes};
+ghost use Rattle.paxos_acceptor.specs.Records.{IsRecord};
 ghost use Rattle.paxos_acceptor.specs.Stores.{HasCause};
 
-use crate::codec::{record_decode, record_encode, record_fits};
+use crate::codec::{record_decode, record_encode, record_fits, record_migrate};
 use crate::disk::{read_synced, write_synced};
+use crate::laws::versions_are_apart;
 use crate::me::Me;
 use crate::store::{Store, StoreFault};
 use base::count_fault;
@@ -42,17 +43,31 @@ impl<R> Model for FileStore<R> {
     ghost invariant = { λ s. IfSome s.found (IsRecord s.me.group.size) };
 }
 
+/// The record that the bytes are the spelling of, in version 2 or in version 1.
+fn record_of_either(alloc: Global, bytes: &[u8], me: Me) -> Result<Record, StoreFault>
+    ensures found { IfOk result (λ r. IsWritten me bytes.now r) }
+    ensures only { (r : Record) → IsWritten me bytes.now r → IfOk result (λ found. found ≡ r) }
+    ensures bad { IsErrOf result StoreFault.Bad → (r : Record) → ¬ IsWritten me bytes.now r }
+    ensures others { ¬ IsErrOf result StoreFault.Device }
+{
+    versions_are_apart();
+    match record_decode(alloc, bytes, me) {
+        Err(StoreFault::Bad) => record_migrate(alloc, bytes, me),
+        read => read,
+    }
+}
+
 /// The record that the file has: the empty one, where there is no file.
 fn record_in(alloc: Global, file: &Option<Vec<u8>>, me: Me) -> Result<Record, StoreFault>
     ensures missing { IsNone file.now → IfOk result (λ r. r ≡ empty_record) }
-    ensures found { IfSome file.now (λ bytes. IfOk result (λ r. Rec me bytes.items r)) }
-    ensures only { IfSome file.now (λ bytes. (r : Record) → Rec me bytes.items r → IfOk result (λ found. found ≡ r)) }
-    ensures bad { IsErrOf result StoreFault.Bad → IfSome file.now (λ bytes. (r : Record) → ¬ Rec me bytes.items r) }
+    ensures found { IfSome file.now (λ bytes. IfOk result (λ r. IsWritten me bytes.items r)) }
+    ensures only { IfSome file.now (λ bytes. (r : Record) → IsWritten me bytes.items r → IfOk result (λ found. found ≡ r)) }
+    ensures bad { IsErrOf result StoreFault.Bad → IfSome file.now (λ bytes. (r : Record) → ¬ IsWritten me bytes.items r) }
     ensures no_file_is_good { IsNone file.now → IsOk result }
     ensures others { ¬ IsErrOf result StoreFault.Device }
 {
     match file {
-        Some(bytes) => record_decode(alloc, bytes.as_slice(), me),
+        Some(bytes) => record_of_either(alloc, bytes.as_slice(), me),
         None => Ok(Record::new(alloc)),
     }
 }

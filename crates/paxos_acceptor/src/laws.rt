@@ -11,10 +11,12 @@ ghost use Rattle.paxos_msg.specs.Keys.{Key};
 ghost use Rattle.paxos_msg.specs.Messages.{IsSaid, Sent};
 ghost use Rattle.paxos_msg.specs.Records.{changed, empty_record, MaySave};
 ghost use Rattle.paxos_msg.specs.Sending.{MaySend};
+ghost use Rattle.paxos_acceptor.specs.declared.me.Me.{Me};
 ghost use Rattle.paxos_acceptor.specs.Answers.{accept_of, after, prepare_of};
 ghost use Rattle.paxos_acceptor.specs.Backed.{IsBacked};
-ghost use Rattle.paxos_acceptor.specs.Records.{IsRecord};
+ghost use Rattle.paxos_acceptor.specs.Records.{IsRecord, Rec};
 ghost use Rattle.paxos_acceptor.specs.Stores.{IsOneOf};
+ghost use Rattle.paxos_acceptor.specs.Version1.{Rec1};
 
 use paxos_msg::laws::votes_are_by_place;
 
@@ -65,4 +67,9 @@ pub fn starts_are_counted()
     ensures others { (r : Record) (change : Change) → change ≢ Start → (changed r change).starts ≡ r.starts }
     ensures failed { (r left : Record) → IsOneOf left r (changed r Start) → (left.starts ≡ r.starts) ⊎ (left.starts ≡ r.starts + 1) }
     ensures fits { (size : ℕ) (r : Record) → IsRecord size r → r.starts < 4294967295 → IsRecord size (changed r Start) }
+{}
+
+/// No bytes are the spelling of a record both in version 2 and in version 1.
+pub fn versions_are_apart()
+    ensures { (me : Me) (bytes : List ℕ) (r old : Record) → Rec me bytes r → ¬ Rec1 me bytes old }
 {}

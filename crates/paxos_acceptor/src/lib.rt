@@ -11,14 +11,17 @@ pub mod laws;
 mod me;
 mod memory;
 mod part;
+mod reading;
 mod saving;
 mod store;
 mod synced;
 #[cfg(test)]
 mod tests;
+mod version;
+mod version1;
 
 pub use acceptor::{Acceptor, OpenRefused};
-pub use codec::{record_decode, record_encode, record_fits};
+pub use codec::{record_decode, record_encode, record_fits, record_migrate};
 pub use fault::AcceptorFault;
 pub use file::FileStore;
 pub use me::Me;

@@ -1,9 +1,9 @@
 //! What no clause says: parts of a promise by the numbers, faults that are passed on, the bytes of a record, and files.
-ghost use Rattle.std.specs.Prelude.{◌≡◌};
+ghost use Rattle.std.specs.Prelude.{◌≡◌, ◌<◌};
 
 use crate::{
     Acceptor, AcceptorFault, FileStore, Me, MemoryStore, Store, StoreFault, record_decode,
-    record_encode,
+    record_encode, record_migrate,
 };
 use paxos_msg::{Ballot, Body, Change, Characters, Group, Record, Value, Vote, Votes};
 use std::alloc::Global;
@@ -158,9 +158,15 @@ const BYTES: [u8; 43] = [
     0x02, 0x00, 0x00, 0x00, 0x01, 0x00, 0x00, 0x00, 0x01, 0x01, 0x48,
 ];
 
-/// A record has one spelling, and other bytes are of none.
-#[test]
-fn record_bytes(rt: HostRuntime) -> Result<(), Fail> {
+/// The same record as version 1 spelled it.
+const BYTES_V1: [u8; 42] = [
+    0x50, 0x52, 0x01, 0x02, 0x03, 0x00, 0x00, 0x00, 0x07, 0x00, 0x00, 0x00, 0x01, 0x00, 0x00, 0x00,
+    0x01, 0x01, 0x00, 0x00, 0x00, 0x01, 0x00, 0x00, 0x00, 0x00, 0x00, 0x00, 0x00, 0x01, 0x01, 0x01,
+    0x02, 0x00, 0x00, 0x00, 0x01, 0x00, 0x00, 0x00, 0x01, 0x48,
+];
+
+/// Whether it is the record of those bytes.
+fn is_of_bytes(record: &Record) -> bool {
     let vote = Vote {
         place: 0,
         ballot: FIRST,
@@ -171,9 +177,16 @@ fn record_bytes(rt: HostRuntime) -> Result<(), Fail> {
             bytes: Characters::from(0x48),
         },
     };
+    record.starts == 1
+        && record.promised == Some(FIRST)
+        && record.votes.as_slice() == [vote].as_slice()
+}
+
+/// A record has one spelling, and other bytes are of none.
+#[test]
+fn record_bytes(rt: HostRuntime) -> Result<(), Fail> {
     let record = record_decode(rt.alloc(), BYTES.as_slice(), ME)?;
-    assert_eq!(rt; (record.starts, record.promised), (1, Some(FIRST)));
-    assert_eq!(rt; record.votes.as_slice(), [vote].as_slice());
+    assert!(rt; is_of_bytes(&record));
     let bytes = record_encode(rt.alloc(), &record, ME)?;
     assert_eq!(rt; bytes.as_slice(), BYTES.as_slice());
 
@@ -197,6 +210,94 @@ fn record_bytes(rt: HostRuntime) -> Result<(), Fail> {
     let spent = record_decode(rt.alloc(), spent.as_slice(), ME)?;
     let mut acceptor = opened(&rt, rt.alloc(), MemoryStore::new(spent));
     assert_eq!(rt; acceptor.new_start(), Err(AcceptorFault::StartsSpent));
+    Ok(())
+}
+
+/// A record of version 1 is read as one whose votes are for batches of one key, and written in version 2. Neither version is
+/// read as the other.
+#[test]
+fn record_of_version_1(rt: HostRuntime) -> Result<(), Fail> {
+    let record = record_migrate(rt.alloc(), BYTES_V1.as_slice(), ME)?;
+    assert!(rt; is_of_bytes(&record));
+    let bytes = record_encode(rt.alloc(), &record, ME)?;
+    assert_eq!(rt; bytes.as_slice(), BYTES.as_slice());
+
+    let as_newer = record_decode(rt.alloc(), BYTES_V1.as_slice(), ME).err();
+    assert_eq!(rt; as_newer, Some(StoreFault::Bad));
+    let as_older = record_migrate(rt.alloc(), BYTES.as_slice(), ME).err();
+    assert_eq!(rt; as_older, Some(StoreFault::Bad));
+    Ok(())
+}
+
+/// Of each byte of that record how many of its 255 other values give another record: those of the starts, of a round of the promise
+/// that is not 0, of its nodes 2 and 3, of a place below 65,536, and of a key's nodes 1 and 3, start and serial but 0, and byte.
+const OTHERS: [u32; 42] = [
+    0, 0, 0, 0, 0, 0, 0, 0, 0, 255, 255, 255, 255, 255, 255, 255, 254, 2, 0, 0, 0, 0, 0, 0, 255,
+    255, 0, 0, 0, 0, 0, 0, 2, 255, 255, 255, 254, 255, 255, 255, 254, 255,
+];
+
+/// Whether the bytes are another record of version 1. Else they have to be none.
+fn are_another(rt: &impl Abort, alloc: Global, bytes: &[u8]) -> bool {
+    match record_migrate(alloc, bytes, ME) {
+        Ok(record) => {
+            assert!(rt; !is_of_bytes(&record));
+            true
+        }
+        Err(fault) => {
+            assert_eq!(rt; fault, StoreFault::Bad);
+            false
+        }
+    }
+}
+
+/// How many other values of that byte give another record.
+fn others_at(rt: &impl Abort, alloc: Global, index: usize) -> u32
+    requires { index < 42 }
+{
+    let mut others: u32 = 0;
+    for change in 0..255 {
+        let mut bytes = BYTES_V1;
+        bytes[index] ^= change + 1;
+        if are_another(rt, alloc, bytes.as_slice()) {
+            others = others.saturating_add(1);
+        }
+    }
+    others
+}
+
+/// A record of version 1 that was cut is none, and with one byte changed it is another record or none.
+#[test]
+fn damaged_record_of_version_1(rt: HostRuntime) -> Result<(), Fail> {
+    for length in 0..BYTES_V1.len() {
+        let cut = record_migrate(rt.alloc(), &BYTES_V1[..length], ME).err();
+        assert_eq!(rt; cut, Some(StoreFault::Bad), "of {length} bytes");
+    }
+    for index in 0..BYTES_V1.len() {
+        assert_eq!(rt;
+            others_at(&rt, rt.alloc(), index),
+            OTHERS[index],
+            "at {index}"
+        );
+    }
+    Ok(())
+}
+
+/// A file of version 1 is loaded and left as it is; after a start it is one of version 2.
+#[test]
+fn file_of_version_1(rt: HostRuntime) -> Result<(), Fail> {
+    let path = "old_record_of_a_test";
+    fs::write(&rt, path, BYTES_V1.as_slice())?;
+    let mut acceptor = opened(&rt, rt.alloc(), FileStore::new(rt, path, ME)?);
+    assert!(rt; is_of_bytes(acceptor.record()));
+    assert_eq!(rt; fs::read(&rt, path)?.as_slice(), BYTES_V1.as_slice());
+
+    assert_eq!(rt; acceptor.new_start(), Ok(2));
+    let mut expected = BYTES;
+    expected[12] = 0x02;
+    assert_eq!(rt; fs::read(&rt, path)?.as_slice(), expected.as_slice());
+    let record = FileStore::new(rt, path, ME)?.load()?;
+    assert_eq!(rt; record.starts, 2);
+    fs::remove_file(&rt, path)?;
     Ok(())
 }
 

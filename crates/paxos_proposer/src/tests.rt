@@ -150,13 +150,10 @@ fn promise_bytes_and_parts(rt: HostRuntime) -> Result<(), Fail> {
         let heard = leader.hear(rt.alloc(), sender, 65_535, &[]);
         assert_eq!(rt; heard, Some(Ok(None)));
     }
-    let offered = key(1, 1, 0x41);
+    let expected = vote(65_535, 5, 3, key(1, 1, 0x41));
+    assert_eq!(rt; leader.propose(Some(key(1, 1, 0x41))), Ok(Some(expected)));
     assert_eq!(rt;
-        leader.propose(Some(offered)),
-        Ok(Some(vote(65_535, 5, 3, offered)))
-    );
-    assert_eq!(rt;
-        leader.propose(Some(offered)),
+        leader.propose(Some(Value::Noop)),
         Err(ProposerFault::PlacesSpent)
     );
     assert_eq!(rt; leader.propose(None), Ok(None));

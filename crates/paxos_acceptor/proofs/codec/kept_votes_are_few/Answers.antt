@@ -1,4 +1,4 @@
-use Rattle.paxos_acceptor.proofs.RecordRead.{few_votes, short_votes}
+use Rattle.paxos_acceptor.proofs.FewVotes.{few_votes, short_votes}
 use Rattle.paxos_acceptor.proofs.codec.kept_votes_are_few.Goals as goal
 
 pub returns-clause-few : goal.returns-clause-few

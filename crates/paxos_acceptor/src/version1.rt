@@ -1,0 +1,69 @@
+//! The votes of a record of version 1.
+ghost use Rattle.std.specs.Prelude.{◌≡◌, ◌≤◌, IfOk, Some};
+ghost use Rattle.paxos_msg.specs.Reading.{Gives};
+ghost use Rattle.paxos_acceptor.specs.RecordReading.{Reads, vote_at_v1, votes_of};
+ghost use Rattle.paxos_acceptor.specs.declared.version.Version.TheVariants.{One};
+
+use crate::reading::number_of;
+use crate::store::StoreFault;
+use paxos_msg::{Ballot, Group, Vote, WireFault, read_ballot, read_value_v1};
+use std::alloc::Global;
+
+/// The vote at the front of the bytes, and the bytes behind it. Its place is `low` at least, and its ballot is `most` at most.
+#[tactic(auto, unfolding(crate::specs::RecordReading::vote_at_v1))]
+fn vote_of_v1(
+    group: Group,
+    most: Ballot,
+    low: u32,
+    bytes: &[u8],
+) -> Result<(Vote, &[u8]), WireFault>
+    ensures exact { Gives (λ x. (x.0, x.1.now)) result (vote_at_v1 group.size most low bytes.now) }
+    ensures place { IfOk result (λ x. x.0.place ≤ 65535) }
+{
+    let (place, rest) = number_of(bytes)?;
+    if place < low {
+        return Err(WireFault::Order);
+    }
+    if place > 65_535 {
+        return Err(WireFault::Place);
+    }
+    let (ballot, taken) = read_ballot(rest, group)?;
+    if most < ballot {
+        return Err(WireFault::Ballot);
+    }
+    let rest = &rest[taken..];
+    let (value, taken) = read_value_v1(rest, group)?;
+    let vote = Vote {
+        place,
+        ballot,
+        value,
+    };
+    Ok((vote, &rest[taken..]))
+}
+
+/// The votes under the ballot, so many of them, which have to be all of the bytes.
+pub(crate) fn votes_of_v1(
+    alloc: Global,
+    group: Group,
+    ballot: Ballot,
+    count: u32,
+    bytes: &[u8],
+) -> Result<Vec<Vote>, StoreFault>
+    ensures { Reads (λ votes. votes.items) result (votes_of One group.size (Some ballot) count bytes.now) }
+{
+    let mut votes = Vec::new(alloc);
+    let mut rest = bytes;
+    let mut low = 0;
+    for _ in 0..count {
+        let Ok((vote, behind)) = vote_of_v1(group, ballot, low, rest) else {
+            return Err(StoreFault::Bad);
+        };
+        low = vote.place + 1;
+        votes.push(vote)?;
+        rest = behind;
+    }
+    if !rest.is_empty() {
+        return Err(StoreFault::Bad);
+    }
+    Ok(votes)
+}
