@@ -40,8 +40,8 @@ pub fn record_fits(kept: &Record, me: Me) -> bool
     are_kept(me.group.size, kept.promised, kept.votes.as_slice())
 }
 
-/// The record that the bytes are the spelling of, all of them. `Bad` where they are the spelling of none;
-/// where there is no memory, `Memory`.
+/// The record that the bytes are the spelling of in version 2, all of them. `Bad` where they are the spelling of none in that
+/// version; where there is no memory, `Memory`.
 pub fn record_decode(alloc: Global, bytes: &[u8], me: Me) -> Result<Record, StoreFault>
     // What is read is spelled so.
     ensures found { IfOk result (λ kept. Rec me bytes.now kept) }
@@ -115,7 +115,7 @@ fn put_kept(votes: &[Vote], out: &mut Vec<u8>) -> Result<(), AllocError>
     Ok(())
 }
 
-/// The one spelling of the record, which has to be in its ranges. Only `Memory` is an error.
+/// The one spelling of the record in version 2. The record has to be in its ranges. Only `Memory` is an error.
 pub fn record_encode(alloc: Global, kept: &Record, me: Me) -> Result<Vec<u8>, StoreFault>
     requires { IsRecord me.group.size kept.now }
     ensures ok { IfOk result (λ bytes. bytes.items ≡ record_bytes me kept.now) }

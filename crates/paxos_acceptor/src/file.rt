@@ -20,7 +20,8 @@ use std::marker::Model;
 use std::rt::Files;
 
 /// A record in a file, which each save writes anew beside it and then puts in its place. What can be known of it is what it has
-/// found or saved there last, and how often the device has failed. After a fault it saves no more until it is loaded again.
+/// found or saved there last, and how often the device has failed. After a fault it saves no more until it is loaded again. A load
+/// also takes a file with a record of version 1, and leaves it as it is; a save writes version 2.
 #[derive(Drop)]
 pub struct FileStore<R> {
     rt: R,
