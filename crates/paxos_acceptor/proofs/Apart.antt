@@ -1,6 +1,6 @@
 -- The bytes of a record tell its version.
 use Rattle.std.proofs.Common.{◌≡◌, ◌∙◌, ℕ, List, slice_index, sym, ap, arith}
-use Rattle.paxos_msg.specs.declared.record.Record.{Record}
+use Rattle.paxos_msg.specs.Batches.{Record}
 use Rattle.paxos_acceptor.specs.declared.me.Me.{Me}
 use Rattle.paxos_acceptor.specs.Records.{Rec, record_bytes}
 use Rattle.paxos_acceptor.specs.Version1.{Rec1, record_bytes_v1}

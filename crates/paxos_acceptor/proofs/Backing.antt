@@ -4,15 +4,13 @@ use Rattle.std.proofs.lemmas.Bool.{cases_eq}
 use Rattle.std.proofs.lemmas.Option.{IfSome_then}
 use Rattle.paxos_msg.specs.declared.ballot.Ballot.{Ballot}
 use Rattle.paxos_msg.specs.declared.value.Value.{Value}
-use Rattle.paxos_msg.specs.declared.value.Vote.{Vote}
-use Rattle.paxos_msg.specs.declared.record.Record.{Record}
+use Rattle.paxos_msg.specs.Batches.{MaySend, Record, Sent, Vote}
 use Rattle.paxos_msg.specs.declared.record.Change.TheVariants as change
 use Rattle.paxos_msg.specs.declared.message.Body.TheVariants.{Accept, Accepted, Refused}
 use Rattle.paxos_msg.specs.Ballots.{IsAtMost, IsBelow}
 use Rattle.paxos_msg.specs.Keys.{Key}
-use Rattle.paxos_msg.specs.Messages.{IsAscending, IsSaid, Sent, vote_at}
+use Rattle.paxos_msg.specs.Messages.{IsAscending, IsSaid, vote_at}
 use Rattle.paxos_msg.specs.Records.{changed, with_vote}
-use Rattle.paxos_msg.specs.Sending.{MaySend}
 use Rattle.paxos_acceptor.specs.Answers.{accept_of, accepted, after, Answer, part_of, prepare_of, prepared, voted}
 use Rattle.paxos_acceptor.specs.Backed.{IsBacked, IsVoteBacked}
 use Rattle.paxos_acceptor.specs.Cases.{greater_promise, is_promised, value_under}

@@ -3,7 +3,7 @@ use Rattle.std.proofs.Common.{◌≡◌, Bool, true, false, if◌then◌else◌,
 use Rattle.std.proofs.lemmas.Bool.Decides.{nat_tests}
 use Rattle.paxos_msg.specs.declared.ballot.Ballot.{Ballot}
 use Rattle.paxos_msg.specs.declared.value.Value.{Value}
-use Rattle.paxos_msg.specs.declared.value.Vote.{Vote}
+use Rattle.paxos_msg.specs.Batches.{Vote}
 use Rattle.paxos_msg.specs.Ballots.{IsAtMost, IsBelow}
 use Rattle.paxos_msg.specs.Tests.{ballot_lt, same_ballot}
 use Rattle.paxos_acceptor.specs.Cases.{greater_promise, is_promised, value_under}

@@ -1,8 +1,7 @@
 -- A record has few votes, and their spelling is short.
 use Rattle.std.proofs.Common.{ℕ, ◌+◌, ◌*◌, ◌≤◌, List, [], ◌∷◌, length, Option, Some, None, arith}
 use Rattle.paxos_msg.specs.declared.ballot.Ballot.{Ballot}
-use Rattle.paxos_msg.specs.declared.value.Vote.{Vote}
-use Rattle.paxos_msg.specs.declared.record.Record.{Record}
+use Rattle.paxos_msg.specs.Batches.{Record, Vote}
 use Rattle.paxos_msg.specs.Fits.{AreVotes}
 use Rattle.paxos_msg.specs.Spelling.{votes_bytes}
 use Rattle.paxos_acceptor.specs.Records.{AreKept, IsRecord}

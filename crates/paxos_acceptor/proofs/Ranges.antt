@@ -5,8 +5,7 @@ use Rattle.std.proofs.lemmas.List.Elements.{All-cons}
 use Rattle.std.proofs.lemmas.Bool.Decides.{nat_tests}
 use Rattle.paxos_msg.specs.declared.ballot.Ballot.{Ballot}
 use Rattle.paxos_msg.specs.declared.value.Value.{Value}
-use Rattle.paxos_msg.specs.declared.value.Vote.{Vote}
-use Rattle.paxos_msg.specs.declared.record.Record.{Record}
+use Rattle.paxos_msg.specs.Batches.{Record, Vote}
 use Rattle.paxos_msg.specs.declared.record.Change.TheVariants.{Promise, Ballotted}
 use Rattle.paxos_msg.specs.Ballots.{IsAtMost}
 use Rattle.paxos_msg.specs.Fits.{IsBallot, IsPlace, IsValue, IsVote, AreVotes}

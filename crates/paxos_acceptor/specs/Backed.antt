@@ -1,10 +1,9 @@
 -- When what was sent backs a record.
 use Rattle.std.specs.Prelude.{ℕ, IfSome, IsSomeAnd}
-use Rattle.paxos_msg.specs.declared.value.Vote.{Vote}
-use Rattle.paxos_msg.specs.declared.record.Record.{Record}
+use Rattle.paxos_msg.specs.Batches.{Record, Sent, Vote}
 use Rattle.paxos_msg.specs.declared.message.Body.TheVariants.{Accept}
 use Rattle.paxos_msg.specs.Ballots.{IsAtMost}
-use Rattle.paxos_msg.specs.Messages.{Sent, IsSaid, IsAscending, vote_at}
+use Rattle.paxos_msg.specs.Messages.{IsSaid, IsAscending, vote_at}
 
 -- a vote at place s was proposed, under no greater ballot than the promised one
 pub record IsVoteBacked (sent : Sent) (r : Record) (s : ℕ) (vote : Vote) : Type 0 where

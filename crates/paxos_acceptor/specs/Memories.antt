@@ -1,6 +1,6 @@
 -- How a store in memory saves, and how it fails at will.
 use Rattle.std.specs.Prelude.{◌≡◌, ◌+◌, min, if◌then◌else◌, None, IsSomeAnd, Result, OnOk, IsErrOf}
-use Rattle.paxos_msg.specs.declared.record.Change.{Change}
+use Rattle.paxos_msg.specs.Batches.{Change}
 use Rattle.paxos_msg.specs.Records.{changed}
 use Rattle.paxos_acceptor.specs.Stores.{StoreState}
 use Rattle.paxos_acceptor.specs.declared.store.StoreFault.{StoreFault}

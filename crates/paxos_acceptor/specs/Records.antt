@@ -1,8 +1,7 @@
 -- The ranges of a record, and its spelling as bytes. Numbers have their high byte first.
 use Rattle.std.specs.Prelude.{◌≡◌, ℕ, ◌^◌, ◌<◌, List, [], ◌∷◌, ◌++◌, length, Option, Some, None}
 use Rattle.paxos_msg.specs.declared.ballot.Ballot.{Ballot}
-use Rattle.paxos_msg.specs.declared.value.Vote.{Vote}
-use Rattle.paxos_msg.specs.declared.record.Record.{Record}
+use Rattle.paxos_msg.specs.Batches.{Record, Vote}
 use Rattle.paxos_msg.specs.Fits.{IsBallot, AreVotes}
 use Rattle.paxos_msg.specs.Spelling.{number_bytes, ballot_bytes, votes_bytes}
 use Rattle.paxos_acceptor.specs.declared.me.Me.{Me}

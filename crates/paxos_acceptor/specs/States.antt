@@ -1,6 +1,6 @@
 -- What contracts see of an acceptor.
 use Rattle.std.specs.Prelude.{◌≡◌, Bool, false}
-use Rattle.paxos_msg.specs.declared.record.Record.{Record}
+use Rattle.paxos_msg.specs.Batches.{Record}
 use Rattle.paxos_acceptor.specs.declared.me.Me.{Me}
 use Rattle.paxos_acceptor.specs.Records.{IsRecord}
 use Rattle.paxos_acceptor.specs.Stores.{StoreState}

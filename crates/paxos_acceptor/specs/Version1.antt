@@ -1,7 +1,6 @@
 -- A record as version 1 spelled it: a value was a single key, or none.
 use Rattle.std.specs.Prelude.{◌≡◌, ℕ, List, [], ◌∷◌, ◌++◌, length, All}
-use Rattle.paxos_msg.specs.declared.value.Vote.{Vote}
-use Rattle.paxos_msg.specs.declared.record.Record.{Record}
+use Rattle.paxos_msg.specs.Batches.{Record, Vote}
 use Rattle.paxos_msg.specs.Spelling.{number_bytes, ballot_bytes}
 use Rattle.paxos_msg.specs.Version1.{IsSingle, value_bytes_v1}
 use Rattle.paxos_acceptor.specs.declared.me.Me.{Me}

@@ -1,6 +1,7 @@
 //! A record as bytes.
 ghost use Rattle.std.specs.Prelude.{◌≡◌, ◌↔◌, ◌++◌, ◌*◌, ◌^◌, ◌<◌, ◌≤◌, ℕ, List, length, IfOk, OnOk, IsErrOf, IsTrue, OnErr, Ok, Err};
 ghost use Rattle.paxos_msg.specs.declared.record.Record.{Record};
+ghost use Rattle.paxos_msg.specs.declared.value.Value.{Value};
 ghost use Rattle.paxos_msg.specs.Grammar.{AreBytes};
 ghost use Rattle.paxos_msg.specs.Spelling.{number_bytes, votes_bytes};
 ghost use Rattle.paxos_acceptor.specs.declared.me.Me.{Me};
@@ -46,8 +47,8 @@ pub fn record_decode(alloc: Global, bytes: &[u8], me: Me) -> Result<Record, Stor
     // What is read is spelled so.
     ensures found { IfOk result (λ kept. Rec me bytes.now kept) }
     // What is spelled so is read.
-    ensures only { (r : Record) → Rec me bytes.now r → IfOk result (λ kept. kept ≡ r) }
-    ensures bad { IsErrOf result StoreFault.Bad → (r : Record) → ¬ Rec me bytes.now r }
+    ensures only { (r : Record Value) → Rec me bytes.now r → IfOk result (λ kept. kept ≡ r) }
+    ensures bad { IsErrOf result StoreFault.Bad → (r : Record Value) → ¬ Rec me bytes.now r }
     ensures others { ¬ IsErrOf result StoreFault.Device }
 {
     record_is_spelling();
@@ -60,8 +61,8 @@ pub fn record_migrate(alloc: Global, bytes: &[u8], me: Me) -> Result<Record, Sto
     // What is read is spelled so.
     ensures found { IfOk result (λ kept. Rec1 me bytes.now kept) }
     // What is spelled so is read.
-    ensures only { (r : Record) → Rec1 me bytes.now r → IfOk result (λ kept. kept ≡ r) }
-    ensures bad { IsErrOf result StoreFault.Bad → (r : Record) → ¬ Rec1 me bytes.now r }
+    ensures only { (r : Record Value) → Rec1 me bytes.now r → IfOk result (λ kept. kept ≡ r) }
+    ensures bad { IsErrOf result StoreFault.Bad → (r : Record Value) → ¬ Rec1 me bytes.now r }
     ensures others { ¬ IsErrOf result StoreFault.Device }
 {
     record_is_spelling();
@@ -70,8 +71,8 @@ pub fn record_migrate(alloc: Global, bytes: &[u8], me: Me) -> Result<Record, Sto
 
 /// Bytes are read as a record in a version just where they are its spelling in that version and it is in its ranges.
 fn record_is_spelling()
-    ensures two { (me : Me) (bytes : List ℕ) (r : Record) → me.group.session < 2 ^ 32 → AreBytes bytes → (record_at Two me bytes ≡ Ok r) ↔ Rec me bytes r }
-    ensures one { (me : Me) (bytes : List ℕ) (r : Record) → me.group.session < 2 ^ 32 → AreBytes bytes → (record_at One me bytes ≡ Ok r) ↔ Rec1 me bytes r }
+    ensures two { (me : Me) (bytes : List ℕ) (r : Record Value) → me.group.session < 2 ^ 32 → AreBytes bytes → (record_at Two me bytes ≡ Ok r) ↔ Rec me bytes r }
+    ensures one { (me : Me) (bytes : List ℕ) (r : Record Value) → me.group.session < 2 ^ 32 → AreBytes bytes → (record_at One me bytes ≡ Ok r) ↔ Rec1 me bytes r }
 {
     ballot_is_spelling();
     number_is_spelling();
@@ -133,8 +134,8 @@ pub fn record_encode(alloc: Global, kept: &Record, me: Me) -> Result<Vec<u8>, St
 
 /// A record has at most 65,536 votes, each of which is spelled with at most 52 bytes.
 fn kept_votes_are_few()
-    ensures few { (size : ℕ) (r : Record) → IsRecord size r → length r.votes ≤ 65536 }
-    ensures short { (size : ℕ) (r : Record) → IsRecord size r → length (votes_bytes r.votes) ≤ 52 * length r.votes }
+    ensures few { (size : ℕ) (r : Record Value) → IsRecord size r → length r.votes ≤ 65536 }
+    ensures short { (size : ℕ) (r : Record Value) → IsRecord size r → length (votes_bytes r.votes) ≤ 52 * length r.votes }
 {
     votes_are_short();
 }

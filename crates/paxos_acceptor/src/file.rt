@@ -2,6 +2,7 @@
 ghost use Rattle.base.specs.Faults.{HasRisen};
 ghost use Rattle.std.specs.Prelude.{◌≡◌, None, Some, IfOk, IfSome, IsErrOf, IsNone, IsOk, OnErr};
 ghost use Rattle.paxos_msg.specs.declared.record.Record.{Record};
+ghost use Rattle.paxos_msg.specs.declared.value.Value.{Value};
 ghost use Rattle.paxos_msg.specs.Records.{changed, empty_record};
 ghost use Rattle.paxos_acceptor.specs.Files.{IsWritten, Notes};
 ghost use Rattle.paxos_acceptor.specs.Records.{IsRecord};
@@ -47,8 +48,8 @@ impl<R> Model for FileStore<R> {
 /// The record that the bytes are the spelling of, in version 2 or in version 1.
 fn record_of_either(alloc: Global, bytes: &[u8], me: Me) -> Result<Record, StoreFault>
     ensures found { IfOk result (λ r. IsWritten me bytes.now r) }
-    ensures only { (r : Record) → IsWritten me bytes.now r → IfOk result (λ found. found ≡ r) }
-    ensures bad { IsErrOf result StoreFault.Bad → (r : Record) → ¬ IsWritten me bytes.now r }
+    ensures only { (r : Record Value) → IsWritten me bytes.now r → IfOk result (λ found. found ≡ r) }
+    ensures bad { IsErrOf result StoreFault.Bad → (r : Record Value) → ¬ IsWritten me bytes.now r }
     ensures others { ¬ IsErrOf result StoreFault.Device }
 {
     versions_are_apart();
@@ -62,8 +63,8 @@ fn record_of_either(alloc: Global, bytes: &[u8], me: Me) -> Result<Record, Store
 fn record_in(alloc: Global, file: &Option<Vec<u8>>, me: Me) -> Result<Record, StoreFault>
     ensures missing { IsNone file.now → IfOk result (λ r. r ≡ empty_record) }
     ensures found { IfSome file.now (λ bytes. IfOk result (λ r. IsWritten me bytes.items r)) }
-    ensures only { IfSome file.now (λ bytes. (r : Record) → IsWritten me bytes.items r → IfOk result (λ found. found ≡ r)) }
-    ensures bad { IsErrOf result StoreFault.Bad → IfSome file.now (λ bytes. (r : Record) → ¬ IsWritten me bytes.items r) }
+    ensures only { IfSome file.now (λ bytes. (r : Record Value) → IsWritten me bytes.items r → IfOk result (λ found. found ≡ r)) }
+    ensures bad { IsErrOf result StoreFault.Bad → IfSome file.now (λ bytes. (r : Record Value) → ¬ IsWritten me bytes.items r) }
     ensures no_file_is_good { IsNone file.now → IsOk result }
     ensures others { ¬ IsErrOf result StoreFault.Device }
 {

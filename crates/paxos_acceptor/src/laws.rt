@@ -2,15 +2,13 @@
 ghost use Rattle.std.specs.Prelude.{◌≡◌, ◌≢◌, ◌+◌, ◌++◌, ◌<◌, ◌⊎◌, ℕ, List, Option, IfSome};
 ghost use Rattle.paxos_msg.specs.declared.ballot.Ballot.{Ballot};
 ghost use Rattle.paxos_msg.specs.declared.message.Body.TheVariants.{Accept};
-ghost use Rattle.paxos_msg.specs.declared.record.Change.{Change};
+ghost use Rattle.paxos_msg.specs.Batches.{Change, MaySend, Record, Sent};
 ghost use Rattle.paxos_msg.specs.declared.record.Change.TheVariants.{Start};
-ghost use Rattle.paxos_msg.specs.declared.record.Record.{Record};
 ghost use Rattle.paxos_msg.specs.declared.value.Value.{Value};
 ghost use Rattle.paxos_msg.specs.Fits.{IsBallot, IsBody, IsPlace, IsValue};
 ghost use Rattle.paxos_msg.specs.Keys.{Key};
-ghost use Rattle.paxos_msg.specs.Messages.{IsSaid, Sent};
+ghost use Rattle.paxos_msg.specs.Messages.{IsSaid};
 ghost use Rattle.paxos_msg.specs.Records.{changed, empty_record, MaySave};
-ghost use Rattle.paxos_msg.specs.Sending.{MaySend};
 ghost use Rattle.paxos_acceptor.specs.declared.me.Me.{Me};
 ghost use Rattle.paxos_acceptor.specs.Answers.{accept_of, after, prepare_of};
 ghost use Rattle.paxos_acceptor.specs.Backed.{IsBacked};
