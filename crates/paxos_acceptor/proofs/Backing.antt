@@ -4,17 +4,17 @@ use Rattle.std.proofs.lemmas.Bool.{cases_eq}
 use Rattle.std.proofs.lemmas.Option.{IfSome_then}
 use Rattle.paxos_msg.specs.declared.ballot.Ballot.{Ballot}
 use Rattle.paxos_msg.specs.declared.value.Value.{Value}
-use Rattle.paxos_msg.specs.Batches.{MaySend, Record, Sent, Vote}
+use Rattle.paxos_msg.specs.Batches.{Change, MaySend, Record, Sent, Vote}
 use Rattle.paxos_msg.specs.declared.record.Change.TheVariants as change
 use Rattle.paxos_msg.specs.declared.message.Body.TheVariants.{Accept, Accepted, Refused}
 use Rattle.paxos_msg.specs.Ballots.{IsAtMost, IsBelow}
 use Rattle.paxos_msg.specs.Keys.{Key}
 use Rattle.paxos_msg.specs.Messages.{IsAscending, IsSaid, vote_at}
-use Rattle.paxos_msg.specs.Records.{changed, with_vote}
+use Rattle.paxos_msg.specs.Records.{changed, MaySave, with_vote}
 use Rattle.paxos_acceptor.specs.Answers.{accept_of, accepted, after, Answer, part_of, prepare_of, prepared, voted}
 use Rattle.paxos_acceptor.specs.Backed.{IsBacked, IsVoteBacked}
 use Rattle.paxos_acceptor.specs.Cases.{greater_promise, is_promised, value_under}
-use Rattle.paxos_acceptor.proofs.ByCases.{greater_is, no_greater, promised_is, under_is}
+use Rattle.paxos_acceptor.proofs.ByCases.{greater_is, no_greater, not_greater, not_promised, promised_is, under_is}
 use Rattle.paxos_acceptor.proofs.Reports.{reports}
 
 -- ---- ballots
@@ -31,6 +31,11 @@ both_at_most (Some p) b low high =
 still_at_most : (promised : Option Ballot) (a b : Ballot) → IfSome promised (λ p. IsAtMost p b) → IsSomeAnd promised (λ p. IsAtMost a p) → IsAtMost a b
 still_at_most None a b rises h = elim h [ ]
 still_at_most (Some p) a b rises h = grind arith
+
+-- a ballot above the promised one is not below it
+below_at_most : (promised : Option Ballot) (b : Ballot) → IfSome promised (λ p. IsBelow p b) → IfSome promised (λ p. IsAtMost p b)
+below_at_most None b h = tt
+below_at_most (Some p) b h = grind arith
 
 -- ---- facts of options
 
@@ -49,6 +54,45 @@ pub record ByPlace : Type 0 where
   pub elsewhere : (votes : List Vote) (vote : Vote) (s : ℕ) → s ≢ vote.place → vote_at (with_vote votes vote) s ≡ vote_at votes s
   pub ascending : (votes : List Vote) (vote : Vote) → IsAscending votes → IsAscending (with_vote votes vote)
   pub found : (votes : List Vote) (s : ℕ) (vote : Vote) → vote_at votes s ≡ Some vote → Contains votes vote × (vote.place ≡ s)
+
+-- ---- a change that may be saved
+
+module _ (sent : Sent) (r : Record) (h : IsBacked sent r) where
+  -- the votes stay backed where a ballot is promised that is not below the promised one
+  promise_backed : (b : Ballot) → IfSome r.promised (λ p. IsAtMost p b) → IsBacked sent (changed r (change.Promise b))
+  promise_backed b rises = record {
+    votes = λ s. IfSome_then (vote_at r.votes s) (h.votes s) (λ vote g. record { proposed = g.proposed; in_promise = still_at_most r.promised vote.ballot b rises g.in_promise });
+    in_order = h.in_order;
+  }
+
+  module _ (law : ByPlace) (b : Ballot) (s : ℕ) (v : Value) (said : IsSaid sent (Accept b s v)) (rises : IfSome r.promised (λ p. IsAtMost p b)) where
+    -- the vote that is put, and those that stay
+    votes_with : (t : ℕ) → IfSome (vote_at (changed r (change.Ballotted s b v)).votes t) (IsVoteBacked sent (changed r (change.Ballotted s b v)) t)
+    votes_with t =
+        let vote : Vote = record { place = s; ballot = b; value = v } in
+        let next : Record = changed r (change.Ballotted s b v) in
+        elim (cases_eq t s) [
+          | inl e ↦ rw e (if_some (vote_at next.votes s) vote (IsVoteBacked sent next s) (law.there r.votes vote) (record { proposed = said; in_promise = grind arith }))
+          | inr ne ↦
+              rw (law.elsewhere r.votes vote t ne)
+              (IfSome_then (vote_at r.votes t) (h.votes t) (λ x g. record { proposed = g.proposed; in_promise = still_at_most r.promised x.ballot b rises g.in_promise }))
+        ]
+
+    vote_backed : IsBacked sent (changed r (change.Ballotted s b v))
+    vote_backed = record { votes = votes_with; in_order = law.ascending r.votes (record { place = s; ballot = b; value = v }) h.in_order }
+
+  pub saved_backed : ByPlace → (c : Change) → MaySave sent r c → IsBacked sent (changed r c)
+  saved_backed law change.Start may = record { votes = λ s. IfSome_then (vote_at r.votes s) (h.votes s) (λ vote g. record { proposed = g.proposed; in_promise = g.in_promise }); in_order = h.in_order }
+  saved_backed law (change.Promise b) may = promise_backed b (below_at_most r.promised b may)
+  saved_backed law (change.Ballotted s b v) may = vote_backed law b s v may.0 may.1
+
+-- a ballot above the promised one is saved before the answer
+pub saves_promise : (r : Record) (b : Ballot) (from : ℕ) → IfSome r.promised (λ p. IsBelow p b) → (prepare_of r b from).saves ≡ Some (change.Promise b)
+saves_promise r b from above =
+    ap (λ (greater : Option Ballot). (prepared greater r b from).saves) (not_greater r.promised b above)
+    ∙ ap (λ (t : Bool). if t then None else Some (change.Promise b)) (not_promised r.promised b above)
+
+-- ---- an answer
 
 -- an answer that may be sent over the record after its save, which stays backed
 pub record MayAnswer (size i : ℕ) (typed : List Key) (learned : ℕ → Option Value) (sent : Sent) (r : Record) (answer : Answer) : Type 0 where
@@ -69,10 +113,7 @@ module _ (size i : ℕ) (typed : List Key) (learned : ℕ → Option Value) (sen
     promised_now : IfSome r.promised (λ p. IsAtMost p b) → MayAnswer size i typed learned sent r (record { saves = Some (change.Promise b); says = part_of r b from })
     promised_now rises = record {
       sends = (refl, reports (changed r (change.Promise b)) from h.in_order places);
-      backed = record {
-        votes = λ s. IfSome_then (vote_at r.votes s) (h.votes s) (λ vote g. record { proposed = g.proposed; in_promise = still_at_most r.promised vote.ballot b rises g.in_promise });
-        in_order = h.in_order;
-      };
+      backed = promise_backed sent r h b rises;
     }
 
     promised_by : IfSome r.promised (λ p. IsAtMost p b) → (t : Bool) → is_promised r.promised b ≡ t → MayAnswer size i typed learned sent r (record { saves = if t then None else Some (change.Promise b); says = part_of r b from })
@@ -89,22 +130,10 @@ module _ (size i : ℕ) (typed : List Key) (learned : ℕ → Option Value) (sen
   -- ---- an Accept
 
   module _ (law : ByPlace) (b : Ballot) (s : ℕ) (v : Value) (said : IsSaid sent (Accept b s v)) where
-    -- the vote that is put, and those that stay
-    votes_with : IfSome r.promised (λ p. IsAtMost p b) → (t : ℕ) → IfSome (vote_at (changed r (change.Ballotted s b v)).votes t) (IsVoteBacked sent (changed r (change.Ballotted s b v)) t)
-    votes_with rises t =
-        let vote : Vote = record { place = s; ballot = b; value = v } in
-        let next : Record = changed r (change.Ballotted s b v) in
-        elim (cases_eq t s) [
-          | inl e ↦ rw e (if_some (vote_at next.votes s) vote (IsVoteBacked sent next s) (law.there r.votes vote) (record { proposed = said; in_promise = grind arith }))
-          | inr ne ↦
-              rw (law.elsewhere r.votes vote t ne)
-              (IfSome_then (vote_at r.votes t) (h.votes t) (λ x g. record { proposed = g.proposed; in_promise = still_at_most r.promised x.ballot b rises g.in_promise }))
-        ]
-
     voted_now : IfSome r.promised (λ p. IsAtMost p b) → MayAnswer size i typed learned sent r (record { saves = Some (change.Ballotted s b v); says = Accepted b s v })
     voted_now rises = record {
       sends = (said, law.there r.votes (record { place = s; ballot = b; value = v }), refl);
-      backed = record { votes = votes_with rises; in_order = law.ascending r.votes (record { place = s; ballot = b; value = v }) h.in_order };
+      backed = vote_backed sent r h law b s v said rises;
     }
 
     -- the vote that stands there under the same ballot is told again

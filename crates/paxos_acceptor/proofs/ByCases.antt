@@ -20,6 +20,12 @@ same_is a b h =
     let node : a.node ≡ b.node = grind (arith, nat_tests) in
     λ i. record { round = round i; node = node i }
 
+not_above : (a b : Ballot) → IsBelow b a → ballot_lt a b ≡ false
+not_above a b h = grind (arith, nat_tests)
+
+not_same : (a b : Ballot) → IsBelow a b → same_ballot a b ≡ false
+not_same a b h = grind (arith, nat_tests)
+
 -- a greater promised ballot is the promised one, and above this one
 pub greater_is : (promised : Option Ballot) (b g : Ballot) → greater_promise promised b ≡ Some g → (promised ≡ Some g) × IsBelow b g
 greater_is None b g e = absurd cc
@@ -39,6 +45,16 @@ no_greater (Some p) b e = by (ballot_lt b p) refl e where
 pub promised_is : (promised : Option Ballot) (b : Ballot) → is_promised promised b ≡ true → promised ≡ Some b
 promised_is None b e = absurd cc
 promised_is (Some p) b e = ap (λ (c : Ballot). Some c) (same_is p b e)
+
+-- a ballot above the promised one, or where none is promised, meets no greater one
+pub not_greater : (promised : Option Ballot) (b : Ballot) → IfSome promised (λ p. IsBelow p b) → greater_promise promised b ≡ None
+not_greater None b h = refl
+not_greater (Some p) b h = ap (λ (t : Bool). if t then Some p else None) (not_above b p h)
+
+-- and isn't promised yet
+pub not_promised : (promised : Option Ballot) (b : Ballot) → IfSome promised (λ p. IsBelow p b) → is_promised promised b ≡ false
+not_promised None b h = refl
+not_promised (Some p) b h = not_same p b h
 
 -- a value under this ballot is that of the vote, which is under it
 pub under_is : (o : Option Vote) (b : Ballot) (w : Value) → value_under o b ≡ Some w → (vote : Vote) × (o ≡ Some vote) × (vote.ballot ≡ b) × (vote.value ≡ w)

@@ -5,7 +5,7 @@ ghost use Rattle.paxos_acceptor.specs.Cases as cases;
 use paxos_msg::{Ballot, Value, Vote};
 
 /// The promised ballot, where it is greater than this one.
-pub(crate) fn greater_promise(promised: Option<Ballot>, ballot: Ballot) -> Option<Ballot>
+pub fn greater_promise(promised: Option<Ballot>, ballot: Ballot) -> Option<Ballot>
     ensures { result ≡ cases.greater_promise promised ballot }
 {
     match promised {

@@ -1,9 +1,10 @@
 //! The laws of an acceptor, over the definitions alone: what it answers may be sent, over the record after its save.
-ghost use Rattle.std.specs.Prelude.{◌≡◌, ◌≢◌, ◌+◌, ◌++◌, ◌<◌, ◌⊎◌, ℕ, List, Option, IfSome};
+ghost use Rattle.std.specs.Prelude.{◌≡◌, ◌≢◌, ◌+◌, ◌++◌, ◌<◌, ◌⊎◌, ℕ, List, Option, Some, IfSome};
 ghost use Rattle.paxos_msg.specs.declared.ballot.Ballot.{Ballot};
 ghost use Rattle.paxos_msg.specs.declared.message.Body.TheVariants.{Accept};
+ghost use Rattle.paxos_msg.specs.Ballots.{IsBelow};
 ghost use Rattle.paxos_msg.specs.Batches.{Change, MaySend, Record, Sent};
-ghost use Rattle.paxos_msg.specs.declared.record.Change.TheVariants.{Start};
+ghost use Rattle.paxos_msg.specs.declared.record.Change.TheVariants.{Promise, Start};
 ghost use Rattle.paxos_msg.specs.declared.value.Value.{Value};
 ghost use Rattle.paxos_msg.specs.Fits.{IsBallot, IsBody, IsPlace, IsValue};
 ghost use Rattle.paxos_msg.specs.Keys.{Key};
@@ -18,11 +19,21 @@ ghost use Rattle.paxos_acceptor.specs.Version1.{Rec1};
 
 use paxos_msg::laws::votes_are_by_place;
 
-/// The empty record is backed by whatever was sent, and a record stays backed as more is sent.
+/// The empty record is backed by whatever was sent. A record stays backed as more is sent, after a start, and
+/// after any change that may be saved.
 pub fn backing()
     ensures empty { (sent : Sent) → IsBacked sent empty_record }
     ensures later { (sent more : Sent) (r : Record) → IsBacked sent r → IsBacked (sent ++ more) r }
     ensures start { (sent : Sent) (r : Record) → IsBacked sent r → IsBacked sent (changed r Start) }
+    ensures saved { (sent : Sent) (r : Record) (c : Change) → IsBacked sent r → MaySave sent r c → IsBacked sent (changed r c) }
+{
+    votes_are_by_place();
+}
+
+/// A Prepare under a ballot that is above the promised one, or where none is promised, is answered after a save of
+/// its promise.
+pub fn greater_ballots_are_promised()
+    ensures { (r : Record) (b : Ballot) (from : ℕ) → IfSome r.promised (λ p. IsBelow p b) → (prepare_of r b from).saves ≡ Some (Promise b) }
 {}
 
 /// The answer to a Prepare may be sent over the record after its save, which may be saved and keeps the record backed. The

@@ -21,6 +21,7 @@ mod version;
 mod version1;
 
 pub use acceptor::{Acceptor, OpenRefused};
+pub use cases::greater_promise;
 pub use codec::{record_decode, record_encode, record_fits, record_migrate};
 pub use fault::AcceptorFault;
 pub use file::FileStore;

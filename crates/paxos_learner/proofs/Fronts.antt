@@ -1,13 +1,13 @@
 -- The front: there is one least place that isn't learned, and the definition finds it.
 use Rattle.std.proofs.Common.{◌≡◌, ◌∙◌, ℕ, ◌+◌, ◌<◌, ◌≤◌, Bool, true, false, ◌||◌, ◌&&◌, T, List, [], ◌∷◌, map, nat_eq, Option, None, Some, is_some, inl, inr, refl, sym, ap, arith}
-use Rattle.std.proofs.lemmas.Bool.{cases_eq, cases_order, eq-eqb, ne_eqb, or_left, or_right, or_from, true≢false}
+use Rattle.std.proofs.lemmas.Bool.{cases_eq, cases_lt, cases_order, eq-eqb, ne_eqb, or_left, or_right, or_from, true≢false}
 use Rattle.std.specs.List.{list_any}
 use Rattle.std.specs.Ordering.{nat_cmp, is_lt, eq_by_cmp}
 use Rattle.std.specs.Cmp.{ranked, unsigned_tied}
 use Rattle.std.specs.declared.cmp.Ordering.{Ordering}
 use Rattle.std.specs.declared.cmp.Ordering.TheVariants.{Less, Equal, Greater}
 use Rattle.std.specs.FinMap.{FinMap, get, keys, entries, entries_sorted, is_sorted, contains_key-keys}
-use Rattle.std.specs.FinMap.Entries.{below_all}
+use Rattle.std.specs.FinMap.Entries.{below_all, find, is_some-find}
 use Rattle.paxos_msg.specs.declared.value.Value.{Value}
 use Rattle.paxos_learner.specs.Learner.{first_missing, front_of, IsFront}
 
@@ -73,7 +73,7 @@ first_is_missing s (k ∷ ks) h =
 -- ---- the places of a map
 
 -- what a test of two tests says
-both_hold : (a b : Bool) → T (a && b) → T a × T b
+pub both_hold : (a b : Bool) → T (a && b) → T a × T b
 both_hold true b h = (tt, h)
 both_hold false b h = absurd h
 
@@ -106,6 +106,18 @@ any_tied i (k ∷ ks) = λ j. unsigned_tied i k j || any_tied i ks j
 -- a map has something exactly at its places
 is_some-has : (m : FinMap nat_cmp Value) (i : ℕ) → is_some (get m i) ≡ has (keys m) i
 is_some-has m i = contains_key-keys m i ∙ any_tied i (keys m)
+
+-- what is found behind place x is at a place above it
+pub found_above : (x q : ℕ) (es : List (ℕ × Value)) (v : Value) → T (below_all nat_cmp x es) → T (is_sorted nat_cmp es) → find nat_cmp q es ≡ Some v → x < q
+found_above x q es v below sorted e =
+    elim (cases_lt x q) [
+      | inl less ↦ less
+      | inr high ↦
+          let places : List ℕ = map (λ f. f.0) es in
+          let there : is_some (find nat_cmp q es) ≡ true = ap is_some e in
+          let none : is_some (find nat_cmp q es) ≡ false = is_some-find nat_cmp q es ∙ any_tied q places ∙ none_below (x + 1) q places (ascend_after x es below sorted) (omega arith) in
+          absurd (true≢false (sym there ∙ none))
+    ]
 
 -- what has no value is `None`
 none_from : (o : Option Value) → is_some o ≡ false → o ≡ None

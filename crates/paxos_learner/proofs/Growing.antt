@@ -66,6 +66,16 @@ module _ (l : Learner) where
 
 -- ---- the window
 
+-- the place behind the last one isn't learned, so that the front isn't above it
+pub front_few : (learned : FinMap nat_cmp Value) → AreInWindow learned → front_of learned ≤ 65536
+front_few learned h =
+    elim (cases_lt 65536 (front_of learned)) [
+      | inl less ↦
+          let there = some_from_test (get learned 65536) ((IsFront-front_of learned).below 65536 less) in
+          absurd (omega (arith, h.place 65536 there.0 there.1))
+      | inr high ↦ high
+    ]
+
 pub insert_in_window : (learned : FinMap nat_cmp Value) (s : ℕ) (v : Value) → get learned s ≡ None → s ≤ 65535 → s < front_of learned + 1024 → AreInWindow learned → AreInWindow (insert learned s v)
 insert_in_window learned s v none place near h =
     let rises : front_of learned ≤ front_of (insert learned s v) = front_rises learned (insert learned s v) (insert_more learned s v none) in

@@ -3,6 +3,7 @@ pub mod OnePlace
 pub mod Stored
 pub mod Fronts
 pub mod KeysOnce
+pub mod Standing
 pub mod ValuesBelow
 pub mod Ends
 pub mod Keeping

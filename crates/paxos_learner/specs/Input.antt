@@ -1,8 +1,8 @@
 -- The input: the bytes of the keys of the learned values below the front, each key once.
 use Rattle.std.specs.Prelude.{◌≡◌, ℕ, ◌==◌, ◌&&◌, not, Bool, Contains, List, [], ◌∷◌, Some, map, filter, filter_map, flat_map}
-use Rattle.std.specs.List.{range_with_len}
+use Rattle.std.specs.List.{list_any, range_with_len}
 use Rattle.std.specs.Ordering.{nat_cmp}
-use Rattle.std.specs.FinMap.{FinMap, get}
+use Rattle.std.specs.FinMap.{FinMap, get, values}
 use Rattle.paxos_msg.specs.declared.value.Value.{Value}
 use Rattle.paxos_msg.specs.Keys.{Key, keys_of}
 use Rattle.paxos_learner.specs.Learner.{front_of}
@@ -10,6 +10,10 @@ use Rattle.paxos_learner.specs.Learner.{front_of}
 -- whether all four fields are the same
 abbrev pub same_key : Key → Key → Bool
 same_key k other = (k.node == other.node) && ((k.start == other.start) && ((k.serial == other.serial) && (k.byte == other.byte)))
+
+-- whether the key is one of these
+abbrev pub has_key : List Key → Key → Bool
+has_key keys k = list_any (same_key k) keys
 
 -- of equal keys the first
 abbrev pub firsts : List Key → List Key
@@ -34,6 +38,10 @@ pub record StandsIn (learned : FinMap nat_cmp Value) (k : Key) : Type 0 where
   pub value : Value
   pub is_learned : get learned place ≡ Some value
   pub has : Contains (keys_of value) k
+
+-- whether the key stands in a learned value, at any place
+abbrev pub is_learned : FinMap nat_cmp Value → Key → Bool
+is_learned learned k = list_any (λ v. has_key (keys_of v) k) (values learned)
 
 -- the learned values at the places below the front
 abbrev pub front_values : FinMap nat_cmp Value → List Value

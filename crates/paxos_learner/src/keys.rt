@@ -108,6 +108,14 @@ impl KeySet {
         }
     }
 
+    /// Takes all keys out, and keeps the room.
+    pub fn clear(&mut self)
+        ensures keys { self.new.keys ≡ [] }
+        ensures room { self.old.room ≤ self.new.room }
+    {
+        self.keys.clear();
+    }
+
     /// How many keys there are.
     pub fn len(&self) -> usize
         ensures { result ≡ length self.now.keys }

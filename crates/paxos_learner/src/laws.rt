@@ -1,6 +1,6 @@
 //! The laws of a learner, over the definitions alone: what it hears keeps what it has learned, and the input only
 //! grows at its end.
-ghost use Rattle.std.specs.Prelude.{◌≡◌, ◌<◌, ◌≤◌, ◌++◌, ℕ, IsTrue, List, Some, is_some, length, slice_get};
+ghost use Rattle.std.specs.Prelude.{◌≡◌, ◌↔◌, ◌<◌, ◌≤◌, ◌++◌, ℕ, Contains, IsTrue, List, Some, is_some, length, slice_get};
 ghost use Rattle.std.specs.FinMap.{empty, FinMap, get};
 ghost use Rattle.std.specs.Ordering.{nat_cmp};
 ghost use Rattle.paxos_msg.specs.declared.ballot.Ballot.{Ballot};
@@ -12,7 +12,7 @@ ghost use Rattle.paxos_msg.specs.Messages.{IsSaid, IsSent};
 ghost use Rattle.paxos_msg.specs.Batches.{Sent};
 ghost use Rattle.paxos_learner.specs.Backed.{IsBacked, Stays};
 ghost use Rattle.paxos_learner.specs.Growth.{AreInWindow, HasLearnedMore, IsInRange};
-ghost use Rattle.paxos_learner.specs.Input.{front_values, input_of, keys_in_order, learned_input, values_below};
+ghost use Rattle.paxos_learner.specs.Input.{front_values, has_key, input_of, is_learned, keys_in_order, learned_input, StandsIn, values_below};
 ghost use Rattle.paxos_learner.specs.Learner.{front_of, IsFront, Learner, new_learner, on_accepted, on_tell};
 
 /// A learner that has heard nothing is backed. One that is backed is so after it hears an Accepted or a Tell that was
@@ -35,11 +35,13 @@ pub fn learned_stays()
     ensures size_told { (l : Learner) (s : ℕ) (v : Value) → (on_tell l s v).learner.size ≡ l.size }
 {}
 
-/// There is one front, and the definition finds it. It does not fall when more is learned.
+/// There is one front, and the definition finds it. It does not fall when more is learned, and is at most 65,536 if
+/// each learned place is at most 65,535.
 pub fn one_front()
     ensures there { (learned : FinMap nat_cmp Value) → IsFront learned (front_of learned) }
     ensures one { (learned : FinMap nat_cmp Value) (front : ℕ) → IsFront learned front → front ≡ front_of learned }
     ensures rises { (old new : FinMap nat_cmp Value) → HasLearnedMore old new → front_of old ≤ front_of new }
+    ensures few { (learned : FinMap nat_cmp Value) → AreInWindow learned → front_of learned ≤ 65536 }
 {}
 
 /// Up to the front there is a value for each place, and the one at a place is the learned one.
@@ -47,6 +49,12 @@ pub fn values_are_learned()
     ensures many { (learned : FinMap nat_cmp Value) (n : ℕ) → n ≤ front_of learned → length (values_below learned n) ≡ n }
     ensures at_place { (learned : FinMap nat_cmp Value) (n s : ℕ) → n ≤ front_of learned → s < n →
         slice_get (values_below learned n) s ≡ get learned s }
+{}
+
+/// The tests of keys hold exactly where their sentences do.
+pub fn key_tests_are_exact()
+    ensures has { (keys : List Key) (k : Key) → IsTrue (has_key keys k) ↔ Contains keys k }
+    ensures learned { (learned : FinMap nat_cmp Value) (k : Key) → IsTrue (is_learned learned k) ↔ StandsIn learned k }
 {}
 
 /// The input of more values begins with that of fewer; so when more is learned the learned input only grows, at its

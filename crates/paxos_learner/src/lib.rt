@@ -12,7 +12,7 @@ mod tally;
 
 pub use heard::{Heard, LearnerFault};
 pub use input::InputAfter;
-pub use keys::TypedKey;
+pub use keys::{KeySet, TypedKey};
 pub use learner::Learner;
 
 #[cfg(test)]

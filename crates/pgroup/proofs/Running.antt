@@ -8,18 +8,19 @@ use Rattle.pcode_file.specs.Parts.{Parts}
 use Rattle.pcode_machine.specs.Configuration.{State, Configuration, joined, start}
 use Rattle.pcode_machine.specs.Outcome.{outcome, Goes}
 use Rattle.pcode_machine.specs.Runs.{after, out, Leads}
-use Rattle.pcode_machine.specs.Turns.{IsQuiet, AreQuiet}
+use Rattle.pcode_machine.specs.Turns.{AreQuiet, Makes, WaitsOn}
 use Rattle.pgroup.specs.declared.run.RunIo.{RunIo}
 use Rattle.pgroup.specs.declared.run.RunIo.TheVariants as io
 use Rattle.pgroup.specs.declared.run.Finish.{Finish}
 use Rattle.pgroup.specs.declared.run.Finish.TheVariants as finish
 use Rattle.pgroup.specs.Streams.{Streams, HasMoved, HasNoFault, HasReadFault, HasWriteFault}
-use Rattle.pgroup.specs.Run.{Makes, WaitsOn, LosesByte, Halts, HasRun, IsOver, RunsTo, Turns, Reached}
+use Rattle.pgroup.specs.Run.{LosesByte, Halts, HasRun, IsOver, RunsTo, Turns, Reached}
 
 -- the laws of runs that a run stands on
 pub record Laws : Type 0 where
   pub longer : (p : Parts) (x y : List ℕ) (n : ℕ) (c : Configuration) → Leads p x n c → Leads p (x ++ y) n c
   pub there : (p : Parts) (x : List ℕ) (n : ℕ) (c : Configuration) → Leads p x n c → after p x n ≡ c
+  pub quiet : (p : Parts) (x : List ℕ) (n m r : ℕ) (o : List ℕ) (s t : State) → Leads p x n (joined s r o) → AreQuiet p m s t → Leads p x (n + m) (joined t r o)
 
 -- ---- what moved, and what was counted, one after another
 
@@ -67,33 +68,17 @@ Reached-more {p} {from} {mid} {to} {n} {old} {new} {took} {wrote} laws r m h f =
       faultless = faultless_on r.faultless f;
     }
 
-reached_one : {p : Parts} {from to : Streams} {n : ℕ} {s t : State} → Reached p from to n s → IsQuiet p s t → Reached p from to (suc n) t
-unfolding Leads
-reached_one {p} {from} {to} {n} {s} {t} r q = record {
-  input = r.input;
-  output = r.output;
-  made = (joined s (length r.input) r.output, r.made, q.goes r.input (length r.input) r.output);
-  moved = r.moved;
-  faultless = r.faultless;
-}
-
-reached_quiet : {p : Parts} {from to : Streams} {n : ℕ} {s t : State} (k : ℕ) → Reached p from to n s → AreQuiet p k s t → Reached p from to (n + k) t
-unfolding AreQuiet
-reached_quiet {p} {from} {to} {n} {s} {t} zero r h =
-    let none : n ≡ n + 0 = omega arith in
-    let P : ℕ → Type 0 = λ m. Reached p from to m t in
-    let Q : State → Type 0 = λ u. Reached p from to n u in
-    subst P none (subst Q (sym h) r)
-reached_quiet {p} {from} {to} {n} {s} {t} (suc k) r h =
-    let one : suc (n + k) ≡ n + suc k = omega arith in
-    let P : ℕ → Type 0 = λ m. Reached p from to m t in
-    subst P one (reached_one (reached_quiet k r h.1) h.2)
-
--- the same by what a machine over the program says
-pub reached_on : {p q : Parts} {from to : Streams} {n : ℕ} {s t : State} (k : ℕ) → q ≡ p → Reached p from to n s → AreQuiet q k s t → Reached p from to (n + k) t
-reached_on {p} {q} {from} {to} {n} {s} {t} k e r h =
+-- steps that read and write nothing, by what a machine over the program says
+pub reached_on : {p q : Parts} {from to : Streams} {n : ℕ} {s t : State} (k : ℕ) → Laws → q ≡ p → Reached p from to n s → AreQuiet q k s t → Reached p from to (n + k) t
+reached_on {p} {q} {from} {to} {n} {s} {t} k laws e r h =
     let P : Parts → Type 0 = λ o. AreQuiet o k s t in
-    reached_quiet k r (subst P e h)
+    record {
+      input = r.input;
+      output = r.output;
+      made = laws.quiet p r.input n k (length r.input) r.output s t r.made (subst P e h);
+      moved = r.moved;
+      faultless = r.faultless;
+    }
 
 -- ---- what was reached, as the run tells it
 

@@ -7,8 +7,8 @@ use Rattle.pcode_machine.specs.declared.turn.End.{End}
 use Rattle.pcode_machine.specs.declared.turn.End.TheVariants.{Normal, Error}
 use Rattle.pcode_machine.specs.Configuration.{State, Configuration, joined}
 use Rattle.pcode_machine.specs.Outcome.{outcome, Goes, Waiting}
-use Rattle.pcode_machine.specs.Turns.{told, IsTurn, TakesByte}
-use Rattle.pgroup.specs.Run.{Makes, WaitsOn, EndsBy, Halts, finish_of}
+use Rattle.pcode_machine.specs.Turns.{told, EndsBy, IsTurn, Makes, TakesByte, WaitsOn}
+use Rattle.pgroup.specs.Run.{Halts, finish_of}
 
 pub makes-went : {p : Parts} {old new : State} → IsTurn p [] old Went new → Makes p old new [] []
 makes-went t = record { steps = λ before output. rw (add-zero (length before), append-nil output) (t.tells before output) }

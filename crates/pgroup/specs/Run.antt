@@ -8,6 +8,7 @@ use Rattle.pcode_machine.specs.declared.turn.End.TheVariants as ends
 use Rattle.pcode_machine.specs.Configuration.{State, joined}
 use Rattle.pcode_machine.specs.Outcome.{outcome, Goes, Stops, Waiting}
 use Rattle.pcode_machine.specs.Runs.{after, out, Leads}
+use Rattle.pcode_machine.specs.Turns.{EndsBy, Makes, WaitsOn}
 use Rattle.pgroup.specs.declared.run.Finish.{Finish}
 use Rattle.pgroup.specs.declared.run.Finish.TheVariants as finish
 use Rattle.pgroup.specs.declared.run.RunIo.{RunIo}
@@ -68,18 +69,6 @@ RunsTo p from to steps (Err io.Read) = FailsToRead p from to steps
 RunsTo p from to steps (Err io.Write) = FailsToWrite p from to steps
 
 -- ---- one turn of the run, as the machine's state sees it
-
--- a step from old to new that takes these bytes and writes those, whatever came before
-pub record Makes (p : Parts) (old new : State) (took wrote : List ℕ) : Type 0 where
-  pub steps : (before output : List ℕ) → outcome p (before ++ took) (joined old (length before) output) ≡ Goes (joined new (length before + length took) (output ++ wrote))
-
--- the machine waits for a byte
-pub record WaitsOn (p : Parts) (s : State) : Type 0 where
-  pub waits : (before output : List ℕ) → outcome p before (joined s (length before) output) ≡ Waiting
-
--- the machine has ended
-pub record EndsBy (p : Parts) (s : State) (e : End) : Type 0 where
-  pub stops : (before output : List ℕ) → outcome p before (joined s (length before) output) ≡ Stops e
 
 -- no step is made, for this reason
 abbrev pub Halts : Parts → State → Option (List ℕ) → Finish → Type 0

@@ -2,10 +2,13 @@
 ghost use Rattle.std.specs.Prelude.{◌≡◌, ℕ, List, [], ◌∷◌, MatchResult};
 ghost use Rattle.std.specs.Io.KnownBytes.{Keeps, Appends};
 ghost use Rattle.base.specs.Faults.{HasRisen};
-ghost use Rattle.pgroup.specs.Run.{Makes, WaitsOn, Turns, RunsTo, finish_of};
+ghost use Rattle.pcode_machine.specs.Turns.{Makes, WaitsOn};
+ghost use Rattle.pgroup.specs.Run.{Turns, RunsTo, finish_of};
 
 use crate::streams::{ByteReader, ByteWriter, ReadFault, WriteFault};
-use pcode_machine::laws::{goes_on_with_a_byte, run_is_after, same_run_on_longer_input};
+use pcode_machine::laws::{
+    goes_on_with_a_byte, quiet_steps_lead_on, run_is_after, same_run_on_longer_input,
+};
 use pcode_machine::{End, Machine, Turn};
 use pcode_ops::Program;
 use std::alloc::Global;
@@ -116,9 +119,10 @@ pub fn run_program<R: ByteReader, W: ByteWriter>(
         (record { reader = R.remaining reader.old; writer = W.contents writer.old; read_faults = R.read_faults reader.old; write_faults = W.write_faults writer.old })
         (record { reader = R.remaining reader.new; writer = W.contents writer.new; read_faults = R.read_faults reader.new; write_faults = W.write_faults writer.new }) steps result }
 {
-    // Steps on an input are steps on each longer input, and lead to what is after so many.
+    // Steps on an input are steps on each longer input, and lead to what is after so many; quiet ones go on from there.
     same_run_on_longer_input();
     run_is_after();
+    quiet_steps_lead_on();
     let Ok(mut machine) = Machine::new(alloc, program) else {
         return Err(RunIo::Memory);
     };

@@ -1,0 +1,213 @@
+-- The machine with its ring and its counts stays exact, from one step to the next.
+use Rattle.std.proofs.Common.{◌≡◌, ℕ, zero, suc, ◌+◌, ◌<◌, ◌≤◌, ◌↔◌, List, [], ◌∷◌, ◌++◌, length, take, drop, slice_get, Some, None, refl, sym, ◌∙◌, ap, subst, add-zero, add-one, append-nil, append_assoc, length-append, arith}
+use Rattle.std.proofs.lemmas.List.{drop-drop, length-drop, length-take, take-append-drop, drop-append-le}
+use Rattle.std.proofs.lemmas.Option.{slice_get_within}
+use Rattle.circular_buffer.specs.Buffer.{buffer, Buffer}
+use Rattle.pcode_file.specs.Parts.{Parts}
+use Rattle.pcode_machine.specs.declared.turn.Turn.{Turn}
+use Rattle.pcode_machine.specs.declared.turn.Turn.TheVariants.{Went, Wrote, Took, TookAndWrote, Waits, Ended}
+use Rattle.pcode_machine.specs.declared.turn.End.{End}
+use Rattle.pcode_machine.specs.Configuration.{State, Configuration, joined, start}
+use Rattle.pcode_machine.specs.Outcome.{outcome, Goes, Stops, Waiting}
+use Rattle.pcode_machine.specs.Runs.{after, Leads}
+use Rattle.pcode_machine.specs.Step.{Ends}
+use Rattle.pcode_machine.specs.Turns.{told, IsTurn, TakesByte, AreQuiet, Makes, WaitsOn}
+use Rattle.group_node.specs.declared.player.Player.{Player}
+use Rattle.group_node.specs.Player.{IsExact, Moves}
+
+-- the laws of runs that a step stands on
+pub record Laws : Type 0 where
+  pub there : (p : Parts) (x : List ℕ) (n : ℕ) (c : Configuration) → Leads p x n c → after p x n ≡ c
+  pub longer : (p : Parts) (x y : List ℕ) (c d : Configuration) → outcome p x c ≡ Goes d → outcome p (x ++ y) c ≡ Goes d
+  pub ends : (p : Parts) (x : List ℕ) (c : Configuration) (e : End) → Ends p c e ↔ (outcome p x c ≡ Stops e)
+
+-- ---- a turn, whatever came before
+
+-- a turn that reads and writes nothing
+pub makes-went : {p : Parts} {old new : State} → IsTurn p [] old Went new → Makes p old new [] []
+makes-went t = record { steps = λ before output. rw (add-zero (length before), append-nil output) (t.tells before output) }
+
+-- a turn that writes
+pub makes-wrote : {p : Parts} {old new : State} {b : ℕ} → IsTurn p [] old (Wrote b) new → Makes p old new [] (b ∷ [])
+makes-wrote t = record { steps = λ before output. rw (add-zero (length before)) (t.tells before output) }
+
+-- a turn that takes the offered byte
+pub makes-took : {p : Parts} {old new : State} {b : ℕ} → IsTurn p (b ∷ []) old Took new → Makes p old new (b ∷ []) []
+makes-took t = record { steps = λ before output. rw (append-nil output) (t.tells before output) }
+
+-- a turn that takes the offered byte and writes it
+pub makes-echoed : {p : Parts} {old new : State} {b e : ℕ} → IsTurn p (b ∷ []) old (TookAndWrote e) new → Makes p old new (b ∷ []) (e ∷ [])
+makes-echoed t = record { steps = λ before output. t.tells before output }
+
+-- what a turn without an offered byte tells
+told-idle : {p : Parts} {old new : State} {turn : Turn} → IsTurn p [] old turn new
+    → (before output : List ℕ) → outcome p before (joined old (length before) output) ≡ told turn new (length before) output
+told-idle {p} {old} {new} {turn} t before output =
+    let P : List ℕ → Type 0 = λ x. outcome p x (joined old (length before) output) ≡ told turn new (length before) output in
+    subst P (append-nil before) (t.tells before output)
+
+-- a turn that waits
+pub waits-idle : {p : Parts} {old new : State} → IsTurn p [] old Waits new → WaitsOn p old
+waits-idle t = record { waits = told-idle t }
+
+-- a machine that waits takes the byte that it is given
+pub takes-fed : {p : Parts} {old new : State} {b : ℕ} {turn : Turn}
+    → ((p : Parts) (x : List ℕ) (b : ℕ) (c : Configuration) → c.read ≡ length x → outcome p x c ≡ Waiting → (d : Configuration) × (outcome p (x ++ b ∷ []) c ≡ Goes d) × (d.read ≡ c.read + 1))
+    → WaitsOn p old → IsTurn p (b ∷ []) old turn new → TakesByte turn
+takes-fed {p} {old} {new} {b} {turn} law w t = takes turn (t.tells [] []) (law p [] b (joined old 0 []) refl (w.waits [] [])) where
+  takes : (turn : Turn) → outcome p (b ∷ []) (joined old 0 []) ≡ told turn new 0 [] → ((d : Configuration) × (outcome p (b ∷ []) (joined old 0 []) ≡ Goes d) × (d.read ≡ 1)) → TakesByte turn
+  takes Took t g = tt
+  takes (TookAndWrote e) t g = tt
+  takes Went t g = absurd cc
+  takes (Wrote e) t g = absurd cc
+  takes Waits t g = absurd cc
+  takes (Ended e) t g = absurd cc
+
+-- there are two turns that take a byte
+pub not-takes : (turn : Turn) → TakesByte turn → (turn ≡ Took → ⊥) → ((b : ℕ) → turn ≡ TookAndWrote b → ⊥) → ⊥
+not-takes Took t no_took no_echo = no_took refl
+not-takes (TookAndWrote b) t no_took no_echo = no_echo b refl
+not-takes Went t no_took no_echo = t
+not-takes (Wrote b) t no_took no_echo = t
+not-takes Waits t no_took no_echo = t
+not-takes (Ended e) t no_took no_echo = t
+
+-- ---- one step more
+
+-- so many are taken of a list that has them
+taken_length : (x : List ℕ) (n : ℕ) → n ≤ length x → length (take n x) ≡ n
+taken_length x n le = omega (arith, length-take n x)
+
+-- a step that takes what the input has next
+pub exact_more : {x : List ℕ} {old new : Player} {took wrote : List ℕ} → Laws → IsExact x old → length old.unreleased.items < 256 → Moves old new took wrote
+    → (rest : List ℕ) → (take old.read x ++ took) ++ rest ≡ x → IsExact x new
+unfolding Leads
+exact_more {x} {old} {new} {took} {wrote} laws h room m rest split =
+    let len = taken_length x old.read h.read in
+    let goes = laws.longer old.machine.program (take old.read x ++ took) rest (joined old.machine.state (length (take old.read x)) h.output) (joined new.machine.state (length (take old.read x) + length took) (h.output ++ wrote)) (m.made.steps (take old.read x) h.output) in
+    let P : List ℕ → Type 0 = λ y. outcome old.machine.program y (joined old.machine.state (length (take old.read x)) h.output) ≡ Goes (joined new.machine.state (length (take old.read x) + length took) (h.output ++ wrote)) in
+    let Q : ℕ → Type 0 = λ k. outcome old.machine.program x (joined old.machine.state k h.output) ≡ Goes (joined new.machine.state (k + length took) (h.output ++ wrote)) in
+    let all : length ((take old.read x ++ took) ++ rest) ≡ length x = ap length split in
+    let within : old.read + length took ≤ length x = omega (arith, length-append (take old.read x ++ took) rest, length-append (take old.read x) took) in
+    let waits = ap (λ (b : Buffer ℕ). b.items) m.waits in
+    let capacity = ap (λ (b : Buffer ℕ). b.capacity) m.waits in
+    let tail = drop-append-le old.released h.output wrote h.released in
+    record {
+      output = h.output ++ wrote;
+      made = rw (m.program, m.steps, add-one, m.read) (joined old.machine.state old.read h.output, h.made, subst Q len (subst P split goes));
+      read = rw m.read within;
+      waits = rw (waits, m.released, tail, h.waits) refl;
+      released = rw m.released (omega (arith, length-append h.output wrote, h.released));
+      few = rw m.steps (omega (arith, length-append h.output wrote, h.few, m.short));
+      seldom = rw (m.steps, m.read) (omega (arith, h.seldom, m.one));
+      room = rw waits (omega (arith, length-append old.unreleased.items wrote, m.short));
+      capacity = capacity ∙ h.capacity;
+    }
+
+-- a step that takes nothing
+pub exact_idle : {x : List ℕ} {old new : Player} {wrote : List ℕ} → Laws → IsExact x old → length old.unreleased.items < 256 → Moves old new [] wrote → IsExact x new
+exact_idle {x} {old} {new} {wrote} laws h room m =
+    exact_more laws h room m (drop old.read x) (rw (append-nil (take old.read x)) (take-append-drop old.read x))
+
+-- what is left from the place of an element on
+drop_at : (x : List ℕ) (n b : ℕ) → slice_get x n ≡ Some b → drop n x ≡ b ∷ drop (suc n) x
+drop_at [] n b e = absurd cc
+drop_at (y ∷ ys) zero b e = let same : y ≡ b = cc in rw same refl
+drop_at (y ∷ ys) (suc n) b e = drop_at ys n b e
+
+-- a step that takes the next byte of the input
+pub exact_fed : {x : List ℕ} {old new : Player} {b : ℕ} {wrote : List ℕ} → Laws → IsExact x old → length old.unreleased.items < 256 → slice_get x old.read ≡ Some b
+    → Moves old new (b ∷ []) wrote → IsExact x new
+exact_fed {x} {old} {new} {b} {wrote} laws h room e m =
+    let whole : take old.read x ++ (b ∷ drop (suc old.read) x) ≡ x = rw (← drop_at x old.read b e) (take-append-drop old.read x) in
+    exact_more laws h room m (drop (suc old.read) x) (rw append_assoc whole)
+
+-- ---- why no step is made
+
+-- the configuration that a replay comes to
+pub replayed : {x : List ℕ} {q : Player} → ((p : Parts) (x : List ℕ) (n : ℕ) (c : Configuration) → Leads p x n c → after p x n ≡ c)
+    → (h : IsExact x q) → after q.machine.program x q.steps ≡ joined q.machine.state q.read h.output
+replayed {x} {q} there h = there q.machine.program x q.steps _ h.made
+
+-- where there is no next byte, all were read
+all_read : (x : List ℕ) (n : ℕ) → slice_get x n ≡ None → n ≤ length x → (n ≡ length x) × (take n x ≡ x)
+all_read [] zero e le = (refl, refl)
+all_read [] (suc n) e le = absurd (omega arith)
+all_read (y ∷ ys) zero e le = absurd cc
+all_read (y ∷ ys) (suc n) e le = let r = all_read ys n e (omega arith) in (ap suc r.0, ap (λ (zs : List ℕ). y ∷ zs) r.1)
+
+-- the machine waits, and all of the input is read
+pub halts_waiting : {x : List ℕ} {q : Player} → Laws → IsExact x q → WaitsOn q.machine.program q.machine.state → slice_get x q.read ≡ None
+    → outcome q.machine.program x (after q.machine.program x q.steps) ≡ Waiting
+halts_waiting {x} {q} laws h w e =
+    let r = all_read x q.read e h.read in
+    let Q : ℕ → Type 0 = λ k. outcome q.machine.program x (joined q.machine.state k h.output) ≡ Waiting in
+    rw (replayed laws.there h) (subst Q (sym r.0) (w.waits x h.output))
+
+-- the program has ended
+pub halts_ended : {x : List ℕ} {q : Player} {new : State} {e : End} → Laws → IsExact x q → IsTurn q.machine.program [] q.machine.state (Ended e) new
+    → outcome q.machine.program x (after q.machine.program x q.steps) ≡ Stops e
+halts_ended {x} {q} {new} {e} laws h t =
+    let len = taken_length x q.read h.read in
+    let short = told-idle t (take q.read x) h.output in
+    let Q : ℕ → Type 0 = λ k. outcome q.machine.program (take q.read x) (joined q.machine.state k h.output) ≡ Stops e in
+    let there : Ends q.machine.program (joined q.machine.state q.read h.output) e = (laws.ends q.machine.program (take q.read x) (joined q.machine.state q.read h.output) e).1 (subst Q len short) in
+    rw (replayed laws.there h) ((laws.ends q.machine.program x (joined q.machine.state q.read h.output) e).0 there)
+
+-- ---- other calls
+
+-- steps that read and write nothing
+pub exact_quiet : {x : List ℕ} {old new : Player} (k : ℕ)
+    → ((p : Parts) (x : List ℕ) (n m r : ℕ) (o : List ℕ) (s t : State) → Leads p x n (joined s r o) → AreQuiet p m s t → Leads p x (n + m) (joined t r o)) → IsExact x old → AreQuiet old.machine.program k old.machine.state new.machine.state
+    → new.machine.program ≡ old.machine.program → new.unreleased ≡ old.unreleased → new.steps ≡ old.steps + k → new.read ≡ old.read → new.released ≡ old.released → IsExact x new
+exact_quiet {x} {old} {new} k quiet h a program waits steps read released = record {
+  output = h.output;
+  made = rw (program, steps, read) (quiet old.machine.program x old.steps k old.read h.output old.machine.state new.machine.state h.made a);
+  read = rw read h.read;
+  waits = rw (waits, released) h.waits;
+  released = rw released h.released;
+  few = rw steps (omega (arith, h.few));
+  seldom = rw (steps, read) (omega (arith, h.seldom));
+  room = rw waits h.room;
+  capacity = rw waits h.capacity;
+}
+
+-- before the first step
+pub exact_start : (x : List ℕ) (q : Player) → q.machine.state ≡ start q.machine.program → q.steps ≡ 0 → q.read ≡ 0 → q.released ≡ 0 → q.unreleased ≡ buffer [] 256 → IsExact x q
+unfolding Leads
+exact_start x q state steps read released waits = record {
+  output = [];
+  made = rw (state, steps, read) refl;
+  read = omega arith;
+  waits = rw (waits, released) refl;
+  released = omega arith;
+  few = omega arith;
+  seldom = omega arith;
+  room = rw waits (omega arith);
+  capacity = rw waits refl;
+}
+
+-- where a byte waits, not all output is released
+pub more_released : {x : List ℕ} {q : Player} {b : ℕ} → IsExact x q → slice_get q.unreleased.items 0 ≡ Some b → q.released < q.steps
+more_released {x} {q} {b} h e =
+    let e' : slice_get (drop q.released h.output) 0 ≡ Some b = rw h.waits at e in
+    let more : 0 < length (drop q.released h.output) = slice_get_within (drop q.released h.output) 0 b e' in
+    omega (arith, length-drop q.released h.output, h.few)
+
+-- the first byte that waits is released
+pub exact_released : {x : List ℕ} {q : Player} {b : ℕ} → IsExact x q → slice_get q.unreleased.items 0 ≡ Some b
+    → IsExact x (record q { unreleased = buffer (drop 1 q.unreleased.items) q.unreleased.capacity; released = q.released + 1 })
+exact_released {x} {q} {b} h e =
+    let e' : slice_get (drop q.released h.output) 0 ≡ Some b = rw h.waits at e in
+    let more : 0 < length (drop q.released h.output) = slice_get_within (drop q.released h.output) 0 b e' in
+    record {
+      output = h.output;
+      made = h.made;
+      read = h.read;
+      waits = rw h.waits (drop-drop 1 q.released h.output);
+      released = omega (arith, length-drop q.released h.output);
+      few = h.few;
+      seldom = h.seldom;
+      room = omega (arith, length-drop 1 q.unreleased.items, h.room);
+      capacity = h.capacity;
+    }

@@ -1,0 +1,57 @@
+-- Waiting characters that leave from the front, one after another.
+use Rattle.std.proofs.Common.{◌≡◌, ◌↔◌, ◌∙◌, ℕ, zero, suc, ◌+◌, List, [], ◌∷◌, drop, length, slice_get, Some, Bool, true, false, IsTrue, Contains, if◌then◌else◌, refl, sym, arith}
+use Rattle.paxos_msg.specs.Keys.{Key, keys_from}
+use Rattle.paxos_learner.specs.Input.{has_key, same_key}
+use Rattle.group_node.specs.Node.{count_read}
+use Rattle.group_node.specs.Ranges.{IsWaiting}
+
+-- some have left, all of them read: those that are to leave of these are those that were to leave of all
+pub record IsLeaving (read : List Key) (node start was : ℕ) (all : List ℕ) (first : ℕ) (bytes : List ℕ) : Type 0 where
+  pub rest : drop (count_read read (keys_from node start first bytes)) bytes ≡ drop (count_read read (keys_from node start was all)) all
+  pub serial : first + count_read read (keys_from node start first bytes) ≡ was + count_read read (keys_from node start was all)
+
+-- how many are read, by whether the first is
+count_by : (read : List Key) (t : Bool) (k : Key) (ks : List Key) → has_key read k ≡ t → count_read read (k ∷ ks) ≡ (if t then suc (count_read read ks) else 0)
+count_by read t k ks e = rw e refl
+
+-- the first is read, and leaves
+pub leaves : {read : List Key} {node start was first byte : ℕ} {all bytes : List ℕ} → IsLeaving read node start was all first (byte ∷ bytes)
+    → has_key read (record { node = node; start = start; serial = first; byte = byte }) ≡ true → IsLeaving read node start was all (first + 1) bytes
+leaves {read} {node} {start} {was} {first} {byte} {all} {bytes} h e =
+    let count = count_by read true (record { node = node; start = start; serial = first; byte = byte }) (keys_from node start (first + 1) bytes) e in
+    record {
+      rest = rw count at h.rest;
+      serial =
+          let s = rw count at h.serial in
+          omega (arith, s);
+    }
+
+-- the first isn't read, and all that are left stay
+pub stay : {read : List Key} {node start was first byte : ℕ} {all bytes : List ℕ} → IsLeaving read node start was all first (byte ∷ bytes)
+    → has_key read (record { node = node; start = start; serial = first; byte = byte }) ≡ false
+    → (byte ∷ bytes ≡ drop (count_read read (keys_from node start was all)) all) × (first ≡ was + count_read read (keys_from node start was all))
+stay {read} {node} {start} {was} {first} {byte} {all} {bytes} h e =
+    let count = count_by read false (record { node = node; start = start; serial = first; byte = byte }) (keys_from node start (first + 1) bytes) e in
+    let s = rw count at h.serial in
+    (rw count at h.rest, omega (arith, s))
+
+-- a test that doesn't hold
+pub untrue : (t : Bool) → ¬ IsTrue t → t ≡ false
+untrue true h = absurd (h refl)
+untrue false h = refl
+
+-- the first, and those behind it
+pub first_is : (bytes : List ℕ) (byte : ℕ) → slice_get bytes 0 ≡ Some byte → bytes ≡ byte ∷ drop 1 bytes
+first_is [] byte e = absurd cc
+first_is (x ∷ xs) byte e =
+    let same : x ≡ byte = cc in
+    rw same refl
+
+-- serials may go on behind the first
+pub waiting_next : {first byte : ℕ} {bytes : List ℕ} → IsWaiting first (byte ∷ bytes) → IsWaiting (first + 1) bytes
+waiting_next {first} {byte} {bytes} h = record {
+  some = omega arith;
+  fits = omega (arith, h.fits);
+  few = omega (arith, h.few);
+  characters = λ i. h.characters (suc i);
+}

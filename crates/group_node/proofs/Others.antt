@@ -1,0 +1,29 @@
+-- What other nodes send, and keys that are typed.
+use Rattle.std.proofs.Common.{◌≡◌, ◌≢◌, ◌∙◌, ℕ, List, [], ◌∷◌, ◌++◌, Option, inl, inr, sym, ap, subst}
+use Rattle.std.proofs.lemmas.List.Elements.{Contains-append_left, Contains-push_cases}
+use Rattle.paxos_msg.specs.declared.ballot.Ballot.{Ballot}
+use Rattle.paxos_msg.specs.declared.value.Value.{Value}
+use Rattle.paxos_msg.specs.declared.message.Body.TheVariants.{Accept}
+use Rattle.paxos_msg.specs.Batches.{Body, MaySend, Msg, Record, Sent}
+use Rattle.paxos_msg.specs.Keys.{Key}
+use Rattle.paxos_msg.specs.Messages.{IsSaid}
+use Rattle.group_node.specs.Backs.{Backs}
+use Rattle.group_node.specs.Node.{Node}
+use Rattle.group_node.proofs.Growing.{IsQuiet}
+
+-- what another node may send proposes nothing under a ballot of this one
+pub other_quiet : (size : ℕ) (known : List Key) (learned : ℕ → Option Value) (sent : Sent) (me j : ℕ) (r : Record) (body : Body) → j ≢ me → MaySend size known learned sent j r body → IsQuiet me sent (record { sender = j; body = body } ∷ [])
+other_quiet size known learned sent me j r body ne may = record { old = old }
+  where
+    old : (b : Ballot) (s : ℕ) (v : Value) → b.node ≡ me → IsSaid (sent ++ record { sender = j; body = body } ∷ []) (Accept b s v) → IsSaid sent (Accept b s v)
+    old b s v mine (i, h) = elim (Contains-push_cases sent (record { sender = j; body = body }) (record { sender = i; body = Accept b s v }) h) [
+      | inl before ↦ (i, before)
+      | inr e ↦
+          let said : body ≡ Accept b s v = ap (λ (m : Msg). m.body) e in
+          let rule : MaySend size known learned sent j r (Accept b s v) = subst (MaySend size known learned sent j r) said may in
+          absurd (ne (sym rule.0 ∙ mine))
+    ]
+
+-- a node stays backed when more is typed
+pub typed_later : (sent : Sent) (typed more : List Key) (n : Node) → Backs sent typed n → Backs sent (typed ++ more) n
+typed_later sent typed more n h = record { kept = h.kept; proposer = h.proposer; learner = h.learner; waiting = λ k has. Contains-append_left typed more k (h.waiting k has) }

@@ -1,0 +1,155 @@
+-- How many packets a call sends.
+use Rattle.std.proofs.Common.{ℕ, zero, suc, ◌+◌, ◌-◌, ◌≤◌, min, Bool, true, false, ◌&&◌, not, if◌then◌else◌, List, [], ◌∷◌, ◌++◌, length, Option, Some, None, IfSome, arith}
+use Rattle.std.specs.Ordering.{nat_cmp}
+use Rattle.std.specs.FinMap.{FinMap}
+use Rattle.std.specs.List.{cons_option, filter_map, range_with_len}
+use Rattle.std.proofs.lemmas.List.{length-append, length-map, length-take}
+use Rattle.std.proofs.lemmas.List.FromFn.{length-range_with_len}
+use Rattle.paxos_msg.specs.declared.ballot.Ballot.{Ballot}
+use Rattle.paxos_msg.specs.declared.value.Value.{Value}
+use Rattle.paxos_msg.specs.declared.message.Body.TheVariants.{Prepare, Promise, Accept, Accepted, Refused, Submit, Ask, Tell}
+use Rattle.paxos_msg.specs.Batches.{Body, Vote}
+use Rattle.paxos_msg.specs.Keys.{keys_of}
+use Rattle.paxos_msg.specs.Tests.{same_ballot}
+use Rattle.paxos_proposer.specs.Proposer.{after_part, asks_on, is_covered, next_of, next_value, Proposer, proposing}
+use Rattle.paxos_learner.specs.Learner.{front_of}
+use Rattle.group_node.specs.Delivered.{on_message}
+use Rattle.group_node.specs.Leading.{accept_again, accepts_again, asks, asks_again, at_tick, are_known, batch_of, leaves_room, offer_after, offering, prepare_from, prepares_again, proposing_on, submits, submitted, taking_part, ticked}
+use Rattle.group_node.specs.Node.{at_ask, front, Node, quiet, tell_at}
+use Rattle.group_node.specs.Packets.{Packet, to_all}
+use Rattle.group_node.specs.Pump.{accepts_of, offer, Proposals, propose, pump, stop}
+use Rattle.group_node.specs.Ranges.{IsInRange, IsOwnProposer}
+
+-- ---- lists
+
+-- one more at most
+more_by_one : {X : Type 0} (o : Option X) (xs : List X) → length (cons_option o xs) ≤ suc (length xs)
+more_by_one None xs = omega arith
+more_by_one (Some x) xs = omega arith
+
+-- each item gives one at most
+filter_map_few : {X Y : Type 0} (f : X → Option Y) (xs : List X) → length (filter_map f xs) ≤ length xs
+filter_map_few f [] = omega arith
+filter_map_few f (x ∷ xs) = omega (arith, more_by_one (f x) (filter_map f xs), filter_map_few f xs)
+
+-- of so many places one each at most
+places_few : {Y : Type 0} (f : ℕ → Option Y) (a n : ℕ) → length (filter_map f (range_with_len a n)) ≤ n
+places_few f a n = omega (arith, filter_map_few f (range_with_len a n), length-range_with_len a n)
+
+-- an Accept for each proposal
+accepts_few : (most : ℕ) (votes : List Vote) → length votes ≤ most → length (accepts_of votes) ≤ most
+accepts_few most votes few = omega (arith, length-map votes (λ (vote : Vote). to_all (Accept vote.ballot vote.place vote.value)))
+
+-- two lists
+both_few : {X : Type 0} (a b : ℕ) (xs ys : List X) → length xs ≤ a → length ys ≤ b → length (xs ++ ys) ≤ a + b
+both_few a b xs ys h k = omega (arith, length-append xs ys)
+
+-- ---- proposals
+
+-- a proposal, if there is one, and what goes on behind it
+propose_few : (p : Proposer) (o : Option Value) (go_on : Proposer → Proposals) (most : ℕ) → ((q : Proposer) → length (go_on q).made ≤ most) → length (propose p o go_on).made ≤ suc most
+propose_few p None go_on most few = omega arith
+propose_few p (Some v) go_on most few = omega (arith, few (proposing p (Some v)))
+
+-- a pump
+pub pump_few : (n : ℕ) (p : Proposer) → length (pump n p).made ≤ n
+unfolding pump
+pump_few zero p = omega arith
+pump_few (suc n) p = propose_few p (next_value p None) (pump n) n (pump_few n)
+
+-- an offer, or none
+offer_if : (t : Bool) (p : Proposer) (v : Value) → length (if t then offer p v else stop p).made ≤ 1
+offer_if true p v = propose_few p (next_value p (Some v)) stop 0 (λ q. omega arith)
+offer_if false p v = omega arith
+
+-- an offer behind a pump
+pub offer_few : (pumped : Proposals) (v : Value) → length (offer_after pumped v).made ≤ 1
+offer_few pumped v = offer_if (leaves_room pumped) pumped.proposer v
+
+-- ---- messages
+
+-- an Ask: a packet for each place that is told at most
+pub ask_few : (n : Node) (j from : ℕ) → length (at_ask n j from).sends ≤ min 16 (front n - from)
+ask_few n j from = places_few (tell_at n.learner.learned j) from (min 16 (front n - from))
+
+-- at most one Prepare asks on
+prepare_few : (b : Ballot) (j : ℕ) (o : Option ℕ) → length (prepare_from b j o) ≤ 1
+prepare_few b j None = omega arith
+prepare_few b j (Some s) = omega arith
+
+-- by whether the part is for the proposer's own ballot
+promise_if : (n : Node) (t : Bool) (before : List Packet) (p : Proposer) → length before ≤ 1 → length (if t then proposing_on n before (pump 16 p) else quiet n).sends ≤ 17
+promise_if n false before p few = omega arith
+promise_if n true before p few = both_few 1 16 before (accepts_of (pump 16 p).made) few (accepts_few 16 (pump 16 p).made (pump_few 16 p))
+
+-- a Promise, by the proposer, if there is one
+promise_few : (n : Node) (o : Option Proposer) (j : ℕ) (b : Ballot) (first upto : ℕ) (votes : List Vote) → length (taking_part n o j b first upto votes).sends ≤ 17
+promise_few n None j b first upto votes = omega arith
+promise_few n (Some p) j b first upto votes =
+    promise_if n (same_ballot p.ballot b) (prepare_from b j (asks_on p j first upto)) (after_part p j first upto votes) (prepare_few b j (asks_on p j first upto))
+
+-- by whether it leads and there is a key that isn't known
+submit_if : (n : Node) (t : Bool) (p : Proposer) (v : Value) → length (if t then offering n v (pump 16 p) (offer_after (pump 16 p) v) else quiet n).sends ≤ 17
+submit_if n false p v = omega arith
+submit_if n true p v =
+    let made : List Vote = (offer_after (pump 16 p) v).made in
+    both_few 16 1 (accepts_of (pump 16 p).made) (accepts_of made) (accepts_few 16 (pump 16 p).made (pump_few 16 p)) (accepts_few 1 made (offer_few (pump 16 p) v))
+
+-- a Submit, by the proposer, if there is one
+submit_few : (n : Node) (o : Option Proposer) (v : Value) → length (submitted n o v).sends ≤ 17
+submit_few n None v = omega arith
+submit_few n (Some p) v = submit_if n (is_covered p (next_of p) && not (are_known n (keys_of v))) p v
+
+-- a message of any kind
+pub message_few : (n : Node) (j : ℕ) (body : Body) → length (on_message n j body).sends ≤ 17
+message_few n j (Prepare b from) = omega arith
+message_few n j (Promise b first upto votes) = promise_few n n.proposer j b first upto votes
+message_few n j (Accept b s v) = omega arith
+message_few n j (Accepted b s v) = omega arith
+message_few n j (Refused b promised) = omega arith
+message_few n j (Submit v) = submit_few n n.proposer v
+message_few n j (Ask from) = omega (arith, ask_few n j from)
+message_few n j (Tell s v) = omega arith
+
+-- ---- tick
+
+-- none, or these
+if_few : {X : Type 0} (most : ℕ) (t : Bool) (xs : List X) → length xs ≤ most → length (if t then [] else xs) ≤ most
+if_few most true xs few = omega arith
+if_few most false xs few = few
+
+-- a Prepare for each node at most
+prepares_few : (p : Proposer) → p.size ≤ 9 → length (prepares_again p) ≤ 9
+prepares_few p small =
+    let packets : List Packet = filter_map (asks_again p) (range_with_len 1 p.size) in
+    if_few 9 (is_covered p 65535) packets (omega (arith, places_few (asks_again p) 1 p.size))
+
+-- the Accepts that are sent again
+again_few : (learned : FinMap nat_cmp Value) (p : Proposer) → length (accepts_again learned p) ≤ 16
+again_few learned p = omega (arith, length-take 16 (filter_map (accept_again learned p) (range_with_len (front_of learned) (next_of p - front_of learned))))
+
+-- one Submit at most
+submits_few : (o : Option Value) → length (submits o) ≤ 1
+submits_few None = omega arith
+submits_few (Some v) = omega arith
+
+-- it, and the Ask
+asks_few : (n : Node) → length (asks n) ≤ 2
+asks_few n = both_few 1 1 (submits (batch_of n n.waiting)) (to_all (Ask (front n)) ∷ []) (submits_few (batch_of n n.waiting)) (omega arith)
+
+-- a tick, by the proposer, if there is one
+tick_at : (n : Node) (o : Option Proposer) → IfSome o (λ p. p.size ≤ 9) → length (ticked n o).sends ≤ 43
+tick_at n None small = omega (arith, asks_few n)
+tick_at n (Some p) small =
+    both_few 25 18 (prepares_again p ++ accepts_again n.learner.learned p) (accepts_of (pump 16 p).made ++ asks n)
+    (both_few 9 16 (prepares_again p) (accepts_again n.learner.learned p) (prepares_few p small) (again_few n.learner.learned p))
+    (both_few 16 2 (accepts_of (pump 16 p).made) (asks n) (accepts_few 16 (pump 16 p).made (pump_few 16 p)) (asks_few n))
+
+-- a group has at most nine nodes
+small_all : (n : Node) (o : Option Proposer) → n.me.group.size ≤ 9 → IfSome o (IsOwnProposer n.me) → IfSome o (λ p. p.size ≤ 9)
+small_all n None few own = tt
+small_all n (Some p) few own = omega (arith, own.size)
+
+-- a tick
+pub tick_few : (n : Node) → IsInRange n → length (at_tick n).sends ≤ 43
+tick_few n h = tick_at n n.proposer (small_all n n.proposer h.me.few h.proposer)

@@ -1,0 +1,119 @@
+-- The proposals of a pump, one after another, are those of the definition.
+use Rattle.std.proofs.Common.{◌≡◌, ◌∙◌, ℕ, zero, suc, ◌+◌, ◌<◌, ◌≤◌, List, [], ◌∷◌, ◌++◌, length, map, Option, Some, None, option_map, IsSome, refl, sym, ap, arith, append_assoc, length-append}
+use Rattle.std.proofs.lemmas.List.{append-nil, map-append}
+use Rattle.paxos_msg.specs.declared.value.Value.{Value}
+use Rattle.paxos_msg.specs.declared.message.Body.TheVariants.{Accept}
+use Rattle.paxos_msg.specs.Batches.{Vote}
+use Rattle.paxos_msg.specs.Fits.{IsBody}
+use Rattle.paxos_acceptor.specs.declared.me.Me.{Me}
+use Rattle.paxos_proposer.specs.Proposer.{Proposer, next_of, next_value, proposal, proposing}
+use Rattle.group_node.specs.Packets.{Datagram, datagram_of, datagrams_of, to_all}
+use Rattle.group_node.specs.Pump.{accepts_of, propose, pump, stop}
+
+-- the Accept of a proposal has a spelling, where that of each value that may be proposed has one
+pub proposal_fits : {size node : ℕ} (p : Proposer) (o : Option Value) (vote : Vote) → ((v : Value) → o ≡ Some v → IsBody size node (Accept p.ballot (next_of p) v))
+    → Some vote ≡ option_map (proposal p) o → IsBody size node (Accept vote.ballot vote.place vote.value)
+proposal_fits p None vote fits e = absurd cc
+proposal_fits {size} {node} p (Some v) vote fits e =
+    let is : vote ≡ proposal p v = cc in
+    rw is (fits v refl)
+
+-- the Accepts of some proposals and of more, as datagrams
+pub accepts_append : (me : Me) (made more : List Vote) → datagrams_of me (accepts_of (made ++ more)) ≡ datagrams_of me (accepts_of made) ++ datagrams_of me (accepts_of more)
+accepts_append me made more =
+    ap (datagrams_of me) (map-append (λ (vote : Vote). to_all (Accept vote.ballot vote.place vote.value)) made more)
+    ∙ map-append (datagram_of me) (accepts_of made) (accepts_of more)
+
+-- After so many proposals, which are in the outbox, the proposer has so many left, with which it comes to where the whole pump comes.
+pub record IsPumping (me : Me) (began : Proposer) (before now : List Datagram) (count : ℕ) (p : Proposer) : Type 0 where
+  pub made : List Vote
+  pub left : ℕ
+  pub all : count + left ≡ 16
+  pub counted : length made ≡ count
+  pub proposer : (pump 16 began).proposer ≡ (pump left p).proposer
+  pub proposals : (pump 16 began).made ≡ made ++ (pump left p).made
+  pub packets : now ≡ before ++ datagrams_of me (accepts_of made)
+
+-- before the first
+pub pumping_none : (me : Me) (p : Proposer) (before : List Datagram) → IsPumping me p before before 0 p
+pumping_none me p before = record {
+  made = [];
+  left = 16;
+  all = refl;
+  counted = refl;
+  proposer = refl;
+  proposals = refl;
+  packets = sym (append-nil before);
+}
+
+-- a pump that has one proposal left and finds a value
+pump_some : (left : ℕ) (p : Proposer) (v : Value) → next_value p None ≡ Some v
+    → ((pump (suc left) p).proposer ≡ (pump left (proposing p (Some v))).proposer) × ((pump (suc left) p).made ≡ proposal p v ∷ (pump left (proposing p (Some v))).made)
+unfolding pump
+pump_some left p v e = (rw e refl, rw e refl)
+
+-- a pump that finds none
+pump_none : (left : ℕ) (p : Proposer) → next_value p None ≡ None → ((pump left p).proposer ≡ p) × ((pump left p).made ≡ [])
+unfolding pump
+pump_none zero p e = (refl, refl)
+pump_none (suc left) p e = (rw e refl, rw e refl)
+
+-- one more
+more : {me : Me} {began p : Proposer} {before now : List Datagram} {count : ℕ} (v : Value) → IsPumping me began before now count p → count < 16 → next_value p None ≡ Some v
+    → IsPumping me began before (now ++ datagrams_of me (accepts_of (proposal p v ∷ []))) (count + 1) (proposing p (Some v))
+more {me} {began} {p} {before} {now} {count} v h few e = by_left h.left h.all h.proposer h.proposals where
+  by_left : (left : ℕ) → count + left ≡ 16 → (pump 16 began).proposer ≡ (pump left p).proposer → (pump 16 began).made ≡ h.made ++ (pump left p).made
+      → IsPumping me began before (now ++ datagrams_of me (accepts_of (proposal p v ∷ []))) (count + 1) (proposing p (Some v))
+  by_left zero all proposer proposals = absurd (omega (arith, few))
+  by_left (suc left) all proposer proposals =
+      let next = pump_some left p v e in
+      record {
+        made = h.made ++ proposal p v ∷ [];
+        left = left;
+        all = omega arith;
+        counted = rw (length-append h.made (proposal p v ∷ [])) (omega (arith, h.counted));
+        proposer = proposer ∙ next.0;
+        proposals = proposals ∙ ap (λ (votes : List Vote). h.made ++ votes) next.1 ∙ sym (append_assoc h.made (proposal p v ∷ []) (pump left (proposing p (Some v))).made);
+        packets =
+            ap (λ (l : List Datagram). l ++ datagrams_of me (accepts_of (proposal p v ∷ []))) h.packets
+            ∙ append_assoc before (datagrams_of me (accepts_of h.made)) (datagrams_of me (accepts_of (proposal p v ∷ [])))
+            ∙ ap (λ (l : List Datagram). before ++ l) (sym (accepts_append me h.made (proposal p v ∷ [])));
+      }
+
+-- what a pump comes to, as the code tells it
+pub record IsPumped (me : Me) (began : Proposer) (before now : List Datagram) (count : ℕ) (p : Proposer) : Type 0 where
+  pub proposer : p ≡ (pump 16 began).proposer
+  pub packets : now ≡ before ++ datagrams_of me (accepts_of (pump 16 began).made)
+  pub counted : count ≡ length (pump 16 began).made
+
+-- it is over where nothing is left to propose
+over : {me : Me} {began p : Proposer} {before now : List Datagram} {count : ℕ} (h : IsPumping me began before now count p)
+    → ((pump h.left p).proposer ≡ p) × ((pump h.left p).made ≡ []) → IsPumped me began before now count p
+over {me} {began} {p} {before} {now} {count} h none =
+    let made : (pump 16 began).made ≡ h.made = h.proposals ∙ ap (λ (votes : List Vote). h.made ++ votes) none.1 ∙ append-nil h.made in
+    record {
+      proposer = sym (h.proposer ∙ none.0);
+      packets = rw made h.packets;
+      counted = rw made (sym h.counted);
+    }
+
+-- where no value is found, as the code tells it
+pub over_none : {me : Me} {began p q : Proposer} {before now then : List Datagram} {count : ℕ} (o : Option Value) → IsPumping me began before now count p
+    → next_value p None ≡ o → o ≡ None → q ≡ (propose p o stop).proposer → then ≡ now ++ datagrams_of me (accepts_of (propose p o stop).made) → IsPumped me began before then count q
+over_none {me} {began} {p} {q} {before} {now} {then} {count} None h e none proposer packets =
+    rw (proposer, packets ∙ append-nil now) (over h (pump_none h.left p e))
+over_none (Some v) h e none proposer packets = absurd cc
+
+-- where 16 were made
+pub over_all : {me : Me} {began p : Proposer} {before now : List Datagram} {count : ℕ} → IsPumping me began before now count p → 16 ≤ count → IsPumped me began before now count p
+unfolding pump
+over_all {me} {began} {p} {before} {now} {count} h most =
+    let none : h.left ≡ 0 = omega (arith, h.all, most) in
+    over h (rw none (refl, refl))
+
+-- one more, as the code tells it
+pub pumping_more : {me : Me} {began p q : Proposer} {before now then : List Datagram} {count : ℕ} (o : Option Value) → IsPumping me began before now count p → count < 16
+    → next_value p None ≡ o → IsSome o → q ≡ (propose p o stop).proposer → then ≡ now ++ datagrams_of me (accepts_of (propose p o stop).made)
+    → IsPumping me began before then (count + 1) q
+pumping_more None h few e some proposer packets = absurd cc
+pumping_more (Some v) h few e some proposer packets = rw (proposer, packets) (more v h few e)

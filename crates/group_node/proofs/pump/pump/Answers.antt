@@ -1,0 +1,52 @@
+use Rattle.std.proofs.Common.{◌≡◌, ◌∙◌, None, true, false, refl, sym, arith}
+use Rattle.paxos_proposer.specs.Proposer.{next_value}
+use Rattle.group_node.proofs.Pumping.{IsPumped, over_all, over_none, pumping_more, pumping_none}
+use Rattle.group_node.proofs.pump.pump.Goals as goal
+
+pub loop-made-init : goal.loop-made-init
+loop-made-init c = record {
+  own = c.requires.own;
+  sure = omega arith;
+  ready = omega arith;
+  room = omega arith;
+  pumping = pumping_none c.args.me c.args.proposer.now.rules c.args.outbox.now.packets;
+}
+
+pub loop-made-preserved : goal.loop-made-preserved
+loop-made-preserved c =
+    let i = c.loop-made.invariant in
+    record {
+      own = c.propose.ensures.own;
+      sure = omega (arith, i.sure, c.propose.ensures.sure);
+      ready = omega (arith, i.ready, c.propose.ensures.ready);
+      room = omega (arith, i.room, c.propose.ensures.few);
+      pumping = pumping_more (next_value c.loop-made.proposer.rules None) i.pumping c.loop-made-test.true refl (c.propose.ensures.some c.if-not-propose.false) c.propose.ensures.rules c.propose.ensures.packets;
+    }
+
+-- what was proposed where no value is found
+stopped : (c : goal.Then-not-propose) → IsPumped c.args.me c.args.proposer.now.rules c.args.outbox.now.packets c.propose.new.outbox.packets c.loop-made.made c.propose.new.proposer.rules
+stopped c = over_none (next_value c.loop-made.proposer.rules None) c.loop-made.invariant.pumping refl (c.propose.ensures.none (λ t. let e : false ≡ true = rw c.if-not-propose.true at t in absurd cc)) c.propose.ensures.rules c.propose.ensures.packets
+
+pub returns-then-not-propose-clause-rules : goal.returns-then-not-propose-clause-rules
+returns-then-not-propose-clause-rules c = (stopped c).proposer
+
+pub returns-then-not-propose-clause-packets : goal.returns-then-not-propose-clause-packets
+returns-then-not-propose-clause-packets c = (stopped c).packets
+
+pub returns-then-not-propose-clause-made : goal.returns-then-not-propose-clause-made
+returns-then-not-propose-clause-made c = (stopped c).counted
+
+-- what was proposed where 16 proposals are made
+full : (c : goal.After-loop-made) → IsPumped c.args.me c.args.proposer.now.rules c.args.outbox.now.packets c.loop-made.outbox.packets c.loop-made.made c.loop-made.proposer.rules
+full c = over_all c.loop-made.invariant.pumping c.loop-made-test.false
+
+pub returns-clause-rules : goal.returns-clause-rules
+returns-clause-rules c = (full c).proposer
+
+pub returns-clause-packets : goal.returns-clause-packets
+returns-clause-packets c = (full c).packets
+
+pub returns-clause-made : goal.returns-clause-made
+returns-clause-made c =
+    let all : c.loop-made.made ≡ 16 = omega (arith, c.loop-made-test.false, c.loop-made.auto.made-end) in
+    sym all ∙ (full c).counted

@@ -1,0 +1,15 @@
+pub mod Packets
+pub mod Node
+pub mod Pump
+pub mod Leading
+pub mod Delivered
+pub mod Backs
+pub mod Ranges
+pub mod Steps
+pub mod World
+pub mod Inputs
+pub mod Output
+pub mod Player
+pub mod Consoles
+pub mod States
+pub mod Calls

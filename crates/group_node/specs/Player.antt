@@ -1,0 +1,55 @@
+-- A node's machine as the code keeps it.
+use Rattle.std.specs.Prelude.{◌≡◌, ℕ, ◌+◌, ◌<◌, ◌≤◌, List, ◌++◌, drop, length}
+use Rattle.circular_buffer.specs.Buffer.{buffer}
+use Rattle.pcode_machine.specs.Configuration.{joined}
+use Rattle.pcode_machine.specs.Outcome.{outcome, Stops, Waiting}
+use Rattle.pcode_machine.specs.Runs.{after, Leads}
+use Rattle.pcode_machine.specs.Turns.{Makes}
+use Rattle.group_node.specs.declared.player.Player.{Player}
+use Rattle.group_node.specs.declared.player.Ran.{Ran}
+use Rattle.group_node.specs.declared.player.Ran.TheVariants as ran
+use Rattle.group_node.specs.Output.{Progress, unreleased_of}
+
+-- what contracts see of it
+abbrev pub progress_of : Player → Progress
+progress_of q = record { program = q.machine.program; steps = q.steps; released = q.released }
+
+-- The machine has made its steps on the input x, each of which exists, and has read so many bytes of it. Of what it wrote the ring holds
+-- those bytes that were not released. No more bytes were read or written than steps were made.
+pub record IsExact (x : List ℕ) (q : Player) : Type 0 where
+  pub output : List ℕ
+  pub made : Leads q.machine.program x q.steps (joined q.machine.state q.read output)
+  pub read : q.read ≤ length x
+  pub waits : q.unreleased.items ≡ drop q.released output
+  pub released : q.released ≤ length output
+  pub few : length output ≤ q.steps
+  pub seldom : q.read ≤ q.steps
+  pub room : length q.unreleased.items ≤ 256
+  pub capacity : q.unreleased.capacity ≡ 256
+
+-- one step, with the ring and the counts
+pub record Moves (old new : Player) (took wrote : List ℕ) : Type 0 where
+  pub program : new.machine.program ≡ old.machine.program
+  pub made : Makes old.machine.program old.machine.state new.machine.state took wrote
+  pub waits : new.unreleased ≡ buffer (old.unreleased.items ++ wrote) old.unreleased.capacity
+  pub steps : new.steps ≡ old.steps + 1
+  pub read : new.read ≡ old.read + length took
+  pub released : new.released ≡ old.released
+  pub short : length wrote ≤ 1
+  pub one : length took ≤ 1
+
+-- why no step is made: the machine waits for a byte that the input has not, or the program has ended
+abbrev pub Halts : List ℕ → Player → Ran → Type 0
+Halts x q ran.More = ⊥
+Halts x q ran.Full = ⊥
+Halts x q ran.Waits = outcome q.machine.program x (after q.machine.program x q.steps) ≡ Waiting
+Halts x q (ran.Ended e) = outcome q.machine.program x (after q.machine.program x q.steps) ≡ Stops e
+
+-- So many steps are left of a run that may come to `most` of them: it is exact, and before each step that it made there was room for a byte.
+pub record RanSoFar (x : List ℕ) (most left : ℕ) (old now : Player) : Type 0 where
+  pub exact : IsExact x now
+  pub program : now.machine.program ≡ old.machine.program
+  pub released : now.released ≡ old.released
+  pub more : old.steps ≤ now.steps
+  pub budget : now.steps + left ≡ most
+  pub room : (n : ℕ) → old.steps ≤ n → n < now.steps → length (unreleased_of x (record (progress_of old) { steps = n })) < 256

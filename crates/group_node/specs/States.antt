@@ -1,0 +1,46 @@
+-- What contracts see of a node, and which nodes there are.
+use Rattle.std.specs.Prelude.{◌≡◌, ℕ, ◌%◌, ◌≤◌, Bool, false, List}
+use Rattle.paxos_msg.specs.Fits.{IsNode}
+use Rattle.paxos_acceptor.specs.declared.me.Me.{Me}
+use Rattle.paxos_acceptor.specs.Stores.{StoreState}
+use Rattle.paxos_learner.specs.Input.{learned_input}
+use Rattle.group_node.specs.Node.{Node}
+use Rattle.group_node.specs.Output.{Progress}
+use Rattle.group_node.specs.Ranges.{IsInRange}
+
+-- of a node's part in the protocol: what it knows, whether it gave its store up, and the store
+pub record Protocol (S : Type 0) : Type 0 where
+  pub rules : Node
+  pub is_stopped : Bool
+  pub store : S
+
+-- of a node: its part in the protocol, and how far its machine has come
+pub record State (S : Type 0) : Type 0 where
+  pub protocol : Protocol S
+  pub progress : Progress
+
+-- characters that wait, of which the first is the key with this serial
+pub record Waiting : Type 0 where
+  pub first : ℕ
+  pub bytes : List ℕ
+
+-- its learned input
+abbrev pub input : Node → List ℕ
+input n = learned_input n.learner.learned
+
+-- a group has 1, 3, 5, 7 or 9 nodes
+pub record IsSize (size : ℕ) : Type 0 where
+  pub odd : size % 2 ≡ 1
+  pub few : size ≤ 9
+
+-- a node of a group of such a size
+pub record IsConfig (me : Me) : Type 0 where
+  pub size : IsSize me.group.size
+  pub node : IsNode me.group.size me.node
+
+-- What always holds of a node's part in the protocol: its size is one of a group's, all that it knows is in its ranges, and an honest store has
+-- its record, unless the store was given up.
+pub record IsInStep {S : Type 0} (honest : Type 0) (state : S → StoreState) (p : Protocol S) : Type 0 where
+  pub size : IsSize p.rules.me.group.size
+  pub ranges : IsInRange p.rules
+  pub in_step : honest → p.is_stopped ≡ false → (state p.store).stored ≡ p.rules.kept

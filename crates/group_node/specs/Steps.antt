@@ -1,0 +1,55 @@
+-- What a call of a node may save, learn and send.
+use Rattle.std.specs.Prelude.{◌≡◌, ℕ, List, ◌++◌, Option, Some, None}
+use Rattle.std.specs.Ordering.{nat_cmp}
+use Rattle.std.specs.FinMap.{FinMap, get}
+use Rattle.paxos_msg.specs.declared.value.Value.{Value}
+use Rattle.paxos_msg.specs.declared.message.Body.TheVariants.{Submit, Tell}
+use Rattle.paxos_msg.specs.Batches.{Body, Change, IsTyped, MaySendAll, Record, Sent}
+use Rattle.paxos_msg.specs.Chosen.{IsChosen}
+use Rattle.paxos_msg.specs.Keys.{Key}
+use Rattle.paxos_msg.specs.Messages.{IsSaid, IsSent, messages_of}
+use Rattle.paxos_msg.specs.Records.{changed, MaySave}
+use Rattle.paxos_learner.specs.Backed.{IsBacked as IsLearnerBacked}
+use Rattle.paxos_learner.specs.Growth.{HasLearnedMore}
+use Rattle.group_node.specs.Node.{Done, Node}
+use Rattle.group_node.specs.Packets.{Packet, bodies_of}
+use Rattle.group_node.specs.Backs.{Backs}
+use Rattle.group_node.specs.Ranges.{IsHeardFit}
+
+-- a save of this change, if there is one, may be made and leads from one record to the other
+abbrev pub IsSavedBy : Sent → Record → Option Change → Record → Type 0
+IsSavedBy sent old None new = new ≡ old
+IsSavedBy sent old (Some c) new = MaySave sent old c × (new ≡ changed old c)
+
+-- the messages by which a node hands these packets out
+abbrev pub handed : ℕ → List Packet → Sent
+handed i packets = messages_of i (bodies_of packets)
+
+-- A call of a node, before which its record was old and it had learned these values: it saves what it may; what it has learned
+-- is backed by what was sent before the call; what was learned stays; what it sends may be sent, one after another; and
+-- then the node is backed.
+pub record IsLawful (sent : Sent) (typed : List Key) (old : Record) (before : FinMap nat_cmp Value) (done : Done) : Type 0 where
+  pub saves : IsSavedBy sent old done.saves done.node.kept
+  pub learns : IsLearnerBacked sent done.node.learner
+  pub keeps : HasLearnedMore before done.node.learner.learned
+  pub sends : MaySendAll done.node.me.group.size typed (get done.node.learner.learned) sent done.node.me.node done.node.kept (bodies_of done.sends)
+  pub backs : Backs (sent ++ handed done.node.me.node done.sends) typed done.node
+
+-- the same of a call of this node
+abbrev pub IsLawfulCall : Sent → List Key → Node → Done → Type 0
+IsLawfulCall sent typed n done = IsLawful sent typed n.kept n.learner.learned done
+
+-- node j has sent this message, and it has a spelling in the group
+pub record IsDelivered (sent : Sent) (n : Node) (j : ℕ) (body : Body) : Type 0 where
+  pub is_sent : IsSent sent j body
+  pub fits : IsHeardFit n.me j body
+
+-- ---- what a group says of all that was sent
+
+-- what was told is chosen
+abbrev pub AllChosen : ℕ → Sent → Type 0
+AllChosen size sent = (s : ℕ) (v : Value) → IsSaid sent (Tell s v) → IsChosen size sent s v
+
+-- what was submitted was typed at its sender
+abbrev pub AllTyped : Sent → List Key → Type 0
+AllTyped sent typed = (i : ℕ) (v : Value) → IsSent sent i (Submit v) → IsTyped typed i v

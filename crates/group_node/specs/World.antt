@@ -1,0 +1,224 @@
+-- A group, and one event of it.
+use Rattle.std.specs.Prelude.{◌≡◌, ◌≢◌, ℕ, zero, suc, ◌+◌, ◌≤◌, ◌==◌, ◌⊎◌, if◌then◌else◌, All, Contains, List, [], ◌∷◌, ◌++◌, Option, Some, None, IfSome, IsSome, slice_get}
+use Rattle.std.specs.Ordering.{nat_cmp}
+use Rattle.std.specs.FinMap.{FinMap, empty, get}
+use Rattle.pcode_file.specs.Parts.{Parts}
+use Rattle.pcode_machine.specs.Configuration.{Configuration}
+use Rattle.pcode_machine.specs.Runs.{begin}
+use Rattle.pcode_machine.specs.Step.{Step}
+use Rattle.paxos_msg.specs.declared.value.Value.{Value}
+use Rattle.paxos_msg.specs.declared.record.Change.TheVariants as change
+use Rattle.paxos_msg.specs.declared.message.Body.TheVariants.{Prepare, Promise, Accept, Accepted, Refused, Submit, Ask, Tell}
+use Rattle.paxos_msg.specs.Batches.{Body, Change, MaySendAll, Msg, Record, Sent}
+use Rattle.paxos_msg.specs.Keys.{Key}
+use Rattle.paxos_msg.specs.Messages.{messages_of}
+use Rattle.paxos_msg.specs.Records.{changed, MaySave}
+use Rattle.paxos_acceptor.specs.Answers.{after}
+use Rattle.paxos_acceptor.specs.Stores.{IsOneOf}
+use Rattle.paxos_learner.specs.Backed.{MayLearn}
+use Rattle.paxos_learner.specs.Growth.{HasLearnedMore}
+use Rattle.paxos_learner.specs.Input.{front_values, keys_in_order, learned_input}
+use Rattle.group_node.specs.Consoles.{offered}
+use Rattle.group_node.specs.Node.{Done, Node, waiting_keys}
+use Rattle.group_node.specs.Steps.{handed}
+
+-- a node that is up: what it has learned, how far its machine has come, how many bytes of its output were released, and the keys
+-- that wait
+pub record Up : Type 0 where
+  pub learned : FinMap nat_cmp Value
+  pub configuration : Configuration
+  pub released : ℕ
+  pub waiting : List Key
+
+-- of one node: its stored record, its console, and itself where it is up
+pub record Seat : Type 0 where
+  pub kept : Record
+  pub console : List ℕ
+  pub up : Option Up
+
+-- a group that runs a program: its nodes by number, all that was sent, and all keys that were typed, the oldest first
+pub record WorldState : Type 0 where
+  pub program : Parts
+  pub size : ℕ
+  pub seats : ℕ → Seat
+  pub sent : Sent
+  pub typed : List Key
+
+-- what happens at a node: a byte is typed, the message of that number is delivered, it campaigns, it ticks, it runs for at most
+-- so many steps, it releases a byte, it crashes, it starts
+pub data Event : Type 0 where
+  Press : (i byte : ℕ) → Event
+  Deliver : (m i : ℕ) → Event
+  Campaign : (i : ℕ) → Event
+  Tick : (i : ℕ) → Event
+  Run : (i steps : ℕ) → Event
+  Release : (i : ℕ) → Event
+  Crash : (i : ℕ) → Event
+  Start : (i : ℕ) → Event
+
+-- a node that has just started
+abbrev pub fresh : Parts → Up
+fresh p = record { learned = empty; configuration = begin p; released = 0; waiting = [] }
+
+-- nothing changes but at node i, which sends these messages, and at which these keys were typed
+pub record ChangesOnly (w v : WorldState) (i : ℕ) (bodies : List Body) (keys : List Key) : Type 0 where
+  pub program : v.program ≡ w.program
+  pub size : v.size ≡ w.size
+  pub others : (j : ℕ) → j ≢ i → v.seats j ≡ w.seats j
+  pub sent : v.sent ≡ w.sent ++ messages_of i bodies
+  pub typed : v.typed ≡ w.typed ++ keys
+
+-- ---- calls that may save and send
+
+-- keys wait behind others, and leave only from the front, where they stand below the known front
+pub record AreParted (learned : FinMap nat_cmp Value) (keys stay : List Key) : Type 0 where
+  pub gone : List Key
+  pub parts : keys ≡ gone ++ stay
+  pub below : All (λ k. Contains (keys_in_order (front_values learned)) k) gone
+
+-- What a node that is up may make of itself: it learns only what was told, or accepted by a majority under one ballot; its machine and
+-- what it has released stay.
+pub record LearnsOnly (w : WorldState) (keys : List Key) (was now : Up) : Type 0 where
+  pub keeps : HasLearnedMore was.learned now.learned
+  pub gains : (s : ℕ) (v : Value) → get now.learned s ≡ Some v → (get was.learned s ≡ Some v) ⊎ MayLearn w.size w.sent s v
+  pub configuration : now.configuration ≡ was.configuration
+  pub released : now.released ≡ was.released
+  pub waiting : AreParted now.learned (was.waiting ++ keys) now.waiting
+
+-- A call of node i, which is up: it saves this change, if any, which it may, and then sends what it may.
+pub record MakesCall (w v : WorldState) (i : ℕ) (c : Option Change) (keys : List Key) : Type 0 where
+  pub bodies : List Body
+  pub was : Up
+  pub now : Up
+  pub from : (w.seats i).up ≡ Some was
+  pub left : v.seats i ≡ record { kept = after (w.seats i).kept c; console = (w.seats i).console; up = Some now }
+  pub rest : ChangesOnly w v i bodies keys
+  pub saves : IfSome c (MaySave w.sent (w.seats i).kept)
+  pub sends : MaySendAll w.size v.typed (get now.learned) w.sent i (after (w.seats i).kept c) bodies
+  pub learns : LearnsOnly w keys was now
+
+-- A save of this change has failed: the record is the old one or the changed one, nothing was sent, and the node is down.
+pub record Falls (w v : WorldState) (i : ℕ) (c : Change) : Type 0 where
+  pub saves : MaySave w.sent (w.seats i).kept c
+  pub kept : IsOneOf (v.seats i).kept (w.seats i).kept (changed (w.seats i).kept c)
+  pub console : (v.seats i).console ≡ (w.seats i).console
+  pub down : (v.seats i).up ≡ None
+  pub rest : ChangesOnly w v i [] []
+
+-- a call that saves this change, if any, and if it does may fail
+abbrev pub CallOrFall : WorldState → WorldState → ℕ → Option Change → Type 0
+CallOrFall w v i None = MakesCall w v i None []
+CallOrFall w v i (Some c) = MakesCall w v i (Some c) [] ⊎ (IsSome (w.seats i).up × Falls w v i c)
+
+-- this change, or none
+abbrev pub IsNoneOr : Change → Option Change → Type 0
+IsNoneOr c o = (o ≡ None) ⊎ (o ≡ Some c)
+
+-- what a delivered message may make a node save: a Prepare the promise of its ballot, an Accept a vote for what it proposes
+abbrev pub MayCause : Body → Option Change → Type 0
+MayCause (Prepare b from) o = IsNoneOr (change.Promise b) o
+MayCause (Promise b first upto votes) o = o ≡ None
+MayCause (Accept b s v) o = IsNoneOr (change.Ballotted s b v) o
+MayCause (Accepted b s v) o = o ≡ None
+MayCause (Refused b promised) o = o ≡ None
+MayCause (Submit v) o = o ≡ None
+MayCause (Ask from) o = o ≡ None
+MayCause (Tell s v) o = o ≡ None
+
+-- message number m is delivered, which may be any, at any time
+pub record Delivers (w v : WorldState) (m i : ℕ) : Type 0 where
+  pub message : Msg
+  pub is_sent : slice_get w.sent m ≡ Some message
+  pub saved : Option Change
+  pub cause : MayCause message.body saved
+  pub call : CallOrFall w v i saved
+
+-- a promise of a ballot of its own is saved
+pub record Campaigns (w v : WorldState) (i : ℕ) : Type 0 where
+  pub round : ℕ
+  pub call : CallOrFall w v i (Some (change.Promise (record { round = round; node = i })))
+
+-- one key more was typed
+pub record Presses (w v : WorldState) (i byte : ℕ) : Type 0 where
+  pub key : Key
+  pub node : key.node ≡ i
+  pub start : key.start ≡ (w.seats i).kept.starts
+  pub character : key.byte ≡ byte
+  pub call : MakesCall w v i None (key ∷ [])
+
+-- a start is saved, and the node is up
+pub record StartsUp (w v : WorldState) (i : ℕ) : Type 0 where
+  pub left : v.seats i ≡ record { kept = changed (w.seats i).kept change.Start; console = (w.seats i).console; up = Some (fresh w.program) }
+  pub rest : ChangesOnly w v i [] []
+
+-- ---- the machine, its output, and crashes
+
+-- n steps on the input x lead from one configuration to another
+unfoldable pub MakesSteps : Parts → List ℕ → ℕ → Configuration → Configuration → Type 0
+MakesSteps p x zero c d = d ≡ c
+MakesSteps p x (suc n) c d = (b : Configuration) × MakesSteps p x n c b × Step p x b d
+
+-- the machine of node i makes at most so many steps on the learned input
+pub record MakesRun (w v : WorldState) (i steps : ℕ) : Type 0 where
+  pub was : Up
+  pub configuration : Configuration
+  pub made : ℕ
+  pub from : (w.seats i).up ≡ Some was
+  pub few : made ≤ steps
+  pub moves : MakesSteps w.program (learned_input was.learned) made was.configuration configuration
+  pub left : v.seats i ≡ record (w.seats i) { up = Some (record was { configuration = configuration }) }
+  pub rest : ChangesOnly w v i [] []
+
+-- what is left by the release of a byte, if one waits: it is offered to the console by its number
+abbrev pub after_release : Seat → Up → Option ℕ → Seat
+after_release seat was None = seat
+after_release seat was (Some byte) =
+    record { kept = seat.kept; console = offered seat.console was.released byte; up = Some (record was { released = was.released + 1 }) }
+
+-- the first byte of the output that wasn't released goes to the console
+pub record Releases (w v : WorldState) (i : ℕ) : Type 0 where
+  pub was : Up
+  pub from : (w.seats i).up ≡ Some was
+  pub left : v.seats i ≡ after_release (w.seats i) was (slice_get was.configuration.output was.released)
+  pub rest : ChangesOnly w v i [] []
+
+-- the node is down; its record and its console stay
+pub record Crashes (w v : WorldState) (i : ℕ) : Type 0 where
+  pub left : v.seats i ≡ record (w.seats i) { up = None }
+  pub rest : ChangesOnly w v i [] []
+
+-- ---- events
+
+-- the event leads from one group to the other
+abbrev pub WorldStep : WorldState → Event → WorldState → Type 0
+WorldStep w (Press i byte) v = Presses w v i byte
+WorldStep w (Deliver m i) v = Delivers w v m i
+WorldStep w (Campaign i) v = Campaigns w v i
+WorldStep w (Tick i) v = MakesCall w v i None []
+WorldStep w (Run i steps) v = MakesRun w v i steps
+WorldStep w (Release i) v = Releases w v i
+WorldStep w (Crash i) v = Crashes w v i
+WorldStep w (Start i) v = ((w.seats i).up ≡ None) × (StartsUp w v i ⊎ Falls w v i change.Start)
+
+-- ---- a node's calls as events
+
+-- the seat of a node that is up, whose machine has come to c and has released k bytes
+abbrev pub seat_of : Node → Configuration → ℕ → List ℕ → Seat
+seat_of n c k console =
+    record { kept = n.kept; console = console; up = Some (record { learned = n.learner.learned; configuration = c; released = k; waiting = waiting_keys n }) }
+
+-- the group with this seat of node i
+abbrev pub with_seat : WorldState → ℕ → Seat → WorldState
+with_seat w i seat = record w { seats = λ j. if j == i then seat else w.seats j }
+
+-- the group after a call of node i, in which these keys were typed
+abbrev pub after_call : WorldState → ℕ → Done → List Key → Configuration → ℕ → List ℕ → WorldState
+after_call w i done keys c k console = record (with_seat w i (seat_of done.node c k console)) {
+  sent = w.sent ++ handed i done.sends;
+  typed = w.typed ++ keys;
+}
+
+-- the node sits in its group, and its machine and its console are these
+pub record Sits (w : WorldState) (n : Node) (c : Configuration) (k : ℕ) (console : List ℕ) : Type 0 where
+  pub size : w.size ≡ n.me.group.size
+  pub seat : w.seats n.me.node ≡ seat_of n c k console

@@ -1,0 +1,88 @@
+//! A console: the bytes that it has shown.
+ghost use Rattle.std.specs.Prelude.{◌≡◌, ◌≢◌, ◌<◌, [], length, IfErr, OnOk};
+ghost use Rattle.group_node.specs.Consoles.{offer_answer, offered};
+
+use crate::fault::NodeFault;
+use std::alloc::Global;
+use std::marker::Model;
+
+/// What a console makes of a byte that is offered.
+#[derive(Clone, Copy, Debug, PartialEq, Eq)]
+pub enum Offer {
+    /// The byte is the next one, and is shown.
+    Fresh,
+    /// The byte was shown before.
+    Repeat,
+    /// Bytes before it are missing.
+    Gap,
+    /// The byte is the next one, and there is no memory for it.
+    Memory,
+}
+
+/// A console. It shows bytes one behind another, and takes back none.
+#[derive(Drop)]
+pub struct Console {
+    bytes: Vec<u8>,
+}
+
+impl Model for Console {
+    ghost use Rattle.std.specs.Prelude.{◌-◌, vec_len, vec_capacity};
+    ghost use Rattle.group_node.specs.Consoles.{Shown};
+
+    ghost Value = { Shown };
+
+    ghost view = { λ c. record { bytes = c.bytes.items; room = vec_capacity c.bytes - vec_len c.bytes } };
+}
+
+impl Console {
+    /// A console that has shown nothing. It takes no memory.
+    pub fn new(alloc: Global) -> Console
+        ensures { result.bytes ≡ [] }
+    {
+        Console {
+            bytes: Vec::new(alloc),
+        }
+    }
+
+    /// Makes room for one byte, so that the next one is not refused for want of memory. It is refused only as
+    /// `Memory`, and what was shown stays.
+    pub fn reserve(&mut self) -> Result<(), NodeFault>
+        ensures bytes { self.new.bytes ≡ self.old.bytes }
+        ensures room { OnOk result (0 < self.new.room) }
+        ensures others { IfErr result (λ e. e ≡ NodeFault.Memory) }
+    {
+        match self.bytes.reserve(1) {
+            Ok(()) => Ok(()),
+            Err(_) => Err(NodeFault::Memory),
+        }
+    }
+
+    /// Offers the byte with this number, counted from 0. The next byte is shown; one that was shown before, or before
+    /// which others are missing, changes nothing. Without room the next byte may be refused as `Memory`.
+    pub fn offer(&mut self, number: u64, byte: u8) -> Offer
+        ensures answer { result ≢ Offer.Memory → result ≡ offer_answer self.old.bytes number }
+        ensures shown { result ≢ Offer.Memory → self.new.bytes ≡ offered self.old.bytes number byte }
+        ensures memory { result ≡ Offer.Memory → number ≡ length self.old.bytes }
+        ensures room { 0 < self.old.room → result ≢ Offer.Memory }
+        ensures only_fresh { result ≢ Offer.Fresh → self.new.bytes ≡ self.old.bytes }
+    {
+        let length = self.bytes.len() as u64;
+        if number < length {
+            return Offer::Repeat;
+        }
+        if number > length {
+            return Offer::Gap;
+        }
+        match self.bytes.push(byte) {
+            Ok(()) => Offer::Fresh,
+            Err(_) => Offer::Memory,
+        }
+    }
+
+    /// The bytes that it has shown, the oldest first.
+    pub fn bytes(&self) -> &[u8]
+        ensures { result.now ≡ self.now.bytes }
+    {
+        self.bytes.as_slice()
+    }
+}

@@ -1,0 +1,226 @@
+//! The law of each call of a node, over the definitions alone. Where what was sent and typed backs a node that is in its ranges, what the
+//! call makes of it may be saved, learned and sent, and the node is backed again. Each is the contract of a function that does nothing.
+ghost use Rattle.std.specs.Prelude.{◌≡◌, ◌≢◌, ◌++◌, ◌∷◌, [], ℕ, List, Option, Some};
+ghost use Rattle.std.specs.FinMap.{empty, FinMap, get};
+ghost use Rattle.std.specs.Ordering.{nat_cmp};
+ghost use Rattle.paxos_msg.specs.declared.ballot.Ballot.{Ballot};
+ghost use Rattle.paxos_msg.specs.declared.message.Body.TheVariants.{Accept, Accepted, Ask, Prepare, Promise, Refused, Submit, Tell};
+ghost use Rattle.paxos_msg.specs.declared.value.Value.{Value};
+ghost use Rattle.paxos_msg.specs.Batches.{Body, Grew, MaySend, Record, Sent, Vote};
+ghost use Rattle.paxos_msg.specs.Chosen.{IsChosen};
+ghost use Rattle.paxos_msg.specs.Keys.{Key, keys_of};
+ghost use Rattle.paxos_acceptor.specs.declared.me.Me.{Me};
+ghost use Rattle.paxos_acceptor.specs.Stores.{IsOneOf};
+ghost use Rattle.group_node.specs.Backs.{Backs, IsRecordBacked};
+ghost use Rattle.group_node.specs.Delivered.{on_message};
+ghost use Rattle.group_node.specs.Leading.{at_promise, at_submit, at_tick};
+ghost use Rattle.group_node.specs.Node.{at_accept, at_accepted, at_ask, at_campaign, at_prepare, at_refused, at_tell, at_typed, Done, new_key, Node, started};
+ghost use Rattle.group_node.specs.Ranges.{IsInRange};
+ghost use Rattle.group_node.specs.Steps.{AllChosen, AllTyped, handed, IsDelivered, IsLawful, IsLawfulCall};
+
+use paxos_acceptor::laws::{backing, promises_may_be_sent, votes_may_be_sent};
+use paxos_learner::laws::{learned_stays, stays_backed as learner_stays_backed};
+use paxos_msg::laws::{
+    calls as sends_in_order, growth, saves_only_raise, sent_only_grows, tests_are_exact,
+};
+use paxos_proposer::laws::{
+    ballot_stays, begins_backed, parts_keep_it_backed, proposals_may_be_sent,
+    stays_backed as proposer_stays_backed,
+};
+
+// ---- one law for each call and each kind of message
+
+/// A start: the first two parts of `Backs`, for the stored record, are enough.
+pub fn start_is_lawful()
+    ensures { (sent : Sent) (typed : List Key) (me : Me) (r : Record) → IsRecordBacked sent me.node r →
+        IsLawful sent typed r empty (started me r) }
+{
+    backing();
+    learner_stays_backed();
+}
+
+/// A typed byte: its key is typed with it.
+pub fn typed_is_lawful()
+    ensures { (sent : Sent) (typed : List Key) (n : Node) (byte : ℕ) → IsInRange n → Backs sent typed n →
+        IsLawfulCall sent (typed ++ keys_of (new_key n byte)) n (at_typed n byte) }
+{}
+
+/// A campaign.
+pub fn campaign_is_lawful()
+    ensures { (sent : Sent) (typed : List Key) (n : Node) → IsInRange n → Backs sent typed n →
+        IsLawfulCall sent typed n (at_campaign n) }
+{
+    backing();
+    proposer_stays_backed();
+    learner_stays_backed();
+    sends_in_order();
+    sent_only_grows();
+    saves_only_raise();
+    begins_backed();
+}
+
+/// A tick.
+pub fn tick_is_lawful()
+    ensures { (sent : Sent) (typed : List Key) (n : Node) → IsInRange n → Backs sent typed n →
+        IsLawfulCall sent typed n (at_tick n) }
+{
+    backing();
+    proposer_stays_backed();
+    learner_stays_backed();
+    sends_in_order();
+    sent_only_grows();
+    proposals_may_be_sent();
+}
+
+/// A Prepare.
+pub fn prepare_is_lawful()
+    ensures { (sent : Sent) (typed : List Key) (n : Node) (j from : ℕ) (b : Ballot) → IsInRange n → Backs sent typed n →
+        IsDelivered sent n j (Prepare b from) → IsLawfulCall sent typed n (at_prepare n b from) }
+{
+    backing();
+    proposer_stays_backed();
+    learner_stays_backed();
+    sends_in_order();
+    sent_only_grows();
+    tests_are_exact();
+    saves_only_raise();
+    promises_may_be_sent();
+}
+
+/// A Promise, or a part of one, with the pump behind it.
+pub fn promise_is_lawful()
+    ensures { (sent : Sent) (typed : List Key) (n : Node) (j first upto : ℕ) (b : Ballot) (votes : List Vote) → IsInRange n → Backs sent typed n →
+        IsDelivered sent n j (Promise b first upto votes) → IsLawfulCall sent typed n (at_promise n j b first upto votes) }
+{
+    backing();
+    proposer_stays_backed();
+    learner_stays_backed();
+    sends_in_order();
+    sent_only_grows();
+    tests_are_exact();
+    parts_keep_it_backed();
+    ballot_stays();
+    proposals_may_be_sent();
+}
+
+/// An Accept.
+pub fn accept_is_lawful()
+    ensures { (sent : Sent) (typed : List Key) (n : Node) (j s : ℕ) (b : Ballot) (v : Value) → IsInRange n → Backs sent typed n →
+        IsDelivered sent n j (Accept b s v) → IsLawfulCall sent typed n (at_accept n b s v) }
+{
+    backing();
+    proposer_stays_backed();
+    learner_stays_backed();
+    sends_in_order();
+    sent_only_grows();
+    tests_are_exact();
+    saves_only_raise();
+    votes_may_be_sent();
+}
+
+/// An Accepted.
+pub fn accepted_is_lawful()
+    ensures { (sent : Sent) (typed : List Key) (n : Node) (j s : ℕ) (b : Ballot) (v : Value) → IsInRange n → Backs sent typed n →
+        IsDelivered sent n j (Accepted b s v) → IsLawfulCall sent typed n (at_accepted n j b s v) }
+{
+    learner_stays_backed();
+    learned_stays();
+}
+
+/// A Tell.
+pub fn tell_is_lawful()
+    ensures { (sent : Sent) (typed : List Key) (n : Node) (j s : ℕ) (v : Value) → IsInRange n → Backs sent typed n →
+        IsDelivered sent n j (Tell s v) → IsLawfulCall sent typed n (at_tell n s v) }
+{
+    learner_stays_backed();
+    learned_stays();
+}
+
+/// A Refused.
+pub fn refused_is_lawful()
+    ensures { (sent : Sent) (typed : List Key) (n : Node) (j : ℕ) (b promised : Ballot) → IsInRange n → Backs sent typed n →
+        IsDelivered sent n j (Refused b promised) → IsLawfulCall sent typed n (at_refused n b promised) }
+{}
+
+/// A Submit, with the pump and the offer.
+pub fn submit_is_lawful()
+    ensures { (sent : Sent) (typed : List Key) (n : Node) (j : ℕ) (v : Value) → IsInRange n → Backs sent typed n →
+        IsDelivered sent n j (Submit v) → IsLawfulCall sent typed n (at_submit n v) }
+{
+    backing();
+    proposer_stays_backed();
+    learner_stays_backed();
+    sends_in_order();
+    sent_only_grows();
+    proposals_may_be_sent();
+}
+
+/// An Ask.
+pub fn ask_is_lawful()
+    ensures { (sent : Sent) (typed : List Key) (n : Node) (j from : ℕ) → IsInRange n → Backs sent typed n →
+        IsDelivered sent n j (Ask from) → IsLawfulCall sent typed n (at_ask n j from) }
+{
+    backing();
+    proposer_stays_backed();
+    learner_stays_backed();
+    sends_in_order();
+    sent_only_grows();
+}
+
+/// A message of any kind, with the waiting keys that leave after it.
+pub fn message_is_lawful()
+    ensures { (sent : Sent) (typed : List Key) (n : Node) (j : ℕ) (body : Body) → IsInRange n → Backs sent typed n →
+        IsDelivered sent n j body → IsLawfulCall sent typed n (on_message n j body) }
+{
+    prepare_is_lawful();
+    promise_is_lawful();
+    accept_is_lawful();
+    accepted_is_lawful();
+    tell_is_lawful();
+    refused_is_lawful();
+    submit_is_lawful();
+    ask_is_lawful();
+}
+
+// ---- the others, and the whole
+
+/// What other nodes send, and keys that are typed, keep a node backed, and the stored record of one that is down.
+pub fn others_keep_it_backed()
+    ensures sends { (sent : Sent) (typed known : List Key) (n : Node) (size j : ℕ) (learned : ℕ → Option Value) (r : Record) (body : Body) →
+        j ≢ n.me.node → MaySend size known learned sent j r body → Backs sent typed n →
+        Backs (sent ++ record { sender = j; body = body } ∷ []) typed n }
+    ensures sends_record { (sent : Sent) (known : List Key) (me size j : ℕ) (learned : ℕ → Option Value) (own r : Record) (body : Body) →
+        j ≢ me → MaySend size known learned sent j r body → IsRecordBacked sent me own →
+        IsRecordBacked (sent ++ record { sender = j; body = body } ∷ []) me own }
+    ensures types { (sent : Sent) (typed more : List Key) (n : Node) → Backs sent typed n → Backs sent (typed ++ more) n }
+{
+    backing();
+    proposer_stays_backed();
+    learner_stays_backed();
+}
+
+/// What a lawful call makes of the whole. The growth goes on; if all that was told is chosen, so is what the node has learned and what it
+/// tells; what is submitted was typed. A save of which nothing was sent leaves a record that is backed.
+pub fn lawful_calls_go_on()
+    ensures grew { (sent : Sent) (typed : List Key) (records next : ℕ → Record) (before : FinMap nat_cmp Value) (done : Done) →
+        Grew done.node.me.group.size sent records → IsLawful sent typed (records done.node.me.node) before done →
+        next done.node.me.node ≡ done.node.kept → ((j : ℕ) → j ≢ done.node.me.node → next j ≡ records j) →
+        Grew done.node.me.group.size (sent ++ handed done.node.me.node done.sends) next }
+    ensures learned { (sent : Sent) (typed : List Key) (old : Record) (before : FinMap nat_cmp Value) (done : Done) →
+        AllChosen done.node.me.group.size sent → IsInRange done.node → IsLawful sent typed old before done →
+        (s : ℕ) (v : Value) → get done.node.learner.learned s ≡ Some v → IsChosen done.node.me.group.size sent s v }
+    ensures told { (sent : Sent) (typed : List Key) (old : Record) (before : FinMap nat_cmp Value) (done : Done) →
+        AllChosen done.node.me.group.size sent → IsInRange done.node → IsLawful sent typed old before done →
+        AllChosen done.node.me.group.size (sent ++ handed done.node.me.node done.sends) }
+    ensures submitted { (sent : Sent) (typed : List Key) (old : Record) (before : FinMap nat_cmp Value) (done : Done) →
+        AllTyped sent typed → IsLawful sent typed old before done → AllTyped (sent ++ handed done.node.me.node done.sends) typed }
+    ensures saved { (sent : Sent) (typed : List Key) (old left : Record) (before : FinMap nat_cmp Value) (done : Done) →
+        IsRecordBacked sent done.node.me.node old → IsLawful sent typed old before done → IsOneOf left old done.node.kept →
+        IsRecordBacked sent done.node.me.node left }
+{
+    growth();
+    sends_in_order();
+    sent_only_grows();
+    backing();
+    saves_only_raise();
+}

@@ -1,0 +1,134 @@
+//! The packets that wait to be sent.
+ghost use Rattle.std.specs.Prelude.{◌≡◌, ◌+◌, ◌-◌, ◌<◌, ◌≤◌, [], ◌∷◌, ◌++◌, drop, length, slice_get, vec_len, IfOk, OnOk};
+ghost use Rattle.paxos_msg.specs.Fits.{Fits, IsBody, IsNode};
+ghost use Rattle.paxos_msg.specs.Spelling.{spelling};
+ghost use Rattle.group_node.specs.Packets.{datagram_of};
+
+use crate::packet::{Packet, To};
+use circular_buffer::HeapCircularBuffer;
+use paxos_acceptor::Me;
+use paxos_msg::{Body, Group, Msg, encode_into};
+use std::alloc::{AllocError, Global};
+use std::marker::Model;
+
+/// How many packets an outbox holds.
+const PACKETS: usize = 64;
+
+/// An empty buffer with room for a datagram.
+#[derive(Drop)]
+struct Spare {
+    bytes: Vec<u8>,
+}
+
+impl Model for Spare {
+    ghost use Rattle.std.specs.Prelude.{◌≡◌, ◌≤◌, vec_len, vec_capacity};
+
+    ghost Value = { Unit {0} };
+
+    ghost view = { λ _. tt };
+
+    ghost invariant = { λ s. (vec_len s.bytes ≡ 0) × (1400 ≤ vec_capacity s.bytes) };
+}
+
+impl Spare {
+    /// A buffer for one datagram.
+    fn new(alloc: Global) -> Result<Spare, AllocError> {
+        Ok(Spare {
+            bytes: Vec::with_capacity(alloc, 1400)?,
+        })
+    }
+
+    /// The datagram of a message, in this buffer. It takes no memory.
+    fn written(self, message: &Msg, group: Group) -> Vec<u8>
+        requires { Fits group message.now }
+        ensures { result.items ≡ spelling group message.now }
+    {
+        let mut bytes = self.bytes;
+        encode_into(message, group, &mut bytes);
+        bytes
+    }
+}
+
+/// The packets that wait to be sent, the oldest first: at most 64.
+#[derive(Drop)]
+pub struct Outbox {
+    packets: HeapCircularBuffer<Packet>,
+    // With a buffer ready a packet takes no memory. A node makes as many ready as it may need before it changes
+    // anything.
+    spares: Vec<Spare>,
+    alloc: Global,
+}
+
+impl Model for Outbox {
+    ghost use Rattle.std.specs.Prelude.{◌≡◌, vec_len};
+    ghost use Rattle.group_node.specs.Packets.{Queue};
+
+    ghost Value = { Queue };
+
+    ghost view = { λ o. record { packets = o.packets.items; ready = vec_len o.spares } };
+
+    ghost invariant = { λ o. o.packets.capacity ≡ 64 };
+}
+
+impl Outbox {
+    /// An empty outbox. It takes the memory for 64 packets, without their bytes.
+    pub fn new(alloc: Global) -> Result<Outbox, AllocError>
+        ensures { IfOk result (λ o. o.packets ≡ []) }
+    {
+        Ok(Outbox {
+            packets: HeapCircularBuffer::with_capacity(alloc, PACKETS)?,
+            spares: Vec::new(alloc),
+            alloc,
+        })
+    }
+
+    /// How many more packets there is room for.
+    pub fn free(&self) -> usize
+        ensures free { result ≡ 64 - length self.now.packets }
+        ensures few { length self.now.packets ≤ 64 }
+    {
+        PACKETS - self.packets.len()
+    }
+
+    /// Takes the oldest packet out, if there is one.
+    pub fn pop(&mut self) -> Option<Packet>
+        ensures value { result ≡ slice_get self.old.packets 0 }
+        ensures packets { self.new.packets ≡ drop 1 self.old.packets }
+    {
+        self.packets.pop_front()
+    }
+
+    /// Makes buffers ready for so many packets. After an error the packets are as they were.
+    pub(crate) fn make_ready(&mut self, count: usize) -> Result<(), AllocError>
+        ensures packets { self.new.packets ≡ self.old.packets }
+        ensures ok { OnOk result (count ≤ self.new.ready) }
+    {
+        while self.spares.len() < count {
+            self.spares.push(Spare::new(self.alloc)?)?;
+        }
+        Ok(())
+    }
+
+    /// Puts a node's message in, for which a buffer is ready. It takes no memory.
+    pub(crate) fn put(&mut self, me: Me, to: To, body: Body)
+        requires node { IsNode me.group.size me.node }
+        requires body { IsBody me.group.size me.node body }
+        requires ready { 0 < self.old.ready }
+        requires room { length self.old.packets < 64 }
+        ensures packets { self.new.packets ≡ self.old.packets ++ datagram_of me (record { to = to; body = body }) ∷ [] }
+        ensures ready { self.new.ready + 1 ≡ self.old.ready }
+    {
+        let message = Msg {
+            sender: me.node,
+            body,
+        };
+        let Some(spare) = self.spares.pop() else {
+            unreachable!()
+        };
+        let bytes = spare.written(&message, me.group);
+        match self.packets.try_push_back(Packet { to, bytes }) {
+            Ok(()) => (),
+            Err(_) => unreachable!(),
+        }
+    }
+}

@@ -1,0 +1,218 @@
+//! The machine of a node, and its output.
+ghost use Rattle.std.specs.Prelude.{◌≡◌, ◌↔◌, ◌+◌, ◌<◌, ◌≤◌, ◌++◌, ◌∷◌, ℕ, [], IfNone, IfOk, IfSome, IsTrue, List, OnSome, length, min, option_map, slice_get};
+ghost use Rattle.circular_buffer.specs.Buffer.{buffer};
+ghost use Rattle.paxos_learner.specs.Input.{learned_input};
+ghost use Rattle.pcode_machine.specs.Turns.{WaitsOn};
+ghost use Rattle.group_node.specs.Output.{most_of, no_progress, RunsOn, unreleased_of};
+ghost use Rattle.group_node.specs.Player.{Halts, IsExact, Moves, progress_of};
+
+use circular_buffer::HeapCircularBuffer;
+use paxos_learner::Learner;
+use pcode_machine::laws::{
+    goes_on_with_a_byte, output_only_grows, quiet_steps_lead_on, run_is_after,
+    same_step_on_longer_input, step_is_outcome,
+};
+use pcode_machine::{End, Machine, MachineFault, Turn};
+use pcode_ops::Program;
+use std::alloc::{AllocError, Global};
+
+/// How many bytes of output wait at most.
+const WAITING: usize = 256;
+
+/// How a run was over.
+#[derive(Clone, Copy, Debug, PartialEq, Eq)]
+pub enum Ran {
+    /// The steps are spent, or the count of steps is at its greatest value.
+    More,
+    /// The machine waits for a key.
+    Waits,
+    /// 256 bytes of output wait.
+    Full,
+    /// The program has ended.
+    Ended(End),
+}
+
+/// The machine of a node, and its output.
+#[derive(Drop)]
+pub(crate) struct Player<'a> {
+    pub(crate) machine: Machine<'a>,
+    /// The output that was not released, the oldest byte first.
+    pub(crate) unreleased: HeapCircularBuffer<u8>,
+    /// How many steps were made.
+    pub(crate) steps: u64,
+    /// How many bytes of the input were read.
+    pub(crate) read: usize,
+    /// How many bytes of output were released.
+    pub(crate) released: u64,
+}
+
+/// How many of these steps can still be counted, where so many were made.
+fn counted(steps: u32, made: u64) -> u32
+    ensures most { result ≤ steps }
+    ensures counted { made + result ≡ most_of made steps }
+{
+    u64::from(steps).min(u64::MAX - made) as u32
+}
+
+impl<'a> Player<'a> {
+    /// A machine before its first step. All its room is made here.
+    pub(crate) fn begin(alloc: Global, program: &'a Program) -> Result<Player<'a>, AllocError>
+        ensures progress { IfOk result (λ q. progress_of q ≡ no_progress program.now) }
+        ensures exact { (x : List ℕ) → IfOk result (λ q. IsExact x q) }
+    {
+        let machine = match Machine::new(alloc, program) {
+            Ok(machine) => machine,
+            Err(MachineFault::Memory) => return Err(AllocError),
+        };
+        Ok(Player {
+            machine,
+            unreleased: HeapCircularBuffer::with_capacity(alloc, WAITING)?,
+            steps: 0,
+            read: 0,
+            released: 0,
+        })
+    }
+
+    /// Whether there is room for one byte more of output.
+    fn has_room(&self) -> bool
+        ensures { IsTrue result ↔ (length self.now.unreleased.items < 256) }
+    {
+        self.unreleased.len() < WAITING
+    }
+
+    /// Puts a byte behind the output that waits, for which there is room.
+    fn write(&mut self, byte: u8)
+        requires { length self.old.unreleased.items < self.old.unreleased.capacity }
+        ensures { self.new ≡ record self.old { unreleased = buffer (self.old.unreleased.items ++ byte ∷ []) self.old.unreleased.capacity } }
+    {
+        match self.unreleased.try_push_back(byte) {
+            Ok(()) => (),
+            Err(_) => unreachable!(),
+        }
+    }
+
+    /// Gives the machine the byte that it waits for.
+    fn feed(&mut self, byte: u8)
+        requires waits { WaitsOn self.old.machine.program self.old.machine.state }
+        requires room { length self.old.unreleased.items < self.old.unreleased.capacity }
+        requires steps { self.old.steps < 18446744073709551615 }
+        requires read { self.old.read < 18446744073709551615 }
+        ensures { (wrote : List ℕ) × Moves self.old self.new (byte ∷ []) wrote }
+    {
+        goes_on_with_a_byte();
+        self.read += 1;
+        self.steps += 1;
+        match self.machine.step(Some(byte)) {
+            Turn::Took => (),
+            Turn::TookAndWrote(echo) => self.write(echo),
+            _ => unreachable!(),
+        }
+    }
+
+    /// One step, on the next byte of the learned input if the machine waits for it; or why there is none.
+    fn turn(&mut self, learner: &Learner) -> Option<Ran>
+        requires exact { IsExact (learned_input learner.now.learned) self.old }
+        requires room { length self.old.unreleased.items < 256 }
+        requires steps { self.old.steps < 18446744073709551615 }
+        ensures exact { IsExact (learned_input learner.now.learned) self.new }
+        ensures steps { IfNone result (self.new.steps ≡ self.old.steps + 1) }
+        ensures halts { IfSome result (λ ran. Halts (learned_input learner.now.learned) self.new ran) }
+        ensures still { OnSome result (self.new ≡ self.old) }
+        ensures released { self.new.released ≡ self.old.released }
+        ensures program { self.new.machine.program ≡ self.old.machine.program }
+    {
+        run_is_after();
+        same_step_on_longer_input();
+        step_is_outcome();
+        match self.machine.step(None) {
+            Turn::Went => {
+                self.steps += 1;
+                None
+            }
+            Turn::Wrote(byte) => {
+                self.write(byte);
+                self.steps += 1;
+                None
+            }
+            Turn::Ended(end) => Some(Ran::Ended(end)),
+            Turn::Waits => match learner.input_at(self.read) {
+                Some(byte) => {
+                    self.feed(byte);
+                    None
+                }
+                None => Some(Ran::Waits),
+            },
+            Turn::Took | Turn::TookAndWrote(_) => unreachable!(),
+        }
+    }
+
+    /// Makes steps that read and write nothing, at most so many, and says how many.
+    fn advance(&mut self, most: u32) -> u32
+        requires { self.old.steps + most ≤ 18446744073709551615 }
+        ensures exact { (x : List ℕ) → IsExact x self.old → IsExact x self.new }
+        ensures most { result ≤ most }
+        ensures steps { self.new.steps ≡ self.old.steps + result }
+        ensures waits { self.new.unreleased ≡ self.old.unreleased }
+        ensures released { self.new.released ≡ self.old.released }
+        ensures program { self.new.machine.program ≡ self.old.machine.program }
+    {
+        quiet_steps_lead_on();
+        let made = self.machine.advance(most);
+        self.steps += u64::from(made);
+        made
+    }
+
+    /// Makes steps, at most so many, on the learned input. Before each step it looks first whether the steps are
+    /// spent, then whether 256 bytes wait, then at the machine. It takes no memory.
+    pub(crate) fn run(&mut self, learner: &Learner, steps: u32) -> Ran
+        requires { IsExact (learned_input learner.now.learned) self.old }
+        ensures exact { IsExact (learned_input learner.now.learned) self.new }
+        ensures runs { RunsOn (learned_input learner.now.learned) steps (progress_of self.old) (progress_of self.new) result }
+    {
+        run_is_after();
+        output_only_grows();
+        let mut left = counted(steps, self.steps);
+        while left > 0 {
+            if !self.has_room() {
+                return Ran::Full;
+            }
+            // These steps write nothing, so that there is room for the next byte behind them too.
+            left -= self.advance(left);
+            if left == 0 {
+                return Ran::More;
+            }
+            match self.turn(learner) {
+                Some(ran) => return ran,
+                None => left -= 1,
+            }
+        }
+        Ran::More
+    }
+
+    /// The first byte of the output that was not released, with its number, from 0 on. It is released by this. It
+    /// takes no memory.
+    pub(crate) fn release(&mut self) -> Option<(u64, u8)>
+        requires { (x : List ℕ) × IsExact x self.old }
+        ensures value { (x : List ℕ) → IsExact x self.old →
+            result ≡ option_map (λ b. (self.old.released, b)) (slice_get (unreleased_of x (progress_of self.old)) 0) }
+        ensures exact { (x : List ℕ) → IsExact x self.old → IsExact x self.new }
+        ensures some { OnSome result (progress_of self.new ≡ record (progress_of self.old) { released = self.old.released + 1 }) }
+        ensures none { IfNone result (self.new ≡ self.old) }
+    {
+        run_is_after();
+        // No more bytes are released than steps were made, so that their count fits.
+        let _steps = self.steps;
+        let byte = self.unreleased.pop_front()?;
+        let number = self.released;
+        self.released += 1;
+        Some((number, byte))
+    }
+
+    /// How many bytes of the output were not released.
+    pub(crate) fn unreleased_len(&self) -> usize
+        ensures { (x : List ℕ) → IsExact x self.now → (result ≡ length (unreleased_of x (progress_of self.now))) × (result ≤ 256) }
+    {
+        run_is_after();
+        self.unreleased.len()
+    }
+}
