@@ -7,11 +7,13 @@ use crate::ballot::Ballot;
 use crate::characters::Characters;
 use crate::message::{Body, Group};
 use crate::value::{Value, Vote};
+use std::mem;
 
 /// The version of the datagrams.
 const VERSION: u8 = 2;
 
 /// Writes a byte.
+#[inline(always)]
 fn put_byte(byte: u8, out: &mut Vec<u8>)
     requires room { vec_len out.old + 1 ≤ vec_capacity out.old }
     ensures items { out.new.items ≡ out.old.items ++ byte ∷ [] }
@@ -21,8 +23,10 @@ fn put_byte(byte: u8, out: &mut Vec<u8>)
     out.push_reserved(byte);
 }
 
-/// Writes bytes, one after the other.
-fn put_each(bytes: &[u8], out: &mut Vec<u8>)
+/// Writes bytes, one after the other. Where the vector is a local one of the caller, whose length and pointer no
+/// store of a byte can change, the loop becomes one copy of a block. That is why this is inlined.
+#[inline(always)]
+fn put_bytes(bytes: &[u8], out: &mut Vec<u8>)
     requires room { vec_len out.old + length bytes.now ≤ vec_capacity out.old }
     ensures items { out.new.items ≡ out.old.items ++ bytes.now }
     ensures len { vec_len out.new ≡ vec_len out.old + length bytes.now }
@@ -33,30 +37,9 @@ fn put_each(bytes: &[u8], out: &mut Vec<u8>)
     }
 }
 
-/// Writes bytes, eight at a time: the length of the vector then stays in a register for eight of them.
-fn put_bytes(bytes: &[u8], out: &mut Vec<u8>)
-    requires room { vec_len out.old + length bytes.now ≤ vec_capacity out.old }
-    ensures items { out.new.items ≡ out.old.items ++ bytes.now }
-    ensures len { vec_len out.new ≡ vec_len out.old + length bytes.now }
-    ensures capacity { vec_capacity out.new ≡ vec_capacity out.old }
-{
-    let mut rest = bytes;
-    while let [a, b, c, d, e, f, g, h, behind @ ..] = rest {
-        out.push_reserved(*a);
-        out.push_reserved(*b);
-        out.push_reserved(*c);
-        out.push_reserved(*d);
-        out.push_reserved(*e);
-        out.push_reserved(*f);
-        out.push_reserved(*g);
-        out.push_reserved(*h);
-        rest = behind;
-    }
-    put_each(rest, out);
-}
-
 /// Writes a number behind what the vector holds: four bytes, its high byte first, for which it has to have
 /// room.
+#[inline(always)]
 pub fn put_number(number: u32, out: &mut Vec<u8>)
     requires room { vec_len out.old + 4 ≤ vec_capacity out.old }
     ensures items { out.new.items ≡ out.old.items ++ number_bytes number }
@@ -83,6 +66,7 @@ pub fn put_ballot(ballot: Ballot, out: &mut Vec<u8>)
 }
 
 /// Writes characters: how many there are, in a byte, and each of them.
+#[inline(always)]
 fn put_characters(characters: Characters, out: &mut Vec<u8>)
     requires room { vec_len out.old + 1 + length characters ≤ vec_capacity out.old }
     ensures items { out.new.items ≡ out.old.items ++ length characters ∷ characters }
@@ -109,11 +93,16 @@ pub fn put_value(value: Value, out: &mut Vec<u8>)
             first,
             bytes,
         } => {
-            put_byte(1, out);
-            put_byte(node, out);
-            put_number(start, out);
-            put_number(first, out);
-            put_characters(bytes, out);
+            // Behind a reference, each byte that is stored might change the vector's length and pointer. In a
+            // local vector they stay in registers. Neither step takes memory.
+            let empty = Vec::new(*out.allocator());
+            let mut own = mem::replace(out, empty);
+            put_byte(1, &mut own);
+            put_byte(node, &mut own);
+            put_number(start, &mut own);
+            put_number(first, &mut own);
+            put_characters(bytes, &mut own);
+            *out = own;
         }
     }
 }
