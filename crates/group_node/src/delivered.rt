@@ -1,5 +1,5 @@
 //! The calls that take an outbox.
-ghost use Rattle.std.specs.Prelude.{◌≡◌, ◌≢◌, ◌↔◌, ◌⊎◌, [], false, IfErr, IsErrOf};
+ghost use Rattle.std.specs.Prelude.{◌≡◌, ◌≢◌, ◌↔◌, ◌⊎◌, ◌<◌, [], false, IfErr, IsErrOf, OnOk};
 ghost use Rattle.paxos_msg.specs.Fits.{Fits};
 ghost use Rattle.paxos_proposer.specs.Proposer.{greatest_round};
 ghost use Rattle.group_node.specs.Calls.{Does, IsLet, IsLetIn, Saves};
@@ -99,7 +99,9 @@ impl<S: Store> Protocol<S> {
         ensures saves { Saves S.honest S.fails_at_will S.state self.old self.new (at_campaign self.old.rules) result }
         ensures let_in { IsLetIn self.old outbox.old.packets result }
         ensures rounds { IsErrOf result NodeFault.RoundsSpent ↔ (IsLet self.old outbox.old.packets × (greatest_round self.old.rules.kept.promised self.old.rules.remembered ≡ 4294967295)) }
-        ensures places { IsErrOf result NodeFault.PlacesSpent ↔ (IsLet self.old outbox.old.packets × (greatest_round self.old.rules.kept.promised self.old.rules.remembered ≢ 4294967295) × (front self.old.rules ≡ 65536)) }
+        ensures places { IsErrOf result NodeFault.PlacesSpent ↔ (IsLet self.old outbox.old.packets × (greatest_round self.old.rules.kept.promised self.old.rules.remembered < 4294967295) × (front self.old.rules ≡ 65536)) }
+        ensures spare { OnOk result (greatest_round self.old.rules.kept.promised self.old.rules.remembered < 4294967295) }
+        ensures spare_saved { IsErrOf result NodeFault.Store → greatest_round self.old.rules.kept.promised self.old.rules.remembered < 4294967295 }
         ensures others { IfErr result (λ e. (e ≡ NodeFault.Stopped) ⊎ (e ≡ NodeFault.OutboxFull) ⊎ (e ≡ NodeFault.RoundsSpent) ⊎ (e ≡ NodeFault.PlacesSpent) ⊎ (e ≡ NodeFault.Memory) ⊎ (e ≡ NodeFault.Store)) }
     {
         self.let_in(outbox)?;

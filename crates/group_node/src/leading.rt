@@ -142,7 +142,9 @@ impl<S: Store> Protocol<S> {
         ensures does { Does self.old self.new outbox.old.packets outbox.new.packets (at_campaign self.old.rules) result }
         ensures saves { Saves S.honest S.fails_at_will S.state self.old self.new (at_campaign self.old.rules) result }
         ensures rounds { IsErrOf result NodeFault.RoundsSpent ↔ (greatest_round self.old.rules.kept.promised self.old.rules.remembered ≡ 4294967295) }
-        ensures places { IsErrOf result NodeFault.PlacesSpent ↔ ((greatest_round self.old.rules.kept.promised self.old.rules.remembered ≢ 4294967295) × (front self.old.rules ≡ 65536)) }
+        ensures places { IsErrOf result NodeFault.PlacesSpent ↔ ((greatest_round self.old.rules.kept.promised self.old.rules.remembered < 4294967295) × (front self.old.rules ≡ 65536)) }
+        ensures spare { OnOk result (greatest_round self.old.rules.kept.promised self.old.rules.remembered < 4294967295) }
+        ensures spare_saved { IsErrOf result NodeFault.Store → greatest_round self.old.rules.kept.promised self.old.rules.remembered < 4294967295 }
         ensures others { IfErr result (λ e. (e ≡ NodeFault.Memory) ⊎ (e ≡ NodeFault.Store) ⊎ (e ≡ NodeFault.RoundsSpent) ⊎ (e ≡ NodeFault.PlacesSpent)) }
     {
         let promised = self.acceptor.record().promised;

@@ -1,5 +1,5 @@
 //! A node.
-ghost use Rattle.std.specs.Prelude.{◌≡◌, ◌≢◌, ◌↔◌, ◌+◌, ◌⊎◌, ◌<◌, ◌≤◌, ℕ, List, [], false, true, length, option_map, slice_get, None, IfErr, IfNone, IfOk, IsErrOf, OnErr, OnSome};
+ghost use Rattle.std.specs.Prelude.{◌≡◌, ◌≢◌, ◌↔◌, ◌+◌, ◌⊎◌, ◌<◌, ◌≤◌, ℕ, List, [], false, true, length, option_map, slice_get, None, IfErr, IfNone, IfOk, IsErrOf, OnErr, OnOk, OnSome};
 ghost use Rattle.std.specs.FinMap.{get};
 ghost use Rattle.paxos_msg.specs.declared.record.Change.TheVariants.{Start};
 ghost use Rattle.paxos_msg.specs.Fits.{Fits};
@@ -160,7 +160,9 @@ impl<'a, S: Store> Node<'a, S> {
         ensures progress { self.new.progress ≡ self.old.progress }
         ensures let_in { IsLetIn self.old.protocol outbox.old.packets result }
         ensures rounds { IsErrOf result NodeFault.RoundsSpent ↔ (IsLet self.old.protocol outbox.old.packets × (greatest_round self.old.protocol.rules.kept.promised self.old.protocol.rules.remembered ≡ 4294967295)) }
-        ensures places { IsErrOf result NodeFault.PlacesSpent ↔ (IsLet self.old.protocol outbox.old.packets × (greatest_round self.old.protocol.rules.kept.promised self.old.protocol.rules.remembered ≢ 4294967295) × (front self.old.protocol.rules ≡ 65536)) }
+        ensures places { IsErrOf result NodeFault.PlacesSpent ↔ (IsLet self.old.protocol outbox.old.packets × (greatest_round self.old.protocol.rules.kept.promised self.old.protocol.rules.remembered < 4294967295) × (front self.old.protocol.rules ≡ 65536)) }
+        ensures spare { OnOk result (greatest_round self.old.protocol.rules.kept.promised self.old.protocol.rules.remembered < 4294967295) }
+        ensures spare_saved { IsErrOf result NodeFault.Store → greatest_round self.old.protocol.rules.kept.promised self.old.protocol.rules.remembered < 4294967295 }
         ensures others { IfErr result (λ e. (e ≡ NodeFault.Stopped) ⊎ (e ≡ NodeFault.OutboxFull) ⊎ (e ≡ NodeFault.RoundsSpent) ⊎ (e ≡ NodeFault.PlacesSpent) ⊎ (e ≡ NodeFault.Memory) ⊎ (e ≡ NodeFault.Store)) }
     {
         self.protocol.on_campaign(outbox)

@@ -16,6 +16,12 @@ pub fn reading_is_spelling()
     ensures read { (group : Group) (bytes : List ℕ) (m : Msg) → IsGroup group → AreBytes bytes → (message_at group bytes ≡ Ok m) ↔ Msgs group bytes m }
 {}
 
+/// What is spelled is read again, whatever else is known of the bytes.
+#[tactic(auto, using(crate::proofs::MessagesRead::message_again))]
+pub fn spelling_is_read()
+    ensures read { (group : Group) (bytes : List ℕ) (m : Msg) → IsGroup group → Msgs group bytes m → message_at group bytes ≡ Ok m }
+{}
+
 /// No two messages share a spelling.
 #[tactic(auto, using(crate::proofs::MessagesRead::one_message))]
 pub fn one_message()
