@@ -2,6 +2,7 @@
 ghost use Rattle.std.specs.Prelude.{◌≡◌, ◌≢◌, ◌↔◌, ◌+◌, ◌⊎◌, ◌<◌, ◌≤◌, ℕ, List, [], false, true, length, option_map, slice_get, None, IfErr, IfNone, IfOk, IsErrOf, OnErr, OnOk, OnSome};
 ghost use Rattle.std.specs.FinMap.{get};
 ghost use Rattle.paxos_msg.specs.declared.record.Change.TheVariants.{Start};
+ghost use Rattle.paxos_msg.specs.Batches.{Record as Kept};
 ghost use Rattle.paxos_msg.specs.Fits.{Fits};
 ghost use Rattle.paxos_msg.specs.Records.{changed};
 ghost use Rattle.paxos_acceptor.specs.Records.{IsRecord};
@@ -80,6 +81,7 @@ impl<'a, S: Store> Node<'a, S> {
         config: Config,
         store: S,
     ) -> Result<Node<'a, S>, StartRefused<S>>
+        ensures begins { IfOk result (λ n. (kept : Kept) × (n.protocol.rules ≡ (started config kept).node)) }
         ensures rules { S.honest → IfOk result (λ n. n.protocol.rules ≡ (started config (S.state store).stored).node) }
         ensures saved { S.honest → IfOk result (λ n. (S.state n.protocol.store).stored ≡ changed (S.state store).stored Start) }
         ensures stops { IfOk result (λ n. n.protocol.is_stopped ≡ false) }
