@@ -1,0 +1,9 @@
+//! The laws of a world, over the definitions alone. Each is the contract of a function that does nothing.
+
+mod order;
+mod sound;
+mod worlds;
+
+pub use order::{events_keep_order, ordered_worlds_are_orderly, possible, wrong_orders};
+pub use sound::{events_keep_it_sound, sound_worlds_agree};
+pub use worlds::headline;

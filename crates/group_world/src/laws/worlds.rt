@@ -1,0 +1,42 @@
+//! What is promised of every group, whatever happened to it. Each clause is a claim of its own; the function does nothing.
+ghost use Rattle.std.specs.Prelude.{List};
+ghost use Rattle.pcode_file.specs.Parts.{Parts};
+ghost use Rattle.paxos_msg.specs.declared.message.Group.{Group};
+ghost use Rattle.paxos_msg.specs.Grammar.{IsGroup};
+ghost use Rattle.group_node.specs.States.{IsSize};
+ghost use Rattle.group_world.specs.declared.event.Event.{Event};
+ghost use Rattle.group_world.specs.Goes.{Happens};
+ghost use Rattle.group_world.specs.Headline.{ConsolesAgree, ConsolesHoldOutput, HasNoGap, LearnedAgree, LearnedChosen};
+ghost use Rattle.group_world.specs.Order.{KeysOnce, SerialsInOrder};
+ghost use Rattle.group_world.specs.Worlds.{begun, state_of, World};
+
+use crate::laws::order::{events_keep_order, ordered_worlds_are_orderly};
+use crate::laws::sound::{events_keep_it_sound, sound_worlds_agree};
+
+/// For every program, every group of 1, 3, 5, 7 or 9 nodes and every list of keystrokes, deliveries, campaigns, ticks, runs, releases,
+/// crashes and starts, with saves that fail or not, of the world to which they lead from the one in which nothing has happened: no two nodes
+/// have learned different values for one place; what is learned is chosen, and was typed or is a no-op; each console holds a prefix of the
+/// program's output on the chosen input; so of two consoles one holds a prefix of the other; no released byte comes too early for its
+/// console, and one that it has shown is the one that stands there; each typed key is read once; and the keys of one start of one node are
+/// read in the order in which they were typed.
+pub fn headline()
+    ensures learned_agree { (p : Parts) (group : Group) (events : List Event) (w : World) → IsSize group.size → IsGroup group →
+        Happens (begun p group) events w → LearnedAgree (state_of w) }
+    ensures learned_chosen { (p : Parts) (group : Group) (events : List Event) (w : World) → IsSize group.size → IsGroup group →
+        Happens (begun p group) events w → LearnedChosen (state_of w) }
+    ensures consoles_hold_output { (p : Parts) (group : Group) (events : List Event) (w : World) → IsSize group.size → IsGroup group →
+        Happens (begun p group) events w → ConsolesHoldOutput (state_of w) }
+    ensures consoles_agree { (p : Parts) (group : Group) (events : List Event) (w : World) → IsSize group.size → IsGroup group →
+        Happens (begun p group) events w → ConsolesAgree (state_of w) }
+    ensures no_gap { (p : Parts) (group : Group) (events : List Event) (w : World) → IsSize group.size → IsGroup group →
+        Happens (begun p group) events w → HasNoGap (state_of w) }
+    ensures key_once { (p : Parts) (group : Group) (events : List Event) (w : World) → IsSize group.size → IsGroup group →
+        Happens (begun p group) events w → KeysOnce (state_of w) }
+    ensures serials_in_order { (p : Parts) (group : Group) (events : List Event) (w : World) → IsSize group.size → IsGroup group →
+        Happens (begun p group) events w → SerialsInOrder (state_of w) }
+{
+    events_keep_it_sound();
+    events_keep_order();
+    sound_worlds_agree();
+    ordered_worlds_are_orderly();
+}
