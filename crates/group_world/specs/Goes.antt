@@ -73,11 +73,13 @@ abbrev pub failing : Option Change → Option Bool → Option Bool
 failing None plan = None
 failing (Some c) plan = plan
 
--- What a call of node m, which is node i, leaves, and its answer: after a save that fails the node is down, and nothing was sent.
+-- What a call of node i leaves, which is m before it, and its answer: where its save fails the node is down with the changed record or the
+-- old one, and nothing was sent.
 abbrev pub LeavesSaving : World → ℕ → Member → Progress → Made → List Value → Option Bool → Done → World → Type 0
 LeavesSaving w i m progress made keys None d v = (d ≡ Applied) × (v ≡ called w i made m.console progress keys)
 LeavesSaving w i m progress made keys (Some is_kept) d v = (d ≡ Fell) × (v ≡ fallen w i m (if is_kept then made.node.kept else m.kept))
 
+-- the same of any call: one that is refused changes nothing
 abbrev pub Leaves : World → ℕ → Member → Progress → Option Bool → Call → Done → World → Type 0
 Leaves w i m progress plan (Refuses f) d v = (d ≡ Refused f) × (v ≡ w)
 Leaves w i m progress plan (Makes made keys) d v = LeavesSaving w i m progress made keys (failing made.saves plan) d v
@@ -107,8 +109,8 @@ released m q (Some byte) = record {
   node = Some (record q { progress = record q.progress { released = q.progress.released + 1 } });
 }
 
--- An event leads from a world to another, with this answer, where its save, if it makes one, is to fail so: each but a crash is that call of
--- the node.
+-- An event leads from a world to another, with this answer, where its save, if it makes one, is to fail so. Each but a crash is that call of
+-- the node: a delivery hands it the message that the datagram of that number spells, and a run makes steps that exist.
 abbrev pub Acts : World → Option Bool → Act → Done → World → Type 0
 Acts w plan (Press i byte) d v = (m : Member) × (q : Running) × IsUp w i m q × (byte < 256) × Leaves w i m q.progress plan (press q.rules byte) d v
 Acts w plan (Deliver k i) d v = (m : Member) × (q : Running) × (message : Msg) × IsUp w i m q × (slice_get (messages_in w.group w.sent) k ≡ Some message)
@@ -122,6 +124,7 @@ Acts w plan (Release i) d v = (m : Member) × (q : Running) × IsUp w i m q × (
 Acts w plan (Crash i) d v = (m : Member) × (q : Running) × IsUp w i m q × (d ≡ Applied) × (v ≡ fallen w i m m.kept)
 Acts w plan (Start i) d v = (m : Member) × IsDown w i m × Leaves w i m (no_progress w.program) plan (start (me_of w i) m.kept) d v
 
+-- an event leads from a world to another, with this answer
 abbrev pub Goes : World → Event → Done → World → Type 0
 Goes w e d v = Acts w (plan_of e.save) e.act d v
 

@@ -1,5 +1,4 @@
 //! The laws of a world, over the definitions alone. Each is the contract of a function that does nothing.
-
 mod order;
 mod sound;
 mod worlds;
