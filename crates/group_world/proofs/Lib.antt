@@ -27,3 +27,4 @@ mod OrderReadable
 mod OrderPossible
 mod Beginning
 mod Happening
+mod Example

@@ -5,4 +5,4 @@ mod worlds;
 
 pub use order::{events_keep_order, ordered_worlds_are_orderly, possible, wrong_orders};
 pub use sound::{events_keep_it_sound, sound_worlds_agree};
-pub use worlds::headline;
+pub use worlds::{consoles_may_show, headline};

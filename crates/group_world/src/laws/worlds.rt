@@ -1,5 +1,5 @@
 //! What is promised of every group, whatever happened to it. Each clause is a claim of its own; the function does nothing.
-ghost use Rattle.std.specs.Prelude.{List};
+ghost use Rattle.std.specs.Prelude.{◌≡◌, ◌∷◌, [], List};
 ghost use Rattle.pcode_file.specs.Parts.{Parts};
 ghost use Rattle.paxos_msg.specs.declared.message.Group.{Group};
 ghost use Rattle.paxos_msg.specs.Grammar.{IsGroup};
@@ -12,6 +12,7 @@ ghost use Rattle.group_world.specs.Worlds.{begun, state_of, World};
 
 use crate::laws::order::{events_keep_order, ordered_worlds_are_orderly};
 use crate::laws::sound::{events_keep_it_sound, sound_worlds_agree};
+use pcode_machine::laws::output_only_grows;
 
 /// For every program, every group of 1, 3, 5, 7 or 9 nodes and every list of keystrokes, deliveries, campaigns, ticks, runs, releases,
 /// crashes and starts, with saves that fail or not, of the world to which they lead from the one in which nothing has happened: no two nodes
@@ -39,4 +40,13 @@ pub fn headline()
     events_keep_order();
     sound_worlds_agree();
     ordered_worlds_are_orderly();
+}
+
+/// The main theorem is not empty: events lead a group of three, which runs a program that writes the letter A, to a world in which the
+/// consoles of two nodes show it.
+pub fn consoles_may_show()
+    ensures { (p : Parts) × (group : Group) × (events : List Event) × (w : World) × IsSize group.size × IsGroup group
+        × Happens (begun p group) events w × (((state_of w).seats 1).console ≡ 65 ∷ []) × (((state_of w).seats 2).console ≡ 65 ∷ []) }
+{
+    output_only_grows();
 }
