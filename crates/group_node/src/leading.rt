@@ -180,7 +180,8 @@ impl<S: Store> Protocol<S> {
             Err(fault) => return Err(fault_of(fault)),
         }
         self.proposer = Some(Proposer::begin(self.alloc, ballot, from, self.me.group.size));
-        self.offered.clear();
+        // A set that is cleared keeps its table, and clearing goes over all of it.
+        self.offered = KeySet::new(self.alloc);
         outbox.put(self.me, To::All, Body::Prepare { ballot, from });
         Ok(())
     }

@@ -18,7 +18,7 @@ invariant_of-self-2 g c =
       follows.me ∙ i.0,
       record {
         size = i.1.size;
-        ranges = rw (follows.ok, c.begin.ensures, c.clear.ensures.keys, c.known_front-from.ensures.front) fits;
+        ranges = rw (follows.ok, c.begin.ensures, c.new.ensures, c.known_front-from.ensures.front) fits;
         in_step = λ honest is_open. follows.saved honest ∙ sym follows.ok;
       },
     )
