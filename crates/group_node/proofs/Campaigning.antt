@@ -1,5 +1,5 @@
 -- The ballot of a campaign.
-use Rattle.std.proofs.Common.{◌≡◌, ℕ, ◌+◌, ◌<◌, ◌≤◌, max, Option, Some, None, IfSome, refl, subst, arith}
+use Rattle.std.proofs.Common.{◌≡◌, ℕ, ◌+◌, ◌<◌, ◌≤◌, Option, Some, None, IfSome, refl, subst, arith}
 use Rattle.paxos_msg.specs.declared.ballot.Ballot.{Ballot}
 use Rattle.paxos_msg.specs.declared.record.Change.TheVariants.{Promise}
 use Rattle.paxos_msg.specs.Ballots.{IsBelow}
@@ -7,7 +7,7 @@ use Rattle.paxos_msg.specs.Batches.{Change, Record}
 use Rattle.paxos_msg.specs.Fits.{IsBallot, IsPlace}
 use Rattle.paxos_acceptor.specs.Answers.{after, prepare_of}
 use Rattle.paxos_acceptor.specs.Records.{IsRecord}
-use Rattle.paxos_proposer.specs.Proposer.{begun, greatest_round, round_of}
+use Rattle.paxos_proposer.specs.Proposer.{begun, greatest_round}
 use Rattle.paxos_proposer.specs.Ranges.{IsInRange as IsProposerInRange}
 use Rattle.group_node.specs.Node.{beginning, front, Node}
 use Rattle.group_node.specs.Ranges.{IsInRange}

@@ -1,5 +1,5 @@
 -- What a save that failed leaves of a node's store.
-use Rattle.std.proofs.Common.{◌≡◌, Some, None, Err, IsErrOf, refl, ap}
+use Rattle.std.proofs.Common.{◌≡◌, Some, Err, IsErrOf, refl}
 use Rattle.paxos_msg.specs.Batches.{Change}
 use Rattle.paxos_msg.specs.Records.{changed}
 use Rattle.paxos_acceptor.specs.Follows.{Follows}

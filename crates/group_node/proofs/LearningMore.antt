@@ -1,5 +1,5 @@
 -- What a message leaves learned, and the machine that runs on it.
-use Rattle.std.proofs.Common.{◌≡◌, ℕ, List, ◌&&◌, not, Bool, true, false, if◌then◌else◌, Option, Some, None, Result, Ok, Err, OnOk, OnErr, refl}
+use Rattle.std.proofs.Common.{◌≡◌, ℕ, List, ◌&&◌, not, Bool, true, false, if◌then◌else◌, Option, Some, None, Result, Ok, Err, OnOk, OnErr}
 use Rattle.paxos_msg.specs.declared.ballot.Ballot.{Ballot}
 use Rattle.paxos_msg.specs.declared.value.Value.{Value}
 use Rattle.paxos_msg.specs.declared.message.Body.TheVariants.{Prepare, Promise, Accept, Accepted, Refused, Submit, Ask, Tell}
@@ -9,13 +9,10 @@ use Rattle.paxos_proposer.specs.Proposer.{after_part, asks_on, is_covered, next_
 use Rattle.paxos_learner.specs.Growth.{HasLearnedMore}
 use Rattle.paxos_learner.specs.Learner.{Learner, on_accepted, on_tell}
 use Rattle.group_node.specs.declared.fault.NodeFault.{NodeFault}
-use Rattle.group_node.specs.declared.player.Player.{Player}
 use Rattle.group_node.specs.Delivered.{on_message, row}
 use Rattle.group_node.specs.Leading.{is_known, offer_after, offering, prepare_from, proposing_on, submitted, taking_part}
 use Rattle.group_node.specs.Node.{Done, Node, quiet}
-use Rattle.group_node.specs.Player.{IsExact}
 use Rattle.group_node.specs.Pump.{pump}
-use Rattle.group_node.specs.States.{input}
 
 -- the laws of a learner that hears
 pub record HeardLaws : Type 0 where

@@ -1,7 +1,7 @@
 -- Waiting characters that leave from the front, one after another.
-use Rattle.std.proofs.Common.{◌≡◌, ◌↔◌, ◌∙◌, ℕ, zero, suc, ◌+◌, List, [], ◌∷◌, drop, length, slice_get, Some, Bool, true, false, IsTrue, Contains, if◌then◌else◌, refl, sym, arith}
+use Rattle.std.proofs.Common.{◌≡◌, ℕ, suc, ◌+◌, List, [], ◌∷◌, drop, slice_get, Some, Bool, true, false, IsTrue, if◌then◌else◌, refl, arith}
 use Rattle.paxos_msg.specs.Keys.{Key, keys_from}
-use Rattle.paxos_learner.specs.Input.{has_key, same_key}
+use Rattle.paxos_learner.specs.Input.{has_key}
 use Rattle.group_node.specs.Node.{count_read}
 use Rattle.group_node.specs.Ranges.{IsWaiting}
 

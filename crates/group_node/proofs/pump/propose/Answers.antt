@@ -1,4 +1,4 @@
-use Rattle.std.proofs.Common.{◌≡◌, ◌∙◌, sym}
+use Rattle.std.proofs.Common.{◌∙◌, sym}
 use Rattle.paxos_proposer.specs.Proposer.{next_value}
 use Rattle.group_node.proofs.Pumping.{proposal_fits}
 use Rattle.group_node.proofs.pump.propose.Goals as goal

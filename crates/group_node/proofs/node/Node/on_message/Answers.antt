@@ -1,5 +1,3 @@
-use Rattle.std.proofs.Common.{◌≡◌}
-use Rattle.paxos_learner.specs.Growth.{HasLearnedMore}
 use Rattle.group_node.proofs.LearningMore.{HeardLaws, message_learns}
 use Rattle.group_node.proofs.Replays.{exact_learned}
 use Rattle.group_node.proofs.node.Node.on_message.Goals as goal

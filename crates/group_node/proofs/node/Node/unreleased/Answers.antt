@@ -1,4 +1,3 @@
-use Rattle.std.proofs.Common.{◌≡◌}
 use Rattle.group_node.proofs.Replays.{exact_replay}
 use Rattle.group_node.proofs.node.Node.unreleased.Goals as goal
 

@@ -1,4 +1,4 @@
-use Rattle.std.proofs.Common.{◌≡◌, refl}
+use Rattle.std.proofs.Common.{refl}
 use Rattle.group_node.proofs.outbox.Outbox.put.Goals as goal
 
 pub returns-clause-packets : goal.returns-clause-packets

@@ -1,4 +1,3 @@
-use Rattle.std.proofs.Common.{◌≡◌}
 use Rattle.group_node.proofs.protocol.Protocol.drop_read.Goals as goal
 
 pub invariant_of-self : goal.invariant_of-self

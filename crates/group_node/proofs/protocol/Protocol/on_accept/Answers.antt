@@ -1,4 +1,3 @@
-use Rattle.std.proofs.Common.{◌≡◌}
 use Rattle.paxos_msg.specs.Fits.{IsBallot, IsValue}
 use Rattle.group_node.proofs.protocol.Protocol.on_accept.Goals as goal
 

@@ -1,4 +1,3 @@
-use Rattle.std.proofs.Common.{◌≡◌}
 use Rattle.paxos_msg.specs.Fits.{IsBallot}
 use Rattle.group_node.proofs.protocol.Protocol.on_prepare.Goals as goal
 

@@ -1,4 +1,3 @@
-use Rattle.std.proofs.Common.{◌≡◌}
 use Rattle.paxos_msg.specs.Fits.{IsValue}
 use Rattle.group_node.proofs.protocol.Protocol.on_tell.Goals as goal
 

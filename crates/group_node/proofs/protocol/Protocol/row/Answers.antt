@@ -1,7 +1,5 @@
-use Rattle.std.proofs.Common.{◌≡◌, ◌∙◌, Ok, refl, sym, ap}
-use Rattle.paxos_msg.specs.declared.message.Body.TheVariants.{Promise, Accepted, Refused, Submit, Ask, Tell}
-use Rattle.paxos_msg.specs.declared.view.BodyView.{BodyView}
-use Rattle.paxos_msg.specs.Batches.{Body, Msg}
+use Rattle.std.proofs.Common.{◌≡◌, ◌∙◌, Ok, sym, ap}
+use Rattle.paxos_msg.specs.Batches.{Msg}
 use Rattle.paxos_msg.specs.Views.{said}
 use Rattle.group_node.proofs.IdleSaves.{idle_row, only_memory}
 use Rattle.group_node.proofs.protocol.Protocol.row.Goals as goal

@@ -1,4 +1,4 @@
-use Rattle.std.proofs.Common.{◌≡◌, ◌∙◌, ℕ, ◌+◌, List, ◌∷◌, Contains, IsTrue, true, false, drop, subst, sym}
+use Rattle.std.proofs.Common.{◌≡◌, ◌∙◌, ℕ, ◌+◌, List, Contains, IsTrue, true, false, drop, subst, sym}
 use Rattle.paxos_msg.specs.Keys.{Key, keys_from}
 use Rattle.paxos_learner.specs.Input.{front_values, has_key, keys_in_order}
 use Rattle.group_node.specs.Node.{count_read}
