@@ -1,5 +1,6 @@
 -- A world is sound before all events.
-use Rattle.std.proofs.Common.{◌≡◌, ℕ, [], slice_get, Option, None, Some, refl, sym, ap, subst, arith}
+use Rattle.std.proofs.Common.{◌≡◌, ◌≢◌, ◌%◌, ℕ, [], slice_get, Option, None, Some, refl, sym, ap, subst, arith}
+use Rattle.std.proofs.Math.Nat.{mod-lt}
 use Rattle.std.proofs.lemmas.List.{length-replicate}
 use Rattle.std.proofs.lemmas.List.Elements.{All-nil}
 use Rattle.pcode_file.specs.Parts.{Parts}
@@ -53,3 +54,7 @@ module _ (laws : BeginLaws) (p : Parts) (group : Group) where
     submitted = λ i v said. absurd (nothing_sent i _ said);
     members = λ i m there. subst (IsMemberSound p (me_of (begun p group) i) [] []) (first_node p group i m there) (first_sound i);
   }
+
+-- a number that is not even is odd
+pub odd_when : (n : ℕ) → n % 2 ≢ 0 → n % 2 ≡ 1
+odd_when n other = omega (arith, mod-lt n {m = 2} (omega arith), other)

@@ -1,5 +1,6 @@
 -- Whatever happens, a world stays sound and ordered.
-use Rattle.std.proofs.Common.{Bool, List, [], ◌∷◌, Option, sym, subst}
+use Rattle.std.proofs.Common.{◌≡◌, ℕ, ◌+◌, ◌<◌, ◌≤◌, Bool, List, [], ◌∷◌, ◌++◌, get_or, length, take, Option, Result, Ok, Err, IfOk, OnErr, refl, sym, subst}
+use Rattle.std.proofs.lemmas.List.{take_all, take_more}
 use Rattle.pcode_file.specs.Parts.{Parts}
 use Rattle.paxos_msg.specs.declared.message.Group.{Group}
 use Rattle.paxos_msg.specs.Grammar.{IsGroup}
@@ -7,8 +8,10 @@ use Rattle.group_node.specs.States.{IsSize}
 use Rattle.group_world.specs.declared.event.Act.{Act}
 use Rattle.group_world.specs.declared.event.Done.{Done}
 use Rattle.group_world.specs.declared.event.Event.{Event}
+use Rattle.group_world.specs.declared.fault.WorldFault.{WorldFault}
 use Rattle.group_world.specs.Events.{plan_of}
-use Rattle.group_world.specs.Goes.{Acts, Happens}
+use Rattle.group_world.specs.Goes.{Acts, Goes, Happens}
+use Rattle.group_world.specs.Held.{Holds}
 use Rattle.group_world.specs.Ordered.{IsOrdered}
 use Rattle.group_world.specs.Sound.{IsSound}
 use Rattle.group_world.specs.Worlds.{begun, World}
@@ -20,12 +23,7 @@ pub record EventLaws : Type 0 where
   pub ordered_first : (p : Parts) (group : Group) → IsOrdered (begun p group)
   pub ordered : (w v : World) (plan : Option Bool) (act : Act) (d : Done) → IsSound w → IsSound v → IsOrdered w → Acts w plan act d v → IsOrdered v
 
--- what always holds
-pub record Holds (w : World) : Type 0 where
-  pub sound : IsSound w
-  pub ordered : IsOrdered w
-
--- events keep it
+-- events keep what holds
 happens_holds : EventLaws → (w : World) (events : List Event) (v : World) → Holds w → Happens w events v → Holds v
 happens_holds laws w [] v h e = subst Holds (sym e) h
 happens_holds laws w (e ∷ events) v h (mid, d, goes, rest) =
@@ -36,3 +34,25 @@ happens_holds laws w (e ∷ events) v h (mid, d, goes, rest) =
 pub always_holds : EventLaws → (p : Parts) (group : Group) (events : List Event) (w : World) → IsSize group.size → IsGroup group → Happens (begun p group) events w → Holds w
 always_holds laws p group events w size session happens =
     happens_holds laws (begun p group) events w (record { sound = laws.sound_first p group size session; ordered = laws.ordered_first p group }) happens
+
+-- An event that happens, or else changes nothing, keeps it.
+pub event_holds : EventLaws → (w v : World) (e : Event) (answer : Result Done WorldFault) → Holds w → IfOk answer (λ d. Goes w e d v) → OnErr answer (v ≡ w) → Holds v
+event_holds laws w v e (Ok d) h goes same =
+    let sound = laws.sound w v (plan_of e.save) e.act d h.sound goes in
+    record { sound = sound; ordered = laws.ordered w v (plan_of e.save) e.act d h.sound sound h.ordered goes }
+event_holds laws w v e (Err f) h goes same = subst Holds (sym same) h
+
+-- one more event
+pub happens_more : (w : World) (events : List Event) (v : World) (e : Event) (d : Done) (u : World) → Happens w events v → Goes v e d u → Happens w (events ++ e ∷ []) u
+happens_more w [] v e d u h goes = (u, d, subst (λ (x : World). Goes x e d u) h goes, refl)
+happens_more w (x ∷ events) v e d u (mid, before, first, rest) goes = (mid, before, first, happens_more mid events v e d u rest goes)
+
+-- and one more of a list
+pub happens_next : (w : World) (events : List Event) (v : World) (i : ℕ) (default : Event) (d : Done) (u : World) → i < length events → Happens w (take i events) v → Goes v (get_or events i default) d u
+    → Happens w (take (i + 1) events) u
+happens_next w events v i default d u less h goes =
+    subst (λ (some : List Event). Happens w some u) (sym (take_more events i default less)) (happens_more w (take i events) v (get_or events i default) d u h goes)
+
+-- all of them
+pub happens_all : (w : World) (events : List Event) (v : World) (n : ℕ) → length events ≤ n → Happens w (take n events) v → Happens w events v
+happens_all w events v n all h = subst (λ (some : List Event). Happens w some v) (take_all n events all) h

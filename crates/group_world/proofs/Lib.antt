@@ -28,3 +28,7 @@ mod OrderPossible
 mod Beginning
 mod Happening
 mod Example
+mod Answering
+mod Starting
+mod Seating
+mod Tabling

@@ -1,5 +1,5 @@
 -- Events, and what each asks of its node.
-use Rattle.std.specs.Prelude.{Bool, true, false, Option, Some, None}
+use Rattle.std.specs.Prelude.{ℕ, Bool, true, false, Option, Some, None}
 use Rattle.group_node.specs.World as group
 use Rattle.group_world.specs.declared.event.Act.{Act}
 use Rattle.group_world.specs.declared.event.Act.TheVariants.{Press, Deliver, Campaign, Tick, Run, Release, Crash, Start}
@@ -22,3 +22,14 @@ abbrev pub plan_of : Outcome → Option Bool
 plan_of Kept = None
 plan_of FailedOld = Some false
 plan_of FailedNew = Some true
+
+-- the node of an event
+abbrev pub node_of : Act → ℕ
+node_of (Press i byte) = i
+node_of (Deliver m i) = i
+node_of (Campaign i) = i
+node_of (Tick i) = i
+node_of (Run i steps) = i
+node_of (Release i) = i
+node_of (Crash i) = i
+node_of (Start i) = i

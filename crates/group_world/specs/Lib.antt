@@ -5,3 +5,7 @@ pub mod Headline
 pub mod Sound
 pub mod Order
 pub mod Ordered
+pub mod Asks
+pub mod Seats
+pub mod Refusals
+pub mod Held

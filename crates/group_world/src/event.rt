@@ -1,4 +1,7 @@
 //! What happens to a group, event by event.
+ghost use Rattle.std.specs.Prelude.{◌≡◌};
+ghost use Rattle.group_world.specs.Events.{node_of, plan_of};
+
 use group_node::NodeFault;
 
 /// What happens at a node. Nodes are numbered from 1, messages from 0 in the order in which they were sent.
@@ -22,6 +25,24 @@ pub enum Act {
     Start(u8),
 }
 
+impl Act {
+    /// The number of its node.
+    pub fn node(&self) -> u8
+        ensures { result ≡ node_of self.now }
+    {
+        match *self {
+            Act::Press(node, _)
+            | Act::Deliver(_, node)
+            | Act::Campaign(node)
+            | Act::Tick(node)
+            | Act::Run(node, _)
+            | Act::Release(node)
+            | Act::Crash(node)
+            | Act::Start(node) => node,
+        }
+    }
+}
+
 /// How the save of an event goes, if it makes one.
 #[derive(Clone, Copy, Debug, PartialEq, Eq)]
 pub enum Outcome {
@@ -31,6 +52,19 @@ pub enum Outcome {
     FailedOld,
     /// It fails, and the changed record is there at the next start.
     FailedNew,
+}
+
+impl Outcome {
+    /// As a store in memory is told of it.
+    pub(crate) fn plan(self) -> Option<bool>
+        ensures { result ≡ plan_of self }
+    {
+        match self {
+            Outcome::Kept => None,
+            Outcome::FailedOld => Some(false),
+            Outcome::FailedNew => Some(true),
+        }
+    }
 }
 
 /// What happens at a node, and how its save goes.

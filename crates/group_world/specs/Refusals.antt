@@ -1,0 +1,63 @@
+-- Why a world refuses an event, where there is memory.
+use Rattle.std.specs.Prelude.{◌≡◌, ◌≢◌, ◌⊎◌, ℕ, nat_lt, List, length, slice_get, take, Option, Some, None, is_some, Result, Ok, Err, if◌then◌else◌}
+use Rattle.group_node.specs.declared.fault.NodeFault.{NodeFault}
+use Rattle.group_node.specs.declared.fault.NodeFault.TheVariants as fault
+use Rattle.group_world.specs.declared.event.Act.{Act}
+use Rattle.group_world.specs.declared.event.Act.TheVariants.{Press, Deliver, Campaign, Tick, Run, Release, Crash, Start}
+use Rattle.group_world.specs.declared.event.Done.{Done}
+use Rattle.group_world.specs.declared.event.Done.TheVariants.{Applied, Refused, Fell}
+use Rattle.group_world.specs.declared.event.Event.{Event}
+use Rattle.group_node.specs.States.{IsSize}
+use Rattle.group_world.specs.declared.fault.RunFault.{RunFault}
+use Rattle.group_world.specs.declared.fault.WorldFault.{WorldFault}
+use Rattle.group_world.specs.declared.fault.WorldFault.TheVariants.{Memory, NoNode, NoMessage, NodeDown, NodeUp, Size}
+use Rattle.group_world.specs.Events.{node_of}
+use Rattle.group_world.specs.Goes.{Happens}
+use Rattle.group_world.specs.Worlds.{Member, World, member_at}
+
+-- of a node that has to be up
+abbrev pub unless_up : Member → Option WorldFault
+unless_up m = if is_some m.node then None else Some NodeDown
+
+-- of an event of a node that is there
+abbrev pub refusal_at : World → Act → Member → Option WorldFault
+refusal_at w (Press i byte) m = unless_up m
+refusal_at w (Deliver k i) m = if nat_lt k (length w.sent) then unless_up m else Some NoMessage
+refusal_at w (Campaign i) m = unless_up m
+refusal_at w (Tick i) m = unless_up m
+refusal_at w (Run i steps) m = unless_up m
+refusal_at w (Release i) m = unless_up m
+refusal_at w (Crash i) m = unless_up m
+refusal_at w (Start i) m = if is_some m.node then Some NodeUp else None
+
+abbrev pub refusal_of : World → Act → Option Member → Option WorldFault
+refusal_of w act None = Some NoNode
+refusal_of w act (Some m) = refusal_at w act m
+
+-- There is no such node; or else no such message; or else the node is down, or at a start up.
+abbrev pub refusal : World → Act → Option WorldFault
+refusal w act = refusal_of w act (member_at w.members (node_of act))
+
+-- An event is refused so: as the world says; or there was no memory.
+abbrev pub IsRefused : World → Act → WorldFault → Type 0
+IsRefused w act f = (refusal w act ≡ Some f) ⊎ ((refusal w act ≡ None) × (f ≡ Memory))
+
+-- The event of that number is the first of them that is refused, and so.
+pub record IsFirstRefused (w : World) (events : List Event) (number : ℕ) (f : WorldFault) : Type 0 where
+  pub before : World
+  pub happens : Happens w (take number events) before
+  pub event : Event
+  pub there : slice_get events number ≡ Some event
+  pub refused : IsRefused before event.act f
+
+-- A list of events ends early: there is no such group; there was no memory for it; or an event was refused.
+abbrev pub IsRunRefused : World → List Event → RunFault → Type 0
+IsRunRefused w events e =
+    ((e.event ≡ 0) × (e.fault ≡ Size) × (¬ IsSize w.group.size))
+    ⊎ ((e.event ≡ 0) × (e.fault ≡ Memory) × IsSize w.group.size)
+    ⊎ IsFirstRefused w events e.event e.fault
+
+-- what a node's answer is in its world
+abbrev pub IsDone : Result (Unit {0}) NodeFault → Done → Type 0
+IsDone (Ok x) d = d ≡ Applied
+IsDone (Err f) d = ((f ≡ fault.Store) × (d ≡ Fell)) ⊎ ((f ≢ fault.Store) × (f ≢ fault.Memory) × (d ≡ Refused f))
