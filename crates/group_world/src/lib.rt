@@ -3,5 +3,7 @@
 
 mod event;
 pub mod laws;
+mod script;
 
 pub use event::{Act, Done, Event, Outcome};
+pub use script::{Line, Script, ScriptFault, read_script};
