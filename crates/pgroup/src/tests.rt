@@ -7,6 +7,7 @@ mod instructions;
 mod loading;
 mod opcodes;
 mod running;
+mod scripts;
 mod segments;
 
 use crate::command::command;
