@@ -1,15 +1,16 @@
 //! Numbers in decimal digits and bytes in hexadecimal ones, as the words of a command and of a script have them.
 #![tactic(auto)]
+
 ghost use Rattle.std.specs.Prelude.{◌≡◌, ◌<◌, ◌^◌};
 ghost use Rattle.std.specs.Char.{digit_value};
 ghost use Rattle.std.specs.Option.{SomeIff};
-ghost use Rattle.std.specs.Str.Parse.{IsNumeral, digits_value};
+ghost use Rattle.digits.specs.Decimal.{decimal_of};
 ghost use Rattle.digits.specs.Hex.{hex_byte_of};
 
 /// The number of decimal digits alone, which may begin with zeros. There is none where a sign or another character stands, where
 /// nothing stands, and above `u64::MAX`.
 pub fn decimal(text: &str) -> Option<u64>
-    ensures { SomeIff result (IsNumeral 10 text.now × (digits_value 10 text.now < 2 ^ 64)) (digits_value 10 text.now) }
+    ensures { result ≡ decimal_of 64 text.now }
 {
     // std's `parse` allows one `+` in front.
     if text.starts_with('+') {

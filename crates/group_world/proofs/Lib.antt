@@ -28,3 +28,4 @@ mod OrderPossible
 mod Beginning
 mod Happening
 mod Example
+pub mod ScriptLines

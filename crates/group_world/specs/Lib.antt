@@ -5,3 +5,4 @@ pub mod Headline
 pub mod Sound
 pub mod Order
 pub mod Ordered
+pub mod Scripts

@@ -1,4 +1,7 @@
 //! Scripts: what happens to a group, as text.
+ghost use Rattle.std.specs.Prelude.{◌≡◌, IfErr, IfOk, Ok, Err, false};
+ghost use Rattle.group_world.specs.Scripts.{script_of};
+
 mod reading;
 #[cfg(test)]
 mod tests;
@@ -50,7 +53,10 @@ pub struct ScriptFault {
 /// Whether there is such a node or message is for the world to say.
 ///
 /// The fault is of the first line that is none of these, which is line 1 of an empty text, or that there was no memory for.
-pub fn read_script(alloc: Global, text: &str) -> Result<Script, ScriptFault> {
+pub fn read_script(alloc: Global, text: &str) -> Result<Script, ScriptFault>
+    ensures read { IfOk result (λ s. script_of text.now ≡ Ok (record { size = s.size; session = s.session; lines = s.lines.items })) }
+    ensures refused { IfErr result (λ f. f.memory ≡ false → script_of text.now ≡ Err f.line) }
+{
     let (header, mut rest) = first_line(text);
     let Some((size, session)) = read_header(header) else {
         return Err(ScriptFault {
@@ -60,16 +66,19 @@ pub fn read_script(alloc: Global, text: &str) -> Result<Script, ScriptFault> {
     };
     let mut lines = Vec::new(alloc);
     while !rest.is_empty() {
-        let line = lines.len() + 2;
-        let (text, more) = first_line(rest);
-        let Some(read) = read_line(text) else {
+        let number = lines.len() + 2;
+        let (line, more) = first_line(rest);
+        let Some(said) = read_line(line) else {
             return Err(ScriptFault {
-                line,
+                line: number,
                 memory: false,
             });
         };
-        if lines.push(read).is_err() {
-            return Err(ScriptFault { line, memory: true });
+        if lines.push(said).is_err() {
+            return Err(ScriptFault {
+                line: number,
+                memory: true,
+            });
         }
         rest = more;
     }
