@@ -1,6 +1,8 @@
 //! Scripts, by `sim`. The lines of scripts and of what they print stand one behind the other here, with commas between them.
+use super::examples::ECHO;
 use super::segments::{PRINTS_A, READS, WRITES_ZEROS};
 use super::{Done, Outcome, code_file, must_meet, path_of, perform};
+use crate::hex::bytes_of;
 use std::alloc::{AllocError, Global};
 use std::fs;
 use std::test::Fail;
@@ -235,6 +237,25 @@ fn keys_in_batches(rt: HostRuntime) -> Result<(), Fail> {
          node 2 up known 1 promised 1.1 console 49, \
          node 3 up known 1 promised 1.1 console 49, \
          place 0 key 2 2 1 49, sent 10",
+    )
+}
+
+/// `examples/group/leader_falls.script`: node 1 leads and falls, and the group goes on with node 2.
+const LEADER_FALLS: &str =
+    "size 3 session 7, start 1, start 2, start 3, campaign 1, settle, type 2 68, tick 2, settle, crash 1, campaign 2, settle, type 3 69, tick 3, settle, show";
+
+#[test]
+fn a_leader_falls(rt: HostRuntime) -> Result<(), Fail> {
+    let echo = bytes_of(rt.alloc(), ECHO)?;
+    comes_to(
+        &rt,
+        echo.as_slice(),
+        LEADER_FALLS,
+        "node 1 down known - promised 1.1 console 3E2068, \
+         node 2 up known 2 promised 2.2 console 3E206869, \
+         node 3 up known 2 promised 2.2 console 3E206869, \
+         place 0 key 2 1 1 68, place 1 key 3 1 1 69, sent 18",
+        "",
     )
 }
 
