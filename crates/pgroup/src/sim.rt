@@ -49,16 +49,16 @@ impl From<io::Error> for Halt {
     }
 }
 
-/// A group to which a script happens.
+/// A group to which a script happens, and how far its settles have come.
 #[derive(Drop)]
-struct Group<'a> {
+struct Simulation<'a> {
     world: World<'a>,
     size: u8,
     /// How many messages the settles so far have passed.
     passed: usize,
 }
 
-impl Group<'_> {
+impl Simulation<'_> {
     /// An event of the line happens. What its node refuses is written, and the script goes on.
     fn happen<W: Write>(&mut self, writer: &mut W, line: usize, event: &Event) -> Result<(), Halt> {
         if let Done::Refused(fault) = self.world.apply(event)? {
@@ -77,8 +77,8 @@ impl Group<'_> {
         self.world.node(node).is_some()
     }
 
-    /// Delivers a message to those whom it is meant for and who are up, in ascending order, and gives how many more deliveries are left of so
-    /// many.
+    /// Delivers a message to those whom it is meant for and who are up, in ascending order, with so many deliveries left, and answers how
+    /// many are left then.
     fn pass<W: Write>(
         &mut self,
         writer: &mut W,
@@ -101,6 +101,7 @@ impl Group<'_> {
     /// Delivers the messages that no settle has passed, and those that they cause, in the order in which they were sent.
     fn deliver_all<W: Write>(&mut self, writer: &mut W, line: usize) -> Result<(), Halt> {
         let mut left = DELIVERIES;
+        // Each delivery may cause further messages.
         for message in self.passed..usize::MAX {
             let Some(packet) = self.world.message(message) else {
                 self.passed = message;
@@ -168,8 +169,8 @@ pub fn sim<W: Write>(
     ensures write { IfErr result (λ fault. fault ≡ RunIo.Write) }
 {
     let size = script.size;
-    let mut group = match World::new(alloc, program, size, script.session) {
-        Ok(world) => Group {
+    let mut simulation = match World::new(alloc, program, size, script.session) {
+        Ok(world) => Simulation {
             world,
             size,
             passed: 0,
@@ -184,7 +185,7 @@ pub fn sim<W: Write>(
     let mut number = 1;
     for line in script.lines.iter() {
         number += 1;
-        let fault = match group.perform(writer, number, line) {
+        let fault = match simulation.perform(writer, number, line) {
             Ok(()) => continue,
             Err(Halt::Unwritten) => return Err(RunIo::Write),
             Err(Halt::Refused(fault)) => Some(fault),

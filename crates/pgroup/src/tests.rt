@@ -9,6 +9,7 @@ mod opcodes;
 mod running;
 mod scripts;
 mod segments;
+mod worlds;
 
 use crate::command::command;
 use pcode_file::CodeFile;

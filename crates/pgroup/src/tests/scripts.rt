@@ -1,14 +1,14 @@
 //! Scripts, by `sim`. The lines of scripts and of what they print stand one behind the other here, with commas between them.
 use super::examples::ECHO;
 use super::segments::{PRINTS_A, READS, WRITES_ZEROS};
-use super::{Done, Outcome, code_file, must_meet, path_of, perform};
+use super::{Done, Outcome, code_file, fails, must_meet, path_of, perform};
 use crate::hex::bytes_of;
 use std::alloc::{AllocError, Global};
-use std::fs;
 use std::test::Fail;
+use std::{fs, io};
 
 /// The text of lines that are parted by commas; it is empty where there is none.
-fn text_of(alloc: Global, lines: &str) -> Result<String, AllocError> {
+pub fn text_of(alloc: Global, lines: &str) -> Result<String, AllocError> {
     let mut text = String::new(alloc);
     if lines.is_empty() {
         return Ok(text);
@@ -20,19 +20,40 @@ fn text_of(alloc: Global, lines: &str) -> Result<String, AllocError> {
     Ok(text)
 }
 
+/// The files of a program and of a script: their paths.
+#[derive(Drop)]
+struct Files {
+    program: String,
+    script: String,
+}
+
+impl Files {
+    /// Writes the code file of a segment, and the bytes of a script.
+    fn write(rt: &HostRuntime, segment: &[u8], bytes: &[u8]) -> Result<Files, Fail> {
+        let program = path_of(rt, "program")?;
+        let script = path_of(rt, "script")?;
+        let file = code_file(rt.alloc(), segment)?;
+        fs::write(rt, program.as_str(), file.as_slice())?;
+        fs::write(rt, script.as_str(), bytes)?;
+        Ok(Files { program, script })
+    }
+
+    /// The words that let the script happen.
+    fn words(&self) -> [&str; 3] {
+        ["sim", self.program.as_str(), self.script.as_str()]
+    }
+
+    fn remove(&self, rt: &HostRuntime) -> io::Result<()> {
+        fs::remove_file(rt, self.program.as_str())?;
+        fs::remove_file(rt, self.script.as_str())
+    }
+}
+
 /// Lets the script of these bytes happen to a group that runs the program of a segment.
 fn perform_script(rt: &HostRuntime, segment: &[u8], script: &[u8]) -> Result<Done, Fail> {
-    let program = path_of(rt, "program")?;
-    let path = path_of(rt, "script")?;
-    fs::write(
-        rt,
-        program.as_str(),
-        code_file(rt.alloc(), segment)?.as_slice(),
-    )?;
-    fs::write(rt, path.as_str(), script)?;
-    let done = perform(rt, &["sim", program.as_str(), path.as_str()]);
-    fs::remove_file(rt, program.as_str())?;
-    fs::remove_file(rt, path.as_str())?;
+    let files = Files::write(rt, segment, script)?;
+    let done = perform(rt, &files.words());
+    files.remove(rt)?;
     Ok(done?)
 }
 
@@ -348,13 +369,20 @@ fn scripts_that_can_not_be_read(rt: HostRuntime) -> Result<(), Fail> {
     must_meet(rt.alloc(), &done, refused)?;
     let done = perform_script(&rt, b"", b"show\n")?;
     must_meet(rt.alloc(), &done, Outcome::Refused("F2"))?;
-    let program = path_of(&rt, "program")?;
-    fs::write(
-        &rt,
-        program.as_str(),
-        code_file(rt.alloc(), &READS)?.as_slice(),
-    )?;
-    let done = perform(&rt, &["sim", program.as_str(), "/"]);
-    fs::remove_file(&rt, program.as_str())?;
+    let files = Files::write(&rt, &READS, b"")?;
+    let done = perform(&rt, &["sim", files.program.as_str(), "/"]);
+    files.remove(&rt)?;
     must_meet(rt.alloc(), &done?, refused)
+}
+
+/// What a script shows is refused by a writer that fails or takes nothing.
+#[test]
+fn scripts_over_a_writer_that_fails(rt: HostRuntime) -> Result<(), Fail> {
+    for takes_nothing in [false, true] {
+        let files = Files::write(&rt, &READS, b"size 1 session 7\nshow\n")?;
+        let failed = fails(&rt, &files.words(), takes_nothing);
+        files.remove(&rt)?;
+        assert!(rt; failed?, "{takes_nothing}");
+    }
+    Ok(())
 }
