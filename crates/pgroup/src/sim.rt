@@ -150,6 +150,19 @@ impl Simulation<'_> {
     }
 }
 
+/// What comes of a script that doesn't go on behind a line.
+fn stopped_at(line: usize, halt: Halt) -> Result<Option<Stopped>, RunIo>
+    ensures line { IfOk result (λ answer. IfSome answer (λ stopped. stopped.line ≡ line)) }
+    ensures write { IfErr result (λ fault. fault ≡ RunIo.Write) }
+{
+    let fault = match halt {
+        Halt::Refused(fault) => Some(fault),
+        Halt::TooLong => None,
+        Halt::Unwritten => return Err(RunIo::Write),
+    };
+    Ok(Some(Stopped { line, fault }))
+}
+
 /// What a script says happens to a group of nodes that run the program, one line after the other. What a node refuses and what the script
 /// shows is written.
 ///
@@ -158,7 +171,8 @@ impl Simulation<'_> {
 /// order, makes 1,000 steps at most and releases all its output that waits.
 ///
 /// The answer is where it stopped, if it did: at line 1 where there is no such group, at a line that the world refused, and at a settle
-/// of more than 10,000 deliveries. `Write` where a write failed or took nothing. Want of memory is the world's, and so is no `Memory`.
+/// of more than 10,000 deliveries. `Write` where a write failed or took nothing. Want of memory is a refusal of the world, so
+/// that the answer is never `Memory`.
 pub fn sim<W: Write>(
     alloc: Global,
     program: &Program,
@@ -175,26 +189,14 @@ pub fn sim<W: Write>(
             size,
             passed: 0,
         },
-        Err(fault) => {
-            return Ok(Some(Stopped {
-                line: 1,
-                fault: Some(fault),
-            }));
-        }
+        Err(fault) => return stopped_at(1, Halt::Refused(fault)),
     };
     let mut number = 1;
     for line in script.lines.iter() {
         number += 1;
-        let fault = match simulation.perform(writer, number, line) {
-            Ok(()) => continue,
-            Err(Halt::Unwritten) => return Err(RunIo::Write),
-            Err(Halt::Refused(fault)) => Some(fault),
-            Err(Halt::TooLong) => None,
-        };
-        return Ok(Some(Stopped {
-            line: number,
-            fault,
-        }));
+        if let Err(halt) = simulation.perform(writer, number, line) {
+            return stopped_at(number, halt);
+        }
     }
     Ok(None)
 }
