@@ -32,3 +32,4 @@ mod Answering
 mod Starting
 mod Seating
 mod Tabling
+pub mod ScriptLines

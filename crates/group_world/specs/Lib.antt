@@ -9,3 +9,4 @@ pub mod Asks
 pub mod Seats
 pub mod Refusals
 pub mod Held
+pub mod Scripts

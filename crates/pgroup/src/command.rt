@@ -8,8 +8,10 @@ use crate::files::{FileError, read_file};
 use crate::hex::{HexError, bytes_of};
 use crate::run::{Finish, RunIo, run_program};
 use crate::show::write_message;
+use crate::sim::{Stopped, sim};
 use crate::streams::{CountingReader, CountingWriter};
 use crate::words::{Asked, NotAsked, STEPS, read_words};
+use group_world::{Script, ScriptFault, WorldFault, read_script};
 use paxos_msg::{Group, WireFault, decode};
 use pcode_file::{CodeFile, FileFault};
 use pcode_machine::End;
@@ -26,6 +28,20 @@ static SEGMENT: [u8; 28] = [
     0x04, 0x00, 0x06, 0x00, 0x14, 0x00, 0x01, 0x00, 0x02, 0x00, 0x01, 0x01,
 ];
 
+/// Why a line of a script is refused. Its text stands behind the word `refused`.
+#[derive(Clone, Copy, Debug, Error)]
+pub enum LineFault {
+    /// It is no line of a script.
+    #[error("script")]
+    Unread,
+    /// It is a settle of too many deliveries.
+    #[error("settle")]
+    TooLong,
+    /// The world refuses it, or has no memory for it.
+    #[error(transparent)]
+    World(WorldFault),
+}
+
 /// What is refused, with status 1. Its text stands behind the word `refused`.
 #[derive(Clone, Copy, Debug, Error)]
 pub enum Refusal {
@@ -39,6 +55,9 @@ pub enum Refusal {
     Run(RunIo),
     #[error(transparent)]
     Datagram(WireFault),
+    /// A line of a script: its number stands before the word `refused`.
+    #[error("{fault}")]
+    Line { line: usize, fault: LineFault },
 }
 
 impl From<FileError> for Refusal {
@@ -65,6 +84,29 @@ impl From<FileFault> for Refusal {
 
     fn from(fault: FileFault) -> Refusal {
         Refusal::CodeFile(fault)
+    }
+}
+
+impl From<ScriptFault> for Refusal {
+    fn from(refused: ScriptFault) -> Refusal {
+        let line = refused.line;
+        let fault = if refused.memory {
+            LineFault::World(WorldFault::Memory)
+        } else {
+            LineFault::Unread
+        };
+        Refusal::Line { line, fault }
+    }
+}
+
+impl From<Stopped> for Refusal {
+    fn from(stopped: Stopped) -> Refusal {
+        let line = stopped.line;
+        let fault = match stopped.fault {
+            Some(fault) => LineFault::World(fault),
+            None => LineFault::TooLong,
+        };
+        Refusal::Line { line, fault }
     }
 }
 
@@ -154,9 +196,37 @@ fn list_file<H: Files + AllocGlobal, W: Write>(
         .or(Err(Refusal::Run(RunIo::Write)))
 }
 
+/// The script of a file.
+fn load_script<H: Files + AllocGlobal>(rt: &H, file: &str) -> Result<Script, Refusal> {
+    let bytes = read_file(rt, file)?;
+    let Ok(text) = str::from_utf8(bytes.as_slice()) else {
+        return Err(Refusal::File);
+    };
+    Ok(read_script(rt.alloc(), text)?)
+}
+
+/// Lets the script of a file happen to a group that runs the program of a code file.
+fn sim_file<H: Files + AllocGlobal, W: Write>(
+    rt: &H,
+    file: &str,
+    script: &str,
+    writer: &mut W,
+) -> Result<(), Refusal> {
+    let program = load_file(rt, file)?;
+    let script = load_script(rt, script)?;
+    match sim(rt.alloc(), &program, &script, writer) {
+        Ok(None) => Ok(()),
+        Ok(Some(stopped)) => Err(Refusal::from(stopped)),
+        Err(fault) => Err(Refusal::Run(fault)),
+    }
+}
+
 /// Tells a refusal, and gives its status.
 fn refuse<E: Write>(errors: &mut E, refusal: Refusal) -> u8 {
-    let _ = writeln!(errors, "refused {refusal}");
+    let _ = match refusal {
+        Refusal::Line { line, fault } => writeln!(errors, "line {line} refused {fault}"),
+        _ => writeln!(errors, "refused {refusal}"),
+    };
     1
 }
 
@@ -264,6 +334,7 @@ pub fn command<H: Files + AllocGlobal, R: Read, W: Write, E: Write>(
         Ok(Asked::List { file }) => tell_done(errors, list_file(rt, file, writer)),
         Ok(Asked::Run { file, steps }) => tell(errors, run_file(rt, file, steps, reader, writer)),
         Ok(Asked::Show { group, digits }) => show(rt.alloc(), group, digits, writer, errors),
+        Ok(Asked::Sim { file, script }) => tell_done(errors, sim_file(rt, file, script, writer)),
         Err(reason) => explain(writer, errors, reason),
     }
 }

@@ -6,6 +6,7 @@ mod files;
 mod hex;
 mod run;
 mod show;
+mod sim;
 mod streams;
 #[cfg(test)]
 mod tests;

@@ -7,7 +7,9 @@ mod instructions;
 mod loading;
 mod opcodes;
 mod running;
+mod scripts;
 mod segments;
+mod worlds;
 
 use crate::command::command;
 use pcode_file::CodeFile;

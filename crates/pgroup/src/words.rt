@@ -1,6 +1,7 @@
 //! The words of the command line.
 use clap::error::ErrorKind;
 use clap::{Arg, ArgMatches, Command, Error};
+use digits::decimal;
 use paxos_msg::Group;
 use std::alloc::{AllocError, Global};
 use std::string::String;
@@ -21,6 +22,8 @@ pub enum Asked<'a> {
     Run { file: &'a str, steps: u32 },
     /// To print the datagram of these hexadecimal digits, sent in this group.
     Show { group: Group, digits: &'a str },
+    /// To let the script of a file happen to a group that runs the program of a code file.
+    Sim { file: &'a str, script: &'a str },
 }
 
 /// Why the words ask for nothing that is done: help, a fault in them, or no memory.
@@ -92,6 +95,17 @@ fn show_command<'a>(alloc: Global) -> Result<Command<'a>, AllocError> {
         .arg(digits)
 }
 
+/// The subcommand `sim FILE SCRIPT`.
+fn sim_command<'a>(alloc: Global) -> Result<Command<'a>, AllocError> {
+    let script = Arg::new(alloc, "SCRIPT")
+        .required(true)
+        .help("What happens to the group, line by line");
+    Command::new(alloc, "sim")
+        .about("Runs a code file in a group, by a script")
+        .arg(file_arg(alloc))?
+        .arg(script)
+}
+
 /// All commands, with their help.
 fn commands<'a>(alloc: Global) -> Result<Command<'a>, AllocError> {
     Command::new(alloc, "pgroup")
@@ -111,15 +125,13 @@ fn commands<'a>(alloc: Global) -> Result<Command<'a>, AllocError> {
             "Lists the reached instructions of a code file",
         )?)?
         .subcommand(run_command(alloc)?)?
-        .subcommand(show_command(alloc)?)
+        .subcommand(show_command(alloc)?)?
+        .subcommand(sim_command(alloc)?)
 }
 
-/// A number in decimal digits alone.
-fn decimal(text: &str) -> Option<u32> {
-    if !text.bytes().all(|byte| byte.is_ascii_digit()) {
-        return None;
-    }
-    text.parse::<u32>().ok()
+/// A number from 0 to 4,294,967,295.
+fn number(text: &str) -> Option<u32> {
+    u32::try_from(decimal(text)?).ok()
 }
 
 /// The word FILE.
@@ -145,7 +157,7 @@ fn read_run<'a>(matches: &ArgMatches<'a>) -> Result<Asked<'a>, &'static str> {
     let steps = match matches.get_str("steps") {
         None => STEPS,
         Some(text) => {
-            decimal(text).ok_or("--steps takes a number from 0 to 4294967295 in decimal digits")?
+            number(text).ok_or("--steps takes a number from 0 to 4294967295 in decimal digits")?
         }
     };
     Ok(Asked::Run { file, steps })
@@ -155,16 +167,23 @@ fn read_run<'a>(matches: &ArgMatches<'a>) -> Result<Asked<'a>, &'static str> {
 fn read_show<'a>(matches: &ArgMatches<'a>) -> Result<Asked<'a>, &'static str> {
     let size = matches
         .get_str("SIZE")
-        .and_then(|text| decimal(text))
-        .and_then(|number| u8::try_from(number).ok())
+        .and_then(|text| number(text))
+        .and_then(|size| u8::try_from(size).ok())
         .ok_or("SIZE is a number from 0 to 255 in decimal digits")?;
     let session = matches
         .get_str("SESSION")
-        .and_then(|text| decimal(text))
+        .and_then(|text| number(text))
         .ok_or("SESSION is a number from 0 to 4294967295 in decimal digits")?;
     let digits = matches.get_str("HEX").ok_or("HEX is missing")?;
     let group = Group { size, session };
     Ok(Asked::Show { group, digits })
+}
+
+/// What `sim` asks for, or what is wrong with its words.
+fn read_sim<'a>(matches: &ArgMatches<'a>) -> Result<Asked<'a>, &'static str> {
+    let file = read_file_word(matches)?;
+    let script = matches.get_str("SCRIPT").ok_or("SCRIPT is missing")?;
+    Ok(Asked::Sim { file, script })
 }
 
 /// What the words, without the program's own name, ask for.
@@ -179,6 +198,7 @@ pub fn read_words<'a>(alloc: Global, words: &'a [String]) -> Result<Asked<'a>, N
         Some(("list", list)) => read_list(list),
         Some(("run", run)) => read_run(run),
         Some(("show", show)) => read_show(show),
+        Some(("sim", sim)) => read_sim(sim),
         _ => Err("a command is missing"),
     };
     match asked {

@@ -1,0 +1,90 @@
+//! Scripts: what happens to a group, as text.
+ghost use Rattle.std.specs.Prelude.{◌≡◌, IfErr, IfOk, Ok, Err, false};
+ghost use Rattle.group_world.specs.Scripts.{script_of};
+
+mod reading;
+#[cfg(test)]
+mod tests;
+
+use crate::event::Event;
+use reading::{first_line, read_header, read_line};
+use std::alloc::Global;
+use thiserror::Error;
+
+/// A line of a script but for its first.
+#[derive(Clone, Copy, Debug, PartialEq, Eq)]
+pub enum Line {
+    /// An event of the group.
+    Act(Event),
+    /// All messages that no earlier `settle` passed are delivered, with those that they cause; then all nodes that are up run and
+    /// release.
+    Settle,
+    /// The state of the group is printed.
+    Show,
+}
+
+/// A script: a group, and what happens to it.
+#[derive(Drop)]
+pub struct Script {
+    /// The number of the group's nodes.
+    pub size: u8,
+    /// The group's session.
+    pub session: u32,
+    /// What happens, in order: the item `i` is line `i + 2` of the text.
+    pub lines: Vec<Line>,
+}
+
+/// Why a text is not read as a script.
+#[derive(Clone, Copy, Debug, PartialEq, Eq, Error)]
+#[error("line {line}")]
+pub struct ScriptFault {
+    /// The first line that is none of a script, or that there was no memory for. Lines are counted from 1.
+    pub line: usize,
+    /// Whether there was no memory for the line.
+    pub memory: bool,
+}
+
+/// The script that a text spells.
+///
+/// Line 1 is `size N session K`. Each further line is `start N`, `crash N`, `campaign N`, `tick N`, `type N HH`, `deliver M N`,
+/// `run N STEPS` or `release N`, each with ` failold` or ` failnew` behind it where its save is to fail; `settle`; or `show`. One space
+/// stands between two words. Numbers are decimal digits, which may begin with zeros: N up to 255, K and STEPS up to 4,294,967,295, M
+/// up to `usize::MAX`. HH is a byte in two hexadecimal digits of either case. Each line ends in a line feed, which the last may lack.
+/// Whether there is such a node or message is for the world to say.
+///
+/// The fault is of the first line that is none of these, which is line 1 of an empty text, or that there was no memory for.
+pub fn read_script(alloc: Global, text: &str) -> Result<Script, ScriptFault>
+    ensures read { IfOk result (λ s. script_of text.now ≡ Ok (record { size = s.size; session = s.session; lines = s.lines.items })) }
+    ensures refused { IfErr result (λ f. f.memory ≡ false → script_of text.now ≡ Err f.line) }
+{
+    let (header, mut rest) = first_line(text);
+    let Some((size, session)) = read_header(header) else {
+        return Err(ScriptFault {
+            line: 1,
+            memory: false,
+        });
+    };
+    let mut lines = Vec::new(alloc);
+    while !rest.is_empty() {
+        let number = lines.len() + 2;
+        let (line, more) = first_line(rest);
+        let Some(said) = read_line(line) else {
+            return Err(ScriptFault {
+                line: number,
+                memory: false,
+            });
+        };
+        if lines.push(said).is_err() {
+            return Err(ScriptFault {
+                line: number,
+                memory: true,
+            });
+        }
+        rest = more;
+    }
+    Ok(Script {
+        size,
+        session,
+        lines,
+    })
+}
