@@ -92,6 +92,7 @@ impl<'a, S: Store> Node<'a, S> {
         ensures fit { S.honest → IfOk result (λ _. IsRecord config.group.size (S.state store).stored × ((S.state store).stored.starts < 4294967295)) }
         ensures device { S.honest → IfErr result (λ e. e.fault ≡ NodeFault.Store → IsOneOf (S.state e.store).stored (S.state store).stored (changed (S.state store).stored Start)) }
         ensures told { S.honest → S.fails_at_will → IfErr result (λ e. e.fault ≡ NodeFault.Store → FailsAsTold (S.state store).plan (S.state store).stored (changed (S.state store).stored Start) (S.state e.store).stored) }
+        ensures spare { S.fails_at_will → S.honest → IfErr result (λ e. e.fault ≡ NodeFault.Store → (S.state store).stored.starts < 4294967295) }
         ensures same { S.honest → IfErr result (λ e. e.fault ≢ NodeFault.Store → (S.state e.store).stored ≡ (S.state store).stored) }
         ensures plan { IfErr result (λ e. e.fault ≢ NodeFault.Store → (S.state e.store).plan ≡ (S.state store).plan) }
         ensures unplanned { IfOk result (λ n. ((S.state store).plan ≡ None) × ((S.state n.protocol.store).plan ≡ None)) }
