@@ -109,6 +109,13 @@ impl<'a> Player<'a> {
         }
     }
 
+    /// The byte of the learned input that the machine has not read yet, if there is one.
+    fn next_byte(&self, learner: &Learner) -> Option<u8>
+        ensures { result ≡ slice_get (learned_input learner.now.learned) self.now.read }
+    {
+        learner.input_at(self.read)
+    }
+
     /// One step, on the next byte of the learned input if the machine waits for it; or why there is none.
     fn turn(&mut self, learner: &Learner) -> Option<Ran>
         requires exact { IsExact (learned_input learner.now.learned) self.old }
@@ -135,7 +142,7 @@ impl<'a> Player<'a> {
                 None
             }
             Turn::Ended(end) => Some(Ran::Ended(end)),
-            Turn::Waits => match learner.input_at(self.read) {
+            Turn::Waits => match self.next_byte(learner) {
                 Some(byte) => {
                     self.feed(byte);
                     None

@@ -1,4 +1,14 @@
-//! Which nodes there are, a console, and the texts of refusals.
+//! Which nodes there are, a console, and the texts of refusals. What a node of a group of three refuses, what it sends byte by byte, and
+//! what its machine writes, stand in the files below.
+mod acts;
+mod by_hand;
+mod datagrams;
+mod refusals;
+mod running;
+mod seat;
+mod segments;
+mod traces;
+
 use crate::{Config, Console, NodeFault, Offer};
 use std::test::Fail;
 
