@@ -1,5 +1,5 @@
 -- What a call that may send leaves of its node, by what the node's call says.
-use Rattle.std.proofs.Common.{◌≡◌, ◌≢◌, ◌⊎◌, ◌∙◌, ◌<◌, ◌==◌, nat_lt, ℕ, Bool, true, false, if◌then◌else◌, List, [], ◌++◌, Option, None, Some, Result, Ok, Err, IfErr, IsErrOf, OnErr, OnOk, length, inl, inr, refl, sym, ap, subst, arith}
+use Rattle.std.proofs.Common.{◌≡◌, ◌≢◌, ◌⊎◌, ◌∙◌, ◌<◌, ◌==◌, Bool, true, false, if◌then◌else◌, List, [], Option, None, Some, Result, Ok, Err, IfErr, IsErrOf, OnOk, length, inl, inr, refl, sym, ap, subst, arith}
 use Rattle.std.proofs.lemmas.Bool.{eqb-true, lt-ltb}
 use Rattle.paxos_msg.specs.Batches.{Change, Record}
 use Rattle.paxos_msg.specs.declared.value.Value.{Value}
@@ -7,14 +7,14 @@ use Rattle.paxos_acceptor.specs.Stores.{FailsAsTold, StoreState}
 use Rattle.paxos_proposer.specs.Proposer.{Proposer, greatest_round}
 use Rattle.group_node.specs.declared.fault.NodeFault.{NodeFault}
 use Rattle.group_node.specs.declared.fault.NodeFault.TheVariants as fault
-use Rattle.group_node.specs.Calls.{Does, IsLet, IsLetIn, Saves}
+use Rattle.group_node.specs.Calls.{Does, IsLetIn, Saves}
 use Rattle.group_node.specs.Leading.{at_tick, ticked}
 use Rattle.group_node.specs.Node.{Done as Made, Node, at_campaign, front}
-use Rattle.group_node.specs.Packets.{Datagram, datagrams_of}
+use Rattle.group_node.specs.Packets.{Datagram}
 use Rattle.group_node.specs.States.{State}
 use Rattle.group_world.specs.declared.ask.Ask.{Ask}
-use Rattle.group_world.specs.Asks.{Answers, AnswersCall, AnswersSaving, Is, IsOpen, asked, running}
-use Rattle.group_world.specs.Goes.{Call, Makes, Refuses, campaign, failing}
+use Rattle.group_world.specs.Asks.{Answers, AnswersSaving, Is, IsOpen, asked, running}
+use Rattle.group_world.specs.Goes.{Makes, Refuses, campaign, failing}
 use Rattle.group_world.specs.Worlds.{Running}
 
 abbrev pub Answer : Type 0

@@ -1,5 +1,5 @@
 -- What a start leaves of its place, by what the node's start says.
-use Rattle.std.proofs.Common.{◌≡◌, ◌≢◌, ◌⊎◌, ◌∙◌, ◌<◌, ◌==◌, Bool, true, false, if◌then◌else◌, ℕ, List, [], Option, None, Some, Result, Ok, Err, inl, inr, refl, sym, ap, subst, arith}
+use Rattle.std.proofs.Common.{◌≡◌, ◌≢◌, ◌⊎◌, ◌<◌, ◌==◌, Bool, ℕ, List, [], Option, None, Some, Ok, Err, inl, inr, refl, ap, arith}
 use Rattle.std.proofs.lemmas.Bool.{eqb-true}
 use Rattle.pcode_file.specs.Parts.{Parts}
 use Rattle.paxos_msg.specs.declared.record.Change.TheVariants as change
@@ -10,10 +10,10 @@ use Rattle.paxos_acceptor.specs.Records.{IsRecord}
 use Rattle.paxos_acceptor.specs.Stores.{FailsAsTold, StoreState}
 use Rattle.group_node.specs.declared.fault.NodeFault.{NodeFault}
 use Rattle.group_node.specs.declared.fault.NodeFault.TheVariants as fault
-use Rattle.group_node.specs.Node.{Node, started}
+use Rattle.group_node.specs.Node.{started}
 use Rattle.group_node.specs.Output.{no_progress}
 use Rattle.group_node.specs.States.{State}
-use Rattle.group_world.specs.Asks.{Takes, TakesCall, TakesSaving, running}
+use Rattle.group_world.specs.Asks.{Takes, running}
 use Rattle.group_world.specs.Goes.{Makes, Refuses, start}
 use Rattle.group_world.specs.Worlds.{Member}
 use Rattle.group_world.proofs.Answering.{is_false, told}

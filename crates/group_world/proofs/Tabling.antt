@@ -1,5 +1,5 @@
 -- What an event leaves of a world, by what it leaves of its node.
-use Rattle.std.proofs.Common.{◌≡◌, ◌≢◌, ◌⊎◌, ◌∙◌, ℕ, zero, suc, ◌-◌, ◌<◌, ◌==◌, nat_lt, All, Bool, true, false, if◌then◌else◌, List, [], ◌∷◌, ◌++◌, get_or, length, slice_get, slice_set, is_some, Option, None, Some, Result, Ok, Err, inl, inr, refl, sym, ap, subst, arith}
+use Rattle.std.proofs.Common.{◌≡◌, ◌∙◌, ℕ, zero, suc, ◌-◌, ◌<◌, ◌==◌, nat_lt, All, Bool, true, false, if◌then◌else◌, List, [], ◌∷◌, ◌++◌, get_or, length, slice_get, slice_set, is_some, Option, None, Some, Result, Ok, Err, inl, inr, refl, sym, ap, subst, arith}
 use Rattle.std.specs.List.{cons_option}
 use Rattle.std.proofs.lemmas.Bool.{ltb-true}
 use Rattle.std.proofs.lemmas.List.{append-nil}
@@ -13,19 +13,19 @@ use Rattle.paxos_acceptor.specs.declared.me.Me.{Me}
 use Rattle.paxos_proposer.specs.Proposer.{greatest_round}
 use Rattle.group_node.specs.declared.fault.NodeFault.{NodeFault}
 use Rattle.group_node.specs.declared.fault.NodeFault.TheVariants as fault
-use Rattle.group_node.specs.Node.{Done as Made, Node, at_campaign, at_typed, front, started}
+use Rattle.group_node.specs.Node.{Done as Made, Node, at_campaign, front, started}
 use Rattle.group_node.specs.Output.{Progress, no_progress}
-use Rattle.group_node.specs.Packets.{Datagram, datagrams_of}
+use Rattle.group_node.specs.Packets.{Datagram}
 use Rattle.group_world.specs.declared.ask.Ask.{Ask}
 use Rattle.group_world.specs.declared.ask.Ask.TheVariants.{Campaign, Hear, Tick}
 use Rattle.group_world.specs.declared.event.Act.{Act}
 use Rattle.group_world.specs.declared.event.Act.TheVariants as act
 use Rattle.group_world.specs.declared.event.Done.{Done}
-use Rattle.group_world.specs.declared.event.Done.TheVariants.{Applied, Refused, Fell}
+use Rattle.group_world.specs.declared.event.Done.TheVariants.{Applied, Refused}
 use Rattle.group_world.specs.declared.fault.WorldFault.{WorldFault}
 use Rattle.group_world.specs.declared.fault.WorldFault.TheVariants.{NoMessage, NoNode, NodeDown, NodeUp}
-use Rattle.group_world.specs.Asks.{Takes, TakesCall, TakesSaving, asked}
-use Rattle.group_world.specs.Goes.{Acts, Call, IsDown, IsUp, Leaves, LeavesSaving, Makes, Refuses, failing, made_of, press, start}
+use Rattle.group_world.specs.Asks.{Takes, TakesSaving, asked}
+use Rattle.group_world.specs.Goes.{Acts, Call, IsDown, IsUp, Leaves, LeavesSaving, Makes, Refuses, failing, start}
 use Rattle.group_world.specs.Refusals.{IsDone, refusal, refusal_of, unless_up}
 use Rattle.group_world.specs.Seats.{Presses, RunsTo}
 use Rattle.group_world.specs.Sound.{IsSound, IsSpelling}

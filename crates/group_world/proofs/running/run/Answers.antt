@@ -1,4 +1,3 @@
-use Rattle.std.proofs.Common.{◌≡◌}
 use Rattle.paxos_msg.specs.declared.message.Group.{Group}
 use Rattle.group_world.specs.Worlds.{begun}
 use Rattle.group_world.proofs.Happening.{happens_all, happens_next}

@@ -1,5 +1,4 @@
 use Rattle.std.proofs.Common.{take}
-use Rattle.group_node.specs.States.{IsSize}
 use Rattle.group_world.specs.Goes.{Happens}
 use Rattle.group_world.specs.Worlds.{begun}
 use Rattle.group_world.proofs.running.run.Given as goal

@@ -1,5 +1,4 @@
-use Rattle.std.proofs.Common.{◌≡◌, ◌∙◌, sym, ap, subst}
-use Rattle.paxos_acceptor.specs.Stores.{StoreState}
+use Rattle.std.proofs.Common.{◌∙◌, sym, ap}
 use Rattle.group_node.specs.Node.{Node}
 use Rattle.group_world.proofs.Starting.{starts_not, starts_up}
 use Rattle.group_world.proofs.seat.started.Goals as goal

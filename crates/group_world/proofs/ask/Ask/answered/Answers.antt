@@ -1,4 +1,4 @@
-use Rattle.std.proofs.Common.{◌≡◌, ◌⊎◌, [], refl}
+use Rattle.std.proofs.Common.{◌≡◌, ◌⊎◌, []}
 use Rattle.group_node.specs.declared.fault.NodeFault.TheVariants as fault
 use Rattle.group_node.specs.Delivered.{on_message}
 use Rattle.group_node.specs.Node.{at_campaign}

@@ -1,4 +1,4 @@
-use Rattle.std.proofs.Common.{◌≡◌, sym, subst}
+use Rattle.std.proofs.Common.{sym, subst}
 use Rattle.group_node.specs.Node.{Node}
 use Rattle.group_world.specs.Asks.{IsHeard}
 use Rattle.group_world.proofs.Answering.{planned, told_open, told_so}

@@ -1,6 +1,6 @@
-use Rattle.std.proofs.Common.{◌≡◌, ◌∙◌, Some, ap, subst, refl, sym}
+use Rattle.std.proofs.Common.{◌≡◌, ◌∙◌, ap, subst, sym}
 use Rattle.group_world.specs.declared.seat.Seat.TheVariants as seat
-use Rattle.group_world.specs.Asks.{IsHeard, IsOpen, Takes, asked, running}
+use Rattle.group_world.specs.Asks.{IsHeard, asked, running}
 use Rattle.group_world.specs.Seats.{member_of}
 use Rattle.group_world.specs.Worlds.{Member, Running}
 use Rattle.group_world.proofs.Seating.{falls, takes, takes_as, takes_open, the_same, up_not_down}

@@ -1,4 +1,4 @@
-use Rattle.std.proofs.Common.{◌≡◌, ◌∙◌, None, ap}
+use Rattle.std.proofs.Common.{◌∙◌, None, ap}
 use Rattle.paxos_msg.specs.Batches.{Record}
 use Rattle.group_world.specs.Seats.{IsSettled}
 use Rattle.group_world.specs.Worlds.{Member}

@@ -1,7 +1,7 @@
-use Rattle.std.proofs.Common.{◌≡◌, ◌∙◌, Some, ap, subst, sym}
+use Rattle.std.proofs.Common.{◌≡◌, ◌∙◌, ap, subst}
 use Rattle.group_world.specs.declared.seat.Seat.TheVariants as seat
-use Rattle.group_world.specs.Asks.{IsOpen, running}
-use Rattle.group_world.specs.Seats.{IsSettled, Presses, member_of, running_of}
+use Rattle.group_world.specs.Asks.{IsOpen}
+use Rattle.group_world.specs.Seats.{Presses, member_of}
 use Rattle.group_world.specs.Worlds.{Member, Running}
 use Rattle.group_world.proofs.Seating.{Types, presses, the_same, typed_open, up_not_down}
 use Rattle.group_world.proofs.member.Member.press.Goals as goal

@@ -1,9 +1,8 @@
-use Rattle.std.proofs.Common.{◌≡◌, ◌∙◌, ℕ, List, Some, ap, subst, refl, rules}
-use Rattle.group_node.specs.States.{input}
+use Rattle.std.proofs.Common.{◌≡◌, ◌∙◌, ℕ, List, ap, refl, rules}
 use Rattle.group_world.specs.declared.seat.Seat.TheVariants as seat
 use Rattle.group_world.specs.Asks.{IsOpen}
 use Rattle.group_world.specs.Seats.{member_of}
-use Rattle.group_world.specs.Worlds.{Member, Running}
+use Rattle.group_world.specs.Worlds.{Member}
 use Rattle.group_world.proofs.Seating.{releases, releases_none, released_as, run_open, up_not_down}
 use Rattle.group_world.proofs.member.Member.release.Goals as goal
 

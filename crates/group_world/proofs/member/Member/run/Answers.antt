@@ -1,4 +1,4 @@
-use Rattle.std.proofs.Common.{◌≡◌, ◌∙◌, Some, ap, subst}
+use Rattle.std.proofs.Common.{◌≡◌, ◌∙◌, ap, subst}
 use Rattle.group_world.specs.declared.seat.Seat.TheVariants as seat
 use Rattle.group_world.specs.Asks.{IsOpen}
 use Rattle.group_world.specs.Seats.{RunsTo, member_of}

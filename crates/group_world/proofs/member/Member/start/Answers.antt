@@ -4,7 +4,7 @@ use Rattle.paxos_acceptor.specs.Records.{IsRecord}
 use Rattle.group_node.specs.Output.{no_progress}
 use Rattle.group_world.specs.Asks.{Takes}
 use Rattle.group_world.specs.Goes.{start}
-use Rattle.group_world.specs.Seats.{kept_of, member_of, running_of, store_of}
+use Rattle.group_world.specs.Seats.{kept_of, member_of, running_of}
 use Rattle.group_world.specs.Worlds.{Member}
 use Rattle.group_world.proofs.Seating.{down_is, down_kept}
 use Rattle.group_world.proofs.member.Member.start.Goals as goal

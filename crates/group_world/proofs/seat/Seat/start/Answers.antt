@@ -1,4 +1,3 @@
-use Rattle.std.proofs.Common.{◌≡◌}
 use Rattle.group_world.proofs.seat.Seat.start.Goals as goal
 
 pub started-seat-requires : goal.started-seat-requires

@@ -1,11 +1,8 @@
-use Rattle.std.proofs.Common.{◌≡◌, Bool, Option, Some, None, refl, subst, sym}
+use Rattle.std.proofs.Common.{refl}
 use Rattle.std.proofs.lemmas.Result.{IfOk-weaker}
-use Rattle.group_world.specs.declared.event.Act.{Act}
 use Rattle.group_world.specs.declared.event.Act.TheVariants as act
-use Rattle.group_world.specs.Goes.{IsUp, Leaves, campaign}
-use Rattle.group_world.specs.Refusals.{refusal, refusal_of}
-use Rattle.group_world.specs.Worlds.{Member, Running}
-use Rattle.group_world.proofs.Tabling.{found_down, found_sent, found_up}
+use Rattle.group_world.specs.Refusals.{refusal_of}
+use Rattle.group_world.proofs.Tabling.{found_sent, found_up}
 use Rattle.group_world.proofs.table.Table.act.Goals as goal
 
 pub press-requires : goal.press-requires

@@ -1,8 +1,8 @@
-use Rattle.std.proofs.Common.{◌≡◌, ◌∙◌, Some, ap, refl, sym, subst}
+use Rattle.std.proofs.Common.{refl}
 use Rattle.group_world.specs.declared.event.Act.TheVariants as act
 use Rattle.group_world.specs.declared.event.Done.TheVariants.{Applied}
 use Rattle.group_world.specs.Goes.{fallen}
-use Rattle.group_world.specs.Worlds.{Member, World}
+use Rattle.group_world.specs.Worlds.{World}
 use Rattle.group_world.proofs.Tabling.{acts_so, is_at, item_is, up_so}
 use Rattle.group_world.proofs.table.Table.crash.Goals as goal
 

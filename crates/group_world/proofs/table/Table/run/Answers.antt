@@ -1,4 +1,4 @@
-use Rattle.std.proofs.Common.{◌≡◌, ◌∙◌, Some, ap, refl, sym, subst}
+use Rattle.std.proofs.Common.{◌∙◌, ap, refl}
 use Rattle.group_world.specs.declared.event.Act.TheVariants as act
 use Rattle.group_world.specs.declared.event.Done.TheVariants.{Applied}
 use Rattle.group_world.specs.Worlds.{Member, World}

@@ -7,7 +7,7 @@ use Rattle.group_world.specs.Goes.{Acts}
 use Rattle.group_world.specs.Refusals.{IsDone}
 use Rattle.group_world.specs.Sound.{IsSound}
 use Rattle.group_world.specs.Worlds.{Member, World, me_of}
-use Rattle.group_world.proofs.Tabling.{down_so, is_at, item_is, parts, starts_so}
+use Rattle.group_world.proofs.Tabling.{down_so, item_is, parts, starts_so}
 use Rattle.group_world.proofs.table.Table.start.Goals as goal
 
 pub start-requires-clause-ranges : goal.start-requires-clause-ranges

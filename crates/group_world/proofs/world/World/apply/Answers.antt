@@ -1,8 +1,6 @@
-use Rattle.std.proofs.Common.{◌≡◌, sym, subst}
 use Rattle.std.proofs.lemmas.Result.{IfOk-weaker}
 use Rattle.group_world.specs.Held.{Holds}
 use Rattle.group_world.specs.Events.{plan_of}
-use Rattle.group_world.specs.Worlds.{World}
 use Rattle.group_world.proofs.Happening.{EventLaws, event_holds}
 use Rattle.group_world.proofs.world.World.apply.Goals as goal
 

@@ -1,4 +1,3 @@
-use Rattle.std.proofs.Common.{◌≡◌}
 use Rattle.group_world.proofs.Beginning.{odd_when}
 use Rattle.group_world.proofs.world.World.new.Goals as goal
 
