@@ -1,3 +1,4 @@
 pub mod Streams
 pub mod Run
 pub mod Command
+pub mod Members

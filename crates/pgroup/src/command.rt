@@ -4,13 +4,18 @@ ghost use Rattle.pcode_file.specs.InFile.{InFile};
 ghost use Rattle.pcode_ops.specs.Reach.{IsLoadable};
 ghost use Rattle.pgroup.specs.Command.{IsNoProgram};
 
-use crate::files::{FileError, read_file};
+use crate::ended::Ended;
+use crate::files::{FileError, read_file, read_whole};
 use crate::hex::{HexError, bytes_of};
+use crate::net::{SESSION, net};
+use crate::node::{NodeWords, node};
 use crate::run::{Finish, RunIo, run_program};
 use crate::show::write_message;
 use crate::sim::{Stopped, sim};
 use crate::streams::{CountingReader, CountingWriter};
+use crate::words::group::NetWords;
 use crate::words::{Asked, NotAsked, STEPS, read_words};
+use group_node::{Config, NodeFault};
 use group_world::{Script, ScriptFault, WorldFault, read_script};
 use paxos_msg::{Group, WireFault, decode};
 use pcode_file::{CodeFile, FileFault};
@@ -18,7 +23,9 @@ use pcode_machine::End;
 use pcode_ops::{LoadFault, Program};
 use std::alloc::Global;
 use std::io::{self, Read, Write};
+use std::net::Net;
 use std::rt::Files;
+use std::time::Clock;
 use thiserror::Error;
 
 /// The segment of the built-in program, which writes one letter: 28 bytes, that begin in block 1 of its code
@@ -55,6 +62,8 @@ pub enum Refusal {
     Run(RunIo),
     #[error(transparent)]
     Datagram(WireFault),
+    #[error(transparent)]
+    Group(Ended),
     /// A line of a script: its number stands before the word `refused`.
     #[error("{fault}")]
     Line { line: usize, fault: LineFault },
@@ -73,6 +82,18 @@ impl From<FileError> for Refusal {
             FileError::Unreadable => Refusal::File,
             FileError::Memory => Refusal::Run(RunIo::Memory),
         }
+    }
+}
+
+impl From<Ended> for Refusal {
+    fn from(ended: Ended) -> Refusal {
+        Refusal::Group(ended)
+    }
+}
+
+impl From<NodeFault> for Refusal {
+    fn from(fault: NodeFault) -> Refusal {
+        Refusal::Group(Ended::Node(fault))
     }
 }
 
@@ -221,6 +242,55 @@ fn sim_file<H: Files + AllocGlobal, W: Write>(
     }
 }
 
+/// All of the standard input.
+fn read_input<R: Read>(alloc: Global, reader: &mut R) -> Result<Vec<u8>, Refusal> {
+    match read_whole(alloc, reader) {
+        Ok(bytes) => Ok(bytes),
+        Err(FileError::Memory) => Err(Refusal::Run(RunIo::Memory)),
+        Err(FileError::Unreadable) => Err(Refusal::Run(RunIo::Read)),
+    }
+}
+
+/// Runs a group in this process.
+fn net_file<H: Files + Net + Clock + AllocGlobal, R: Read, W: Write>(
+    rt: &H,
+    file: &str,
+    words: NetWords,
+    reader: &mut R,
+    writer: &mut W,
+) -> Result<(), Refusal> {
+    let program = load_file(rt, file)?;
+    Config::new(1, words.size, SESSION)?;
+    let input = read_input(rt.alloc(), reader)?;
+    net(
+        rt,
+        &program,
+        words.size,
+        words.turns,
+        input.as_slice(),
+        writer,
+    )?;
+    Ok(())
+}
+
+/// Runs one node of a group. Standard input is not read where typed bytes come as datagrams.
+fn node_file<H: Files + Net + Clock + AllocGlobal + Copy + Drop, R: Read, W: Write>(
+    rt: &H,
+    file: &str,
+    words: &NodeWords<'_>,
+    reader: &mut R,
+    writer: &mut W,
+) -> Result<(), Refusal> {
+    let program = load_file(rt, file)?;
+    let config = Config::new(words.node, words.group.size, words.group.session)?;
+    let input = match words.keys {
+        None => read_input(rt.alloc(), reader)?,
+        Some(_) => Vec::new(rt.alloc()),
+    };
+    node(rt, &program, config, words, input, writer)?;
+    Ok(())
+}
+
 /// Tells a refusal, and gives its status.
 fn refuse<E: Write>(errors: &mut E, refusal: Refusal) -> u8 {
     let _ = match refusal {
@@ -317,7 +387,7 @@ fn explain<W: Write, E: Write>(writer: &mut W, errors: &mut E, reason: NotAsked)
 /// Does what the program does with these words, which are without its own name, on an input, an output
 /// and an error stream, and gives the status: 0; 1 refused; 2 a fault of the command line; 3 an execution
 /// error; 4 the steps are spent. A fault of the error stream is passed over.
-pub fn command<H: Files + AllocGlobal, R: Read, W: Write, E: Write>(
+pub fn command<H: Files + Net + Clock + AllocGlobal + Copy + Drop, R: Read, W: Write, E: Write>(
     rt: &H,
     words: &[String],
     reader: &mut R,
@@ -335,6 +405,10 @@ pub fn command<H: Files + AllocGlobal, R: Read, W: Write, E: Write>(
         Ok(Asked::Run { file, steps }) => tell(errors, run_file(rt, file, steps, reader, writer)),
         Ok(Asked::Show { group, digits }) => show(rt.alloc(), group, digits, writer, errors),
         Ok(Asked::Sim { file, script }) => tell_done(errors, sim_file(rt, file, script, writer)),
+        Ok(Asked::Net { file, net }) => tell_done(errors, net_file(rt, file, net, reader, writer)),
+        Ok(Asked::Node { file, node }) => {
+            tell_done(errors, node_file(rt, file, &node, reader, writer))
+        }
         Err(reason) => explain(writer, errors, reason),
     }
 }

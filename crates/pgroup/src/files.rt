@@ -19,7 +19,7 @@ pub enum FileError {
 }
 
 /// All bytes that a reader has left, at most `LONGEST`.
-fn read_whole<R: Read>(alloc: Global, reader: &mut R) -> Result<Vec<u8>, FileError>
+pub fn read_whole<R: Read>(alloc: Global, reader: &mut R) -> Result<Vec<u8>, FileError>
     ensures whole { IfOk result (λ bytes. Consumes (R.remaining reader.old) (R.remaining reader.new) bytes.items) }
     ensures end { IfOk result (λ _. IsAtEnd (R.remaining reader.new)) }
     ensures short { IfOk result (λ bytes. vec_len bytes ≤ 67108864) }

@@ -2,14 +2,19 @@
 #![tactic(auto)]
 
 mod command;
+mod ended;
 mod files;
 mod hex;
+mod member;
+mod net;
+mod node;
 mod run;
 mod show;
 mod sim;
 mod streams;
 #[cfg(test)]
 mod tests;
+mod udp;
 mod words;
 
 use command::command;

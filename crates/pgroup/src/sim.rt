@@ -1,7 +1,7 @@
 //! Scripts that happen to a group.
 ghost use Rattle.std.specs.Prelude.{◌≡◌, ◌+◌, ◌≤◌, length, IfErr, IfOk, IfSome};
 
-mod showing;
+pub mod showing;
 
 use crate::run::RunIo;
 use group_node::To;

@@ -9,6 +9,8 @@ mod opcodes;
 mod running;
 mod scripts;
 mod segments;
+mod stops;
+mod wires;
 mod worlds;
 
 use crate::command::command;

@@ -1,7 +1,11 @@
 //! The words of the command line.
+pub mod group;
+
+use crate::node::NodeWords;
 use clap::error::ErrorKind;
 use clap::{Arg, ArgMatches, Command, Error};
 use digits::decimal;
+use group::{NetWords, WordFault, net_command, node_command, read_net, read_node};
 use paxos_msg::Group;
 use std::alloc::{AllocError, Global};
 use std::string::String;
@@ -24,6 +28,10 @@ pub enum Asked<'a> {
     Show { group: Group, digits: &'a str },
     /// To let the script of a file happen to a group that runs the program of a code file.
     Sim { file: &'a str, script: &'a str },
+    /// To run the program of a code file in a group in one process.
+    Net { file: &'a str, net: NetWords },
+    /// To run the program of a code file at one node of a group.
+    Node { file: &'a str, node: NodeWords<'a> },
 }
 
 /// Why the words ask for nothing that is done: help, a fault in them, or no memory.
@@ -126,7 +134,9 @@ fn commands<'a>(alloc: Global) -> Result<Command<'a>, AllocError> {
         )?)?
         .subcommand(run_command(alloc)?)?
         .subcommand(show_command(alloc)?)?
-        .subcommand(sim_command(alloc)?)
+        .subcommand(sim_command(alloc)?)?
+        .subcommand(net_command(alloc, file_arg(alloc))?)?
+        .subcommand(node_command(alloc, file_arg(alloc))?)
 }
 
 /// A number from 0 to 4,294,967,295.
@@ -186,6 +196,37 @@ fn read_sim<'a>(matches: &ArgMatches<'a>) -> Result<Asked<'a>, &'static str> {
     Ok(Asked::Sim { file, script })
 }
 
+/// What `net` and `node` ask for, or what is wrong with their words.
+fn read_group<'a>(
+    alloc: Global,
+    name: &str,
+    matches: &ArgMatches<'a>,
+) -> Result<Asked<'a>, WordFault> {
+    let file = read_file_word(matches)?;
+    if name == "net" {
+        let net = read_net(matches)?;
+        return Ok(Asked::Net { file, net });
+    }
+    let node = read_node(alloc, matches)?;
+    Ok(Asked::Node { file, node })
+}
+
+/// What a command asks for, or what is wrong with its words.
+fn read_command<'a>(
+    alloc: Global,
+    name: &str,
+    matches: &ArgMatches<'a>,
+) -> Result<Asked<'a>, WordFault> {
+    match name {
+        "check" => Ok(read_check(matches)?),
+        "list" => Ok(read_list(matches)?),
+        "run" => Ok(read_run(matches)?),
+        "show" => Ok(read_show(matches)?),
+        "sim" => Ok(read_sim(matches)?),
+        _ => read_group(alloc, name, matches),
+    }
+}
+
 /// What the words, without the program's own name, ask for.
 pub fn read_words<'a>(alloc: Global, words: &'a [String]) -> Result<Asked<'a>, NotAsked> {
     if words.is_empty() {
@@ -194,15 +235,14 @@ pub fn read_words<'a>(alloc: Global, words: &'a [String]) -> Result<Asked<'a>, N
     let mut command = commands(alloc)?;
     let matches = command.try_get_matches_from_mut(words)?;
     let asked = match matches.subcommand() {
-        Some(("check", check)) => read_check(check),
-        Some(("list", list)) => read_list(list),
-        Some(("run", run)) => read_run(run),
-        Some(("show", show)) => read_show(show),
-        Some(("sim", sim)) => read_sim(sim),
-        _ => Err("a command is missing"),
+        Some((name, words)) => read_command(alloc, name, words),
+        None => Err(WordFault::Text("a command is missing")),
     };
     match asked {
         Ok(asked) => Ok(asked),
-        Err(text) => Err(NotAsked::Fault(command.error(ErrorKind::ValueValidation, text)?)),
+        Err(WordFault::Memory) => Err(NotAsked::Memory),
+        Err(WordFault::Text(text)) => {
+            Err(NotAsked::Fault(command.error(ErrorKind::ValueValidation, text)?))
+        }
     }
 }

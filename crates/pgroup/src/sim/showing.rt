@@ -7,7 +7,7 @@ use std::io::{self, Write};
 const PLACES: u32 = 65_536;
 
 /// Writes the bytes of a console in hexadecimal digits, or a dash for none.
-fn write_bytes<W: Write>(writer: &mut W, bytes: &[u8]) -> io::Result<()> {
+pub fn write_bytes<W: Write>(writer: &mut W, bytes: &[u8]) -> io::Result<()> {
     if bytes.is_empty() {
         return write!(writer, "-");
     }

@@ -1,0 +1,111 @@
+//! A node of a group with its outbox, on a wire that each call is handed.
+ghost use Rattle.std.specs.Prelude.{◌≡◌, ◌≤◌, [], ◌∷◌, ◌++◌, length, take, IfOk, if◌then◌else◌};
+
+use group_node::{Config, Node, NodeFault, Outbox, Ran};
+use group_wire::{Wire, hear, turn};
+use paxos_acceptor::Store;
+use paxos_msg::Group;
+use pcode_ops::Program;
+use std::alloc::Global;
+use std::marker::Model;
+
+/// A node of a group with its outbox. Contracts see its group, and the keys that wait.
+#[derive(Drop)]
+pub struct Member<'a, S: Store> {
+    node: Node<'a, S>,
+    outbox: Outbox,
+    group: Group,
+}
+
+impl<'a, S: Store> Model for Member<'a, S> {
+    ghost use Rattle.std.specs.Prelude.{◌≡◌};
+    ghost use Rattle.pgroup.specs.Members.{Member as Seen};
+
+    ghost Value = { Seen };
+
+    ghost view = { λ m. record { group = m.group; waiting = m.node.protocol.rules.waiting } };
+
+    ghost invariant = { λ m. m.node.protocol.rules.me.group ≡ m.group };
+}
+
+impl<'a, S: Store + Drop> Member<'a, S> {
+    /// The node starts over what its store has, or refuses it.
+    pub fn start(
+        alloc: Global,
+        program: &'a Program,
+        config: Config,
+        store: S,
+    ) -> Result<Member<'a, S>, NodeFault> {
+        let group = config.me().group;
+        let outbox = Outbox::new(alloc)?;
+        match Node::start(alloc, program, config, store) {
+            Ok(node) => Ok(Member {
+                node,
+                outbox,
+                group,
+            }),
+            Err(refused) => Err(refused.fault),
+        }
+    }
+
+    /// A byte is typed, if there is room for its key. Whether it was: if not, nothing has changed.
+    pub fn press(&mut self, byte: u8) -> Result<bool, NodeFault>
+        ensures typed { IfOk result (λ is_typed. self.new.waiting ≡ (if is_typed then self.old.waiting ++ byte ∷ [] else self.old.waiting)) }
+    {
+        match self.node.typed(byte) {
+            Ok(_) => Ok(true),
+            Err(NodeFault::Busy) => Ok(false),
+            Err(fault) => Err(fault),
+        }
+    }
+
+    /// Bytes are typed, as long as there is room. How many were: the first ones, each of which waits now.
+    pub fn press_all(&mut self, bytes: &[u8]) -> Result<usize, NodeFault>
+        ensures some { IfOk result (λ count. count ≤ length bytes.now) }
+        ensures typed { IfOk result (λ count. self.new.waiting ≡ self.old.waiting ++ take count bytes.now) }
+    {
+        for (count, byte) in bytes.iter().enumerate() {
+            if !self.press(*byte)? {
+                return Ok(count);
+            }
+        }
+        Ok(bytes.len())
+    }
+
+    /// The node begins a ballot. What it sends goes out in its next turn.
+    pub fn campaign(&mut self) -> Result<(), NodeFault> {
+        self.node.campaign(&mut self.outbox)
+    }
+
+    /// A turn of the node on this wire, and why its run was over.
+    pub fn turn<T: Wire>(&mut self, wire: &mut T) -> Result<Ran, NodeFault> {
+        turn(&mut self.node, wire, &mut self.outbox, self.group)
+    }
+
+    /// The node takes the next datagram from this wire, if one is there, without a turn. Whether one was.
+    pub fn hear<T: Wire>(&mut self, wire: &mut T) -> Result<bool, NodeFault> {
+        hear(&mut self.node, wire, &mut self.outbox, self.group)
+    }
+
+    /// Releases the first byte of the output that waits, with its number from this start on.
+    pub fn release(&mut self) -> Option<(u64, u8)> {
+        self.node.release()
+    }
+
+    /// How many bytes of output wait.
+    pub fn unreleased(&self) -> usize {
+        self.node.unreleased()
+    }
+
+    /// The least place that is not learned.
+    pub fn known_front(&self) -> u32 {
+        self.node.known_front()
+    }
+
+    /// How many typed keys wait.
+    pub fn waiting(&self) -> usize
+        ensures few { result ≤ 256 }
+    {
+        self.node.waiting()
+    }
+}
