@@ -1,4 +1,3 @@
 pub mod Streams
 pub mod Run
 pub mod Command
-pub mod Members

@@ -1,15 +1,15 @@
 //! A node of a group with its outbox, on a wire that each call is handed.
-ghost use Rattle.std.specs.Prelude.{◌≡◌, ◌≤◌, [], ◌∷◌, ◌++◌, length, take, IfOk, if◌then◌else◌};
+ghost use Rattle.std.specs.Prelude.{◌≡◌, ◌≤◌, length, IfOk, OnOk};
 
 use group_node::{Config, Node, NodeFault, Outbox, Ran};
-use group_wire::{Wire, hear, turn};
+use group_wire::{Wire, turn};
 use paxos_acceptor::Store;
 use paxos_msg::Group;
 use pcode_ops::Program;
 use std::alloc::Global;
 use std::marker::Model;
 
-/// A node of a group with its outbox. Contracts see its group, and the keys that wait.
+/// A node of a group with its outbox. What contracts see of it is its group.
 #[derive(Drop)]
 pub struct Member<'a, S: Store> {
     node: Node<'a, S>,
@@ -19,11 +19,11 @@ pub struct Member<'a, S: Store> {
 
 impl<'a, S: Store> Model for Member<'a, S> {
     ghost use Rattle.std.specs.Prelude.{◌≡◌};
-    ghost use Rattle.pgroup.specs.Members.{Member as Seen};
+    ghost use Rattle.paxos_msg.specs.declared.message.Group as message;
 
-    ghost Value = { Seen };
+    ghost Value = { message.Group };
 
-    ghost view = { λ m. record { group = m.group; waiting = m.node.protocol.rules.waiting } };
+    ghost view = { λ m. m.group };
 
     ghost invariant = { λ m. m.node.protocol.rules.me.group ≡ m.group };
 }
@@ -48,10 +48,8 @@ impl<'a, S: Store + Drop> Member<'a, S> {
         }
     }
 
-    /// A byte is typed, if there is room for its key. Whether it was: if not, nothing has changed.
-    pub fn press(&mut self, byte: u8) -> Result<bool, NodeFault>
-        ensures typed { IfOk result (λ is_typed. self.new.waiting ≡ (if is_typed then self.old.waiting ++ byte ∷ [] else self.old.waiting)) }
-    {
+    /// A byte is typed, if there is room for its key. Whether it was.
+    pub fn press(&mut self, byte: u8) -> Result<bool, NodeFault> {
         match self.node.typed(byte) {
             Ok(_) => Ok(true),
             Err(NodeFault::Busy) => Ok(false),
@@ -59,10 +57,9 @@ impl<'a, S: Store + Drop> Member<'a, S> {
         }
     }
 
-    /// Bytes are typed, as long as there is room. How many were: the first ones, each of which waits now.
+    /// Bytes are typed, as long as there is room. How many were.
     pub fn press_all(&mut self, bytes: &[u8]) -> Result<usize, NodeFault>
         ensures some { IfOk result (λ count. count ≤ length bytes.now) }
-        ensures typed { IfOk result (λ count. self.new.waiting ≡ self.old.waiting ++ take count bytes.now) }
     {
         for (count, byte) in bytes.iter().enumerate() {
             if !self.press(*byte)? {
@@ -80,11 +77,6 @@ impl<'a, S: Store + Drop> Member<'a, S> {
     /// A turn of the node on this wire, and why its run was over.
     pub fn turn<T: Wire>(&mut self, wire: &mut T) -> Result<Ran, NodeFault> {
         turn(&mut self.node, wire, &mut self.outbox, self.group)
-    }
-
-    /// The node takes the next datagram from this wire, if one is there, without a turn. Whether one was.
-    pub fn hear<T: Wire>(&mut self, wire: &mut T) -> Result<bool, NodeFault> {
-        hear(&mut self.node, wire, &mut self.outbox, self.group)
     }
 
     /// Releases the first byte of the output that waits, with its number from this start on.

@@ -3,7 +3,7 @@ use crate::ended::Ended;
 use crate::member::Member;
 use crate::run::RunIo;
 use crate::sim::showing::write_bytes;
-use crate::udp::{UdpWire, Watch, bind};
+use crate::udp::{Rousing, UdpWire, Watch, bind};
 use group_node::{Config, Console, Offer};
 use mio::net::UdpSocket;
 use paxos_acceptor::MemoryStore;
@@ -55,10 +55,9 @@ impl<'a, H: Clock> Seat<'a, H> {
         Ok(())
     }
 
-    /// A turn of the node, once a datagram is there: its last tick has left it one.
+    /// A turn of the node. It waits for a datagram where none is there, as each turn's tick leaves one for the next turn.
     fn play(&mut self) -> Result<(), Ended> {
-        self.wire.begin_wait();
-        self.wire.wait();
+        self.wire.let_wait(true);
         self.member.turn(&mut self.wire)?;
         self.release_all()
     }
@@ -99,10 +98,12 @@ fn wires<'a, H: Net + Clock + AllocGlobal>(
     rt: &'a H,
     sockets: Vec<UdpSocket>,
     addresses: &'a [SocketAddr],
+    group: Group,
 ) -> Result<Vec<UdpWire<'a, H>>, Ended> {
     let mut wires = Vec::new(rt.alloc());
     for socket in sockets {
-        wires.push(UdpWire::new(rt, socket, Watch::new(rt)?, addresses)?)?;
+        let watch = Watch::new(rt)?;
+        wires.push(UdpWire::new(rt, socket, watch, addresses, group, Rousing::All)?)?;
     }
     Ok(wires)
 }
@@ -184,7 +185,7 @@ pub fn net<H: Net + Clock + AllocGlobal, W: Write>(
     };
     let sockets = sockets(rt, alloc, size)?;
     let addresses = addresses(alloc, sockets.as_slice())?;
-    let wires = wires(rt, sockets, addresses.as_slice())?;
+    let wires = wires(rt, sockets, addresses.as_slice(), group)?;
     let mut seats = seats(alloc, program, group, wires)?;
     campaign(seats.as_mut_slice())?;
     play(seats.as_mut_slice(), turns, input)?;

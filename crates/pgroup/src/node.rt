@@ -1,12 +1,9 @@
 //! One node on UDP, over a record in a file.
-ghost use Rattle.std.specs.Prelude.{◌≡◌, ◌<◌, ◌≤◌, ◌-◌, [], ◌∷◌, ◌++◌, drop, take, IfOk, IsOk, MatchResult};
-ghost use Rattle.std.specs.Io.KnownBytes.{Appends, Keeps};
-
 use crate::ended::Ended;
 use crate::member::Member;
 use crate::run::RunIo;
-use crate::streams::{ByteWriter, CountingWriter, WriteFault};
-use crate::udp::{UdpWire, Watch, bind, receive_from};
+use crate::streams::{ByteWriter, CountingWriter};
+use crate::udp::{Rousing, UdpWire, Watch, bind, receive_from};
 use group_node::{Config, Ran};
 use mio::net::UdpSocket;
 use paxos_acceptor::{FileStore, Store};
@@ -22,9 +19,6 @@ const KEYS: usize = 64;
 
 /// How many keys wait at a node at most.
 const WAITING: usize = 256;
-
-/// How often a resting node hears a datagram or waits for one, at most.
-const HEARD: u32 = 64;
 
 /// What the words say of a node.
 #[derive(Drop)]
@@ -53,20 +47,15 @@ pub struct Text {
 
 impl Text {
     /// The bytes that are not typed yet.
-    fn rest(&self) -> &[u8]
-        ensures { result.now ≡ drop self.now.done self.now.bytes.items }
-    {
+    fn rest(&self) -> &[u8] {
         self.bytes.as_slice().get(self.done..).unwrap_or(&[])
     }
 
-    /// Types the next bytes, as room allows.
-    fn press<S: Store + Drop>(&mut self, member: &mut Member<'_, S>) -> Result<(), Ended>
-        ensures typed { IfOk result (λ _. member.new.waiting ≡ member.old.waiting ++ take (self.new.done - self.old.done) (drop self.old.done self.old.bytes.items)) }
-        ensures bytes { self.new.bytes ≡ self.old.bytes }
-    {
+    /// Types bytes, as room allows. Whether one was typed.
+    fn press<S: Store + Drop>(&mut self, member: &mut Member<'_, S>) -> Result<bool, Ended> {
         let count = member.press_all(self.rest())?;
         self.done = self.done.saturating_add(count);
-        Ok(())
+        Ok(count > 0)
     }
 }
 
@@ -79,58 +68,33 @@ pub enum Typed {
     Datagrams(UdpSocket),
 }
 
-impl Typed {
-    /// Whether there is something to be typed at a node at which so many keys wait.
-    fn is_ready(&self, waiting: usize) -> bool {
-        match self {
-            Typed::Text(text) => waiting < WAITING && !text.rest().is_empty(),
-            Typed::Datagrams(socket) => {
-                waiting <= WAITING - KEYS && socket.peek_from(&mut [0u8; 1]).is_ok()
-            }
-        }
-    }
-}
-
-/// Types the bytes of one datagram, if one is there and 64 keys have room.
+/// Types the bytes of one datagram, where 64 keys have room. Whether one came.
 fn press_datagram<S: Store + Drop>(
     member: &mut Member<'_, S>,
     socket: &UdpSocket,
-) -> Result<(), Ended> {
+) -> Result<bool, Ended> {
     if member.waiting() > WAITING - KEYS {
-        return Ok(());
+        return Ok(false);
     }
     let mut buffer = [0u8; KEYS + 1];
-    match receive_from(socket, &mut buffer) {
-        Some(count) if count <= KEYS => {
-            member.press_all(&buffer[..count])?;
-            Ok(())
-        }
-        _ => Ok(()),
+    let Some(count) = receive_from(socket, &mut buffer) else {
+        return Ok(false);
+    };
+    if count <= KEYS {
+        member.press_all(&buffer[..count])?;
     }
+    Ok(true)
 }
 
-/// Types what was brought, before a turn, as room allows.
-fn press_some<S: Store + Drop>(member: &mut Member<'_, S>, typed: &mut Typed) -> Result<(), Ended> {
+/// Types what was brought, before a turn, as room allows. Whether there may be more to do at once: a byte was typed, or a datagram came.
+fn press_some<S: Store + Drop>(
+    member: &mut Member<'_, S>,
+    typed: &mut Typed,
+) -> Result<bool, Ended> {
     match typed {
         Typed::Text(text) => text.press(member),
         Typed::Datagrams(socket) => press_datagram(member, socket),
     }
-}
-
-/// Writes a released byte, unless it was seen before.
-fn write_unseen<W: ByteWriter>(
-    writer: &mut W,
-    seen: u64,
-    number: u64,
-    byte: u8,
-) -> Result<(), WriteFault>
-    ensures unseen { seen ≤ number → MatchResult result (λ _. Appends (W.contents writer.old) (W.contents writer.new) (byte ∷ [])) (λ _. Keeps (W.contents writer.old) (W.contents writer.new)) }
-    ensures seen { number < seen → IsOk result × (W.contents writer.new ≡ W.contents writer.old) }
-{
-    if number < seen {
-        return Ok(());
-    }
-    writer.write_byte(byte)
 }
 
 /// Releases all output that waits, and writes what was not seen before.
@@ -141,7 +105,7 @@ fn release_all<S: Store + Drop, W: ByteWriter>(
 ) -> Result<(), Ended> {
     for _ in 0..member.unreleased() {
         if let Some((number, byte)) = member.release() {
-            if write_unseen(writer, seen, number, byte).is_err() {
+            if number >= seen && writer.write_byte(byte).is_err() {
                 return Err(Ended::Run(RunIo::Write));
             }
         }
@@ -149,29 +113,8 @@ fn release_all<S: Store + Drop, W: ByteWriter>(
     Ok(())
 }
 
-/// A node that has nothing to do hears what comes, until a place has become known, bytes were typed, or 10 milliseconds are over. What a
-/// message asks for is done when it is heard, so it needs no tick; and a tick after each would make the other nodes tick in turn, without
-/// end.
-fn rest<H: Clock, S: Store + Drop>(
-    member: &mut Member<'_, S>,
-    wire: &mut UdpWire<'_, H>,
-) -> Result<(), Ended> {
-    let front = member.known_front();
-    wire.begin_wait();
-    for _ in 0..HEARD {
-        if member.hear(wire)? {
-            if member.known_front() > front {
-                return Ok(());
-            }
-        } else if !wire.wait() {
-            return Ok(());
-        }
-    }
-    Ok(())
-}
-
-/// The turns of a node. Before each, bytes are typed; after each, all output is released. The node rests before a turn where there is nothing
-/// to be typed, and its machine has come to its end or waits for a key.
+/// The turns of a node. Before each, bytes are typed; after each, all output is released. A turn waits for datagrams only where nothing
+/// was typed before it, and the machine has come to its end or waits for a key.
 fn play<H: Clock, S: Store + Drop, W: ByteWriter>(
     member: &mut Member<'_, S>,
     wire: &mut UdpWire<'_, H>,
@@ -179,12 +122,10 @@ fn play<H: Clock, S: Store + Drop, W: ByteWriter>(
     words: &NodeWords<'_>,
     writer: &mut W,
 ) -> Result<(), Ended> {
-    let mut is_busy = true;
+    let mut is_busy = false;
     for _ in 0..words.turns {
-        if !is_busy && !typed.is_ready(member.waiting()) {
-            rest(member, wire)?;
-        }
-        press_some(member, typed)?;
+        let is_typed = press_some(member, typed)?;
+        wire.let_wait(!is_typed && !is_busy);
         let ran = member.turn(wire)?;
         release_all(member, words.seen, writer)?;
         is_busy = ran == Ran::More || ran == Ran::Full;
@@ -202,7 +143,14 @@ fn own_wire<'a, H: Net + Clock>(
     let Some(address) = words.addresses.get(index) else {
         return Err(Ended::Socket);
     };
-    UdpWire::new(rt, bind(rt, *address)?, watch, words.addresses.as_slice())
+    UdpWire::new(
+        rt,
+        bind(rt, *address)?,
+        watch,
+        words.addresses.as_slice(),
+        words.group,
+        Rousing::News,
+    )
 }
 
 /// What is typed: the datagrams at the address of the words, which are watched, or else these bytes.
