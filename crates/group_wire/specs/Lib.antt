@@ -1,2 +1,3 @@
 pub mod Traffic
 pub mod Turns
+pub mod Typing

@@ -2,7 +2,9 @@
 #![tactic(auto)]
 
 mod turns;
+mod typing;
 mod wire;
 
 pub use turns::{hear, turn};
+pub use typing::press_some;
 pub use wire::Wire;

@@ -3,7 +3,7 @@ ghost use Rattle.std.specs.Prelude.{◌≡◌, ◌≢◌, ◌↔◌, ◌⊎◌, 
 ghost use Rattle.group_node.specs.Output.{RunsOn};
 ghost use Rattle.group_node.specs.States.{input};
 ghost use Rattle.group_wire.specs.Traffic.{Traffic, grown, letters_of, letters_to};
-ghost use Rattle.group_wire.specs.Turns.{HearsSome, IsAfterFault, IsRefused, IsTurn, posted, ticked_if};
+ghost use Rattle.group_wire.specs.Turns.{HearsSome, IsAfterFault, IsHearingRefused, IsTurn, TellsOfOne, posted, ticked_if};
 
 use crate::wire::Wire;
 use group_node::laws::what_goes_out_fits;
@@ -74,8 +74,8 @@ fn hear_bytes<S: Store, T: Wire>(
     requires group { node.old.protocol.rules.me.group ≡ group }
     requires empty { outbox.old.packets ≡ [] }
     requires short { length bytes.now ≤ 1400 }
-    ensures hears { (from : Option Traffic) → T.traffic wire.old ≡ grown from [] (bytes.now ∷ []) → HearsSome group 1 node.old node.new from (T.traffic wire.new) }
-    ensures refused { IsRefused S.honest S.state node.old node.new result }
+    ensures hears { (from : Option Traffic) → T.traffic wire.old ≡ grown from [] (bytes.now ∷ []) → HearsSome group (bytes.now ∷ []) node.old node.new from (T.traffic wire.new) }
+    ensures refused { IsHearingRefused S.honest S.state node.old node.new result }
     ensures empty { outbox.new.packets ≡ [] }
 {
     let Ok(view) = decode(bytes, group) else {
@@ -101,8 +101,8 @@ fn hear_next<S: Store, T: Wire>(
 ) -> Result<bool, NodeFault>
     requires group { node.old.protocol.rules.me.group ≡ group }
     requires empty { outbox.old.packets ≡ [] }
-    ensures hears { HearsSome group 1 node.old node.new (T.traffic wire.old) (T.traffic wire.new) }
-    ensures refused { IsRefused S.honest S.state node.old node.new result }
+    ensures hears { (came : List (List ℕ)) × HearsSome group came node.old node.new (T.traffic wire.old) (T.traffic wire.new) × TellsOfOne result came }
+    ensures refused { IsHearingRefused S.honest S.state node.old node.new result }
     ensures empty { outbox.new.packets ≡ [] }
 {
     let Some(count) = wire.receive(buffer) else {
@@ -123,8 +123,8 @@ fn hear_all<S: Store, T: Wire>(
 ) -> Result<(), NodeFault>
     requires group { node.old.protocol.rules.me.group ≡ group }
     requires empty { outbox.old.packets ≡ [] }
-    ensures hears { HearsSome group 64 node.old node.new (T.traffic wire.old) (T.traffic wire.new) }
-    ensures refused { IsRefused S.honest S.state node.old node.new result }
+    ensures hears { (came : List (List ℕ)) × HearsSome group came node.old node.new (T.traffic wire.old) (T.traffic wire.new) × length came ≤ 64 }
+    ensures refused { IsHearingRefused S.honest S.state node.old node.new result }
     ensures empty { outbox.new.packets ≡ [] }
 {
     let mut buffer = [0u8; LONGEST + 1];
@@ -174,10 +174,10 @@ pub fn hear<S: Store, T: Wire>(
     group: Group,
 ) -> Result<bool, NodeFault>
     requires group { node.old.protocol.rules.me.group ≡ group }
-    ensures hears { IsTurn group 1 outbox.old.packets node.old node.new (T.traffic wire.old) (T.traffic wire.new) false }
+    ensures hears { (came : List (List ℕ)) × IsTurn group came outbox.old.packets node.old node.new (T.traffic wire.old) (T.traffic wire.new) false × TellsOfOne result came }
     ensures me { node.new.protocol.rules.me ≡ node.old.protocol.rules.me }
     ensures progress { node.new.progress ≡ node.old.progress }
-    ensures refused { IsRefused S.honest S.state node.old node.new result }
+    ensures refused { IsHearingRefused S.honest S.state node.old node.new result }
     ensures empty { outbox.new.packets ≡ [] }
 {
     send_all(wire, outbox, group.size);
@@ -199,7 +199,7 @@ pub fn turn<S: Store, T: Wire>(
     group: Group,
 ) -> Result<Ran, NodeFault>
     requires group { node.old.protocol.rules.me.group ≡ group }
-    ensures plays { (ticks : Bool) × IsTurn group 64 outbox.old.packets node.old node.new (T.traffic wire.old) (T.traffic wire.new) ticks × OnErr result (ticks ≡ false) }
+    ensures plays { (came : List (List ℕ)) × (ticks : Bool) × IsTurn group came outbox.old.packets node.old node.new (T.traffic wire.old) (T.traffic wire.new) ticks × length came ≤ 64 × OnErr result (ticks ≡ false) }
     ensures me { node.new.protocol.rules.me ≡ node.old.protocol.rules.me }
     ensures runs { IfOk result (λ ran. RunsOn (input node.new.protocol.rules) 1000 node.old.progress node.new.progress ran) }
     ensures rest { OnErr result (node.new.progress ≡ node.old.progress) }

@@ -287,7 +287,7 @@ fn node_file<H: Files + Net + Clock + AllocGlobal + Copy + Drop, R: Read, W: Wri
         None => read_input(rt.alloc(), reader)?,
         Some(_) => Vec::new(rt.alloc()),
     };
-    node(rt, &program, config, words, input, writer)?;
+    node(rt, &program, config, words, input.as_slice(), writer)?;
     Ok(())
 }
 

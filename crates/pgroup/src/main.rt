@@ -14,6 +14,7 @@ mod sim;
 mod streams;
 #[cfg(test)]
 mod tests;
+mod typed;
 mod udp;
 mod words;
 

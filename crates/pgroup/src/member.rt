@@ -1,8 +1,8 @@
 //! A node of a group with its outbox, on a wire that each call is handed.
-ghost use Rattle.std.specs.Prelude.{◌≡◌, ◌≤◌, length, IfOk, OnOk};
+ghost use Rattle.std.specs.Prelude.{◌≤◌};
 
 use group_node::{Config, Node, NodeFault, Outbox, Ran};
-use group_wire::{Wire, turn};
+use group_wire::{Wire, hear, press_some, turn};
 use paxos_acceptor::Store;
 use paxos_msg::Group;
 use pcode_ops::Program;
@@ -48,25 +48,9 @@ impl<'a, S: Store + Drop> Member<'a, S> {
         }
     }
 
-    /// A byte is typed, if there is room for its key. Whether it was.
-    pub fn press(&mut self, byte: u8) -> Result<bool, NodeFault> {
-        match self.node.typed(byte) {
-            Ok(_) => Ok(true),
-            Err(NodeFault::Busy) => Ok(false),
-            Err(fault) => Err(fault),
-        }
-    }
-
-    /// Bytes are typed, as long as there is room. How many were.
-    pub fn press_all(&mut self, bytes: &[u8]) -> Result<usize, NodeFault>
-        ensures some { IfOk result (λ count. count ≤ length bytes.now) }
-    {
-        for (count, byte) in bytes.iter().enumerate() {
-            if !self.press(*byte)? {
-                return Ok(count);
-            }
-        }
-        Ok(bytes.len())
+    /// Types bytes, as many as there is room for, and takes them off the front.
+    pub fn press_some(&mut self, bytes: &mut &[u8]) -> Result<(), NodeFault> {
+        press_some(&mut self.node, bytes)
     }
 
     /// The node begins a ballot. What it sends goes out in its next turn.
@@ -77,6 +61,11 @@ impl<'a, S: Store + Drop> Member<'a, S> {
     /// A turn of the node on this wire, and why its run was over.
     pub fn turn<T: Wire>(&mut self, wire: &mut T) -> Result<Ran, NodeFault> {
         turn(&mut self.node, wire, &mut self.outbox, self.group)
+    }
+
+    /// The node takes the next datagram from this wire, if one is there, without a turn. Whether one was.
+    pub fn hear<T: Wire>(&mut self, wire: &mut T) -> Result<bool, NodeFault> {
+        hear(&mut self.node, wire, &mut self.outbox, self.group)
     }
 
     /// Releases the first byte of the output that waits, with its number from this start on.

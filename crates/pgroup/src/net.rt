@@ -3,7 +3,7 @@ use crate::ended::Ended;
 use crate::member::Member;
 use crate::run::RunIo;
 use crate::sim::showing::write_bytes;
-use crate::udp::{Rousing, UdpWire, Watch, bind};
+use crate::udp::{UdpWire, Watch, bind};
 use group_node::{Config, Console, Offer};
 use mio::net::UdpSocket;
 use paxos_acceptor::MemoryStore;
@@ -55,9 +55,10 @@ impl<'a, H: Clock> Seat<'a, H> {
         Ok(())
     }
 
-    /// A turn of the node. It waits for a datagram where none is there, as each turn's tick leaves one for the next turn.
+    /// A turn of the node, once a datagram is there: its last tick has left it one.
     fn play(&mut self) -> Result<(), Ended> {
-        self.wire.let_wait(true);
+        self.wire.begin_wait();
+        self.wire.wait();
         self.member.turn(&mut self.wire)?;
         self.release_all()
     }
@@ -98,12 +99,10 @@ fn wires<'a, H: Net + Clock + AllocGlobal>(
     rt: &'a H,
     sockets: Vec<UdpSocket>,
     addresses: &'a [SocketAddr],
-    group: Group,
 ) -> Result<Vec<UdpWire<'a, H>>, Ended> {
     let mut wires = Vec::new(rt.alloc());
     for socket in sockets {
-        let watch = Watch::new(rt)?;
-        wires.push(UdpWire::new(rt, socket, watch, addresses, group, Rousing::All)?)?;
+        wires.push(UdpWire::new(rt, socket, Watch::new(rt)?, addresses)?)?;
     }
     Ok(wires)
 }
@@ -133,11 +132,11 @@ fn campaign<H: Clock>(seats: &mut [Seat<'_, H>]) -> Result<(), Ended> {
     }
 }
 
-/// Node 1 types as many of the bytes as it has room for. How many it typed.
-fn press_first<H: Clock>(seats: &mut [Seat<'_, H>], bytes: &[u8]) -> Result<usize, Ended> {
+/// Node 1 types as many of the bytes as it has room for, and takes them off the front.
+fn press_first<H: Clock>(seats: &mut [Seat<'_, H>], bytes: &mut &[u8]) -> Result<(), Ended> {
     match seats.first_mut() {
-        Some(seat) => Ok(seat.member.press_all(bytes)?),
-        None => Ok(0),
+        Some(seat) => Ok(seat.member.press_some(bytes)?),
+        None => Ok(()),
     }
 }
 
@@ -153,8 +152,7 @@ fn play_all<H: Clock>(seats: &mut [Seat<'_, H>]) -> Result<(), Ended> {
 fn play<H: Clock>(seats: &mut [Seat<'_, H>], turns: u32, input: &[u8]) -> Result<(), Ended> {
     let mut rest = input;
     for _ in 0..turns {
-        let count = press_first(seats, rest)?;
-        rest = rest.get(count..).unwrap_or(&[]);
+        press_first(seats, &mut rest)?;
         play_all(seats)?;
     }
     Ok(())
@@ -185,7 +183,7 @@ pub fn net<H: Net + Clock + AllocGlobal, W: Write>(
     };
     let sockets = sockets(rt, alloc, size)?;
     let addresses = addresses(alloc, sockets.as_slice())?;
-    let wires = wires(rt, sockets, addresses.as_slice(), group)?;
+    let wires = wires(rt, sockets, addresses.as_slice())?;
     let mut seats = seats(alloc, program, group, wires)?;
     campaign(seats.as_mut_slice())?;
     play(seats.as_mut_slice(), turns, input)?;

@@ -1,24 +1,25 @@
 //! One node on UDP, over a record in a file.
+ghost use Rattle.std.specs.Prelude.{◌≡◌, ◌<◌, ◌≤◌, [], ◌∷◌, IsOk, MatchResult};
+ghost use Rattle.std.specs.Io.KnownBytes.{Appends, Keeps};
+
 use crate::ended::Ended;
 use crate::member::Member;
 use crate::run::RunIo;
-use crate::streams::{ByteWriter, CountingWriter};
-use crate::udp::{Rousing, UdpWire, Watch, bind, receive_from};
+use crate::streams::{ByteWriter, CountingWriter, WriteFault};
+use crate::typed::Typed;
+use crate::udp::{UdpWire, Watch, bind};
 use group_node::{Config, Ran};
-use mio::net::UdpSocket;
 use paxos_acceptor::{FileStore, Store};
 use paxos_msg::Group;
 use pcode_ops::Program;
+use std::alloc::Global;
 use std::io::Write;
 use std::net::{Net, SocketAddr};
 use std::rt::Files;
 use std::time::Clock;
 
-/// How many bytes a datagram of typed bytes has at most. A longer one is dropped.
-const KEYS: usize = 64;
-
-/// How many keys wait at a node at most.
-const WAITING: usize = 256;
+/// How often a resting node hears a datagram or waits for one, at most.
+const HEARD: u32 = 64;
 
 /// What the words say of a node.
 #[derive(Drop)]
@@ -38,63 +39,20 @@ pub struct NodeWords<'a> {
     pub keys: Option<SocketAddr>,
 }
 
-/// A text that is typed as room allows, and how many bytes of it are typed.
-#[derive(Drop)]
-pub struct Text {
-    bytes: Vec<u8>,
-    done: usize,
-}
-
-impl Text {
-    /// The bytes that are not typed yet.
-    fn rest(&self) -> &[u8] {
-        self.bytes.as_slice().get(self.done..).unwrap_or(&[])
+/// Writes a released byte, unless it was seen before.
+fn write_unseen<W: ByteWriter>(
+    writer: &mut W,
+    seen: u64,
+    number: u64,
+    byte: u8,
+) -> Result<(), WriteFault>
+    ensures unseen { seen ≤ number → MatchResult result (λ _. Appends (W.contents writer.old) (W.contents writer.new) (byte ∷ [])) (λ _. Keeps (W.contents writer.old) (W.contents writer.new)) }
+    ensures seen { number < seen → IsOk result × (W.contents writer.new ≡ W.contents writer.old) }
+{
+    if number < seen {
+        return Ok(());
     }
-
-    /// Types bytes, as room allows. Whether one was typed.
-    fn press<S: Store + Drop>(&mut self, member: &mut Member<'_, S>) -> Result<bool, Ended> {
-        let count = member.press_all(self.rest())?;
-        self.done = self.done.saturating_add(count);
-        Ok(count > 0)
-    }
-}
-
-/// What a node types.
-#[derive(Drop)]
-pub enum Typed {
-    /// The standard input.
-    Text(Text),
-    /// What datagrams bring.
-    Datagrams(UdpSocket),
-}
-
-/// Types the bytes of one datagram, where 64 keys have room. Whether one came.
-fn press_datagram<S: Store + Drop>(
-    member: &mut Member<'_, S>,
-    socket: &UdpSocket,
-) -> Result<bool, Ended> {
-    if member.waiting() > WAITING - KEYS {
-        return Ok(false);
-    }
-    let mut buffer = [0u8; KEYS + 1];
-    let Some(count) = receive_from(socket, &mut buffer) else {
-        return Ok(false);
-    };
-    if count <= KEYS {
-        member.press_all(&buffer[..count])?;
-    }
-    Ok(true)
-}
-
-/// Types what was brought, before a turn, as room allows. Whether there may be more to do at once: a byte was typed, or a datagram came.
-fn press_some<S: Store + Drop>(
-    member: &mut Member<'_, S>,
-    typed: &mut Typed,
-) -> Result<bool, Ended> {
-    match typed {
-        Typed::Text(text) => text.press(member),
-        Typed::Datagrams(socket) => press_datagram(member, socket),
-    }
+    writer.write_byte(byte)
 }
 
 /// Releases all output that waits, and writes what was not seen before.
@@ -105,7 +63,7 @@ fn release_all<S: Store + Drop, W: ByteWriter>(
 ) -> Result<(), Ended> {
     for _ in 0..member.unreleased() {
         if let Some((number, byte)) = member.release() {
-            if number >= seen && writer.write_byte(byte).is_err() {
+            if write_unseen(writer, seen, number, byte).is_err() {
                 return Err(Ended::Run(RunIo::Write));
             }
         }
@@ -113,24 +71,36 @@ fn release_all<S: Store + Drop, W: ByteWriter>(
     Ok(())
 }
 
-/// The turns of a node. Before each, bytes are typed; after each, all output is released. A turn waits for datagrams only where nothing
-/// was typed before it, and the machine has come to its end or waits for a key.
-fn play<H: Clock, S: Store + Drop, W: ByteWriter>(
-    member: &mut Member<'_, S>,
-    wire: &mut UdpWire<'_, H>,
-    typed: &mut Typed,
-    words: &NodeWords<'_>,
-    writer: &mut W,
-) -> Result<(), Ended> {
-    let mut is_busy = false;
-    for _ in 0..words.turns {
-        let is_typed = press_some(member, typed)?;
-        wire.let_wait(!is_typed && !is_busy);
-        let ran = member.turn(wire)?;
-        release_all(member, words.seen, writer)?;
-        is_busy = ran == Ran::More || ran == Ran::Full;
+/// Where a node's datagrams and its typed bytes come from.
+#[derive(Drop)]
+struct Sources<'a, H> {
+    wire: UdpWire<'a, H>,
+    typed: Typed<'a>,
+}
+
+impl<'a, H: Net + Clock + AllocGlobal> Sources<'a, H> {
+    /// Opens the sockets that the words name. The text is typed where no datagrams bring bytes.
+    fn open(rt: &'a H, words: &'a NodeWords<'_>, text: &'a [u8]) -> Result<Sources<'a, H>, Ended> {
+        let watch = Watch::new(rt)?;
+        let typed = typed_of(rt, words, text, &watch)?;
+        let wire = own_wire(rt, words, watch)?;
+        Ok(Sources { wire, typed })
     }
-    Ok(())
+}
+
+/// What is typed: the datagrams at the address of the words, which are watched, or else the text.
+fn typed_of<'a, H: Net>(
+    rt: &H,
+    words: &NodeWords<'_>,
+    text: &'a [u8],
+    watch: &Watch,
+) -> Result<Typed<'a>, Ended> {
+    let Some(address) = words.keys else {
+        return Ok(Typed::Text(text));
+    };
+    let mut socket = bind(rt, address)?;
+    watch.add_typed(&mut socket)?;
+    Ok(Typed::Datagrams(socket))
 }
 
 /// The wire of the node, on the socket of its address. Typed bytes end its waiting too.
@@ -143,52 +113,98 @@ fn own_wire<'a, H: Net + Clock>(
     let Some(address) = words.addresses.get(index) else {
         return Err(Ended::Socket);
     };
-    UdpWire::new(
-        rt,
-        bind(rt, *address)?,
-        watch,
-        words.addresses.as_slice(),
-        words.group,
-        Rousing::News,
-    )
+    UdpWire::new(rt, bind(rt, *address)?, watch, words.addresses.as_slice())
 }
 
-/// What is typed: the datagrams at the address of the words, which are watched, or else these bytes.
-fn typed_of<H: Net>(
-    rt: &H,
+/// A node that has nothing to do hears what comes, until a place has become known, bytes were typed, or 10 milliseconds are over. What a
+/// message asks for is done when it is heard, so it needs no tick; and a tick after each would make the other nodes tick in turn, without
+/// end.
+fn rest<H: Clock, S: Store + Drop>(
+    member: &mut Member<'_, S>,
+    wire: &mut UdpWire<'_, H>,
+) -> Result<(), Ended> {
+    let front = member.known_front();
+    wire.begin_wait();
+    for _ in 0..HEARD {
+        if member.hear(wire)? {
+            if member.known_front() > front {
+                return Ok(());
+            }
+        } else if !wire.wait() {
+            return Ok(());
+        }
+    }
+    Ok(())
+}
+
+/// The turns of a node. Before each, bytes are typed; after each, all output is released. The node rests before a turn where there is nothing
+/// to be typed, and its machine has come to its end or waits for a key.
+fn play<H: Clock, S: Store + Drop, W: ByteWriter>(
+    member: &mut Member<'_, S>,
     words: &NodeWords<'_>,
-    input: Vec<u8>,
-    watch: &Watch,
-) -> Result<Typed, Ended> {
-    let Some(address) = words.keys else {
-        return Ok(Typed::Text(Text {
-            bytes: input,
-            done: 0,
-        }));
-    };
-    let mut socket = bind(rt, address)?;
-    watch.add_typed(&mut socket)?;
-    Ok(Typed::Datagrams(socket))
+    sources: &mut Sources<'_, H>,
+    writer: &mut W,
+) -> Result<(), Ended> {
+    let mut is_busy = true;
+    for _ in 0..words.turns {
+        if !is_busy && !sources.typed.is_ready(member.waiting()) {
+            rest(member, &mut sources.wire)?;
+        }
+        sources.typed.press(member)?;
+        let ran = member.turn(&mut sources.wire)?;
+        release_all(member, words.seen, writer)?;
+        is_busy = ran == Ran::More || ran == Ran::Full;
+    }
+    Ok(())
 }
 
-/// Runs one node for so many turns, over the record of its file. The bytes are its input, unless typed bytes come as datagrams.
-/// It ends at the node's first refusal.
+/// The node begins a ballot, if it is to, and has its turns.
+fn campaign_and_play<H: Clock, S: Store + Drop, W: ByteWriter>(
+    member: &mut Member<'_, S>,
+    words: &NodeWords<'_>,
+    sources: &mut Sources<'_, H>,
+    writer: &mut W,
+) -> Result<(), Ended> {
+    if words.campaigns {
+        member.campaign()?;
+    }
+    play(member, words, sources, writer)
+}
+
+/// Runs one node over a store.
+fn run_over<H: Clock, S: Store + Drop, W: ByteWriter>(
+    alloc: Global,
+    program: &Program,
+    config: Config,
+    store: S,
+    words: &NodeWords<'_>,
+    sources: &mut Sources<'_, H>,
+    writer: &mut W,
+) -> Result<(), Ended> {
+    let mut member = Member::start(alloc, program, config, store)?;
+    campaign_and_play(&mut member, words, sources, writer)
+}
+
+/// Runs one node for so many turns, over the record of its file. It types the text, unless typed bytes come as datagrams. It ends at the
+/// node's first refusal.
 pub fn node<H: Files + Net + Clock + AllocGlobal + Copy + Drop, W: Write>(
     rt: &H,
     program: &Program,
     config: Config,
     words: &NodeWords<'_>,
-    input: Vec<u8>,
+    text: &[u8],
     writer: &mut W,
 ) -> Result<(), Ended> {
-    let watch = Watch::new(rt)?;
-    let mut typed = typed_of(rt, words, input, &watch)?;
-    let mut wire = own_wire(rt, words, watch)?;
+    let mut sources = Sources::open(rt, words, text)?;
     let store = FileStore::new(*rt, words.record, config.me())?;
-    let mut member = Member::start(rt.alloc(), program, config, store)?;
-    if words.campaigns {
-        member.campaign()?;
-    }
     let mut writer = CountingWriter::new(writer);
-    play(&mut member, &mut wire, &mut typed, words, &mut writer)
+    run_over(
+        rt.alloc(),
+        program,
+        config,
+        store,
+        words,
+        &mut sources,
+        &mut writer,
+    )
 }

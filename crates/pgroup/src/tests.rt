@@ -17,7 +17,7 @@ use crate::command::command;
 use pcode_file::CodeFile;
 use pcode_machine::{End, Machine, Turn};
 use pcode_ops::Program;
-use segments::PRINTS_A;
+use segments::{PRINTS_A, READS};
 use std::alloc::{AllocError, Global};
 use std::io::{self, ErrorKind, Read, Write};
 use std::rt::Runtime;
@@ -45,6 +45,15 @@ fn code_file(alloc: Global, segment: &[u8]) -> Result<Vec<u8>, AllocError> {
         file.push(0)?;
     }
     Ok(file)
+}
+
+/// The program that reads bytes and writes each of them.
+fn reading_program(alloc: Global) -> Result<Program, Fail> {
+    let bytes = code_file(alloc, &READS)?;
+    let file = CodeFile::read(alloc, bytes.as_slice())
+        .ok()
+        .ok_or("a file")?;
+    Ok(Program::check(alloc, file).ok().ok_or("a program")?)
 }
 
 /// What a command did.

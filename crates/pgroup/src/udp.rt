@@ -1,15 +1,14 @@
 //! UDP sockets as wires.
-ghost use Rattle.std.specs.Prelude.{◌≡◌, ◌≤◌, length, IfSome, None};
+ghost use Rattle.std.specs.Prelude.{◌≡◌, ◌≤◌, length, IfSome};
 
 use crate::ended::Ended;
 use group_wire::Wire;
 use mio::net::UdpSocket;
 use mio::{Events, Interest, Poll, Token};
-use paxos_msg::{BodyView, Group, decode};
 use std::net::{Net, SocketAddr};
 use std::time::{Clock, Duration, Instant};
 
-/// How long the receives of a turn wait in all at most, in milliseconds.
+/// How long a node waits between two turns at most, in milliseconds.
 const WAIT: u64 = 10;
 
 /// A socket at this address, whose calls never wait.
@@ -72,38 +71,24 @@ impl Watch {
     }
 }
 
-/// Which datagrams end the waiting of a turn.
-#[derive(Clone, Copy, Debug, PartialEq, Eq)]
-pub enum Rousing {
-    /// All.
-    All,
-    /// Those by which a place may become known or a ballot may come to lead: Accepted, Tell and Promise. What the others ask for is
-    /// done when they are heard. If they ended the waiting, each tick's Ask would bring forth ticks of the other nodes, without end.
-    News,
-}
-
-/// A node's socket, and the addresses of all nodes in order.
+/// A node's socket, and the addresses of all nodes in order. Its receives don't wait; the node waits between its turns.
 #[derive(Drop)]
 pub struct UdpWire<'a, H> {
     clock: &'a H,
     socket: UdpSocket,
     watch: Watch,
     addresses: &'a [SocketAddr],
-    group: Group,
-    rousing: Rousing,
-    /// Until when receives wait, if they wait at all.
+    /// Until when it is waited for a datagram.
     until: Option<Instant>,
 }
 
 impl<'a, H: Clock> UdpWire<'a, H> {
-    /// The wire of a node with this socket. Typed bytes end its waiting, where the watch has a socket for them.
+    /// The wire of a node with this socket. Typed bytes end its waiting too, where the watch has a socket for them.
     pub fn new(
         clock: &'a H,
         mut socket: UdpSocket,
         watch: Watch,
         addresses: &'a [SocketAddr],
-        group: Group,
-        rousing: Rousing,
     ) -> Result<UdpWire<'a, H>, Ended> {
         watch.add(&mut socket, OWN)?;
         Ok(UdpWire {
@@ -111,55 +96,31 @@ impl<'a, H: Clock> UdpWire<'a, H> {
             socket,
             watch,
             addresses,
-            group,
-            rousing,
             until: None,
         })
     }
 
-    /// Says whether the receives of the next turn may wait, until there is something to be done: at most 10 milliseconds in all.
-    pub fn let_wait(&mut self, may_wait: bool) {
-        self.until = if may_wait { self.end_of_wait() } else { None };
+    /// Begins a time of waiting: 10 milliseconds in all.
+    pub fn begin_wait(&mut self) {
+        self.until = match Instant::now(self.clock) {
+            Ok(now) => now.checked_add(Duration::from_millis(WAIT)),
+            Err(_) => None,
+        };
     }
 
-    /// 10 milliseconds from now.
-    fn end_of_wait(&self) -> Option<Instant> {
-        Instant::now(self.clock)
-            .ok()?
-            .checked_add(Duration::from_millis(WAIT))
-    }
-
-    /// How long a receive may still wait.
+    /// How long it may still be waited.
     fn left(&self) -> Option<Duration> {
         let now = Instant::now(self.clock).ok()?;
         self.until?.checked_duration_since(now)
     }
 
-    /// Whether a datagram ends the waiting.
-    fn rouses(&self, bytes: &[u8]) -> bool {
-        if self.rousing == Rousing::All {
-            return true;
+    /// Waits for a datagram, where all that were there have been received. Whether there may be one: not where the time is over, or where
+    /// bytes were typed.
+    pub fn wait(&mut self) -> bool {
+        match self.left() {
+            Some(left) => !self.watch.wait(left),
+            None => false,
         }
-        match decode(bytes, self.group) {
-            Ok(view) => {
-                matches!(
-                    view.body,
-                    BodyView::Promise { .. } | BodyView::Accepted { .. } | BodyView::Tell { .. }
-                )
-            }
-            Err(_) => false,
-        }
-    }
-
-    /// The next datagram, if one is there.
-    fn take(&mut self, buffer: &mut [u8]) -> Option<usize>
-        ensures within { IfSome result (λ count. count ≤ length buffer.new) }
-    {
-        let count = receive_from(&self.socket, buffer)?;
-        if self.until.is_some() && self.rouses(&buffer[..count]) {
-            self.until = None;
-        }
-        Some(count)
     }
 }
 
@@ -180,13 +141,6 @@ impl<H: Clock> Wire for UdpWire<'_, H> {
     }
 
     fn receive(&mut self, buffer: &mut [u8]) -> Option<usize> {
-        if let Some(count) = self.take(buffer) {
-            return Some(count);
-        }
-        let left = self.left()?;
-        if self.watch.wait(left) {
-            self.until = None;
-        }
-        self.take(buffer)
+        receive_from(&self.socket, buffer)
     }
 }

@@ -1,10 +1,8 @@
 //! A stop at each save: a script in which twelve saves are made, and each of them fails once with the old record and once with the
 //! changed one. The group goes on from there.
-use super::code_file;
-use super::segments::READS;
+use super::reading_program;
 use group_node::To;
 use group_world::{Act, Done, Event, Outcome, World, WorldFault};
-use pcode_file::CodeFile;
 use pcode_ops::Program;
 use std::alloc::Global;
 use std::marker::Model;
@@ -265,18 +263,9 @@ fn stops_at(
     Ok(group.shows(shown))
 }
 
-/// The program that reads.
-fn program(alloc: Global) -> Result<Program, Fail> {
-    let bytes = code_file(alloc, &READS)?;
-    let file = CodeFile::read(alloc, bytes.as_slice())
-        .ok()
-        .ok_or("a file")?;
-    Ok(Program::check(alloc, file).ok().ok_or("a program")?)
-}
-
 #[test]
 fn each_save_fails(rt: HostRuntime) -> Result<(), Fail> {
-    let program = program(rt.alloc())?;
+    let program = reading_program(rt.alloc())?;
     for (event, shown) in SAVES {
         for save in [Outcome::FailedOld, Outcome::FailedNew] {
             let stops = stops_at(rt.alloc(), &program, event, save, shown)?;
@@ -289,7 +278,7 @@ fn each_save_fails(rt: HostRuntime) -> Result<(), Fail> {
 /// The script itself: twelve of its events save, and no others.
 #[test]
 fn no_save_fails(rt: HostRuntime) -> Result<(), Fail> {
-    let program = program(rt.alloc())?;
+    let program = reading_program(rt.alloc())?;
     let mut group = Watched::new(rt.alloc(), &program)?;
     group.begin(EVENTS.len())?;
     assert!(rt; group.shows(b"\x48\x51"));

@@ -1,14 +1,12 @@
 //! Nodes on wires in memory, of which one send or one receive fails.
 ghost use Rattle.std.specs.Prelude.{◌≡◌, ◌≤◌, length, IfSome};
 
-use super::code_file;
-use super::segments::READS;
+use super::reading_program;
 use crate::member::Member;
 use group_node::Config;
 use group_wire::Wire;
 use paxos_acceptor::MemoryStore;
 use paxos_msg::Record;
-use pcode_file::CodeFile;
 use pcode_ops::Program;
 use std::alloc::{AllocError, Global};
 use std::collections::VecDeque;
@@ -154,7 +152,8 @@ fn seats<'a>(
     }
     if let Some(first) = seats.as_mut_slice().first_mut() {
         first.member.campaign()?;
-        first.member.press_all(b"\x48\x51")?;
+        let mut typed: &[u8] = b"\x48\x51";
+        first.member.press_some(&mut typed)?;
     }
     Ok(seats)
 }
@@ -184,19 +183,10 @@ fn shows_all(alloc: Global, program: &Program, failure: Failure) -> Result<bool,
     Ok(seats.iter().all(|seat| seat.console.as_slice() == shown))
 }
 
-/// The program that reads.
-fn program(alloc: Global) -> Result<Program, Fail> {
-    let bytes = code_file(alloc, &READS)?;
-    let file = CodeFile::read(alloc, bytes.as_slice())
-        .ok()
-        .ok_or("a file")?;
-    Ok(Program::check(alloc, file).ok().ok_or("a program")?)
-}
-
 /// Where nothing fails, all consoles show all.
 #[test]
 fn no_wire_fails(rt: HostRuntime) -> Result<(), Fail> {
-    let program = program(rt.alloc())?;
+    let program = reading_program(rt.alloc())?;
     let failure = Failure {
         send: 0,
         receive: 0,
@@ -208,7 +198,7 @@ fn no_wire_fails(rt: HostRuntime) -> Result<(), Fail> {
 /// One send fails.
 #[test]
 fn a_send_fails(rt: HostRuntime) -> Result<(), Fail> {
-    let program = program(rt.alloc())?;
+    let program = reading_program(rt.alloc())?;
     for send in 1..=FAILURES {
         shows_all(rt.alloc(), &program, Failure { send, receive: 0 })?;
     }
@@ -218,7 +208,7 @@ fn a_send_fails(rt: HostRuntime) -> Result<(), Fail> {
 /// One receive gives nothing.
 #[test]
 fn a_receive_gives_nothing(rt: HostRuntime) -> Result<(), Fail> {
-    let program = program(rt.alloc())?;
+    let program = reading_program(rt.alloc())?;
     for receive in 1..=FAILURES {
         shows_all(rt.alloc(), &program, Failure { send: 0, receive })?;
     }

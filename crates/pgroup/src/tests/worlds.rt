@@ -1,21 +1,9 @@
 //! Lists of events, by `run` of a world.
-use super::code_file;
+use super::reading_program;
 use super::scripts::text_of;
-use super::segments::READS;
 use group_world::{Event, Line, RunFault, WorldFault, read_script, run};
-use pcode_file::CodeFile;
-use pcode_ops::Program;
 use std::alloc::Global;
 use std::test::Fail;
-
-/// The program that reads.
-fn program(alloc: Global) -> Result<Program, Fail> {
-    let bytes = code_file(alloc, &READS)?;
-    let file = CodeFile::read(alloc, bytes.as_slice())
-        .ok()
-        .ok_or("a file")?;
-    Ok(Program::check(alloc, file).ok().ok_or("a program")?)
-}
 
 /// The events of lines that are parted by commas. None of them is a `settle` or a `show`.
 fn events_of(alloc: Global, lines: &str) -> Result<Vec<Event>, Fail> {
@@ -40,7 +28,7 @@ fn ends_at(
     event: usize,
     fault: WorldFault,
 ) -> Result<bool, Fail> {
-    let program = program(alloc)?;
+    let program = reading_program(alloc)?;
     let events = events_of(alloc, lines)?;
     match run(alloc, &program, size, 7, events.as_slice()) {
         Ok(_) => Ok(false),
@@ -79,7 +67,7 @@ const STARTS: &str =
 
 #[test]
 fn starts_are_counted(rt: HostRuntime) -> Result<(), Fail> {
-    let program = program(rt.alloc())?;
+    let program = reading_program(rt.alloc())?;
     let events = events_of(rt.alloc(), STARTS)?;
     let world = run(rt.alloc(), &program, 3, 7, events.as_slice())?;
     assert_eq!(rt; world.record(2).map(|record| record.starts), Some(4));

@@ -1,0 +1,46 @@
+//! Bytes that are typed at a node.
+ghost use Rattle.std.specs.Prelude.{◌≡◌, ◌≢◌, ◌↔◌, ◌⊎◌, ℕ, List, [], ◌∷◌, ◌++◌, true, false, length, if◌then◌else◌, IfErr, IfOk, IsErrOf, OnErr, OnOk};
+ghost use Rattle.group_node.specs.Node.{next_serial};
+ghost use Rattle.group_wire.specs.Typing.{after_typed};
+
+use group_node::{Node, NodeFault};
+use paxos_acceptor::Store;
+
+/// Types a byte at a node, if there is room for its key. Whether there was: if not, nothing has changed.
+fn press<S: Store>(node: &mut Node<'_, S>, byte: u8) -> Result<bool, NodeFault>
+    ensures typed { IfOk result (λ has_room. node.new.protocol.rules ≡ (if has_room then after_typed node.old.protocol.rules (byte ∷ []) else node.old.protocol.rules)) }
+    ensures full { IfOk result (λ has_room. has_room ≡ false → length node.old.protocol.rules.waiting ≡ 256) }
+    ensures err { IfErr result (λ _. node.new.protocol.rules ≡ node.old.protocol.rules) }
+    ensures others { IfErr result (λ e. (e ≡ NodeFault.Stopped) ⊎ (e ≡ NodeFault.SerialSpent)) }
+    ensures stopped { IsErrOf result NodeFault.Stopped ↔ (node.old.protocol.is_stopped ≡ true) }
+    ensures spent { IsErrOf result NodeFault.SerialSpent → next_serial node.old.protocol.rules ≡ 4294967296 }
+    ensures rest { (node.new.protocol.store ≡ node.old.protocol.store) × (node.new.protocol.is_stopped ≡ node.old.protocol.is_stopped) × (node.new.progress ≡ node.old.progress) }
+{
+    match node.typed(byte) {
+        Ok(_) => Ok(true),
+        Err(NodeFault::Busy) => Ok(false),
+        Err(fault) => Err(fault),
+    }
+}
+
+/// Types bytes at a node, as many as there is room for, and takes them off the front: all of them, or so many that 256 keys wait.
+///
+/// `Stopped` where a save has failed before, and `SerialSpent` after the serial 4,294,967,295: the byte that was refused is the first that is
+/// left. Without bytes there is no refusal.
+pub fn press_some<S: Store>(node: &mut Node<'_, S>, bytes: &mut &[u8]) -> Result<(), NodeFault>
+    ensures typed { (typed : List ℕ) × (bytes.old.now ≡ typed ++ bytes.new.now) × (node.new.protocol.rules ≡ after_typed node.old.protocol.rules typed) }
+    ensures full { OnOk result ((bytes.new.now ≡ []) ⊎ (length node.new.protocol.rules.waiting ≡ 256)) }
+    ensures err { OnErr result (bytes.new.now ≢ []) }
+    ensures others { IfErr result (λ e. (e ≡ NodeFault.Stopped) ⊎ (e ≡ NodeFault.SerialSpent)) }
+    ensures stopped { IsErrOf result NodeFault.Stopped ↔ ((node.old.protocol.is_stopped ≡ true) × (bytes.old.now ≢ [])) }
+    ensures spent { IsErrOf result NodeFault.SerialSpent → next_serial node.new.protocol.rules ≡ 4294967296 }
+    ensures rest { (node.new.protocol.store ≡ node.old.protocol.store) × (node.new.protocol.is_stopped ≡ node.old.protocol.is_stopped) × (node.new.progress ≡ node.old.progress) }
+{
+    while let Some((byte, others)) = bytes.split_first() {
+        if !press(node, *byte)? {
+            return Ok(());
+        }
+        *bytes = others;
+    }
+    Ok(())
+}
