@@ -21,18 +21,24 @@ char = 1
         CSP 0
 exit:   RNP 0
 
-proc 3 digits level 1 params 1 data 0
+proc 3 print level 1 params 1 data 0
 n = 1
-        SLDL n                  ; IF N DIV 10 <> 0 THEN DIGITS(N DIV 10)
+        SLDL n                  ; IF N DIV 10 <> 0 THEN PRINT(N DIV 10)
         SLDC 10
         DVI
         SLDC 0
-        NEQI
-        FJP digit
+        NFJ first
         SLDL n
         SLDC 10
         DVI
-        CGP digits
+        CGP print
+        UJP digit
+first:  SLDL n                  ; ELSE IF N < 0 THEN PUT('-')
+        SLDC 0
+        LESI
+        FJP digit
+        SLDC '-'
+        CGP put
 digit:  SLDL n                  ; PUT(CHR(ABS(N MOD 10) + ORD('0')))
         SLDC 10
         MODI
@@ -161,7 +167,40 @@ end:    SLDL r                  ; APPLY := R
         STL apply
 exit:   RNP 1
 
-proc 9 factor level 4 params 2 data 2
+proc 7 opposite level 2 params 2 data 1
+opposite = 1
+n = 3
+        SLDC 0                  ; N := 0
+        STL n
+while:  LOD 1 c                 ; WHILE (C >= '0') AND (C <= '9') DO
+        SLDC '0'
+        GEQI
+        LOD 1 c
+        SLDC '9'
+        LEQI
+        LAND
+        FJP result
+        SLDL n                  ; N := APPLY(APPLY(N, '*', 10), '-', ORD(C) - ORD('0'))
+        SLDC '*'
+        SLDC 10
+        SLDC 0
+        SLDC 0
+        CIP apply
+        SLDC '-'
+        LOD 1 c
+        SLDC '0'
+        SBI
+        SLDC 0
+        SLDC 0
+        CIP apply
+        STL n
+        CIP next                ; NEXT
+        UJP while
+result: SLDL n                  ; OPPOSITE := N
+        STL opposite
+exit:   RNP 1
+
+proc 10 factor level 4 params 2 data 2
 factor = 1
 n = 3
 found = 4
@@ -189,7 +228,20 @@ open:   SLDC 1
 minus:  SLDC 1                  ; '-': FOUND := TRUE
         STL found
         CIP next                ; NEXT
-        SLDC 0                  ; N := APPLY(0, '-', FACTOR)
+        LOD 3 c                 ; IF (C >= '0') AND (C <= '9') THEN N := OPPOSITE
+        SLDC '0'
+        GEQI
+        LOD 3 c
+        SLDC '9'
+        LEQI
+        LAND
+        FJP else
+        SLDC 0
+        SLDC 0
+        CIP opposite
+        STL n
+        UJP end
+else:   SLDC 0                  ; ELSE N := APPLY(0, '-', FACTOR)
         SLDC '-'
         SLDC 0
         SLDC 0
@@ -201,30 +253,16 @@ minus:  SLDC 1                  ; '-': FOUND := TRUE
         UJP end
 digit:  SLDC 1                  ; '0' to '9': FOUND := TRUE
         STL found
-while:  LOD 3 c                 ; WHILE (C >= '0') AND (C <= '9') DO
-        SLDC '0'
-        GEQI
-        LOD 3 c
-        SLDC '9'
-        LEQI
-        LAND
-        FJP end
-        SLDL n                  ; N := APPLY(APPLY(N, '*', 10), '+', ORD(C) - ORD('0'))
-        SLDC '*'
-        SLDC 10
+        SLDC 0                  ; N := APPLY(0, '-', OPPOSITE)
+        SLDC '-'
         SLDC 0
         SLDC 0
-        CIP apply
-        SLDC '+'
-        LOD 3 c
-        SLDC '0'
-        SBI
+        CIP opposite
         SLDC 0
         SLDC 0
         CIP apply
         STL n
-        CIP next                ; NEXT
-        UJP while
+        UJP end
 ;       each character: (  ) * + , -    . / 0     1     2     3     4     5     6     7     8     9
 case:   XJP '(' '9' end paren - - - - minus - - digit digit digit digit digit digit digit digit digit digit
 end:    SLDL found              ; IF NOT FOUND THEN BAD := TRUE
@@ -236,7 +274,7 @@ result: SLDL n                  ; FACTOR := N
         STL factor
 exit:   RNP 1
 
-proc 8 term level 3 params 2 data 2
+proc 9 term level 3 params 2 data 2
 term = 1
 product = 3
 sign = 4
@@ -273,7 +311,7 @@ result: SLDL product            ; TERM := PRODUCT
         STL term
 exit:   RNP 1
 
-proc 7 expression level 2 params 2 data 2
+proc 8 expression level 2 params 2 data 2
 expression = 1
 sum = 3
 sign = 4
@@ -330,14 +368,8 @@ print:  SLDL bad                ; IF BAD THEN PUT('?')
         SLDC '?'
         CGP put
         UJP line
-number: SLDL result             ; IF RESULT < 0 THEN PUT('-')
-        SLDC 0
-        LESI
-        FJP digits
-        SLDC '-'
-        CGP put
-digits: SLDL result             ; DIGITS(RESULT)
-        CGP digits
+number: SLDL result             ; ELSE PRINT(RESULT)
+        CGP print
 line:   SLDC lf                 ; PUT(CHR(LF))
         CGP put
         CLP next                ; NEXT

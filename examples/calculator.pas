@@ -1,9 +1,9 @@
 PROGRAM CALCULATOR;
 { Reads lines such as 2*(3+4)-10%3 and prints what each comes to, or ? where it
   is no expression, divides by 0, or leaves -32768 to 32767. % is the remainder.
-  A line that begins with a full stop ends the program. Unit 2 is the console
-  without echo. A line ends in LF (10), as terminals have it; the p-System had
-  CR (13). }
+  A - directly in front of a number belongs to it, so that -32768 is one. A line
+  that begins with a full stop ends the program. Unit 2 is the console without
+  echo. A line ends in LF (10), as terminals have it; the p-System had CR (13). }
 CONST
   CONSOLE = 1;
   SYSTERM = 2;
@@ -14,9 +14,10 @@ BEGIN
   UNITWRITE(CONSOLE, C, 1)
 END;
 
-PROCEDURE DIGITS(N: INTEGER);  { those of -32768 too, which has no opposite }
+PROCEDURE PRINT(N: INTEGER);   { -32768 too, which has no opposite }
 BEGIN
-  IF N DIV 10 <> 0 THEN DIGITS(N DIV 10);
+  IF N DIV 10 <> 0 THEN PRINT(N DIV 10)
+  ELSE IF N < 0 THEN PUT('-');
   PUT(CHR(ABS(N MOD 10) + ORD('0')))
 END;
 
@@ -58,6 +59,19 @@ VAR
     APPLY := R
   END;
 
+  FUNCTION OPPOSITE: INTEGER;  { of the number that begins here: 32768 does not fit }
+  VAR
+    N: INTEGER;
+  BEGIN
+    N := 0;
+    WHILE (C >= '0') AND (C <= '9') DO
+      BEGIN
+        N := APPLY(APPLY(N, '*', 10), '-', ORD(C) - ORD('0'));
+        NEXT
+      END;
+    OPPOSITE := N
+  END;
+
   FUNCTION EXPRESSION: INTEGER;
   VAR
     SUM: INTEGER;
@@ -85,16 +99,13 @@ VAR
           '-': BEGIN
                  FOUND := TRUE;
                  NEXT;
-                 N := APPLY(0, '-', FACTOR)
+                 IF (C >= '0') AND (C <= '9') THEN N := OPPOSITE
+                 ELSE N := APPLY(0, '-', FACTOR)
                END;
           '0', '1', '2', '3', '4', '5', '6', '7', '8', '9':
                BEGIN
                  FOUND := TRUE;
-                 WHILE (C >= '0') AND (C <= '9') DO
-                   BEGIN
-                     N := APPLY(APPLY(N, '*', 10), '+', ORD(C) - ORD('0'));
-                     NEXT
-                   END
+                 N := APPLY(0, '-', OPPOSITE)
                END
         END;
         IF NOT FOUND THEN BAD := TRUE;
@@ -134,12 +145,7 @@ BEGIN { CALCULATE }
           BAD := TRUE;
           NEXT
         END;
-      IF BAD THEN PUT('?')
-      ELSE
-        BEGIN
-          IF RESULT < 0 THEN PUT('-');
-          DIGITS(RESULT)
-        END;
+      IF BAD THEN PUT('?') ELSE PRINT(RESULT);
       PUT(CHR(LF));
       NEXT
     END

@@ -11,7 +11,8 @@ most = 50
 items = 3                       ; of the main frame, 100 words: VALUE and PLACE of each item
 line = 103                      ; 40 words
 length = 143
-count = 144
+count = 144                     ; of the items
+seen = 145                      ; numbers, those that do not fit among them
 
 proc 2 put level 1 params 1 data 0
 c = 1
@@ -27,26 +28,26 @@ exit:   RNP 0
 
 proc 3 print level 1 params 1 data 0
 n = 1
-        SLDL n                  ; IF N < 0 THEN
+        SLDL n                  ; IF N DIV 10 <> 0 THEN PRINT(N DIV 10)
+        SLDC 10
+        DVI
         SLDC 0
-        LESI
-        FJP large
-        SLDC '-'
-        CGP put
-        SLDL n                  ; N := -N
-        NGI
-        STL n
-large:  SLDL n                  ; IF N > 9 THEN PRINT(N DIV 10)
-        SLDC 9
-        GRTI
-        FJP digit
+        NFJ first
         SLDL n
         SLDC 10
         DVI
         CGP print
-digit:  SLDL n                  ; PUT(CHR(N MOD 10 + ORD('0')))
+        UJP digit
+first:  SLDL n                  ; ELSE IF N < 0 THEN PUT('-')
+        SLDC 0
+        LESI
+        FJP digit
+        SLDC '-'
+        CGP put
+digit:  SLDL n                  ; PUT(CHR(ABS(N MOD 10) + ORD('0')))
         SLDC 10
         MODI
+        ABI
         SLDC '0'
         ADI
         CGP put
@@ -98,7 +99,11 @@ value = 1                       ; FRESH, whose word 0 is pushed last
 place = 2
 i = 3
 going = 4
-        SLDL place              ; I := FRESH.PLACE
+        LDO count               ; COUNT := COUNT + 1
+        SLDC 1
+        ADI
+        SRO count
+        LDO count               ; I := COUNT
         STL i
         SLDL i                  ; GOING := I > 1
         SLDC 1
@@ -164,11 +169,13 @@ found:  LAO items               ; ITEMS[I] := FRESH
         STM 2
 exit:   RNP 0
 
-proc 7 takeline level 1 params 0 data 4
+proc 7 takeline level 1 params 0 data 6
 at = 1
 negative = 2
 value = 3                       ; of FRESH
 place = 4
+fits = 5
+digit = 6
         SLDC 0                  ; AT := 0
         STL at
 while:  SLDL at                 ; WHILE AT < LENGTH DO
@@ -196,6 +203,8 @@ number: LAO line                ; IF ISDIGIT(LINE[AT]) THEN
         FJP else
         SLDC 0                  ; FRESH.VALUE := 0
         STL value
+        SLDC 1                  ; FITS := TRUE
+        STL fits
 digits: LAO line                ; WHILE ISDIGIT(LINE[AT]) DO
         SLDL at
         LDB
@@ -203,35 +212,72 @@ digits: LAO line                ; WHILE ISDIGIT(LINE[AT]) DO
         SLDC 0
         CGP isdigit
         FJP sign
-        SLDL value              ; FRESH.VALUE := FRESH.VALUE * 10 + (ORD(LINE[AT]) - ORD('0'))
-        SLDC 10
-        MPI
-        LAO line
+        LAO line                ; DIGIT := ORD(LINE[AT]) - ORD('0')
         SLDL at
         LDB
         SLDC '0'
         SBI
-        ADI
+        STL digit
+        SLDL value              ; IF FRESH.VALUE < (DIGIT - 32767 - 1) DIV 10 THEN FITS := FALSE
+        SLDL digit
+        LDCI 32767
+        SBI
+        SLDC 1
+        SBI
+        SLDC 10
+        DVI
+        LESI
+        FJP add
+        SLDC 0
+        STL fits
+        UJP next
+add:    SLDL value              ; ELSE FRESH.VALUE := FRESH.VALUE * 10 - DIGIT
+        SLDC 10
+        MPI
+        SLDL digit
+        SBI
         STL value
-        SLDL at                 ; AT := AT + 1
+next:   SLDL at                 ; AT := AT + 1
         SLDC 1
         ADI
         STL at
         UJP digits
-sign:   SLDL negative           ; IF NEGATIVE THEN FRESH.VALUE := -FRESH.VALUE
+sign:   SLDL negative           ; IF NOT NEGATIVE THEN
+        LNOT
         FJP fresh
-        SLDL value
+        SLDL value              ; IF FRESH.VALUE < -32767 THEN FITS := FALSE
+        LDCI -32767
+        LESI
+        FJP turn
+        SLDC 0
+        STL fits
+        UJP fresh
+turn:   SLDL value              ; ELSE FRESH.VALUE := -FRESH.VALUE
         NGI
         STL value
-fresh:  LDO count               ; COUNT := COUNT + 1
+fresh:  LDO seen                ; SEEN := SEEN + 1
         SLDC 1
         ADI
-        SRO count
-        LDO count               ; FRESH.PLACE := COUNT
+        SRO seen
+        LDO seen                ; FRESH.PLACE := SEEN
+        SLDC 1
+        SLDC most
+        CHK
         STL place
-        LLA value               ; INSERT(FRESH)
+        SLDL fits               ; IF FITS THEN INSERT(FRESH)
+        FJP large
+        LLA value
         LDM 2
         CGP insert
+        UJP while
+large:  SLDC '?'                ; ELSE PUT('?'); PUT(' '); PRINT(SEEN); PUT(CHR(LF))
+        CGP put
+        SLDC ' '
+        CGP put
+        LDO seen
+        CGP print
+        SLDC lf
+        CGP put
         UJP while
 else:   SLDL negative           ; ELSE IF NOT NEGATIVE THEN AT := AT + 1
         LNOT
@@ -243,10 +289,12 @@ else:   SLDL negative           ; ELSE IF NOT NEGATIVE THEN AT := AT + 1
         UJP while
 exit:   RNP 0
 
-proc 1 sorter level 0 params 2 data 143
-i = 145
+proc 1 sorter level 0 params 2 data 144
+i = 146
         SLDC 0                  ; COUNT := 0
         SRO count
+        SLDC 0                  ; SEEN := 0
+        SRO seen
         CGP readline
 while:  LDO length              ; WHILE LENGTH <> 1 DO
         SLDC 1

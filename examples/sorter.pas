@@ -1,35 +1,35 @@
 PROGRAM SORTER;
 { Reads lines of numbers up to an empty line, and prints the numbers in
   ascending order, one a line, each with its place among those that were read.
-  Unit 2 is the console without echo. A line ends in LF (10), as terminals
-  have it; the p-System had CR (13). Numbers go from -32767 to 32767. }
+  Numbers go from -32768 to 32767; one outside is told when its line is read,
+  by ? and its place, and is not sorted. Unit 2 is the console without echo. A
+  line ends in LF (10), as terminals have it; the p-System had CR (13). }
 CONST
   CONSOLE = 1;
   SYSTERM = 2;
   PRINTER = 6;
   LF = 10;
-  MOST = 50;                   { numbers }
+  MOST = 50;                   { numbers, those outside among them }
 TYPE
-  ITEM = RECORD VALUE, PLACE: INTEGER END;
+  ITEM = RECORD VALUE: INTEGER; PLACE: 1..MOST END;
 VAR
   ITEMS: ARRAY[1..MOST] OF ITEM;
   LINE: PACKED ARRAY[0..79] OF CHAR;
-  LENGTH, COUNT, I: INTEGER;
+  LENGTH: INTEGER;
+  COUNT: INTEGER;              { of ITEMS }
+  SEEN: INTEGER;               { numbers, those outside among them }
+  I: INTEGER;
 
 PROCEDURE PUT(C: CHAR);
 BEGIN
   UNITWRITE(CONSOLE, C, 1)
 END;
 
-PROCEDURE PRINT(N: INTEGER);
+PROCEDURE PRINT(N: INTEGER);   { -32768 too, which has no opposite }
 BEGIN
-  IF N < 0 THEN
-    BEGIN
-      PUT('-');
-      N := -N
-    END;
-  IF N > 9 THEN PRINT(N DIV 10);
-  PUT(CHR(N MOD 10 + ORD('0')))
+  IF N DIV 10 <> 0 THEN PRINT(N DIV 10)
+  ELSE IF N < 0 THEN PUT('-');
+  PUT(CHR(ABS(N MOD 10) + ORD('0')))
 END;
 
 PROCEDURE READLINE;            { its LF is counted }
@@ -51,7 +51,8 @@ VAR
   I: INTEGER;
   GOING: BOOLEAN;
 BEGIN
-  I := FRESH.PLACE;
+  COUNT := COUNT + 1;
+  I := COUNT;
   GOING := I > 1;
   WHILE GOING DO
     IF ITEMS[I - 1].VALUE > FRESH.VALUE THEN
@@ -69,6 +70,8 @@ VAR
   AT: INTEGER;
   NEGATIVE: BOOLEAN;
   FRESH: ITEM;
+  FITS: BOOLEAN;
+  DIGIT: INTEGER;
 BEGIN
   AT := 0;
   WHILE AT < LENGTH DO
@@ -77,16 +80,25 @@ BEGIN
       IF NEGATIVE THEN AT := AT + 1;
       IF ISDIGIT(LINE[AT]) THEN
         BEGIN
-          FRESH.VALUE := 0;
+          FRESH.VALUE := 0;    { below 0 as far as the sign, since 32768 does not fit }
+          FITS := TRUE;
           WHILE ISDIGIT(LINE[AT]) DO
             BEGIN
-              FRESH.VALUE := FRESH.VALUE * 10 + (ORD(LINE[AT]) - ORD('0'));
+              DIGIT := ORD(LINE[AT]) - ORD('0');
+              IF FRESH.VALUE < (DIGIT - 32767 - 1) DIV 10 THEN FITS := FALSE
+              ELSE FRESH.VALUE := FRESH.VALUE * 10 - DIGIT;
               AT := AT + 1
             END;
-          IF NEGATIVE THEN FRESH.VALUE := -FRESH.VALUE;
-          COUNT := COUNT + 1;
-          FRESH.PLACE := COUNT;
-          INSERT(FRESH)
+          IF NOT NEGATIVE THEN
+            IF FRESH.VALUE < -32767 THEN FITS := FALSE
+            ELSE FRESH.VALUE := -FRESH.VALUE;
+          SEEN := SEEN + 1;
+          FRESH.PLACE := SEEN;
+          IF FITS THEN INSERT(FRESH)
+          ELSE
+            BEGIN
+              PUT('?'); PUT(' '); PRINT(SEEN); PUT(CHR(LF))
+            END
         END
       ELSE IF NOT NEGATIVE THEN AT := AT + 1
     END
@@ -94,6 +106,7 @@ END;
 
 BEGIN
   COUNT := 0;
+  SEEN := 0;
   READLINE;
   WHILE LENGTH <> 1 DO
     BEGIN
