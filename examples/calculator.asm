@@ -3,50 +3,10 @@
 ; more words behind them, of which the one at offset 1 is its result.
 program CALCULAT segment 1
 
-console = 1
-systerm = 2
-lf = 10
+include numbers.inc
+
 c = 1                           ; of CALCULATE
 bad = 2
-
-proc 2 put level 1 params 1 data 0
-char = 1
-        SLDC console            ; UNITWRITE(CONSOLE, C, 1)
-        LLA char
-        SLDC 0
-        SLDC 1
-        SLDC 0
-        SLDC 0
-        CSP 6
-        CSP 0
-exit:   RNP 0
-
-proc 3 print level 1 params 1 data 0
-n = 1
-        SLDL n                  ; IF N DIV 10 <> 0 THEN PRINT(N DIV 10)
-        SLDC 10
-        DVI
-        SLDC 0
-        NFJ first
-        SLDL n
-        SLDC 10
-        DVI
-        CGP print
-        UJP digit
-first:  SLDL n                  ; ELSE IF N < 0 THEN PUT('-')
-        SLDC 0
-        LESI
-        FJP digit
-        SLDC '-'
-        CGP put
-digit:  SLDL n                  ; PUT(CHR(ABS(N MOD 10) + ORD('0')))
-        SLDC 10
-        MODI
-        ABI
-        SLDC '0'
-        ADI
-        CGP put
-exit:   RNP 0
 
 proc 5 next level 2 params 0 data 0
 repeat: SLDC systerm            ; UNITREAD(SYSTERM, C, 1)

@@ -1,41 +1,11 @@
 ; Prints the primes below 1000, one a line. sieve.pas says it in Pascal.
 program SIEVE segment 1
 
-console = 1
-lf = 10
+include numbers.inc
+
 last = 999
 root = 31
 struck = 4                      ; of the main frame, 998 words: STRUCK[2] to STRUCK[999]
-
-proc 2 put level 1 params 1 data 0
-c = 1
-        SLDC console            ; UNITWRITE(CONSOLE, C, 1)
-        LLA c
-        SLDC 0
-        SLDC 1
-        SLDC 0
-        SLDC 0
-        CSP 6
-        CSP 0
-exit:   RNP 0
-
-proc 3 print level 1 params 1 data 0
-n = 1
-        SLDL n                  ; IF N > 9 THEN PRINT(N DIV 10)
-        SLDC 9
-        GRTI
-        FJP digit
-        SLDL n
-        SLDC 10
-        DVI
-        CGP print
-digit:  SLDL n                  ; PUT(CHR(N MOD 10 + ORD('0')))
-        SLDC 10
-        MODI
-        SLDC '0'
-        ADI
-        CGP put
-exit:   RNP 0
 
 proc 4 strike level 1 params 1 data 1
 p = 1

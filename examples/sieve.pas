@@ -15,10 +15,11 @@ BEGIN
   UNITWRITE(CONSOLE, C, 1)
 END;
 
-PROCEDURE PRINT(N: INTEGER);
+PROCEDURE PRINT(N: INTEGER);   { -32768 too, which has no opposite }
 BEGIN
-  IF N > 9 THEN PRINT(N DIV 10);
-  PUT(CHR(N MOD 10 + ORD('0')))
+  IF N DIV 10 <> 0 THEN PRINT(N DIV 10)
+  ELSE IF N < 0 THEN PUT('-');
+  PUT(CHR(ABS(N MOD 10) + ORD('0')))
 END;
 
 PROCEDURE STRIKE(P: INTEGER);  { all multiples of P from its square on }

@@ -3,55 +3,15 @@
 ; more words behind them, of which the one at offset 1 is its result.
 program SORTER segment 1
 
-console = 1
-systerm = 2
+include numbers.inc
+
 printer = 6
-lf = 10
 most = 50
 items = 3                       ; of the main frame, 100 words: VALUE and PLACE of each item
 line = 103                      ; 40 words
 length = 143
 count = 144                     ; of the items
 seen = 145                      ; numbers, those that do not fit among them
-
-proc 2 put level 1 params 1 data 0
-c = 1
-        SLDC console            ; UNITWRITE(CONSOLE, C, 1)
-        LLA c
-        SLDC 0
-        SLDC 1
-        SLDC 0
-        SLDC 0
-        CSP 6
-        CSP 0
-exit:   RNP 0
-
-proc 3 print level 1 params 1 data 0
-n = 1
-        SLDL n                  ; IF N DIV 10 <> 0 THEN PRINT(N DIV 10)
-        SLDC 10
-        DVI
-        SLDC 0
-        NFJ first
-        SLDL n
-        SLDC 10
-        DVI
-        CGP print
-        UJP digit
-first:  SLDL n                  ; ELSE IF N < 0 THEN PUT('-')
-        SLDC 0
-        LESI
-        FJP digit
-        SLDC '-'
-        CGP put
-digit:  SLDL n                  ; PUT(CHR(ABS(N MOD 10) + ORD('0')))
-        SLDC 10
-        MODI
-        ABI
-        SLDC '0'
-        ADI
-        CGP put
-exit:   RNP 0
 
 proc 4 readline level 1 params 0 data 0
         SLDC 0                  ; LENGTH := 0
@@ -270,10 +230,7 @@ fresh:  LDO seen                ; SEEN := SEEN + 1
         LDM 2
         CGP insert
         UJP while
-large:  SLDC '?'                ; ELSE PUT('?'); PUT(' '); PRINT(SEEN); PUT(CHR(LF))
-        CGP put
-        SLDC ' '
-        CGP put
+large:  text CGP put "? "       ; ELSE PUT('?'); PUT(' '); PRINT(SEEN); PUT(CHR(LF))
         LDO seen
         CGP print
         SLDC lf
@@ -349,26 +306,5 @@ done:   SLDC printer            ; UNITWRITE(PRINTER, LINE, 1)
         SLDC 0
         NEQI
         FJP exit
-        SLDC 'N'
-        CGP put
-        SLDC 'O'
-        CGP put
-        SLDC ' '
-        CGP put
-        SLDC 'P'
-        CGP put
-        SLDC 'R'
-        CGP put
-        SLDC 'I'
-        CGP put
-        SLDC 'N'
-        CGP put
-        SLDC 'T'
-        CGP put
-        SLDC 'E'
-        CGP put
-        SLDC 'R'
-        CGP put
-        SLDC lf
-        CGP put
+        text CGP put "NO PRINTER" lf
 exit:   RBP 0

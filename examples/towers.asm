@@ -3,21 +3,9 @@
 ; more words behind them, of which the one at offset 1 is its result.
 program TOWERS segment 1
 
-console = 1
-lf = 10
-discs = 4
+include console.inc
 
-proc 2 put level 1 params 1 data 0
-c = 1
-        SLDC console            ; UNITWRITE(CONSOLE, C, 1)
-        LLA c
-        SLDC 0
-        SLDC 1
-        SLDC 0
-        SLDC 0
-        CSP 6
-        CSP 0
-exit:   RNP 0
+discs = 4
 
 proc 3 fewest level 1 params 3 data 0
 fewest = 1
@@ -88,10 +76,7 @@ moves = 5
         STL length
         LOD 1 moves             ; ADDNUMBER(MOVES)
         CLP addnumber
-        SLDC ':'
-        CLP add
-        SLDC ' '
-        CLP add
+        text CLP add ": "
         SLDL from               ; ADD(CHR(FROM + ORD('A')))
         SLDC 'A'
         ADI
@@ -226,16 +211,7 @@ moves = 5
         EQUI
         LAND
         FJP exit
-        SLDC 'D'
-        CGP put
-        SLDC 'O'
-        CGP put
-        SLDC 'N'
-        CGP put
-        SLDC 'E'
-        CGP put
-        SLDC lf
-        CGP put
+        text CGP put "DONE" lf
 exit:   RNP 0
 
 proc 1 towers level 0 params 2 data 0

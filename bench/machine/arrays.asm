@@ -3,36 +3,7 @@
 ; modulo 9973.
 program ARRAYS segment 1
 
-proc 2 put level 1 params 1 data 0
-c = 1
-        SLDC 1                  ; UNITWRITE(1, C, 1)
-        LLA c
-        SLDC 0
-        SLDC 1
-        SLDC 0
-        SLDC 0
-        CSP 6
-exit:   RNP 0
-
-proc 3 print level 1 params 1 data 0
-n = 1
-        SLDL n                  ; IF N DIV 10 <> 0 THEN PRINT(N DIV 10)
-        SLDC 10
-        DVI
-        SLDC 0
-        NFJ digit
-        SLDL n
-        SLDC 10
-        DVI
-        CGP print
-digit:  SLDL n                  ; PUT(CHR(ABS(N MOD 10) + ORD('0')))
-        SLDC 10
-        MODI
-        ABI
-        SLDC '0'
-        ADI
-        CGP put
-exit:   RNP 0
+include numbers.inc             ; of examples
 
 proc 4 work level 1 params 2 data 1003
 work = 1
@@ -122,6 +93,6 @@ proc 1 arrays level 0 params 2 data 0
         SLDC 0
         CGP work
         CGP print
-        SLDC 10
+        SLDC lf
         CGP put
 exit:   RBP 0

@@ -1,36 +1,7 @@
 ; Fibonacci's numbers by recursion: FIB(23) is 28657, again and again.
 program RECURSE segment 1
 
-proc 2 put level 1 params 1 data 0
-c = 1
-        SLDC 1                  ; UNITWRITE(1, C, 1)
-        LLA c
-        SLDC 0
-        SLDC 1
-        SLDC 0
-        SLDC 0
-        CSP 6
-exit:   RNP 0
-
-proc 3 print level 1 params 1 data 0
-n = 1
-        SLDL n                  ; IF N DIV 10 <> 0 THEN PRINT(N DIV 10)
-        SLDC 10
-        DVI
-        SLDC 0
-        NFJ digit
-        SLDL n
-        SLDC 10
-        DVI
-        CGP print
-digit:  SLDL n                  ; PUT(CHR(ABS(N MOD 10) + ORD('0')))
-        SLDC 10
-        MODI
-        ABI
-        SLDC '0'
-        ADI
-        CGP put
-exit:   RNP 0
+include numbers.inc             ; of examples
 
 proc 4 fib level 1 params 3 data 0
 fib = 1
@@ -80,6 +51,6 @@ for:    SLDO round
         UJP for
 done:   SLDO result
         CGP print
-        SLDC 10
+        SLDC lf
         CGP put
 exit:   RBP 0

@@ -1,36 +1,7 @@
 ; The sieve of Eratosthenes over the 8191 odd numbers from 3 on, again and again: 1899 primes.
 program SIEVE segment 1
 
-proc 2 put level 1 params 1 data 0
-c = 1
-        SLDC 1                  ; UNITWRITE(1, C, 1)
-        LLA c
-        SLDC 0
-        SLDC 1
-        SLDC 0
-        SLDC 0
-        CSP 6
-exit:   RNP 0
-
-proc 3 print level 1 params 1 data 0
-n = 1
-        SLDL n                  ; IF N DIV 10 <> 0 THEN PRINT(N DIV 10)
-        SLDC 10
-        DVI
-        SLDC 0
-        NFJ digit
-        SLDL n
-        SLDC 10
-        DVI
-        CGP print
-digit:  SLDL n                  ; PUT(CHR(ABS(N MOD 10) + ORD('0')))
-        SLDC 10
-        MODI
-        ABI
-        SLDC '0'
-        ADI
-        CGP put
-exit:   RNP 0
+include numbers.inc             ; of examples
 
 proc 1 sieve level 0 params 2 data 8197
 i = 3
@@ -115,6 +86,6 @@ next:   SLDO i
         UJP for
 done:   SLDO count
         CGP print
-        SLDC 10
+        SLDC lf
         CGP put
 exit:   RBP 0
