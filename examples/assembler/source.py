@@ -141,11 +141,9 @@ class FileReader:
         self.place = Place(file, 1)
 
     def read(self):
-        try:
-            with open(self.file, "rb") as file:
-                lines = file.read().split(b"\n")
-        except OSError as fault:
-            raise Fault(f"it cannot be read: {fault.strerror}", self.file) from None
+        """Reads the file to its end. A fault of the file system is left to the caller, who knows who asked for it."""
+        with open(self.file, "rb") as file:
+            lines = file.read().split(b"\n")
         self.seen.add(os.path.realpath(self.file))
         for number, line in enumerate(lines, 1):
             self.place = Place(self.file, number)
@@ -191,7 +189,10 @@ class FileReader:
         if path is None:
             raise Fault(f"there is no file {words[1]}, beside this one or in {HERE}")
         if os.path.realpath(path) not in self.seen:
-            FileReader(self.source, path, self.seen, self.depth + 1).read()
+            try:
+                FileReader(self.source, path, self.seen, self.depth + 1).read()
+            except OSError as fault:
+                raise Fault(f"{path} cannot be read: {fault.strerror}") from None
 
     def take_header(self, words):
         words = words[1:]
@@ -283,7 +284,10 @@ def look_through(procedure):
 def read_source(file):
     """The source that a file is."""
     source = Source(file)
-    FileReader(source, file, set(), 0).read()
+    try:
+        FileReader(source, file, set(), 0).read()
+    except OSError as fault:
+        raise Fault(f"it cannot be read: {fault.strerror}", file) from None
     give_numbers(source)
     for procedure in source.procedures:
         look_through(procedure)
