@@ -18,8 +18,8 @@ HELP = """Makes UCSD Pascal II.0 code files from assembly, and lists code files.
     assemble --help                          prints this
 
 Status 0: it was done. Status 1: a file is refused, as `FILE:LINE: text`, or `FILE: text` where no line is at
-fault; then no code file is written, and those that were there are as they were. Status 2: other words than these,
-or an older Python.
+fault; then no code file is written, and those that were there are as they were. Or standard output cannot be
+written. Status 2: other words than these, or an older Python.
 
 The language is explained in README.md, beside this program."""
 
