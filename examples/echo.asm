@@ -4,7 +4,7 @@ program ECHO segment 1
 include console.inc
 
 proc 3 prompt level 1 params 0 data 0
-        text CGP put "> "
+        text CGP put "> "       ; PUT('>'); PUT(' ')
 exit:   RNP 0
 
 proc 1 echo level 0 params 2 data 1
@@ -27,5 +27,5 @@ until:  SLDO c                  ; UNTIL C = '.'
         SLDC '.'
         EQUI
         FJP repeat
-        text CGP put lf "BYE" lf
+        text CGP put lf "BYE" lf    ; PUT(CHR(LF)); PUT('B'); PUT('Y'); PUT('E'); PUT(CHR(LF))
 exit:   RBP 0

@@ -2,6 +2,7 @@
 
 import os
 import sys
+from contextlib import contextmanager
 
 from .codefile import assemble, map_of
 from .instructions import Fault, at
@@ -18,8 +19,8 @@ HELP = """Makes UCSD Pascal II.0 code files from assembly, and lists code files.
     assemble --help                          prints this
 
 Status 0: it was done. Status 1: a file is refused, as `FILE:LINE: text`, or `FILE: text` where no line is at
-fault; then no code file is written, and those that were there are as they were. Or standard output cannot be
-written. Status 2: other words than these, or an older Python.
+fault; then no code file is written, and those that were there are as they were. Or a code file or standard
+output cannot be written. Status 2: other words than these, or an older Python.
 
 The language is explained in README.md, beside this program."""
 
@@ -32,16 +33,26 @@ def read_asm(name):
     return source, assemble(source)
 
 
+@contextmanager
+def removed_at_a_fault(name):
+    """Removes a file if what is done here cannot be done."""
+    try:
+        yield
+    except OSError:
+        os.remove(name)
+        raise
+
+
 def write_whole(name, data):
     """Writes a file that is never there in part: beside it first, and then to its name."""
     fresh = f"{name}.{os.getpid()}"
     try:
         with open(fresh, "xb") as file:
-            file.write(data)
-        os.replace(fresh, name)
+            with removed_at_a_fault(fresh):
+                file.write(data)
+                file.flush()
+                os.replace(fresh, name)
     except OSError as fault:
-        if os.path.exists(fresh):
-            os.remove(fresh)
         raise Fault(f"it cannot be written: {fault.strerror}", name) from None
 
 
