@@ -166,7 +166,7 @@ class FileReader:
             self.take_instruction(words)
 
     def take_program(self, words):
-        if len(words) != 4 or words[2] != "segment":
+        if len(words) != 4 or words[2] != "segment" or not re.fullmatch(NAME, words[1]):
             raise Fault("a program is written: program NAME segment N")
         if self.procedure:
             raise Fault("program stands in front of the first procedure")
@@ -247,7 +247,7 @@ class FileReader:
     def take_text(self, words):
         """`text CGP put "BYE" lf`: an SLDC and the call for each character."""
         if len(words) < 4 or words[1] not in CALL:
-            raise Fault('a text is written: text CALL PROCEDURE CHARACTERS.., as in text CGP put "BYE" 10')
+            raise Fault('a text is written: text CALL PROCEDURE CHARACTER.., as in text CGP put "BYE" 10')
         for operand in characters(words[3:]):
             self.procedure.lines.append(Line(self.place, "SLDC", [operand]))
             self.procedure.lines.append(Line(self.place, words[1], [words[2]]))
