@@ -6,6 +6,7 @@ mod examples;
 mod instructions;
 mod loading;
 mod opcodes;
+mod readme;
 mod running;
 mod scripts;
 mod segments;
