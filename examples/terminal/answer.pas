@@ -1,4 +1,4 @@
-PROGRAM LINE;
+PROGRAM ANSWER;
 { Asks for a line, and answers with it, until a line is empty. A line ends in
   CR (13), as in the p-System: it wants ./console. Unit 1, the console, writes
   each character that is read from it, the CR too. A line has at most 80

@@ -1,5 +1,5 @@
-; Asks for a line, and answers with it, until a line is empty. line.pas says it in Pascal.
-program LINE segment 1
+; Asks for a line, and answers with it, until a line is empty. answer.pas says it in Pascal.
+program ANSWER segment 1
 
 console = 1
 cr = 13
@@ -46,7 +46,7 @@ repeat: SLDC console            ; UNITREAD(CONSOLE, LINE[LENGTH], 1)
         UJP repeat
 exit:   RNP 0
 
-proc 1 main level 0 params 2 data 41
+proc 1 answer level 0 params 2 data 41
 repeat: SLDC '?'
         CGP put
         SLDC ' '
