@@ -22,7 +22,7 @@ use pcode_file::{CodeFile, FileFault};
 use pcode_machine::End;
 use pcode_ops::{LoadFault, Program};
 use std::alloc::Global;
-use std::io::{self, Read, Write};
+use std::io::{self, BufWriter, Read, Write};
 use std::net::Net;
 use std::rt::Files;
 use std::time::Clock;
@@ -205,16 +205,24 @@ fn check_file<H: Files + AllocGlobal, W: Write>(
     write_checked(writer, &program).or(Err(Refusal::Run(RunIo::Write)))
 }
 
-/// Lists the program of a code file.
+/// Writes the listing of a program, all of it.
+fn write_listing<W: Write + Drop>(program: &Program, pieces: &mut BufWriter<W>) -> io::Result<()> {
+    program.write_listing(pieces)?;
+    pieces.flush()
+}
+
+/// Lists the program of a code file, in pieces of some kilobytes.
 fn list_file<H: Files + AllocGlobal, W: Write>(
     rt: &H,
     file: &str,
     writer: &mut W,
 ) -> Result<(), Refusal> {
     let program = load_file(rt, file)?;
-    program
-        .write_listing(writer)
-        .or(Err(Refusal::Run(RunIo::Write)))
+    let mut pieces = BufWriter::new(rt.alloc(), writer).or(Err(Refusal::Run(RunIo::Memory)))?;
+    let written = write_listing(&program, &mut pieces);
+    // What a failed write has left behind is not tried again.
+    let _ = pieces.into_parts();
+    written.or(Err(Refusal::Run(RunIo::Write)))
 }
 
 /// The script of a file.

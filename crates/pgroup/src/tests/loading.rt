@@ -239,55 +239,118 @@ fn as_many_procedures_as_there_can_be(rt: HostRuntime) -> Result<(), Fail> {
     comes_to(&rt, "run", file.as_slice(), &[], Prints(b"A"))
 }
 
-/// A writer that takes its first write and fails at the second.
+/// A writer that takes some bytes of a write at most, and fails at one of its writes or at each flush.
 #[derive(Drop)]
-struct FailsSecond {
+struct Meter {
     bytes: Vec<u8>,
-    writes: u32,
+    writes: usize,
+    takes: usize,
+    failing_write: usize,
+    flush_fails: bool,
 }
 
-impl Write for FailsSecond {
+impl Write for Meter {
     fn write(&mut self, bytes: &[u8]) -> io::Result<usize> {
-        if self.writes > 0 {
+        self.writes = self.writes.saturating_add(1);
+        if self.writes == self.failing_write {
             return Err(io::Error::from(ErrorKind::Other));
         }
-        self.writes = 1;
-        self.bytes.extend_from_slice(bytes)?;
-        Ok(bytes.len())
+        let count = bytes.len().min(self.takes);
+        self.bytes.extend_from_slice(&bytes[..count])?;
+        Ok(count)
     }
 
     fn flush(&mut self) -> io::Result<()> {
+        if self.flush_fails {
+            return Err(io::Error::from(ErrorKind::Other));
+        }
         Ok(())
     }
 }
 
-/// Lists the program that prints A to such a writer.
-fn list_and_fail(rt: &HostRuntime) -> io::Result<Done> {
+/// Lists a segment to such a writer, and gives the number of its writes too.
+fn list_to(rt: &HostRuntime, segment: &[u8], mut output: Meter) -> io::Result<(Done, usize)> {
     let path = path_of(rt, "cut")?;
-    let file = code_file(rt.alloc(), &PRINTS_A)?;
+    let file = code_file(rt.alloc(), segment)?;
     fs::write(rt, path.as_str(), file.as_slice())?;
     let words = words_of(rt.alloc(), &["list", path.as_str()])?;
     let mut input: &[u8] = b"";
     let mut errors = Vec::new(rt.alloc());
-    let mut output = FailsSecond {
-        bytes: Vec::new(rt.alloc()),
-        writes: 0,
-    };
     let status = command(rt, words.as_slice(), &mut input, &mut output, &mut errors);
     fs::remove_file(rt, path.as_str())?;
-    Ok(Done {
+    let writes = output.writes;
+    let done = Done {
         status,
         output: output.bytes,
         errors,
-    })
+    };
+    Ok((done, writes))
+}
+
+/// A writer that takes all.
+fn takes_all(alloc: Global) -> Meter {
+    Meter {
+        bytes: Vec::new(alloc),
+        writes: 0,
+        takes: usize::MAX,
+        failing_write: 0,
+        flush_fails: false,
+    }
 }
 
 #[test]
 fn a_listing_that_fails(rt: HostRuntime) -> io::Result<()> {
-    let done = list_and_fail(&rt)?;
-    let written = done.output.as_slice();
-    assert!(&rt; done.is(1, written, "refused E3\n"));
-    assert!(&rt; !written.is_empty() && written.len() < LISTING_OF_A.len());
-    assert!(&rt; LISTING_OF_A.starts_with(written));
+    let mut writer = takes_all(rt.alloc());
+    writer.takes = 20;
+    writer.failing_write = 2;
+    let (done, writes) = list_to(&rt, &PRINTS_A, writer)?;
+    // Nothing is written after the fault.
+    assert!(&rt; writes == 2 && done.is(1, &LISTING_OF_A[..20], "refused E3\n"));
+    let mut writer = takes_all(rt.alloc());
+    writer.flush_fails = true;
+    let (done, _) = list_to(&rt, &PRINTS_A, writer)?;
+    assert!(&rt; done.is(1, LISTING_OF_A, "refused E3\n"));
+    Ok(())
+}
+
+/// The lines of procedure 1 of `many_procedures`.
+const LISTING_OF_THE_FIRST: &str = "proc 1 level 0 params 2 data 1 enter 0 exit 14
+00000 CGP 255
+00002 SLDC 65
+00003 SRO 3
+00005 SLDC 1
+00006 LAO 3
+00008 SLDC 0
+00009 SLDC 1
+00010 SLDC 0
+00011 SLDC 0
+00012 CSP 6
+00014 RBP 0
+";
+
+/// The listing of `many_procedures`: the RNP of procedure i stands at 12 i + 2, its ENTER and its EXIT.
+fn listing_of_many(alloc: Global) -> Result<String, AllocError> {
+    let mut listing = String::from_str(alloc, LISTING_OF_THE_FIRST)?;
+    for number in 2..=255u16 {
+        let at = 12 * number + 2;
+        write!(
+            listing,
+            "proc {number} level 1 params 0 data 0 enter {at} exit {at}\n{at:05} RNP 0\n"
+        )?;
+    }
+    Ok(listing)
+}
+
+#[test]
+fn a_listing_in_pieces(rt: HostRuntime) -> io::Result<()> {
+    let segment = many_procedures(rt.alloc())?;
+    let listing = listing_of_many(rt.alloc())?;
+    let (done, writes) = list_to(&rt, segment.as_slice(), takes_all(rt.alloc()))?;
+    assert!(&rt; done.is(0, listing.as_str().as_bytes(), ""));
+    // More than 8,192 bytes, in pieces of 4,096 bytes or more but for the last.
+    assert!(&rt;
+        listing.len() > 8192 && writes <= listing.len() / 4096 + 1,
+        "{writes}"
+    );
     Ok(())
 }
