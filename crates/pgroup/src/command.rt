@@ -378,7 +378,7 @@ fn show<W: Write, E: Write>(
 }
 
 /// Tells why the words ask for nothing that is done, and gives the status.
-fn explain<W: Write, E: Write>(writer: &mut W, errors: &mut E, reason: NotAsked) -> u8 {
+pub fn explain<W: Write, E: Write>(writer: &mut W, errors: &mut E, reason: NotAsked) -> u8 {
     match reason {
         NotAsked::Help(help) => match write!(writer, "{help}") {
             Ok(()) => 0,

@@ -18,18 +18,21 @@ mod typed;
 mod udp;
 mod words;
 
-use command::command;
+use command::{command, explain};
 use std::io;
 use std::process::ExitCode;
+use words::words_of;
 
-fn main(rt: HostRuntime) -> io::Result<ExitCode> {
-    let words: Vec<String> = std::env::args(&rt)?.skip(1).collect(rt.alloc())?;
-    let status = command(
-        &rt,
-        words.as_slice(),
-        &mut rt.reader(),
-        &mut io::writer(&rt),
-        &mut rt.stderr(),
-    );
-    Ok(ExitCode::from(status))
+fn main(rt: HostRuntime) -> ExitCode {
+    let status = match words_of(&rt) {
+        Ok(words) => command(
+            &rt,
+            words.as_slice(),
+            &mut rt.reader(),
+            &mut io::writer(&rt),
+            &mut rt.stderr(),
+        ),
+        Err(reason) => explain(&mut io::writer(&rt), &mut rt.stderr(), reason),
+    };
+    ExitCode::from(status)
 }

@@ -12,6 +12,7 @@ mod scripts;
 mod segments;
 mod stops;
 mod wires;
+mod words;
 mod worlds;
 
 use crate::command::command;
@@ -339,44 +340,6 @@ fn a_writer_that_fails(rt: HostRuntime) -> Result<(), AllocError> {
             fails(&rt, words, takes_nothing)?,
             "{words:?} {takes_nothing}"
         );
-    }
-    Ok(())
-}
-
-/// Words that are a fault of the command line.
-const FAULTY: [&[&str]; 8] = [
-    &["frobnicate", "x", "y", "z"],
-    &["run"],
-    &["run", "x", "y"],
-    &["run", "x", "--steps"],
-    &["run", "x", "--steps", "+5"],
-    &["run", "x", "--steps", ""],
-    &["run", "x", "--steps", "4294967296"],
-    &["--steps", "5"],
-];
-
-/// Words that ask for help.
-const HELP: [&[&str]; 3] = [&["--help"], &["help"], &["run", "--help"]];
-
-/// Whether words give this status, with a text on the error stream alone if it is not 0, and else on the
-/// output alone.
-fn explains(rt: &HostRuntime, words: &[&str], status: u8) -> Result<bool, AllocError> {
-    let done = perform(rt, words)?;
-    let on_errors = status != 0;
-    Ok(
-        done.status == status
-            && done.output.is_empty() == on_errors
-            && done.errors.is_empty() != on_errors,
-    )
-}
-
-#[test]
-fn faults_of_the_command_line(rt: HostRuntime) -> Result<(), AllocError> {
-    for words in FAULTY {
-        assert!(rt; explains(&rt, words, 2)?, "{words:?}");
-    }
-    for words in HELP {
-        assert!(rt; explains(&rt, words, 0)?, "{words:?}");
     }
     Ok(())
 }

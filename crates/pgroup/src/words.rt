@@ -1,14 +1,20 @@
 //! The words of the command line.
+mod commands;
 pub mod group;
+mod help;
+mod value;
 
 use crate::node::NodeWords;
 use clap::error::ErrorKind;
-use clap::{Arg, ArgMatches, Command, Error};
-use digits::decimal;
-use group::{NetWords, WordFault, net_command, node_command, read_net, read_node};
+use clap::{ArgMatches, Error};
+use commands::{FILE, HEX, SCRIPT, SESSION, SIZE, commands, lone_command};
+use group::{NetWords, read_net, read_node};
 use paxos_msg::Group;
 use std::alloc::{AllocError, Global};
+use std::rt::Env;
 use std::string::String;
+use std::{env, io};
+use value::{WordFault, byte_of, count_in, count_of, text_of};
 
 /// How many steps a program runs at most where the words do not say it.
 pub const STEPS: u32 = 1_000_000;
@@ -37,8 +43,10 @@ pub enum Asked<'a> {
 /// Why the words ask for nothing that is done: help, a fault in them, or no memory.
 #[derive(Drop)]
 pub enum NotAsked {
+    /// The text of help.
     Help(Error),
-    Fault(Error),
+    /// The text of the fault.
+    Fault(String),
     Memory,
 }
 
@@ -48,151 +56,41 @@ impl From<AllocError> for NotAsked {
     }
 }
 
-impl From<Error> for NotAsked {
-    fn from(error: Error) -> NotAsked {
-        match error.kind() {
-            ErrorKind::OutOfMemory => NotAsked::Memory,
-            ErrorKind::DisplayHelp => NotAsked::Help(error),
-            _ => NotAsked::Fault(error),
-        }
-    }
-}
-
-/// The word FILE.
-fn file_arg<'a>(alloc: Global) -> Arg<'a> {
-    Arg::new(alloc, "FILE")
-        .required(true)
-        .help("A UCSD II.0 code file with one linked segment")
-}
-
-/// A subcommand with the one word FILE.
-fn file_command<'a>(
-    alloc: Global,
-    name: &'static str,
-    about: &'static str,
-) -> Result<Command<'a>, AllocError> {
-    Command::new(alloc, name).about(about).arg(file_arg(alloc))
-}
-
-/// The subcommand `run FILE [--steps N]`.
-fn run_command<'a>(alloc: Global) -> Result<Command<'a>, AllocError> {
-    let steps = Arg::new(alloc, "steps").long("steps").value_name("N").help(
-        "How many steps at most, in decimal digits [default: 1000000]",
-    );
-    Command::new(alloc, "run")
-        .about("Runs a code file on standard input and output")
-        .arg(file_arg(alloc))?
-        .arg(steps)
-}
-
-/// The subcommand `show SIZE SESSION HEX`.
-fn show_command<'a>(alloc: Global) -> Result<Command<'a>, AllocError> {
-    let size = Arg::new(alloc, "SIZE")
-        .required(true)
-        .help("The number of the group's nodes, 0 to 255");
-    let session = Arg::new(alloc, "SESSION")
-        .required(true)
-        .help("The group's session, 0 to 4294967295");
-    let digits = Arg::new(alloc, "HEX")
-        .required(true)
-        .help("The bytes in hexadecimal digits, two for each byte");
-    Command::new(alloc, "show")
-        .about("Prints a datagram")
-        .arg(size)?
-        .arg(session)?
-        .arg(digits)
-}
-
-/// The subcommand `sim FILE SCRIPT`.
-fn sim_command<'a>(alloc: Global) -> Result<Command<'a>, AllocError> {
-    let script = Arg::new(alloc, "SCRIPT")
-        .required(true)
-        .help("What happens to the group, line by line");
-    Command::new(alloc, "sim")
-        .about("Runs a code file in a group, by a script")
-        .arg(file_arg(alloc))?
-        .arg(script)
-}
-
-/// All commands, with their help.
-fn commands<'a>(alloc: Global) -> Result<Command<'a>, AllocError> {
-    Command::new(alloc, "pgroup")
-        .no_binary_name(true)
-        .subcommand_required(true)
-        .about(
-            "Runs UCSD Pascal II.0 p-code programs. Without words it runs a built-in program, which prints A.",
-        )
-        .subcommand(file_command(
-            alloc,
-            "check",
-            "Checks a code file, and counts its reached offsets",
-        )?)?
-        .subcommand(file_command(
-            alloc,
-            "list",
-            "Lists the reached instructions of a code file",
-        )?)?
-        .subcommand(run_command(alloc)?)?
-        .subcommand(show_command(alloc)?)?
-        .subcommand(sim_command(alloc)?)?
-        .subcommand(net_command(alloc, file_arg(alloc))?)?
-        .subcommand(node_command(alloc, file_arg(alloc))?)
-}
-
-/// A number from 0 to 4,294,967,295.
-fn number(text: &str) -> Option<u32> {
-    u32::try_from(decimal(text)?).ok()
-}
-
-/// The word FILE.
-fn read_file_word<'a>(matches: &ArgMatches<'a>) -> Result<&'a str, &'static str> {
-    matches.get_str("FILE").ok_or("FILE is missing")
-}
-
 /// What `check` asks for, or what is wrong with its words.
-fn read_check<'a>(matches: &ArgMatches<'a>) -> Result<Asked<'a>, &'static str> {
-    let file = read_file_word(matches)?;
+fn read_check<'a>(matches: &ArgMatches<'a>) -> Result<Asked<'a>, WordFault<'a>> {
+    let file = text_of(matches, FILE)?;
     Ok(Asked::Check { file })
 }
 
 /// What `list` asks for, or what is wrong with its words.
-fn read_list<'a>(matches: &ArgMatches<'a>) -> Result<Asked<'a>, &'static str> {
-    let file = read_file_word(matches)?;
+fn read_list<'a>(matches: &ArgMatches<'a>) -> Result<Asked<'a>, WordFault<'a>> {
+    let file = text_of(matches, FILE)?;
     Ok(Asked::List { file })
 }
 
 /// What `run` asks for, or what is wrong with its words.
-fn read_run<'a>(matches: &ArgMatches<'a>) -> Result<Asked<'a>, &'static str> {
-    let file = read_file_word(matches)?;
-    let steps = match matches.get_str("steps") {
+fn read_run<'a>(matches: &ArgMatches<'a>) -> Result<Asked<'a>, WordFault<'a>> {
+    let file = text_of(matches, FILE)?;
+    let steps = match matches.get_str(commands::STEPS.name) {
         None => STEPS,
-        Some(text) => {
-            number(text).ok_or("--steps takes a number from 0 to 4294967295 in decimal digits")?
-        }
+        Some(text) => count_in(commands::STEPS, text)?,
     };
     Ok(Asked::Run { file, steps })
 }
 
 /// What `show` asks for, or what is wrong with its words.
-fn read_show<'a>(matches: &ArgMatches<'a>) -> Result<Asked<'a>, &'static str> {
-    let size = matches
-        .get_str("SIZE")
-        .and_then(|text| number(text))
-        .and_then(|size| u8::try_from(size).ok())
-        .ok_or("SIZE is a number from 0 to 255 in decimal digits")?;
-    let session = matches
-        .get_str("SESSION")
-        .and_then(|text| number(text))
-        .ok_or("SESSION is a number from 0 to 4294967295 in decimal digits")?;
-    let digits = matches.get_str("HEX").ok_or("HEX is missing")?;
+fn read_show<'a>(matches: &ArgMatches<'a>) -> Result<Asked<'a>, WordFault<'a>> {
+    let size = byte_of(matches, SIZE)?;
+    let session = count_of(matches, SESSION)?;
+    let digits = text_of(matches, HEX)?;
     let group = Group { size, session };
     Ok(Asked::Show { group, digits })
 }
 
 /// What `sim` asks for, or what is wrong with its words.
-fn read_sim<'a>(matches: &ArgMatches<'a>) -> Result<Asked<'a>, &'static str> {
-    let file = read_file_word(matches)?;
-    let script = matches.get_str("SCRIPT").ok_or("SCRIPT is missing")?;
+fn read_sim<'a>(matches: &ArgMatches<'a>) -> Result<Asked<'a>, WordFault<'a>> {
+    let file = text_of(matches, FILE)?;
+    let script = text_of(matches, SCRIPT)?;
     Ok(Asked::Sim { file, script })
 }
 
@@ -201,8 +99,8 @@ fn read_group<'a>(
     alloc: Global,
     name: &str,
     matches: &ArgMatches<'a>,
-) -> Result<Asked<'a>, WordFault> {
-    let file = read_file_word(matches)?;
+) -> Result<Asked<'a>, WordFault<'a>> {
+    let file = text_of(matches, FILE)?;
     if name == "net" {
         let net = read_net(matches)?;
         return Ok(Asked::Net { file, net });
@@ -216,15 +114,73 @@ fn read_command<'a>(
     alloc: Global,
     name: &str,
     matches: &ArgMatches<'a>,
-) -> Result<Asked<'a>, WordFault> {
+) -> Result<Asked<'a>, WordFault<'a>> {
     match name {
-        "check" => Ok(read_check(matches)?),
-        "list" => Ok(read_list(matches)?),
-        "run" => Ok(read_run(matches)?),
-        "show" => Ok(read_show(matches)?),
-        "sim" => Ok(read_sim(matches)?),
+        "check" => read_check(matches),
+        "list" => read_list(matches),
+        "run" => read_run(matches),
+        "show" => read_show(matches),
+        "sim" => read_sim(matches),
         _ => read_group(alloc, name, matches),
     }
+}
+
+/// Parts a text of clap from its advice to put a word that begins with a hyphen behind `--`, and gives what
+/// stands before the advice and what stands behind it. The advice helps only where the word is a path, and
+/// clap gives it for every word.
+fn around_advice(text: &str) -> Option<(&str, &str)> {
+    let (fault, others) = text.split_once("\n\n  tip: to pass '")?;
+    let (_, usage) = others.rsplit_once("\n\nUsage: ")?;
+    Some((fault, usage))
+}
+
+/// The text of a fault that clap has found in the words.
+fn text_of_fault(alloc: Global, error: &Error) -> Result<String, AllocError> {
+    let text = format!(in alloc; "{error}")?;
+    match around_advice(text.as_str()) {
+        Some((fault, usage)) => format!(in alloc; "{fault}\n\nUsage: {usage}"),
+        None => Ok(text),
+    }
+}
+
+/// Why clap has found no command in the words.
+fn unread(alloc: Global, error: Error) -> NotAsked {
+    match error.kind() {
+        ErrorKind::OutOfMemory => NotAsked::Memory,
+        ErrorKind::DisplayHelp => NotAsked::Help(error),
+        _ => match text_of_fault(alloc, &error) {
+            Ok(text) => NotAsked::Fault(text),
+            Err(_) => NotAsked::Memory,
+        },
+    }
+}
+
+/// The text of a fault in the words of the command of this name.
+fn text_of_word_fault(
+    alloc: Global,
+    name: &str,
+    fault: WordFault<'_>,
+) -> Result<String, AllocError> {
+    let what = format!(in alloc; "{fault}")?;
+    let error = lone_command(alloc, name)?.error(ErrorKind::ValueValidation, what.as_str())?;
+    format!(in alloc; "{error}")
+}
+
+/// The refusal of a fault in the words of the command of this name.
+fn refused(alloc: Global, name: &str, fault: WordFault<'_>) -> NotAsked {
+    if fault == WordFault::Memory {
+        return NotAsked::Memory;
+    }
+    match text_of_word_fault(alloc, name, fault) {
+        Ok(text) => NotAsked::Fault(text),
+        Err(_) => NotAsked::Memory,
+    }
+}
+
+/// The refusal of words for a fault that is in no command's words.
+fn refused_whole(alloc: Global, kind: ErrorKind, what: &str) -> Result<NotAsked, AllocError> {
+    let error = commands(alloc)?.error(kind, what)?;
+    Ok(NotAsked::Fault(format!(in alloc; "{error}")?))
 }
 
 /// What the words, without the program's own name, ask for.
@@ -232,17 +188,31 @@ pub fn read_words<'a>(alloc: Global, words: &'a [String]) -> Result<Asked<'a>, N
     if words.is_empty() {
         return Ok(Asked::BuiltIn);
     }
-    let mut command = commands(alloc)?;
-    let matches = command.try_get_matches_from_mut(words)?;
-    let asked = match matches.subcommand() {
-        Some((name, words)) => read_command(alloc, name, words),
-        None => Err(WordFault::Text("a command is missing")),
+    let matches = match commands(alloc)?.try_get_matches_from(words) {
+        Ok(matches) => matches,
+        Err(error) => return Err(unread(alloc, error)),
     };
-    match asked {
-        Ok(asked) => Ok(asked),
-        Err(WordFault::Memory) => Err(NotAsked::Memory),
-        Err(WordFault::Text(text)) => {
-            Err(NotAsked::Fault(command.error(ErrorKind::ValueValidation, text)?))
-        }
+    match matches.subcommand() {
+        Some((name, words)) => match read_command(alloc, name, words) {
+            Ok(asked) => Ok(asked),
+            Err(fault) => Err(refused(alloc, name, fault)),
+        },
+        None => Err(refused_whole(alloc, ErrorKind::MissingSubcommand, "a command is missing")?),
+    }
+}
+
+/// The words of the command line without the program's own name. What can't be had is refused: there is no
+/// memory, or a word is not UTF-8.
+pub fn words_of<H: Env + AllocGlobal>(rt: &H) -> Result<Vec<String>, NotAsked> {
+    match env::args(rt) {
+        Ok(words) => Ok(words.skip(1).collect(rt.alloc())?),
+        Err(error) => match error.kind() {
+            io::ErrorKind::InvalidData => Err(refused_whole(
+                rt.alloc(),
+                ErrorKind::ValueValidation,
+                "a word of the command line is not UTF-8",
+            )?),
+            _ => Err(NotAsked::Memory),
+        },
     }
 }

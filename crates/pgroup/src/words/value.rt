@@ -1,0 +1,138 @@
+//! The values of words, and what is wrong with them.
+use clap::ArgMatches;
+use digits::decimal;
+use std::alloc::{AllocError, AllocFailed};
+use std::fmt;
+use std::net::{SocketAddr, SocketAddrV4};
+
+/// A word of the command line that has a value.
+#[derive(Clone, Copy, Debug, PartialEq, Eq)]
+pub struct Word {
+    /// Under which name its value is found.
+    pub name: &'static str,
+    /// How a fault names it, as help does.
+    pub shown: &'static str,
+}
+
+/// What is wrong with words, or that there is no memory to read them.
+#[derive(Clone, Copy, Debug, PartialEq, Eq)]
+pub enum WordFault<'a> {
+    /// A word has a value that is not what it has to be.
+    Value {
+        value: &'a str,
+        word: Word,
+        wanted: &'static str,
+    },
+    /// There are more or fewer addresses than nodes.
+    Addresses {
+        size: u8,
+        count: usize,
+    },
+    /// A word is missing.
+    Missing(Word),
+    Memory,
+}
+
+impl<'a> fmt::Display for WordFault<'a> {
+    fn fmt<W: fmt::Write>(&self, f: &mut fmt::Formatter<W>) -> fmt::Result {
+        match self {
+            WordFault::Value {
+                value,
+                word,
+                wanted,
+            } => {
+                let shown = word.shown;
+                write!(f, "invalid value '{value}' for '{shown}': {wanted}")
+            }
+            WordFault::Addresses { size, count } => write!(
+                f,
+                "there is one ADDR for each node: SIZE is {size}, and the number of ADDR is {count}"
+            ),
+            WordFault::Missing(word) => {
+                let shown = word.shown;
+                write!(f, "'{shown}' is missing")
+            }
+            WordFault::Memory => f.write_str("there is no memory"),
+        }
+    }
+}
+
+impl<'a> From<AllocError> for WordFault<'a> {
+    fn from(_: AllocError) -> WordFault<'a> {
+        WordFault::Memory
+    }
+}
+
+impl<'a, T: Drop> From<AllocFailed<T>> for WordFault<'a> {
+    fn from(_: AllocFailed<T>) -> WordFault<'a> {
+        WordFault::Memory
+    }
+}
+
+const BYTE: &str = "a number from 0 to 255 in decimal digits";
+
+const COUNT: &str = "a number from 0 to 4294967295 in decimal digits";
+
+const LARGE: &str = "a number from 0 to 18446744073709551615 in decimal digits";
+
+const ADDRESS: &str = "an address of the form 127.0.0.1:7001";
+
+/// The text of a word that has to be there.
+pub fn text_of<'a>(matches: &ArgMatches<'a>, word: Word) -> Result<&'a str, WordFault<'a>> {
+    matches.get_str(word.name).ok_or(WordFault::Missing(word))
+}
+
+/// The number that a text of a word stands for, from 0 to 255.
+fn byte_in<'a>(word: Word, value: &'a str) -> Result<u8, WordFault<'a>> {
+    match decimal(value).and_then(|number| u8::try_from(number).ok()) {
+        Some(number) => Ok(number),
+        None => Err(WordFault::Value {
+            value,
+            word,
+            wanted: BYTE,
+        }),
+    }
+}
+
+/// The number that a text of a word stands for, from 0 to 4,294,967,295.
+pub fn count_in<'a>(word: Word, value: &'a str) -> Result<u32, WordFault<'a>> {
+    match decimal(value).and_then(|number| u32::try_from(number).ok()) {
+        Some(number) => Ok(number),
+        None => Err(WordFault::Value {
+            value,
+            word,
+            wanted: COUNT,
+        }),
+    }
+}
+
+/// The number that a text of a word stands for, from 0 to 18,446,744,073,709,551,615.
+pub fn large_in<'a>(word: Word, value: &'a str) -> Result<u64, WordFault<'a>> {
+    decimal(value).ok_or(WordFault::Value {
+        value,
+        word,
+        wanted: LARGE,
+    })
+}
+
+/// The address of a text of a word, which has the form `a.b.c.d:port`.
+pub fn address_in<'a>(word: Word, value: &'a str) -> Result<SocketAddr, WordFault<'a>> {
+    match value.parse::<SocketAddrV4>() {
+        Ok(address) => Ok(SocketAddr::V4(address)),
+        Err(_) => Err(WordFault::Value {
+            value,
+            word,
+            wanted: ADDRESS,
+        }),
+    }
+}
+
+/// The number of a word that has to be there, from 0 to 255.
+pub fn byte_of<'a>(matches: &ArgMatches<'a>, word: Word) -> Result<u8, WordFault<'a>> {
+    byte_in(word, text_of(matches, word)?)
+}
+
+/// The number of a word that has to be there, from 0 to 4,294,967,295.
+pub fn count_of<'a>(matches: &ArgMatches<'a>, word: Word) -> Result<u32, WordFault<'a>> {
+    count_in(word, text_of(matches, word)?)
+}
