@@ -125,9 +125,8 @@ fn read_command<'a>(
     }
 }
 
-/// Parts a text of clap from its advice to put a word that begins with a hyphen behind `--`, and gives what
-/// stands before the advice and what stands behind it. The advice helps only where the word is a path, and
-/// clap gives it for every word.
+/// What stands before and behind the advice to put a word that begins with a hyphen behind `--`, in clap's
+/// text of an unknown option. The advice helps only where the word is a path, and clap gives it for every word.
 fn around_advice(text: &str) -> Option<(&str, &str)> {
     let (fault, others) = text.split_once("\n\n  tip: to pass '")?;
     let (_, usage) = others.rsplit_once("\n\nUsage: ")?;
@@ -137,6 +136,9 @@ fn around_advice(text: &str) -> Option<(&str, &str)> {
 /// The text of a fault that clap has found in the words.
 fn text_of_fault(alloc: Global, error: &Error) -> Result<String, AllocError> {
     let text = format!(in alloc; "{error}")?;
+    if error.kind() != ErrorKind::UnknownArgument {
+        return Ok(text);
+    }
     match around_advice(text.as_str()) {
         Some((fault, usage)) => format!(in alloc; "{fault}\n\nUsage: {usage}"),
         None => Ok(text),
