@@ -15,8 +15,6 @@ mod packet;
 mod player;
 mod protocol;
 mod pump;
-#[cfg(test)]
-mod tests;
 mod ticking;
 mod waiting;
 

@@ -38,10 +38,18 @@ use std::marker::Model;
 /// A call of a node is one event. What the node has to send goes into an outbox. A call that saves does so before it sends, at most
 /// once, and makes all its room before that: after `Memory` nothing has changed. After `Store` nothing was sent, and every further call
 /// that can be refused is `Stopped`.
-#[derive(Drop)]
 pub struct Node<'a, S: Store> {
     protocol: Protocol<S>,
     player: Player<'a>,
+}
+
+impl<'a, S: Store + Drop> Drop for Node<'a, S> {
+    fn drop(self) {
+        let Node {
+            protocol: _protocol,
+            player: _player,
+        } = self;
+    }
 }
 
 impl<'a, S: Store> Model for Node<'a, S> {
@@ -274,6 +282,10 @@ impl<'a, S: Store> Node<'a, S> {
     pub fn into_store(self) -> S
         ensures { result ≡ self.entry.protocol.store }
     {
-        self.protocol.into_store()
+        let Node {
+            protocol,
+            player: _player,
+        } = self;
+        protocol.into_store()
     }
 }

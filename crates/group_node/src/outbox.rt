@@ -50,13 +50,22 @@ impl Spare {
 }
 
 /// The packets that wait to be sent, the oldest first: at most 64.
-#[derive(Drop)]
 pub struct Outbox {
     packets: HeapCircularBuffer<Packet>,
     // With a buffer ready a packet takes no memory. A node makes as many ready as it may need before it changes
     // anything.
     spares: Vec<Spare>,
     alloc: Global,
+}
+
+impl Drop for Outbox {
+    fn drop(self) {
+        let Outbox {
+            packets: _packets,
+            spares: _spares,
+            alloc: _alloc,
+        } = self;
+    }
 }
 
 impl Model for Outbox {

@@ -33,7 +33,6 @@ pub enum Ran {
 }
 
 /// The machine of a node, and its output.
-#[derive(Drop)]
 pub(crate) struct Player<'a> {
     pub(crate) machine: Machine<'a>,
     /// The output that was not released, the oldest byte first.
@@ -44,6 +43,18 @@ pub(crate) struct Player<'a> {
     pub(crate) read: usize,
     /// How many bytes of output were released.
     pub(crate) released: u64,
+}
+
+impl<'a> Drop for Player<'a> {
+    fn drop(self) {
+        let Player {
+            machine: _machine,
+            unreleased: _unreleased,
+            steps: _steps,
+            read: _read,
+            released: _released,
+        } = self;
+    }
 }
 
 /// How many of these steps can still be counted, where so many were made.

@@ -18,7 +18,6 @@ use std::alloc::Global;
 use std::marker::Model;
 
 /// The acceptor, the learner and the proposer of one node, and the keys that were typed at it.
-#[derive(Drop)]
 pub(crate) struct Protocol<S: Store> {
     pub(crate) me: Me,
     pub(crate) acceptor: Acceptor<S>,
@@ -30,6 +29,21 @@ pub(crate) struct Protocol<S: Store> {
     pub(crate) offered: KeySet,
     pub(crate) waiting: Waiting,
     pub(crate) alloc: Global,
+}
+
+impl<S: Store + Drop> Drop for Protocol<S> {
+    fn drop(self) {
+        let Protocol {
+            me: _me,
+            acceptor: _acceptor,
+            learner: _learner,
+            proposer: _proposer,
+            remembered: _remembered,
+            offered: _offered,
+            waiting: _waiting,
+            alloc: _alloc,
+        } = self;
+    }
 }
 
 impl<S: Store> Model for Protocol<S> {
@@ -186,6 +200,16 @@ impl<S: Store> Protocol<S> {
     pub(crate) fn into_store(self) -> S
         ensures { result ≡ self.store }
     {
-        self.acceptor.into_store()
+        let Protocol {
+            me: _me,
+            acceptor,
+            learner: _learner,
+            proposer: _proposer,
+            remembered: _remembered,
+            offered: _offered,
+            waiting: _waiting,
+            alloc: _alloc,
+        } = self;
+        acceptor.into_store()
     }
 }

@@ -19,10 +19,18 @@ use std::alloc::Global;
 use std::marker::Model;
 
 /// A node of the group, up or down, and its console, which outlives it.
-#[derive(Drop)]
 pub(crate) struct Member<'a> {
     seat: Seat<'a>,
     console: Console,
+}
+
+impl<'a> Drop for Member<'a> {
+    fn drop(self) {
+        let Member {
+            seat: _seat,
+            console: _console,
+        } = self;
+    }
 }
 
 impl<'a> Model for Member<'a> {

@@ -3,8 +3,6 @@ ghost use Rattle.std.specs.Prelude.{◌≡◌, IfErr, IfOk, Ok, Err, false};
 ghost use Rattle.group_world.specs.Scripts.{script_of};
 
 mod reading;
-#[cfg(test)]
-mod tests;
 
 use crate::event::Event;
 use reading::{first_line, read_header, read_line};
@@ -24,7 +22,6 @@ pub enum Line {
 }
 
 /// A script: a group, and what happens to it.
-#[derive(Drop)]
 pub struct Script {
     /// The number of the group's nodes.
     pub size: u8,
@@ -32,6 +29,16 @@ pub struct Script {
     pub session: u32,
     /// What happens, in order: the item `i` is line `i + 2` of the text.
     pub lines: Vec<Line>,
+}
+
+impl Drop for Script {
+    fn drop(self) {
+        let Script {
+            size: _size,
+            session: _session,
+            lines: _lines,
+        } = self;
+    }
 }
 
 /// Why a text is not read as a script.

@@ -16,10 +16,18 @@ use std::alloc::Global;
 use std::mem;
 
 /// A node's store while it is down, or the node.
-#[derive(Drop)]
 pub(crate) enum Seat<'a> {
     Down(MemoryStore),
     Up(Node<'a, MemoryStore>),
+}
+
+impl<'a> Drop for Seat<'a> {
+    fn drop(self) {
+        match self {
+            Seat::Down(_store) => (),
+            Seat::Up(_node) => (),
+        }
+    }
 }
 
 impl<'a> Seat<'a> {

@@ -23,7 +23,6 @@ use std::marker::Model;
 const PACKETS: usize = 64;
 
 /// What happened to a group so far, with no promise but what each event does.
-#[derive(Drop)]
 pub(crate) struct Table<'a> {
     pub(crate) program: &'a Program,
     pub(crate) group: Group,
@@ -33,6 +32,20 @@ pub(crate) struct Table<'a> {
     // Empty between events.
     outbox: Outbox,
     alloc: Global,
+}
+
+impl<'a> Drop for Table<'a> {
+    fn drop(self) {
+        let Table {
+            program: _program,
+            group: _group,
+            members: _members,
+            sent: _sent,
+            typed: _typed,
+            outbox: _outbox,
+            alloc: _alloc,
+        } = self;
+    }
 }
 
 impl<'a> Model for Table<'a> {

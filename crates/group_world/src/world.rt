@@ -23,9 +23,14 @@ use std::marker::Model;
 
 /// A group of 1, 3, 5, 7 or 9 nodes that run one program, all that they have sent, and all that was typed. Its nodes are real ones, each
 /// over a store in memory, and what they send are datagrams, which a delivery reads again.
-#[derive(Drop)]
 pub struct World<'a> {
     table: Table<'a>,
+}
+
+impl<'a> Drop for World<'a> {
+    fn drop(self) {
+        let World { table: _table } = self;
+    }
 }
 
 impl<'a> Model for World<'a> {

@@ -22,13 +22,24 @@ use std::marker::Model;
 use std::mem;
 
 /// An acceptor over a store, whose record it keeps.
-#[derive(Drop)]
 pub struct Acceptor<S: Store> {
     record: Record,
     me: Me,
     is_closed: bool,
     store: S,
     alloc: Global,
+}
+
+impl<S: Store + Drop> Drop for Acceptor<S> {
+    fn drop(self) {
+        let Acceptor {
+            record: _record,
+            me: _me,
+            is_closed: _is_closed,
+            store: _store,
+            alloc: _alloc,
+        } = self;
+    }
 }
 
 impl<S: Store> Model for Acceptor<S> {
@@ -232,7 +243,14 @@ impl<S: Store> Acceptor<S> {
     pub fn into_store(self) -> S
         ensures { result ≡ self.store }
     {
-        self.store
+        let Acceptor {
+            record: _record,
+            me: _me,
+            is_closed: _is_closed,
+            store,
+            alloc: _alloc,
+        } = self;
+        store
     }
 
     /// Passed on to the store: how its next save is to fail, if at all.

@@ -23,7 +23,6 @@ use std::rt::Files;
 /// A record in a file, which each save writes anew beside it and then puts in its place. What can be known of it is what it has
 /// found or saved there last, and how often the device has failed. After a fault it saves no more until it is loaded again. A load
 /// also takes a file with a record of version 1, and leaves it as it is; a save writes version 2.
-#[derive(Drop)]
 pub struct FileStore<R> {
     rt: R,
     path: String,
@@ -31,6 +30,19 @@ pub struct FileStore<R> {
     me: Me,
     found: Option<Record>,
     faults: u64,
+}
+
+impl<R: Drop> Drop for FileStore<R> {
+    fn drop(self) {
+        let FileStore {
+            rt: _rt,
+            path: _path,
+            fresh_path: _fresh_path,
+            me: _me,
+            found: _found,
+            faults: _faults,
+        } = self;
+    }
 }
 
 impl<R> Model for FileStore<R> {

@@ -15,8 +15,6 @@ mod reading;
 mod saving;
 mod store;
 mod synced;
-#[cfg(test)]
-mod tests;
 mod version;
 mod version1;
 

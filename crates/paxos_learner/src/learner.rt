@@ -21,7 +21,6 @@ use std::marker::Model;
 /// A look, and what is heard of one place, take a search; a learned place takes one more for each of its
 /// keys, at most 32, and for each key of the places that the front then rises by. No call goes over all
 /// places.
-#[derive(Drop)]
 pub struct Learner {
     size: u8,
     learned: PlaceMap<Value>,
@@ -31,6 +30,18 @@ pub struct Learner {
     input: Input,
     // The keys of the values that are learned, above a hole too.
     known: KeySet,
+}
+
+impl Drop for Learner {
+    fn drop(self) {
+        let Learner {
+            size: _size,
+            learned: _learned,
+            tallies: _tallies,
+            input: _input,
+            known: _known,
+        } = self;
+    }
 }
 
 impl Model for Learner {

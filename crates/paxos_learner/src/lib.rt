@@ -14,6 +14,3 @@ pub use heard::{Heard, LearnerFault};
 pub use input::InputAfter;
 pub use keys::{KeySet, TypedKey};
 pub use learner::Learner;
-
-#[cfg(test)]
-mod tests;

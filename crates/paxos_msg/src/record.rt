@@ -10,7 +10,7 @@ use crate::votes::Votes;
 use std::alloc::{AllocError, Global};
 
 /// What an acceptor keeps in its store.
-#[derive(Clone, Drop)]
+#[derive(Clone)]
 pub struct Record<V = Value> {
     /// How often the node was started.
     pub starts: u32,
@@ -18,6 +18,16 @@ pub struct Record<V = Value> {
     pub promised: Option<Ballot>,
     /// At most one vote for each place, none above the promised ballot.
     pub votes: Votes<V>,
+}
+
+impl<V: Drop> Drop for Record<V> {
+    fn drop(self) {
+        let Record {
+            starts: _starts,
+            promised: _promised,
+            votes: _votes,
+        } = self;
+    }
 }
 
 /// One change of a record.

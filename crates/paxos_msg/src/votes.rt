@@ -10,9 +10,17 @@ use std::marker::Model;
 
 /// A list of votes, in ascending order of place. It is made from a `Vec` and gives it back; neither
 /// takes memory.
-#[derive(Clone, Drop)]
+#[derive(Clone)]
 pub struct Votes<V = Value> {
     items: Vec<Vote<V>>,
+}
+
+impl<V: Drop> Drop for Votes<V> {
+    fn drop(self) {
+        let Votes {
+            items: _items,
+        } = self;
+    }
 }
 
 impl<V> Model for Votes<V> {
@@ -36,7 +44,8 @@ impl Votes {
     pub fn into_vec(self) -> Vec<Vote>
         ensures { result.items ≡ self }
     {
-        self.items
+        let Votes { items } = self;
+        items
     }
 
     /// The votes as a slice.

@@ -8,8 +8,6 @@ mod kept;
 pub mod laws;
 mod proposer;
 mod rounds;
-#[cfg(test)]
-mod tests;
 
 pub use fault::ProposerFault;
 pub use proposer::Proposer;

@@ -19,7 +19,6 @@ const RESERVED_PROPOSALS: usize = 17;
 /// A proposer under one ballot: from what the acceptors promise it finds the value that it may propose
 /// at each place, one place after another. A look, and a proposal, take a search; a part of a promise
 /// takes two for each vote in it, and may move the kept votes for each.
-#[derive(Drop)]
 pub struct Proposer {
     ballot: Ballot,
     size: u8,
@@ -30,6 +29,19 @@ pub struct Proposer {
     first: u32,
     /// What is proposed, at the first place and on, one after another.
     values: Vec<Value>,
+}
+
+impl Drop for Proposer {
+    fn drop(self) {
+        let Proposer {
+            ballot: _ballot,
+            size: _size,
+            coverages: _coverages,
+            kept: _kept,
+            first: _first,
+            values: _values,
+        } = self;
+    }
 }
 
 impl Model for Proposer {

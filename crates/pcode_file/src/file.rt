@@ -31,12 +31,22 @@ pub struct Proc {
 }
 
 /// A code file that passed all checks.
-#[derive(Drop)]
 pub struct CodeFile {
     name: [u8; 8],
     segment: Vec<u8>,
     number: u8,
     procs: Vec<Proc>,
+}
+
+impl Drop for CodeFile {
+    fn drop(self) {
+        let CodeFile {
+            name: _name,
+            segment: _segment,
+            number: _number,
+            procs: _procs,
+        } = self;
+    }
 }
 
 impl Model for CodeFile {

@@ -15,13 +15,21 @@ const MAX_BELOW: usize = 1023;
 
 /// The frames, seen as a list, the main frame first and the current one last; at most 1,024. Their
 /// room is made with them, so that no other call takes memory.
-#[derive(Drop)]
 pub struct Frames {
     /// The frames below the current one; none where there is no current one.
     below: Vec<Frame>,
     /// The current frame. It stands apart, since an interpreter reads it before each instruction: here
     /// that is a few loads out of the struct itself, and none from the heap.
     current: Option<Frame>,
+}
+
+impl Drop for Frames {
+    fn drop(self) {
+        let Frames {
+            below: _below,
+            current: _current,
+        } = self;
+    }
 }
 
 impl Model for Frames {

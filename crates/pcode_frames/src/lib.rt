@@ -25,6 +25,3 @@ pub use frames::Frames;
 pub use halt::Halt;
 pub use memory::Memory;
 pub use stack::{STACK_WORDS, Stack};
-
-#[cfg(test)]
-mod tests;

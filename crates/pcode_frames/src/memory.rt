@@ -10,9 +10,16 @@ pub(crate) const LIVE_WORDS: usize = 16383;
 
 /// Memory, seen as the list of its live words from word 1 on; word 0 is never live. Its room is made
 /// with it, so that no other call takes memory. A new one has no live word: frames make words live.
-#[derive(Drop)]
 pub struct Memory {
     pub(crate) words: Vec<u16>,
+}
+
+impl Drop for Memory {
+    fn drop(self) {
+        let Memory {
+            words: _words,
+        } = self;
+    }
 }
 
 impl Model for Memory {

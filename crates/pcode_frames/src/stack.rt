@@ -11,12 +11,20 @@ pub const STACK_WORDS: usize = 1024;
 
 /// The evaluation stack, seen as the list of its words, the top first; at most 1,024. Its room is made
 /// with it, so that no other call takes memory.
-#[derive(Drop)]
 pub struct Stack {
     /// The words of the stack are the last of these 1,024, the top first.
     room: Vec<u16>,
     /// How many of them are free.
     free: usize,
+}
+
+impl Drop for Stack {
+    fn drop(self) {
+        let Stack {
+            room: _room,
+            free: _free,
+        } = self;
+    }
 }
 
 impl Model for Stack {

@@ -2,26 +2,12 @@
 #![tactic(auto)]
 
 mod command;
-mod ended;
-mod files;
-mod hex;
-mod member;
-mod net;
-mod node;
-mod run;
-mod show;
-mod sim;
-mod streams;
-#[cfg(test)]
-mod tests;
-mod typed;
-mod udp;
-mod words;
+mod refusal;
 
 use command::{command, explain};
+use command_line::words_of;
 use std::io;
 use std::process::ExitCode;
-use words::words_of;
 
 fn main(rt: HostRuntime) -> ExitCode {
     let status = match words_of(&rt) {

@@ -1,0 +1,143 @@
+//! Runs and scripts over a reader or a writer that fails, and help that is printed to such a writer.
+use super::files::{PRINTS_A, READS, write_file, write_program};
+use command_line::{DEFAULT_STEPS, NotAsked, read_words};
+use group_sim::{ScriptRefusal, sim_file};
+use machine_run::{Finish, MachineRefusal, run_built_in, run_file};
+use std::alloc::{AllocError, Global};
+use std::fs;
+use std::io::{self, ErrorKind, Read, Write};
+use std::test::Fail;
+
+/// Whether the refusal's text is this code.
+fn is_code(alloc: Global, refusal: MachineRefusal, code: &str) -> Result<bool, AllocError> {
+    let text = format!(in alloc; "{refusal}")?;
+    Ok(text.as_str() == code)
+}
+
+/// Whether a run is refused with this code.
+fn is_refused(
+    alloc: Global,
+    ran: Result<Finish, MachineRefusal>,
+    code: &str,
+) -> Result<bool, AllocError> {
+    match ran {
+        Ok(_) => Ok(false),
+        Err(refusal) => is_code(alloc, refusal, code),
+    }
+}
+
+/// A reader that gives an H, and then fails.
+#[derive(Drop)]
+struct FailingReader {
+    given: bool,
+}
+
+impl Read for FailingReader {
+    fn read(&mut self, buffer: &mut [u8]) -> io::Result<usize> {
+        if self.given {
+            return Err(io::Error::from(ErrorKind::Other));
+        }
+        match buffer.first_mut() {
+            Some(place) => {
+                *place = b'H';
+                self.given = true;
+                Ok(1)
+            }
+            None => Ok(0),
+        }
+    }
+}
+
+#[test]
+fn a_reader_that_fails(rt: HostRuntime) -> Result<(), Fail> {
+    let path = write_program(&rt, "reads", &READS)?;
+    let mut input = FailingReader { given: false };
+    let mut output = Vec::new(rt.alloc());
+    let ran = run_file(&rt, path.as_str(), DEFAULT_STEPS, &mut input, &mut output);
+    fs::remove_file(&rt, path.as_str())?;
+    assert!(rt; is_refused(rt.alloc(), ran, "E2")?);
+    assert_eq!(rt; output.as_slice(), b"H".as_slice());
+    Ok(())
+}
+
+/// A writer that fails at its first write, or takes nothing.
+#[derive(Drop)]
+struct FailingWriter {
+    takes_nothing: bool,
+}
+
+impl Write for FailingWriter {
+    fn write(&mut self, _bytes: &[u8]) -> io::Result<usize> {
+        if self.takes_nothing {
+            return Ok(0);
+        }
+        Err(io::Error::from(ErrorKind::Other))
+    }
+
+    fn flush(&mut self) -> io::Result<()> {
+        Ok(())
+    }
+}
+
+/// Whether the built-in program is refused by such a writer.
+fn built_in_fails(alloc: Global, takes_nothing: bool) -> Result<bool, AllocError> {
+    let mut output = FailingWriter { takes_nothing };
+    let ran = run_built_in(alloc, DEFAULT_STEPS, &mut output);
+    is_refused(alloc, ran, "E3")
+}
+
+/// Whether a program of a file is refused by such a writer, and nothing is read.
+fn run_fails(rt: &HostRuntime, takes_nothing: bool) -> io::Result<bool> {
+    let path = write_program(rt, "prints", &PRINTS_A)?;
+    let mut input: &[u8] = b"X";
+    let mut output = FailingWriter { takes_nothing };
+    let ran = run_file(rt, path.as_str(), DEFAULT_STEPS, &mut input, &mut output);
+    fs::remove_file(rt, path.as_str())?;
+    Ok(is_refused(rt.alloc(), ran, "E3")? && input == b"X".as_slice())
+}
+
+/// Whether help, which these words ask for, is not written by such a writer.
+fn help_fails(alloc: Global, takes_nothing: bool) -> Result<bool, AllocError> {
+    let mut words = Vec::new(alloc);
+    words.push(String::from_str(alloc, "--help")?)?;
+    let mut output = FailingWriter { takes_nothing };
+    match read_words(alloc, words.as_slice()) {
+        Err(NotAsked::Help(help)) => Ok(write!(output, "{help}").is_err()),
+        _ => Ok(false),
+    }
+}
+
+#[test]
+fn a_writer_that_fails(rt: HostRuntime) -> Result<(), Fail> {
+    for takes_nothing in [false, true] {
+        assert!(rt;
+            built_in_fails(rt.alloc(), takes_nothing)?,
+            "{takes_nothing}"
+        );
+        assert!(rt; run_fails(&rt, takes_nothing)?, "{takes_nothing}");
+        assert!(rt; help_fails(rt.alloc(), takes_nothing)?, "{takes_nothing}");
+    }
+    Ok(())
+}
+
+/// Whether what a script shows is refused by such a writer.
+fn script_fails(rt: &HostRuntime, takes_nothing: bool) -> io::Result<bool> {
+    let program = write_program(rt, "program", &READS)?;
+    let script = write_file(rt, "script", b"size 1 session 7\nshow\n")?;
+    let mut output = FailingWriter { takes_nothing };
+    let happened = sim_file(rt, program.as_str(), script.as_str(), &mut output);
+    fs::remove_file(rt, program.as_str())?;
+    fs::remove_file(rt, script.as_str())?;
+    match happened {
+        Err(ScriptRefusal::Machine(refusal)) => Ok(is_code(rt.alloc(), refusal, "E3")?),
+        _ => Ok(false),
+    }
+}
+
+#[test]
+fn scripts_over_a_writer_that_fails(rt: HostRuntime) -> Result<(), Fail> {
+    for takes_nothing in [false, true] {
+        assert!(rt; script_fails(&rt, takes_nothing)?, "{takes_nothing}");
+    }
+    Ok(())
+}

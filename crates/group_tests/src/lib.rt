@@ -1,0 +1,17 @@
+//! Tests of the crates of the group: a node, its datagrams and turns, scripts, and whole groups. This crate has nothing else.
+#![tactic(auto)]
+
+#[cfg(test)]
+mod node;
+#[cfg(test)]
+mod program;
+#[cfg(test)]
+mod script;
+#[cfg(test)]
+mod seat;
+#[cfg(test)]
+mod stops;
+#[cfg(test)]
+mod wires;
+#[cfg(test)]
+mod worlds;

@@ -1,0 +1,72 @@
+//! Which nodes there are, a console, and the texts of refusals. What a node of a group of three refuses, what it sends byte by byte, and
+//! what its machine writes, stand in the files below.
+mod acts;
+mod by_hand;
+mod datagrams;
+mod refusals;
+mod running;
+mod traces;
+
+use group_node::{Config, Console, NodeFault, Offer};
+use std::test::Fail;
+
+/// Node, size and session, and how they are refused.
+const CONFIGS: [((u8, u8, u32), Option<NodeFault>); 8] = [
+    ((1, 2, 7), Some(NodeFault::Size)),
+    ((1, 11, 7), Some(NodeFault::Size)),
+    ((0, 0, 7), Some(NodeFault::Size)),
+    ((4, 3, 7), Some(NodeFault::Id)),
+    ((0, 3, 7), Some(NodeFault::Id)),
+    ((1, 3, 7), None),
+    ((1, 1, 0), None),
+    ((9, 9, 7), None),
+];
+
+#[test]
+fn nodes_of_groups(rt: HostRuntime) {
+    for ((node, size, session), fault) in CONFIGS {
+        assert_eq!(rt;
+            Config::new(node, size, session).err(),
+            fault,
+            "node {node} of {size}"
+        );
+    }
+}
+
+#[test]
+fn console_and_learner_edges(rt: HostRuntime) -> Result<(), Fail> {
+    let mut console = Console::new(rt.alloc());
+    console.reserve()?;
+    for (number, byte, offer) in [
+        (0, 0x41, Offer::Fresh),
+        (0, 0x41, Offer::Repeat),
+        (2, 0x42, Offer::Gap),
+    ] {
+        assert_eq!(rt; console.offer(number, byte), offer, "at {number}");
+    }
+    assert_eq!(rt; console.bytes(), [0x41].as_slice());
+    Ok(())
+}
+
+#[test]
+fn texts_of_refusals(rt: HostRuntime) -> Result<(), Fail> {
+    let texts = [
+        (NodeFault::Memory, "D1"),
+        (NodeFault::Store, "D2"),
+        (NodeFault::Stopped, "D3"),
+        (NodeFault::Busy, "D4"),
+        (NodeFault::SerialSpent, "D5"),
+        (NodeFault::OutboxFull, "D6"),
+        (NodeFault::Size, "D7"),
+        (NodeFault::Id, "D8"),
+        (NodeFault::BadRecord, "D9"),
+        (NodeFault::StartsSpent, "D10"),
+        (NodeFault::RoundsSpent, "D11"),
+        (NodeFault::PlacesSpent, "D12"),
+    ];
+    for (fault, expected) in texts {
+        let text = format!(in rt.alloc(); "{fault}")?;
+        assert_eq!(rt; text.as_str(), expected);
+    }
+    Ok(())
+}

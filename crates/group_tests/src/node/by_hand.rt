@@ -1,0 +1,88 @@
+//! A node by hand: the example of docs/ARCHITECTURE.md.
+ghost use Rattle.std.specs.Prelude.{◌≡◌, IfOk};
+
+use crate::program::reading_program;
+use group_node::{Config, Console, Node, NodeFault, Outbox, StartRefused};
+use paxos_acceptor::MemoryStore;
+use paxos_msg::{Group, Record, decode};
+use pcode_ops::Program;
+use std::alloc::Global;
+use std::test::Fail;
+
+/// The node hears the oldest packet of its outbox. It is alone in its group, so that all packets go to itself.
+fn hear_itself(node: &mut Node<'_, MemoryStore>, outbox: &mut Outbox) -> Result<(), NodeFault>
+    requires { node.old.protocol.rules.me.group ≡ record { size = 1; session = 7 } }
+    ensures { node.new.protocol.rules.me.group ≡ record { size = 1; session = 7 } }
+{
+    let Some(packet) = outbox.pop() else {
+        return Ok(());
+    };
+    let group = Group {
+        size: 1,
+        session: 7,
+    };
+    match decode(packet.bytes.as_slice(), group) {
+        Ok(view) => node.on_message(&view, outbox),
+        Err(_) => Ok(()),
+    }
+}
+
+/// The node takes a key, and leads.
+fn lead(node: &mut Node<'_, MemoryStore>, outbox: &mut Outbox) -> Result<(), NodeFault>
+    requires { node.old.protocol.rules.me.group ≡ record { size = 1; session = 7 } }
+{
+    let _key = node.typed(65)?; // it waits; the answer is the key
+    node.campaign(outbox)?; // a promise is saved, and a Prepare is in the outbox
+    hear_itself(node, outbox)?; // its Prepare: its Promise is in the outbox
+    hear_itself(node, outbox)?; // its Promise: from here on it leads
+    node.tick(outbox) // the key is submitted, and what was learned is asked for
+}
+
+/// The node's machine runs on the keys that are learned, and what it writes is shown.
+fn show(node: &mut Node<'_, MemoryStore>, console: &mut Console) -> Result<(), NodeFault> {
+    let _ran = node.run(1_000)?;
+    for _ in 0..node.unreleased() {
+        if let Some((number, byte)) = node.release() {
+            console.offer(number, byte); // Fresh, Repeat or Gap
+        }
+    }
+    Ok(())
+}
+
+/// A node that is alone in its group, started for the first time.
+fn alone(
+    alloc: Global,
+    program: &Program,
+) -> Result<Node<'_, MemoryStore>, StartRefused<MemoryStore>>
+    ensures { IfOk result (λ node. node.protocol.rules.me.group ≡ record { size = 1; session = 7 }) }
+{
+    let store = MemoryStore::new(Record::new(alloc));
+    let Ok(config) = Config::new(1, 1, 7) else {
+        let fault = NodeFault::Id;
+        return Err(StartRefused { fault, store });
+    };
+    Node::start(alloc, program, config, store) // the start is saved
+}
+
+/// How many packets there is room for in the end, and how many bytes were shown.
+fn by_hand(alloc: Global, program: &Program) -> Result<(usize, usize), Fail> {
+    let mut outbox = Outbox::new(alloc)?;
+    let mut console = Console::new(alloc);
+    let Ok(mut node) = alone(alloc, program) else {
+        return Err(Fail::from("no start"));
+    };
+    let led = lead(&mut node, &mut outbox);
+    let shown = show(&mut node, &mut console);
+    let _store = node.into_store();
+    led?;
+    shown?;
+    Ok((outbox.free(), console.bytes().len()))
+}
+
+/// The Submit and the Ask of the tick are in the outbox, and no key is learned yet.
+#[test]
+fn node_by_hand(rt: HostRuntime) -> Result<(), Fail> {
+    let program = reading_program(rt.alloc())?;
+    assert_eq!(rt; by_hand(rt.alloc(), &program)?, (62, 0));
+    Ok(())
+}

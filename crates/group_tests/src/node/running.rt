@@ -1,0 +1,37 @@
+//! The machine of a node, whose output waits until it is released.
+use super::acts::Act::{HasOutput, ReleasesZeros, Runs};
+use super::refusals::fresh;
+use crate::program::writing_program;
+use group_node::Ran::{Ended, Full, More};
+use pcode_machine::End;
+use std::test::Fail;
+
+/// Seven steps come before the transfer, which writes one byte a step: after 263 steps 256 bytes wait, and the next step is
+/// not made.
+#[test]
+fn full_after_263_steps(rt: HostRuntime) -> Result<(), Fail> {
+    let program = writing_program(rt.alloc())?;
+    let unlike = fresh(
+        rt.alloc(),
+        &program,
+        &[
+            (Runs(262, More), None),
+            (HasOutput(255), None),
+            (Runs(1, More), None),
+            (HasOutput(256), None),
+            (Runs(1, Full), None),
+            (HasOutput(256), None),
+            (ReleasesZeros(0, 256), None),
+            (Runs(1000, Ended(End::Normal)), None),
+            (ReleasesZeros(256, 300), None),
+        ],
+    )?;
+    assert_eq!(rt; unlike, None);
+    let unlike = fresh(
+        rt.alloc(),
+        &program,
+        &[(Runs(263, More), None), (Runs(1, Full), None)],
+    )?;
+    assert_eq!(rt; unlike, None);
+    Ok(())
+}

@@ -1,0 +1,287 @@
+//! A stop at each save: a script in which twelve saves are made, and each of them fails once with the old record and once with the
+//! changed one. The group goes on from there.
+use crate::program::reading_program;
+use group_node::To;
+use group_world::{Act, Done, Event, Outcome, World, WorldFault};
+use pcode_ops::Program;
+use std::alloc::Global;
+use std::marker::Model;
+use std::test::Fail;
+
+/// Node 1 leads, and two keys are typed at node 2, each of which all nodes learn. Messages are numbered in the order in which they are sent:
+/// 0 asks for promises, 1 to 3 are the promises, 4 and 10 submit a key, 5 and 11 ask what was learned, 6 and 12 propose, and the
+/// others report votes.
+const EVENTS: [Act; 62] = [
+    Act::Start(1),
+    Act::Start(2),
+    Act::Start(3),
+    Act::Campaign(1),
+    Act::Deliver(0, 1),
+    Act::Deliver(0, 2),
+    Act::Deliver(0, 3),
+    Act::Deliver(1, 1),
+    Act::Deliver(2, 1),
+    Act::Deliver(3, 1),
+    Act::Press(2, 0x48),
+    Act::Tick(2),
+    Act::Deliver(4, 1),
+    Act::Deliver(4, 2),
+    Act::Deliver(4, 3),
+    Act::Deliver(5, 1),
+    Act::Deliver(5, 2),
+    Act::Deliver(5, 3),
+    Act::Deliver(6, 1),
+    Act::Deliver(6, 2),
+    Act::Deliver(6, 3),
+    Act::Deliver(7, 1),
+    Act::Deliver(7, 2),
+    Act::Deliver(7, 3),
+    Act::Deliver(8, 1),
+    Act::Deliver(8, 2),
+    Act::Deliver(8, 3),
+    Act::Deliver(9, 1),
+    Act::Deliver(9, 2),
+    Act::Deliver(9, 3),
+    Act::Run(1, 1000),
+    Act::Release(1),
+    Act::Run(2, 1000),
+    Act::Release(2),
+    Act::Run(3, 1000),
+    Act::Release(3),
+    Act::Press(2, 0x51),
+    Act::Tick(2),
+    Act::Deliver(10, 1),
+    Act::Deliver(10, 2),
+    Act::Deliver(10, 3),
+    Act::Deliver(11, 1),
+    Act::Deliver(11, 2),
+    Act::Deliver(11, 3),
+    Act::Deliver(12, 1),
+    Act::Deliver(12, 2),
+    Act::Deliver(12, 3),
+    Act::Deliver(13, 1),
+    Act::Deliver(13, 2),
+    Act::Deliver(13, 3),
+    Act::Deliver(14, 1),
+    Act::Deliver(14, 2),
+    Act::Deliver(14, 3),
+    Act::Deliver(15, 1),
+    Act::Deliver(15, 2),
+    Act::Deliver(15, 3),
+    Act::Run(1, 1000),
+    Act::Release(1),
+    Act::Run(2, 1000),
+    Act::Release(2),
+    Act::Run(3, 1000),
+    Act::Release(3),
+];
+
+/// The events that save, by their numbers, and what each console shows in the end where the save fails: a start, a promise, a vote. The
+/// first key is typed after the promises; the second one is typed again.
+const SAVES: [(usize, &[u8]); 12] = [
+    (0, b"\x51"),
+    (1, b"\x51"),
+    (2, b"\x51"),
+    (3, b"\x51"),
+    (5, b"\x51"),
+    (6, b"\x51"),
+    (18, b"\x48\x51"),
+    (19, b"\x48\x51"),
+    (20, b"\x48\x51"),
+    (44, b"\x48\x51"),
+    (45, b"\x48\x51"),
+    (46, b"\x48\x51"),
+];
+
+/// How many places are looked at. No more are used.
+const PLACES: u32 = 16;
+
+/// The nodes.
+const NODES: [u8; 3] = [1, 2, 3];
+
+/// Two nodes.
+const PAIRS: [(u8, u8); 3] = [(1, 2), (1, 3), (2, 3)];
+
+/// A group whose events are looked at one after the other. What contracts see of it is nothing, so that a test does not carry a
+/// world from one event to the next.
+#[derive(Drop)]
+struct Watched<'a> {
+    world: World<'a>,
+    /// How many messages were delivered to all.
+    passed: usize,
+}
+
+impl<'a> Model for Watched<'a> {
+    ghost Value = { Unit {0} };
+
+    ghost view = { λ _. tt };
+}
+
+impl<'a> Watched<'a> {
+    /// A group in which nothing has happened.
+    fn new(alloc: Global, program: &'a Program) -> Result<Watched<'a>, WorldFault> {
+        let world = World::new(alloc, program, 3, 7)?;
+        Ok(Watched { world, passed: 0 })
+    }
+
+    /// Whether two nodes have learned different values for a place.
+    fn differ_at(&self, left: u8, right: u8, place: u32) -> bool {
+        let left = self.world.node(left).and_then(|node| node.learned(place));
+        let right = self.world.node(right).and_then(|node| node.learned(place));
+        left.is_some() && right.is_some() && left != right
+    }
+
+    /// Whether of the consoles of two nodes one is a prefix of the other.
+    fn shows_one(&self, left: u8, right: u8) -> bool {
+        let left = self.world.console(left).unwrap_or(&[]);
+        let right = self.world.console(right).unwrap_or(&[]);
+        left.starts_with(right) || right.starts_with(left)
+    }
+
+    /// Whether two nodes contradict each other.
+    fn contradict(&self, left: u8, right: u8) -> bool {
+        !self.shows_one(left, right) || (0..PLACES).any(|place| self.differ_at(left, right, place))
+    }
+
+    /// An event happens, and no node contradicts another then.
+    fn happen(&mut self, act: Act, save: Outcome) -> Result<Done, Fail> {
+        let done = self.world.apply(&Event { act, save })?;
+        for (left, right) in PAIRS {
+            if self.contradict(left, right) {
+                return Err(Fail::new("nodes contradict each other"));
+            }
+        }
+        Ok(done)
+    }
+
+    /// An event happens whose save, if it makes one, succeeds.
+    fn go_on(&mut self, act: Act) -> Result<(), Fail> {
+        match self.happen(act, Outcome::Kept)? {
+            Done::Applied => Ok(()),
+            Done::Refused(_) | Done::Fell => Err(Fail::new("no event")),
+        }
+    }
+
+    /// The events before this one happen.
+    fn begin(&mut self, count: usize) -> Result<(), Fail> {
+        for act in EVENTS.iter().take(count) {
+            self.go_on(*act)?;
+        }
+        Ok(())
+    }
+
+    /// Each node that is down starts.
+    fn start_all(&mut self) -> Result<(), Fail> {
+        for node in NODES {
+            if self.world.node(node).is_none() {
+                self.go_on(Act::Start(node))?;
+            }
+        }
+        Ok(())
+    }
+
+    /// To whom a message goes, if there is one of that number.
+    fn addressee(&self, message: usize) -> Option<To> {
+        self.world.message(message).map(|packet| packet.to)
+    }
+
+    /// A message is delivered to those whom it is meant for.
+    fn pass(&mut self, message: usize, to: To) -> Result<(), Fail> {
+        for node in NODES {
+            if to == To::All || to == To::One(node) {
+                self.go_on(Act::Deliver(message, node))?;
+            }
+        }
+        Ok(())
+    }
+
+    /// All messages are delivered that were not yet delivered to all, and those that they cause.
+    fn deliver_all(&mut self) -> Result<(), Fail> {
+        for message in self.passed..1000 {
+            let Some(to) = self.addressee(message) else {
+                self.passed = message;
+                return Ok(());
+            };
+            self.pass(message, to)?;
+        }
+        Err(Fail::new("messages without end"))
+    }
+
+    /// A node's machine makes its steps.
+    fn play(&mut self, node: u8) -> Result<(), Fail> {
+        self.go_on(Act::Run(node, 1000))?;
+        for _ in 0..2 {
+            self.go_on(Act::Release(node))?;
+        }
+        Ok(())
+    }
+
+    /// The machines make their steps, and what they write is released.
+    fn play_all(&mut self) -> Result<(), Fail> {
+        for node in NODES {
+            self.play(node)?;
+        }
+        Ok(())
+    }
+
+    /// The group goes on after a stop: the second key is typed once more.
+    fn recover(&mut self) -> Result<(), Fail> {
+        self.start_all()?;
+        self.go_on(Act::Campaign(1))?;
+        self.deliver_all()?;
+        self.go_on(Act::Press(2, 0x51))?;
+        self.go_on(Act::Tick(2))?;
+        self.deliver_all()?;
+        self.play_all()
+    }
+
+    /// Whether all consoles show these bytes.
+    fn shows(&self, bytes: &[u8]) -> bool {
+        NODES
+            .iter()
+            .all(|node| self.world.console(*node) == Some(bytes))
+    }
+}
+
+/// The save of an event fails so; then the group goes on, and all consoles show this in the end.
+fn stops_at(
+    alloc: Global,
+    program: &Program,
+    event: usize,
+    save: Outcome,
+    shown: &[u8],
+) -> Result<bool, Fail> {
+    let mut group = Watched::new(alloc, program)?;
+    group.begin(event)?;
+    let Some(act) = EVENTS.get(event) else {
+        return Ok(false);
+    };
+    if group.happen(*act, save)? != Done::Fell {
+        return Ok(false);
+    }
+    group.recover()?;
+    Ok(group.shows(shown))
+}
+
+#[test]
+fn each_save_fails(rt: HostRuntime) -> Result<(), Fail> {
+    let program = reading_program(rt.alloc())?;
+    for (event, shown) in SAVES {
+        for save in [Outcome::FailedOld, Outcome::FailedNew] {
+            let stops = stops_at(rt.alloc(), &program, event, save, shown)?;
+            assert!(rt; stops, "{event} {save:?}");
+        }
+    }
+    Ok(())
+}
+
+/// The script itself: twelve of its events save, and no others.
+#[test]
+fn no_save_fails(rt: HostRuntime) -> Result<(), Fail> {
+    let program = reading_program(rt.alloc())?;
+    let mut group = Watched::new(rt.alloc(), &program)?;
+    group.begin(EVENTS.len())?;
+    assert!(rt; group.shows(b"\x48\x51"));
+    assert_eq!(rt; group.world.sent(), 16);
+    Ok(())
+}

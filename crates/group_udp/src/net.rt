@@ -1,0 +1,216 @@
+//! A group in one process: its nodes on loopback UDP, over stores in memory.
+use crate::ended::Ended;
+use crate::member::Member;
+use crate::udp::{UdpWire, Watch, bind};
+use group_node::{Config, Console, Offer};
+use machine_run::{RunIo, load_file, read_input, write_bytes};
+use mio::net::UdpSocket;
+use paxos_acceptor::MemoryStore;
+use paxos_msg::{Group, Record};
+use pcode_ops::Program;
+use std::alloc::Global;
+use std::io::{self, Read, Write};
+use std::net::{Ipv4Addr, Net, SocketAddr, SocketAddrV4};
+use std::rt::Files;
+use std::time::Clock;
+
+/// The session of a group in one process.
+const SESSION: u32 = 1;
+
+/// A node on its socket, and what its console shows.
+struct Seat<'a, H> {
+    member: Member<'a, MemoryStore>,
+    wire: UdpWire<'a, H>,
+    console: Console,
+}
+
+impl<'a, H> Drop for Seat<'a, H> {
+    fn drop(self) {
+        let Seat {
+            member: _member,
+            wire: _wire,
+            console: _console,
+        } = self;
+    }
+}
+
+impl<'a, H: Clock> Seat<'a, H> {
+    /// A node that is started over an empty record.
+    fn start(
+        alloc: Global,
+        program: &'a Program,
+        config: Config,
+        wire: UdpWire<'a, H>,
+    ) -> Result<Seat<'a, H>, Ended> {
+        let store = MemoryStore::new(Record::new(alloc));
+        let member = Member::start(alloc, program, config, store)?;
+        let console = Console::new(alloc);
+        Ok(Seat {
+            member,
+            wire,
+            console,
+        })
+    }
+
+    /// All output that waits goes to the console.
+    fn release_all(&mut self) -> Result<(), Ended> {
+        for _ in 0..self.member.unreleased() {
+            if let Some((number, byte)) = self.member.release() {
+                if self.console.offer(number, byte) == Offer::Memory {
+                    return Err(Ended::from(RunIo::Memory));
+                }
+            }
+        }
+        Ok(())
+    }
+
+    /// A turn of the node, once a datagram is there: its last tick has left it one.
+    fn play(&mut self) -> Result<(), Ended> {
+        self.wire.begin_wait();
+        self.wire.wait();
+        self.member.turn(&mut self.wire)?;
+        self.release_all()
+    }
+
+    /// Writes the line of the node with this number.
+    fn write_line<W: Write>(&self, writer: &mut W, number: usize) -> io::Result<()> {
+        let known = self.member.known_front();
+        write!(writer, "node {number} known {known} console ")?;
+        write_bytes(writer, self.console.bytes())?;
+        writeln!(writer)
+    }
+}
+
+/// So many sockets on loopback, on ports that are free.
+fn sockets<H: Net>(rt: &H, alloc: Global, size: u8) -> Result<Vec<UdpSocket>, Ended> {
+    let address = SocketAddr::V4(SocketAddrV4::new(Ipv4Addr::LOCALHOST, 0));
+    let mut sockets = Vec::new(alloc);
+    for _ in 0..size {
+        sockets.push(bind(rt, address)?)?;
+    }
+    Ok(sockets)
+}
+
+/// The addresses of sockets, in order.
+fn addresses(alloc: Global, sockets: &[UdpSocket]) -> Result<Vec<SocketAddr>, Ended> {
+    let mut addresses = Vec::new(alloc);
+    for socket in sockets {
+        let Ok(address) = socket.local_addr() else {
+            return Err(Ended::Socket);
+        };
+        addresses.push(address)?;
+    }
+    Ok(addresses)
+}
+
+/// Sockets as wires of the nodes with these addresses.
+fn wires<'a, H: Net + Clock + AllocGlobal>(
+    rt: &'a H,
+    sockets: Vec<UdpSocket>,
+    addresses: &'a [SocketAddr],
+) -> Result<Vec<UdpWire<'a, H>>, Ended> {
+    let mut wires = Vec::new(rt.alloc());
+    for socket in sockets {
+        wires.push(UdpWire::new(rt, socket, Watch::new(rt)?, addresses)?)?;
+    }
+    Ok(wires)
+}
+
+/// The nodes of the group, started one after the other, on these wires.
+fn seats<'a, H: Clock>(
+    alloc: Global,
+    program: &'a Program,
+    group: Group,
+    wires: Vec<UdpWire<'a, H>>,
+) -> Result<Vec<Seat<'a, H>>, Ended> {
+    let mut seats = Vec::new(alloc);
+    let mut number = 0u8;
+    for wire in wires {
+        number = number.saturating_add(1);
+        let config = Config::new(number, group.size, group.session)?;
+        seats.push(Seat::start(alloc, program, config, wire)?)?;
+    }
+    Ok(seats)
+}
+
+/// Node 1 begins a ballot.
+fn campaign<H: Clock>(seats: &mut [Seat<'_, H>]) -> Result<(), Ended> {
+    match seats.first_mut() {
+        Some(seat) => Ok(seat.member.campaign()?),
+        None => Ok(()),
+    }
+}
+
+/// Node 1 types as many of the bytes as it has room for, and takes them off the front.
+fn press_first<H: Clock>(seats: &mut [Seat<'_, H>], bytes: &mut &[u8]) -> Result<(), Ended> {
+    match seats.first_mut() {
+        Some(seat) => Ok(seat.member.press_some(bytes)?),
+        None => Ok(()),
+    }
+}
+
+/// A turn of each node, in order.
+fn play_all<H: Clock>(seats: &mut [Seat<'_, H>]) -> Result<(), Ended> {
+    for seat in seats.iter_mut() {
+        seat.play()?;
+    }
+    Ok(())
+}
+
+/// The turns of the group. Bytes are typed at node 1 before each, as room allows.
+fn play<H: Clock>(seats: &mut [Seat<'_, H>], turns: u32, input: &[u8]) -> Result<(), Ended> {
+    let mut rest = input;
+    for _ in 0..turns {
+        press_first(seats, &mut rest)?;
+        play_all(seats)?;
+    }
+    Ok(())
+}
+
+/// Writes the line of each node.
+fn write_all<H: Clock, W: Write>(writer: &mut W, seats: &[Seat<'_, H>]) -> io::Result<()> {
+    for (index, seat) in seats.iter().enumerate() {
+        seat.write_line(writer, index.saturating_add(1))?;
+    }
+    Ok(())
+}
+
+/// Runs a group of so many nodes in this process for so many turns, and writes a line for each node. Node 1 campaigns first, and the
+/// input is typed at it. It ends at a node's first refusal.
+fn net<H: Net + Clock + AllocGlobal, W: Write>(
+    rt: &H,
+    program: &Program,
+    size: u8,
+    turns: u32,
+    input: &[u8],
+    writer: &mut W,
+) -> Result<(), Ended> {
+    let alloc = rt.alloc();
+    let group = Group {
+        size,
+        session: SESSION,
+    };
+    let sockets = sockets(rt, alloc, size)?;
+    let addresses = addresses(alloc, sockets.as_slice())?;
+    let wires = wires(rt, sockets, addresses.as_slice())?;
+    let mut seats = seats(alloc, program, group, wires)?;
+    campaign(seats.as_mut_slice())?;
+    play(seats.as_mut_slice(), turns, input)?;
+    write_all(writer, seats.as_slice()).or(Err(Ended::from(RunIo::Write)))
+}
+
+/// Runs the program of a code file in a group in this process, with the input typed at node 1. The code file is looked at first, then the
+/// size, then the input.
+pub fn net_file<H: Files + Net + Clock + AllocGlobal, R: Read, W: Write>(
+    rt: &H,
+    file: &str,
+    size: u8,
+    turns: u32,
+    reader: &mut R,
+    writer: &mut W,
+) -> Result<(), Ended> {
+    let program = load_file(rt, file)?;
+    Config::new(1, size, SESSION)?;
+    let input = read_input(rt.alloc(), reader)?;
+    net(rt, &program, size, turns, input.as_slice(), writer)
+}

@@ -1,0 +1,157 @@
+//! UDP sockets as wires.
+ghost use Rattle.std.specs.Prelude.{◌≡◌, ◌≤◌, length, IfSome};
+
+use crate::ended::Ended;
+use group_wire::Wire;
+use mio::net::UdpSocket;
+use mio::{Events, Interest, Poll, Token};
+use std::net::{Net, SocketAddr};
+use std::time::{Clock, Duration, Instant};
+
+/// How long a node waits between two turns at most, in milliseconds.
+const WAIT: u64 = 10;
+
+/// A socket at this address, whose calls never wait.
+pub fn bind<H: Net>(rt: &H, address: SocketAddr) -> Result<UdpSocket, Ended> {
+    UdpSocket::bind(rt, address).or(Err(Ended::Socket))
+}
+
+/// The next datagram of a socket, at the front of the buffer and cut to its length; nothing where none came or the receive failed.
+pub fn receive_from(socket: &UdpSocket, buffer: &mut [u8]) -> Option<usize>
+    ensures within { IfSome result (λ count. count ≤ length buffer.new) }
+{
+    match socket.recv_from(buffer) {
+        Ok((count, _)) => Some(count),
+        Err(_) => None,
+    }
+}
+
+/// The sockets that a node waits for: its own, and one for typed bytes where it has one.
+#[derive(Drop)]
+pub struct Watch {
+    poll: Poll,
+    events: Events,
+}
+
+/// The node's own socket.
+const OWN: Token = Token(0);
+
+/// The socket of typed bytes.
+const TYPED: Token = Token(1);
+
+impl Watch {
+    /// Watches nothing yet.
+    pub fn new<H: Net + AllocGlobal>(rt: &H) -> Result<Watch, Ended> {
+        let Ok(poll) = Poll::new(rt) else {
+            return Err(Ended::Socket);
+        };
+        let events = Events::with_capacity(rt.alloc(), 2)?;
+        Ok(Watch { poll, events })
+    }
+
+    /// Watches a socket.
+    fn add(&self, socket: &mut UdpSocket, token: Token) -> Result<(), Ended> {
+        self.poll
+            .registry()
+            .register(socket, token, Interest::READABLE)
+            .or(Err(Ended::Socket))
+    }
+
+    /// Watches the socket of typed bytes.
+    pub fn add_typed(&self, socket: &mut UdpSocket) -> Result<(), Ended> {
+        self.add(socket, TYPED)
+    }
+
+    /// Waits until a datagram has come, at most so long. Whether one has come to the socket of typed bytes: that is told only once.
+    fn wait(&mut self, most: Duration) -> bool {
+        match self.poll.poll(&mut self.events, Some(most)) {
+            Ok(()) => self.events.iter().any(|event| event.token() == TYPED),
+            Err(_) => false,
+        }
+    }
+}
+
+/// A node's socket, and the addresses of all nodes in order. Its receives don't wait; the node waits between its turns.
+pub struct UdpWire<'a, H> {
+    clock: &'a H,
+    socket: UdpSocket,
+    watch: Watch,
+    addresses: &'a [SocketAddr],
+    /// Until when it is waited for a datagram.
+    until: Option<Instant>,
+}
+
+impl<'a, H> Drop for UdpWire<'a, H> {
+    fn drop(self) {
+        let UdpWire {
+            clock: _clock,
+            socket: _socket,
+            watch: _watch,
+            addresses: _addresses,
+            until: _until,
+        } = self;
+    }
+}
+
+impl<'a, H: Clock> UdpWire<'a, H> {
+    /// The wire of a node with this socket. Typed bytes end its waiting too, where the watch has a socket for them.
+    pub fn new(
+        clock: &'a H,
+        mut socket: UdpSocket,
+        watch: Watch,
+        addresses: &'a [SocketAddr],
+    ) -> Result<UdpWire<'a, H>, Ended> {
+        watch.add(&mut socket, OWN)?;
+        Ok(UdpWire {
+            clock,
+            socket,
+            watch,
+            addresses,
+            until: None,
+        })
+    }
+
+    /// Begins a time of waiting: 10 milliseconds in all.
+    pub fn begin_wait(&mut self) {
+        self.until = match Instant::now(self.clock) {
+            Ok(now) => now.checked_add(Duration::from_millis(WAIT)),
+            Err(_) => None,
+        };
+    }
+
+    /// How long it may still be waited.
+    fn left(&self) -> Option<Duration> {
+        let now = Instant::now(self.clock).ok()?;
+        self.until?.checked_duration_since(now)
+    }
+
+    /// Waits for a datagram, where all that were there have been received. Whether there may be one: not where the time is over, or where
+    /// bytes were typed.
+    pub fn wait(&mut self) -> bool {
+        match self.left() {
+            Some(left) => !self.watch.wait(left),
+            None => false,
+        }
+    }
+}
+
+impl<H: Clock> Wire for UdpWire<'_, H> {
+    ghost use Rattle.std.specs.Prelude.{None};
+
+    // What the system does with it is not known.
+    ghost traffic = { λ _. None };
+
+    fn send(&mut self, to: u8, bytes: &[u8]) -> bool {
+        let Some(index) = usize::from(to).checked_sub(1) else {
+            return false;
+        };
+        match self.addresses.get(index) {
+            Some(address) => self.socket.send_to(bytes, *address).is_ok(),
+            None => false,
+        }
+    }
+
+    fn receive(&mut self, buffer: &mut [u8]) -> Option<usize> {
+        receive_from(&self.socket, buffer)
+    }
+}

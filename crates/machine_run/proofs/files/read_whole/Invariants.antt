@@ -1,0 +1,9 @@
+use Rattle.std.proofs.Common.{◌≤◌, vec_len}
+use Rattle.std.specs.Io.KnownBytes.{Consumes}
+use Rattle.machine_run.proofs.files.read_whole.Given as goal
+
+abbrev pub invariant-loop : goal.invariant-loop
+invariant-loop g l = record {
+  whole : Consumes (g.R.Read.remaining l.fn.reader) (g.R.Read.remaining l.reader) l.bytes.items;
+  short : vec_len l.bytes ≤ 67108864;
+}

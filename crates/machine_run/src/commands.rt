@@ -1,0 +1,85 @@
+//! What the commands `check`, `list` and `run` do with a code file.
+use crate::files::read_file;
+use crate::loading::load;
+use crate::refusal::MachineRefusal;
+use crate::run::{Finish, RunIo, run_program};
+use crate::streams::{CountingReader, CountingWriter};
+use pcode_ops::Program;
+use std::alloc::Global;
+use std::io::{self, BufWriter, Read, Write};
+use std::rt::Files;
+
+/// Runs the program of a code file's bytes.
+pub fn run_bytes<R: Read, W: Write>(
+    alloc: Global,
+    bytes: &[u8],
+    steps: u32,
+    reader: &mut R,
+    writer: &mut W,
+) -> Result<Finish, MachineRefusal> {
+    let program = load(alloc, bytes)?;
+    let mut reader = CountingReader::new(reader);
+    let mut writer = CountingWriter::new(writer);
+    Ok(run_program(alloc, &mut reader, &mut writer, &program, steps)?)
+}
+
+/// Runs the program of a code file for at most this many steps.
+pub fn run_file<H: Files + AllocGlobal, R: Read, W: Write>(
+    rt: &H,
+    file: &str,
+    steps: u32,
+    reader: &mut R,
+    writer: &mut W,
+) -> Result<Finish, MachineRefusal> {
+    let bytes = read_file(rt, file)?;
+    run_bytes(rt.alloc(), bytes.as_slice(), steps, reader, writer)
+}
+
+/// The program of a code file.
+pub fn load_file<H: Files + AllocGlobal>(rt: &H, file: &str) -> Result<Program, MachineRefusal> {
+    let bytes = read_file(rt, file)?;
+    load(rt.alloc(), bytes.as_slice())
+}
+
+/// Writes the line of a checked program.
+fn write_checked<W: Write>(writer: &mut W, program: &Program) -> io::Result<()> {
+    let segment = program.file().number();
+    let count = program.file().count();
+    let reached = program.reached();
+    writeln!(
+        writer,
+        "ok segment {segment} procedures {count} reached {reached}"
+    )
+}
+
+/// Checks a code file, and writes the segment's number and how many procedures and reached offsets it has.
+pub fn check_file<H: Files + AllocGlobal, W: Write>(
+    rt: &H,
+    file: &str,
+    writer: &mut W,
+) -> Result<(), MachineRefusal> {
+    let program = load_file(rt, file)?;
+    write_checked(writer, &program).or(Err(MachineRefusal::Run(RunIo::Write)))
+}
+
+/// Writes the listing of a program, all of it.
+fn write_listing<W: Write + Drop>(program: &Program, pieces: &mut BufWriter<W>) -> io::Result<()> {
+    program.write_listing(pieces)?;
+    pieces.flush()
+}
+
+/// Lists the program of a code file, in pieces of some kilobytes.
+pub fn list_file<H: Files + AllocGlobal, W: Write>(
+    rt: &H,
+    file: &str,
+    writer: &mut W,
+) -> Result<(), MachineRefusal> {
+    let program = load_file(rt, file)?;
+    let mut pieces = BufWriter::new(rt.alloc(), writer).or(Err(MachineRefusal::Run(
+        RunIo::Memory,
+    )))?;
+    let written = write_listing(&program, &mut pieces);
+    // What a failed write has left behind is not tried again.
+    let _ = pieces.into_parts();
+    written.or(Err(MachineRefusal::Run(RunIo::Write)))
+}

@@ -1,0 +1,22 @@
+//! From the bytes of a code file to a program.
+ghost use Rattle.std.specs.Prelude.{IfOk, IfErr};
+ghost use Rattle.pcode_file.specs.InFile.{InFile};
+ghost use Rattle.pcode_ops.specs.Reach.{IsLoadable};
+ghost use Rattle.machine_run.specs.Loading.{IsNoProgram};
+
+use crate::refusal::MachineRefusal;
+use pcode_file::CodeFile;
+use pcode_ops::Program;
+use std::alloc::Global;
+
+/// The program of a code file's bytes, or why they are none.
+pub fn load(alloc: Global, bytes: &[u8]) -> Result<Program, MachineRefusal>
+    ensures ok { IfOk result (λ program. InFile bytes.now program × IsLoadable program) }
+    ensures err { IfErr result (IsNoProgram bytes.now) }
+{
+    let file = CodeFile::read(alloc, bytes)?;
+    match Program::check(alloc, file) {
+        Ok(program) => Ok(program),
+        Err(refused) => Err(MachineRefusal::Load(refused.fault)),
+    }
+}

@@ -1,0 +1,73 @@
+//! What the commands of one machine refuse.
+use crate::files::FileError;
+use crate::run::RunIo;
+use paxos_msg::WireFault;
+use pcode_file::FileFault;
+use pcode_ops::LoadFault;
+use thiserror::Error;
+
+/// What a command of one machine refuses. Its text follows the word `refused`.
+#[derive(Clone, Copy, Debug, Error)]
+pub enum MachineRefusal {
+    /// The file can't be opened or read, or is too long.
+    #[error("file")]
+    File,
+    /// The bytes are no code file.
+    #[error(transparent)]
+    CodeFile(FileFault),
+    /// The code file is no program.
+    #[error("{0}")]
+    Load(LoadFault),
+    /// There is no memory, or a read or a write failed.
+    #[error(transparent)]
+    Run(RunIo),
+    /// The bytes are no datagram of the group.
+    #[error(transparent)]
+    Datagram(WireFault),
+}
+
+impl From<FileError> for MachineRefusal {
+    ghost use Rattle.std.specs.Prelude.{◌≡◌};
+    ghost use Rattle.machine_run.specs.declared.refusal.MachineRefusal.TheVariants.{File, Run};
+    ghost use Rattle.machine_run.specs.declared.files.FileError.TheVariants as file;
+    ghost use Rattle.machine_run.specs.declared.run.RunIo.TheVariants as run;
+
+    ghost from_gives = { λ error r. (error ≡ file.Unreadable → r ≡ File) × (error ≡ file.Memory → r ≡ Run run.Memory) };
+
+    fn from(error: FileError) -> MachineRefusal {
+        match error {
+            FileError::Unreadable => MachineRefusal::File,
+            FileError::Memory => MachineRefusal::Run(RunIo::Memory),
+        }
+    }
+}
+
+impl From<FileFault> for MachineRefusal {
+    ghost use Rattle.std.specs.Prelude.{◌≡◌};
+    ghost use Rattle.machine_run.specs.declared.refusal.MachineRefusal.TheVariants.{CodeFile};
+
+    ghost from_gives = { λ fault r. r ≡ CodeFile fault };
+
+    fn from(fault: FileFault) -> MachineRefusal {
+        MachineRefusal::CodeFile(fault)
+    }
+}
+
+impl From<RunIo> for MachineRefusal {
+    ghost use Rattle.std.specs.Prelude.{◌≡◌};
+    ghost use Rattle.machine_run.specs.declared.refusal.MachineRefusal.TheVariants.{Run};
+
+    ghost from_gives = { λ fault r. r ≡ Run fault };
+
+    fn from(fault: RunIo) -> MachineRefusal {
+        MachineRefusal::Run(fault)
+    }
+}
+
+/// Why a datagram is not printed.
+#[derive(Clone, Copy, Debug)]
+pub enum ShowFault {
+    /// The digits are no bytes.
+    BadHex,
+    Refused(MachineRefusal),
+}

@@ -1,0 +1,141 @@
+//! A program over a reader and a writer.
+ghost use Rattle.std.specs.Prelude.{◌≡◌, ℕ, List, [], ◌∷◌, MatchResult};
+ghost use Rattle.std.specs.Io.KnownBytes.{Keeps, Appends};
+ghost use Rattle.base.specs.Faults.{HasRisen};
+ghost use Rattle.pcode_machine.specs.Turns.{Makes, WaitsOn};
+ghost use Rattle.machine_run.specs.Run.{Turns, RunsTo, finish_of};
+
+use crate::streams::{ByteReader, ByteWriter, ReadFault, WriteFault};
+use pcode_machine::laws::{
+    goes_on_with_a_byte, quiet_steps_lead_on, run_is_after, same_run_on_longer_input,
+};
+use pcode_machine::{End, Machine, Turn};
+use pcode_ops::Program;
+use std::alloc::Global;
+use thiserror::Error;
+
+/// How a run was over.
+#[derive(Clone, Copy, Debug, PartialEq, Eq)]
+pub enum Finish {
+    /// The program ended.
+    Normal,
+    /// The program met an execution error.
+    Error(End),
+    /// The machine waits, and the reader has ended.
+    Waits,
+    /// The steps are spent.
+    Steps,
+}
+
+/// What went wrong around the machine. Its text is the refusal's code.
+#[derive(Clone, Copy, Debug, PartialEq, Eq, Error)]
+pub enum RunIo {
+    /// There is no memory. No step was made.
+    #[error("E1")]
+    Memory,
+    /// A read failed.
+    #[error("E2")]
+    Read,
+    /// A write failed, or took nothing.
+    #[error("E3")]
+    Write,
+}
+
+/// The finish of a program that ended so.
+fn finish_by(end: End) -> Finish
+    ensures { result ≡ finish_of end }
+{
+    match end {
+        End::Normal => Finish::Normal,
+        End::Error { .. } => Finish::Error(end),
+    }
+}
+
+/// Gives a byte to a machine that waits for one, and writes its echo.
+fn feed<W: ByteWriter>(
+    writer: &mut W,
+    machine: &mut Machine<'_>,
+    byte: u8,
+) -> Result<(), WriteFault>
+    requires { WaitsOn machine.old.program machine.old.state }
+    ensures program { machine.new.program ≡ machine.old.program }
+    ensures made { MatchResult result
+        (λ _. (wrote : List ℕ) × Makes machine.old.program machine.old.state machine.new.state (byte ∷ []) wrote
+        × Appends (W.contents writer.old) (W.contents writer.new) wrote
+        × (W.write_faults writer.new ≡ W.write_faults writer.old))
+        (λ _. (echo : ℕ) × Makes machine.old.program machine.old.state machine.new.state (byte ∷ []) (echo ∷ [])
+        × Keeps (W.contents writer.old) (W.contents writer.new)
+        × HasRisen (W.write_faults writer.old) (W.write_faults writer.new)) }
+{
+    // A machine that waits goes on with a byte, and takes it.
+    goes_on_with_a_byte();
+    match machine.step(Some(byte)) {
+        Turn::Took => Ok(()),
+        Turn::TookAndWrote(echo) => writer.write_byte(echo),
+        _ => unreachable!(),
+    }
+}
+
+/// One step of the machine, with the byte that it waits for and the byte that it writes.
+fn turn<R: ByteReader, W: ByteWriter>(
+    reader: &mut R,
+    writer: &mut W,
+    machine: &mut Machine<'_>,
+) -> Result<Option<Finish>, RunIo>
+    ensures program { machine.new.program ≡ machine.old.program }
+    ensures turn { Turns machine.old.program machine.old.state machine.new.state
+        (record { reader = R.remaining reader.old; writer = W.contents writer.old; read_faults = R.read_faults reader.old; write_faults = W.write_faults writer.old })
+        (record { reader = R.remaining reader.new; writer = W.contents writer.new; read_faults = R.read_faults reader.new; write_faults = W.write_faults writer.new }) result }
+{
+    match machine.step(None) {
+        Turn::Went => Ok(None),
+        Turn::Wrote(byte) => match writer.write_byte(byte) {
+            Ok(()) => Ok(None),
+            Err(WriteFault) => Err(RunIo::Write),
+        },
+        Turn::Ended(end) => Ok(Some(finish_by(end))),
+        Turn::Waits => match reader.read_byte() {
+            Ok(Some(byte)) => match feed(writer, machine, byte) {
+                Ok(()) => Ok(None),
+                Err(_) => Err(RunIo::Write),
+            },
+            Ok(None) => Ok(Some(Finish::Waits)),
+            Err(ReadFault) => Err(RunIo::Read),
+        },
+        Turn::Took | Turn::TookAndWrote(_) => unreachable!(),
+    }
+}
+
+/// Runs a program for at most this many steps. Before each step it looks first whether the steps are
+/// spent. It reads a byte only where the machine waits for it, and writes each byte by itself.
+pub fn run_program<R: ByteReader, W: ByteWriter>(
+    alloc: Global,
+    reader: &mut R,
+    writer: &mut W,
+    program: &Program,
+    steps: u32,
+) -> Result<Finish, RunIo>
+    ensures { RunsTo program.now
+        (record { reader = R.remaining reader.old; writer = W.contents writer.old; read_faults = R.read_faults reader.old; write_faults = W.write_faults writer.old })
+        (record { reader = R.remaining reader.new; writer = W.contents writer.new; read_faults = R.read_faults reader.new; write_faults = W.write_faults writer.new }) steps result }
+{
+    // Steps on an input are steps on each longer input, and lead to what is after so many; quiet ones go on from there.
+    same_run_on_longer_input();
+    run_is_after();
+    quiet_steps_lead_on();
+    let Ok(mut machine) = Machine::new(alloc, program) else {
+        return Err(RunIo::Memory);
+    };
+    let mut done = 0;
+    while done < steps {
+        done += machine.advance(steps - done);
+        if done == steps {
+            return Ok(Finish::Steps);
+        }
+        if let Some(finish) = turn(reader, writer, &mut machine)? {
+            return Ok(finish);
+        }
+        done += 1;
+    }
+    Ok(Finish::Steps)
+}

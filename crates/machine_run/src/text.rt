@@ -1,0 +1,105 @@
+//! Datagrams and bytes as text.
+ghost use Rattle.paxos_msg.specs.Views.{HasUpTo};
+
+use crate::hex::{HexError, bytes_of};
+use crate::refusal::{MachineRefusal, ShowFault};
+use crate::run::RunIo;
+use paxos_msg::{BodyView, Group, View, Vote, decode};
+use std::alloc::Global;
+use std::io::{self, Write};
+
+/// Writes the bytes of a console in hexadecimal digits, or a dash for none.
+pub fn write_bytes<W: Write>(writer: &mut W, bytes: &[u8]) -> io::Result<()> {
+    if bytes.is_empty() {
+        return write!(writer, "-");
+    }
+    for byte in bytes {
+        write!(writer, "{byte:02X}")?;
+    }
+    Ok(())
+}
+
+/// Writes the line of a vote.
+fn write_vote<W: Write>(writer: &mut W, vote: Vote) -> io::Result<()> {
+    let place = vote.place;
+    let ballot = vote.ballot;
+    let value = vote.value;
+    writeln!(writer, "vote {place} {ballot} {value}")
+}
+
+/// Writes the line of a message, and one for each vote of a promise.
+pub fn write_message<W: Write>(writer: &mut W, view: &View<'_>) -> io::Result<()>
+    requires { HasUpTo 8 (view.now).body }
+{
+    let sender = view.sender;
+    match &view.body {
+        BodyView::Prepare { ballot, from } => {
+            writeln!(writer, "prepare from {sender} ballot {ballot} place {from}")
+        }
+        BodyView::Promise {
+            ballot,
+            first,
+            upto,
+            votes,
+        } => {
+            let count = votes.iter().count();
+            writeln!(
+                writer,
+                "promise from {sender} ballot {ballot} first {first} upto {upto} votes {count}"
+            )?;
+            for vote in votes.iter() {
+                write_vote(writer, vote)?;
+            }
+            Ok(())
+        }
+        BodyView::Accept {
+            ballot,
+            place,
+            value,
+        } => writeln!(
+            writer,
+            "accept from {sender} ballot {ballot} place {place} {value}"
+        ),
+        BodyView::Accepted {
+            ballot,
+            place,
+            value,
+        } => writeln!(
+            writer,
+            "accepted from {sender} ballot {ballot} place {place} {value}"
+        ),
+        BodyView::Refused { ballot, promised } => {
+            writeln!(
+                writer,
+                "refused from {sender} ballot {ballot} promised {promised}"
+            )
+        }
+        BodyView::Submit { key } => writeln!(writer, "submit from {sender} {key}"),
+        BodyView::Ask { from } => writeln!(writer, "ask from {sender} place {from}"),
+        BodyView::Tell { place, value } => {
+            writeln!(writer, "tell from {sender} place {place} {value}")
+        }
+    }
+}
+
+/// Writes the datagram that these hexadecimal digits spell in the group.
+pub fn show<W: Write>(
+    alloc: Global,
+    group: Group,
+    digits: &str,
+    writer: &mut W,
+) -> Result<(), ShowFault> {
+    let bytes = match bytes_of(alloc, digits) {
+        Ok(bytes) => bytes,
+        Err(HexError::Bad) => return Err(ShowFault::BadHex),
+        Err(HexError::Memory) => {
+            return Err(ShowFault::Refused(MachineRefusal::Run(RunIo::Memory)));
+        }
+    };
+    match decode(bytes.as_slice(), group) {
+        Err(fault) => Err(ShowFault::Refused(MachineRefusal::Datagram(fault))),
+        Ok(view) => write_message(writer, &view).or(Err(ShowFault::Refused(MachineRefusal::Run(
+            RunIo::Write,
+        )))),
+    }
+}

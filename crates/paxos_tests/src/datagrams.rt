@@ -1,0 +1,245 @@
+//! Datagrams and their parts, by the calls that read and write them.
+use paxos_msg::{
+    Ballot, Body, Characters, Group, Msg, Value, Vote, Votes, WireFault, decode, encode, fits,
+    read_ballot, read_value, read_value_v1,
+};
+use std::alloc::{AllocError, Global};
+use std::test::Fail;
+
+/// The group of these datagrams.
+const GROUP: Group = Group {
+    size: 3,
+    session: 7,
+};
+
+/// The first ballot of node 1.
+pub const BALLOT: Ballot = Ballot { round: 1, node: 1 };
+
+/// A key of the first start of node 2.
+fn key(first: u32, byte: u8) -> Value {
+    Value::Keys {
+        node: 2,
+        start: 1,
+        first,
+        bytes: Characters::from(byte),
+    }
+}
+
+/// The first key of that start, an `H`.
+pub fn first_key() -> Value {
+    key(1, 0x48)
+}
+
+/// Prepare of node 1 under ballot 1.1 from place 0.
+const PREPARE: [u8; 19] = [
+    0x50, 0x47, 0x02, 0x01, 0x01, 0x03, 0x00, 0x00, 0x00, 0x07, 0x00, 0x00, 0x00, 0x01, 0x01, 0x00,
+    0x00, 0x00, 0x00,
+];
+
+/// Accept of node 1 under ballot 1.1 at place 0 of the first two keys of the first start of node 2, `HI`.
+const ACCEPT: [u8; 32] = [
+    0x50, 0x47, 0x02, 0x03, 0x01, 0x03, 0x00, 0x00, 0x00, 0x07, 0x00, 0x00, 0x00, 0x01, 0x01, 0x00,
+    0x00, 0x00, 0x00, 0x01, 0x02, 0x00, 0x00, 0x00, 0x01, 0x00, 0x00, 0x00, 0x01, 0x02, 0x48, 0x49,
+];
+
+/// The same of the first of these keys alone.
+const ACCEPT_ONE: [u8; 31] = [
+    0x50, 0x47, 0x02, 0x03, 0x01, 0x03, 0x00, 0x00, 0x00, 0x07, 0x00, 0x00, 0x00, 0x01, 0x01, 0x00,
+    0x00, 0x00, 0x00, 0x01, 0x02, 0x00, 0x00, 0x00, 0x01, 0x00, 0x00, 0x00, 0x01, 0x01, 0x48,
+];
+
+/// That key as version 1 spelled it, without a count.
+const KEY_V1: [u8; 11] = [
+    0x01, 0x02, 0x00, 0x00, 0x00, 0x01, 0x00, 0x00, 0x00, 0x01, 0x48,
+];
+
+/// Promise of node 2 under ballot 1.1 for all places, without votes.
+const PROMISE: [u8; 24] = [
+    0x50, 0x47, 0x02, 0x02, 0x02, 0x03, 0x00, 0x00, 0x00, 0x07, 0x00, 0x00, 0x00, 0x01, 0x01, 0x00,
+    0x00, 0x00, 0x00, 0x00, 0x01, 0x00, 0x00, 0x00,
+];
+
+#[test]
+fn cut_datagrams(rt: HostRuntime) -> Result<(), Fail> {
+    for bytes in [PREPARE.as_slice(), ACCEPT.as_slice(), PROMISE.as_slice()] {
+        for k in 0..bytes.len() {
+            let fault = decode(&bytes[..k], GROUP).err();
+            assert_eq!(rt; fault, Some(WireFault::Short), "{k}");
+        }
+    }
+    Ok(())
+}
+
+/// A promise of node 2 under 1.1 with these keys of node 2 at this many places from 0 on.
+fn promise_with(alloc: Global, count: u32, bytes: &[u8]) -> Result<Msg, AllocError> {
+    let mut votes = Vec::new(alloc);
+    for place in 0..count {
+        votes.push(Vote {
+            place,
+            ballot: BALLOT,
+            value: batch(bytes),
+        })?;
+    }
+    Ok(Msg {
+        sender: 2,
+        body: Body::Promise {
+            ballot: BALLOT,
+            first: 0,
+            upto: 65536,
+            votes: Votes::new(votes),
+        },
+    })
+}
+
+/// The first keys of the first start of node 2, or no key where these are not 1 to 32.
+fn batch(bytes: &[u8]) -> Value {
+    match Characters::new(bytes) {
+        Some(bytes) => Value::Keys {
+            node: 2,
+            start: 1,
+            first: 1,
+            bytes,
+        },
+        None => Value::Noop,
+    }
+}
+
+/// The promise with the first key at places 0 and 1: its votes are 21 bytes each, after the count.
+const TWO_VOTES: [u8; 66] = [
+    0x50, 0x47, 0x02, 0x02, 0x02, 0x03, 0x00, 0x00, 0x00, 0x07, 0x00, 0x00, 0x00, 0x01, 0x01, 0x00,
+    0x00, 0x00, 0x00, 0x00, 0x01, 0x00, 0x00, 0x02, 0x00, 0x00, 0x00, 0x00, 0x00, 0x00, 0x00, 0x01,
+    0x01, 0x01, 0x02, 0x00, 0x00, 0x00, 0x01, 0x00, 0x00, 0x00, 0x01, 0x01, 0x48, 0x00, 0x00, 0x00,
+    0x01, 0x00, 0x00, 0x00, 0x01, 0x01, 0x01, 0x02, 0x00, 0x00, 0x00, 0x01, 0x00, 0x00, 0x00, 0x01,
+    0x01, 0x48,
+];
+
+#[test]
+fn promise_bytes_and_parts(rt: HostRuntime) -> Result<(), Fail> {
+    let two = promise_with(rt.alloc(), 2, b"H")?;
+    assert!(rt; fits(&two, GROUP));
+    let bytes = encode(rt.alloc(), &two, GROUP)?;
+    assert_eq!(rt; bytes.as_slice(), TWO_VOTES.as_slice());
+    Ok(())
+}
+
+#[test]
+fn longest_promise(rt: HostRuntime) -> Result<(), Fail> {
+    let most = promise_with(rt.alloc(), 8, &[0x41; 32])?;
+    assert!(rt; fits(&most, GROUP));
+    assert_eq!(rt; encode(rt.alloc(), &most, GROUP)?.len(), 440);
+    let too_many = promise_with(rt.alloc(), 9, b"A")?;
+    assert!(rt; !fits(&too_many, GROUP));
+    Ok(())
+}
+
+#[test]
+fn characters_of_slices(rt: HostRuntime) {
+    for (len, is_some) in [(0, false), (1, true), (32, true), (33, false)] {
+        let bytes = [0x41u8; 33];
+        assert_eq!(rt; Characters::new(&bytes[..len]).is_some(), is_some, "{len}");
+    }
+}
+
+/// A message's sender and body, and its bytes.
+type Spelled = (u8, Body, &'static [u8]);
+
+/// Messages of the other kinds.
+fn messages_of_other_kinds() -> [Spelled; 5] {
+    [
+        (
+            2,
+            Body::Accepted {
+                ballot: BALLOT,
+                place: 9,
+                value: Value::Noop,
+            },
+            &[
+                0x50, 0x47, 0x02, 0x04, 0x02, 0x03, 0x00, 0x00, 0x00, 0x07, 0x00, 0x00, 0x00, 0x01,
+                0x01, 0x00, 0x00, 0x00, 0x09, 0x00,
+            ],
+        ),
+        (
+            3,
+            Body::Refused {
+                ballot: BALLOT,
+                promised: Ballot { round: 2, node: 3 },
+            },
+            &[
+                0x50, 0x47, 0x02, 0x05, 0x03, 0x03, 0x00, 0x00, 0x00, 0x07, 0x00, 0x00, 0x00, 0x01,
+                0x01, 0x00, 0x00, 0x00, 0x02, 0x03,
+            ],
+        ),
+        (
+            2,
+            Body::Submit { key: key(3, 0x4a) },
+            &[
+                0x50, 0x47, 0x02, 0x06, 0x02, 0x03, 0x00, 0x00, 0x00, 0x07, 0x01, 0x02, 0x00, 0x00,
+                0x00, 0x01, 0x00, 0x00, 0x00, 0x03, 0x01, 0x4a,
+            ],
+        ),
+        (
+            1,
+            Body::Ask { from: 65536 },
+            &[
+                0x50, 0x47, 0x02, 0x07, 0x01, 0x03, 0x00, 0x00, 0x00, 0x07, 0x00, 0x01, 0x00, 0x00,
+            ],
+        ),
+        (
+            1,
+            Body::Tell {
+                place: 65535,
+                value: key(3, 0x4a),
+            },
+            &[
+                0x50, 0x47, 0x02, 0x08, 0x01, 0x03, 0x00, 0x00, 0x00, 0x07, 0x00, 0x00, 0xff, 0xff,
+                0x01, 0x02, 0x00, 0x00, 0x00, 0x01, 0x00, 0x00, 0x00, 0x03, 0x01, 0x4a,
+            ],
+        ),
+    ]
+}
+
+#[test]
+fn other_kinds(rt: HostRuntime) -> Result<(), Fail> {
+    for (sender, body, expected) in messages_of_other_kinds() {
+        let message = Msg { sender, body };
+        assert!(rt; fits(&message, GROUP));
+        let bytes = encode(rt.alloc(), &message, GROUP)?;
+        assert_eq!(rt; bytes.as_slice(), expected);
+    }
+    Ok(())
+}
+
+#[test]
+fn single_fields(rt: HostRuntime) {
+    for (bytes, field) in [
+        (&PREPARE[10..], Ok((BALLOT, 5))),
+        (&[0, 0, 0, 1, 4], Err(WireFault::Ballot)),
+    ] {
+        assert_eq!(rt; read_ballot(bytes, GROUP), field);
+    }
+    for (bytes, field) in [
+        (&ACCEPT_ONE[19..], Ok((first_key(), 12))),
+        (&ACCEPT[19..], Ok((batch(b"HI"), 13))),
+        (&[0], Ok((Value::Noop, 1))),
+        (&[2], Err(WireFault::Value)),
+        (&[1, 2], Err(WireFault::Short)),
+        // Its character stands where the count is, and is above 32.
+        (&KEY_V1, Err(WireFault::Value)),
+    ] {
+        assert_eq!(rt; read_value(bytes, GROUP), field);
+    }
+}
+
+#[test]
+fn values_of_version_1(rt: HostRuntime) {
+    assert_eq!(rt; read_value_v1(&KEY_V1, GROUP), Ok((first_key(), 11)));
+    assert_eq!(rt; read_value_v1(&[0], GROUP), Ok((Value::Noop, 1)));
+    assert_eq!(rt; read_value_v1(&[2], GROUP), Err(WireFault::Value));
+    for k in 0..11 {
+        assert_eq!(rt;
+            read_value_v1(&KEY_V1[..k], GROUP),
+            Err(WireFault::Short),
+            "{k}"
+        );
+    }
+}

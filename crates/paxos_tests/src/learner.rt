@@ -1,0 +1,86 @@
+//! A learner in a group of three nodes.
+use paxos_learner::{Heard, Learner, LearnerFault};
+use paxos_msg::{Ballot, Characters, Value};
+use std::alloc::Global;
+use std::test::Fail;
+
+const BALLOT: Ballot = Ballot { round: 1, node: 1 };
+
+/// Keys of the first start of node 2, from its first key on.
+fn keys(bytes: Characters) -> Value {
+    Value::Keys {
+        node: 2,
+        start: 1,
+        first: 1,
+        bytes,
+    }
+}
+
+/// The first key, an `H`.
+fn key() -> Value {
+    keys(Characters::from(0x48))
+}
+
+/// A learner that has heard of the key at places 1 and 2, and between these of no key at place 0, and its fronts.
+fn with_a_hole(alloc: Global) -> Result<(Learner, [u32; 3]), LearnerFault> {
+    let mut learner = Learner::new(alloc, 3);
+    learner.on_tell(1, key())?;
+    let before = learner.known_front();
+    learner.on_tell(0, Value::Noop)?;
+    let after = learner.known_front();
+    learner.on_tell(2, key())?;
+    let last = learner.known_front();
+    Ok((learner, [before, after, last]))
+}
+
+#[test]
+fn console_and_learner_edges(rt: HostRuntime) -> Result<(), Fail> {
+    let (learner, fronts) = with_a_hole(rt.alloc())?;
+    assert_eq!(rt; fronts, [0, 2, 3]);
+    // The key stands at two places, and is read once.
+    let mut input = learner.input_after(0);
+    assert_eq!(rt; input.next(), Some(0x48));
+    assert_eq!(rt; input.next(), None);
+    Ok(())
+}
+
+/// A learner that has heard of the first key at place 0, and of the first two at place 1.
+fn with_a_batch(alloc: Global) -> Result<Learner, LearnerFault> {
+    let both = Characters::new(b"HI").unwrap();
+    let mut learner = Learner::new(alloc, 3);
+    learner.on_tell(0, key())?;
+    learner.on_tell(1, keys(both))?;
+    Ok(learner)
+}
+
+#[test]
+fn a_batch_is_read_from_its_first_new_key_on(rt: HostRuntime) -> Result<(), Fail> {
+    let learner = with_a_batch(rt.alloc())?;
+    assert_eq!(rt; learner.input_len(), 2);
+    let mut input = learner.input_after(0);
+    assert_eq!(rt; input.next(), Some(0x48));
+    assert_eq!(rt; input.next(), Some(0x49));
+    assert_eq!(rt; input.next(), None);
+    // What place 1 adds is the second key alone.
+    let mut added = learner.input_after(1);
+    assert_eq!(rt; added.next(), Some(0x49));
+    assert_eq!(rt; added.next(), None);
+    Ok(())
+}
+
+/// A learner after three messages, two of one node and one of another, and its answers.
+fn heard(alloc: Global) -> Result<(Learner, [Heard; 3]), LearnerFault> {
+    let mut learner = Learner::new(alloc, 3);
+    let first = learner.on_accepted(1, BALLOT, 0, key())?;
+    let repeated = learner.on_accepted(1, BALLOT, 0, key())?;
+    let second = learner.on_accepted(3, BALLOT, 0, key())?;
+    Ok((learner, [first, repeated, second]))
+}
+
+#[test]
+fn two_of_three_are_a_majority(rt: HostRuntime) -> Result<(), Fail> {
+    let (learner, answers) = heard(rt.alloc())?;
+    assert_eq!(rt; answers, [Heard::Counted, Heard::Passed, Heard::Learned]);
+    assert_eq!(rt; learner.learned(0), Some(key()));
+    Ok(())
+}

@@ -1,0 +1,15 @@
+//! Tests of the crates of Paxos: messages and their bytes, acceptor, proposer and learner. This crate has nothing else.
+#![tactic(auto)]
+
+#[cfg(test)]
+mod acceptor;
+#[cfg(test)]
+mod choosing;
+#[cfg(test)]
+mod datagrams;
+#[cfg(test)]
+mod learner;
+#[cfg(test)]
+mod proposer;
+#[cfg(test)]
+mod readme;

@@ -1,0 +1,98 @@
+//! A code file that is read, the program of it, and the turns of a machine on it.
+use pcode_file::CodeFile;
+use pcode_machine::{End, Machine, Turn};
+use pcode_ops::Program;
+use std::alloc::{AllocError, Global};
+use std::test::Fail;
+
+/// Writes the letter A: SLDC 65, SRO 3, and UNITWRITE of one byte at word 3 to unit 1.
+const PRINTS_A: [u8; 28] = [
+    0x41, 0xab, 0x03, 0x01, 0xa5, 0x03, 0x00, 0x01, 0x00, 0x00, 0x9e, 0x06, 0xc1, 0x00, 0x02, 0x00,
+    0x04, 0x00, 0x06, 0x00, 0x14, 0x00, 0x01, 0x00, 0x02, 0x00, 0x01, 0x01,
+];
+
+/// A code file with this name, this segment as its entry 1, and zeros up to 1,024 bytes.
+fn code_file(alloc: Global, name: &[u8; 8], segment: &[u8]) -> Result<Vec<u8>, AllocError> {
+    let [low, high] = u16::try_from(segment.len()).unwrap_or(0).to_le_bytes();
+    let mut file = Vec::new(alloc);
+    file.extend_from_slice(&[0, 0, 0, 0, 1, 0, low, high])?;
+    for _ in file.len()..72 {
+        file.push(0)?;
+    }
+    file.extend_from_slice(name)?;
+    for _ in file.len()..512 {
+        file.push(0)?;
+    }
+    file.extend_from_slice(segment)?;
+    for _ in file.len()..1024 {
+        file.push(0)?;
+    }
+    Ok(file)
+}
+
+/// The file that prints A, with a name.
+fn letter(alloc: Global) -> Result<CodeFile, Fail> {
+    let bytes = code_file(alloc, b"LETTER  ", &PRINTS_A)?;
+    let file = CodeFile::read(alloc, bytes.as_slice())
+        .ok()
+        .ok_or("a file")?;
+    Ok(file)
+}
+
+#[test]
+fn looks_at_a_file(rt: HostRuntime) -> Result<(), Fail> {
+    let file = letter(rt.alloc())?;
+    assert!(rt; file.name() == *b"LETTER  " && file.segment() == PRINTS_A.as_slice());
+    assert!(rt; file.number() == 1 && file.count() == 1);
+    assert!(rt; file.procedure(0).is_none() && file.procedure(2).is_none());
+    Ok(())
+}
+
+/// The program of the file that prints A.
+fn program(alloc: Global) -> Result<Program, Fail> {
+    let program = Program::check(alloc, letter(alloc)?)
+        .ok()
+        .ok_or("a program")?;
+    Ok(program)
+}
+
+#[test]
+fn looks_at_a_program(rt: HostRuntime) -> Result<(), Fail> {
+    let program = program(rt.alloc())?;
+    assert_eq!(rt; program.reached(), 10);
+    for (at, reached) in [(0, true), (2, false), (12, true), (13, false), (28, false)] {
+        assert_eq!(rt; program.is_start(at), reached, "at {at}");
+    }
+    Ok(())
+}
+
+/// The bytes that are offered to a machine, and its turns. One that is not wanted is not taken.
+const TURNS: [(Option<u8>, Turn); 12] = [
+    (None, Turn::Went),
+    (None, Turn::Went),
+    (None, Turn::Went),
+    (None, Turn::Went),
+    (None, Turn::Went),
+    (None, Turn::Went),
+    (None, Turn::Went),
+    (None, Turn::Went),
+    (None, Turn::Went),
+    (Some(7), Turn::Wrote(0x41)),
+    (None, Turn::Ended(End::Normal)),
+    (Some(7), Turn::Ended(End::Normal)),
+];
+
+/// Whether a machine that is offered a byte takes this turn.
+fn takes_turn(machine: &mut Machine<'_>, offered: Option<u8>, turn: Turn) -> bool {
+    machine.step(offered) == turn
+}
+
+#[test]
+fn steps_through_a_program(rt: HostRuntime) -> Result<(), Fail> {
+    let program = program(rt.alloc())?;
+    let mut machine = Machine::new(rt.alloc(), &program).ok().ok_or("a machine")?;
+    for (offered, turn) in TURNS {
+        assert!(rt; takes_turn(&mut machine, offered, turn), "{turn:?}");
+    }
+    Ok(())
+}

@@ -1,6 +1,0 @@
-use Rattle.std.proofs.Common.{◌≡◌, ◌+◌}
-use Rattle.pgroup.proofs.sim.sim.Given as goal
-
--- the number is that of the line before
-abbrev pub invariant-loop-line : goal.invariant-loop-line
-invariant-loop-line g l = l.number ≡ l.line-index + 1

@@ -1,3 +1,0 @@
-pub mod Streams
-pub mod Run
-pub mod Command

@@ -1,0 +1,61 @@
+# shellcheck shell=bash
+# Functions of ./run and ./test: the crates that another depends on, what the program is made of, the kit, and the lines of a record.
+
+# Prints the crate $1 and all crates of crates.txt that it depends on, lowest first, one a line. The tree is the current folder.
+crates_up_to() {
+  awk -v top="$1" '
+    function visit(name,   words, i, n) {
+      if (!(name in below) || seen[name]++) return
+      n = split(below[name], words)
+      for (i = 1; i <= n; i++) visit(words[i])
+      print name
+    }
+    { sub(/#.*/, ""); gsub(/,/, " ") }
+    /^[a-z_0-9]/ {
+      name = $0
+      sub(/[ :].*/, "", name)
+      sub(/^[^:]*:?/, "")
+      below[name] = $0
+    }
+    END { visit(top) }
+  ' crates.txt
+}
+
+# Prints one sum over the sources of pgroup in the tree $1: of pgroup and each crate that it depends on, the line of crates.txt, and the
+# path and the sum of each file in src/, specs/ and proofs/. Crates that only test do not count.
+sum_of_sources() (
+  local name names folders=() part
+  export LC_ALL=C
+  cd "$1" || exit
+  mapfile -t names < <(crates_up_to pgroup)
+  [ ${#names[@]} -gt 0 ] || exit
+  for name in "${names[@]}"; do
+    for part in src specs proofs; do
+      if [ -d "crates/$name/$part" ]; then
+        folders+=("crates/$name/$part")
+      fi
+    done
+  done
+  {
+    for name in "${names[@]}"; do echo "^${name}[ :]"; done | grep -f - crates.txt | sort
+    find "${folders[@]}" -type f -print0 | sort -z | xargs -0 sha256sum
+  } | sha256
+)
+
+# Prints the sha256 sum of standard input.
+sha256() { sha256sum | cut -c1-64; }
+
+# Prints the kit's line as `rt version` does, but without the sixth of a second that it takes; nothing where `rt` is not on PATH.
+line_of_kit() {
+  local rt file
+  rt=$(command -v rt) || return 0
+  file=$(dirname "$(dirname "$(readlink -f "$rt")")")/KIT-ID
+  if [ -f "$file" ]; then
+    cat "$file"
+  else
+    rt version
+  fi
+}
+
+# value NAME FILE: the value of NAME in a record or a note.
+value() { sed -n "s/^$1 //p" "$2"; }
