@@ -6,6 +6,8 @@ mod files;
 #[cfg(test)]
 mod listings;
 #[cfg(test)]
+mod refusals;
+#[cfg(test)]
 mod streams;
 #[cfg(test)]
 mod words;

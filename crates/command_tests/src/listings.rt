@@ -1,5 +1,6 @@
 //! Listings to a writer that fails, and to one that counts its writes.
 use super::files::{PRINTS_A, write_program};
+use super::refusals::is_refused;
 use machine_run::{MachineRefusal, list_file};
 use std::alloc::{AllocError, Global};
 use std::fs;
@@ -59,17 +60,6 @@ fn list_to(rt: &HostRuntime, segment: &[u8], output: &mut Meter) -> io::Result<L
     Ok(listed)
 }
 
-/// Whether the listing is refused with `E3`.
-fn is_unwritten(alloc: Global, listed: Listed) -> Result<bool, AllocError> {
-    match listed {
-        Ok(()) => Ok(false),
-        Err(refusal) => {
-            let text = format!(in alloc; "{refusal}")?;
-            Ok(text.as_str() == "E3")
-        }
-    }
-}
-
 const LISTING_OF_A: &[u8] = b"proc 1 level 0 params 2 data 1 enter 0 exit 12
 00000 SLDC 65
 00001 SRO 3
@@ -89,14 +79,14 @@ fn a_listing_that_fails(rt: HostRuntime) -> Result<(), Fail> {
     writer.takes = 20;
     writer.failing_write = 2;
     let listed = list_to(&rt, &PRINTS_A, &mut writer)?;
-    assert!(rt; is_unwritten(rt.alloc(), listed)?);
+    assert!(rt; is_refused(rt.alloc(), listed, "E3")?);
     // Nothing is written after the fault.
     assert_eq!(rt; writer.writes, 2);
     assert_eq!(rt; writer.bytes.as_slice(), &LISTING_OF_A[..20]);
     let mut writer = Meter::new(rt.alloc());
     writer.flush_fails = true;
     let listed = list_to(&rt, &PRINTS_A, &mut writer)?;
-    assert!(rt; is_unwritten(rt.alloc(), listed)?);
+    assert!(rt; is_refused(rt.alloc(), listed, "E3")?);
     assert_eq!(rt; writer.bytes.as_slice(), LISTING_OF_A);
     Ok(())
 }

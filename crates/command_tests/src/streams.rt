@@ -1,30 +1,13 @@
 //! Runs and scripts over a reader or a writer that fails, and help that is printed to such a writer.
 use super::files::{PRINTS_A, READS, write_file, write_program};
+use super::refusals::{is_code, is_refused};
 use command_line::{DEFAULT_STEPS, NotAsked, read_words};
 use group_sim::{ScriptRefusal, sim_file};
-use machine_run::{Finish, MachineRefusal, run_built_in, run_file};
+use machine_run::{run_built_in, run_file};
 use std::alloc::{AllocError, Global};
 use std::fs;
 use std::io::{self, ErrorKind, Read, Write};
 use std::test::Fail;
-
-/// Whether the refusal's text is this code.
-fn is_code(alloc: Global, refusal: MachineRefusal, code: &str) -> Result<bool, AllocError> {
-    let text = format!(in alloc; "{refusal}")?;
-    Ok(text.as_str() == code)
-}
-
-/// Whether a run is refused with this code.
-fn is_refused(
-    alloc: Global,
-    ran: Result<Finish, MachineRefusal>,
-    code: &str,
-) -> Result<bool, AllocError> {
-    match ran {
-        Ok(_) => Ok(false),
-        Err(refusal) => is_code(alloc, refusal, code),
-    }
-}
 
 /// A reader that gives an H, and then fails.
 #[derive(Drop)]
@@ -120,15 +103,20 @@ fn a_writer_that_fails(rt: HostRuntime) -> Result<(), Fail> {
     Ok(())
 }
 
-/// Whether what a script shows is refused by such a writer.
-fn script_fails(rt: &HostRuntime, takes_nothing: bool) -> io::Result<bool> {
+/// A script that shows a group happens, with this output.
+fn happens(rt: &HostRuntime, output: &mut FailingWriter) -> io::Result<Result<(), ScriptRefusal>> {
     let program = write_program(rt, "program", &READS)?;
     let script = write_file(rt, "script", b"size 1 session 7\nshow\n")?;
-    let mut output = FailingWriter { takes_nothing };
-    let happened = sim_file(rt, program.as_str(), script.as_str(), &mut output);
+    let happened = sim_file(rt, program.as_str(), script.as_str(), output);
     fs::remove_file(rt, program.as_str())?;
     fs::remove_file(rt, script.as_str())?;
-    match happened {
+    Ok(happened)
+}
+
+/// Whether what a script shows is refused by such a writer.
+fn script_fails(rt: &HostRuntime, takes_nothing: bool) -> io::Result<bool> {
+    let mut output = FailingWriter { takes_nothing };
+    match happens(rt, &mut output)? {
         Err(ScriptRefusal::Machine(refusal)) => Ok(is_code(rt.alloc(), refusal, "E3")?),
         _ => Ok(false),
     }

@@ -1,5 +1,7 @@
 //! Words of a command line that can be had, and others that can not.
+use super::refusals::is_code;
 use command_line::{NotAsked, words_of};
+use machine_run::{MachineRefusal, RunIo};
 use std::alloc::Global;
 use std::env::FillError;
 use std::rt::Env;
@@ -54,5 +56,8 @@ fn words_that_can_not_be_had(rt: HostRuntime) -> Result<(), Fail> {
     let line: [&[u8]; 3] = [b"pgroup", b"run", b"\xff"];
     let reason = words_of(&(Line(&line), alloc)).err().ok_or("a refusal")?;
     assert!(rt; is_fault(&reason, NOT_UTF_8));
+    // What is said where there is no memory for the words.
+    let no_memory = MachineRefusal::Run(RunIo::Memory);
+    assert!(rt; is_code(alloc, no_memory, "E1")?);
     Ok(())
 }

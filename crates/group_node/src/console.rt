@@ -26,9 +26,7 @@ pub struct Console {
 
 impl Drop for Console {
     fn drop(self) {
-        let Console {
-            bytes: _bytes,
-        } = self;
+        let Console { bytes: _bytes } = self;
     }
 }
 

@@ -31,9 +31,7 @@ pub struct KeySet {
 
 impl Drop for KeySet {
     fn drop(self) {
-        let KeySet {
-            keys: _keys,
-        } = self;
+        let KeySet { keys: _keys } = self;
     }
 }
 

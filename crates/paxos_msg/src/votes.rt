@@ -17,9 +17,7 @@ pub struct Votes<V = Value> {
 
 impl<V: Drop> Drop for Votes<V> {
     fn drop(self) {
-        let Votes {
-            items: _items,
-        } = self;
+        let Votes { items: _items } = self;
     }
 }
 

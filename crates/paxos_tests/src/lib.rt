@@ -8,8 +8,12 @@ mod choosing;
 #[cfg(test)]
 mod datagrams;
 #[cfg(test)]
+mod files;
+#[cfg(test)]
 mod learner;
 #[cfg(test)]
 mod proposer;
 #[cfg(test)]
 mod readme;
+#[cfg(test)]
+mod records;

@@ -16,9 +16,7 @@ pub struct Memory {
 
 impl Drop for Memory {
     fn drop(self) {
-        let Memory {
-            words: _words,
-        } = self;
+        let Memory { words: _words } = self;
     }
 }
 

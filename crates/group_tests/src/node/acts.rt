@@ -15,7 +15,7 @@ pub enum Act {
     Hears(&'static [u8]),
     /// It hears of each place, in order, that no key stands there.
     HearsOfAllPlaces,
-    /// It makes at most so many steps, and the run is over so.
+    /// It makes at most this number of steps, and its run is over for this reason.
     Runs(u32, Ran),
     /// It runs until it waits, and releases these bytes from number 0 on; then none waits.
     Prints(&'static [u8]),

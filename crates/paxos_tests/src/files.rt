@@ -1,0 +1,149 @@
+//! Records in files.
+use super::acceptor::{FIRST, ME, opened, vote_for_none};
+use super::records::{BYTES, BYTES_V1, is_of_bytes};
+use paxos_acceptor::{Acceptor, AcceptorFault, FileStore, Store, StoreFault};
+use paxos_msg::{Change, Record, Value};
+use std::fs;
+use std::marker::Model;
+use std::test::Fail;
+
+/// A file of version 1 is loaded and left as it is; after a start it is one of version 2.
+#[test]
+fn file_of_version_1(rt: HostRuntime) -> Result<(), Fail> {
+    let path = "old_record_of_a_test";
+    fs::write(&rt, path, BYTES_V1.as_slice())?;
+    let mut acceptor = opened(&rt, rt.alloc(), FileStore::new(rt, path, ME)?);
+    assert!(rt; is_of_bytes(acceptor.record()));
+    assert_eq!(rt; fs::read(&rt, path)?.as_slice(), BYTES_V1.as_slice());
+
+    assert_eq!(rt; acceptor.new_start(), Ok(2));
+    let mut expected = BYTES;
+    expected[12] = 0x02;
+    assert_eq!(rt; fs::read(&rt, path)?.as_slice(), expected.as_slice());
+    let record = Kept::new(rt, path)?.load()?;
+    assert_eq!(rt; record.starts, 2);
+    fs::remove_file(&rt, path)?;
+    Ok(())
+}
+
+/// Where there is no folder for a file, it is as a missing one, and no save succeeds.
+#[test]
+fn no_folder_for_a_file(rt: HostRuntime) -> Result<(), Fail> {
+    let store = FileStore::new(rt, "no_such_folder/record", ME)?;
+    let mut acceptor = opened(&rt, rt.alloc(), store);
+    assert_eq!(rt; acceptor.new_start(), Err(AcceptorFault::Store));
+    assert_eq!(rt; acceptor.new_start(), Err(AcceptorFault::Closed));
+    assert_eq!(rt; acceptor.into_store().faults(), 1);
+    Ok(())
+}
+
+/// A store in a file. What contracts see of it is nothing, so that a test does not carry a record from one call to the next.
+struct Kept {
+    store: FileStore<HostRuntime>,
+}
+
+impl Drop for Kept {
+    fn drop(self) {
+        let Kept { store: _store } = self;
+    }
+}
+
+impl Model for Kept {
+    ghost Value = { Unit {0} };
+
+    ghost view = { λ _. tt };
+}
+
+impl Kept {
+    fn new(rt: HostRuntime, path: &str) -> Result<Kept, Fail> {
+        let store = FileStore::new(rt, path, ME)?;
+        Ok(Kept { store })
+    }
+
+    fn load(&mut self) -> Result<Record, StoreFault> {
+        self.store.load()
+    }
+
+    fn save(&mut self, change: Change) -> Result<(), StoreFault> {
+        self.store.save(&change)
+    }
+
+    fn faults(&self) -> u64 {
+        self.store.faults()
+    }
+}
+
+/// A file keeps what was saved, each save built on the one before.
+#[test]
+fn keeps_a_record_in_a_file(rt: HostRuntime) -> Result<(), Fail> {
+    let path = "record_of_a_test";
+    let _ = fs::remove_file(&rt, path);
+    let mut store = Kept::new(rt, path)?;
+    assert_eq!(rt; store.load()?.starts, 0);
+    store.save(Change::Start)?;
+    store.save(Change::Promise(FIRST))?;
+    store.save(Change::Ballotted(3, FIRST, Value::Noop))?;
+
+    let mut store = Kept::new(rt, path)?;
+    assert_eq!(rt; store.load()?.starts, 1);
+    store.save(Change::Start)?;
+    let record = Kept::new(rt, path)?.load()?;
+    assert_eq!(rt; (record.starts, record.promised), (2, Some(FIRST)));
+    assert_eq!(rt;
+        record.votes.as_slice(),
+        [vote_for_none(3, FIRST)].as_slice()
+    );
+    fs::remove_file(&rt, path)?;
+    Ok(())
+}
+
+/// How a store in the file of that path is refused, and how many faults it has had.
+fn refusal(rt: HostRuntime, path: &str) -> Result<Option<(AcceptorFault, u64)>, Fail> {
+    match Acceptor::open(rt.alloc(), FileStore::new(rt, path, ME)?, ME) {
+        Ok(_) => Ok(None),
+        Err(refused) => Ok(Some((refused.fault, refused.store.faults()))),
+    }
+}
+
+/// What can't be read is no missing file: a folder in the place of the file, and a path through a file. An empty file is no
+/// record.
+#[test]
+fn files_that_cannot_be_read(rt: HostRuntime) -> Result<(), Fail> {
+    let _ = fs::remove_dir(&rt, "folder_of_a_test");
+    fs::create_dir(&rt, "folder_of_a_test")?;
+    fs::write(&rt, "file_of_a_test", b"")?;
+    let failed = Some((AcceptorFault::Store, 1));
+    assert_eq!(rt; refusal(rt, "folder_of_a_test")?, failed);
+    assert_eq!(rt; refusal(rt, "file_of_a_test/record")?, failed);
+    assert_eq!(rt;
+        refusal(rt, "file_of_a_test")?,
+        Some((AcceptorFault::BadRecord, 0))
+    );
+    fs::remove_dir(&rt, "folder_of_a_test")?;
+    fs::remove_file(&rt, "file_of_a_test")?;
+    Ok(())
+}
+
+/// After a save that failed a store saves no more until it is loaded: here a folder lies where the fresh file would.
+#[test]
+fn saves_no_more_after_a_fault(rt: HostRuntime) -> Result<(), Fail> {
+    let path = "faulty_record_of_a_test";
+    let fresh_path = "faulty_record_of_a_test.new";
+    let _ = fs::remove_file(&rt, path);
+    let _ = fs::remove_dir(&rt, fresh_path);
+    let mut store = Kept::new(rt, path)?;
+    assert_eq!(rt; store.load()?.starts, 0);
+    store.save(Change::Start)?;
+
+    fs::create_dir(&rt, fresh_path)?;
+    assert_eq!(rt; store.save(Change::Start), Err(StoreFault::Device));
+    fs::remove_dir(&rt, fresh_path)?;
+    assert_eq!(rt; store.save(Change::Start), Err(StoreFault::Device));
+    assert_eq!(rt; store.faults(), 2);
+
+    assert_eq!(rt; store.load()?.starts, 1);
+    store.save(Change::Start)?;
+    assert_eq!(rt; store.load()?.starts, 2);
+    fs::remove_file(&rt, path)?;
+    Ok(())
+}

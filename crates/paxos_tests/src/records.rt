@@ -1,0 +1,145 @@
+//! The bytes of records, in both versions.
+use super::acceptor::{FIRST, ME, opened};
+use paxos_acceptor::{
+    AcceptorFault, MemoryStore, StoreFault, record_decode, record_encode, record_migrate,
+};
+use paxos_msg::{Characters, Record, Value, Vote};
+use std::alloc::Global;
+use std::process::Abort;
+use std::test::Fail;
+
+/// The record of one start, one promise and one vote, byte by byte.
+pub const BYTES: [u8; 43] = [
+    0x50, 0x52, 0x02, 0x02, 0x03, 0x00, 0x00, 0x00, 0x07, 0x00, 0x00, 0x00, 0x01, 0x00, 0x00, 0x00,
+    0x01, 0x01, 0x00, 0x00, 0x00, 0x01, 0x00, 0x00, 0x00, 0x00, 0x00, 0x00, 0x00, 0x01, 0x01, 0x01,
+    0x02, 0x00, 0x00, 0x00, 0x01, 0x00, 0x00, 0x00, 0x01, 0x01, 0x48,
+];
+
+/// The same record as version 1 spelled it.
+pub const BYTES_V1: [u8; 42] = [
+    0x50, 0x52, 0x01, 0x02, 0x03, 0x00, 0x00, 0x00, 0x07, 0x00, 0x00, 0x00, 0x01, 0x00, 0x00, 0x00,
+    0x01, 0x01, 0x00, 0x00, 0x00, 0x01, 0x00, 0x00, 0x00, 0x00, 0x00, 0x00, 0x00, 0x01, 0x01, 0x01,
+    0x02, 0x00, 0x00, 0x00, 0x01, 0x00, 0x00, 0x00, 0x01, 0x48,
+];
+
+/// Whether it is the record of those bytes.
+pub fn is_of_bytes(record: &Record) -> bool {
+    let vote = Vote {
+        place: 0,
+        ballot: FIRST,
+        value: Value::Keys {
+            node: 2,
+            start: 1,
+            first: 1,
+            bytes: Characters::from(0x48),
+        },
+    };
+    record.starts == 1
+        && record.promised == Some(FIRST)
+        && record.votes.as_slice() == [vote].as_slice()
+}
+
+/// Whether the bytes are no record.
+fn are_none(alloc: Global, bytes: &[u8]) -> bool {
+    record_decode(alloc, bytes, ME).err() == Some(StoreFault::Bad)
+}
+
+/// A record has one spelling, and other bytes are of none.
+#[test]
+fn record_bytes(rt: HostRuntime) -> Result<(), Fail> {
+    let record = record_decode(rt.alloc(), BYTES.as_slice(), ME)?;
+    assert!(rt; is_of_bytes(&record));
+    let bytes = record_encode(rt.alloc(), &record, ME)?;
+    assert_eq!(rt; bytes.as_slice(), BYTES.as_slice());
+
+    assert!(rt; are_none(rt.alloc(), &BYTES[..42]));
+    let mut longer = bytes;
+    longer.push(0)?;
+    assert!(rt; are_none(rt.alloc(), longer.as_slice()));
+    let mut of_another = BYTES;
+    of_another[3] = 1;
+    assert!(rt; are_none(rt.alloc(), of_another.as_slice()));
+    spent_starts(&rt, rt.alloc())
+}
+
+/// 4,294,967,295 starts are a record, and there is none after them.
+fn spent_starts(rt: &impl Abort, alloc: Global) -> Result<(), Fail> {
+    let mut spent = BYTES;
+    spent[9] = 0xFF;
+    spent[10] = 0xFF;
+    spent[11] = 0xFF;
+    spent[12] = 0xFF;
+    let spent = record_decode(alloc, spent.as_slice(), ME)?;
+    let mut acceptor = opened(rt, alloc, MemoryStore::new(spent));
+    assert_eq!(rt; acceptor.new_start(), Err(AcceptorFault::StartsSpent));
+    Ok(())
+}
+
+/// A record of version 1 is read as one whose votes are for batches of one key, and written in version 2. Neither version is
+/// read as the other.
+#[test]
+fn record_of_version_1(rt: HostRuntime) -> Result<(), Fail> {
+    let record = record_migrate(rt.alloc(), BYTES_V1.as_slice(), ME)?;
+    assert!(rt; is_of_bytes(&record));
+    let bytes = record_encode(rt.alloc(), &record, ME)?;
+    assert_eq!(rt; bytes.as_slice(), BYTES.as_slice());
+
+    let as_newer = record_decode(rt.alloc(), BYTES_V1.as_slice(), ME).err();
+    assert_eq!(rt; as_newer, Some(StoreFault::Bad));
+    let as_older = record_migrate(rt.alloc(), BYTES.as_slice(), ME).err();
+    assert_eq!(rt; as_older, Some(StoreFault::Bad));
+    Ok(())
+}
+
+/// Of each byte of that record how many of its 255 other values give another record: those of the starts, of a round of the promise
+/// that is not 0, of its nodes 2 and 3, of a place below 65,536, and of a key's nodes 1 and 3, start and serial but 0, and byte.
+const OTHERS: [u32; 42] = [
+    0, 0, 0, 0, 0, 0, 0, 0, 0, 255, 255, 255, 255, 255, 255, 255, 254, 2, 0, 0, 0, 0, 0, 0, 255,
+    255, 0, 0, 0, 0, 0, 0, 2, 255, 255, 255, 254, 255, 255, 255, 254, 255,
+];
+
+/// Whether the bytes are another record of version 1. Else they have to be none.
+fn are_another(rt: &impl Abort, alloc: Global, bytes: &[u8]) -> bool {
+    match record_migrate(alloc, bytes, ME) {
+        Ok(record) => {
+            assert!(rt; !is_of_bytes(&record));
+            true
+        }
+        Err(fault) => {
+            assert_eq!(rt; fault, StoreFault::Bad);
+            false
+        }
+    }
+}
+
+/// How many other values of that byte give another record.
+fn others_at(rt: &impl Abort, alloc: Global, index: usize) -> u32
+    requires { index < 42 }
+{
+    let mut others: u32 = 0;
+    for change in 0..255 {
+        let mut bytes = BYTES_V1;
+        bytes[index] ^= change + 1;
+        if are_another(rt, alloc, bytes.as_slice()) {
+            others = others.saturating_add(1);
+        }
+    }
+    others
+}
+
+/// A record of version 1 that was cut is none, and with one byte changed it is another record or none.
+#[test]
+fn damaged_record_of_version_1(rt: HostRuntime) -> Result<(), Fail> {
+    for length in 0..BYTES_V1.len() {
+        let cut = record_migrate(rt.alloc(), &BYTES_V1[..length], ME).err();
+        assert_eq!(rt; cut, Some(StoreFault::Bad), "of {length} bytes");
+    }
+    for index in 0..BYTES_V1.len() {
+        assert_eq!(rt;
+            others_at(&rt, rt.alloc(), index),
+            OTHERS[index],
+            "at {index}"
+        );
+    }
+    Ok(())
+}
