@@ -143,7 +143,7 @@ impl<'a> Seat<'a> {
 
     /// A turn of the node on this wire, and why its run was over.
     pub fn turn<T: Wire>(&mut self, wire: &mut T) -> Result<Ran, NodeFault> {
-        turn(&mut self.node, wire, &mut self.outbox, GROUP)
+        Ok(turn(&mut self.node, wire, &mut self.outbox, GROUP)?.ran)
     }
 
     pub fn into_store(self) -> MemoryStore {

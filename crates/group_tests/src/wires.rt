@@ -152,12 +152,18 @@ impl<'a> Player<'a> {
     }
 }
 
-/// The three nodes, in order. The first one leads.
-fn players<'a>(alloc: Global, program: &'a Program) -> Result<Vec<Player<'a>>, Fail> {
+/// The three nodes, in order.
+fn started<'a>(alloc: Global, program: &'a Program) -> Result<Vec<Player<'a>>, Fail> {
     let mut players = Vec::new(alloc);
     for node in 1..=3 {
         players.push(Player::start(alloc, program, node)?)?;
     }
+    Ok(players)
+}
+
+/// The three nodes, of which the first one leads.
+fn players<'a>(alloc: Global, program: &'a Program) -> Result<Vec<Player<'a>>, Fail> {
+    let mut players = started(alloc, program)?;
     if let Some(first) = players.as_mut_slice().first_mut() {
         first.lead()?;
     }

@@ -69,10 +69,10 @@ fn lists_that_end_early(rt: HostRuntime) -> Result<(), Fail> {
     Ok(())
 }
 
-/// Node 2 starts, starts again after its save has failed, then a save of a start itself fails with the changed record, and then it
-/// starts once more.
+/// A key is typed at node 1, and the saves of nodes 2 and 3 fail. They start again, and the key is learned and shown at node 1. Then node 2
+/// falls, a save of its start fails with the changed record, and it starts once more: four starts are counted.
 const STARTS: &str =
-    "start 1, start 2, start 3, campaign 1, deliver 0 1, deliver 0 2, deliver 0 3, deliver 1 1, deliver 2 1, deliver 3 1, type 1 48, tick 1, deliver 4 1, deliver 6 2 failnew, start 2, crash 2, start 2 failnew, start 2";
+    "start 1, start 2, start 3, campaign 1, deliver 0 1, deliver 0 2, deliver 0 3, deliver 1 1, deliver 2 1, deliver 3 1, type 1 48, tick 1, deliver 4 1, deliver 6 2 failnew, deliver 6 3 failold, start 2, start 3, deliver 6 2, deliver 6 3, deliver 7 1, deliver 8 1, run 1 1000, release 1, crash 2, start 2 failnew, start 2";
 
 #[test]
 fn starts_are_counted(rt: HostRuntime) -> Result<(), Fail> {

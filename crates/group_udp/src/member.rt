@@ -1,8 +1,8 @@
 //! A node of a group with its outbox, on a wire that each call is handed.
 ghost use Rattle.std.specs.Prelude.{◌≤◌};
 
-use group_node::{Config, Node, NodeFault, Outbox, Ran};
-use group_wire::{Wire, hear, press_some, turn};
+use group_node::{Config, Node, NodeFault, Outbox};
+use group_wire::{Heard, Turned, Wire, hear, press_some, turn};
 use paxos_acceptor::Store;
 use paxos_msg::Group;
 use pcode_ops::Program;
@@ -67,13 +67,13 @@ impl<'a, S: Store + Drop> Member<'a, S> {
         self.node.campaign(&mut self.outbox)
     }
 
-    /// A turn of the node on this wire, and why its run was over.
-    pub fn turn<T: Wire>(&mut self, wire: &mut T) -> Result<Ran, NodeFault> {
+    /// A turn of the node on this wire, and what it did.
+    pub fn turn<T: Wire>(&mut self, wire: &mut T) -> Result<Turned, NodeFault> {
         turn(&mut self.node, wire, &mut self.outbox, self.group)
     }
 
-    /// The node takes the next datagram from this wire, if one is there, without a turn. Whether one was.
-    pub fn hear<T: Wire>(&mut self, wire: &mut T) -> Result<bool, NodeFault> {
+    /// The node takes the next datagram from this wire, if one is there, without a turn.
+    pub fn hear<T: Wire>(&mut self, wire: &mut T) -> Result<Heard, NodeFault> {
         hear(&mut self.node, wire, &mut self.outbox, self.group)
     }
 

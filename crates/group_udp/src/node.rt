@@ -7,6 +7,7 @@ use crate::member::Member;
 use crate::typed::Typed;
 use crate::udp::{UdpWire, Watch, bind};
 use group_node::{Config, Ran};
+use group_wire::Heard;
 use machine_run::{ByteWriter, CountingWriter, RunIo, WriteFault, load_file, read_input};
 use paxos_acceptor::{FileStore, Store};
 use paxos_msg::Group;
@@ -125,11 +126,11 @@ fn rest<H: Clock, S: Store + Drop>(
     let front = member.known_front();
     wire.begin_wait();
     for _ in 0..HEARD {
-        if member.hear(wire)? {
-            if member.known_front() > front {
-                return Ok(());
-            }
-        } else if !wire.wait() {
+        let is_over = match member.hear(wire)? {
+            Heard::Nothing => !wire.wait(),
+            Heard::Dropped | Heard::Lost | Heard::Message => member.known_front() > front,
+        };
+        if is_over {
             return Ok(());
         }
     }
@@ -150,7 +151,7 @@ fn play<H: Clock, S: Store + Drop, W: ByteWriter>(
             rest(member, &mut sources.wire)?;
         }
         sources.typed.press(member)?;
-        let ran = member.turn(&mut sources.wire)?;
+        let ran = member.turn(&mut sources.wire)?.ran;
         release_all(member, plan.seen, writer)?;
         is_busy = ran == Ran::More || ran == Ran::Full;
     }

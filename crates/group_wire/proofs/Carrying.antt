@@ -5,7 +5,7 @@ use Rattle.group_node.specs.Packets.{Datagram}
 use Rattle.group_wire.specs.Traffic.{Letter, Traffic, grown, letters_of, letters_to}
 
 -- known traffic of these two parts
-abbrev known_as : List Letter → List (List ℕ) → Option Traffic
+abbrev known_as : List Letter → List (Option (List ℕ)) → Option Traffic
 known_as handed given = Some (record { handed = handed; given = given })
 
 -- nothing more was handed or given
@@ -15,7 +15,7 @@ grown_by_nothing (Some t) =
     ap (λ (xs : List Letter). known_as xs (t.given ++ [])) (append-nil t.handed) ∙ ap (known_as t.handed) (append-nil t.given)
 
 -- twice as at once
-pub grown_twice : (known : Option Traffic) (xs ys : List Letter) (came more : List (List ℕ)) → grown (grown known xs came) ys more ≡ grown known (xs ++ ys) (came ++ more)
+pub grown_twice : (known : Option Traffic) (xs ys : List Letter) (came more : List (Option (List ℕ))) → grown (grown known xs came) ys more ≡ grown known (xs ++ ys) (came ++ more)
 grown_twice None xs ys came more = refl
 grown_twice (Some t) xs ys came more =
     ap (λ (zs : List Letter). known_as zs (t.given ++ came ++ more)) (append_assoc t.handed xs ys)

@@ -1,19 +1,22 @@
 -- Messages that a node hears one after the other.
-use Rattle.std.proofs.Common.{◌≡◌, ◌∙◌, ◌+◌, ◌≤◌, ℕ, Bool, true, false, List, [], ◌∷◌, ◌++◌, length, Option, Result, Ok, Err, IfErr, IsErrOf, OnErr, inl, inr, refl, ap, sym, subst, arith, append-nil, append_assoc, length-append}
+use Rattle.std.proofs.Common.{◌≡◌, ◌≢◌, ◌∙◌, ◌+◌, ◌<◌, ◌⊎◌, ℕ, Bool, true, List, [], ◌∷◌, ◌++◌, All, length, map, Option, Some, Result, Ok, Err, IsErrOf, inl, inr, refl, ap, sym, subst, arith, append-nil, append_assoc, length-append}
 use Rattle.std.proofs.lemmas.List.{map-append}
+use Rattle.std.proofs.lemmas.List.Elements.{All-append, All-cons, All-nil, filter_map-append}
+use Rattle.std.proofs.lemmas.List.Sums.{sum_by-append}
 use Rattle.paxos_msg.specs.declared.message.Group.{Group}
 use Rattle.paxos_msg.specs.Batches.{Msg}
-use Rattle.paxos_msg.specs.Spelling.{Msgs}
+use Rattle.paxos_acceptor.specs.Stores.{IsOneOf, StoreState}
 use Rattle.paxos_acceptor.specs.declared.me.Me.{Me}
 use Rattle.group_node.specs.declared.fault.NodeFault.{NodeFault}
-use Rattle.group_node.specs.declared.fault.NodeFault.TheVariants.{Stopped}
-use Rattle.group_node.specs.declared.player.Ran.{Ran}
+use Rattle.group_node.specs.declared.fault.NodeFault.TheVariants.{Stopped, Store}
 use Rattle.group_node.specs.Delivered.{on_message}
 use Rattle.group_node.specs.Node.{Node}
 use Rattle.group_node.specs.Packets.{Datagram, Packet, datagram_of, datagrams_of}
 use Rattle.group_node.specs.States.{State}
+use Rattle.group_wire.specs.declared.answers.Heard.{Heard}
+use Rattle.group_wire.specs.declared.answers.Heard.TheVariants as answer
 use Rattle.group_wire.specs.Traffic.{Letter, Traffic, grown, letters_of}
-use Rattle.group_wire.specs.Turns.{AreAmong, HearsSome, IsTurn, TellsOfOne, after_heard, posted, sent_at, ticked_if}
+use Rattle.group_wire.specs.Turns.{Arrival, Ending, FailsAtEnd, Fate, Hears, Loses, TooLong, NoMessage, GoesOn, Refuses, HearsSome, IsFateOf, IsOne, IsSpelledEnding, IsTurn, IsUnheard, Spells, TellsOfOne, after_heard, answer_of, heard_of, last_receive, loss_of, lost_of, message_of, posted, received, sent_at, ticked_if}
 use Rattle.group_wire.proofs.Carrying.{grown_twice, letters_then}
 
 -- some messages, and then others
@@ -27,12 +30,24 @@ sent_then n (m ∷ ms) more =
     let done = on_message n m.sender m.body in
     ap (λ (rest : List Packet). done.sends ++ rest) (sent_then done.node ms more) ∙ sym (append_assoc done.sends (sent_at done.node ms) (sent_at (after_heard done.node ms) more))
 
--- each is spelled by one of the datagrams that came first, or of those that came then
-among_then : (g : Group) (came later : List (List ℕ)) (ms more : List Msg) → AreAmong g ms came → AreAmong g more later → AreAmong g (ms ++ more) (came ++ later)
-among_then g [] later ms more none next = subst (λ (all : List Msg). AreAmong g (all ++ more) later) (sym none) next
-among_then g (bytes ∷ came) later ms more (inl dropped) next = inl (among_then g came later ms more dropped next)
-among_then g (bytes ∷ came) later ms more (inr (m, rest, first, spelled, behind)) next =
-    inr (m, rest ++ more, ap (λ (all : List Msg). all ++ more) first, spelled, among_then g came later rest more behind next)
+-- it holds of each of one
+pub all_of_one : {X : Type 0} (P : X → Type 0) → (x : X) → P x → All P (x ∷ [])
+all_of_one P x p = All-cons P x [] p (All-nil P)
+
+-- the messages of some arrivals, and then of others
+heard_of_both : (came later : List Arrival) → heard_of (came ++ later) ≡ heard_of came ++ heard_of later
+heard_of_both came later = filter_map-append (λ (a : Arrival). message_of a.fate) came later
+
+lost_of_both : (came later : List Arrival) → lost_of (came ++ later) ≡ lost_of came + lost_of later
+lost_of_both came later = sum_by-append (λ (a : Arrival). loss_of a.fate) came later
+
+-- hearing that goes on, and then more of it
+received_then : (came later : List Arrival) (ending : Ending) → received came GoesOn ++ received later ending ≡ received (came ++ later) ending
+received_then came later ending =
+    let some = λ (a : Arrival). Some a.bytes in
+    ap (λ (xs : List (Option (List ℕ))). xs ++ received later ending) (append-nil (map some came))
+    ∙ sym (append_assoc (map some came) (map some later) (last_receive ending))
+    ∙ ap (λ (xs : List (Option (List ℕ))). xs ++ last_receive ending) (sym (map-append some came later))
 
 -- packets of a node, and then others
 pub posted_then : (n : Node) (xs ys : List Packet) → posted n (xs ++ ys) ≡ posted n xs ++ posted n ys
@@ -43,108 +58,191 @@ posted_then n xs ys =
 pub posted_by_same : (n later : Node) (packets : List Packet) → later.me ≡ n.me → posted later packets ≡ posted n packets
 posted_by_same n later packets same = ap (λ (me : Me). letters_of me.group.size (datagrams_of me packets)) same
 
+-- nothing was heard of either part
+none_of_both : (came later : List Arrival) → IsUnheard came → IsUnheard later → IsUnheard (came ++ later)
+none_of_both came later (none, without) (nor, neither) = (
+  heard_of_both came later ∙ ap (λ (ms : List Msg). ms ++ heard_of later) none ∙ nor,
+  omega (arith, lost_of_both came later, without, neither),
+)
+
 -- a node that has heard some, and then others
-pub hears_then : {S : Type 0} (g : Group) (came later : List (List ℕ)) (old mid new : State S) (from via to : Option Traffic)
-    → HearsSome g came old mid from via → HearsSome g later mid new via to → HearsSome g (came ++ later) old new from to
-hears_then g came later old mid new from via to first second =
+pub hears_then : {S : Type 0} (g : Group) (came later : List Arrival) (ending : Ending) (old mid new : State S) (from via to : Option Traffic)
+    → (old.protocol.is_stopped ≡ true → mid.protocol.is_stopped ≡ true)
+    → HearsSome g came GoesOn old mid from via → HearsSome g later ending mid new via to → HearsSome g (came ++ later) ending old new from to
+hears_then g came later ending old mid new from via to stays first second =
     let n : Node = old.protocol.rules in
-    let here : List Packet = sent_at n first.heard in
-    let then : List Packet = sent_at (after_heard n first.heard) second.heard in
-    let both : posted n here ++ posted mid.protocol.rules (sent_at mid.protocol.rules second.heard) ≡ posted n (sent_at n (first.heard ++ second.heard)) =
+    let heard : List Msg = heard_of came in
+    let more : List Msg = heard_of later in
+    let here : List Packet = sent_at n heard in
+    let then : List Packet = sent_at (after_heard n heard) more in
+    let all : heard ++ more ≡ heard_of (came ++ later) = sym (heard_of_both came later) in
+    let both : posted n here ++ posted mid.protocol.rules (sent_at mid.protocol.rules more) ≡ posted n (sent_at n (heard_of (came ++ later))) =
     ap (λ (xs : List Letter). posted n here ++ xs)
-    (posted_by_same n mid.protocol.rules (sent_at mid.protocol.rules second.heard) first.me
-    ∙ ap (λ (m : Node). posted n (sent_at m second.heard)) first.rules)
-    ∙ sym (posted_then n here then) ∙ ap (posted n) (sym (sent_then n first.heard second.heard)) in
+    (posted_by_same n mid.protocol.rules (sent_at mid.protocol.rules more) first.me
+    ∙ ap (λ (m : Node). posted n (sent_at m more)) first.rules)
+    ∙ sym (posted_then n here then) ∙ ap (posted n) (sym (sent_then n heard more)) ∙ ap (λ (ms : List Msg). posted n (sent_at n ms)) all in
     record {
-      heard = first.heard ++ second.heard;
-      among = among_then g came later first.heard second.heard first.among second.among;
-      rules = second.rules ∙ ap (λ (m : Node). after_heard m second.heard) first.rules ∙ sym (heard_then n first.heard second.heard);
+      fates = All-append (λ (a : Arrival). IsFateOf g a.bytes a.fate) came later first.fates second.fates;
+      last = second.last;
+      deaf = λ stopped. none_of_both came later (first.deaf stopped) (second.deaf (stays stopped));
+      rules = second.rules ∙ ap (λ (m : Node). after_heard m more) first.rules ∙ sym (heard_then n heard more) ∙ ap (after_heard n) all;
       me = second.me ∙ first.me;
-      traffic = second.traffic ∙ ap (λ (t : Option Traffic). grown t (posted mid.protocol.rules (sent_at mid.protocol.rules second.heard)) later) first.traffic
-          ∙ grown_twice from (posted n here) (posted mid.protocol.rules (sent_at mid.protocol.rules second.heard)) came later
-          ∙ ap (λ (xs : List Letter). grown from xs (came ++ later)) both;
+      traffic = second.traffic ∙ ap (λ (t : Option Traffic). grown t (posted mid.protocol.rules (sent_at mid.protocol.rules more)) (received later ending)) first.traffic
+          ∙ grown_twice from (posted n here) (posted mid.protocol.rules (sent_at mid.protocol.rules more)) (received came GoesOn) (received later ending)
+          ∙ ap (λ (xs : List Letter). grown from xs (received came GoesOn ++ received later ending)) both
+          ∙ ap (grown from (posted n (sent_at n (heard_of (came ++ later))))) (received_then came later ending);
       progress = second.progress ∙ first.progress;
     }
 
--- a node that hears nothing of one datagram
-pub hears_nothing : {S : Type 0} (g : Group) (n : State S) (from to : Option Traffic) (came : List (List ℕ))
-    → AreAmong g [] came → to ≡ grown from [] came → HearsSome g came n n from to
-hears_nothing g n from to came among traffic =
-    record { heard = []; among = among; rules = refl; me = refl; traffic = traffic; progress = refl }
+-- a node that hears no message
+pub hears_nothing : {S : Type 0} (g : Group) (came : List Arrival) (ending : Ending) (old new : State S) (from to : Option Traffic)
+    → All (λ a. IsFateOf g a.bytes a.fate) came → IsSpelledEnding g ending → heard_of came ≡ [] → (old.protocol.is_stopped ≡ true → lost_of came ≡ 0)
+    → new.protocol.rules ≡ old.protocol.rules → new.progress ≡ old.progress → to ≡ grown from [] (received came ending)
+    → HearsSome g came ending old new from to
+hears_nothing g came ending old new from to fates last none without rules progress traffic =
+    let n : Node = old.protocol.rules in
+    record {
+      fates = fates;
+      last = last;
+      deaf = λ stopped. (none, without stopped);
+      rules = rules ∙ ap (after_heard n) (sym none);
+      me = ap (λ (later : Node). later.me) rules;
+      traffic = traffic ∙ ap (λ (ms : List Msg). grown from (posted n (sent_at n ms)) (received came ending)) (sym none);
+      progress = progress;
+    }
 
--- a node that hears the message of one datagram
+-- a datagram of more than 1,400 bytes comes
+pub drops_longer : {S : Type 0} (g : Group) (n : State S) (from to : Option Traffic) (bytes : List ℕ) → 1400 < length bytes
+    → to ≡ grown from [] (Some bytes ∷ []) → HearsSome g (record { bytes = bytes; fate = TooLong } ∷ []) GoesOn n n from to
+drops_longer g n from to bytes long given =
+    let a : Arrival = record { bytes = bytes; fate = TooLong } in
+    hears_nothing g (a ∷ []) GoesOn n n from to (all_of_one (λ (a : Arrival). IsFateOf g a.bytes a.fate) a long) tt refl (λ _. refl) refl refl given
+
+-- a node that takes the message of one datagram
 pub hears_one : {S : Type 0} (g : Group) (old new : State S) (from via to : Option Traffic) (bytes : List ℕ) (m : Msg) (before waits : List Datagram)
-    → Msgs g bytes m → old.protocol.rules.me.group ≡ g → new.protocol.rules ≡ (on_message old.protocol.rules m.sender m.body).node
+    → Spells g bytes m → ¬ (old.protocol.is_stopped ≡ true) → old.protocol.rules.me.group ≡ g
+    → new.protocol.rules ≡ (on_message old.protocol.rules m.sender m.body).node
     → (on_message old.protocol.rules m.sender m.body).node.me ≡ old.protocol.rules.me → new.progress ≡ old.progress
     → before ≡ [] → waits ≡ before ++ datagrams_of old.protocol.rules.me (on_message old.protocol.rules m.sender m.body).sends → to ≡ grown via (letters_of g.size waits) []
-    → via ≡ grown from [] (bytes ∷ []) → HearsSome g (bytes ∷ []) old new from to
-hears_one g old new from via to bytes m before waits spelled group rules me progress empty sends traffic came =
+    → via ≡ grown from [] (Some bytes ∷ []) → HearsSome g (record { bytes = bytes; fate = Hears m } ∷ []) GoesOn old new from to
+hears_one g old new from via to bytes m before waits spelled works group rules me progress empty sends traffic came =
     let n : Node = old.protocol.rules in
     let sent : List Packet = (on_message n m.sender m.body).sends in
     let all : letters_of g.size waits ≡ posted n (sent ++ []) =
     ap (letters_of g.size) (sends ∙ ap (λ (first : List Datagram). first ++ datagrams_of n.me sent) empty) ∙ ap (λ (of : Group). letters_of of.size (datagrams_of n.me sent)) (sym group) ∙ ap (posted n) (sym (append-nil sent)) in
     record {
-      heard = m ∷ [];
-      among = inr (m, [], refl, spelled, refl);
+      fates = all_of_one (λ (a : Arrival). IsFateOf g a.bytes a.fate) (record { bytes = bytes; fate = Hears m }) spelled;
+      last = tt;
+      deaf = λ stopped. absurd (works stopped);
       rules = rules;
       me = ap (λ (later : Node). later.me) rules ∙ me;
-      traffic = traffic ∙ ap (λ (t : Option Traffic). grown t (letters_of g.size waits) []) came ∙ grown_twice from [] (letters_of g.size waits) (bytes ∷ []) []
-          ∙ ap (λ (xs : List Letter). grown from xs (bytes ∷ [])) all;
+      traffic = traffic ∙ ap (λ (t : Option Traffic). grown t (letters_of g.size waits) []) came ∙ grown_twice from [] (letters_of g.size waits) (Some bytes ∷ []) []
+          ∙ ap (λ (xs : List Letter). grown from xs (Some bytes ∷ [])) all;
       progress = progress;
     }
 
--- one datagram at most is told of
-one_at_most : {E : Type 0} (r : Result Bool E) (came : List (List ℕ)) → TellsOfOne r came → length came ≤ 1
-one_at_most (Ok true) came one = omega (arith, one)
-one_at_most (Ok false) came none = omega (arith, none)
-one_at_most (Err e) came one = omega (arith, one)
-
--- so many datagrams at most came, and then one more at most
-pub hears_one_more : {S E : Type 0} (g : Group) (most : ℕ) (old mid new : State S) (from via to : Option Traffic) (r : Result Bool E)
-    → (came : List (List ℕ)) × HearsSome g came old mid from via × length came ≤ most
-    → (later : List (List ℕ)) × HearsSome g later mid new via to × TellsOfOne r later
-    → (all : List (List ℕ)) × HearsSome g all old new from to × length all ≤ most + 1
-hears_one_more g most old mid new from via to r (came, first, few) (later, second, told) = (
-  came ++ later,
-  hears_then g came later old mid new from via to first second,
-  rw (length-append came later) (omega (arith, few, one_at_most r later told)),
+-- a node that refuses the message of one datagram
+pub refuses_one : {S : Type 0} (honest : Type 0) (state : S → StoreState) (g : Group) (old new : State S) (from to : Option Traffic) (bytes : List ℕ) (m : Msg) (fault : NodeFault) (result : Result Heard NodeFault)
+    → Spells g bytes m → new.protocol.rules ≡ old.protocol.rules → new.progress ≡ old.progress → to ≡ grown from [] (Some bytes ∷ []) → result ≡ Err fault
+    → (honest → fault ≡ Store → IsOneOf (state new.protocol.store).stored old.protocol.rules.kept (on_message old.protocol.rules m.sender m.body).node.kept)
+    → (came : List Arrival) × (ending : Ending) × HearsSome g came ending old new from to × TellsOfOne result came ending × FailsAtEnd honest state ending new result
+refuses_one honest state g old new from to bytes m fault (Ok h) spelled rules progress traffic told device = absurd cc
+refuses_one honest state g old new from to bytes m fault (Err e) spelled rules progress traffic told device = (
+  [],
+  Refuses bytes m,
+  hears_nothing g [] (Refuses bytes m) old new from to (All-nil (λ (a : Arrival). IsFateOf g a.bytes a.fate)) spelled refl (λ _. refl) rules progress traffic,
+  (refl, tt),
+  λ is_store. λ is_honest.
+      let now : fault ≡ Store = cc in
+      subst (λ (n : Node). IsOneOf (state new.protocol.store).stored n.kept (on_message n m.sender m.body).node.kept) (sym rules) (device is_honest now),
 )
 
--- at most so many are at most more
-pub hears_within : {S : Type 0} (g : Group) (a b : ℕ) (old new : State S) (from to : Option Traffic) → a ≤ b
-    → (came : List (List ℕ)) × HearsSome g came old new from to × length came ≤ a
-    → (came : List (List ℕ)) × HearsSome g came old new from to × length came ≤ b
-hears_within g a b old new from to more (came, h, few) = (came, h, omega (arith, few, more))
+-- what is taken is not refused
+pub is_not_of : {T : Type 0} (x : T) (e : NodeFault) → ¬ IsErrOf (Ok x) e
+is_not_of x e is = absurd cc
+
+pub is_not_refused : {T : Type 0} (x : T) → ¬ IsErrOf (Ok x) Stopped
+is_not_refused x is = is_not_of x Stopped is
 
 -- what was to be sent before, the messages that are heard, and then a tick or none
-pub turn_is : {S : Type 0} (g : Group) (came : List (List ℕ)) (ticks : Bool) (before : List Datagram) (old mid new : State S) (from begun via to : Option Traffic)
-    → begun ≡ grown from (letters_of g.size before) [] → HearsSome g came old mid begun via
+pub turn_is : {S : Type 0} (g : Group) (came : List Arrival) (ending : Ending) (ticks : Bool) (before : List Datagram) (old mid new : State S) (from begun via to : Option Traffic)
+    → begun ≡ grown from (letters_of g.size before) [] → HearsSome g came ending old mid begun via
     → new.protocol.rules ≡ (ticked_if ticks mid.protocol.rules).node → to ≡ grown via (posted mid.protocol.rules (ticked_if ticks mid.protocol.rules).sends) []
-    → IsTurn g came before old new from to ticks
-turn_is g came ticks before old mid new from begun via to first h rules last =
+    → IsTurn g came ending before old new from to ticks
+turn_is g came ending ticks before old mid new from begun via to first h rules last =
     let n : Node = old.protocol.rules in
+    let heard : List Msg = heard_of came in
     let waited : List Letter = letters_of g.size before in
-    let here : List Letter = posted n (sent_at n h.heard) in
+    let here : List Letter = posted n (sent_at n heard) in
     let then : List Letter = posted mid.protocol.rules (ticked_if ticks mid.protocol.rules).sends in
-    let both : here ++ then ≡ posted n (sent_at n h.heard ++ (ticked_if ticks (after_heard n h.heard)).sends) =
+    let got : List (Option (List ℕ)) = received came ending in
+    let both : here ++ then ≡ posted n (sent_at n heard ++ (ticked_if ticks (after_heard n heard)).sends) =
     ap (λ (xs : List Letter). here ++ xs)
     (posted_by_same n mid.protocol.rules (ticked_if ticks mid.protocol.rules).sends h.me
     ∙ ap (λ (m : Node). posted n (ticked_if ticks m).sends) h.rules)
-    ∙ sym (posted_then n (sent_at n h.heard) (ticked_if ticks (after_heard n h.heard)).sends) in
+    ∙ sym (posted_then n (sent_at n heard) (ticked_if ticks (after_heard n heard)).sends) in
     record {
-      heard = h.heard;
-      among = h.among;
+      fates = h.fates;
+      last = h.last;
+      deaf = h.deaf;
       rules = rules ∙ ap (λ (m : Node). (ticked_if ticks m).node) h.rules;
-      traffic = last ∙ ap (λ (t : Option Traffic). grown t then []) (h.traffic ∙ ap (λ (t : Option Traffic). grown t here came) first)
-          ∙ grown_twice (grown from waited []) here then came [] ∙ grown_twice from waited (here ++ then) [] (came ++ [])
-          ∙ ap (grown from (waited ++ (here ++ then))) (append-nil came) ∙ ap (λ (xs : List Letter). grown from (waited ++ xs) came) both;
+      traffic = last ∙ ap (λ (t : Option Traffic). grown t then []) (h.traffic ∙ ap (λ (t : Option Traffic). grown t here got) first)
+          ∙ grown_twice (grown from waited []) here then got [] ∙ grown_twice from waited (here ++ then) [] (got ++ [])
+          ∙ ap (grown from (waited ++ (here ++ then))) (append-nil got) ∙ ap (λ (xs : List Letter). grown from (waited ++ xs) got) both;
     }
 
--- after a tick that was not refused neither is a run: the node isn't stopped
-is_not_refused : (x : Bool) → ¬ IsErrOf (Ok x) Stopped
-is_not_refused x e = absurd cc
+-- how many messages an answer calls lost
+abbrev pub loss_in : Heard → ℕ
+loss_in answer.Nothing = 0
+loss_in answer.Dropped = 0
+loss_in answer.Lost = 1
+loss_in answer.Message = 0
 
-pub runs_on : (P : Type 0) (ticks stopped : Bool) (result : Result Ran NodeFault) → (stopped ≡ true → IsErrOf (Ok ticks) Stopped) → IfErr result (λ e. e ≡ Stopped)
-    → (IsErrOf result Stopped → stopped ≡ true) → OnErr result P
-runs_on P ticks stopped (Ok ran) works others was = tt
-runs_on P ticks stopped (Err e) works others was = absurd (is_not_refused ticks (works (was (ap Err others))))
+loss_is : (f : Fate) → loss_in (answer_of f) ≡ loss_of f
+loss_is (Hears m) = refl
+loss_is (Loses m) = refl
+loss_is TooLong = refl
+loss_is NoMessage = refl
+
+-- a datagram that came is one arrival, and hearing goes on
+one_came : (h : Heard) (came : List Arrival) (ending : Ending) → h ≢ answer.Nothing → TellsOfOne (Ok h) came ending → IsOne came ending h
+one_came answer.Nothing came ending some told = absurd (some refl)
+one_came answer.Dropped came ending some told = told
+one_came answer.Lost came ending some told = told
+one_came answer.Message came ending some told = told
+
+-- one arrival more
+pub one_more_of : (came later : List Arrival) (a : Arrival) (count lost : ℕ) (h : Heard) → later ≡ a ∷ [] → h ≡ answer_of a.fate
+    → length came ≡ count → lost_of came ≡ lost → (length (came ++ later) ≡ count + 1) × (lost_of (came ++ later) ≡ lost + loss_in h)
+one_more_of came later a count lost h one told many losses =
+    let more : length later ≡ 1 = ap length one in
+    let loses : loss_in h ≡ loss_of a.fate = ap loss_in told ∙ loss_is a.fate in
+    let same : lost_of later ≡ lost_of (a ∷ []) = ap lost_of one in
+    let lone : lost_of later ≡ loss_in h = omega (arith, loses, same) in (
+      omega (arith, length-append came later, many, more),
+      omega (arith, lost_of_both came later, losses, lone),
+    )
+
+-- an answer that calls no message lost, of a datagram that came
+pub no_loss : (h : Heard) → (h ≡ answer.Dropped) ⊎ (h ≡ answer.Message) → (loss_in h ≡ 0) × (h ≢ answer.Nothing)
+no_loss h (inl dropped) = (ap loss_in dropped, λ none. absurd cc)
+no_loss h (inr message) = (ap loss_in message, λ none. absurd cc)
+
+pub one_loss : (h : Heard) → h ≡ answer.Lost → (loss_in h ≡ 1) × (h ≢ answer.Nothing)
+one_loss h lost = (ap loss_in lost, λ none. absurd cc)
+
+-- a datagram came at each receive, and then one more
+pub hears_one_more : {S : Type 0} {F : List Arrival → Ending → Type 0} (g : Group) (count lost loss now : ℕ) (old mid new : State S) (from via to : Option Traffic) (h : Heard)
+    → (old.protocol.is_stopped ≡ true → mid.protocol.is_stopped ≡ true)
+    → (came : List Arrival) × HearsSome g came GoesOn old mid from via × (length came ≡ count) × (lost_of came ≡ lost)
+    → (later : List Arrival) × (ending : Ending) × HearsSome g later ending mid new via to × TellsOfOne (Ok h) later ending × F later ending
+    → (loss_in h ≡ loss) × (h ≢ answer.Nothing) → now ≡ lost + loss
+    → (all : List Arrival) × HearsSome g all GoesOn old new from to × (length all ≡ count + 1) × (lost_of all ≡ now)
+hears_one_more g count lost loss now old mid new from via to h stays (came, first, many, losses) (later, ending, second, told, _) (lossy, some) sum =
+    let (a, one, goes_on, said) = one_came h later ending some told in
+    let (longer, lossier) = one_more_of came later a count lost h one said many losses in (
+      came ++ later,
+      subst (λ (e : Ending). HearsSome g (came ++ later) e old new from to) goes_on (hears_then g came later ending old mid new from via to stays first second),
+      longer,
+      omega (arith, lossier, lossy, sum),
+    )

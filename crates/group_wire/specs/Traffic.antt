@@ -10,14 +10,15 @@ pub record Letter : Type 0 where
   pub to : ℕ
   pub bytes : List ℕ
 
--- what a wire was handed to send, and which datagrams it gave, each in order
+-- what a wire was handed to send, and what each receive gave, in order: a datagram, or nothing
 pub record Traffic : Type 0 where
   pub handed : List Letter
-  pub given : List (List ℕ)
+  pub given : List (Option (List ℕ))
 
--- known traffic, with more that was handed and more that was given
-abbrev pub grown : Option Traffic → List Letter → List (List ℕ) → Option Traffic
-grown known letters came = option_map (λ t. record { handed = t.handed ++ letters; given = t.given ++ came }) known
+-- known traffic, after the wire was handed more datagrams and more receives were made
+abbrev pub grown : Option Traffic → List Letter → List (Option (List ℕ)) → Option Traffic
+grown known letters received =
+    option_map (λ t. record { handed = t.handed ++ letters; given = t.given ++ received }) known
 
 -- a datagram in a group of that size, as one for each node that it goes to, the first node first
 abbrev pub letters_to : ℕ → To → List ℕ → List Letter

@@ -31,14 +31,14 @@ writes_a = record {
   procs = (record { number = 1; level = 0; enter = 0; exit = 12; jtab = 22; low = 0; params = 2; vars = 1 }) ∷ [];
 }
 
-is_step : Outcome → Bool
+unfoldable pub is_step : Outcome → Bool
 is_step (Leads_to d) = true
 is_step (Stops e) = false
 is_step Waiting = false
 is_step Stuck = false
 
 -- n steps exist
-all_go : Parts → List ℕ → ℕ → Bool
+unfoldable pub all_go : Parts → List ℕ → ℕ → Bool
 all_go p x zero = true
 all_go p x (suc n) = all_go p x n && is_step (outcome p x (after p x n))
 
@@ -49,7 +49,7 @@ goes_by p x c (Stops s) h e = absurd cc
 goes_by p x c Waiting h e = absurd cc
 goes_by p x c Stuck h e = absurd cc
 
-leads_by : (p : Parts) (x : List ℕ) (n : ℕ) → all_go p x n ≡ true → Leads p x n (after p x n)
+pub leads_by : (p : Parts) (x : List ℕ) (n : ℕ) → all_go p x n ≡ true → Leads p x n (after p x n)
 unfolding all_go Leads after
 leads_by p x zero h = refl
 leads_by p x (suc n) h =
@@ -73,7 +73,7 @@ ten = record { program = writes_a; steps = 10; released = 0 }
 pub record StepsLaw : Type 0 where
   pub steps : (p : Parts) (x : List ℕ) (m n : ℕ) → m ≤ n → IsPrefix (out p x m) (out p x n)
 
-prefix_short : (a b : List ℕ) → IsPrefix a b → length a ≤ length b
+pub prefix_short : (a b : List ℕ) → IsPrefix a b → length a ≤ length b
 prefix_short a b h = rw (h.whole) (omega (arith, length-append a h.rest))
 
 ten_waits : (x : List ℕ) → unreleased_of x ten ≡ 65 ∷ []

@@ -1,6 +1,7 @@
 -- Whatever happens, a world stays sound and ordered.
 use Rattle.std.proofs.Common.{◌≡◌, ℕ, ◌+◌, ◌<◌, ◌≤◌, Bool, List, [], ◌∷◌, ◌++◌, get_or, length, take, Option, Result, Ok, Err, IfOk, OnErr, refl, sym, subst}
 use Rattle.std.proofs.lemmas.List.{take_all, take_more}
+use Rattle.std.proofs.lemmas.Option.{slice_get-get_or}
 use Rattle.pcode_file.specs.Parts.{Parts}
 use Rattle.paxos_msg.specs.declared.message.Group.{Group}
 use Rattle.paxos_msg.specs.Grammar.{IsGroup}
@@ -12,6 +13,7 @@ use Rattle.group_world.specs.declared.fault.WorldFault.{WorldFault}
 use Rattle.group_world.specs.Events.{plan_of}
 use Rattle.group_world.specs.Goes.{Acts, Goes, Happens}
 use Rattle.group_world.specs.Held.{Holds}
+use Rattle.group_world.specs.Refusals.{IsFirstRefused, IsRefused}
 use Rattle.group_world.specs.Ordered.{IsOrdered}
 use Rattle.group_world.specs.Sound.{IsSound}
 use Rattle.group_world.specs.Worlds.{begun, World}
@@ -24,7 +26,8 @@ pub record EventLaws : Type 0 where
   pub ordered : (w v : World) (plan : Option Bool) (act : Act) (d : Done) → IsSound w → IsSound v → IsOrdered w → Acts w plan act d v → IsOrdered v
 
 -- events keep what holds
-happens_holds : EventLaws → (w : World) (events : List Event) (v : World) → Holds w → Happens w events v → Holds v
+pub happens_holds : EventLaws → (w : World) (events : List Event) (v : World) → Holds w
+    → Happens w events v → Holds v
 happens_holds laws w [] v h e = subst Holds (sym e) h
 happens_holds laws w (e ∷ events) v h (mid, d, goes, rest) =
     let sound = laws.sound w mid (plan_of e.save) e.act d h.sound goes in
@@ -56,3 +59,15 @@ happens_next w events v i default d u less h goes =
 -- all of them
 pub happens_all : (w : World) (events : List Event) (v : World) (n : ℕ) → length events ≤ n → Happens w (take n events) v → Happens w events v
 happens_all w events v n all h = subst (λ (some : List Event). Happens w some v) (take_all n events all) h
+
+-- the first event that is refused, after those that happened
+pub first_refused : (w : World) (events : List Event) (v : World) (i : ℕ) (default : Event)
+    (f : WorldFault) → i < length events → Happens w (take i events) v
+    → IsRefused v (get_or events i default).act f → IsFirstRefused w events i f
+first_refused w events v i default f less h refused = record {
+  before = v;
+  happens = h;
+  event = get_or events i default;
+  there = slice_get-get_or events i default less;
+  refused = refused;
+}

@@ -15,6 +15,10 @@ mod OrderSerials
 mod OrderFronts
 mod OrderRows
 mod OrderWrong
+mod WrongWorlds
+mod WrongSteps
+mod WitnessCalls
+mod Witness
 mod OrderPackets
 mod OrderNodes
 mod OrderMembers
@@ -28,6 +32,8 @@ mod OrderPossible
 mod Beginning
 mod Happening
 mod Example
+mod Growing
+mod LaterWorlds
 mod Answering
 mod Starting
 mod Seating

@@ -39,13 +39,13 @@ packets = map to_all (Promise ballot 0 65536 [] ∷ (said_of 0 batch_a ++ (said_
 -- ---- each packet has a spelling, which is read
 
 -- by a test of each
-are_bytes : (bytes : List ℕ) → list_all (λ b. nat_lt b 256) bytes ≡ true → AreBytes bytes
+pub are_bytes : (bytes : List ℕ) → list_all (λ b. nat_lt b 256) bytes ≡ true → AreBytes bytes
 are_bytes [] e i = lit< tt
 are_bytes (b ∷ bytes) e zero = ltb-true b 256 (and_parts (nat_lt b 256) (list_all (λ b. nat_lt b 256) bytes) e).0
 are_bytes (b ∷ bytes) e (suc i) = are_bytes bytes (and_parts (nat_lt b 256) (list_all (λ b. nat_lt b 256) bytes) e).1 i
 
 -- the packet fits, and its spelling is bytes
-record IsReadable (packet : Packet) : Type 0 where
+pub record IsReadable (packet : Packet) : Type 0 where
   pub fits : Fits group (message packet.body)
   pub bytes : list_all (λ b. nat_lt b 256) (spelling group (message packet.body)) ≡ true
 
@@ -116,7 +116,7 @@ module _ (laws : ExampleLaws) where
   read_as : (packet : Packet) → IsReadable packet → message_of group (datagram_of me packet) ≡ Some (message packet.body)
   read_as packet h = ap result_ok ((laws.read group (datagram_of me packet).bytes (message packet.body) (omega arith) (are_bytes (datagram_of me packet).bytes h.bytes)).1 (spelled_as packet h))
 
-  all_read : (ps : List Packet) → EachOf IsReadable ps → messages_in group (datagrams_of me ps) ≡ handed 1 ps
+  pub all_read : (ps : List Packet) → EachOf IsReadable ps → messages_in group (datagrams_of me ps) ≡ handed 1 ps
   all_read [] each = refl
   all_read (p ∷ ps) each = λ i. cons_option (read_as p each.0 i) (all_read ps each.1 i)
 

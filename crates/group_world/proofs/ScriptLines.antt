@@ -1,10 +1,11 @@
 -- The lines of a script, one after the other.
-use Rattle.std.proofs.Common.{◌≡◌, ℕ, ◌+◌, ◌<◌, ◌==◌, List, [], ◌∷◌, ◌++◌, length, take, drop, refl, ap, append_assoc, arith, sym, ◌∙◌, Bool, true, false, suc}
-use Rattle.std.specs.Prelude.{Some, None, Result, Ok, Err}
+use Rattle.std.proofs.Common.{◌≡◌, ℕ, ◌+◌, ◌<◌, ◌==◌, List, [], ◌∷◌, ◌++◌, length, take, drop, refl, ap, append_assoc, length-append, arith, subst, sym, ◌∙◌, Bool, true, false, suc, ◌-◌}
+use Rattle.std.specs.Prelude.{Option, Some, None, Result, Ok, Err, IsOk}
 use Rattle.std.specs.List.{position_or_len, before_first, after_first}
 use Rattle.std.proofs.lemmas.List.{append-nil}
+use Rattle.std.proofs.Math.Seq.{take-append_seam}
 use Rattle.group_world.specs.declared.script.Line.{Line}
-use Rattle.group_world.specs.Scripts.{begins_with, header_of, in_front, line_of, lines_of, lines_say, script_behind, script_in, script_of}
+use Rattle.group_world.specs.Scripts.{IsReached, begins_with, header_of, in_front, line_of, lines_of, lines_say, script_behind, script_in, script_of}
 
 -- the line that a text begins with, and what stands behind it
 abbrev pub line_in : List ℕ → List ℕ
@@ -91,3 +92,86 @@ grown xs ys n m rest more l h e behind items number =
     let second : after (xs ++ l ∷ []) (lines_say m (lines_of more)) ≡ after (xs ++ l ∷ []) (lines_say (n + 1) (lines_of more)) = ap (λ k. after (xs ++ l ∷ []) (lines_say k (lines_of more))) number in
     let third : after (xs ++ l ∷ []) (lines_say (n + 1) (lines_of more)) ≡ after (xs ++ l ∷ []) (lines_say (n + 1) (lines_of (rest_of rest))) = ap (λ t. after (xs ++ l ∷ []) (lines_say (n + 1) (lines_of t))) behind in
     one_more xs n rest l h e ∙ sym ((first ∙ second) ∙ third)
+
+-- ---- the lines that were read
+
+in_front_parts : (o : Option Line) (n : ℕ) (rest : Result (List Line) ℕ) (xs : List Line)
+    → in_front o n rest ≡ Ok xs
+    → (l : Line) × (ys : List Line) × (o ≡ Some l) × (rest ≡ Ok ys) × (xs ≡ l ∷ ys)
+in_front_parts None n rest xs e = absurd (cc)
+in_front_parts (Some l) n (Ok ys) xs e = (l, ys, refl, refl, (cc))
+in_front_parts (Some l) n (Err bad) xs e = absurd (cc)
+
+-- as many items as lines
+said_length : (n : ℕ) (read : List (List ℕ)) (xs : List Line) → lines_say n read ≡ Ok xs
+    → length xs ≡ length read
+said_length n [] xs e = let none : xs ≡ [] = cc in ap length none
+said_length n (line ∷ more) xs e =
+    let (l, ys, first, rest, whole) = in_front_parts (line_of line) n (lines_say (n + 1) more) xs
+    e in
+    ap length whole ∙ ap (λ k. suc k) (said_length (n + 1) more ys rest)
+
+-- and one line more
+said_more : (n : ℕ) (read : List (List ℕ)) (xs : List Line) (line : List ℕ) (l : Line)
+    → lines_say n read ≡ Ok xs → line_of line ≡ Some l
+    → lines_say n (read ++ line ∷ []) ≡ Ok (xs ++ l ∷ [])
+said_more n [] xs line l e f =
+    let none : [] ≡ xs = cc in
+    ap (λ o. in_front o n (Ok [])) f ∙ ap (λ zs. Ok (zs ++ l ∷ [])) none
+said_more n (r ∷ rs) xs line l e f =
+    let (k, ys, first, rest, whole) = in_front_parts (line_of r) n (lines_say (n + 1) rs) xs e in
+    let later : lines_say (n + 1) (rs ++ line ∷ []) ≡ Ok (ys ++ l ∷ []) =
+    said_more (n + 1) rs ys line l rest f in
+    (ap (λ o. in_front o n (lines_say (n + 1) (rs ++ line ∷ []))) first
+    ∙ ap (in_front (Some k) n) later) ∙ ap (λ zs. Ok (zs ++ l ∷ [])) (sym whole)
+
+-- of all these lines the first say these items, and those are left
+pub record IsReadTo (all : List (List ℕ)) (xs : List Line) (left : List (List ℕ)) : Type 0 where
+  pub read : List (List ℕ)
+  pub whole : all ≡ read ++ left
+  pub says : lines_say 2 read ≡ Ok xs
+
+pub read_next : (all : List (List ℕ)) (xs ys : List Line) (rest more : List ℕ) (l : Line)
+    → IsReadTo all xs (lines_of rest) → 0 < length rest
+    → line_of (line_in rest) ≡ Some l → more ≡ rest_of rest → ys ≡ xs ++ l ∷ []
+    → IsReadTo all ys (lines_of more)
+read_next all xs ys rest more l h some e left items = record {
+  read = h.read ++ line_in rest ∷ [];
+  whole = (h.whole ∙ ap (λ ls. h.read ++ ls) (lines_of-first rest some))
+      ∙ (sym (append_assoc h.read (line_in rest ∷ []) (lines_of (rest_of rest)))
+      ∙ ap (λ t. (h.read ++ line_in rest ∷ []) ++ lines_of t) (sym left));
+  says = said_more 2 h.read xs (line_in rest) l h.says e ∙ ap (λ zs. Ok zs) (sym items);
+}
+
+-- a text whose first line is good has one
+header_first : (text : List ℕ) (group : ℕ × ℕ) → header_of (line_in text) ≡ Some group
+    → lines_of text ≡ line_in text ∷ lines_of (rest_of text)
+header_first [] group e = absurd (cc)
+header_first (b ∷ bs) group e = lines_of-first (b ∷ bs) (omega arith)
+
+take_first : (first : List ℕ) (read left : List (List ℕ))
+    → take (suc (length read)) (first ∷ (read ++ left)) ≡ first ∷ read
+take_first first read left = ap (λ ls. first ∷ ls) (take-append_seam read left)
+
+-- the next line is reached where others were read before it
+pub reached : (text : List ℕ) (group : ℕ × ℕ) (xs : List Line) (rest : List ℕ) (n : ℕ)
+    → header_of (line_in text) ≡ Some group
+    → IsReadTo (lines_of (rest_of text)) xs (lines_of rest) → 0 < length rest → n ≡ length xs + 2
+    → IsReached text n
+reached text group xs rest n header h some number =
+    let first = header_first text group header in
+    let all : lines_of text ≡ line_in text ∷ (h.read ++ lines_of rest) = first
+    ∙ ap (λ ls. line_in text ∷ ls) h.whole in
+    let count : length xs ≡ length h.read = said_length 2 h.read xs h.says in
+    let left : length (lines_of rest) ≡ suc (length (lines_of (rest_of rest))) =
+    ap length (lines_of-first rest some) in
+    let size : length (lines_of text) ≡ suc (length h.read + length (lines_of rest)) =
+    ap length all ∙ ap (λ k. suc k) (length-append h.read (lines_of rest)) in
+    let before : n - 1 ≡ suc (length h.read) = omega arith in
+    let lines : take (n - 1) (lines_of text) ≡ line_in text ∷ h.read =
+    (ap (λ k. take k (lines_of text)) before ∙ ap (take (suc (length h.read))) all)
+    ∙ take_first (line_in text) h.read (lines_of rest) in
+    let script : script_in (take (n - 1) (lines_of text)) ≡ script_behind (Some group) (Ok xs) =
+    (ap script_in lines ∙ ap (λ o. script_behind o (lines_say 2 h.read)) header)
+    ∙ ap (script_behind (Some group)) h.says in
+    record { there = omega arith; before = subst IsOk (sym script) refl }

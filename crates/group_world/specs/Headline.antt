@@ -1,7 +1,7 @@
 -- What holds of a group whatever happened to it.
 use Rattle.std.specs.Prelude.{◌≡◌, ◌≢◌, ℕ, List, Contains, Some, slice_get}
 use Rattle.std.specs.FinMap.{get}
-use Rattle.pcode_machine.specs.Prefixes.{AreComparable}
+use Rattle.pcode_machine.specs.Prefixes.{AreComparable, IsPrefix}
 use Rattle.pcode_machine.specs.Runs.{IsOutput}
 use Rattle.paxos_msg.specs.declared.value.Value.{Value}
 use Rattle.paxos_msg.specs.Chosen.{IsChosen}
@@ -38,3 +38,14 @@ abbrev pub HasNoGap : WorldState → Type 0
 HasNoGap w = (i byte : ℕ) (node : Up) → (w.seats i).up ≡ Some node → slice_get node.configuration.output node.released ≡ Some byte →
     (offer_answer (w.seats i).console node.released ≢ Gap)
     × (offer_answer (w.seats i).console node.released ≡ Repeat → slice_get (w.seats i).console node.released ≡ Some byte)
+
+-- ---- two moments of a group, the second after the first
+
+-- What a node has learned for a place at the first moment, and what a node, the same or another, has
+-- learned for it at the second, is one value.
+abbrev pub LearnedStays : WorldState → WorldState → Type 0
+LearnedStays w v = (i j s : ℕ) (a b : Value) → HasLearned w i s a → HasLearned v j s b → a ≡ b
+
+-- What each console has shown at the second moment begins with what it had shown at the first.
+abbrev pub ConsolesGrow : WorldState → WorldState → Type 0
+ConsolesGrow w v = (i : ℕ) → IsPrefix (w.seats i).console (v.seats i).console

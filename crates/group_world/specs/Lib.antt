@@ -10,3 +10,5 @@ pub mod Seats
 pub mod Refusals
 pub mod Held
 pub mod Scripts
+pub mod WrongWorlds
+pub mod Witness

@@ -50,12 +50,13 @@ pub record IsFirstRefused (w : World) (events : List Event) (number : ℕ) (f : 
   pub there : slice_get events number ≡ Some event
   pub refused : IsRefused before event.act f
 
--- A list of events ends early: there is no such group; there was no memory for it; or an event was refused.
+-- A list of events ends early: no group has this size; or one has, and there was no memory for it, or
+-- an event was refused.
 abbrev pub IsRunRefused : World → List Event → RunFault → Type 0
 IsRunRefused w events e =
     ((e.event ≡ 0) × (e.fault ≡ Size) × (¬ IsSize w.group.size))
-    ⊎ ((e.event ≡ 0) × (e.fault ≡ Memory) × IsSize w.group.size)
-    ⊎ IsFirstRefused w events e.event e.fault
+    ⊎ (IsSize w.group.size
+    × (((e.event ≡ 0) × (e.fault ≡ Memory)) ⊎ IsFirstRefused w events e.event e.fault))
 
 -- what a node's answer is in its world
 abbrev pub IsDone : Result (Unit {0}) NodeFault → Done → Type 0

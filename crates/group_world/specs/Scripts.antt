@@ -1,5 +1,5 @@
 -- What a script says. A line's words stand between single spaces.
-use Rattle.std.specs.Prelude.{ℕ, ◌+◌, ◌==◌, nat_lt, List, [], ◌∷◌, length, codes, is_some, Option, Some, None, Result, Ok, Err, if◌then◌else◌}
+use Rattle.std.specs.Prelude.{ℕ, ◌+◌, ◌-◌, ◌≤◌, ◌==◌, nat_lt, List, [], ◌∷◌, length, take, codes, is_some, Option, Some, None, Result, Ok, Err, IsOk, if◌then◌else◌}
 use Rattle.std.specs.List.{position_or_len, before_first, after_first}
 use Rattle.std.specs.Option.{option_map, option_and_then}
 use Rattle.std.specs.Str.{bytes_eq}
@@ -121,3 +121,8 @@ script_in (header ∷ more) = script_behind (header_of header) (lines_say 2 more
 
 abbrev pub script_of : List ℕ → Result ScriptText ℕ
 script_of text = script_in (lines_of text)
+
+-- The text has a line with this number, counted from 1, and the lines before it are a script.
+pub record IsReached (text : List ℕ) (number : ℕ) : Type 0 where
+  pub there : number ≤ length (lines_of text)
+  pub before : IsOk (script_in (take (number - 1) (lines_of text)))

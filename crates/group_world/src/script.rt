@@ -1,6 +1,6 @@
 //! Scripts: what happens to a group, as text.
-ghost use Rattle.std.specs.Prelude.{◌≡◌, IfErr, IfOk, Ok, Err, false};
-ghost use Rattle.group_world.specs.Scripts.{script_of};
+ghost use Rattle.std.specs.Prelude.{◌≡◌, IfErr, IfOk, Ok, Err, false, true};
+ghost use Rattle.group_world.specs.Scripts.{IsReached, script_of};
 
 mod reading;
 
@@ -59,10 +59,12 @@ pub struct ScriptFault {
 /// up to `usize::MAX`. HH is a byte in two hexadecimal digits of either case. Each line ends in a line feed, which the last may lack.
 /// Whether there is such a node or message is for the world to say.
 ///
-/// The fault is of the first line that is none of these, which is line 1 of an empty text, or that there was no memory for.
+/// The fault is of the first line that is none of these, which is line 1 of an empty text, or of a line
+/// that there was no memory for: then the text has this line, and the lines before it are a script.
 pub fn read_script(alloc: Global, text: &str) -> Result<Script, ScriptFault>
     ensures read { IfOk result (λ s. script_of text.now ≡ Ok (record { size = s.size; session = s.session; lines = s.lines.items })) }
     ensures refused { IfErr result (λ f. f.memory ≡ false → script_of text.now ≡ Err f.line) }
+    ensures no_memory { IfErr result (λ f. f.memory ≡ true → IsReached text.now f.line) }
 {
     let (header, mut rest) = first_line(text);
     let Some((size, session)) = read_header(header) else {

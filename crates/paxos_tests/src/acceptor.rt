@@ -1,9 +1,9 @@
 //! What no clause says of an acceptor: parts of a promise by the numbers, and faults that are passed on.
-ghost use Rattle.std.specs.Prelude.{◌≡◌, ◌<◌};
+ghost use Rattle.std.specs.Prelude.{◌≡◌};
 
 use paxos_acceptor::{Acceptor, AcceptorFault, Me, MemoryStore, Store};
 use paxos_msg::{Ballot, Body, Group, Record, Value, Vote, Votes};
-use std::alloc::Global;
+use std::alloc::{AllocError, Global};
 use std::process::Abort;
 use std::test::Fail;
 
@@ -53,29 +53,37 @@ fn part_of(answer: Result<Body, AcceptorFault>) -> Option<(u32, u32, Votes)> {
     }
 }
 
-/// Of 65 votes from place 0 on a promise has nine parts.
-#[test]
-fn promise_bytes_and_parts(rt: HostRuntime) -> Result<(), Fail> {
-    let mut votes = Vec::new(rt.alloc());
+/// A record that has promised the first ballot, with 65 votes from place 0 on.
+fn with_votes(alloc: Global) -> Result<Record, AllocError> {
+    let mut votes = Vec::new(alloc);
     for place in 0..65 {
         votes.push(vote_for_none(place, FIRST))?;
     }
-    let record = Record {
+    Ok(Record {
         starts: 1,
         promised: Some(FIRST),
         votes: Votes::new(votes),
-    };
+    })
+}
+
+/// Whether it is the answer that no key is accepted at place 70.
+fn is_accepted(answer: &Result<Body, AcceptorFault>) -> bool {
+    match answer {
+        Ok(Body::Accepted { place, .. }) => *place == 70,
+        _ => false,
+    }
+}
+
+/// Of 65 votes from place 0 on a promise has nine parts.
+#[test]
+fn promise_bytes_and_parts(rt: HostRuntime) -> Result<(), Fail> {
+    let record = with_votes(rt.alloc())?;
     let mut acceptor = opened(&rt, rt.alloc(), MemoryStore::new(record));
 
     let (first, upto, votes) = part_of(acceptor.prepare(SECOND, 0)).expect(&rt, "a promise");
     assert_eq!(rt; (first, upto, votes.as_slice().len()), (0, 8, 8));
 
-    let answer = acceptor.accept(SECOND, 70, Value::Noop);
-    let is_accepted = match answer {
-        Ok(Body::Accepted { place, .. }) => place == 70,
-        _ => false,
-    };
-    assert!(rt; is_accepted);
+    assert!(rt; is_accepted(&acceptor.accept(SECOND, 70, Value::Noop)));
 
     let (first, upto, votes) = part_of(acceptor.prepare(SECOND, 56)).expect(&rt, "a promise");
     assert_eq!(rt; (first, upto, votes.as_slice().len()), (56, 64, 8));

@@ -20,8 +20,7 @@ fn file_of_version_1(rt: HostRuntime) -> Result<(), Fail> {
     let mut expected = BYTES;
     expected[12] = 0x02;
     assert_eq!(rt; fs::read(&rt, path)?.as_slice(), expected.as_slice());
-    let record = Kept::new(rt, path)?.load()?;
-    assert_eq!(rt; record.starts, 2);
+    assert_eq!(rt; Kept::new(rt, path)?.starts()?, 2);
     fs::remove_file(&rt, path)?;
     Ok(())
 }
@@ -64,13 +63,35 @@ impl Kept {
         self.store.load()
     }
 
-    fn save(&mut self, change: Change) -> Result<(), StoreFault> {
-        self.store.save(&change)
+    /// How many starts the record has that is loaded.
+    fn starts(&mut self) -> Result<u32, StoreFault> {
+        let record = self.store.load()?;
+        Ok(record.starts)
+    }
+
+    /// Saves these changes, one after the other.
+    fn save(&mut self, changes: &[Change]) -> Result<(), StoreFault> {
+        for change in changes.iter() {
+            self.store.save(change)?;
+        }
+        Ok(())
+    }
+
+    /// Whether the device fails at a save.
+    fn fails(&mut self) -> bool {
+        self.store.save(&Change::Start) == Err(StoreFault::Device)
     }
 
     fn faults(&self) -> u64 {
         self.store.faults()
     }
+}
+
+/// Whether it has two starts, the first ballot's promise, and a vote for no key at place 3.
+fn has_voted(record: &Record) -> bool {
+    record.starts == 2
+        && record.promised == Some(FIRST)
+        && record.votes.as_slice() == [vote_for_none(3, FIRST)].as_slice()
 }
 
 /// A file keeps what was saved, each save built on the one before.
@@ -79,20 +100,18 @@ fn keeps_a_record_in_a_file(rt: HostRuntime) -> Result<(), Fail> {
     let path = "record_of_a_test";
     let _ = fs::remove_file(&rt, path);
     let mut store = Kept::new(rt, path)?;
-    assert_eq!(rt; store.load()?.starts, 0);
-    store.save(Change::Start)?;
-    store.save(Change::Promise(FIRST))?;
-    store.save(Change::Ballotted(3, FIRST, Value::Noop))?;
+    assert_eq!(rt; store.starts()?, 0);
+    store.save(&[
+        Change::Start,
+        Change::Promise(FIRST),
+        Change::Ballotted(3, FIRST, Value::Noop),
+    ])?;
 
     let mut store = Kept::new(rt, path)?;
-    assert_eq!(rt; store.load()?.starts, 1);
-    store.save(Change::Start)?;
+    assert_eq!(rt; store.starts()?, 1);
+    store.save(&[Change::Start])?;
     let record = Kept::new(rt, path)?.load()?;
-    assert_eq!(rt; (record.starts, record.promised), (2, Some(FIRST)));
-    assert_eq!(rt;
-        record.votes.as_slice(),
-        [vote_for_none(3, FIRST)].as_slice()
-    );
+    assert!(rt; has_voted(&record));
     fs::remove_file(&rt, path)?;
     Ok(())
 }
@@ -132,18 +151,18 @@ fn saves_no_more_after_a_fault(rt: HostRuntime) -> Result<(), Fail> {
     let _ = fs::remove_file(&rt, path);
     let _ = fs::remove_dir(&rt, fresh_path);
     let mut store = Kept::new(rt, path)?;
-    assert_eq!(rt; store.load()?.starts, 0);
-    store.save(Change::Start)?;
+    assert_eq!(rt; store.starts()?, 0);
+    store.save(&[Change::Start])?;
 
     fs::create_dir(&rt, fresh_path)?;
-    assert_eq!(rt; store.save(Change::Start), Err(StoreFault::Device));
+    assert!(rt; store.fails());
     fs::remove_dir(&rt, fresh_path)?;
-    assert_eq!(rt; store.save(Change::Start), Err(StoreFault::Device));
+    assert!(rt; store.fails());
     assert_eq!(rt; store.faults(), 2);
 
-    assert_eq!(rt; store.load()?.starts, 1);
-    store.save(Change::Start)?;
-    assert_eq!(rt; store.load()?.starts, 2);
+    assert_eq!(rt; store.starts()?, 1);
+    store.save(&[Change::Start])?;
+    assert_eq!(rt; store.starts()?, 2);
     fs::remove_file(&rt, path)?;
     Ok(())
 }

@@ -179,8 +179,8 @@ fn worked_promises(rt: HostRuntime) {
     leader.drop_ballot();
 }
 
-#[test]
-fn promise_bytes_and_parts(rt: HostRuntime) -> Result<(), Fail> {
+/// The ballot after one of round 4, and after the greatest round.
+fn next_ballots(rt: &impl Abort) {
     let low = Ballot { round: 1, node: 1 };
     let seen = Ballot { round: 4, node: 2 };
     let next = Ballot { round: 5, node: 3 };
@@ -189,22 +189,30 @@ fn promise_bytes_and_parts(rt: HostRuntime) -> Result<(), Fail> {
         round: 4_294_967_295,
         node: 1,
     };
-    assert_eq!(rt;
-        next_ballot(Some(last), None, 3),
-        Err(ProposerFault::RoundsSpent)
-    );
-    let mut leader = Leader::begin(rt.alloc(), next, 65_535);
+    let spent = next_ballot(Some(last), None, 3);
+    assert_eq!(rt; spent, Err(ProposerFault::RoundsSpent));
+}
+
+/// At the last place one value is proposed, and none after it.
+fn propose_last(rt: &impl Abort, leader: &mut Leader) {
+    let proposed = leader.propose(Some(key(1, 1, 0x41)));
+    let expected = vote(65_535, 5, 3, key(1, 1, 0x41));
+    assert_eq!(rt; proposed, Ok(Some(expected)));
+    let spent = leader.propose(Some(Value::Noop));
+    assert_eq!(rt; spent, Err(ProposerFault::PlacesSpent));
+    assert_eq!(rt; leader.propose(None), Ok(None));
+}
+
+#[test]
+fn promise_bytes_and_parts(rt: HostRuntime) -> Result<(), Fail> {
+    next_ballots(&rt);
+    let ballot = Ballot { round: 5, node: 3 };
+    let mut leader = Leader::begin(rt.alloc(), ballot, 65_535);
     for sender in [1, 3] {
         let heard = leader.hear(rt.alloc(), sender, 65_535, &[]);
         assert_eq!(rt; heard, Some(Ok(None)));
     }
-    let expected = vote(65_535, 5, 3, key(1, 1, 0x41));
-    assert_eq!(rt; leader.propose(Some(key(1, 1, 0x41))), Ok(Some(expected)));
-    assert_eq!(rt;
-        leader.propose(Some(Value::Noop)),
-        Err(ProposerFault::PlacesSpent)
-    );
-    assert_eq!(rt; leader.propose(None), Ok(None));
+    propose_last(&rt, &mut leader);
     let text = format!(in rt.alloc();
         "{} {} {}",
         ProposerFault::Memory,

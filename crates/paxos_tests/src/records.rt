@@ -1,4 +1,6 @@
 //! The bytes of records, in both versions.
+ghost use Rattle.std.specs.Prelude.{◌<◌};
+
 use super::acceptor::{FIRST, ME, opened};
 use paxos_acceptor::{
     AcceptorFault, MemoryStore, StoreFault, record_decode, record_encode, record_migrate,

@@ -122,7 +122,7 @@ fn releases_zeros(seat: &mut Seat<'_>, first: u64, end: u64) -> bool {
             return false;
         }
     }
-    seat.unreleased() == 0
+    seat.unreleased() == 0 && seat.release().is_none()
 }
 
 /// Whether the oldest packet goes to these, with these bytes. It is taken out.
@@ -139,7 +139,7 @@ fn fails_next(seat: &mut Seat<'_>, is_kept: bool) -> Answer {
 }
 
 /// The node does this, or is so.
-pub fn does(seat: &mut Seat<'_>, act: Act) -> Answer {
+fn does(seat: &mut Seat<'_>, act: Act) -> Answer {
     match act {
         Act::Campaigns => done(seat.campaign()),
         Act::Ticks => done(seat.tick()),
@@ -157,6 +157,11 @@ pub fn does(seat: &mut Seat<'_>, act: Act) -> Answer {
         Act::FailsNext(is_kept) => fails_next(seat, is_kept),
         Act::IsStopped => Ok(seat.is_stopped()),
     }
+}
+
+/// Whether the node does this, or is so, and refuses nothing.
+pub fn is_done(seat: &mut Seat<'_>, act: Act) -> bool {
+    does(seat, act) == Ok(true)
 }
 
 /// Whether the answer is this refusal, or that it was done where there is none.

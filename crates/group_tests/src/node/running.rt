@@ -15,6 +15,7 @@ fn full_after_263_steps(rt: HostRuntime) -> Result<(), Fail> {
         rt.alloc(),
         &program,
         &[
+            (Runs(0, More), None),
             (Runs(262, More), None),
             (HasOutput(255), None),
             (Runs(1, More), None),
@@ -31,6 +32,25 @@ fn full_after_263_steps(rt: HostRuntime) -> Result<(), Fail> {
         rt.alloc(),
         &program,
         &[(Runs(263, More), None), (Runs(1, Full), None)],
+    )?;
+    assert_eq!(rt; unlike, None);
+    Ok(())
+}
+
+/// In one call a run is over where the output is full, with steps to spare.
+#[test]
+fn full_in_one_call(rt: HostRuntime) -> Result<(), Fail> {
+    let program = writing_program(rt.alloc())?;
+    let unlike = fresh(
+        rt.alloc(),
+        &program,
+        &[
+            (Runs(1000, Full), None),
+            (HasOutput(256), None),
+            (ReleasesZeros(0, 256), None),
+            (Runs(1000, Ended(End::Normal)), None),
+            (ReleasesZeros(256, 300), None),
+        ],
     )?;
     assert_eq!(rt; unlike, None);
     Ok(())

@@ -1,6 +1,6 @@
 //! Three nodes that hear each other's datagrams one at a time: each packet that they send, byte by byte.
 use super::acts::Act::{Campaigns, HasSentAll, Hears, Knows, Prints, Sends, Ticks, Types};
-use super::acts::{Act, does};
+use super::acts::{Act, is_done};
 use super::datagrams::{
     ACCEPT, ACCEPT_BOTH, ACCEPTED_1, ACCEPTED_2, ACCEPTED_BOTH_1, ACCEPTED_BOTH_2, ASK_1, ASK_2,
     ASK_3, PREPARE, PROMISE_1, PROMISE_2, SUBMIT, SUBMIT_BOTH, SUBMIT_SECOND, TELL,
@@ -24,12 +24,11 @@ fn comes_about(
     number: usize,
     what: Act,
 ) -> bool {
-    let answer = match number {
-        1 => does(first, what),
-        2 => does(second, what),
-        _ => does(third, what),
-    };
-    answer == Ok(true)
+    match number {
+        1 => is_done(first, what),
+        2 => is_done(second, what),
+        _ => is_done(third, what),
+    }
 }
 
 /// The nodes 1, 2 and 3 do what the lines say. The first line that does not come about.

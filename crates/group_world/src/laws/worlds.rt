@@ -6,12 +6,15 @@ ghost use Rattle.paxos_msg.specs.Grammar.{IsGroup};
 ghost use Rattle.group_node.specs.States.{IsSize};
 ghost use Rattle.group_world.specs.declared.event.Event.{Event};
 ghost use Rattle.group_world.specs.Goes.{Happens};
-ghost use Rattle.group_world.specs.Headline.{ConsolesAgree, ConsolesHoldOutput, HasNoGap, LearnedAgree, LearnedChosen};
+ghost use Rattle.group_world.specs.Headline.{ConsolesAgree, ConsolesGrow, ConsolesHoldOutput, HasLearned, HasNoGap, LearnedAgree, LearnedChosen, LearnedStays};
 ghost use Rattle.group_world.specs.Order.{KeysOnce, SerialsInOrder};
+ghost use Rattle.group_world.specs.Witness.{echoes, letter, letter_batch, one, shown_events};
 ghost use Rattle.group_world.specs.Worlds.{begun, state_of, World};
 
 use crate::laws::order::{events_keep_order, ordered_worlds_are_orderly};
 use crate::laws::sound::{events_keep_it_sound, sound_worlds_agree};
+use paxos_msg::grammar::reading_is_spelling;
+use paxos_msg::laws::{agreement, sent_only_grows, votes_are_by_place};
 use pcode_machine::laws::output_only_grows;
 
 /// For every program, every group of 1, 3, 5, 7 or 9 nodes and every list of keystrokes, deliveries, campaigns, ticks, runs, releases,
@@ -42,11 +45,43 @@ pub fn headline()
     ordered_worlds_are_orderly();
 }
 
+/// For every program, every group of 1, 3, 5, 7 or 9 nodes, every list of events that leads from a world
+/// in which nothing has happened to `w`, and every further list that leads from `w` to `v`: a value that a
+/// node has learned in `w`, and one that a node, the same or another, has learned for the same place in
+/// `v`, are equal, also where nodes have crashed and started again in between; and what a node's console
+/// has shown in `v` begins with what it had shown in `w`.
+pub fn later_worlds_agree()
+    ensures learned_stays { (p : Parts) (group : Group) (events more : List Event) (w v : World) →
+        IsSize group.size → IsGroup group → Happens (begun p group) events w → Happens w more v →
+        LearnedStays (state_of w) (state_of v) }
+    ensures consoles_grow { (p : Parts) (group : Group) (events more : List Event) (w v : World) →
+        IsSize group.size → IsGroup group → Happens (begun p group) events w → Happens w more v →
+        ConsolesGrow (state_of w) (state_of v) }
+{
+    events_keep_it_sound();
+    events_keep_order();
+    sound_worlds_agree();
+    agreement();
+    sent_only_grows();
+}
+
 /// The main theorem is not empty: events lead a group of three, which runs a program that writes the letter A, to a world in which the
 /// consoles of two nodes show it.
 pub fn consoles_may_show()
     ensures { (p : Parts) × (group : Group) × (events : List Event) × (w : World) × IsSize group.size × IsGroup group
         × Happens (begun p group) events w × (((state_of w).seats 1).console ≡ 65 ∷ []) × (((state_of w).seats 2).console ≡ 65 ∷ []) }
 {
+    output_only_grows();
+}
+
+/// The claims about keys are not empty: in a group of one node, whose first save fails and which then
+/// crashes and starts again, a typed key is learned, and the console shows it.
+pub fn keys_may_show()
+    ensures { (w : World) × Happens (begun echoes one) shown_events w
+        × HasLearned (state_of w) 1 0 letter_batch × ((state_of w).typed ≡ letter ∷ [])
+        × (((state_of w).seats 1).console ≡ 65 ∷ []) }
+{
+    reading_is_spelling();
+    votes_are_by_place();
     output_only_grows();
 }

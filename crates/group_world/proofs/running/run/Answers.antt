@@ -1,6 +1,7 @@
+use Rattle.std.proofs.Common.{inr}
 use Rattle.paxos_msg.specs.declared.message.Group.{Group}
 use Rattle.group_world.specs.Worlds.{begun}
-use Rattle.group_world.proofs.Happening.{happens_all, happens_next}
+use Rattle.group_world.proofs.Happening.{first_refused, happens_all, happens_next}
 use Rattle.group_world.proofs.running.run.Goals as goal
 
 pub loop-event-preserved : goal.loop-event-preserved
@@ -49,3 +50,12 @@ returns-clause-serials_in_order c =
     let group : Group = record { size = c.args.size; session = c.args.session } in
     c.headline.ensures.serials_in_order c.args.program.now group c.args.events.now c.loop-event.world (c.in-Ok.ensures.fit) c.ranges.session.fits
     (happens_all (begun c.args.program.now group) c.args.events.now c.loop-event.world c.loop-event.event c.loop-event-test.false c.loop-event.invariant)
+
+pub returns-in-Err-apply-clause-refused : goal.returns-in-Err-apply-clause-refused
+returns-in-Err-apply-clause-refused c =
+    let group : Group = record { size = c.args.size; session = c.args.session } in
+    inr (
+      c.in-Ok.ensures.fit,
+      inr (first_refused (begun c.args.program.now group) c.args.events.now c.loop-event.world c.loop-event.event _ c.in-Err-apply.fault
+          c.loop-event-test.true c.loop-event.invariant c.in-Err-apply.ensures.refused),
+    )

@@ -1,0 +1,70 @@
+-- What more events leave of what was learned and shown.
+use Rattle.std.proofs.Common.{◌≡◌, ℕ, Bool, List, [], ◌∷◌, ◌++◌, Option, refl, sym, subst}
+use Rattle.pcode_file.specs.Parts.{Parts}
+use Rattle.paxos_msg.specs.declared.message.Group.{Group}
+use Rattle.paxos_msg.specs.declared.value.Value.{Value}
+use Rattle.paxos_msg.specs.Batches.{Grew, Record, Sent}
+use Rattle.paxos_msg.specs.Chosen.{IsChosen}
+use Rattle.paxos_msg.specs.Grammar.{IsGroup}
+use Rattle.group_node.specs.States.{IsSize}
+use Rattle.group_world.specs.declared.event.Act.{Act}
+use Rattle.group_world.specs.declared.event.Done.{Done}
+use Rattle.group_world.specs.declared.event.Event.{Event}
+use Rattle.group_world.specs.Events.{plan_of}
+use Rattle.group_world.specs.Goes.{Acts, Happens, IsStep}
+use Rattle.group_world.specs.Headline.{LearnedChosen, LearnedStays}
+use Rattle.group_world.specs.Held.{Holds}
+use Rattle.group_world.specs.Sound.{IsSound}
+use Rattle.group_world.specs.Worlds.{begun, state_of, World}
+use Rattle.group_world.proofs.Growing.{Grows, event_grows, grows_none, grows_through}
+use Rattle.group_world.proofs.Happening.{EventLaws, always_holds, happens_holds}
+
+-- the laws of one event, of agreement, and of what stays chosen
+pub record LaterWorldLaws : Type 0 where
+  pub events : EventLaws
+  pub step : (w v : World) (plan : Option Bool) (act : Act) (d : Done) → IsSound w
+      → Acts w plan act d v → IsStep (state_of w) act d (state_of v)
+  pub learned : (w : World) → IsSound w → LearnedChosen (state_of w)
+  pub one : (size s : ℕ) (sent : Sent) (records : ℕ → Record) (v u : Value)
+      → Grew size sent records → IsChosen size sent s v → IsChosen size sent s u → v ≡ u
+  pub stays : (size s : ℕ) (sent more : Sent) (v : Value) → IsChosen size sent s v
+      → IsChosen size (sent ++ more) s v
+
+module _ (laws : LaterWorldLaws) where
+  happens_grows : (w : World) (events : List Event) (v : World) → Holds w → Happens w events v
+      → Grows (state_of w) (state_of v)
+  happens_grows w [] v h e =
+      subst (λ (u : World). Grows (state_of w) (state_of u)) (sym e)
+      (grows_none (state_of w) (state_of w) refl)
+  happens_grows w (e ∷ events) v h (mid, d, goes, rest) =
+      let first = event_grows (state_of w) (state_of mid) e.act d
+      (laws.step w mid (plan_of e.save) e.act d h.sound goes) in
+      let held : Holds mid = happens_holds laws.events w (e ∷ []) mid h (mid, d, goes, refl) in
+      grows_through (state_of w) (state_of mid) (state_of v) first
+      (happens_grows mid events v held rest)
+
+  -- what has happened, and what more has
+  pub later_grows : (p : Parts) (group : Group) (events more : List Event) (w v : World)
+      → IsSize group.size → IsGroup group
+      → Happens (begun p group) events w → Happens w more v → Grows (state_of w) (state_of v)
+  later_grows p group events more w v size session before then =
+      happens_grows w more v (always_holds laws.events p group events w size session before) then
+
+  -- chosen at the first moment, chosen at the second, and so the same
+  pub later_learned : (p : Parts) (group : Group) (events more : List Event) (w v : World)
+      → IsSize group.size → IsGroup group
+      → Happens (begun p group) events w → Happens w more v
+      → LearnedStays (state_of w) (state_of v)
+  later_learned p group events more w v size session before then i j s a b has other =
+      let first = always_holds laws.events p group events w size session before in
+      let second = happens_holds laws.events w more v first then in
+      let grown = happens_grows w more v first then in
+      let chosen : IsChosen w.group.size (state_of w).sent s a =
+      (laws.learned w first.sound i s a has).0 in
+      let still : IsChosen w.group.size (state_of v).sent s a =
+      subst (λ (sent : Sent). IsChosen w.group.size sent s a) (sym grown.sent)
+      (laws.stays w.group.size s (state_of w).sent grown.more a chosen) in
+      let same : IsChosen v.group.size (state_of v).sent s a =
+      subst (λ (n : ℕ). IsChosen n (state_of v).sent s a) (sym grown.size) still in
+      laws.one v.group.size s (state_of v).sent (λ k. ((state_of v).seats k).kept) a b
+      second.sound.grew same (laws.learned v second.sound j s b other).0
