@@ -170,8 +170,9 @@ fn net<'a>(alloc: Global) -> Result<Command<'a>, AllocError> {
 fn with_options<'a>(alloc: Global, node: Command<'a>) -> Result<Command<'a>, AllocError> {
     let seen = "How many bytes of the output were seen before, and are not
 written again [default: 0]";
-    let campaign = "Begins a ballot before the first turn";
-    let keys = "Where typed bytes come, as datagrams of at most 64 bytes
+    let campaign = "Asks to lead before the first turn";
+    let keys = "Where typed bytes come, as datagrams of at most 64 bytes;
+an empty one has the node ask to lead
 [default: standard input, read whole]";
     let campaign = Arg::new(alloc, "campaign")
         .long("campaign")

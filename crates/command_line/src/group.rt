@@ -1,6 +1,8 @@
 //! What `net` and `node` ask for.
 use crate::commands::{ADDR, ID, KEYS, RECORD, SEEN, SESSION, SIZE, TURNS};
-use crate::value::{WordFault, address_in, byte_of, count_of, large_in, text_of};
+use crate::value::{
+    SENDABLE, WordFault, address_in, byte_of, count_of, large_in, path_of, refused_value,
+};
 use clap::ArgMatches;
 use std::alloc::Global;
 use std::net::SocketAddr;
@@ -54,7 +56,24 @@ pub fn read_net<'a>(matches: &ArgMatches<'a>) -> Result<NetWords, WordFault<'a>>
     Ok(NetWords { size, turns })
 }
 
-/// The addresses of the nodes, as many as the group has.
+const OTHER: &str = "an address that no other node has";
+
+const OWN: &str = "an address that no node has";
+
+/// Reads the address of one more node: not 0.0.0.0, from which no datagram comes, and none of those
+/// before it.
+fn read_address<'a>(text: &'a str, others: &[SocketAddr]) -> Result<SocketAddr, WordFault<'a>> {
+    let address = address_in(ADDR, text)?;
+    if address.ip().is_unspecified() {
+        return Err(refused_value(ADDR, text, SENDABLE));
+    }
+    if others.contains(&address) {
+        return Err(refused_value(ADDR, text, OTHER));
+    }
+    Ok(address)
+}
+
+/// The addresses of the nodes, as many as the group has, and each another.
 fn read_addresses<'a>(
     alloc: Global,
     matches: &ArgMatches<'a>,
@@ -63,7 +82,7 @@ fn read_addresses<'a>(
     let texts = matches.get_strs(ADDR.name).unwrap_or(&[]);
     let mut addresses = Vec::new(alloc);
     for text in texts {
-        addresses.push(address_in(ADDR, text)?)?;
+        addresses.push(read_address(text, addresses.as_slice())?)?;
     }
     let count = addresses.len();
     if count != usize::from(size) {
@@ -80,12 +99,19 @@ fn read_seen<'a>(matches: &ArgMatches<'a>) -> Result<u64, WordFault<'a>> {
     }
 }
 
-/// The address of `--keys`, if it is there.
-fn read_keys<'a>(matches: &ArgMatches<'a>) -> Result<Option<SocketAddr>, WordFault<'a>> {
-    match matches.get_str(KEYS.name) {
-        None => Ok(None),
-        Some(text) => Ok(Some(address_in(KEYS, text)?)),
+/// The address of `--keys`, if it is there. It is none of the nodes'.
+fn read_keys<'a>(
+    matches: &ArgMatches<'a>,
+    nodes: &[SocketAddr],
+) -> Result<Option<SocketAddr>, WordFault<'a>> {
+    let Some(text) = matches.get_str(KEYS.name) else {
+        return Ok(None);
+    };
+    let address = address_in(KEYS, text)?;
+    if nodes.contains(&address) {
+        return Err(refused_value(KEYS, text, OWN));
     }
+    Ok(Some(address))
 }
 
 /// What `node` asks for beside its file, or what is wrong with its words.
@@ -96,11 +122,11 @@ pub fn read_node<'a>(
     let node = byte_of(matches, ID)?;
     let size = byte_of(matches, SIZE)?;
     let session = count_of(matches, SESSION)?;
-    let record = text_of(matches, RECORD)?;
+    let record = path_of(matches, RECORD)?;
     let turns = count_of(matches, TURNS)?;
     let addresses = read_addresses(alloc, matches, size)?;
     let seen = read_seen(matches)?;
-    let keys = read_keys(matches)?;
+    let keys = read_keys(matches, addresses.as_slice())?;
     Ok(NodeWords {
         node,
         size,

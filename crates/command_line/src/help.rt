@@ -86,7 +86,17 @@ Example, node 1 of 3:
 
 Exit status:
   0  the node had its turns
-  1  refused: `refused` and a code such as F3, O5, E1 or D2, or
-     `refused file` or `refused socket`
+  1  refused, with one line:
+     refused file      FILE cannot be read
+     refused F.., O..  FILE is no code file, or none that can be run
+     refused D7, D8    SIZE or ID is out of range
+     refused E1, D1    memory ran out
+     refused E2, E3    standard input or output failed
+     refused socket    an address is taken, or is none of this machine's
+     refused D2        RECORD cannot be loaded or saved
+     refused D9        RECORD is damaged, or is that of another node
+     refused D10       RECORD has been started 4294967295 times
+     refused D5        the node has typed 4294967295 keys in this start
+     refused D11, D12  --campaign, where no ballot or no place is left
   2  a fault of the command line
 docs/FORMATS.md explains the codes.";

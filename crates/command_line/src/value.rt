@@ -1,4 +1,8 @@
 //! The values of words, and what is wrong with them.
+ghost use Rattle.std.specs.Prelude.{◌≡◌, ◌≢◌, ◌↔◌, ◌∷◌, [], IsTrue};
+ghost use Rattle.std.specs.Net.Addr.{IsMulticastV4, ipv4_octets};
+ghost use Rattle.std.specs.Net.Socket.{v4_ip, v4_port};
+
 use clap::ArgMatches;
 use digits::decimal;
 use std::alloc::{AllocError, AllocFailed};
@@ -77,6 +81,19 @@ const LARGE: &str = "a number from 0 to 18446744073709551615 in decimal digits";
 
 const ADDRESS: &str = "an address of the form 127.0.0.1:7001";
 
+pub const SENDABLE: &str = "an address of one machine, with a port from 1 to 65535";
+
+const PATH: &str = "the path of a file";
+
+/// The fault of a word whose value is not what is wanted.
+pub fn refused_value<'a>(word: Word, value: &'a str, wanted: &'static str) -> WordFault<'a> {
+    WordFault::Value {
+        value,
+        word,
+        wanted,
+    }
+}
+
 /// The text of a word that has to be there.
 pub fn text_of<'a>(matches: &ArgMatches<'a>, word: Word) -> Result<&'a str, WordFault<'a>> {
     matches.get_str(word.name).ok_or(WordFault::Missing(word))
@@ -86,11 +103,7 @@ pub fn text_of<'a>(matches: &ArgMatches<'a>, word: Word) -> Result<&'a str, Word
 fn byte_in<'a>(word: Word, value: &'a str) -> Result<u8, WordFault<'a>> {
     match decimal(value).and_then(|number| u8::try_from(number).ok()) {
         Some(number) => Ok(number),
-        None => Err(WordFault::Value {
-            value,
-            word,
-            wanted: BYTE,
-        }),
+        None => Err(refused_value(word, value, BYTE)),
     }
 }
 
@@ -98,33 +111,41 @@ fn byte_in<'a>(word: Word, value: &'a str) -> Result<u8, WordFault<'a>> {
 pub fn count_in<'a>(word: Word, value: &'a str) -> Result<u32, WordFault<'a>> {
     match decimal(value).and_then(|number| u32::try_from(number).ok()) {
         Some(number) => Ok(number),
-        None => Err(WordFault::Value {
-            value,
-            word,
-            wanted: COUNT,
-        }),
+        None => Err(refused_value(word, value, COUNT)),
     }
 }
 
 /// The number that a text of a word stands for, from 0 to 18,446,744,073,709,551,615.
 pub fn large_in<'a>(word: Word, value: &'a str) -> Result<u64, WordFault<'a>> {
-    decimal(value).ok_or(WordFault::Value {
-        value,
-        word,
-        wanted: LARGE,
-    })
+    decimal(value).ok_or(refused_value(word, value, LARGE))
 }
 
-/// The address of a text of a word, which has the form `a.b.c.d:port`.
+/// Returns whether a datagram to this address reaches one machine: its port is not 0, and it is
+/// neither a multicast nor the broadcast address.
+fn is_sendable(address: SocketAddrV4) -> bool
+    ensures { IsTrue result ↔ ((v4_port address ≢ 0) × ¬ IsMulticastV4 (v4_ip address)
+        × ¬ (ipv4_octets (v4_ip address) ≡ 255 ∷ 255 ∷ 255 ∷ 255 ∷ [])) }
+{
+    let ip = address.ip();
+    address.port() != 0 && !ip.is_multicast() && !ip.is_broadcast()
+}
+
+/// The address of a text of a word, which has the form `a.b.c.d:port`, and reaches one machine.
 pub fn address_in<'a>(word: Word, value: &'a str) -> Result<SocketAddr, WordFault<'a>> {
     match value.parse::<SocketAddrV4>() {
-        Ok(address) => Ok(SocketAddr::V4(address)),
-        Err(_) => Err(WordFault::Value {
-            value,
-            word,
-            wanted: ADDRESS,
-        }),
+        Ok(address) if is_sendable(address) => Ok(SocketAddr::V4(address)),
+        Ok(_) => Err(refused_value(word, value, SENDABLE)),
+        Err(_) => Err(refused_value(word, value, ADDRESS)),
     }
+}
+
+/// The path of a file, which is not empty.
+pub fn path_of<'a>(matches: &ArgMatches<'a>, word: Word) -> Result<&'a str, WordFault<'a>> {
+    let path = text_of(matches, word)?;
+    if path.is_empty() {
+        return Err(refused_value(word, path, PATH));
+    }
+    Ok(path)
 }
 
 /// The number of a word that has to be there, from 0 to 255.

@@ -117,7 +117,7 @@ saved_by sent r (Some change) may = (may, refl)
 -- the node is backed after the save
 answering_backed : SavingLaws → (sent : Sent) (typed : List Key) (n : Node) (change : Change) (answer : Answer) → Backs sent typed n → IsAnswer sent (sender_of typed n) change answer → Backs sent typed (with_kept n (after n.kept answer.saves))
 answering_backed laws sent typed n change answer h may = record {
-  kept = record { votes = may.backed; own = λ b s v mine said. promised_still laws.raising sent n.kept answer.saves b may.may_save (h.kept.own b s v mine said) };
+  kept = record { votes = may.backed; asked = λ b from mine said. promised_still laws.raising sent n.kept answer.saves b may.may_save (h.kept.asked b from mine said); own = λ b s v mine said. promised_still laws.raising sent n.kept answer.saves b may.may_save (h.kept.own b s v mine said) };
   proposer = proposer_kept laws sent n.me.node (after n.kept answer.saves) n.kept n.proposer (λ b g. promised_still laws.raising sent n.kept answer.saves b may.may_save g) h.proposer;
   learner = h.learner;
   waiting = λ k waits. h.waiting k (rw (starts_same n.kept change answer.saves may.counts may.reply.saves) at waits);

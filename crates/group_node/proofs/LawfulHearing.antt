@@ -52,7 +52,7 @@ start_lawful sent typed me r votes learner h = record {
   learns = learner;
   keeps = record { stays = λ s v e. e };
   sends = tt;
-  backs = rw (append-nil sent) (record { kept = record { votes = votes; own = h.own }; proposer = tt; learner = learner; waiting = λ k has. none_waits k has });
+  backs = rw (append-nil sent) (record { kept = record { votes = votes; asked = h.asked; own = h.own }; proposer = tt; learner = learner; waiting = λ k has. none_waits k has });
 }
   where
     none_waits : (k : Key) → Contains [] k → Contains typed k

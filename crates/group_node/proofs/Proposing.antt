@@ -4,7 +4,7 @@ use Rattle.std.proofs.lemmas.List.{append-nil}
 use Rattle.std.proofs.lemmas.List.Elements.{Contains-push_cases}
 use Rattle.paxos_msg.specs.declared.ballot.Ballot.{Ballot}
 use Rattle.paxos_msg.specs.declared.value.Value.{Value}
-use Rattle.paxos_msg.specs.declared.message.Body.TheVariants.{Accept}
+use Rattle.paxos_msg.specs.declared.message.Body.TheVariants.{Accept, Prepare}
 use Rattle.paxos_msg.specs.Ballots.{IsAtMost}
 use Rattle.paxos_msg.specs.Batches.{IsFree, MaySend, Msg, Record, Sent}
 use Rattle.paxos_msg.specs.Keys.{Key}
@@ -43,6 +43,13 @@ accept_cases sent me b c s t v w (i, h) = elim (Contains-push_cases sent (record
   | inr e ↦ let f : Accept b s v ≡ Accept c t w = ap (λ (m : Msg). m.body) e in inr cc
 ]
 
+-- a Prepare that was sent by the end of an Accept was sent before it
+asked_before : (sent : Sent) (me : ℕ) (b c : Ballot) (s from : ℕ) (v : Value) → IsSaid (sent ++ record { sender = me; body = Accept b s v } ∷ []) (Prepare c from) → IsSaid sent (Prepare c from)
+asked_before sent me b c s from v (i, h) = elim (Contains-push_cases sent (record { sender = me; body = Accept b s v }) (record { sender = i; body = Prepare c from }) h) [
+  | inl old ↦ (i, old)
+  | inr e ↦ let f : Accept b s v ≡ Prepare c from = ap (λ (m : Msg). m.body) e in absurd cc
+]
+
 -- proposals that may be sent, after which the node is backed, and its proposer is of its group
 pub record Proposes (typed : List Key) (n : Node) (sent : Sent) (proposals : Proposals) : Type 0 where
   pub goes : Goes (sender_of typed n) sent (accepts_of proposals.made) (leading n proposals.proposer)
@@ -54,6 +61,7 @@ module _ (laws : ProposingLaws) (typed : List Key) (n : Node) where
       → IsRecordBacked (sent ++ record { sender = n.me.node; body = Accept p.ballot s v } ∷ []) n.me.node n.kept
   record_backed sent p s v promised h = record {
     votes = laws.sending.backing.votes sent (record { sender = n.me.node; body = Accept p.ballot s v } ∷ []) n.kept h.votes;
+    asked = λ b from mine said. h.asked b from mine (asked_before sent n.me.node p.ballot b s from v said);
     own = λ b t w mine said. elim (accept_cases sent n.me.node p.ballot b s t v w said) [
       | inl old ↦ h.own b t w mine old
       | inr e ↦ subst (HasPromised n.kept) e (promised_same n.kept p.ballot promised)

@@ -39,6 +39,7 @@ module _ (law : RaisingLaw) (sent : Sent) (r : Record) where
 pub record_saved : RecordLaws → (sent : Sent) (me : ℕ) (r : Record) (change : Change) → IsRecordBacked sent me r → MaySave sent r change → IsRecordBacked sent me (changed r change)
 record_saved laws sent me r change h may = record {
   votes = laws.saved sent r change h.votes may;
+  asked = λ b from mine said. promised_still laws.raising sent r (Some change) b may (h.asked b from mine said);
   own = λ b s v mine said. promised_still laws.raising sent r (Some change) b may (h.own b s v mine said);
 }
 

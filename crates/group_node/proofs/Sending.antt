@@ -1,16 +1,16 @@
 -- Packets that propose nothing new.
-use Rattle.std.proofs.Common.{◌≡◌, ◌↔◌, ℕ, List, [], ◌∷◌, ◌++◌, Option, All, inl, inr, append_assoc}
+use Rattle.std.proofs.Common.{◌≡◌, ◌↔◌, ℕ, ◌⊎◌, List, [], ◌∷◌, ◌++◌, Option, All, inl, inr, append_assoc}
 use Rattle.std.proofs.lemmas.List.{append-nil, map-append}
 use Rattle.std.proofs.lemmas.List.Elements.{All-head, All-tail, All-map, All-contains, All-weaker, Contains-append_cases}
 use Rattle.std.specs.FinMap.{get}
 use Rattle.paxos_msg.specs.declared.ballot.Ballot.{Ballot}
 use Rattle.paxos_msg.specs.declared.value.Value.{Value}
-use Rattle.paxos_msg.specs.declared.message.Body.TheVariants.{Accept}
+use Rattle.paxos_msg.specs.declared.message.Body.TheVariants.{Accept, Accepted, Ask, Prepare, Promise, Refused, Submit, Tell}
 use Rattle.paxos_msg.specs.Batches.{Body, MaySend, MaySendAll, Msg, Record, Sent}
 use Rattle.paxos_msg.specs.Keys.{Key}
 use Rattle.paxos_msg.specs.Messages.{IsSaid, messages_of}
 use Rattle.paxos_msg.specs.Sending.{IsNoNewProposal, KnowsMore}
-use Rattle.group_node.specs.Backs.{Backs}
+use Rattle.group_node.specs.Backs.{Backs, HasPromised}
 use Rattle.group_node.specs.Node.{Node}
 use Rattle.group_node.specs.Packets.{Packet, bodies_of}
 use Rattle.group_node.specs.Steps.{handed}
@@ -69,6 +69,28 @@ goes_on laws by sent xs ys n h k = record {
   backs = rw (handed_append by.me xs ys, ← append_assoc sent (handed by.me xs) (handed by.me ys)) k.backs;
 }
 
+-- a Prepare is of a promised ballot
+abbrev IsAsked : Record → Body → Type 0
+IsAsked r (Prepare b from) = HasPromised r b
+IsAsked r (Promise b first upto votes) = Unit {0}
+IsAsked r (Accept b s v) = Unit {0}
+IsAsked r (Accepted b s v) = Unit {0}
+IsAsked r (Refused b promised) = Unit {0}
+IsAsked r (Submit v) = Unit {0}
+IsAsked r (Ask from) = Unit {0}
+IsAsked r (Tell s v) = Unit {0}
+
+-- the rules ask that of what may be sent
+may_ask : (r : Record) (typed : List Key) (learned : ℕ → Option Value) (sent : Sent) (i size : ℕ) (body : Body) → MaySend size typed learned sent i r body → IsAsked r body
+may_ask r typed learned sent i size (Prepare b from) may = may.1
+may_ask r typed learned sent i size (Promise b first upto votes) may = tt
+may_ask r typed learned sent i size (Accept b s v) may = tt
+may_ask r typed learned sent i size (Accepted b s v) may = tt
+may_ask r typed learned sent i size (Refused b promised) may = tt
+may_ask r typed learned sent i size (Submit v) may = tt
+may_ask r typed learned sent i size (Ask from) may = tt
+may_ask r typed learned sent i size (Tell s v) may = tt
+
 module _ (laws : SendingLaws) (by : Sender) (sent : Sent) where
   -- they may be sent one after another, after more was sent
   stable_from : (more : Sent) (packets : List Packet) → All (IsStable by sent) packets → SendsAll by (sent ++ more) packets
@@ -84,10 +106,20 @@ module _ (laws : SendingLaws) (by : Sender) (sent : Sent) where
   pub stable_sends : (packets : List Packet) → All (IsStable by sent) packets → SendsAll by sent packets
   stable_sends packets all = rw (append-nil sent) at (stable_from [] packets all)
 
-  -- none of them is a new Accept
-  stable_quiet : (packets : List Packet) → All (IsStable by sent) packets → IsQuiet by.me sent (handed by.me packets)
-  stable_quiet packets all = record { old = λ b s v mine said. old b s v said }
+  -- none of them is a new Accept, and their Prepares are of promised ballots
+  stable_quiet : (packets : List Packet) → All (IsStable by sent) packets → IsQuiet by.me by.kept sent (handed by.me packets)
+  stable_quiet packets all = record { asked = λ b from mine said. asked b from said; old = λ b s v mine said. old b s v said }
     where
+      all_asked : All (λ (m : Msg). IsAsked by.kept m.body) (handed by.me packets)
+      all_asked = All-map (λ (m : Msg). IsAsked by.kept m.body) (λ (body : Body). record { sender = by.me; body = body }) (bodies_of packets)
+          (All-map (λ (body : Body). IsAsked by.kept body) (λ (packet : Packet). packet.body) packets (All-weaker (IsStable by sent) (λ (packet : Packet). IsAsked by.kept packet.body) (λ packet h. may_ask by.kept by.typed by.learned sent by.me by.size packet.body h.may) packets all))
+
+      asked : (b : Ballot) (from : ℕ) → IsSaid (sent ++ handed by.me packets) (Prepare b from) → IsSaid sent (Prepare b from) ⊎ HasPromised by.kept b
+      asked b from (i, h) = elim (Contains-append_cases sent (handed by.me packets) (record { sender = i; body = Prepare b from }) h) [
+        | inl before ↦ inl (i, before)
+        | inr now ↦ inr (All-contains (λ (m : Msg). IsAsked by.kept m.body) (handed by.me packets) (record { sender = i; body = Prepare b from }) all_asked now)
+      ]
+
       none_new : All (λ (m : Msg). IsNoNewProposal sent by.me m.body) (handed by.me packets)
       none_new = All-map (λ (m : Msg). IsNoNewProposal sent by.me m.body) (λ (body : Body). record { sender = by.me; body = body }) (bodies_of packets)
           (All-map (λ (body : Body). IsNoNewProposal sent by.me body) (λ (packet : Packet). packet.body) packets (All-weaker (IsStable by sent) (λ (packet : Packet). IsNoNewProposal sent by.me packet.body) (λ packet h. h.old) packets all))

@@ -2,7 +2,7 @@
 use Rattle.std.specs.Prelude.{◌≡◌, ℕ, List, Contains, Some, IfSome, IsSomeAnd}
 use Rattle.paxos_msg.specs.declared.ballot.Ballot.{Ballot}
 use Rattle.paxos_msg.specs.declared.value.Value.{Value}
-use Rattle.paxos_msg.specs.declared.message.Body.TheVariants.{Accept}
+use Rattle.paxos_msg.specs.declared.message.Body.TheVariants.{Accept, Prepare}
 use Rattle.paxos_msg.specs.Ballots.{IsAtMost}
 use Rattle.paxos_msg.specs.Batches.{Record, Sent}
 use Rattle.paxos_msg.specs.Keys.{Key}
@@ -17,10 +17,11 @@ use Rattle.group_node.specs.Node.{Node, waiting_keys}
 abbrev pub HasPromised : Record → Ballot → Type 0
 HasPromised r b = IsSomeAnd r.promised (λ p. IsAtMost b p)
 
--- Of node me's stored record: its votes were proposed and ascend by place, none above the promised ballot; and no proposal under
--- a ballot of the node's own is above that.
+-- Of node me's stored record: its votes were proposed and ascend by place, none above the promised ballot; and under ballots of the node's
+-- own nothing was asked or proposed above that.
 pub record IsRecordBacked (sent : Sent) (me : ℕ) (r : Record) : Type 0 where
   pub votes : IsVotesBacked sent r
+  pub asked : (b : Ballot) (from : ℕ) → b.node ≡ me → IsSaid sent (Prepare b from) → HasPromised r b
   pub own : (b : Ballot) (s : ℕ) (v : Value) → b.node ≡ me → IsSaid sent (Accept b s v) → HasPromised r b
 
 -- the proposer's ballot is the node's own and the promised one, and what it has heard and proposed is what was sent

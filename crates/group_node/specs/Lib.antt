@@ -5,6 +5,7 @@ pub mod Leading
 pub mod Delivered
 pub mod Backs
 pub mod Ranges
+pub mod Starting
 pub mod Steps
 pub mod World
 pub mod Inputs

@@ -1,5 +1,5 @@
 //! A node.
-ghost use Rattle.std.specs.Prelude.{◌≡◌, ◌≢◌, ◌↔◌, ◌+◌, ◌⊎◌, ◌<◌, ◌≤◌, ℕ, List, [], false, true, length, option_map, slice_get, None, IfErr, IfNone, IfOk, IsErrOf, OnErr, OnOk, OnSome};
+ghost use Rattle.std.specs.Prelude.{◌≡◌, ◌≢◌, ◌↔◌, ◌+◌, ◌⊎◌, ◌<◌, ◌≤◌, ℕ, List, [], false, true, length, option_map, slice_get, None, Result, IfErr, IfNone, IfOk, IsErrOf, OnErr, OnOk, OnSome};
 ghost use Rattle.std.specs.FinMap.{get};
 ghost use Rattle.paxos_msg.specs.declared.record.Change.TheVariants.{Start};
 ghost use Rattle.paxos_msg.specs.Batches.{Record as Kept};
@@ -7,6 +7,7 @@ ghost use Rattle.paxos_msg.specs.Fits.{Fits};
 ghost use Rattle.paxos_msg.specs.Records.{changed};
 ghost use Rattle.paxos_acceptor.specs.Records.{IsRecord};
 ghost use Rattle.paxos_acceptor.specs.Stores.{FailsAsTold, HasCause, IsOneOf};
+ghost use Rattle.paxos_acceptor.specs.declared.store.StoreFault.{StoreFault};
 ghost use Rattle.paxos_learner.specs.Learner.{IsFront};
 ghost use Rattle.paxos_proposer.specs.Proposer.{greatest_round};
 ghost use Rattle.group_node.specs.Calls.{Does, IsLet, IsLetIn, Saves};
@@ -16,6 +17,7 @@ ghost use Rattle.group_node.specs.Node.{at_campaign, at_typed, front, new_key, n
 ghost use Rattle.group_node.specs.Output.{IsReplay, no_progress, RunsOn, unreleased_of};
 ghost use Rattle.group_node.specs.Player.{IsExact, progress_of};
 ghost use Rattle.group_node.specs.Ranges.{IsInRange};
+ghost use Rattle.group_node.specs.Starting.{StartsAfter};
 ghost use Rattle.group_node.specs.States.{input};
 
 use crate::config::Config;
@@ -89,6 +91,7 @@ impl<'a, S: Store> Node<'a, S> {
         config: Config,
         store: S,
     ) -> Result<Node<'a, S>, StartRefused<S>>
+        ensures loads { (answer : Result Kept StoreFault) × (left : S) × S.loads store answer left × StartsAfter S.state config answer left result }
         ensures begins { IfOk result (λ n. (kept : Kept) × (n.protocol.rules ≡ (started config kept).node)) }
         ensures rules { S.honest → IfOk result (λ n. n.protocol.rules ≡ (started config (S.state store).stored).node) }
         ensures saved { S.honest → IfOk result (λ n. (S.state n.protocol.store).stored ≡ changed (S.state store).stored Start) }

@@ -112,6 +112,7 @@ impl<S: Store> Protocol<S> {
         ensures device { S.honest → IfErr result (λ e. e.fault ≡ NodeFault.Store → IsOneOf (S.state e.store).stored acceptor.kept (changed acceptor.kept Start)) }
         ensures same { S.honest → IfErr result (λ e. e.fault ≢ NodeFault.Store → (S.state e.store).stored ≡ acceptor.kept) }
         ensures plan { IfErr result (λ e. e.fault ≢ NodeFault.Store → (S.state e.store).plan ≡ (S.state acceptor.store).plan) }
+        ensures used_up { IfErr result (λ e. e.fault ≡ NodeFault.Store → (S.state e.store).plan ≡ None) }
         ensures unplanned { IfOk result (λ p. ((S.state acceptor.store).plan ≡ None) × ((S.state p.store).plan ≡ None)) }
         ensures told { S.honest → S.fails_at_will → IfErr result (λ e. e.fault ≡ NodeFault.Store → FailsAsTold (S.state acceptor.store).plan acceptor.kept (changed acceptor.kept Start) (S.state e.store).stored) }
         ensures quiet { IfOk result (λ p. (S.state p.store).faults ≡ (S.state acceptor.store).faults) }

@@ -4,10 +4,12 @@
 //! the program.
 #![tactic(auto)]
 
+pub mod laws;
 mod refusal;
 mod script_file;
 mod showing;
 mod simulation;
+mod text;
 
 pub use refusal::{LineFault, ScriptRefusal};
 pub use script_file::sim_file;

@@ -1,61 +1,208 @@
 //! The state of a group as text.
+ghost use Rattle.std.specs.Prelude.{◌≡◌, Some};
+ghost use Rattle.group_sim.specs.Groups.{ballot_text, console_at, console_text, group_text};
+ghost use Rattle.group_sim.specs.Groups.{keys_text, known_text, learned_at, learned_by, node_line};
+ghost use Rattle.group_sim.specs.Groups.{node_lines, place_line, place_lines, promised_at};
+ghost use Rattle.group_sim.specs.Groups.{promised_text, value_text};
+ghost use Rattle.group_sim.specs.Texts.{node_at};
+ghost use Rattle.group_sim.specs.Writing.{Writes};
+
+use crate::text::{put, put_decimal, put_hex, put_number};
 use group_world::World;
-use machine_run::write_bytes;
-use paxos_msg::Value;
-use std::io::{self, Write};
+use machine_run::WriteFault;
+use paxos_msg::{Ballot, Value};
+use std::io::Write;
 
 /// How many places there are.
 const PLACES: u32 = 65_536;
 
+/// Writes a ballot.
+fn write_ballot<W: Write>(writer: &mut W, ballot: Ballot) -> Result<(), WriteFault>
+    ensures { Writes (W.contents writer.old) result (W.contents writer.new) (ballot_text ballot) }
+{
+    put_decimal(writer, ballot.round as u64)?;
+    put_number(writer, b".", ballot.node as u64)
+}
+
+/// Writes keys as a value has them.
+fn write_keys<W: Write>(
+    writer: &mut W,
+    node: u8,
+    start: u32,
+    first: u32,
+    bytes: &[u8],
+) -> Result<(), WriteFault>
+    ensures { Writes (W.contents writer.old) result (W.contents writer.new)
+        (keys_text node start first bytes.now) }
+{
+    put_number(writer, b"key ", node as u64)?;
+    put_number(writer, b" ", start as u64)?;
+    put_number(writer, b" ", first as u64)?;
+    put(writer, b" ")?;
+    put_hex(writer, bytes)
+}
+
+/// Writes a value.
+fn write_value<W: Write>(writer: &mut W, value: Value) -> Result<(), WriteFault>
+    ensures { Writes (W.contents writer.old) result (W.contents writer.new) (value_text value) }
+{
+    match value {
+        Value::Noop => put(writer, b"noop"),
+        Value::Keys {
+            node,
+            start,
+            first,
+            bytes,
+        } => write_keys(writer, node, start, first, bytes.as_slice()),
+    }
+}
+
 /// Writes whether a node is up, and its known front if it is.
-fn write_front<W: Write>(writer: &mut W, world: &World<'_>, node: u8) -> io::Result<()> {
+fn write_known<W: Write>(writer: &mut W, world: &World<'_>, node: u8) -> Result<(), WriteFault>
+    ensures { Writes (W.contents writer.old) result (W.contents writer.new)
+        (known_text (node_at world.now node)) }
+{
     match world.node(node) {
-        None => write!(writer, "node {node} down known -"),
-        Some(running) => {
-            let known = running.known_front();
-            write!(writer, "node {node} up known {known}")
+        None => put(writer, b" down known -"),
+        Some(running) => put_number(writer, b" up known ", running.known_front() as u64),
+    }
+}
+
+/// The ballot that a node's stored record has promised.
+fn promised(world: &World<'_>, node: u8) -> Option<Ballot>
+    ensures { result ≡ promised_at world.now node }
+{
+    match world.record(node) {
+        None => None,
+        Some(record) => record.promised,
+    }
+}
+
+/// Writes what a node has promised.
+fn write_promised<W: Write>(writer: &mut W, promised: Option<Ballot>) -> Result<(), WriteFault>
+    ensures { Writes (W.contents writer.old) result (W.contents writer.new)
+        (promised_text promised) }
+{
+    match promised {
+        None => put(writer, b" promised -"),
+        Some(ballot) => {
+            put(writer, b" promised ")?;
+            write_ballot(writer, ballot)
         }
     }
 }
 
-/// Writes the ballot that a node's stored record has promised.
-fn write_promised<W: Write>(writer: &mut W, world: &World<'_>, node: u8) -> io::Result<()> {
-    match world.record(node).and_then(|record| record.promised) {
-        None => write!(writer, " promised -"),
-        Some(ballot) => write!(writer, " promised {ballot}"),
+/// What a node's console has shown.
+fn console<'w>(world: &'w World<'_>, node: u8) -> &'w [u8]
+    ensures { result.now ≡ console_at world.now node }
+{
+    match world.console(node) {
+        None => &[],
+        Some(bytes) => bytes,
     }
+}
+
+/// Writes what a console has shown.
+fn write_console<W: Write>(writer: &mut W, console: &[u8]) -> Result<(), WriteFault>
+    ensures { Writes (W.contents writer.old) result (W.contents writer.new)
+        (console_text console.now) }
+{
+    if console.is_empty() {
+        return put(writer, b" console -");
+    }
+    put(writer, b" console ")?;
+    put_hex(writer, console)
 }
 
 /// Writes the line of a node.
-fn write_node<W: Write>(writer: &mut W, world: &World<'_>, node: u8) -> io::Result<()> {
-    write_front(writer, world, node)?;
-    write_promised(writer, world, node)?;
-    write!(writer, " console ")?;
-    write_bytes(writer, world.console(node).unwrap_or(&[]))?;
-    writeln!(writer)
+fn write_node<W: Write>(writer: &mut W, world: &World<'_>, node: u8) -> Result<(), WriteFault>
+    ensures { Writes (W.contents writer.old) result (W.contents writer.new)
+        (node_line world.now node) }
+{
+    put_number(writer, b"node ", node as u64)?;
+    write_known(writer, world, node)?;
+    write_promised(writer, promised(world, node))?;
+    write_console(writer, console(world, node))?;
+    put(writer, b"\n")
 }
 
-/// What some node that is up has learned at a place.
-fn learned(world: &World<'_>, size: u8, place: u32) -> Option<Value> {
-    (1..=size).find_map(|node| world.node(node).and_then(|running| running.learned(place)))
-}
-
-/// Writes a line for each place at which some node that is up has learned a value.
-fn write_places<W: Write>(writer: &mut W, world: &World<'_>, size: u8) -> io::Result<()> {
-    for place in 0..PLACES {
-        if let Some(value) = learned(world, size, place) {
-            writeln!(writer, "place {place} {value}")?;
-        }
+/// Writes a line for each node.
+fn write_nodes<W: Write>(writer: &mut W, world: &World<'_>, size: u8) -> Result<(), WriteFault>
+    ensures { Writes (W.contents writer.old) result (W.contents writer.new)
+        (node_lines world.now size) }
+{
+    for before in 0..size {
+        write_node(writer, world, 1 + before)?;
     }
     Ok(())
 }
 
-/// Writes a line for each node of a group of this size, one for each learned place, and how many messages were sent.
-pub fn write_group<W: Write>(writer: &mut W, world: &World<'_>, size: u8) -> io::Result<()> {
-    for node in 1..=size {
-        write_node(writer, world, node)?;
+/// What a node has learned at a place, if it is up.
+fn learned_of(world: &World<'_>, node: u8, place: u32) -> Option<Value>
+    ensures { result ≡ learned_by world.now node place }
+{
+    match world.node(node) {
+        None => None,
+        Some(running) => running.learned(place),
     }
+}
+
+/// What the first node that is up and has learned a value at a place has learned there.
+fn learned(world: &World<'_>, size: u8, place: u32) -> Option<Value>
+    ensures { result ≡ learned_at world.now size place }
+{
+    let mut found = None;
+    for before in 0..size {
+        found = found.or(learned_of(world, 1 + before, place));
+    }
+    found
+}
+
+/// Writes the line of a place at which this value is learned.
+fn write_learned<W: Write>(writer: &mut W, place: u32, value: Value) -> Result<(), WriteFault>
+    ensures { Writes (W.contents writer.old) result (W.contents writer.new)
+        (place_line place (Some value)) }
+{
+    put_number(writer, b"place ", place as u64)?;
+    put(writer, b" ")?;
+    write_value(writer, value)?;
+    put(writer, b"\n")
+}
+
+/// Writes the line of a place, if a value is learned there.
+fn write_place<W: Write>(
+    writer: &mut W,
+    place: u32,
+    learned: Option<Value>,
+) -> Result<(), WriteFault>
+    ensures { Writes (W.contents writer.old) result (W.contents writer.new)
+        (place_line place learned) }
+{
+    match learned {
+        None => Ok(()),
+        Some(value) => write_learned(writer, place, value),
+    }
+}
+
+/// Writes a line for each place at which some node that is up has learned a value.
+fn write_places<W: Write>(writer: &mut W, world: &World<'_>, size: u8) -> Result<(), WriteFault>
+    ensures { Writes (W.contents writer.old) result (W.contents writer.new)
+        (place_lines world.now size) }
+{
+    for place in 0..PLACES {
+        write_place(writer, place, learned(world, size, place))?;
+    }
+    Ok(())
+}
+
+/// Writes a line for each node of a group of this size, one for each learned place, and how many
+/// messages were sent. Where a write fails a front of this text is written.
+pub fn write_group<W: Write>(writer: &mut W, world: &World<'_>, size: u8) -> Result<(), WriteFault>
+    ensures { Writes (W.contents writer.old) result (W.contents writer.new)
+        (group_text world.now size) }
+{
+    write_nodes(writer, world, size)?;
     write_places(writer, world, size)?;
-    let sent = world.sent();
-    writeln!(writer, "sent {sent}")
+    put_number(writer, b"sent ", world.sent() as u64)?;
+    put(writer, b"\n")
 }

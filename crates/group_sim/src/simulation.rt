@@ -1,13 +1,19 @@
 //! Scripts that happen to a group.
-ghost use Rattle.std.specs.Prelude.{◌≡◌, ◌+◌, ◌≤◌, length, IfErr, IfOk, IfSome};
+ghost use Rattle.std.specs.Prelude.{◌≡◌, ◌↔◌, ◌⊎◌, ℕ, ◌+◌, ◌≤◌, is_some, length, IfErr, IfOk, IfSome, IsNone, OnErr};
+ghost use Rattle.group_node.specs.States.{IsSize};
+ghost use Rattle.group_world.specs.Worlds.{begun};
+ghost use Rattle.group_sim.specs.Moments.{Delivers, DeliversAll, Happens, InTurn, IsDone, IsHalted, IsNoGroup, Plays, ReleasesAll, Says, Settles, Shows, answer_of, halt_of, is_meant, kept, moment, waiting};
+ghost use Rattle.group_sim.specs.Texts.{code_of, node_at, refusal_text, told};
+ghost use Rattle.group_sim.specs.Writing.{Writes};
 
 use crate::showing::write_group;
-use group_node::To;
+use crate::text::{put, put_number};
+use group_node::{NodeFault, To};
 use group_world::{Act, Done, Event, Line, Outcome, Script, World, WorldFault};
-use machine_run::RunIo;
+use machine_run::{RunIo, WriteFault};
 use pcode_ops::Program;
 use std::alloc::Global;
-use std::io::{self, Write};
+use std::io::Write;
 
 /// How many deliveries a settle makes at most.
 const DELIVERIES: u32 = 10_000;
@@ -36,14 +42,74 @@ enum Halt {
 }
 
 impl From<WorldFault> for Halt {
-    fn from(fault: WorldFault) -> Halt {
+    ghost use Rattle.std.specs.Prelude.{◌≡◌};
+    ghost use Rattle.group_sim.specs.declared.simulation.Halt.TheVariants.{Refused};
+
+    ghost from_gives = { λ fault halt. halt ≡ Refused fault };
+
+    fn from(fault: WorldFault) -> Self {
         Halt::Refused(fault)
     }
 }
 
-impl From<io::Error> for Halt {
-    fn from(_: io::Error) -> Halt {
+impl From<WriteFault> for Halt {
+    ghost use Rattle.std.specs.Prelude.{◌≡◌};
+    ghost use Rattle.group_sim.specs.declared.simulation.Halt.TheVariants.{Unwritten};
+
+    ghost from_gives = { λ _ halt. halt ≡ Unwritten };
+
+    fn from(_: WriteFault) -> Self {
         Halt::Unwritten
+    }
+}
+
+/// The code of a node's refusal.
+fn code(fault: NodeFault) -> &'static [u8]
+    ensures { result.now ≡ code_of fault }
+{
+    match fault {
+        NodeFault::Memory => b"D1",
+        NodeFault::Store => b"D2",
+        NodeFault::Stopped => b"D3",
+        NodeFault::Busy => b"D4",
+        NodeFault::SerialSpent => b"D5",
+        NodeFault::OutboxFull => b"D6",
+        NodeFault::Size => b"D7",
+        NodeFault::Id => b"D8",
+        NodeFault::BadRecord => b"D9",
+        NodeFault::StartsSpent => b"D10",
+        NodeFault::RoundsSpent => b"D11",
+        NodeFault::PlacesSpent => b"D12",
+    }
+}
+
+/// Writes what a node refused at a line.
+fn write_refusal<W: Write>(writer: &mut W, line: usize, fault: NodeFault) -> Result<(), WriteFault>
+    ensures { Writes (W.contents writer.old) result (W.contents writer.new) (refusal_text line fault) }
+{
+    put_number(writer, b"line ", line as u64)?;
+    put(writer, b" node ")?;
+    put(writer, code(fault))?;
+    put(writer, b"\n")
+}
+
+/// Writes what a node refused at a line, if it refused an event.
+fn tell<W: Write>(writer: &mut W, line: usize, done: Done) -> Result<(), WriteFault>
+    ensures { Writes (W.contents writer.old) result (W.contents writer.new) (told line done) }
+{
+    match done {
+        Done::Refused(fault) => write_refusal(writer, line, fault),
+        Done::Applied | Done::Fell => Ok(()),
+    }
+}
+
+/// Whether a message to these is meant for a node.
+fn is_meant_for(to: To, node: u8) -> bool
+    ensures { result ≡ is_meant to node }
+{
+    match to {
+        To::All => true,
+        To::One(one) => one == node,
     }
 }
 
@@ -53,6 +119,8 @@ struct Simulation<'a> {
     size: u8,
     /// How many messages the settles so far have passed.
     passed: usize,
+    /// How many deliveries the settle may still make.
+    left: u32,
 }
 
 impl<'a> Drop for Simulation<'a> {
@@ -61,53 +129,89 @@ impl<'a> Drop for Simulation<'a> {
             world: _world,
             size: _size,
             passed: _passed,
+            left: _left,
         } = self;
     }
 }
 
 impl Simulation<'_> {
     /// An event of the line happens. What its node refuses is written, and the script goes on.
-    fn happen<W: Write>(&mut self, writer: &mut W, line: usize, event: &Event) -> Result<(), Halt> {
-        if let Done::Refused(fault) = self.world.apply(event)? {
-            writeln!(writer, "line {line} node {fault}")?;
+    fn happen<W: Write>(&mut self, writer: &mut W, line: usize, event: &Event) -> Result<(), Halt>
+        ensures size { self.new.size ≡ self.old.size }
+        ensures happens { Happens line event.now (moment self.old (W.contents writer.old)) result (moment self.new (W.contents writer.new)) }
+    {
+        let done = match self.world.apply(event) {
+            Ok(done) => done,
+            Err(fault) => return Err(Halt::Refused(fault)),
+        };
+        match tell(writer, line, done) {
+            Ok(()) => Ok(()),
+            Err(_) => Err(Halt::Unwritten),
         }
-        Ok(())
     }
 
     /// An act of a settle, none of whose saves fails.
-    fn go_on<W: Write>(&mut self, writer: &mut W, line: usize, act: Act) -> Result<(), Halt> {
+    fn go_on<W: Write>(&mut self, writer: &mut W, line: usize, act: Act) -> Result<(), Halt>
+        ensures size { self.new.size ≡ self.old.size }
+        ensures happens { Happens line (kept act) (moment self.old (W.contents writer.old)) result (moment self.new (W.contents writer.new)) }
+    {
         let save = Outcome::Kept;
         self.happen(writer, line, &Event { act, save })
     }
 
-    fn is_up(&self, node: u8) -> bool {
+    fn is_up(&self, node: u8) -> bool
+        ensures { result ≡ is_some (node_at self.now.world node) }
+    {
         self.world.node(node).is_some()
     }
 
-    /// Delivers a message to those whom it is meant for and who are up, in ascending order, with so many deliveries left, and answers how
-    /// many are left then.
+    /// Delivers a message to a node, if it is meant for it and it is up.
+    fn deliver<W: Write>(
+        &mut self,
+        writer: &mut W,
+        line: usize,
+        message: usize,
+        to: To,
+        node: u8,
+    ) -> Result<(), Halt>
+        ensures size { self.new.size ≡ self.old.size }
+        ensures delivers { Delivers line message to node (moment self.old (W.contents writer.old)) result (moment self.new (W.contents writer.new)) }
+    {
+        if !is_meant_for(to, node) || !self.is_up(node) {
+            return Ok(());
+        }
+        if self.left == 0 {
+            return Err(Halt::TooLong);
+        }
+        self.left -= 1;
+        self.go_on(writer, line, Act::Deliver(message, node))
+    }
+
+    /// Delivers a message to those whom it is meant for and who are up, in ascending order.
     fn pass<W: Write>(
         &mut self,
         writer: &mut W,
         line: usize,
         message: usize,
         to: To,
-        left: u32,
-    ) -> Result<u32, Halt> {
-        let mut left = left;
-        for node in 1..=self.size {
-            let is_meant = to == To::All || to == To::One(node);
-            if is_meant && self.is_up(node) {
-                left = left.checked_sub(1).ok_or(Halt::TooLong)?;
-                self.go_on(writer, line, Act::Deliver(message, node))?;
+    ) -> Result<(), Halt>
+        ensures size { self.new.size ≡ self.old.size }
+        ensures passes { InTurn (Delivers line message to) 1 self.old.size (moment self.old (W.contents writer.old)) result (moment self.new (W.contents writer.new)) }
+    {
+        let size = self.size;
+        for before in 0..size {
+            if let Err(halt) = self.deliver(writer, line, message, to, 1 + before) {
+                return Err(halt);
             }
         }
-        Ok(left)
+        Ok(())
     }
 
     /// Delivers the messages that no settle has passed, and those that they cause, in the order in which they were sent.
-    fn deliver_all<W: Write>(&mut self, writer: &mut W, line: usize) -> Result<(), Halt> {
-        let mut left = DELIVERIES;
+    fn deliver_all<W: Write>(&mut self, writer: &mut W, line: usize) -> Result<(), Halt>
+        ensures size { self.new.size ≡ self.old.size }
+        ensures delivers { DeliversAll line self.old.size (moment self.old (W.contents writer.old)) result (moment self.new (W.contents writer.new)) }
+    {
         // Each delivery may cause further messages.
         for message in self.passed..usize::MAX {
             let Some(packet) = self.world.message(message) else {
@@ -115,52 +219,106 @@ impl Simulation<'_> {
                 return Ok(());
             };
             let to = packet.to;
-            left = self.pass(writer, line, message, to, left)?;
+            if let Err(halt) = self.pass(writer, line, message, to) {
+                return Err(halt);
+            }
+        }
+        // A list has no more items than this.
+        let _sent = self.world.sent();
+        self.passed = usize::MAX;
+        Ok(())
+    }
+
+    /// How many bytes wait at a node.
+    fn waiting(&self, node: u8) -> usize
+        ensures { result ≡ waiting (node_at self.now.world node) }
+    {
+        match self.world.node(node) {
+            None => 0,
+            Some(running) => running.unreleased(),
+        }
+    }
+
+    /// The node releases all its output that waits.
+    fn release_all<W: Write>(&mut self, writer: &mut W, line: usize, node: u8) -> Result<(), Halt>
+        ensures size { self.new.size ≡ self.old.size }
+        ensures releases { ReleasesAll line node (moment self.old (W.contents writer.old)) result (moment self.new (W.contents writer.new)) }
+    {
+        let waiting = self.waiting(node);
+        for _ in 0..waiting {
+            if let Err(halt) = self.go_on(writer, line, Act::Release(node)) {
+                return Err(halt);
+            }
         }
         Ok(())
     }
 
     /// The node, if it is up, makes its steps and releases all its output that waits.
-    fn play<W: Write>(&mut self, writer: &mut W, line: usize, node: u8) -> Result<(), Halt> {
+    fn play<W: Write>(&mut self, writer: &mut W, line: usize, node: u8) -> Result<(), Halt>
+        ensures size { self.new.size ≡ self.old.size }
+        ensures plays { Plays line node (moment self.old (W.contents writer.old)) result (moment self.new (W.contents writer.new)) }
+    {
         if !self.is_up(node) {
             return Ok(());
         }
-        self.go_on(writer, line, Act::Run(node, STEPS))?;
-        let waiting = self.world.node(node).map_or(0, |node| node.unreleased());
-        for _ in 0..waiting {
-            self.go_on(writer, line, Act::Release(node))?;
+        if let Err(halt) = self.go_on(writer, line, Act::Run(node, STEPS)) {
+            return Err(halt);
+        }
+        self.release_all(writer, line, node)
+    }
+
+    /// Each node that is up makes its steps and releases all, in ascending order.
+    fn play_all<W: Write>(&mut self, writer: &mut W, line: usize) -> Result<(), Halt>
+        ensures size { self.new.size ≡ self.old.size }
+        ensures plays { InTurn (Plays line) 1 self.old.size (moment self.old (W.contents writer.old)) result (moment self.new (W.contents writer.new)) }
+    {
+        let size = self.size;
+        for before in 0..size {
+            if let Err(halt) = self.play(writer, line, 1 + before) {
+                return Err(halt);
+            }
         }
         Ok(())
     }
 
     /// Delivers all, and then each node that is up makes its steps and releases all.
-    fn settle<W: Write>(&mut self, writer: &mut W, line: usize) -> Result<(), Halt> {
-        self.deliver_all(writer, line)?;
-        for node in 1..=self.size {
-            self.play(writer, line, node)?;
+    fn settle<W: Write>(&mut self, writer: &mut W, line: usize) -> Result<(), Halt>
+        ensures size { self.new.size ≡ self.old.size }
+        ensures settles { Settles line self.old.size (moment self.old (W.contents writer.old)) result (moment self.new (W.contents writer.new)) }
+    {
+        self.left = DELIVERIES;
+        if let Err(halt) = self.deliver_all(writer, line) {
+            return Err(halt);
         }
-        Ok(())
+        self.play_all(writer, line)
+    }
+
+    /// Writes the state of the group.
+    fn show<W: Write>(&self, writer: &mut W) -> Result<(), Halt>
+        ensures { Shows self.now.size (moment self.now (W.contents writer.old)) result (moment self.now (W.contents writer.new)) }
+    {
+        match write_group(writer, &self.world, self.size) {
+            Ok(()) => Ok(()),
+            Err(_) => Err(Halt::Unwritten),
+        }
     }
 
     /// What a line says.
-    fn perform<W: Write>(
-        &mut self,
-        writer: &mut W,
-        number: usize,
-        line: &Line,
-    ) -> Result<(), Halt> {
+    fn perform<W: Write>(&mut self, writer: &mut W, number: usize, line: &Line) -> Result<(), Halt>
+        ensures size { self.new.size ≡ self.old.size }
+        ensures says { Says self.old.size number line.now (moment self.old (W.contents writer.old)) result (moment self.new (W.contents writer.new)) }
+    {
         match line {
             Line::Act(event) => self.happen(writer, number, event),
             Line::Settle => self.settle(writer, number),
-            Line::Show => Ok(write_group(writer, &self.world, self.size)?),
+            Line::Show => self.show(writer),
         }
     }
 }
 
 /// What comes of a script that doesn't go on behind a line.
 fn stopped_at(line: usize, halt: Halt) -> Result<Option<Stopped>, RunIo>
-    ensures line { IfOk result (λ answer. IfSome answer (λ stopped. stopped.line ≡ line)) }
-    ensures write { IfErr result (λ fault. fault ≡ RunIo.Write) }
+    ensures { result ≡ answer_of line halt }
 {
     let fault = match halt {
         Halt::Refused(fault) => Some(fault),
@@ -188,6 +346,14 @@ pub fn sim<W: Write>(
 ) -> Result<Option<Stopped>, RunIo>
     ensures line { IfOk result (λ answer. IfSome answer (λ stopped. (1 ≤ stopped.line) × (stopped.line ≤ length script.now.lines.items + 1))) }
     ensures write { IfErr result (λ fault. fault ≡ RunIo.Write) }
+    ensures done { IfOk result (λ answer. IsNone answer →
+        IsDone (begun program.now (record { size = script.now.size; session = script.now.session })) script.now.lines.items (W.contents writer.old) (W.contents writer.new)) }
+    ensures stopped { IfOk result (λ answer. IfSome answer (λ stopped.
+        (IsNoGroup script.now.size stopped.line stopped.fault × (W.contents writer.new ≡ W.contents writer.old))
+        ⊎ IsHalted (begun program.now (record { size = script.now.size; session = script.now.session })) script.now.lines.items stopped.line (halt_of stopped.fault) (W.contents writer.old) (W.contents writer.new))) }
+    ensures unwritten { OnErr result ((number : ℕ) ×
+        IsHalted (begun program.now (record { size = script.now.size; session = script.now.session })) script.now.lines.items number Halt.Unwritten (W.contents writer.old) (W.contents writer.new)) }
+    ensures size { result ≡ Ok (Some (record { line = 1; fault = Some WorldFault.Size })) ↔ ¬ IsSize script.now.size }
 {
     let size = script.size;
     let mut simulation = match World::new(alloc, program, size, script.session) {
@@ -195,6 +361,7 @@ pub fn sim<W: Write>(
             world,
             size,
             passed: 0,
+            left: 0,
         },
         Err(fault) => return stopped_at(1, Halt::Refused(fault)),
     };

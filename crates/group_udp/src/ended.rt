@@ -19,30 +19,56 @@ pub enum Ended {
 }
 
 impl From<MachineRefusal> for Ended {
+    ghost use Rattle.std.specs.Prelude.{◌≡◌};
+    ghost use Rattle.group_udp.specs.declared.ended.Ended.TheVariants.{Machine};
+
+    ghost from_gives = { λ refusal e. e ≡ Machine refusal };
+
     fn from(refusal: MachineRefusal) -> Ended {
         Ended::Machine(refusal)
     }
 }
 
 impl From<RunIo> for Ended {
+    ghost use Rattle.std.specs.Prelude.{◌≡◌};
+    ghost use Rattle.machine_run.specs.declared.refusal.MachineRefusal.TheVariants.{Run};
+    ghost use Rattle.group_udp.specs.declared.ended.Ended.TheVariants.{Machine};
+
+    ghost from_gives = { λ fault e. e ≡ Machine (Run fault) };
+
     fn from(fault: RunIo) -> Ended {
         Ended::Machine(MachineRefusal::Run(fault))
     }
 }
 
 impl From<NodeFault> for Ended {
+    ghost use Rattle.std.specs.Prelude.{◌≡◌};
+    ghost use Rattle.group_udp.specs.declared.ended.Ended.TheVariants as ended;
+
+    ghost from_gives = { λ fault e. e ≡ ended.Node fault };
+
     fn from(fault: NodeFault) -> Ended {
         Ended::Node(fault)
     }
 }
 
 impl From<AllocError> for Ended {
+    ghost use Rattle.std.specs.Prelude.{◌≡◌};
+    ghost use Rattle.group_udp.specs.Refusals.{no_memory};
+
+    ghost from_gives = { λ _ e. e ≡ no_memory };
+
     fn from(_: AllocError) -> Ended {
         Ended::from(RunIo::Memory)
     }
 }
 
 impl<T: Drop> From<AllocFailed<T>> for Ended {
+    ghost use Rattle.std.specs.Prelude.{◌≡◌};
+    ghost use Rattle.group_udp.specs.Refusals.{no_memory};
+
+    ghost from_gives = { λ _ e. e ≡ no_memory };
+
     fn from(_: AllocFailed<T>) -> Ended {
         Ended::from(RunIo::Memory)
     }

@@ -4,9 +4,11 @@
 #![tactic(auto)]
 
 mod ended;
+pub mod laws;
 mod member;
 mod net;
 mod node;
+mod sources;
 mod typed;
 mod udp;
 

@@ -1,11 +1,19 @@
 //! A group in one process: its nodes on loopback UDP, over stores in memory.
+ghost use Rattle.std.specs.Prelude.{◌≡◌, ◌<◌, ◌++◌, ◌∷◌, ◌⊎◌, ℕ, List, [], length, IfErr, IfOk, OnErr, OnOk};
+ghost use Rattle.group_node.specs.Output.{unreleased_of};
+ghost use Rattle.group_node.specs.States.{input};
+ghost use Rattle.group_udp.specs.Output.{Releases, all_released, released_of};
+ghost use Rattle.group_udp.specs.Refusals.{IsNetRefusal, IsOpenRefusal, IsRefusal, IsRunRefusal, no_memory};
+ghost use Rattle.group_udp.specs.Rounds.{HasShownAll, HasTurnedAndShown};
+ghost use Rattle.machine_run.specs.declared.refusal.MachineRefusal.{MachineRefusal};
+
 use crate::ended::Ended;
 use crate::member::Member;
 use crate::udp::{UdpWire, Watch, bind};
 use group_node::{Config, Console, Offer};
 use machine_run::{RunIo, load_file, read_input, write_bytes};
 use mio::net::UdpSocket;
-use paxos_acceptor::MemoryStore;
+use paxos_acceptor::{MemoryStore, Store};
 use paxos_msg::{Group, Record};
 use pcode_ops::Program;
 use std::alloc::Global;
@@ -17,11 +25,12 @@ use std::time::Clock;
 /// The session of a group in one process.
 const SESSION: u32 = 1;
 
-/// A node on its socket, and what its console shows.
+/// A node on its socket, and its console, which shows what was released of the node's output.
 struct Seat<'a, H> {
     member: Member<'a, MemoryStore>,
     wire: UdpWire<'a, H>,
     console: Console,
+    ghost shows: { console.bytes ≡ released_of (input member.node.protocol.rules) member.node.progress },
 }
 
 impl<'a, H> Drop for Seat<'a, H> {
@@ -34,6 +43,50 @@ impl<'a, H> Drop for Seat<'a, H> {
     }
 }
 
+/// The first byte of the output that waits goes to the console, which has shown those before it.
+/// Where there is no memory for it, it waits still.
+fn show_next<S: Store + Drop>(
+    member: &mut Member<'_, S>,
+    console: &mut Console,
+) -> Result<(), Ended>
+    requires waits { 0 < length (unreleased_of (input member.old.node.protocol.rules) member.old.node.progress) }
+    requires shows { console.old.bytes ≡ released_of (input member.old.node.protocol.rules) member.old.node.progress }
+    ensures shows { console.new.bytes ≡ released_of (input member.old.node.protocol.rules) member.new.node.progress }
+    ensures one { OnOk result ((byte : ℕ) × Releases (input member.old.node.protocol.rules) member.old.node.progress member.new.node.progress (byte ∷ [])) }
+    ensures none { OnErr result (member.new.node.progress ≡ member.old.node.progress) }
+    ensures others { IfErr result (λ e. e ≡ no_memory) }
+    ensures rest { (member.new.node.protocol ≡ member.old.node.protocol) × (member.new.packets ≡ member.old.packets) }
+{
+    if console.reserve().is_err() {
+        return Err(Ended::from(RunIo::Memory));
+    }
+    let Some((number, byte)) = member.release() else {
+        unreachable!()
+    };
+    match console.offer(number, byte) {
+        Offer::Fresh => Ok(()),
+        Offer::Repeat | Offer::Gap | Offer::Memory => unreachable!(),
+    }
+}
+
+/// All output that waits goes to the console, which has shown what was released before: each byte once,
+/// in order. Where there is no memory for a byte, it and those behind it wait still.
+fn show_all<S: Store + Drop>(member: &mut Member<'_, S>, console: &mut Console) -> Result<(), Ended>
+    requires shows { console.old.bytes ≡ released_of (input member.old.node.protocol.rules) member.old.node.progress }
+    ensures shows { console.new.bytes ≡ released_of (input member.new.node.protocol.rules) member.new.node.progress }
+    ensures appended { OnOk result (console.new.bytes ≡ console.old.bytes ++ unreleased_of (input member.old.node.protocol.rules) member.old.node.progress) }
+    ensures released { OnOk result (member.new.node.progress ≡ all_released (input member.old.node.protocol.rules) member.old.node.progress) }
+    ensures front { (gone : List ℕ) × Releases (input member.old.node.protocol.rules) member.old.node.progress member.new.node.progress gone
+        × (console.new.bytes ≡ console.old.bytes ++ gone) }
+    ensures others { IfErr result (λ e. e ≡ no_memory) }
+    ensures rest { (member.new.node.protocol ≡ member.old.node.protocol) × (member.new.packets ≡ member.old.packets) }
+{
+    for _ in 0..member.unreleased() {
+        show_next(member, console)?;
+    }
+    Ok(())
+}
+
 impl<'a, H: Clock> Seat<'a, H> {
     /// A node that is started over an empty record.
     fn start(
@@ -41,7 +94,9 @@ impl<'a, H: Clock> Seat<'a, H> {
         program: &'a Program,
         config: Config,
         wire: UdpWire<'a, H>,
-    ) -> Result<Seat<'a, H>, Ended> {
+    ) -> Result<Seat<'a, H>, Ended>
+        ensures others { IfErr result (λ e. IsRunRefusal e) }
+    {
         let store = MemoryStore::new(Record::new(alloc));
         let member = Member::start(alloc, program, config, store)?;
         let console = Console::new(alloc);
@@ -53,19 +108,18 @@ impl<'a, H: Clock> Seat<'a, H> {
     }
 
     /// All output that waits goes to the console.
-    fn release_all(&mut self) -> Result<(), Ended> {
-        for _ in 0..self.member.unreleased() {
-            if let Some((number, byte)) = self.member.release() {
-                if self.console.offer(number, byte) == Offer::Memory {
-                    return Err(Ended::from(RunIo::Memory));
-                }
-            }
-        }
-        Ok(())
+    fn release_all(&mut self) -> Result<(), Ended>
+        ensures shown { HasShownAll self.old.member self.new.member result }
+    {
+        show_all(&mut self.member, &mut self.console)
     }
 
-    /// A turn of the node, once a datagram is there: its last tick has left it one.
-    fn play(&mut self) -> Result<(), Ended> {
+    /// A turn of the node, once a datagram is there: its last tick has left it one. Then all output
+    /// that waits is shown.
+    fn play(&mut self) -> Result<(), Ended>
+        ensures plays { HasTurnedAndShown self.old.member self.new.member result }
+        ensures others { IfErr result (λ e. IsRefusal e ⊎ (e ≡ no_memory)) }
+    {
         self.wire.begin_wait();
         self.wire.wait();
         self.member.turn(&mut self.wire)?;
@@ -82,7 +136,9 @@ impl<'a, H: Clock> Seat<'a, H> {
 }
 
 /// So many sockets on loopback, on ports that are free.
-fn sockets<H: Net>(rt: &H, alloc: Global, size: u8) -> Result<Vec<UdpSocket>, Ended> {
+fn sockets<H: Net>(rt: &H, alloc: Global, size: u8) -> Result<Vec<UdpSocket>, Ended>
+    ensures others { IfErr result (λ e. IsOpenRefusal e) }
+{
     let address = SocketAddr::V4(SocketAddrV4::new(Ipv4Addr::LOCALHOST, 0));
     let mut sockets = Vec::new(alloc);
     for _ in 0..size {
@@ -92,7 +148,9 @@ fn sockets<H: Net>(rt: &H, alloc: Global, size: u8) -> Result<Vec<UdpSocket>, En
 }
 
 /// The addresses of sockets, in order.
-fn addresses(alloc: Global, sockets: &[UdpSocket]) -> Result<Vec<SocketAddr>, Ended> {
+fn addresses(alloc: Global, sockets: &[UdpSocket]) -> Result<Vec<SocketAddr>, Ended>
+    ensures others { IfErr result (λ e. IsOpenRefusal e) }
+{
     let mut addresses = Vec::new(alloc);
     for socket in sockets {
         let Ok(address) = socket.local_addr() else {
@@ -108,7 +166,9 @@ fn wires<'a, H: Net + Clock + AllocGlobal>(
     rt: &'a H,
     sockets: Vec<UdpSocket>,
     addresses: &'a [SocketAddr],
-) -> Result<Vec<UdpWire<'a, H>>, Ended> {
+) -> Result<Vec<UdpWire<'a, H>>, Ended>
+    ensures others { IfErr result (λ e. IsOpenRefusal e) }
+{
     let mut wires = Vec::new(rt.alloc());
     for socket in sockets {
         wires.push(UdpWire::new(rt, socket, Watch::new(rt)?, addresses)?)?;
@@ -122,7 +182,9 @@ fn seats<'a, H: Clock>(
     program: &'a Program,
     group: Group,
     wires: Vec<UdpWire<'a, H>>,
-) -> Result<Vec<Seat<'a, H>>, Ended> {
+) -> Result<Vec<Seat<'a, H>>, Ended>
+    ensures others { IfErr result (λ e. IsNetRefusal e) }
+{
     let mut seats = Vec::new(alloc);
     let mut number = 0u8;
     for wire in wires {
@@ -134,7 +196,9 @@ fn seats<'a, H: Clock>(
 }
 
 /// Node 1 begins a ballot.
-fn campaign<H: Clock>(seats: &mut [Seat<'_, H>]) -> Result<(), Ended> {
+fn campaign<H: Clock>(seats: &mut [Seat<'_, H>]) -> Result<(), Ended>
+    ensures others { IfErr result (λ e. IsRunRefusal e) }
+{
     match seats.first_mut() {
         Some(seat) => Ok(seat.member.campaign()?),
         None => Ok(()),
@@ -142,7 +206,9 @@ fn campaign<H: Clock>(seats: &mut [Seat<'_, H>]) -> Result<(), Ended> {
 }
 
 /// Node 1 types as many of the bytes as it has room for, and takes them off the front.
-fn press_first<H: Clock>(seats: &mut [Seat<'_, H>], bytes: &mut &[u8]) -> Result<(), Ended> {
+fn press_first<H: Clock>(seats: &mut [Seat<'_, H>], bytes: &mut &[u8]) -> Result<(), Ended>
+    ensures others { IfErr result (λ e. IsRefusal e) }
+{
     match seats.first_mut() {
         Some(seat) => Ok(seat.member.press_some(bytes)?),
         None => Ok(()),
@@ -150,7 +216,9 @@ fn press_first<H: Clock>(seats: &mut [Seat<'_, H>], bytes: &mut &[u8]) -> Result
 }
 
 /// A turn of each node, in order.
-fn play_all<H: Clock>(seats: &mut [Seat<'_, H>]) -> Result<(), Ended> {
+fn play_all<H: Clock>(seats: &mut [Seat<'_, H>]) -> Result<(), Ended>
+    ensures others { IfErr result (λ e. IsRefusal e ⊎ (e ≡ no_memory)) }
+{
     for seat in seats.iter_mut() {
         seat.play()?;
     }
@@ -158,7 +226,9 @@ fn play_all<H: Clock>(seats: &mut [Seat<'_, H>]) -> Result<(), Ended> {
 }
 
 /// The turns of the group. Bytes are typed at node 1 before each, as room allows.
-fn play<H: Clock>(seats: &mut [Seat<'_, H>], turns: u32, input: &[u8]) -> Result<(), Ended> {
+fn play<H: Clock>(seats: &mut [Seat<'_, H>], turns: u32, input: &[u8]) -> Result<(), Ended>
+    ensures others { IfErr result (λ e. IsRefusal e ⊎ (e ≡ no_memory)) }
+{
     let mut rest = input;
     for _ in 0..turns {
         press_first(seats, &mut rest)?;
@@ -184,7 +254,9 @@ fn net<H: Net + Clock + AllocGlobal, W: Write>(
     turns: u32,
     input: &[u8],
     writer: &mut W,
-) -> Result<(), Ended> {
+) -> Result<(), Ended>
+    ensures others { IfErr result (λ e. IsNetRefusal e) }
+{
     let alloc = rt.alloc();
     let group = Group {
         size,
@@ -208,7 +280,10 @@ pub fn net_file<H: Files + Net + Clock + AllocGlobal, R: Read, W: Write>(
     turns: u32,
     reader: &mut R,
     writer: &mut W,
-) -> Result<(), Ended> {
+) -> Result<(), Ended>
+    ensures others { IfErr result (λ e. IsNetRefusal e ⊎ ((refusal : MachineRefusal)
+        × (e ≡ Ended.Machine refusal))) }
+{
     let program = load_file(rt, file)?;
     Config::new(1, size, SESSION)?;
     let input = read_input(rt.alloc(), reader)?;

@@ -1,12 +1,20 @@
 //! One node on UDP, over a record in a file.
-ghost use Rattle.std.specs.Prelude.{◌≡◌, ◌<◌, ◌≤◌, [], ◌∷◌, IsOk, MatchResult};
+ghost use Rattle.std.specs.Prelude.{◌≡◌, ◌<◌, ◌≤◌, ◌+◌, ◌-◌, ℕ, List, [], ◌∷◌, ◌++◌, drop, length, ◌⊎◌, IfErr, IsErr, IsErrOf, IsOk, MatchResult, OnErr, OnOk, Option};
 ghost use Rattle.std.specs.Io.KnownBytes.{Appends, Keeps};
+ghost use Rattle.base.specs.Faults.{HasRisen};
+ghost use Rattle.pcode_file.specs.Parts.{Parts};
+ghost use Rattle.group_node.specs.States.{input};
+ghost use Rattle.group_node.specs.Output.{unreleased_of};
+ghost use Rattle.group_udp.specs.Output.{Releases, Writes, all_released, released_by, unseen_of};
+ghost use Rattle.group_udp.specs.Refusals.{IsCampaignRefusal, IsOpenRefusal, IsRefusal, IsRunRefusal, write_failed};
+ghost use Rattle.group_udp.specs.Rounds.{CampaignsIf, HasCampaignedAndPlayed, HasPlayed, HasRested, HasRestedAndTurned, IsRound, RestsUnless, is_busy_after};
+ghost use Rattle.group_udp.specs.Runs.{HasRun, HasRunOverFile, HasShown};
 
 use crate::ended::Ended;
 use crate::member::Member;
 use crate::typed::Typed;
 use crate::udp::{UdpWire, Watch, bind};
-use group_node::{Config, Ran};
+use group_node::{Config, NodeFault, Ran};
 use group_wire::Heard;
 use machine_run::{ByteWriter, CountingWriter, RunIo, WriteFault, load_file, read_input};
 use paxos_acceptor::{FileStore, Store};
@@ -48,6 +56,7 @@ fn write_unseen<W: ByteWriter>(
 ) -> Result<(), WriteFault>
     ensures unseen { seen ≤ number → MatchResult result (λ _. Appends (W.contents writer.old) (W.contents writer.new) (byte ∷ [])) (λ _. Keeps (W.contents writer.old) (W.contents writer.new)) }
     ensures seen { number < seen → IsOk result × (W.contents writer.new ≡ W.contents writer.old) }
+    ensures faults { MatchResult result (λ _. W.write_faults writer.new ≡ W.write_faults writer.old) (λ _. HasRisen (W.write_faults writer.old) (W.write_faults writer.new)) }
 {
     if number < seen {
         return Ok(());
@@ -55,17 +64,28 @@ fn write_unseen<W: ByteWriter>(
     writer.write_byte(byte)
 }
 
-/// Releases all output that waits, and writes what was not seen before.
+/// Releases all output that waits, and writes the bytes of it whose number is not below `seen`, in order.
+/// Where a write fails, the bytes before that one were written; it and those before it were released.
 fn release_all<S: Store + Drop, W: ByteWriter>(
     member: &mut Member<'_, S>,
     seen: u64,
     writer: &mut W,
-) -> Result<(), Ended> {
-    for _ in 0..member.unreleased() {
-        if let Some((number, byte)) = member.release() {
-            if write_unseen(writer, seen, number, byte).is_err() {
-                return Err(Ended::from(RunIo::Write));
-            }
+) -> Result<(), Ended>
+    ensures written { OnOk result (Appends (W.contents writer.old) (W.contents writer.new)
+        (unseen_of seen (input member.old.node.protocol.rules) member.old.node.progress)) }
+    ensures released { OnOk result (member.new.node.progress ≡ all_released (input member.old.node.protocol.rules) member.old.node.progress) }
+    ensures lost { OnErr result ((gone : List ℕ) × (byte : ℕ)
+        × Releases (input member.old.node.protocol.rules) member.old.node.progress member.new.node.progress (gone ++ byte ∷ [])
+        × (seen ≤ member.old.node.progress.released + length gone)
+        × Appends (W.contents writer.old) (W.contents writer.new) (drop (seen - member.old.node.progress.released) gone)) }
+    ensures others { IfErr result (λ e. e ≡ write_failed) }
+    ensures faults { MatchResult result (λ _. W.write_faults writer.new ≡ W.write_faults writer.old) (λ _. HasRisen (W.write_faults writer.old) (W.write_faults writer.new)) }
+    ensures rest { (member.new.node.protocol ≡ member.old.node.protocol) × (member.new.packets ≡ member.old.packets) }
+{
+    while let Some((number, byte)) = member.release() {
+        match write_unseen(writer, seen, number, byte) {
+            Ok(()) => (),
+            Err(WriteFault) => return Err(Ended::from(RunIo::Write)),
         }
     }
     Ok(())
@@ -80,7 +100,9 @@ struct Sources<'a, H> {
 
 impl<'a, H: Net + Clock + AllocGlobal> Sources<'a, H> {
     /// Opens the sockets that the plan names. The text is typed where no datagrams bring bytes.
-    fn open(rt: &'a H, plan: &NodePlan<'a>, text: &'a [u8]) -> Result<Sources<'a, H>, Ended> {
+    fn open(rt: &'a H, plan: &NodePlan<'a>, text: &'a [u8]) -> Result<Sources<'a, H>, Ended>
+        ensures others { IfErr result (λ e. IsOpenRefusal e) }
+    {
         let watch = Watch::new(rt)?;
         let typed = typed_of(rt, plan, text, &watch)?;
         let wire = own_wire(rt, plan, watch)?;
@@ -94,7 +116,9 @@ fn typed_of<'a, H: Net>(
     plan: &NodePlan<'_>,
     text: &'a [u8],
     watch: &Watch,
-) -> Result<Typed<'a>, Ended> {
+) -> Result<Typed<'a>, Ended>
+    ensures others { IfErr result (λ e. e ≡ Ended.Socket) }
+{
     let Some(address) = plan.keys else {
         return Ok(Typed::Text(text));
     };
@@ -108,7 +132,9 @@ fn own_wire<'a, H: Net + Clock>(
     rt: &'a H,
     plan: &NodePlan<'a>,
     watch: Watch,
-) -> Result<UdpWire<'a, H>, Ended> {
+) -> Result<UdpWire<'a, H>, Ended>
+    ensures others { IfErr result (λ e. e ≡ Ended.Socket) }
+{
     let index = usize::from(plan.node).saturating_sub(1);
     let Some(address) = plan.addresses.get(index) else {
         return Err(Ended::Socket);
@@ -122,7 +148,12 @@ fn own_wire<'a, H: Net + Clock>(
 fn rest<H: Clock, S: Store + Drop>(
     member: &mut Member<'_, S>,
     wire: &mut UdpWire<'_, H>,
-) -> Result<(), Ended> {
+) -> Result<(), Ended>
+    ensures rests { HasRested S.honest S.state member.old member.new result }
+    ensures stays { released_by member.new.node ≡ released_by member.old.node }
+    ensures progress { member.new.node.progress ≡ member.old.node.progress }
+    ensures others { IfErr result (λ e. (e ≡ Ended.Node NodeFault.Stopped) ⊎ (e ≡ Ended.Node NodeFault.Store)) }
+{
     let front = member.known_front();
     wire.begin_wait();
     for _ in 0..HEARD {
@@ -137,41 +168,140 @@ fn rest<H: Clock, S: Store + Drop>(
     Ok(())
 }
 
-/// The turns of a node. Before each, bytes are typed; after each, all output is released. The node rests before a turn where there is nothing
-/// to be typed, and its machine has come to its end or waits for a key.
+/// A node rests, unless it is busy or there is something to be typed at it.
+fn rest_unless_busy<H: Clock, S: Store + Drop>(
+    member: &mut Member<'_, S>,
+    sources: &mut Sources<'_, H>,
+    is_busy: bool,
+) -> Result<(), Ended>
+    ensures rests { RestsUnless S.honest S.state is_busy member.old member.new result }
+    ensures stays { released_by member.new.node ≡ released_by member.old.node }
+    ensures progress { member.new.node.progress ≡ member.old.node.progress }
+    ensures others { IfErr result (λ e. (e ≡ Ended.Node NodeFault.Stopped) ⊎ (e ≡ Ended.Node NodeFault.Store)) }
+{
+    if is_busy {
+        return Ok(());
+    }
+    if sources.typed.is_ready(member.waiting()) {
+        return Ok(());
+    }
+    rest(member, &mut sources.wire)
+}
+
+/// Whether a node is busy after such a run: its machine has neither come to its end nor waits for a
+/// key.
+fn is_busy_after(ran: Ran) -> bool
+    ensures { result ≡ is_busy_after ran }
+{
+    match ran {
+        Ran::More | Ran::Full => true,
+        Ran::Waits | Ran::Ended(_) => false,
+    }
+}
+
+/// A node rests, unless it is busy; bytes are typed at it, and it has a turn. Whether it is busy
+/// then. What was released before stays as it is.
+fn rest_and_turn<H: Clock, S: Store + Drop>(
+    member: &mut Member<'_, S>,
+    sources: &mut Sources<'_, H>,
+    is_busy: bool,
+) -> Result<bool, Ended>
+    ensures turns { HasRestedAndTurned S.honest S.fails_at_will S.state is_busy member.old member.new result }
+    ensures program { member.new.node.progress.program ≡ member.old.node.progress.program }
+    ensures stays { released_by member.new.node ≡ released_by member.old.node }
+    ensures others { IfErr result (λ e. IsRefusal e) }
+{
+    rest_unless_busy(member, sources, is_busy)?;
+    sources.typed.press(member)?;
+    let turned = member.turn(&mut sources.wire)?;
+    Ok(is_busy_after(turned.ran))
+}
+
+/// A round of a node: a turn, and then all output is released. Whether the node is busy.
+fn round<H: Clock, S: Store + Drop, W: ByteWriter>(
+    member: &mut Member<'_, S>,
+    seen: u64,
+    sources: &mut Sources<'_, H>,
+    is_busy: bool,
+    writer: &mut W,
+) -> Result<bool, Ended>
+    ensures round { IsRound S.honest S.fails_at_will S.state seen is_busy
+        (record { member = member.old; written = W.contents writer.old })
+        (record { member = member.new; written = W.contents writer.new }) result }
+    ensures program { member.new.node.progress.program ≡ member.old.node.progress.program }
+    ensures writes { (wrote : List ℕ) × Writes seen member.old.node member.new.node (IsErrOf result write_failed) wrote
+        × Appends (W.contents writer.old) (W.contents writer.new) wrote }
+    ensures none_waits { OnOk result (unreleased_of (input member.new.node.protocol.rules) member.new.node.progress ≡ []) }
+    ensures others { IfErr result (λ e. IsRefusal e ⊎ (e ≡ write_failed)) }
+{
+    let more = rest_and_turn(member, sources, is_busy)?;
+    // The machine is where a replay from the start is.
+    member.unreleased();
+    release_all(member, seen, writer)?;
+    Ok(more)
+}
+
+/// The turns of a node, as many as the plan says, each in a round, up to the first refusal. Over
+/// all rounds the bytes that were released are written, but for those that were seen; where a write
+/// fails, the last one is lost.
 fn play<H: Clock, S: Store + Drop, W: ByteWriter>(
     member: &mut Member<'_, S>,
     plan: &NodePlan<'_>,
     sources: &mut Sources<'_, H>,
     writer: &mut W,
-) -> Result<(), Ended> {
+) -> Result<(), Ended>
+    ensures plays { HasPlayed S.honest S.fails_at_will S.state plan.now.seen plan.now.turns
+        (record { member = member.old; written = W.contents writer.old })
+        (record { member = member.new; written = W.contents writer.new }) result }
+    ensures program { member.new.node.progress.program ≡ member.old.node.progress.program }
+    ensures writes { (wrote : List ℕ) × Writes plan.now.seen member.old.node member.new.node (IsErrOf result write_failed) wrote
+        × Appends (W.contents writer.old) (W.contents writer.new) wrote }
+    ensures others { IfErr result (λ e. IsRefusal e ⊎ (e ≡ write_failed)) }
+{
     let mut is_busy = true;
     for _ in 0..plan.turns {
-        if !is_busy && !sources.typed.is_ready(member.waiting()) {
-            rest(member, &mut sources.wire)?;
-        }
-        sources.typed.press(member)?;
-        let ran = member.turn(&mut sources.wire)?.ran;
-        release_all(member, plan.seen, writer)?;
-        is_busy = ran == Ran::More || ran == Ran::Full;
+        is_busy = round(member, plan.seen, sources, is_busy, writer)?;
     }
     Ok(())
 }
 
-/// The node begins a ballot, if it is to, and has its turns.
+/// The node campaigns, if it is to.
+fn campaign_if<S: Store + Drop>(member: &mut Member<'_, S>, is_asked: bool) -> Result<(), Ended>
+    ensures campaigns { CampaignsIf S.honest S.fails_at_will S.state is_asked member.old member.new result }
+    ensures stays { released_by member.new.node ≡ released_by member.old.node }
+    ensures progress { member.new.node.progress ≡ member.old.node.progress }
+    ensures others { IfErr result (λ e. IsRefusal e ⊎ IsCampaignRefusal e) }
+{
+    if is_asked {
+        member.campaign()?;
+        return Ok(());
+    }
+    Ok(())
+}
+
+/// The node campaigns, if it is to, and then has its turns. A campaign that is refused ends it, and
+/// nothing is written.
 fn campaign_and_play<H: Clock, S: Store + Drop, W: ByteWriter>(
     member: &mut Member<'_, S>,
     plan: &NodePlan<'_>,
     sources: &mut Sources<'_, H>,
     writer: &mut W,
-) -> Result<(), Ended> {
-    if plan.campaigns {
-        member.campaign()?;
-    }
+) -> Result<(), Ended>
+    ensures plays { HasCampaignedAndPlayed S.honest S.fails_at_will S.state plan.now.campaigns plan.now.seen plan.now.turns
+        (record { member = member.old; written = W.contents writer.old })
+        (record { member = member.new; written = W.contents writer.new }) result }
+    ensures program { member.new.node.progress.program ≡ member.old.node.progress.program }
+    ensures writes { (wrote : List ℕ) × Writes plan.now.seen member.old.node member.new.node (IsErrOf result write_failed) wrote
+        × Appends (W.contents writer.old) (W.contents writer.new) wrote }
+    ensures others { IfErr result (λ e. IsRefusal e ⊎ (e ≡ write_failed) ⊎ IsCampaignRefusal e) }
+{
+    campaign_if(member, plan.campaigns)?;
     play(member, plan, sources, writer)
 }
 
-/// Runs one node over a store.
+/// Runs one node over a store. A start that is refused ends it, and nothing is written. Over the
+/// whole run those bytes of its released output are written whose number is not below the plan's
+/// `seen`; where a write fails, the last of them is lost.
 fn run_over<H: Clock, S: Store + Drop, W: ByteWriter>(
     alloc: Global,
     program: &Program,
@@ -180,24 +310,38 @@ fn run_over<H: Clock, S: Store + Drop, W: ByteWriter>(
     plan: &NodePlan<'_>,
     sources: &mut Sources<'_, H>,
     writer: &mut W,
-) -> Result<(), Ended> {
+) -> Result<(), Ended>
+    ensures runs { HasRun S.honest S.fails_at_will S.state config program.now store plan.now.campaigns plan.now.seen plan.now.turns
+        (W.contents writer.old) (W.contents writer.new) result }
+    ensures written { HasShown program.now plan.now.seen (IsErrOf result write_failed)
+        (W.contents writer.old) (W.contents writer.new) }
+    ensures others { IfErr result (λ e. IsRunRefusal e) }
+{
     let mut member = Member::start(alloc, program, config, store)?;
-    campaign_and_play(&mut member, plan, sources, writer)
+    let played = campaign_and_play(&mut member, plan, sources, writer);
+    // The machine is where a replay from the start is.
+    member.unreleased();
+    played
 }
 
-/// Runs one node for so many turns, over the record of its file. It types the text, unless typed bytes come as datagrams. It ends at the
-/// node's first refusal.
-fn node<H: Files + Net + Clock + AllocGlobal + Copy + Drop, W: Write>(
+/// Runs one node over the record of its file, for as many turns as the plan says. It types the
+/// text, unless typed bytes come as datagrams. It ends at the node's first refusal.
+fn node<H: Files + Net + Clock + AllocGlobal + Copy + Drop, W: ByteWriter>(
     rt: &H,
     program: &Program,
     config: Config,
     plan: &NodePlan<'_>,
     text: &[u8],
     writer: &mut W,
-) -> Result<(), Ended> {
+) -> Result<(), Ended>
+    ensures runs { HasRunOverFile config program.now plan.now.campaigns plan.now.seen plan.now.turns
+        (W.contents writer.old) (W.contents writer.new) result }
+    ensures written { HasShown program.now plan.now.seen (IsErrOf result write_failed)
+        (W.contents writer.old) (W.contents writer.new) }
+    ensures others { IfErr result (λ e. IsOpenRefusal e ⊎ IsRunRefusal e) }
+{
     let mut sources = Sources::open(rt, plan, text)?;
     let store = FileStore::new(*rt, plan.record, config.me())?;
-    let mut writer = CountingWriter::new(writer);
     run_over(
         rt.alloc(),
         program,
@@ -205,24 +349,34 @@ fn node<H: Files + Net + Clock + AllocGlobal + Copy + Drop, W: Write>(
         store,
         plan,
         &mut sources,
-        &mut writer,
+        writer,
     )
 }
 
-/// Runs the program of a code file at one node of a group, as the plan says. The code file is looked at first, then the node and its group.
-/// The input is not read where typed bytes come as datagrams.
+/// Runs the program of a code file at one node of a group, as the plan says. The code file is
+/// looked at first, then the node and its group. The input is not read where typed bytes come as
+/// datagrams. Where one of the three is refused nothing is written. What the writer holds after a
+/// run is known of the wrapper that counts its faults: a contract can't say that a call over any
+/// `ByteWriter` leaves the same `&mut` in it.
 pub fn node_file<H: Files + Net + Clock + AllocGlobal + Copy + Drop, R: Read, W: Write>(
     rt: &H,
     file: &str,
     plan: &NodePlan<'_>,
     reader: &mut R,
     writer: &mut W,
-) -> Result<(), Ended> {
+) -> Result<(), Ended>
+    ensures runs { ((program : Parts) × (now : Option (List ℕ))
+        × HasRunOverFile (record { node = plan.now.node; group = plan.now.group })
+        program plan.now.campaigns plan.now.seen plan.now.turns (W.contents writer.old) now result
+        × HasShown program plan.now.seen (IsErrOf result write_failed) (W.contents writer.old) now)
+        ⊎ (IsErr result × (W.contents writer.new ≡ W.contents writer.old)) }
+{
     let program = load_file(rt, file)?;
     let config = Config::new(plan.node, plan.group.size, plan.group.session)?;
     let input = match plan.keys {
         None => read_input(rt.alloc(), reader)?,
         Some(_) => Vec::new(rt.alloc()),
     };
-    node(rt, &program, config, plan, input.as_slice(), writer)
+    let mut writer = CountingWriter::new(writer);
+    node(rt, &program, config, plan, input.as_slice(), &mut writer)
 }

@@ -1,7 +1,13 @@
 //! What a node types.
+ghost use Rattle.std.specs.Prelude.{◌≡◌, ◌⊎◌, IfErr};
+ghost use Rattle.group_udp.specs.Output.{released_by};
+ghost use Rattle.group_udp.specs.Refusals.{IsRefusal};
+ghost use Rattle.group_udp.specs.Rounds.{HasCampaignedAsAsked, HasPressed};
+
 use crate::ended::Ended;
 use crate::member::Member;
 use crate::udp::receive_from;
+use group_node::NodeFault;
 use mio::net::UdpSocket;
 use paxos_acceptor::Store;
 
@@ -10,6 +16,15 @@ const KEYS: usize = 64;
 
 /// How many keys wait at a node at most.
 const WAITING: usize = 256;
+
+/// Returns whether a datagram is there that a node takes at which this many keys wait: an empty one,
+/// or one whose bytes have room for sure.
+fn is_next_taken(socket: &UdpSocket, waiting: usize) -> bool {
+    match socket.peek_from(&mut [0u8; 1]) {
+        Ok((count, _)) => count == 0 || waiting <= WAITING - KEYS,
+        Err(_) => false,
+    }
+}
 
 /// What a node types.
 #[derive(Drop)]
@@ -25,14 +40,17 @@ impl Typed<'_> {
     pub fn is_ready(&self, waiting: usize) -> bool {
         match self {
             Typed::Text(rest) => waiting < WAITING && !rest.is_empty(),
-            Typed::Datagrams(socket) => {
-                waiting <= WAITING - KEYS && socket.peek_from(&mut [0u8; 1]).is_ok()
-            }
+            Typed::Datagrams(socket) => is_next_taken(socket, waiting),
         }
     }
 
     /// Types what was brought, before a turn, as room allows.
-    pub fn press<S: Store + Drop>(&mut self, member: &mut Member<'_, S>) -> Result<(), Ended> {
+    pub fn press<S: Store + Drop>(&mut self, member: &mut Member<'_, S>) -> Result<(), Ended>
+        ensures pressed { HasPressed S.honest S.fails_at_will S.state member.old member.new result }
+        ensures stays { released_by member.new.node ≡ released_by member.old.node }
+        ensures progress { member.new.node.progress ≡ member.old.node.progress }
+        ensures others { IfErr result (λ e. IsRefusal e) }
+    {
         match self {
             Typed::Text(rest) => Ok(member.press_some(rest)?),
             Typed::Datagrams(socket) => press_datagram(member, socket),
@@ -40,17 +58,39 @@ impl Typed<'_> {
     }
 }
 
-/// Types the bytes of one datagram, if one is there and 64 keys have room.
+/// The node campaigns, as it was asked to. A campaign that does not begin, as no ballot or no place is
+/// left, the outbox is full or memory ran out, ends nothing: the node goes on as it was.
+fn campaign_when_asked<S: Store + Drop>(member: &mut Member<'_, S>) -> Result<(), Ended>
+    ensures campaigned { HasCampaignedAsAsked S.honest S.fails_at_will S.state member.old member.new result }
+    ensures stays { released_by member.new.node ≡ released_by member.old.node }
+    ensures progress { member.new.node.progress ≡ member.old.node.progress }
+    ensures others { IfErr result (λ e. (e ≡ Ended.Node NodeFault.Stopped) ⊎ (e ≡ Ended.Node NodeFault.Store)) }
+{
+    match member.campaign() {
+        Err(NodeFault::Stopped) => Err(Ended::Node(NodeFault::Stopped)),
+        Err(NodeFault::Store) => Err(Ended::Node(NodeFault::Store)),
+        Ok(()) | Err(_) => Ok(()),
+    }
+}
+
+/// Takes one datagram, if one is there: the node campaigns if it is empty, and else its bytes are
+/// typed. While fewer than 64 keys have room, one with bytes stays where it is.
 fn press_datagram<S: Store + Drop>(
     member: &mut Member<'_, S>,
     socket: &UdpSocket,
-) -> Result<(), Ended> {
-    if member.waiting() > WAITING - KEYS {
+) -> Result<(), Ended>
+    ensures pressed { HasPressed S.honest S.fails_at_will S.state member.old member.new result }
+    ensures stays { released_by member.new.node ≡ released_by member.old.node }
+    ensures progress { member.new.node.progress ≡ member.old.node.progress }
+    ensures others { IfErr result (λ e. IsRefusal e) }
+{
+    if !is_next_taken(socket, member.waiting()) {
         return Ok(());
     }
     let mut buffer = [0u8; KEYS + 1];
     match receive_from(socket, &mut buffer) {
-        Some(count) if count <= KEYS => {
+        Some((0, _)) => campaign_when_asked(member),
+        Some((count, _)) if count <= KEYS => {
             let mut bytes = &buffer[..count];
             Ok(member.press_some(&mut bytes)?)
         }

@@ -1,7 +1,9 @@
 //! UDP sockets as wires.
-ghost use Rattle.std.specs.Prelude.{◌≡◌, ◌≤◌, length, IfSome};
+ghost use Rattle.std.specs.Prelude.{◌≡◌, ◌≤◌, length, IfErr, IfSome};
+ghost use Rattle.group_udp.specs.Refusals.{IsOpenRefusal};
 
 use crate::ended::Ended;
+use crate::sources::is_from_sender;
 use group_wire::Wire;
 use mio::net::UdpSocket;
 use mio::{Events, Interest, Poll, Token};
@@ -12,18 +14,18 @@ use std::time::{Clock, Duration, Instant};
 const WAIT: u64 = 10;
 
 /// A socket at this address, whose calls never wait.
-pub fn bind<H: Net>(rt: &H, address: SocketAddr) -> Result<UdpSocket, Ended> {
+pub fn bind<H: Net>(rt: &H, address: SocketAddr) -> Result<UdpSocket, Ended>
+    ensures others { IfErr result (λ e. e ≡ Ended.Socket) }
+{
     UdpSocket::bind(rt, address).or(Err(Ended::Socket))
 }
 
-/// The next datagram of a socket, at the front of the buffer and cut to its length; nothing where none came or the receive failed.
-pub fn receive_from(socket: &UdpSocket, buffer: &mut [u8]) -> Option<usize>
-    ensures within { IfSome result (λ count. count ≤ length buffer.new) }
+/// Receives the next datagram of a socket to the front of the buffer, cut to its length. Returns its
+/// length and its source; nothing where none is there or the receive failed.
+pub fn receive_from(socket: &UdpSocket, buffer: &mut [u8]) -> Option<(usize, SocketAddr)>
+    ensures within { IfSome result (λ r. r.0 ≤ length buffer.new) }
 {
-    match socket.recv_from(buffer) {
-        Ok((count, _)) => Some(count),
-        Err(_) => None,
-    }
+    socket.recv_from(buffer).ok()
 }
 
 /// The sockets that a node waits for: its own, and one for typed bytes where it has one.
@@ -41,7 +43,9 @@ const TYPED: Token = Token(1);
 
 impl Watch {
     /// Watches nothing yet.
-    pub fn new<H: Net + AllocGlobal>(rt: &H) -> Result<Watch, Ended> {
+    pub fn new<H: Net + AllocGlobal>(rt: &H) -> Result<Watch, Ended>
+        ensures others { IfErr result (λ e. IsOpenRefusal e) }
+    {
         let Ok(poll) = Poll::new(rt) else {
             return Err(Ended::Socket);
         };
@@ -50,7 +54,9 @@ impl Watch {
     }
 
     /// Watches a socket.
-    fn add(&self, socket: &mut UdpSocket, token: Token) -> Result<(), Ended> {
+    fn add(&self, socket: &mut UdpSocket, token: Token) -> Result<(), Ended>
+        ensures others { IfErr result (λ e. e ≡ Ended.Socket) }
+    {
         self.poll
             .registry()
             .register(socket, token, Interest::READABLE)
@@ -58,7 +64,9 @@ impl Watch {
     }
 
     /// Watches the socket of typed bytes.
-    pub fn add_typed(&self, socket: &mut UdpSocket) -> Result<(), Ended> {
+    pub fn add_typed(&self, socket: &mut UdpSocket) -> Result<(), Ended>
+        ensures others { IfErr result (λ e. e ≡ Ended.Socket) }
+    {
         self.add(socket, TYPED)
     }
 
@@ -100,7 +108,9 @@ impl<'a, H: Clock> UdpWire<'a, H> {
         mut socket: UdpSocket,
         watch: Watch,
         addresses: &'a [SocketAddr],
-    ) -> Result<UdpWire<'a, H>, Ended> {
+    ) -> Result<UdpWire<'a, H>, Ended>
+        ensures others { IfErr result (λ e. e ≡ Ended.Socket) }
+    {
         watch.add(&mut socket, OWN)?;
         Ok(UdpWire {
             clock,
@@ -151,7 +161,14 @@ impl<H: Clock> Wire for UdpWire<'_, H> {
         }
     }
 
+    // A datagram that another than its sender sent is handed on as an empty one, which spells no
+    // message.
     fn receive(&mut self, buffer: &mut [u8]) -> Option<usize> {
-        receive_from(&self.socket, buffer)
+        let (count, source) = receive_from(&self.socket, buffer)?;
+        if is_from_sender(self.addresses, source, &buffer[..count]) {
+            Some(count)
+        } else {
+            Some(0)
+        }
     }
 }

@@ -31,7 +31,7 @@ module _ (laws : BeginLaws) (p : Parts) (group : Group) where
   first_sound : (i : ℕ) → IsMemberSound p (record { node = i; group = group }) [] [] first
   first_sound i = record {
     ranges = record { starts = omega arith; kept = refl };
-    backed = record { votes = laws.empty []; own = λ b s v own said. absurd (nothing_sent said.0 _ said.1) };
+    backed = record { votes = laws.empty []; asked = λ b from own said. absurd (nothing_sent said.0 _ said.1); own = λ b s v own said. absurd (nothing_sent said.0 _ said.1) };
     shown = record { values = []; chosen = record { chosen = λ s v e. absurd (none s v e) }; output = (0, record { rest = out p _ 0; whole = refl }) };
     running = tt;
   }

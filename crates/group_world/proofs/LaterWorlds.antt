@@ -1,5 +1,5 @@
 -- What more events leave of what was learned and shown.
-use Rattle.std.proofs.Common.{◌≡◌, ℕ, Bool, List, [], ◌∷◌, ◌++◌, Option, refl, sym, subst}
+use Rattle.std.proofs.Common.{◌≡◌, ℕ, Bool, List, [], ◌∷◌, ◌++◌, Option, Result, Ok, Err, IfOk, OnErr, refl, sym, ap, subst}
 use Rattle.pcode_file.specs.Parts.{Parts}
 use Rattle.paxos_msg.specs.declared.message.Group.{Group}
 use Rattle.paxos_msg.specs.declared.value.Value.{Value}
@@ -10,6 +10,7 @@ use Rattle.group_node.specs.States.{IsSize}
 use Rattle.group_world.specs.declared.event.Act.{Act}
 use Rattle.group_world.specs.declared.event.Done.{Done}
 use Rattle.group_world.specs.declared.event.Event.{Event}
+use Rattle.group_world.specs.declared.fault.WorldFault.{WorldFault}
 use Rattle.group_world.specs.Events.{plan_of}
 use Rattle.group_world.specs.Goes.{Acts, Happens, IsStep}
 use Rattle.group_world.specs.Headline.{LearnedChosen, LearnedStays}
@@ -19,16 +20,41 @@ use Rattle.group_world.specs.Worlds.{begun, state_of, World}
 use Rattle.group_world.proofs.Growing.{Grows, event_grows, grows_none, grows_through}
 use Rattle.group_world.proofs.Happening.{EventLaws, always_holds, happens_holds}
 
--- the laws of one event, of agreement, and of what stays chosen
-pub record LaterWorldLaws : Type 0 where
-  pub events : EventLaws
-  pub step : (w v : World) (plan : Option Bool) (act : Act) (d : Done) → IsSound w
-      → Acts w plan act d v → IsStep (state_of w) act d (state_of v)
+-- the laws of agreement, and of what stays chosen
+pub record ChosenLaws : Type 0 where
   pub learned : (w : World) → IsSound w → LearnedChosen (state_of w)
   pub one : (size s : ℕ) (sent : Sent) (records : ℕ → Record) (v u : Value)
       → Grew size sent records → IsChosen size sent s v → IsChosen size sent s u → v ≡ u
   pub stays : (size s : ℕ) (sent more : Sent) (v : Value) → IsChosen size sent s v
       → IsChosen size (sent ++ more) s v
+
+-- the laws of one event too
+pub record LaterWorldLaws : Type 0 where
+  pub events : EventLaws
+  pub step : (w v : World) (plan : Option Bool) (act : Act) (d : Done) → IsSound w
+      → Acts w plan act d v → IsStep (state_of w) act d (state_of v)
+  pub chosen : ChosenLaws
+
+-- a world grows by an event, whether that is refused or not
+pub answer_grows : (w v : World) (act : Act) (answer : Result Done WorldFault)
+    → IfOk answer (λ d. IsStep (state_of w) act d (state_of v)) → OnErr answer (v ≡ w)
+    → Grows (state_of w) (state_of v)
+answer_grows w v act (Ok d) step same = event_grows (state_of w) (state_of v) act d step
+answer_grows w v act (Err e) step same = grows_none (state_of w) (state_of v) (ap state_of same)
+
+-- chosen at the first moment, chosen at the second, and so the same
+pub grown_learned : ChosenLaws → (w v : World) → IsSound w → IsSound v
+    → Grows (state_of w) (state_of v) → LearnedStays (state_of w) (state_of v)
+grown_learned laws w v first second grown i j s a b has other =
+    let chosen : IsChosen w.group.size (state_of w).sent s a =
+    (laws.learned w first i s a has).0 in
+    let still : IsChosen w.group.size (state_of v).sent s a =
+    subst (λ (sent : Sent). IsChosen w.group.size sent s a) (sym grown.sent)
+    (laws.stays w.group.size s (state_of w).sent grown.more a chosen) in
+    let same : IsChosen v.group.size (state_of v).sent s a =
+    subst (λ (n : ℕ). IsChosen n (state_of v).sent s a) (sym grown.size) still in
+    laws.one v.group.size s (state_of v).sent (λ k. ((state_of v).seats k).kept) a b
+    second.grew same (laws.learned v second j s b other).0
 
 module _ (laws : LaterWorldLaws) where
   happens_grows : (w : World) (events : List Event) (v : World) → Holds w → Happens w events v
@@ -50,21 +76,12 @@ module _ (laws : LaterWorldLaws) where
   later_grows p group events more w v size session before then =
       happens_grows w more v (always_holds laws.events p group events w size session before) then
 
-  -- chosen at the first moment, chosen at the second, and so the same
+  -- what is learned at the two moments is one value
   pub later_learned : (p : Parts) (group : Group) (events more : List Event) (w v : World)
       → IsSize group.size → IsGroup group
       → Happens (begun p group) events w → Happens w more v
       → LearnedStays (state_of w) (state_of v)
-  later_learned p group events more w v size session before then i j s a b has other =
+  later_learned p group events more w v size session before then =
       let first = always_holds laws.events p group events w size session before in
       let second = happens_holds laws.events w more v first then in
-      let grown = happens_grows w more v first then in
-      let chosen : IsChosen w.group.size (state_of w).sent s a =
-      (laws.learned w first.sound i s a has).0 in
-      let still : IsChosen w.group.size (state_of v).sent s a =
-      subst (λ (sent : Sent). IsChosen w.group.size sent s a) (sym grown.sent)
-      (laws.stays w.group.size s (state_of w).sent grown.more a chosen) in
-      let same : IsChosen v.group.size (state_of v).sent s a =
-      subst (λ (n : ℕ). IsChosen n (state_of v).sent s a) (sym grown.size) still in
-      laws.one v.group.size s (state_of v).sent (λ k. ((state_of v).seats k).kept) a b
-      second.sound.grew same (laws.learned v second.sound j s b other).0
+      grown_learned laws.chosen w v first.sound second.sound (happens_grows w more v first then)

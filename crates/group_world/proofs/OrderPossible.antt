@@ -39,7 +39,7 @@ due_c = inr (record {
 
 -- its ballot is the one; what it submits was typed and is due; it tells nothing
 abbrev Says : ℕ → Body → Type 0
-Says i (Prepare b from) = Unit {0}
+Says i (Prepare b from) = b ≡ ballot
 Says i (Promise b first upto votes) = Unit {0}
 Says i (Accept b s v) = b ≡ ballot
 Says i (Accepted b s v) = Unit {0}
@@ -86,6 +86,7 @@ kept_backed laws = record {
         subst (λ (t : ℕ). IsVoteBacked sent_3 kept_3 t vote) found.1 (each_of (λ (x : Vote). IsVoteBacked sent_3 kept_3 x.place x) kept_3.votes vote votes_backed found.0));
     in_order = ((omega arith, (omega arith, tt)), ((omega arith, tt), (tt, tt)));
   };
+  asked = λ b from mine said. subst (HasPromised kept_3) (sym (says said.0 (Prepare b from) said.1)) (inr (refl, omega arith));
   own = λ b s v mine said. subst (HasPromised kept_3) (sym (says said.0 (Accept b s v) said.1)) (inr (refl, omega arith));
 }
 

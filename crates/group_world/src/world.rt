@@ -3,7 +3,7 @@ ghost use Rattle.std.specs.Prelude.{◌≡◌, ◌↔◌, ◌⊎◌, [], None, l
 ghost use Rattle.group_node.specs.States.{IsSize};
 ghost use Rattle.group_world.specs.Asks.{running};
 ghost use Rattle.group_world.specs.Goes.{Goes, Happens, IsStep};
-ghost use Rattle.group_world.specs.Headline.{ConsolesAgree, ConsolesHoldOutput, HasNoGap, LearnedAgree, LearnedChosen};
+ghost use Rattle.group_world.specs.Headline.{ConsolesAgree, ConsolesGrow, ConsolesHoldOutput, HasNoGap, LearnedAgree, LearnedChosen, LearnedStays};
 ghost use Rattle.group_world.specs.Order.{KeysOnce, SerialsInOrder};
 ghost use Rattle.group_world.specs.Refusals.{IsFirstRefused, IsRefused, refusal};
 ghost use Rattle.group_world.specs.Worlds.{begun, member_at, state_of};
@@ -16,6 +16,7 @@ use crate::laws::{
 use crate::table::Table;
 use group_node::{Node, Packet};
 use paxos_acceptor::MemoryStore;
+use paxos_msg::laws::{agreement, sent_only_grows};
 use paxos_msg::{Group, Record, Value};
 use pcode_ops::Program;
 use std::alloc::Global;
@@ -84,6 +85,8 @@ impl<'a> World<'a> {
         ensures taken { OnOk result (refusal self.old event.now.act ≡ None) }
         ensures same { OnErr result (self.new ≡ self.old) }
         ensures refused { IfErr result (λ e. IsRefused self.old event.now.act e) }
+        ensures learned_stays { LearnedStays (state_of self.old) (state_of self.new) }
+        ensures consoles_grow { ConsolesGrow (state_of self.old) (state_of self.new) }
         ensures learned_agree { LearnedAgree (state_of self.new) }
         ensures learned_chosen { LearnedChosen (state_of self.new) }
         ensures consoles_hold_output { ConsolesHoldOutput (state_of self.new) }
@@ -96,6 +99,8 @@ impl<'a> World<'a> {
         events_keep_order();
         sound_worlds_agree();
         ordered_worlds_are_orderly();
+        agreement();
+        sent_only_grows();
         self.table.apply(event)
     }
 

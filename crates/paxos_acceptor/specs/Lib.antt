@@ -7,6 +7,7 @@ pub mod States
 pub mod Follows
 pub mod Backed
 pub mod Memories
+pub mod Opening
 pub mod Cases
 pub mod Saves
 pub mod Files

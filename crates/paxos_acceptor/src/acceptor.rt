@@ -1,11 +1,13 @@
 //! An acceptor.
-ghost use Rattle.std.specs.Prelude.{◌≡◌, ◌≢◌, ◌↔◌, false, None, Some, IfOk, IfErr, IsErrOf, MatchResult};
+ghost use Rattle.std.specs.Prelude.{◌≡◌, ◌≢◌, ◌↔◌, false, None, Some, IfOk, IfErr, IsErrOf, MatchResult, Result};
 ghost use Rattle.paxos_msg.specs.declared.message.Body.TheVariants.{Accepted};
 ghost use Rattle.paxos_msg.specs.declared.record.Change.TheVariants.{Start};
+ghost use Rattle.paxos_msg.specs.Batches.{Record as Kept};
 ghost use Rattle.paxos_msg.specs.Fits.{IsBallot, IsPlace, IsValue};
 ghost use Rattle.paxos_acceptor.specs.Answers.{accept_of, prepare_of};
 ghost use Rattle.paxos_acceptor.specs.Cases.{greater_promise};
 ghost use Rattle.paxos_acceptor.specs.Follows.{Follows};
+ghost use Rattle.paxos_acceptor.specs.Opening.{Opens, fault_of_load};
 ghost use Rattle.paxos_acceptor.specs.Records.{IsRecord};
 ghost use Rattle.paxos_acceptor.specs.Stores.{HasCause};
 
@@ -59,11 +61,9 @@ pub struct OpenRefused<S> {
     pub store: S,
 }
 
-/// What a load's fault is to an acceptor.
+/// The acceptor's fault for the fault of a load.
 fn fault_of_load(fault: StoreFault) -> AcceptorFault
-    ensures memory { result ≡ AcceptorFault.Memory ↔ fault ≡ StoreFault.Memory }
-    ensures device { result ≡ AcceptorFault.Store ↔ fault ≡ StoreFault.Device }
-    ensures bad { result ≡ AcceptorFault.BadRecord ↔ fault ≡ StoreFault.Bad }
+    ensures { result ≡ fault_of_load fault }
 {
     match fault {
         StoreFault::Memory => AcceptorFault::Memory,
@@ -112,6 +112,7 @@ impl<S: Store> Acceptor<S> {
     /// Loads the store's record. `Memory`, `Store` and `BadRecord` are what the load met; `BadRecord`, which comes last, is also
     /// a record out of its ranges. A refusal gives the store back.
     pub fn open(alloc: Global, store: S, me: Me) -> Result<Acceptor<S>, OpenRefused<S>>
+        ensures loads { (answer : Result Kept StoreFault) × (left : S) × S.loads store answer left × Opens me answer left result }
         ensures loaded { S.honest → IfOk result (λ a. (a.kept ≡ (S.state store).stored) × ((S.state a.store).stored ≡ (S.state store).stored)) }
         ensures open { IfOk result (λ a. (a.is_closed ≡ false) × (a.me ≡ me)) }
         ensures ranges { IfOk result (λ a. IsRecord me.group.size a.kept) }

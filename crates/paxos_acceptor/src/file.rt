@@ -4,7 +4,7 @@ ghost use Rattle.std.specs.Prelude.{◌≡◌, None, Some, IfOk, IfSome, IsErrOf
 ghost use Rattle.paxos_msg.specs.declared.record.Record.{Record};
 ghost use Rattle.paxos_msg.specs.declared.value.Value.{Value};
 ghost use Rattle.paxos_msg.specs.Records.{changed, empty_record};
-ghost use Rattle.paxos_acceptor.specs.Files.{IsWritten, Notes};
+ghost use Rattle.paxos_acceptor.specs.Files.{Finds, IsWritten, Notes};
 ghost use Rattle.paxos_acceptor.specs.Records.{IsRecord};
 ghost use Rattle.paxos_acceptor.specs.Stores.{HasCause};
 
@@ -148,11 +148,10 @@ impl<R: Files + AllocGlobal + Copy + Drop> Store for FileStore<R> {
 
     ghost fails_at_will = { ⊥ };
 
+    ghost loads = { λ old answer new. Finds old new answer };
+
     fn load(&mut self) -> Result<Record, StoreFault>
-        ensures found { IfOk result (λ r. self.new.found ≡ Some r) }
-        ensures lost { OnErr result (self.new.found ≡ None) }
-        ensures me { self.new.me ≡ self.old.me }
-        ensures cause { HasCause (IsErrOf result StoreFault.Device) self.old.faults self.new.faults }
+        ensures { Finds self.old self.new result }
     {
         // Until it is read nothing is known of it.
         self.found.take();

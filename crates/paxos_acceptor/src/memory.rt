@@ -2,7 +2,7 @@
 ghost use Rattle.std.specs.Prelude.{◌≡◌, ◌<◌, Err, IfOk, IsErrOf, None, OnErr};
 ghost use Rattle.paxos_msg.specs.declared.record.Change.TheVariants.{Start};
 ghost use Rattle.paxos_msg.specs.Messages.{IsAscending};
-ghost use Rattle.paxos_acceptor.specs.Memories.{SavesByPlan};
+ghost use Rattle.paxos_acceptor.specs.Memories.{Loads, SavesByPlan};
 ghost use Rattle.paxos_acceptor.specs.Stores.{HasCause};
 
 use crate::store::{Store, StoreFault};
@@ -62,10 +62,10 @@ impl Store for MemoryStore {
 
     ghost fails_at_will = { Unit {0} };
 
+    ghost loads = { λ old answer new. Loads old new answer };
+
     fn load(&mut self) -> Result<Record, StoreFault>
-        ensures found { IfOk result (λ found. found ≡ self.old.stored) }
-        ensures err { OnErr result (result ≡ Err StoreFault.Memory) }
-        ensures same { self.new ≡ self.old }
+        ensures { Loads self.old self.new result }
     {
         Ok(self.record.clone()?)
     }

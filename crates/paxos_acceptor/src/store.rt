@@ -1,5 +1,5 @@
 //! A place that keeps a record.
-ghost use Rattle.std.specs.Prelude.{◌≡◌, ◌<◌, None, IfOk, OnOk, IsErrOf};
+ghost use Rattle.std.specs.Prelude.{◌≡◌, ◌<◌, None, Result, IfOk, OnOk, IsErrOf};
 ghost use Rattle.paxos_msg.specs.declared.record.Change.TheVariants.{Start};
 ghost use Rattle.paxos_msg.specs.Messages.{IsAscending};
 ghost use Rattle.paxos_msg.specs.Records.{changed};
@@ -39,6 +39,9 @@ impl<T: Drop> From<AllocFailed<T>> for StoreFault {
 
 /// What keeps a record, over restarts too. Of an honest store it is known which record.
 pub trait Store {
+    ghost use Rattle.paxos_msg.specs.Batches.{Record as Kept};
+    ghost use Rattle.paxos_acceptor.specs.declared.store.StoreFault.{StoreFault};
+
     /// The record that a load finds, also after a restart; the fault that the next save is told to have, if any; and how often
     /// the device has failed.
     ghost state: { Self → StoreState };
@@ -50,8 +53,13 @@ pub trait Store {
     /// That the device of such a store fails as `fail_next` told it to, and else not.
     ghost fails_at_will: { Type 0 };
 
+    /// That a load of the first store gives this answer and leaves the second. Only a load shows it. So a promise can name what was loaded
+    /// from any store, honest or not.
+    ghost loads: { Self → Result Kept StoreFault → Self → Type 0 };
+
     /// The record that is stored.
     fn load(&mut self) -> Result<Record, StoreFault>
+        ensures loads { loads self.old result self.new }
         ensures found { honest → IfOk result (λ found. found ≡ (state self.old).stored) }
         ensures same { honest → (state self.new).stored ≡ (state self.old).stored }
         ensures good { honest → ¬ IsErrOf result Bad }

@@ -1,5 +1,6 @@
 //! The calls of a node as events of its group, and that the law of a node is not empty.
-ghost use Rattle.std.specs.Prelude.{◌≡◌, ◌≢◌, [], ℕ, IsSomeAnd, IsTrue, List, None, Some, slice_get};
+ghost use Rattle.std.specs.Prelude.{◌≡◌, ◌≢◌, ◌<◌, [], ℕ, IsSome, IsSomeAnd, IsTrue, length, List, None, Some, slice_get};
+ghost use Rattle.std.specs.FinMap.{get};
 ghost use Rattle.pcode_machine.specs.Configuration.{Configuration};
 ghost use Rattle.pcode_machine.specs.Runs.{begin};
 ghost use Rattle.paxos_msg.specs.declared.record.Change.TheVariants.{Start};
@@ -22,7 +23,8 @@ use paxos_learner::laws::{
     window_holds,
 };
 use paxos_proposer::laws::{
-    begins_backed, parts_keep_it_backed, what_goes_out_fits as proposals_fit,
+    begins_backed, parts_keep_it_backed, proposals_may_be_sent,
+    stays_backed as proposer_stays_backed, what_goes_out_fits as proposals_fit,
 };
 
 /// Each call is an event of the node's group: where what was sent and typed backs the node and it is in its ranges. So is a call whose
@@ -61,13 +63,17 @@ pub fn calls_are_events()
     key_tests_are_exact();
 }
 
-/// The law of a node is not empty: some node is in its ranges, what was sent and typed backs it, and it leads, so that it may propose.
+/// The law of a node is not empty: there is a node in its ranges that is backed by what was sent and typed, and that leads, so that it may
+/// propose. It keeps a reported vote, has offered a key and tallies a place, and a key waits at it.
 pub fn possible()
     ensures { (n : Node) × (sent : Sent) × (typed : List Key) × IsInRange n × Backs sent typed n
-        × IsSomeAnd n.proposer (λ p. IsTrue (is_covered p (next_of p))) }
+        × IsSomeAnd n.proposer (λ p. IsTrue (is_covered p (next_of p)) × (0 < length p.kept))
+        × IsSome (get n.learner.tallies 0) × (0 < length n.offered) × (0 < length n.waiting) }
 {
     begins_backed();
     parts_keep_it_backed();
+    proposals_may_be_sent();
+    proposer_stays_backed();
     proposals_fit();
     learner_stays_backed();
     values_fit();

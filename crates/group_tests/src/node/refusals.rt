@@ -57,6 +57,25 @@ fn outbox_is_full(rt: HostRuntime) -> Result<(), Fail> {
 }
 
 #[test]
+fn outbox_is_ready_after_a_pop(rt: HostRuntime) -> Result<(), Fail> {
+    let program = reading_program(rt.alloc())?;
+    let unlike = fresh(
+        rt.alloc(),
+        &program,
+        &[
+            (Ticks, None),
+            (Ticks, FULL),
+            (Sends(All, &ASK_1), None),
+            (Ticks, None),
+            (Sends(All, &ASK_1), None),
+            (HasSentAll, None),
+        ],
+    )?;
+    assert_eq!(rt; unlike, None);
+    Ok(())
+}
+
+#[test]
 fn most_keys_wait(rt: HostRuntime) -> Result<(), Fail> {
     let program = reading_program(rt.alloc())?;
     let unlike = fresh(

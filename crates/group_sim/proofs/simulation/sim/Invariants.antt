@@ -1,6 +1,14 @@
 use Rattle.std.proofs.Common.{◌≡◌, ◌+◌}
+use Rattle.group_world.specs.Worlds.{begun}
+use Rattle.group_sim.specs.Moments.{AreDone, LineIsDone, first_moment, moment}
 use Rattle.group_sim.proofs.simulation.sim.Given as goal
 
--- the number is that of the line before
+-- the line before has this number, and all up to it were done
 abbrev pub invariant-loop-line : goal.invariant-loop-line
-invariant-loop-line g l = l.number ≡ l.line-index + 1
+invariant-loop-line g l = record {
+  number : l.number ≡ l.line-index + 1;
+  size : l.simulation.size ≡ l.script.size;
+  done : AreDone (LineIsDone l.script.size l.script.lines.items) 2 l.line-index
+      (first_moment (begun l.program (record { size = l.script.size; session = l.script.session })) (g.W.Write.contents l.fn.writer))
+      (moment l.simulation (g.W.Write.contents l.writer));
+}

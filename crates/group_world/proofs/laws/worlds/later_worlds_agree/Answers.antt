@@ -11,9 +11,11 @@ laws c = record {
     ordered = c.events_keep_order.ensures.goes_on;
   };
   step = c.events_keep_it_sound.ensures.step;
-  learned = c.sound_worlds_agree.ensures.learned_chosen;
-  one = c.agreement.ensures.one_value;
-  stays = c.sent_only_grows.ensures.chosen;
+  chosen = record {
+    learned = c.sound_worlds_agree.ensures.learned_chosen;
+    one = c.agreement.ensures.one_value;
+    stays = c.sent_only_grows.ensures.chosen;
+  };
 }
 
 pub returns-clause-learned_stays : goal.returns-clause-learned_stays

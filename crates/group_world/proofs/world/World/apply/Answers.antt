@@ -1,7 +1,10 @@
 use Rattle.std.proofs.lemmas.Result.{IfOk-weaker}
 use Rattle.group_world.specs.Held.{Holds}
 use Rattle.group_world.specs.Events.{plan_of}
+use Rattle.group_world.specs.Worlds.{state_of}
+use Rattle.group_world.proofs.Growing.{Grows}
 use Rattle.group_world.proofs.Happening.{EventLaws, event_holds}
+use Rattle.group_world.proofs.LaterWorlds.{answer_grows, grown_learned}
 use Rattle.group_world.proofs.world.World.apply.Goals as goal
 
 laws : goal.After-apply → EventLaws
@@ -39,6 +42,25 @@ returns-clause-same c = rw (← c.self.view_is) c.apply.ensures.same
 
 pub returns-clause-refused : goal.returns-clause-refused
 returns-clause-refused c = rw (← c.self.view_is) c.apply.ensures.refused
+
+-- the world has grown by it
+grows : (c : goal.After-apply) → Grows (state_of c.self.inside.table) (state_of c.apply.new.self)
+grows c =
+    answer_grows c.self.inside.table c.apply.new.self c.args.event.now.act c.apply.result
+    (IfOk-weaker c.apply.result _ _
+    (λ d goes. c.events_keep_it_sound.ensures.step c.self.inside.table c.apply.new.self (plan_of c.args.event.now.save) c.args.event.now.act d c.self.invariant.sound goes)
+    c.apply.ensures.goes) c.apply.ensures.same
+
+pub returns-clause-learned_stays : goal.returns-clause-learned_stays
+returns-clause-learned_stays c =
+    rw (← c.self.view_is) (grown_learned (record {
+      learned = c.sound_worlds_agree.ensures.learned_chosen;
+      one = c.agreement.ensures.one_value;
+      stays = c.sent_only_grows.ensures.chosen;
+    }) c.self.inside.table c.apply.new.self c.self.invariant.sound (holds c).sound (grows c))
+
+pub returns-clause-consoles_grow : goal.returns-clause-consoles_grow
+returns-clause-consoles_grow c = rw (← c.self.view_is) (grows c).consoles
 
 pub returns-clause-learned_agree : goal.returns-clause-learned_agree
 returns-clause-learned_agree c = c.sound_worlds_agree.ensures.learned_agree c.apply.new.self (holds c).sound

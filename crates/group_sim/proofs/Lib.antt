@@ -1,0 +1,5 @@
+pub mod Writing
+pub mod Parts
+pub mod Turns
+pub mod Lines
+pub mod Halting

@@ -1,0 +1,10 @@
+use Rattle.group_udp.proofs.Consoles.{first_start, later_output, later_start, released_is_output}
+use Rattle.group_udp.proofs.laws.consoles_go_on.Goals as goal
+
+pub returns : goal.returns
+returns c = record {
+  first = first_start;
+  output = λ x q h. released_is_output x q;
+  goes_on = later_start c.output_only_grows.ensures.compared;
+  output_again = λ x y console q same shows h. later_output q.program x y _ _ (later_start c.output_only_grows.ensures.compared x y console q same shows h);
+}

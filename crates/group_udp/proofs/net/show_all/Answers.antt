@@ -1,0 +1,17 @@
+use Rattle.std.proofs.Common.{◌∙◌, ℕ, List, ap}
+use Rattle.group_node.specs.States.{Protocol, input}
+use Rattle.group_udp.specs.Output.{released_of}
+use Rattle.group_udp.proofs.Releasing.{shown_more}
+use Rattle.group_udp.proofs.net.show_all.Goals as goal
+
+pub loop-preserved : goal.loop-preserved
+loop-preserved g c =
+    let same = ap (λ (p : Protocol g.row.S.Denot). input p.rules) c.loop.invariant.protocol in
+    record {
+      gone = shown_more _ _ c.args.member.now.node.progress c.loop.member.node.progress c.show_next.new.member.node.progress c.loop.counter
+          c.args.console.now.bytes c.loop.console.bytes c.show_next.new.console.bytes same c.requires.shows c.loop.invariant.gone
+          c.in_ok-show_next.ensures.one c.in_ok-show_next.ensures.shows;
+      shows = c.in_ok-show_next.ensures.shows ∙ ap (λ (z : List ℕ). released_of z c.show_next.new.member.node.progress) same;
+      protocol = c.in_ok-show_next.ensures.rest.0 ∙ c.loop.invariant.protocol;
+      packets = c.in_ok-show_next.ensures.rest.1 ∙ c.loop.invariant.packets;
+    }

@@ -1,0 +1,16 @@
+use Rattle.std.proofs.Common.{inr}
+use Rattle.std.proofs.lemmas.Result.{err_from_is_err_and}
+use Rattle.group_udp.proofs.Showing.{shown_from, shown_none}
+use Rattle.group_udp.proofs.node.run_over.Goals as goal
+
+pub returns-in_err-member-clause-written : goal.returns-in_err-member-clause-written
+returns-in_err-member-clause-written g c =
+    shown_none _ _ _ _ (λ f. let p = err_from_is_err_and c.from_residual.result c.from_residual.ensures.1 in cc)
+
+pub returns-clause-runs : goal.returns-clause-runs
+returns-clause-runs g c = inr (_, _, c.in_ok-member.ensures.starts, c.campaign_and_play-played.ensures.plays)
+
+pub returns-clause-written : goal.returns-clause-written
+returns-clause-written g c =
+    shown_from _ _ c.in_ok-member.member.node c.campaign_and_play-played.new.member.node _ _ _ c.in_ok-member.ensures.starts.progress
+    c.campaign_and_play-played.ensures.program c.unreleased.ensures.replay c.campaign_and_play-played.ensures.writes

@@ -1,0 +1,6 @@
+pub mod Output
+pub mod Members
+pub mod Refusals
+pub mod Rounds
+pub mod Runs
+pub mod Sources

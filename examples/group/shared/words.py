@@ -1,0 +1,45 @@
+"""What the scripts of this folder share: words of the command line, and the datagram that asks a
+node to campaign."""
+
+import argparse
+import re
+import socket
+
+
+def address_of(text):
+    """An address `a.b.c.d:port` as a pair."""
+    match = re.fullmatch(r"((?:\d{1,3}\.){3}\d{1,3}):(\d{1,5})", text, re.ASCII)
+    numbers = [int(it) for it in match[1].split(".")] if match else []
+    if not match or max(numbers) > 255 or not 1 <= int(match[2]) <= 65535:
+        raise argparse.ArgumentTypeError(f"{text} is no address such as 127.0.0.1:7101")
+    return ".".join(str(it) for it in numbers), int(match[2])
+
+
+def text_of(address):
+    return f"{address[0]}:{address[1]}"
+
+
+def parser_of(text, **more):
+    """A parser whose help is this text. Wrong words end the script with status 2."""
+    about, _, rest = text.partition("\n\n")
+    form = argparse.RawDescriptionHelpFormatter
+    return argparse.ArgumentParser(
+        description=about, epilog=rest, formatter_class=form, allow_abbrev=False, **more
+    )
+
+
+def ask(address, seconds=0.001):
+    """Asks the node whose keys come to this address to campaign: a datagram without bytes types
+    nothing. Whether the machine there answers in this time that nobody has the port."""
+    with socket.socket(socket.AF_INET, socket.SOCK_DGRAM) as sender:
+        # Only a connected socket learns of that.
+        sender.connect(address)
+        sender.send(b"")
+        sender.settimeout(seconds)
+        try:
+            sender.recv(1)
+        except ConnectionRefusedError:
+            return True
+        except socket.timeout:
+            pass
+    return False
