@@ -1,5 +1,5 @@
 -- The rows of a node's table that its proposer answers: Promise, Submit and tick.
-use Rattle.std.specs.Prelude.{ℕ, ◌-◌, nat_lt, ◌&&◌, ◌||◌, not, Bool, List, [], ◌∷◌, ◌++◌, length, take, filter_map, Option, Some, None, is_none, option_map, if◌then◌else◌}
+use Rattle.std.specs.Prelude.{ℕ, ◌-◌, nat_lt, ◌&&◌, ◌||◌, not, Bool, false, List, [], ◌∷◌, ◌++◌, length, take, filter_map, Option, Some, None, is_none, option_map, if◌then◌else◌}
 use Rattle.std.specs.List.{list_all, range_with_len}
 use Rattle.std.specs.Ordering.{nat_cmp}
 use Rattle.std.specs.FinMap.{FinMap, get}
@@ -16,6 +16,15 @@ use Rattle.paxos_learner.specs.Learner.{front_of}
 use Rattle.group_node.specs.Packets.{Packet, to_all, to_one}
 use Rattle.group_node.specs.Node.{Done, Node, front, own_batch, quiet}
 use Rattle.group_node.specs.Pump.{Proposals, accepts_of, offer, pump, stop}
+
+-- the ballot of a node's proposer, if it has one
+abbrev pub own_ballot : Option Proposer → Option Ballot
+own_ballot proposer = option_map (λ p. p.ballot) proposer
+
+-- whether a majority has promised the place at which a node's proposer proposes next
+abbrev pub is_leading : Option Proposer → Bool
+is_leading None = false
+is_leading (Some p) = is_covered p (next_of p)
 
 -- its proposer has made these proposals; their Accepts are sent behind other packets
 abbrev pub proposing_on : Node → List Packet → Proposals → Done

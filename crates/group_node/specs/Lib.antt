@@ -14,3 +14,4 @@ pub mod Player
 pub mod Consoles
 pub mod States
 pub mod Calls
+pub mod Fault

@@ -1,52 +1,77 @@
 //! Why a node refuses a call.
 ghost use Rattle.std.specs.Prelude.{◌≡◌};
 ghost use Rattle.group_node.specs.Calls.{node_fault};
+ghost use Rattle.group_node.specs.Fault.{code_of};
 
 use paxos_acceptor::AcceptorFault;
 use paxos_learner::LearnerFault;
 use std::alloc::AllocError;
-use thiserror::Error;
+use std::error::Error;
+use std::fmt;
 
-/// Why a node refuses a call. Its text is the refusal's code.
-#[derive(Clone, Copy, Debug, PartialEq, Eq, Error)]
+/// Why a node refuses a call. Its text is its code.
+#[derive(Clone, Copy, Debug, PartialEq, Eq)]
 pub enum NodeFault {
     /// There is no memory.
-    #[error("D1")]
     Memory,
     /// The store's device failed.
-    #[error("D2")]
     Store,
     /// The store failed before.
-    #[error("D3")]
     Stopped,
     /// 256 keys wait.
-    #[error("D4")]
     Busy,
     /// The serials of this start are spent.
-    #[error("D5")]
     SerialSpent,
     /// The outbox has too little room.
-    #[error("D6")]
     OutboxFull,
     /// The size is even or above 9.
-    #[error("D7")]
     Size,
     /// The node is 0 or above the size.
-    #[error("D8")]
     Id,
     /// The record is out of its ranges.
-    #[error("D9")]
     BadRecord,
     /// There were 4,294,967,295 starts.
-    #[error("D10")]
     StartsSpent,
     /// The rounds are spent.
-    #[error("D11")]
     RoundsSpent,
     /// All places are learned.
-    #[error("D12")]
     PlacesSpent,
 }
+
+impl NodeFault {
+    /// Returns its code, `D1` to `D12`.
+    pub fn code(self) -> &'static str
+        ensures { result.now ≡ code_of self }
+    {
+        match self {
+            NodeFault::Memory => "D1",
+            NodeFault::Store => "D2",
+            NodeFault::Stopped => "D3",
+            NodeFault::Busy => "D4",
+            NodeFault::SerialSpent => "D5",
+            NodeFault::OutboxFull => "D6",
+            NodeFault::Size => "D7",
+            NodeFault::Id => "D8",
+            NodeFault::BadRecord => "D9",
+            NodeFault::StartsSpent => "D10",
+            NodeFault::RoundsSpent => "D11",
+            NodeFault::PlacesSpent => "D12",
+        }
+    }
+}
+
+impl fmt::Display for NodeFault {
+    ghost use Rattle.std.specs.Prelude.{Some};
+    ghost use Rattle.group_node.specs.Fault.{code_of};
+
+    ghost output = { λ fault. Some (code_of fault) };
+
+    fn fmt<W: fmt::Write>(&self, f: &mut fmt::Formatter<W>) -> fmt::Result {
+        write!(f, "{}", self.code())
+    }
+}
+
+impl Error for NodeFault {}
 
 /// What an acceptor's fault is to its node.
 pub(crate) fn fault_of(fault: AcceptorFault) -> NodeFault

@@ -12,7 +12,7 @@ ghost use Rattle.paxos_learner.specs.Learner.{IsFront};
 ghost use Rattle.paxos_proposer.specs.Proposer.{greatest_round};
 ghost use Rattle.group_node.specs.Calls.{Does, IsLet, IsLetIn, Saves};
 ghost use Rattle.group_node.specs.Delivered.{on_message};
-ghost use Rattle.group_node.specs.Leading.{at_tick};
+ghost use Rattle.group_node.specs.Leading.{at_tick, is_leading, own_ballot};
 ghost use Rattle.group_node.specs.Node.{at_campaign, at_typed, front, new_key, next_serial, started};
 ghost use Rattle.group_node.specs.Output.{IsReplay, no_progress, RunsOn, unreleased_of};
 ghost use Rattle.group_node.specs.Player.{IsExact, progress_of};
@@ -28,7 +28,7 @@ use crate::protocol::{Protocol, StartRefused};
 use crate::waiting::Waiting;
 use paxos_acceptor::{Acceptor, OpenRefused, Store};
 use paxos_learner::laws::{input_grows, learned_stays};
-use paxos_msg::{Record, Value, View};
+use paxos_msg::{Ballot, Record, Value, View};
 use pcode_machine::laws::{run_is_after, same_run_on_longer_input};
 use pcode_ops::Program;
 use std::alloc::{AllocError, Global};
@@ -254,6 +254,33 @@ impl<'a, S: Store> Node<'a, S> {
         ensures stored { S.honest → self.now.protocol.is_stopped ≡ false → (S.state self.now.protocol.store).stored ≡ self.now.protocol.rules.kept }
     {
         self.protocol.record()
+    }
+
+    /// The ballot under which the node asks to lead, or leads: that of its last campaign of this
+    /// start, until it hears that a greater one refused it.
+    pub fn ballot(&self) -> Option<Ballot>
+        ensures { result ≡ own_ballot self.now.protocol.rules.proposer }
+    {
+        let proposer = self.protocol.proposer.as_ref()?;
+        Some(proposer.ballot())
+    }
+
+    /// Whether the node leads: under its ballot a majority has promised the place at which it
+    /// proposes next.
+    pub fn is_leading(&self) -> bool
+        ensures { result ≡ is_leading self.now.protocol.rules.proposer }
+    {
+        match &self.protocol.proposer {
+            Some(proposer) => proposer.is_covered(proposer.next_place()),
+            None => false,
+        }
+    }
+
+    /// The greatest ballot by which the node heard that it was refused, in this start.
+    pub fn refusing_ballot(&self) -> Option<Ballot>
+        ensures { result ≡ self.now.protocol.rules.remembered }
+    {
+        self.protocol.remembered
     }
 
     /// How many typed keys wait, at most 256.

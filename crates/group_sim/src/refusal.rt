@@ -28,24 +28,53 @@ pub enum ScriptRefusal {
 }
 
 impl From<MachineRefusal> for ScriptRefusal {
+    ghost use Rattle.std.specs.Prelude.{◌≡◌};
+    ghost use Rattle.group_sim.specs.declared.refusal.ScriptRefusal.TheVariants.{Machine};
+
+    ghost from_gives = { λ refusal r. r ≡ Machine refusal };
+
     fn from(refusal: MachineRefusal) -> ScriptRefusal {
         ScriptRefusal::Machine(refusal)
     }
 }
 
 impl From<FileError> for ScriptRefusal {
+    ghost use Rattle.std.specs.Prelude.{◌≡◌};
+    ghost use Rattle.machine_run.specs.declared.files.FileError.TheVariants as error;
+    ghost use Rattle.machine_run.specs.declared.refusal.MachineRefusal.TheVariants.{File, Run};
+    ghost use Rattle.machine_run.specs.declared.run.RunIo.TheVariants as run;
+    ghost use Rattle.group_sim.specs.declared.refusal.ScriptRefusal.TheVariants.{Machine};
+
+    ghost from_gives = { λ fault r. (fault ≡ error.Unreadable → r ≡ Machine File)
+        × (fault ≡ error.Memory → r ≡ Machine (Run run.Memory)) };
+
     fn from(error: FileError) -> ScriptRefusal {
         ScriptRefusal::Machine(MachineRefusal::from(error))
     }
 }
 
 impl From<RunIo> for ScriptRefusal {
+    ghost use Rattle.std.specs.Prelude.{◌≡◌};
+    ghost use Rattle.machine_run.specs.declared.refusal.MachineRefusal.TheVariants.{Run};
+    ghost use Rattle.group_sim.specs.declared.refusal.ScriptRefusal.TheVariants.{Machine};
+
+    ghost from_gives = { λ fault r. r ≡ Machine (Run fault) };
+
     fn from(fault: RunIo) -> ScriptRefusal {
         ScriptRefusal::Machine(MachineRefusal::Run(fault))
     }
 }
 
 impl From<ScriptFault> for ScriptRefusal {
+    ghost use Rattle.std.specs.Prelude.{◌≡◌, false, true};
+    ghost use Rattle.group_world.specs.declared.fault.WorldFault.TheVariants.{Memory};
+    ghost use Rattle.group_sim.specs.declared.refusal.LineFault.TheVariants.{Unread, World};
+    ghost use Rattle.group_sim.specs.declared.refusal.ScriptRefusal.TheVariants.{Line};
+
+    ghost from_gives = { λ refused r.
+        (refused.memory ≡ true → r ≡ Line refused.line (World Memory))
+        × (refused.memory ≡ false → r ≡ Line refused.line Unread) };
+
     fn from(refused: ScriptFault) -> ScriptRefusal {
         let line = refused.line;
         let fault = if refused.memory {
@@ -58,6 +87,15 @@ impl From<ScriptFault> for ScriptRefusal {
 }
 
 impl From<Stopped> for ScriptRefusal {
+    ghost use Rattle.std.specs.Prelude.{◌≡◌, None, Some, ℕ};
+    ghost use Rattle.group_world.specs.declared.fault.WorldFault.{WorldFault};
+    ghost use Rattle.group_sim.specs.declared.refusal.LineFault.TheVariants.{TooLong, World};
+    ghost use Rattle.group_sim.specs.declared.refusal.ScriptRefusal.TheVariants.{Line};
+
+    ghost from_gives = { λ stopped r.
+        ((fault : WorldFault) → stopped.fault ≡ Some fault → r ≡ Line stopped.line (World fault))
+        × (stopped.fault ≡ None → r ≡ Line stopped.line TooLong) };
+
     fn from(stopped: Stopped) -> ScriptRefusal {
         let line = stopped.line;
         let fault = match stopped.fault {

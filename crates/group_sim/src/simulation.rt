@@ -3,7 +3,7 @@ ghost use Rattle.std.specs.Prelude.{◌≡◌, ◌↔◌, ◌⊎◌, ℕ, ◌+�
 ghost use Rattle.group_node.specs.States.{IsSize};
 ghost use Rattle.group_world.specs.Worlds.{begun};
 ghost use Rattle.group_sim.specs.Moments.{Delivers, DeliversAll, Happens, InTurn, IsDone, IsHalted, IsNoGroup, Plays, ReleasesAll, Says, Settles, Shows, answer_of, halt_of, is_meant, kept, moment, waiting};
-ghost use Rattle.group_sim.specs.Texts.{code_of, node_at, refusal_text, told};
+ghost use Rattle.group_sim.specs.Texts.{node_at, refusal_text, told};
 ghost use Rattle.group_sim.specs.Writing.{Writes};
 
 use crate::showing::write_group;
@@ -63,33 +63,13 @@ impl From<WriteFault> for Halt {
     }
 }
 
-/// The code of a node's refusal.
-fn code(fault: NodeFault) -> &'static [u8]
-    ensures { result.now ≡ code_of fault }
-{
-    match fault {
-        NodeFault::Memory => b"D1",
-        NodeFault::Store => b"D2",
-        NodeFault::Stopped => b"D3",
-        NodeFault::Busy => b"D4",
-        NodeFault::SerialSpent => b"D5",
-        NodeFault::OutboxFull => b"D6",
-        NodeFault::Size => b"D7",
-        NodeFault::Id => b"D8",
-        NodeFault::BadRecord => b"D9",
-        NodeFault::StartsSpent => b"D10",
-        NodeFault::RoundsSpent => b"D11",
-        NodeFault::PlacesSpent => b"D12",
-    }
-}
-
 /// Writes what a node refused at a line.
 fn write_refusal<W: Write>(writer: &mut W, line: usize, fault: NodeFault) -> Result<(), WriteFault>
     ensures { Writes (W.contents writer.old) result (W.contents writer.new) (refusal_text line fault) }
 {
     put_number(writer, b"line ", line as u64)?;
     put(writer, b" node ")?;
-    put(writer, code(fault))?;
+    put(writer, fault.code().as_bytes())?;
     put(writer, b"\n")
 }
 

@@ -7,6 +7,7 @@ use Rattle.group_node.specs.States.{input}
 use Rattle.group_wire.specs.declared.answers.Turned.{Turned}
 use Rattle.group_udp.specs.declared.ended.Ended.{Ended}
 use Rattle.group_udp.specs.declared.ended.Ended.TheVariants as ended
+use Rattle.group_udp.specs.declared.typed.Pressed.{Pressed}
 use Rattle.group_udp.specs.Members.{HasHeard, HasTurn, HasTyped, NodeAndOutbox}
 use Rattle.group_udp.specs.Output.{Releases, all_released, unseen_of}
 use Rattle.group_udp.specs.Refusals.{write_failed}
@@ -79,22 +80,23 @@ module _ {S : Type 0} (honest at_will : Type 0) (state : S → StoreState) where
       → HasRestedAndTurned honest at_will state busy old new r
   turns_untyped busy old mid new e f r is same h k = rw (is, same) (inr (mid, tt, h, inl k))
 
-  pub turns_refused : (busy : Bool) (old mid ready new : NodeAndOutbox S) (fault : NodeFault)
-      (e : Ended) (r : Result Bool Ended)
+  pub turns_refused : (busy : Bool) (old mid ready new : NodeAndOutbox S) (pressed : Pressed)
+      (fault : NodeFault) (e : Ended) (r : Result Bool Ended)
       → r ≡ Err e → e ≡ ended.Node fault → RestsUnless honest state busy old mid (Ok tt)
-      → HasPressed honest at_will state mid ready (Ok tt)
+      → HasPressed honest at_will state mid ready (Ok pressed)
       → HasTurn honest state ready new None None (Err fault)
       → HasRestedAndTurned honest at_will state busy old new r
-  turns_refused busy old mid ready new fault e r is same h k turn =
-      rw is (inr (mid, tt, h, inr (ready, tt, k, (fault, turn, same))))
+  turns_refused busy old mid ready new pressed fault e r is same h k turn =
+      rw is (inr (mid, tt, h, inr (ready, pressed, k, (fault, turn, same))))
 
-  pub turns_done : (busy then : Bool) (old mid ready new : NodeAndOutbox S) (done : Turned)
+  pub turns_done : (busy then : Bool) (old mid ready new : NodeAndOutbox S) (pressed : Pressed)
+      (done : Turned)
       → then ≡ is_busy_after done.ran
-      → RestsUnless honest state busy old mid (Ok tt) → HasPressed honest at_will state mid ready (Ok tt)
+      → RestsUnless honest state busy old mid (Ok tt) → HasPressed honest at_will state mid ready (Ok pressed)
       → HasTurn honest state ready new None None (Ok done)
       → HasRestedAndTurned honest at_will state busy old new (Ok then)
-  turns_done busy then old mid ready new done same h k turn =
-      (mid, tt, h, (ready, tt, k, (done, turn, same)))
+  turns_done busy then old mid ready new pressed done same h k turn =
+      (mid, tt, h, (ready, pressed, k, (done, turn, same)))
 
   -- ---- a round
 

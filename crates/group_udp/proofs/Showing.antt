@@ -12,7 +12,7 @@ use Rattle.group_node.specs.States.{State, input}
 use Rattle.group_udp.specs.declared.ended.Ended.{Ended}
 use Rattle.group_udp.specs.Output.{Writes, released_by}
 use Rattle.group_udp.specs.Refusals.{IsCampaignRefusal, IsOpenRefusal, IsRefusal, no_memory, write_failed}
-use Rattle.group_udp.specs.Runs.{HasRun, HasRunOverFile, HasShown, filed_state}
+use Rattle.group_udp.specs.Runs.{HasRun, HasRunOverFile, HasShown, filed_loads, filed_state}
 use Rattle.group_udp.proofs.Writing.{no_write}
 
 -- no step was made, and nothing was released
@@ -83,11 +83,11 @@ no_memory_write r e is same = λ f. absurd cc
 pub run_over_file : (me : Me) (program : Parts) (store : Filed) (campaigns : Bool)
     (seen turns : ℕ) (from to : Option (List ℕ))
     (r : Result (Unit {0}) Ended) → store ≡ record { me = me; found = None; faults = 0 }
-    → HasRun ⊥ ⊥ filed_state me program store campaigns seen turns from to r
+    → HasRun ⊥ ⊥ filed_state filed_loads me program store campaigns seen turns from to r
     → HasRunOverFile me program campaigns seen turns from to r
 run_over_file me program store campaigns seen turns from to r is h =
     inr (subst (λ
-    (s : Filed). HasRun ⊥ ⊥ filed_state me program s campaigns seen turns from to r) is h)
+    (s : Filed). HasRun ⊥ ⊥ filed_state filed_loads me program s campaigns seen turns from to r) is h)
 
 -- the same of a node of that number, and of what its writer held
 pub file_run : (me config : Me) (program : Parts) (campaigns : Bool) (seen turns : ℕ)

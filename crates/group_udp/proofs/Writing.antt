@@ -50,6 +50,23 @@ wrote_none seen old new fails c not same = (
   Appends-nil c,
 )
 
+-- what was released so far is written, and no write has failed
+pub wrote_so_far : {S : Type 0} (seen : ℕ) (old new : State S) (fails : Type 0)
+    (c d : Option (List ℕ)) → ¬ fails
+    → (wrote : List ℕ) × (drop seen (released_by new) ≡ drop seen (released_by old) ++ wrote)
+    × Appends c d wrote
+    → (wrote : List ℕ) × Writes seen old new fails wrote × Appends c d wrote
+wrote_so_far seen old new fails c d not (wrote, whole, appends) = (
+  wrote,
+  record {
+    lost = [];
+    whole = whole ∙ sym (append-nil (drop seen (released_by old) ++ wrote));
+    one = λ f. absurd (not f);
+    none = λ _. refl;
+  },
+  appends,
+)
+
 -- bytes were released, of which those that were not seen were written or lost
 wrote_some : {S : Type 0} (seen : ℕ) (old mid new : State S) (gone : List ℕ) → released_by mid ≡ released_by old → IsReplay (input mid.protocol.rules) mid.progress
     → new.protocol ≡ mid.protocol → Releases (input mid.protocol.rules) mid.progress new.progress gone

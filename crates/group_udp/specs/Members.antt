@@ -1,10 +1,11 @@
 -- A node with its outbox, and what its calls leave of both.
-use Rattle.std.specs.Prelude.{◌≡◌, ◌≢◌, ◌⊎◌, ◌↔◌, ◌<◌, ℕ, true, false, List, [], ◌++◌, length, Option, Result, IfErr, IfOk, IsErr, IsErrOf, OnErr, OnOk}
+use Rattle.std.specs.Prelude.{◌≡◌, ◌≢◌, ◌⊎◌, ◌↔◌, ◌<◌, ℕ, true, false, List, [], ◌++◌, length, Option, Result, Ok, Err, IfErr, IfOk, IsErr, IsErrOf, OnErr, OnOk}
 use Rattle.paxos_msg.specs.Batches.{Record}
 use Rattle.paxos_msg.specs.Records.{changed}
 use Rattle.paxos_msg.specs.declared.record.Change.TheVariants.{Start}
 use Rattle.paxos_acceptor.specs.Records.{IsRecord}
-use Rattle.paxos_acceptor.specs.Stores.{HasCause, StoreState}
+use Rattle.paxos_acceptor.specs.Stores.{HasCause, IsOneOf, StoreState}
+use Rattle.paxos_acceptor.specs.declared.store.StoreFault.{StoreFault}
 use Rattle.paxos_acceptor.specs.declared.me.Me.{Me}
 use Rattle.paxos_proposer.specs.Proposer.{greatest_round}
 use Rattle.pcode_file.specs.Parts.{Parts}
@@ -12,9 +13,11 @@ use Rattle.group_node.specs.Calls.{Does, IsLet, IsLetIn, Saves}
 use Rattle.group_node.specs.declared.fault.NodeFault.{NodeFault}
 use Rattle.group_node.specs.declared.fault.NodeFault.TheVariants.{SerialSpent, Stopped, Store}
 use Rattle.group_node.specs.declared.fault.NodeFault.TheVariants as fault
+use Rattle.group_node.specs.declared.protocol.StartRefused.{StartRefused}
 use Rattle.group_node.specs.Node.{at_campaign, front, next_serial, started}
 use Rattle.group_node.specs.Output.{RunsOn, no_progress}
 use Rattle.group_node.specs.Packets.{Datagram}
+use Rattle.group_node.specs.Starting.{StartsAfter}
 use Rattle.group_node.specs.States.{State, input}
 use Rattle.group_wire.specs.declared.answers.Heard.{Heard}
 use Rattle.group_wire.specs.declared.answers.Turned.{Turned}
@@ -77,10 +80,32 @@ pub record HasTyped {S : Type 0} (old new : NodeAndOutbox S) (before after : Lis
   pub progress : new.node.progress ≡ old.node.progress
   pub packets : new.packets ≡ old.packets
 
--- what a start over a store answers: each fact that `Node::start` promises but for those of a store
--- that is given back, and an empty outbox
-pub record HasStarted {S : Type 0} (honest : Type 0) (state : S → StoreState) (me : Me)
-    (program : Parts) (store : S) (result : Result (NodeAndOutbox S) NodeFault) : Type 0 where
+-- the start is refused with this fault
+abbrev pub IsRefusedAs : {S T : Type 0} → Result T (StartRefused S) → NodeFault → Type 0
+IsRefusedAs (Ok x) f = ⊥
+IsRefusedAs (Err e) f = e.fault ≡ f
+
+-- what the start of the node alone answers
+abbrev pub node_started : {S : Type 0} → Result (NodeAndOutbox S) (StartRefused S)
+    → Result (State S) (StartRefused S)
+node_started (Ok m) = Ok m.node
+node_started (Err e) = Err e
+
+-- there was no memory for the outbox, and the store is given back as it was
+abbrev pub LacksOutbox : {S : Type 0} → S → Result (NodeAndOutbox S) (StartRefused S) → Type 0
+LacksOutbox store result = result ≡ Err (record { fault = fault.Memory; store = store })
+
+-- the one load of the store gave this answer and left a store, and the start is over these
+abbrev pub HasLoaded : {S : Type 0} → (S → StoreState) → (S → Result Record StoreFault → S → Type 0)
+    → Me → S → Result (NodeAndOutbox S) (StartRefused S) → Type 0
+HasLoaded {S} state loads me store result = (answer : Result Record StoreFault) × (left : S)
+    × loads store answer left × StartsAfter state me answer left (node_started result)
+
+-- what a start over a store answers: what `Node::start` promises, and an empty outbox
+pub record HasStarted {S : Type 0} (honest : Type 0) (state : S → StoreState)
+    (loads : S → Result Record StoreFault → S → Type 0) (me : Me) (program : Parts) (store : S)
+    (result : Result (NodeAndOutbox S) (StartRefused S)) : Type 0 where
+  pub loaded : LacksOutbox store result ⊎ HasLoaded state loads me store result
   pub begins : IfOk result (λ m. (kept : Record) × (m.node.protocol.rules ≡ (started me kept).node))
   pub rules : honest → IfOk result (λ m. m.node.protocol.rules ≡ (started me (state store).stored).node)
   pub saved : honest → IfOk result (λ m.
@@ -88,13 +113,21 @@ pub record HasStarted {S : Type 0} (honest : Type 0) (state : S → StoreState) 
   pub stops : IfOk result (λ m. m.node.protocol.is_stopped ≡ false)
   pub progress : IfOk result (λ m. m.node.progress ≡ no_progress program)
   pub packets : IfOk result (λ m. m.packets ≡ [])
-  pub bad : honest → IsErrOf result fault.BadRecord → ¬ IsRecord me.group.size (state store).stored
-  pub spent : honest → IsErrOf result fault.StartsSpent → (state store).stored.starts ≡ 4294967295
+  pub bad : honest → IsRefusedAs result fault.BadRecord
+      → ¬ IsRecord me.group.size (state store).stored
+  pub spent : honest → IsRefusedAs result fault.StartsSpent
+      → (state store).stored.starts ≡ 4294967295
   pub fit : honest → OnOk result (IsRecord me.group.size (state store).stored
       × ((state store).stored.starts < 4294967295))
   pub quiet : IfOk result (λ m. (state m.node.protocol.store).faults ≡ (state store).faults)
-  pub others : IfErr result (λ e. (e ≡ fault.Memory) ⊎ (e ≡ Store) ⊎ (e ≡ fault.BadRecord)
-      ⊎ (e ≡ fault.StartsSpent))
+  pub device : honest → IfErr result (λ e. e.fault ≡ Store
+      → IsOneOf (state e.store).stored (state store).stored (changed (state store).stored Start))
+  pub same : honest → IfErr result (λ e. e.fault ≢ Store
+      → (state e.store).stored ≡ (state store).stored)
+  pub cause : IfErr result (λ e.
+      HasCause (e.fault ≡ Store) (state store).faults (state e.store).faults)
+  pub others : IfErr result (λ e. (e.fault ≡ fault.Memory) ⊎ (e.fault ≡ Store)
+      ⊎ (e.fault ≡ fault.BadRecord) ⊎ (e.fault ≡ fault.StartsSpent))
 
 -- the greatest round that a node knows of
 abbrev pub round_of : {S : Type 0} → State S → ℕ

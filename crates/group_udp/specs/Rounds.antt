@@ -1,5 +1,5 @@
 -- What a node on UDP does from its start on: it may campaign, and then it has its rounds.
-use Rattle.std.specs.Prelude.{◌≡◌, ◌⊎◌, ℕ, zero, suc, ◌+◌, ◌-◌, ◌<◌, ◌≤◌, Bool, true, false, List, [], ◌∷◌, ◌++◌, drop, length, Option, None, Result, Ok, Err, IsErrOf}
+use Rattle.std.specs.Prelude.{◌≡◌, ◌≢◌, ◌⊎◌, ℕ, zero, suc, ◌+◌, ◌-◌, ◌<◌, ◌≤◌, Bool, true, false, List, [], ◌∷◌, ◌++◌, drop, length, Option, None, Result, Ok, Err, IsErrOf}
 use Rattle.std.specs.Io.KnownBytes.{Appends}
 use Rattle.paxos_acceptor.specs.Stores.{StoreState}
 use Rattle.group_node.specs.declared.fault.NodeFault.{NodeFault}
@@ -11,6 +11,8 @@ use Rattle.group_wire.specs.declared.answers.Heard.{Heard}
 use Rattle.group_wire.specs.declared.answers.Turned.{Turned}
 use Rattle.group_udp.specs.declared.ended.Ended.{Ended}
 use Rattle.group_udp.specs.declared.ended.Ended.TheVariants as ended
+use Rattle.group_udp.specs.declared.typed.Pressed.{Pressed}
+use Rattle.group_udp.specs.declared.typed.Pressed.TheVariants.{Typed, Campaigned, CampaignRefused}
 use Rattle.group_udp.specs.Members.{HasCampaigned, HasHeard, HasTurn, HasTyped, NodeAndOutbox}
 use Rattle.group_udp.specs.Output.{Releases, all_released, unseen_of}
 use Rattle.group_udp.specs.Refusals.{no_memory, write_failed}
@@ -56,31 +58,35 @@ abbrev pub RestsUnless : {S : Type 0} → Type 0 → (S → StoreState) → Bool
 RestsUnless honest state true old new result = (new ≡ old) × (result ≡ Ok tt)
 RestsUnless honest state false old new result = HasRested honest state old new result
 
--- what comes of a campaign that was asked for, by what `campaign` answers: a stopped node and a
--- failed save end the node, and nothing else does
-pub record EndsAsAsked (answer : Result (Unit {0}) NodeFault) (result : Result (Unit {0}) Ended)
-    : Type 0 where
-  pub stopped : IsErrOf answer Stopped → result ≡ Err (ended.Node Stopped)
-  pub store : IsErrOf answer Store → result ≡ Err (ended.Node Store)
-  pub others : ¬ IsErrOf answer Stopped → ¬ IsErrOf answer Store → result ≡ Ok tt
-
--- a campaign that was asked for
-abbrev pub HasCampaignedAsAsked : {S : Type 0} → Type 0 → Type 0 → (S → StoreState)
-    → Call (NodeAndOutbox S) (Unit {0})
-HasCampaignedAsAsked honest at_will state old new result = (answer : Result (Unit {0}) NodeFault)
-    × HasCampaigned honest at_will state old new answer × EndsAsAsked answer result
-
 -- typing: some bytes, or none
 abbrev pub HasTypedSome : {S : Type 0} → Call (NodeAndOutbox S) (Unit {0})
 HasTypedSome old new (Ok x) = (before after : List ℕ) × HasTyped old new before after (Ok tt)
 HasTypedSome old new (Err e) =
     (before after : List ℕ) × (fault : NodeFault) × HasTyped old new before after (Err fault) × (e ≡ ended.Node fault)
 
--- before a turn: typing, or a campaign that was asked for
+-- A campaign that was asked for, and what is answered of it. Only a stopped node and a failed save
+-- end the node.
+abbrev pub HasCampaignedAsAsked : {S : Type 0} → Type 0 → Type 0 → (S → StoreState)
+    → Call (NodeAndOutbox S) Pressed
+HasCampaignedAsAsked honest at_will state old new (Ok Typed) = ⊥
+HasCampaignedAsAsked honest at_will state old new (Ok Campaigned) =
+    HasCampaigned honest at_will state old new (Ok tt)
+HasCampaignedAsAsked honest at_will state old new (Ok (CampaignRefused f)) =
+    HasCampaigned honest at_will state old new (Err f) × (f ≢ Stopped) × (f ≢ Store)
+HasCampaignedAsAsked honest at_will state old new (Err e) =
+    (fault : NodeFault) × HasCampaigned honest at_will state old new (Err fault)
+    × ((fault ≡ Stopped) ⊎ (fault ≡ Store)) × (e ≡ ended.Node fault)
+
+-- before a turn: typing, or a campaign that was asked for, as the answer says
 abbrev pub HasPressed : {S : Type 0} → Type 0 → Type 0 → (S → StoreState)
-    → Call (NodeAndOutbox S) (Unit {0})
-HasPressed honest at_will state old new result =
-    HasTypedSome old new result ⊎ HasCampaignedAsAsked honest at_will state old new result
+    → Call (NodeAndOutbox S) Pressed
+HasPressed honest at_will state old new (Ok Typed) = HasTypedSome old new (Ok tt)
+HasPressed honest at_will state old new (Ok Campaigned) =
+    HasCampaignedAsAsked honest at_will state old new (Ok Campaigned)
+HasPressed honest at_will state old new (Ok (CampaignRefused f)) =
+    HasCampaignedAsAsked honest at_will state old new (Ok (CampaignRefused f))
+HasPressed honest at_will state old new (Err e) =
+    HasTypedSome old new (Err e) ⊎ HasCampaignedAsAsked honest at_will state old new (Err e)
 
 -- after such a run a node is busy: its machine has neither come to its end nor waits for a key
 abbrev pub is_busy_after : Ran → Bool

@@ -2,11 +2,13 @@
 use Rattle.std.specs.Prelude.{◌≡◌, ◌⊎◌, ℕ, Bool, List, [], ◌++◌, length, Option, None, Result, Ok, Err}
 use Rattle.std.specs.Io.KnownBytes.{Appends}
 use Rattle.paxos_acceptor.specs.declared.me.Me.{Me}
-use Rattle.paxos_acceptor.specs.Files.{Filed}
+use Rattle.paxos_acceptor.specs.declared.store.StoreFault.{StoreFault}
+use Rattle.paxos_acceptor.specs.Files.{Filed, Finds}
 use Rattle.paxos_acceptor.specs.Stores.{StoreState}
+use Rattle.paxos_msg.specs.Batches.{Record}
 use Rattle.paxos_msg.specs.Records.{empty_record}
 use Rattle.pcode_file.specs.Parts.{Parts}
-use Rattle.group_node.specs.declared.fault.NodeFault.{NodeFault}
+use Rattle.group_node.specs.declared.protocol.StartRefused.{StartRefused}
 use Rattle.group_node.specs.Output.{IsReplay, Progress}
 use Rattle.group_udp.specs.declared.ended.Ended.{Ended}
 use Rattle.group_udp.specs.declared.ended.Ended.TheVariants as ended
@@ -16,22 +18,20 @@ use Rattle.group_udp.specs.Refusals.{IsOpenRefusal}
 use Rattle.group_udp.specs.Rounds.{HasCampaignedAndPlayed}
 
 -- A run of a node over a store, and what its writer held and holds: its start is refused, and
--- nothing
--- is written; or it starts, campaigns if it is to, and has its rounds.
-abbrev pub HasRun : {S : Type 0} → Type 0 → Type 0 → (S → StoreState) → Me → Parts → S → Bool → ℕ
-    → ℕ
+-- nothing is written; or it starts, campaigns if it is to, and has its rounds.
+abbrev pub HasRun : {S : Type 0} → Type 0 → Type 0 → (S → StoreState)
+    → (S → Result Record StoreFault → S → Type 0) → Me → Parts → S → Bool → ℕ → ℕ
     → Option (List ℕ) → Option (List ℕ) → Result (Unit {0}) Ended → Type 0
-HasRun {S} honest at_will state me program store campaigns seen turns from to result =
-    ((fault : NodeFault) × HasStarted honest state me program store (Err fault)
-    × (to ≡ from) × (result ≡ Err (ended.Node fault)))
-    ⊎ ((first last : NodeAndOutbox S) × HasStarted honest state me program store (Ok first)
+HasRun {S} honest at_will state loads me program store campaigns seen turns from to result =
+    ((refused : StartRefused S) × HasStarted honest state loads me program store (Err refused)
+    × (to ≡ from) × (result ≡ Err (ended.Node refused.fault)))
+    ⊎ ((first last : NodeAndOutbox S) × HasStarted honest state loads me program store (Ok first)
     × HasCampaignedAndPlayed honest at_will state campaigns seen turns
     (record { member = first; written = from }) (record { member = last; written = to }) result)
 
 -- What was written is output of this program from its beginning on, on some learned input: the
--- bytes
--- that were released, but for those with a number below `seen`. Where a write failed, the last of
--- them is lost.
+-- bytes that were released, but for those with a number below `seen`. Where a write failed, the
+-- last of them is lost.
 pub record HasShown (program : Parts) (seen : ℕ) (fails : Type 0)
     (from to : Option (List ℕ)) : Type 0 where
   pub input : List ℕ
@@ -50,12 +50,15 @@ pub record HasShown (program : Parts) (seen : ℕ) (fails : Type 0)
 abbrev pub filed_state : Filed → StoreState
 filed_state s = record { stored = empty_record; plan = None; faults = s.faults }
 
--- A run of a node over a file, of which nothing is known but the node; or it does not begin, since
--- a
--- socket or memory is wanting.
+-- what a load of a store in a file gives, and leaves
+abbrev pub filed_loads : Filed → Result Record StoreFault → Filed → Type 0
+filed_loads old answer new = Finds old new answer
+
+-- A run of a node over a file, of which nothing is known but the node; or it does not begin, as a
+-- socket or memory is missing.
 abbrev pub HasRunOverFile : Me → Parts → Bool → ℕ → ℕ → Option (List ℕ) → Option (List ℕ)
     → Result (Unit {0}) Ended → Type 0
 HasRunOverFile me program campaigns seen turns from to result =
     ((e : Ended) × IsOpenRefusal e × (to ≡ from) × (result ≡ Err e))
-    ⊎ HasRun ⊥ ⊥ filed_state me program (record { me = me; found = None; faults = 0 })
+    ⊎ HasRun ⊥ ⊥ filed_state filed_loads me program (record { me = me; found = None; faults = 0 })
     campaigns seen turns from to result

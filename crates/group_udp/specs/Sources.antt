@@ -1,6 +1,10 @@
 -- Where a datagram came from, and whom it names.
-use Rattle.std.specs.Prelude.{◌≡◌, ℕ, suc, List, Some, slice_get}
+use Rattle.std.specs.Prelude.{◌≡◌, ℕ, suc, Bool, true, false, List, Option, Some, None, slice_get}
 use Rattle.std.specs.declared.net.socket_addr.SocketAddr.{SocketAddr}
+use Rattle.paxos_msg.specs.declared.message.Group.{Group}
+use Rattle.group_log.specs.Drops.{reason_of}
+use Rattle.group_log.specs.declared.drops.DropReason.{DropReason}
+use Rattle.group_log.specs.declared.drops.DropReason.TheVariants.{Source}
 
 -- at which index of a datagram the number of its sender is
 abbrev pub sender_index : ℕ
@@ -13,3 +17,13 @@ pub record IsFromSender (addresses : List SocketAddr) (source : SocketAddr) (byt
   pub index : ℕ
   pub named : slice_get bytes sender_index ≡ Some (suc index)
   pub address : slice_get addresses index ≡ Some source
+
+-- the reason that reading gives, or else, of a datagram from elsewhere, its source
+abbrev pub or_source : Option DropReason → Bool → Option DropReason
+or_source (Some reason) is_from_sender = Some reason
+or_source None true = None
+or_source None false = Some Source
+
+-- why a node of the group drops these bytes, which may come from the sender that they name or not
+abbrev pub drop_of : Group → Bool → List ℕ → Option DropReason
+drop_of g is_from_sender bytes = or_source (reason_of g bytes) is_from_sender

@@ -1,5 +1,6 @@
 //! Why a group or a node on UDP ends early.
-use group_node::NodeFault;
+use group_log::End;
+use group_node::{NodeFault, StartRefused};
 use machine_run::{MachineRefusal, RunIo};
 use std::alloc::{AllocError, AllocFailed};
 use thiserror::Error;
@@ -52,6 +53,17 @@ impl From<NodeFault> for Ended {
     }
 }
 
+impl<S: Drop> From<StartRefused<S>> for Ended {
+    ghost use Rattle.std.specs.Prelude.{◌≡◌};
+    ghost use Rattle.group_udp.specs.declared.ended.Ended.TheVariants as ended;
+
+    ghost from_gives = { λ refused e. e ≡ ended.Node refused.fault };
+
+    fn from(refused: StartRefused<S>) -> Ended {
+        Ended::Node(refused.fault)
+    }
+}
+
 impl From<AllocError> for Ended {
     ghost use Rattle.std.specs.Prelude.{◌≡◌};
     ghost use Rattle.group_udp.specs.Refusals.{no_memory};
@@ -71,5 +83,14 @@ impl<T: Drop> From<AllocFailed<T>> for Ended {
 
     fn from(_: AllocFailed<T>) -> Ended {
         Ended::from(RunIo::Memory)
+    }
+}
+
+/// Returns how a run was over, for the log.
+pub fn end_of(done: &Result<(), Ended>) -> End {
+    match done {
+        Ok(()) => End::Turns,
+        Err(Ended::Node(fault)) => End::Node(*fault),
+        Err(Ended::Socket | Ended::Machine(_)) => End::Other,
     }
 }

@@ -7,7 +7,7 @@ ghost use Rattle.group_node.specs.States.{input};
 ghost use Rattle.group_udp.specs.Members.{HasCampaigned, HasHeard, HasStarted, HasTurn, HasTyped};
 ghost use Rattle.group_udp.specs.Output.{released_by};
 
-use group_node::{Config, Node, NodeFault, Outbox};
+use group_node::{Config, Node, NodeFault, Outbox, StartRefused};
 use group_wire::{Heard, Turned, Wire, hear, press_some, turn};
 use paxos_acceptor::Store;
 use paxos_learner::laws::{input_grows, learned_stays};
@@ -51,27 +51,37 @@ impl<'a, S: Store> Model for Member<'a, S> {
 }
 
 impl<'a, S: Store + Drop> Member<'a, S> {
-    /// The node starts over what its store has, with an empty outbox, or refuses it, as
-    /// `Node::start` says. `Memory` also where there is no memory for the outbox, of which no
-    /// packet has its bytes yet.
+    /// Starts the node over what its store has, with an empty outbox, or refuses it, as
+    /// `Node::start` says. A refusal gives the store back. `Memory` also where there is no memory
+    /// for the outbox: then nothing was loaded.
     pub fn start(
         alloc: Global,
         program: &'a Program,
         config: Config,
         store: S,
-    ) -> Result<Member<'a, S>, NodeFault>
-        ensures starts { HasStarted S.honest S.state config program.now store result }
+    ) -> Result<Member<'a, S>, StartRefused<S>>
+        ensures starts { HasStarted S.honest S.state S.loads config program.now store result }
     {
         let group = config.me().group;
-        let outbox = Outbox::new(alloc)?;
+        let Ok(outbox) = Outbox::new(alloc) else {
+            let fault = NodeFault::Memory;
+            return Err(StartRefused { fault, store });
+        };
         match Node::start(alloc, program, config, store) {
             Ok(node) => Ok(Member {
                 node,
                 outbox,
                 group,
             }),
-            Err(refused) => Err(refused.fault),
+            Err(refused) => Err(refused),
         }
+    }
+
+    /// Returns the node.
+    pub fn node(&self) -> &Node<'a, S>
+        ensures { result.now ≡ self.now.node }
+    {
+        &self.node
     }
 
     /// Types bytes, as many as there is room for, and takes them off the front.

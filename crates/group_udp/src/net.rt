@@ -171,7 +171,7 @@ fn wires<'a, H: Net + Clock + AllocGlobal>(
 {
     let mut wires = Vec::new(rt.alloc());
     for socket in sockets {
-        wires.push(UdpWire::new(rt, socket, Watch::new(rt)?, addresses)?)?;
+        wires.push(UdpWire::new(rt, socket, Watch::new(rt)?, addresses, None)?)?;
     }
     Ok(wires)
 }

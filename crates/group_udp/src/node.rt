@@ -10,13 +10,17 @@ ghost use Rattle.group_udp.specs.Refusals.{IsCampaignRefusal, IsOpenRefusal, IsR
 ghost use Rattle.group_udp.specs.Rounds.{CampaignsIf, HasCampaignedAndPlayed, HasPlayed, HasRested, HasRestedAndTurned, IsRound, RestsUnless, is_busy_after};
 ghost use Rattle.group_udp.specs.Runs.{HasRun, HasRunOverFile, HasShown};
 
-use crate::ended::Ended;
+use crate::ended::{Ended, end_of};
 use crate::member::Member;
-use crate::typed::Typed;
+use crate::typed::{Pressed, Typed};
 use crate::udp::{UdpWire, Watch, bind};
+use group_log::{Log, Note};
 use group_node::{Config, NodeFault, Ran};
 use group_wire::Heard;
-use machine_run::{ByteWriter, CountingWriter, RunIo, WriteFault, load_file, read_input};
+use machine_run::{
+    ByteWriter, CountingWriter, MachineRefusal, RunIo, WriteFault, load_file, read_input,
+};
+use mio::net::UdpSocket;
 use paxos_acceptor::{FileStore, Store};
 use paxos_msg::Group;
 use pcode_ops::Program;
@@ -45,6 +49,8 @@ pub struct NodePlan<'a> {
     pub campaigns: bool,
     /// Where datagrams of typed bytes come, if not from the standard input.
     pub keys: Option<SocketAddr>,
+    /// Whether the node says what it does, a line for each note, on standard error.
+    pub is_logged: bool,
 }
 
 /// Writes a released byte, unless it was seen before.
@@ -100,38 +106,80 @@ struct Sources<'a, H> {
 
 impl<'a, H: Net + Clock + AllocGlobal> Sources<'a, H> {
     /// Opens the sockets that the plan names. The text is typed where no datagrams bring bytes.
-    fn open(rt: &'a H, plan: &NodePlan<'a>, text: &'a [u8]) -> Result<Sources<'a, H>, Ended>
+    fn open<E: Write>(
+        rt: &'a H,
+        plan: &NodePlan<'a>,
+        text: &'a [u8],
+        log: &mut Log<'_, H, E>,
+    ) -> Result<Sources<'a, H>, Ended>
         ensures others { IfErr result (λ e. IsOpenRefusal e) }
     {
         let watch = Watch::new(rt)?;
-        let typed = typed_of(rt, plan, text, &watch)?;
-        let wire = own_wire(rt, plan, watch)?;
+        let typed = typed_of(rt, plan, text, &watch, log)?;
+        let wire = own_wire(rt, plan, watch, log)?;
         Ok(Sources { wire, typed })
     }
 }
 
+impl<H: Clock> Sources<'_, H> {
+    /// Notes what came of a call that typed or campaigned, and that bytes are left for want of room.
+    fn note_pressed<S: Store + Drop, E: Write>(
+        &self,
+        member: &Member<'_, S>,
+        pressed: Pressed,
+        log: &mut Log<'_, H, E>,
+    ) {
+        if !log.is_on() {
+            return;
+        }
+        if let Pressed::CampaignRefused(fault) = pressed {
+            log.note(&Note::CampaignRefused(fault));
+        }
+        log.look(member.node());
+        let waiting = member.waiting();
+        log.full(waiting, self.typed.is_left(waiting));
+    }
+}
+
+/// Binds a socket to the address; a refusal is noted.
+fn bind_noted<H: Net + Clock, E: Write>(
+    rt: &H,
+    address: SocketAddr,
+    log: &mut Log<'_, H, E>,
+) -> Result<UdpSocket, Ended>
+    ensures others { IfErr result (λ e. e ≡ Ended.Socket) }
+{
+    let bound = bind(rt, address);
+    if bound.is_err() {
+        log.note(&Note::NoSocket(address));
+    }
+    bound
+}
+
 /// What is typed: the datagrams at the address of the plan, which are watched, or else the text.
-fn typed_of<'a, H: Net>(
+fn typed_of<'a, H: Net + Clock, E: Write>(
     rt: &H,
     plan: &NodePlan<'_>,
     text: &'a [u8],
     watch: &Watch,
+    log: &mut Log<'_, H, E>,
 ) -> Result<Typed<'a>, Ended>
     ensures others { IfErr result (λ e. e ≡ Ended.Socket) }
 {
     let Some(address) = plan.keys else {
         return Ok(Typed::Text(text));
     };
-    let mut socket = bind(rt, address)?;
+    let mut socket = bind_noted(rt, address, log)?;
     watch.add_typed(&mut socket)?;
     Ok(Typed::Datagrams(socket))
 }
 
 /// The wire of the node, on the socket of its address. Typed bytes end its waiting too.
-fn own_wire<'a, H: Net + Clock>(
+fn own_wire<'a, H: Net + Clock, E: Write>(
     rt: &'a H,
     plan: &NodePlan<'a>,
     watch: Watch,
+    log: &mut Log<'_, H, E>,
 ) -> Result<UdpWire<'a, H>, Ended>
     ensures others { IfErr result (λ e. e ≡ Ended.Socket) }
 {
@@ -139,7 +187,9 @@ fn own_wire<'a, H: Net + Clock>(
     let Some(address) = plan.addresses.get(index) else {
         return Err(Ended::Socket);
     };
-    UdpWire::new(rt, bind(rt, *address)?, watch, plan.addresses)
+    let socket = bind_noted(rt, *address, log)?;
+    let counted = if log.is_on() { Some(plan.group) } else { None };
+    UdpWire::new(rt, socket, watch, plan.addresses, counted)
 }
 
 /// A node that has nothing to do hears what comes, until a place has become known, bytes were typed, or 10 milliseconds are over. What a
@@ -201,10 +251,11 @@ fn is_busy_after(ran: Ran) -> bool
 
 /// A node rests, unless it is busy; bytes are typed at it, and it has a turn. Whether it is busy
 /// then. What was released before stays as it is.
-fn rest_and_turn<H: Clock, S: Store + Drop>(
+fn rest_and_turn<H: Clock, S: Store + Drop, E: Write>(
     member: &mut Member<'_, S>,
     sources: &mut Sources<'_, H>,
     is_busy: bool,
+    log: &mut Log<'_, H, E>,
 ) -> Result<bool, Ended>
     ensures turns { HasRestedAndTurned S.honest S.fails_at_will S.state is_busy member.old member.new result }
     ensures program { member.new.node.progress.program ≡ member.old.node.progress.program }
@@ -212,18 +263,23 @@ fn rest_and_turn<H: Clock, S: Store + Drop>(
     ensures others { IfErr result (λ e. IsRefusal e) }
 {
     rest_unless_busy(member, sources, is_busy)?;
-    sources.typed.press(member)?;
+    log.look(member.node());
+    let pressed = sources.typed.press(member)?;
+    sources.note_pressed(member, pressed, log);
     let turned = member.turn(&mut sources.wire)?;
+    log.look(member.node());
+    log.dropped(&mut sources.wire.drops);
     Ok(is_busy_after(turned.ran))
 }
 
 /// A round of a node: a turn, and then all output is released. Whether the node is busy.
-fn round<H: Clock, S: Store + Drop, W: ByteWriter>(
+fn round<H: Clock, S: Store + Drop, W: ByteWriter, E: Write>(
     member: &mut Member<'_, S>,
     seen: u64,
     sources: &mut Sources<'_, H>,
     is_busy: bool,
     writer: &mut W,
+    log: &mut Log<'_, H, E>,
 ) -> Result<bool, Ended>
     ensures round { IsRound S.honest S.fails_at_will S.state seen is_busy
         (record { member = member.old; written = W.contents writer.old })
@@ -234,7 +290,7 @@ fn round<H: Clock, S: Store + Drop, W: ByteWriter>(
     ensures none_waits { OnOk result (unreleased_of (input member.new.node.protocol.rules) member.new.node.progress ≡ []) }
     ensures others { IfErr result (λ e. IsRefusal e ⊎ (e ≡ write_failed)) }
 {
-    let more = rest_and_turn(member, sources, is_busy)?;
+    let more = rest_and_turn(member, sources, is_busy, log)?;
     // The machine is where a replay from the start is.
     member.unreleased();
     release_all(member, seen, writer)?;
@@ -244,11 +300,12 @@ fn round<H: Clock, S: Store + Drop, W: ByteWriter>(
 /// The turns of a node, as many as the plan says, each in a round, up to the first refusal. Over
 /// all rounds the bytes that were released are written, but for those that were seen; where a write
 /// fails, the last one is lost.
-fn play<H: Clock, S: Store + Drop, W: ByteWriter>(
+fn play<H: Clock, S: Store + Drop, W: ByteWriter, E: Write>(
     member: &mut Member<'_, S>,
     plan: &NodePlan<'_>,
     sources: &mut Sources<'_, H>,
     writer: &mut W,
+    log: &mut Log<'_, H, E>,
 ) -> Result<(), Ended>
     ensures plays { HasPlayed S.honest S.fails_at_will S.state plan.now.seen plan.now.turns
         (record { member = member.old; written = W.contents writer.old })
@@ -260,7 +317,7 @@ fn play<H: Clock, S: Store + Drop, W: ByteWriter>(
 {
     let mut is_busy = true;
     for _ in 0..plan.turns {
-        is_busy = round(member, plan.seen, sources, is_busy, writer)?;
+        is_busy = round(member, plan.seen, sources, is_busy, writer, log)?;
     }
     Ok(())
 }
@@ -281,11 +338,12 @@ fn campaign_if<S: Store + Drop>(member: &mut Member<'_, S>, is_asked: bool) -> R
 
 /// The node campaigns, if it is to, and then has its turns. A campaign that is refused ends it, and
 /// nothing is written.
-fn campaign_and_play<H: Clock, S: Store + Drop, W: ByteWriter>(
+fn campaign_and_play<H: Clock, S: Store + Drop, W: ByteWriter, E: Write>(
     member: &mut Member<'_, S>,
     plan: &NodePlan<'_>,
     sources: &mut Sources<'_, H>,
     writer: &mut W,
+    log: &mut Log<'_, H, E>,
 ) -> Result<(), Ended>
     ensures plays { HasCampaignedAndPlayed S.honest S.fails_at_will S.state plan.now.campaigns plan.now.seen plan.now.turns
         (record { member = member.old; written = W.contents writer.old })
@@ -296,13 +354,13 @@ fn campaign_and_play<H: Clock, S: Store + Drop, W: ByteWriter>(
     ensures others { IfErr result (λ e. IsRefusal e ⊎ (e ≡ write_failed) ⊎ IsCampaignRefusal e) }
 {
     campaign_if(member, plan.campaigns)?;
-    play(member, plan, sources, writer)
+    play(member, plan, sources, writer, log)
 }
 
 /// Runs one node over a store. A start that is refused ends it, and nothing is written. Over the
 /// whole run those bytes of its released output are written whose number is not below the plan's
 /// `seen`; where a write fails, the last of them is lost.
-fn run_over<H: Clock, S: Store + Drop, W: ByteWriter>(
+fn run_over<H: Clock, S: Store + Drop, W: ByteWriter, E: Write>(
     alloc: Global,
     program: &Program,
     config: Config,
@@ -310,15 +368,17 @@ fn run_over<H: Clock, S: Store + Drop, W: ByteWriter>(
     plan: &NodePlan<'_>,
     sources: &mut Sources<'_, H>,
     writer: &mut W,
+    log: &mut Log<'_, H, E>,
 ) -> Result<(), Ended>
-    ensures runs { HasRun S.honest S.fails_at_will S.state config program.now store plan.now.campaigns plan.now.seen plan.now.turns
+    ensures runs { HasRun S.honest S.fails_at_will S.state S.loads config program.now store plan.now.campaigns plan.now.seen plan.now.turns
         (W.contents writer.old) (W.contents writer.new) result }
     ensures written { HasShown program.now plan.now.seen (IsErrOf result write_failed)
         (W.contents writer.old) (W.contents writer.new) }
     ensures others { IfErr result (λ e. IsRunRefusal e) }
 {
     let mut member = Member::start(alloc, program, config, store)?;
-    let played = campaign_and_play(&mut member, plan, sources, writer);
+    log.started(member.node(), plan.group);
+    let played = campaign_and_play(&mut member, plan, sources, writer, log);
     // The machine is where a replay from the start is.
     member.unreleased();
     played
@@ -326,13 +386,14 @@ fn run_over<H: Clock, S: Store + Drop, W: ByteWriter>(
 
 /// Runs one node over the record of its file, for as many turns as the plan says. It types the
 /// text, unless typed bytes come as datagrams. It ends at the node's first refusal.
-fn node<H: Files + Net + Clock + AllocGlobal + Copy + Drop, W: ByteWriter>(
+fn node<H: Files + Net + Clock + AllocGlobal + Copy + Drop, W: ByteWriter, E: Write>(
     rt: &H,
     program: &Program,
     config: Config,
     plan: &NodePlan<'_>,
     text: &[u8],
     writer: &mut W,
+    log: &mut Log<'_, H, E>,
 ) -> Result<(), Ended>
     ensures runs { HasRunOverFile config program.now plan.now.campaigns plan.now.seen plan.now.turns
         (W.contents writer.old) (W.contents writer.new) result }
@@ -340,7 +401,7 @@ fn node<H: Files + Net + Clock + AllocGlobal + Copy + Drop, W: ByteWriter>(
         (W.contents writer.old) (W.contents writer.new) }
     ensures others { IfErr result (λ e. IsOpenRefusal e ⊎ IsRunRefusal e) }
 {
-    let mut sources = Sources::open(rt, plan, text)?;
+    let mut sources = Sources::open(rt, plan, text, log)?;
     let store = FileStore::new(*rt, plan.record, config.me())?;
     run_over(
         rt.alloc(),
@@ -350,6 +411,53 @@ fn node<H: Files + Net + Clock + AllocGlobal + Copy + Drop, W: ByteWriter>(
         plan,
         &mut sources,
         writer,
+        log,
+    )
+}
+
+/// Loads the program of a code file; that the file cannot be read is noted.
+fn load_noted<H: Files + Clock + AllocGlobal, E: Write>(
+    rt: &H,
+    file: &str,
+    log: &mut Log<'_, H, E>,
+) -> Result<Program, MachineRefusal> {
+    let loaded = load_file(rt, file);
+    if let Err(MachineRefusal::File) = &loaded {
+        log.note(&Note::NoFile(file));
+    }
+    loaded
+}
+
+/// Runs the program of a code file at one node, as `node_file` says.
+fn node_noted<H: Files + Net + Clock + AllocGlobal + Copy + Drop, R: Read, W: Write, E: Write>(
+    rt: &H,
+    file: &str,
+    plan: &NodePlan<'_>,
+    reader: &mut R,
+    writer: &mut W,
+    log: &mut Log<'_, H, E>,
+) -> Result<(), Ended>
+    ensures runs { ((program : Parts) × (now : Option (List ℕ))
+        × HasRunOverFile (record { node = plan.now.node; group = plan.now.group })
+        program plan.now.campaigns plan.now.seen plan.now.turns (W.contents writer.old) now result
+        × HasShown program plan.now.seen (IsErrOf result write_failed) (W.contents writer.old) now)
+        ⊎ (IsErr result × (W.contents writer.new ≡ W.contents writer.old)) }
+{
+    let program = load_noted(rt, file, log)?;
+    let config = Config::new(plan.node, plan.group.size, plan.group.session)?;
+    let input = match plan.keys {
+        None => read_input(rt.alloc(), reader)?,
+        Some(_) => Vec::new(rt.alloc()),
+    };
+    let mut writer = CountingWriter::new(writer);
+    node(
+        rt,
+        &program,
+        config,
+        plan,
+        input.as_slice(),
+        &mut writer,
+        log,
     )
 }
 
@@ -358,12 +466,15 @@ fn node<H: Files + Net + Clock + AllocGlobal + Copy + Drop, W: ByteWriter>(
 /// datagrams. Where one of the three is refused nothing is written. What the writer holds after a
 /// run is known of the wrapper that counts its faults: a contract can't say that a call over any
 /// `ByteWriter` leaves the same `&mut` in it.
-pub fn node_file<H: Files + Net + Clock + AllocGlobal + Copy + Drop, R: Read, W: Write>(
+///
+/// `errors` gets the notes of the node, where the plan asks for a log.
+pub fn node_file<H: Files + Net + Clock + AllocGlobal + Copy + Drop, R: Read, W: Write, E: Write>(
     rt: &H,
     file: &str,
     plan: &NodePlan<'_>,
     reader: &mut R,
     writer: &mut W,
+    errors: &mut E,
 ) -> Result<(), Ended>
     ensures runs { ((program : Parts) × (now : Option (List ℕ))
         × HasRunOverFile (record { node = plan.now.node; group = plan.now.group })
@@ -371,12 +482,8 @@ pub fn node_file<H: Files + Net + Clock + AllocGlobal + Copy + Drop, R: Read, W:
         × HasShown program plan.now.seen (IsErrOf result write_failed) (W.contents writer.old) now)
         ⊎ (IsErr result × (W.contents writer.new ≡ W.contents writer.old)) }
 {
-    let program = load_file(rt, file)?;
-    let config = Config::new(plan.node, plan.group.size, plan.group.session)?;
-    let input = match plan.keys {
-        None => read_input(rt.alloc(), reader)?,
-        Some(_) => Vec::new(rt.alloc()),
-    };
-    let mut writer = CountingWriter::new(writer);
-    node(rt, &program, config, plan, input.as_slice(), &mut writer)
+    let mut log = Log::new(rt.alloc(), rt, errors, plan.node, plan.is_logged);
+    let done = node_noted(rt, file, plan, reader, writer, &mut log);
+    log.note(&Note::Ended(end_of(&done)));
+    done
 }

@@ -26,7 +26,23 @@ fn is_next_taken(socket: &UdpSocket, waiting: usize) -> bool {
     }
 }
 
-/// What a node types.
+/// Returns whether a datagram with bytes is there.
+fn has_bytes(socket: &UdpSocket) -> bool {
+    matches!(socket.peek_from(&mut [0u8; 1]), Ok((count, _)) if count > 0)
+}
+
+/// What a node did with what was to be typed at it.
+#[derive(Clone, Copy, Debug, PartialEq, Eq)]
+pub enum Pressed {
+    /// It typed the bytes that were there, as far as room allowed.
+    Typed,
+    /// It was asked to campaign, and did.
+    Campaigned,
+    /// It was asked to campaign, and could not.
+    CampaignRefused(NodeFault),
+}
+
+/// Where the keys of a node come from.
 #[derive(Drop)]
 pub enum Typed<'a> {
     /// The bytes of the standard input that are still to be typed.
@@ -36,7 +52,16 @@ pub enum Typed<'a> {
 }
 
 impl Typed<'_> {
-    /// Whether there is something to be typed at a node at which so many keys wait.
+    /// Returns whether bytes are left for which there is no room at a node at which this many keys
+    /// wait.
+    pub fn is_left(&self, waiting: usize) -> bool {
+        match self {
+            Typed::Text(rest) => waiting >= WAITING && !rest.is_empty(),
+            Typed::Datagrams(socket) => waiting > WAITING - KEYS && has_bytes(socket),
+        }
+    }
+
+    /// Returns whether there is something to be typed at a node at which this many keys wait.
     pub fn is_ready(&self, waiting: usize) -> bool {
         match self {
             Typed::Text(rest) => waiting < WAITING && !rest.is_empty(),
@@ -44,15 +69,18 @@ impl Typed<'_> {
         }
     }
 
-    /// Types what was brought, before a turn, as room allows.
-    pub fn press<S: Store + Drop>(&mut self, member: &mut Member<'_, S>) -> Result<(), Ended>
+    /// Types what was brought, before a turn, as room allows, or campaigns where that was asked.
+    pub fn press<S: Store + Drop>(&mut self, member: &mut Member<'_, S>) -> Result<Pressed, Ended>
         ensures pressed { HasPressed S.honest S.fails_at_will S.state member.old member.new result }
         ensures stays { released_by member.new.node ≡ released_by member.old.node }
         ensures progress { member.new.node.progress ≡ member.old.node.progress }
         ensures others { IfErr result (λ e. IsRefusal e) }
     {
         match self {
-            Typed::Text(rest) => Ok(member.press_some(rest)?),
+            Typed::Text(rest) => {
+                member.press_some(rest)?;
+                Ok(Pressed::Typed)
+            }
             Typed::Datagrams(socket) => press_datagram(member, socket),
         }
     }
@@ -60,7 +88,7 @@ impl Typed<'_> {
 
 /// The node campaigns, as it was asked to. A campaign that does not begin, as no ballot or no place is
 /// left, the outbox is full or memory ran out, ends nothing: the node goes on as it was.
-fn campaign_when_asked<S: Store + Drop>(member: &mut Member<'_, S>) -> Result<(), Ended>
+fn campaign_when_asked<S: Store + Drop>(member: &mut Member<'_, S>) -> Result<Pressed, Ended>
     ensures campaigned { HasCampaignedAsAsked S.honest S.fails_at_will S.state member.old member.new result }
     ensures stays { released_by member.new.node ≡ released_by member.old.node }
     ensures progress { member.new.node.progress ≡ member.old.node.progress }
@@ -69,7 +97,8 @@ fn campaign_when_asked<S: Store + Drop>(member: &mut Member<'_, S>) -> Result<()
     match member.campaign() {
         Err(NodeFault::Stopped) => Err(Ended::Node(NodeFault::Stopped)),
         Err(NodeFault::Store) => Err(Ended::Node(NodeFault::Store)),
-        Ok(()) | Err(_) => Ok(()),
+        Err(fault) => Ok(Pressed::CampaignRefused(fault)),
+        Ok(()) => Ok(Pressed::Campaigned),
     }
 }
 
@@ -78,22 +107,23 @@ fn campaign_when_asked<S: Store + Drop>(member: &mut Member<'_, S>) -> Result<()
 fn press_datagram<S: Store + Drop>(
     member: &mut Member<'_, S>,
     socket: &UdpSocket,
-) -> Result<(), Ended>
+) -> Result<Pressed, Ended>
     ensures pressed { HasPressed S.honest S.fails_at_will S.state member.old member.new result }
     ensures stays { released_by member.new.node ≡ released_by member.old.node }
     ensures progress { member.new.node.progress ≡ member.old.node.progress }
     ensures others { IfErr result (λ e. IsRefusal e) }
 {
     if !is_next_taken(socket, member.waiting()) {
-        return Ok(());
+        return Ok(Pressed::Typed);
     }
     let mut buffer = [0u8; KEYS + 1];
     match receive_from(socket, &mut buffer) {
         Some((0, _)) => campaign_when_asked(member),
         Some((count, _)) if count <= KEYS => {
             let mut bytes = &buffer[..count];
-            Ok(member.press_some(&mut bytes)?)
+            member.press_some(&mut bytes)?;
+            Ok(Pressed::Typed)
         }
-        _ => Ok(()),
+        _ => Ok(Pressed::Typed),
     }
 }

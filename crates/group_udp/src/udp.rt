@@ -1,12 +1,15 @@
 //! UDP sockets as wires.
 ghost use Rattle.std.specs.Prelude.{◌≡◌, ◌≤◌, length, IfErr, IfSome};
 ghost use Rattle.group_udp.specs.Refusals.{IsOpenRefusal};
+ghost use Rattle.group_udp.specs.Sources.{drop_of};
 
 use crate::ended::Ended;
 use crate::sources::is_from_sender;
+use group_log::{DropReason, Drops, reason_of};
 use group_wire::Wire;
 use mio::net::UdpSocket;
 use mio::{Events, Interest, Poll, Token};
+use paxos_msg::Group;
 use std::net::{Net, SocketAddr};
 use std::time::{Clock, Duration, Instant};
 
@@ -26,6 +29,17 @@ pub fn receive_from(socket: &UdpSocket, buffer: &mut [u8]) -> Option<(usize, Soc
     ensures within { IfSome result (λ r. r.0 ≤ length buffer.new) }
 {
     socket.recv_from(buffer).ok()
+}
+
+/// Returns why a node of the group drops a datagram, if it does. Whether the datagram came from the
+/// sender that it names is asked last.
+fn drop_of(group: Group, is_from_sender: bool, datagram: &[u8]) -> Option<DropReason>
+    ensures { result ≡ drop_of group is_from_sender datagram.now }
+{
+    match reason_of(group, datagram) {
+        None if !is_from_sender => Some(DropReason::Source),
+        reason => reason,
+    }
 }
 
 /// The sockets that a node waits for: its own, and one for typed bytes where it has one.
@@ -87,6 +101,10 @@ pub struct UdpWire<'a, H> {
     addresses: &'a [SocketAddr],
     /// Until when it is waited for a datagram.
     until: Option<Instant>,
+    /// Of which group's datagrams it counts why they are dropped; None where it counts none.
+    counted: Option<Group>,
+    /// How many datagrams were dropped since these counts were last emptied.
+    pub drops: Drops,
 }
 
 impl<'a, H> Drop for UdpWire<'a, H> {
@@ -97,17 +115,21 @@ impl<'a, H> Drop for UdpWire<'a, H> {
             watch: _watch,
             addresses: _addresses,
             until: _until,
+            counted: _counted,
+            drops: _drops,
         } = self;
     }
 }
 
 impl<'a, H: Clock> UdpWire<'a, H> {
-    /// The wire of a node with this socket. Typed bytes end its waiting too, where the watch has a socket for them.
+    /// The wire of a node with this socket. Typed bytes end its waiting too, where the watch has a
+    /// socket for them. It counts the datagrams that a node of the group `counted` drops.
     pub fn new(
         clock: &'a H,
         mut socket: UdpSocket,
         watch: Watch,
         addresses: &'a [SocketAddr],
+        counted: Option<Group>,
     ) -> Result<UdpWire<'a, H>, Ended>
         ensures others { IfErr result (λ e. e ≡ Ended.Socket) }
     {
@@ -118,7 +140,19 @@ impl<'a, H: Clock> UdpWire<'a, H> {
             watch,
             addresses,
             until: None,
+            counted,
+            drops: Drops::default(),
         })
+    }
+
+    /// Counts a datagram that a node drops, if it drops this one and such datagrams are counted.
+    fn count_drop(&mut self, is_from_sender: bool, datagram: &[u8]) {
+        let Some(group) = self.counted else {
+            return;
+        };
+        if let Some(reason) = drop_of(group, is_from_sender, datagram) {
+            self.drops.count(reason);
+        }
     }
 
     /// Begins a time of waiting: 10 milliseconds in all.
@@ -165,10 +199,8 @@ impl<H: Clock> Wire for UdpWire<'_, H> {
     // message.
     fn receive(&mut self, buffer: &mut [u8]) -> Option<usize> {
         let (count, source) = receive_from(&self.socket, buffer)?;
-        if is_from_sender(self.addresses, source, &buffer[..count]) {
-            Some(count)
-        } else {
-            Some(0)
-        }
+        let is_taken = is_from_sender(self.addresses, source, &buffer[..count]);
+        self.count_drop(is_taken, &buffer[..count]);
+        if is_taken { Some(count) } else { Some(0) }
     }
 }

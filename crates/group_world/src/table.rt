@@ -71,7 +71,9 @@ fn collect(outbox: &mut Outbox, sent: &mut Vec<Packet>)
 {
     // It holds at most 64 packets.
     let _free = outbox.free();
-    while let Some(packet) = outbox.pop() {
+    while let Some(mut packet) = outbox.pop() {
+        // It was written into a buffer of 1,400 bytes, and is kept as long as the group is.
+        packet.bytes.shrink_to_fit();
         match sent.push(packet) {
             Ok(()) => (),
             Err(_) => unreachable!(),

@@ -5,12 +5,13 @@ use Rattle.std.proofs.lemmas.List.Elements.{All-cons}
 use Rattle.std.proofs.lemmas.Bool.Decides.{nat_tests}
 use Rattle.paxos_msg.specs.declared.ballot.Ballot.{Ballot}
 use Rattle.paxos_msg.specs.declared.value.Value.{Value}
-use Rattle.paxos_msg.specs.Batches.{Record, Vote}
-use Rattle.paxos_msg.specs.declared.record.Change.TheVariants.{Promise, Ballotted}
+use Rattle.paxos_msg.specs.Batches.{Change, Record, Vote}
+use Rattle.paxos_msg.specs.declared.record.Change.TheVariants.{Start, Promise, Ballotted}
 use Rattle.paxos_msg.specs.Ballots.{IsAtMost}
 use Rattle.paxos_msg.specs.Fits.{IsBallot, IsPlace, IsValue, IsVote, AreVotes}
 use Rattle.paxos_msg.specs.Messages.{AreAbove, IsAscending}
 use Rattle.paxos_msg.specs.Records.{changed, with_vote}
+use Rattle.paxos_acceptor.specs.Log.{IsEntry}
 use Rattle.paxos_acceptor.specs.Records.{AreKept, IsRecord}
 
 module _ (size upto : ℕ) (b : Ballot) where
@@ -101,6 +102,16 @@ vote_in_ranges size r b s v rises ballot place value h =
     let vote : Vote = record { place = s; ballot = b; value = v } in
     let may : IsVote size b 0 65536 vote = record { from_low = omega arith; below_upto = omega arith; ballot = ballot; not_above = at_most_itself b; value = value } in
     record { starts = h.starts; kept = kept_voted size r.promised r.votes vote rises may h.kept }
+
+-- so does each change that can be made
+pub entry_in_ranges : (size : ℕ) (r : Record) (c : Change) → IsEntry size r c → IsRecord size r → IsRecord size (changed r c)
+entry_in_ranges size r Start entry h = record { starts = omega (arith, entry); kept = h.kept }
+entry_in_ranges size r (Promise b) entry h = promise_in_ranges size r b entry.1 entry.0 h
+entry_in_ranges size r (Ballotted s b v) entry h = vote_in_ranges size r b s v entry.3 entry.1 entry.0 entry.2 h
+
+-- a start that can be counted is one to spare
+pub start_to_spare : (size : ℕ) (r : Record) (c : Change) → IsEntry size r c → c ≡ Start → r.starts < 4294967295
+start_to_spare size r c entry e = subst (IsEntry size r) e entry
 
 -- ---- what an acceptor knows of its record
 

@@ -11,3 +11,4 @@ pub mod Opening
 pub mod Cases
 pub mod Saves
 pub mod Files
+pub mod Log

@@ -1,8 +1,10 @@
 //! A record as bytes.
-ghost use Rattle.std.specs.Prelude.{◌≡◌, ◌↔◌, ◌++◌, ◌*◌, ◌^◌, ◌<◌, ◌≤◌, ℕ, List, length, IfOk, OnOk, IsErrOf, IsTrue, OnErr, Ok, Err};
+ghost use Rattle.std.specs.Prelude.{◌≡◌, ◌↔◌, ◌++◌, ◌+◌, ◌*◌, ◌^◌, ◌<◌, ◌≤◌, ℕ, List, length, vec_len, vec_capacity, IfOk, IsErrOf, IsTrue, OnErr, Ok, Err};
 ghost use Rattle.paxos_msg.specs.declared.record.Record.{Record};
+ghost use Rattle.paxos_msg.specs.declared.record.Change.{Change};
 ghost use Rattle.paxos_msg.specs.declared.value.Value.{Value};
 ghost use Rattle.paxos_msg.specs.Grammar.{AreBytes};
+ghost use Rattle.paxos_msg.specs.Records.{changed};
 ghost use Rattle.paxos_msg.specs.Spelling.{number_bytes, votes_bytes};
 ghost use Rattle.paxos_acceptor.specs.declared.me.Me.{Me};
 ghost use Rattle.paxos_acceptor.specs.declared.version.Version.TheVariants.{One, Two};
@@ -19,7 +21,7 @@ use paxos_msg::grammar::{
     votes_are_spelling,
 };
 use paxos_msg::{Ballot, Record, Vote, fits_ballot, fits_votes, put_ballot, put_number, put_votes};
-use std::alloc::{AllocError, Global};
+use std::alloc::Global;
 
 /// Whether the votes may stand beside the promised ballot: without one there are none, and else their places
 /// ascend and none is above it.
@@ -81,39 +83,65 @@ fn record_is_spelling()
 }
 
 /// Writes the bytes that stand before a record of version 2.
-fn put_header(me: Me, out: &mut Vec<u8>) -> Result<(), AllocError>
-    ensures { OnOk result (out.new.items ≡ out.old.items ++ header_bytes 2 me) }
+fn put_header(me: Me, out: &mut Vec<u8>)
+    requires room { vec_len out.old + 9 ≤ vec_capacity out.old }
+    ensures items { out.new.items ≡ out.old.items ++ header_bytes 2 me }
+    ensures len { vec_len out.new ≡ vec_len out.old + 9 }
+    ensures capacity { vec_capacity out.new ≡ vec_capacity out.old }
 {
-    out.extend_from_slice(&[b'P', b'R', Version::Two.byte(), me.node, me.group.size])?;
-    out.reserve(4)?;
+    out.push_reserved(b'P');
+    out.push_reserved(b'R');
+    out.push_reserved(Version::Two.byte());
+    out.push_reserved(me.node);
+    out.push_reserved(me.group.size);
     put_number(me.group.session, out);
-    Ok(())
 }
 
 /// Writes the promised ballot, or zeros.
-fn put_promised(promised: Option<Ballot>, out: &mut Vec<u8>) -> Result<(), AllocError>
-    ensures { OnOk result (out.new.items ≡ out.old.items ++ promised_bytes promised) }
+fn put_promised(promised: Option<Ballot>, out: &mut Vec<u8>)
+    requires room { vec_len out.old + 5 ≤ vec_capacity out.old }
+    ensures items { out.new.items ≡ out.old.items ++ promised_bytes promised }
+    ensures len { vec_len out.new ≡ vec_len out.old + 5 }
+    ensures capacity { vec_capacity out.new ≡ vec_capacity out.old }
 {
     match promised {
-        Some(ballot) => {
-            out.reserve(5)?;
-            put_ballot(ballot, out);
+        Some(ballot) => put_ballot(ballot, out),
+        None => {
+            put_number(0, out);
+            out.push_reserved(0);
         }
-        None => out.extend_from_slice(&[0; 5])?,
     }
-    Ok(())
 }
 
 /// Writes how many votes there are, and the votes.
-fn put_kept(votes: &[Vote], out: &mut Vec<u8>) -> Result<(), AllocError>
+fn put_kept(votes: &[Vote], out: &mut Vec<u8>)
     requires few { length votes.now < 2 ^ 32 }
-    requires short { length (votes_bytes votes.now) ≤ 52 * length votes.now }
-    ensures { OnOk result (out.new.items ≡ out.old.items ++ (number_bytes (length votes.now) ++ votes_bytes votes.now)) }
+    requires room { vec_len out.old + 4 + length (votes_bytes votes.now) ≤ vec_capacity out.old }
+    ensures items { out.new.items ≡ out.old.items ++ (number_bytes (length votes.now) ++ votes_bytes votes.now) }
 {
-    out.reserve(4 + 52 * votes.len())?;
     put_number(votes.len() as u32, out);
     put_votes(votes, out);
-    Ok(())
+}
+
+/// How many bytes the spelling of a record with so many votes takes at most.
+pub(crate) fn most_bytes(votes: usize) -> usize
+    requires { votes ≤ 65537 }
+    ensures { result ≡ 22 + 52 * votes }
+{
+    22 + 52 * votes
+}
+
+/// Writes the one spelling of the record in version 2. The record has to be in its ranges.
+pub(crate) fn put_record(kept: &Record, me: Me, out: &mut Vec<u8>)
+    requires ranges { IsRecord me.group.size kept.now }
+    requires room { vec_len out.old + (22 + 52 * length kept.now.votes) ≤ vec_capacity out.old }
+    ensures { out.new.items ≡ out.old.items ++ record_bytes me kept.now }
+{
+    kept_votes_are_few();
+    put_header(me, out);
+    put_number(kept.starts, out);
+    put_promised(kept.promised, out);
+    put_kept(kept.votes.as_slice(), out);
 }
 
 /// The one spelling of the record in version 2. The record has to be in its ranges. Only `Memory` is an error.
@@ -123,19 +151,16 @@ pub fn record_encode(alloc: Global, kept: &Record, me: Me) -> Result<Vec<u8>, St
     ensures err { OnErr result (result ≡ Err StoreFault.Memory) }
 {
     kept_votes_are_few();
-    let mut out = Vec::new(alloc);
-    put_header(me, &mut out)?;
-    out.reserve(4)?;
-    put_number(kept.starts, &mut out);
-    put_promised(kept.promised, &mut out)?;
-    put_kept(kept.votes.as_slice(), &mut out)?;
+    let mut out = Vec::with_capacity(alloc, most_bytes(kept.votes.as_slice().len()))?;
+    put_record(kept, me, &mut out);
     Ok(out)
 }
 
-/// A record has at most 65,536 votes, each of which is spelled with at most 52 bytes.
-fn kept_votes_are_few()
+/// A record has at most 65,536 votes, each of which is spelled with at most 52 bytes. A change puts one vote more at most.
+pub(crate) fn kept_votes_are_few()
     ensures few { (size : ℕ) (r : Record Value) → IsRecord size r → length r.votes ≤ 65536 }
     ensures short { (size : ℕ) (r : Record Value) → IsRecord size r → length (votes_bytes r.votes) ≤ 52 * length r.votes }
+    ensures one_more { (r : Record Value) (c : Change Value) → length (changed r c).votes ≤ length r.votes + 1 }
 {
     votes_are_short();
 }

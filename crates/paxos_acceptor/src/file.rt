@@ -1,15 +1,17 @@
 //! A store in a file.
 ghost use Rattle.base.specs.Faults.{HasRisen};
-ghost use Rattle.std.specs.Prelude.{◌≡◌, None, Some, IfOk, IfSome, IsErrOf, IsNone, IsOk, OnErr};
+ghost use Rattle.std.specs.Prelude.{◌≡◌, None, Some, IfOk, IfSome, IsErrOf, IsNone, IsOk, OnErr, OnOk};
 ghost use Rattle.paxos_msg.specs.declared.record.Record.{Record};
 ghost use Rattle.paxos_msg.specs.declared.value.Value.{Value};
 ghost use Rattle.paxos_msg.specs.Records.{changed, empty_record};
 ghost use Rattle.paxos_acceptor.specs.Files.{Finds, IsWritten, Notes};
-ghost use Rattle.paxos_acceptor.specs.Records.{IsRecord};
+ghost use Rattle.paxos_acceptor.specs.Log.{IsEntry};
+ghost use Rattle.paxos_acceptor.specs.Records.{IsRecord, record_bytes};
 ghost use Rattle.paxos_acceptor.specs.Stores.{HasCause};
 
-use crate::codec::{record_decode, record_encode, record_fits, record_migrate};
+use crate::codec::{kept_votes_are_few, most_bytes, put_record, record_decode, record_migrate};
 use crate::disk::{read_synced, write_synced};
+use crate::entry::{enter, is_entry};
 use crate::laws::versions_are_apart;
 use crate::me::Me;
 use crate::store::{Store, StoreFault};
@@ -86,28 +88,26 @@ fn record_in(alloc: Global, file: &Option<Vec<u8>>, me: Me) -> Result<Record, St
     }
 }
 
-/// A copy of the record: said apart, so that callers know it for the same.
-fn copy_of(found: &Record) -> Result<Record, AllocError>
-    ensures { IfOk result (λ copy. copy ≡ found.now) }
+/// Makes a change that can be made, and gives the spelling of the record that it leaves. The room for both is made first: after an
+/// error nothing has changed.
+fn spell_changed(
+    alloc: Global,
+    kept: &mut Record,
+    change: Change,
+    me: Me,
+) -> Result<Vec<u8>, AllocError>
+    requires ranges { IsRecord me.group.size kept.old }
+    requires entry { IsEntry me.group.size kept.old change }
+    ensures changed { OnOk result (kept.new ≡ changed kept.old change) }
+    ensures spelled { IfOk result (λ bytes. bytes.items ≡ record_bytes me (changed kept.old change)) }
+    ensures ranges { OnOk result (IsRecord me.group.size kept.new) }
+    ensures err { OnErr result (kept.new ≡ kept.old) }
 {
-    Ok(found.clone()?)
-}
-
-/// The record after the change, or `None` where that is out of its ranges, and so has no spelling.
-fn next_record(found: &Record, change: Change, me: Me) -> Result<Option<Record>, AllocError>
-    requires { IsRecord me.group.size found.now }
-    ensures some { IfOk result (λ next. IfSome next (λ r. (r ≡ changed found.now change) × IsRecord me.group.size r)) }
-    ensures none { IfOk result (λ next. IsNone next → ¬ IsRecord me.group.size (changed found.now change)) }
-{
-    if change == Change::Start && found.starts == u32::MAX {
-        return Ok(None);
-    }
-    let mut next = copy_of(found)?;
-    next.change(change)?;
-    if !record_fits(&next, me) {
-        return Ok(None);
-    }
-    Ok(Some(next))
+    kept_votes_are_few();
+    let mut bytes = Vec::with_capacity(alloc, most_bytes(kept.votes.as_slice().len() + 1))?;
+    enter(kept, change, me)?;
+    put_record(kept, me, &mut bytes);
+    Ok(bytes)
 }
 
 impl<R> FileStore<R> {
@@ -171,18 +171,17 @@ impl<R: Files + AllocGlobal + Copy + Drop> Store for FileStore<R> {
         ensures good { ¬ IsErrOf result StoreFault.Bad }
         ensures cause { HasCause (IsErrOf result StoreFault.Device) self.old.faults self.new.faults }
     {
-        let Some(found) = &self.found else {
+        let Some(found) = &mut self.found else {
             return Err(self.give_up());
         };
-        let Some(next) = next_record(found, *change, self.me)? else {
+        if !is_entry(found, *change, self.me) {
             return Err(self.give_up());
-        };
-        let bytes = record_encode(self.rt.alloc(), &next, self.me)?;
+        }
+        let bytes = spell_changed(self.rt.alloc(), found, *change, self.me)?;
         let path = self.path.as_str();
         if write_synced(&self.rt, path, self.fresh_path.as_str(), bytes.as_slice()).is_err() {
             return Err(self.give_up());
         }
-        self.found = Some(next);
         Ok(())
     }
 

@@ -5,6 +5,7 @@ mod acceptor;
 mod cases;
 mod codec;
 mod disk;
+mod entry;
 mod fault;
 mod file;
 pub mod laws;

@@ -1,3 +1,4 @@
+pub mod Masks
 pub mod PlaceEntries
 pub mod OnePlace
 pub mod Stored

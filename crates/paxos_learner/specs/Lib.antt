@@ -1,3 +1,4 @@
+pub mod Masks
 pub mod Tallies
 pub mod Learner
 pub mod Input

@@ -118,6 +118,9 @@ impl Learner {
     /// have accepted the value under one ballot. `Counted`: so many have not yet, but this one is new.
     /// `Passed`: nothing has changed. `Memory` comes where there is no room for what is new, reckoned with 32
     /// keys at each place up to a learned one, and then nothing has changed.
+    ///
+    /// A message takes a search of the learned places, and where the place is open one of the tallies, and a
+    /// second one where its tally changes. A place that has a tally takes no memory before it is learned.
     pub fn on_accepted(
         &mut self,
         sender: u8,
@@ -141,8 +144,7 @@ impl Learner {
             self.learn(place, &tally.value())?;
             return Ok(Heard::Learned);
         }
-        self.tallies.make_room()?;
-        self.tallies.insert(place, tally);
+        self.tallies.put(place, tally)?;
         Ok(Heard::Counted)
     }
 

@@ -7,6 +7,7 @@ mod input;
 mod keys;
 pub mod laws;
 mod learner;
+mod node_set;
 mod place_map;
 mod tally;
 

@@ -1,5 +1,5 @@
 //! A map from places.
-ghost use Rattle.std.specs.Prelude.{◌≡◌, ◌+◌, ◌<◌, ◌≤◌, OnOk};
+ghost use Rattle.std.specs.Prelude.{◌≡◌, ◌+◌, ◌<◌, ◌≤◌, OnErr, OnOk};
 ghost use Rattle.std.specs.FinMap.{empty, get, insert, remove};
 
 use indexmap::IndexMap;
@@ -56,6 +56,16 @@ impl<V: Copy> PlaceMap<V> {
         ensures { self.new.map ≡ insert self.old.map place value }
     {
         self.entries.insert(place, value).unwrap();
+    }
+
+    /// Puts a value at a place. A place that has one already takes no memory. After an error nothing has
+    /// changed.
+    pub fn put(&mut self, place: u32, value: V) -> Result<(), AllocError>
+        ensures ok { OnOk result (self.new.map ≡ insert self.old.map place value) }
+        ensures err { OnErr result (self.new.map ≡ self.old.map) }
+    {
+        self.entries.insert(place, value)?;
+        Ok(())
     }
 
     /// Takes the value at a place out, if there is one.

@@ -1,9 +1,9 @@
 //! What was heard of a place that is not learned.
 ghost use Rattle.std.specs.Prelude.{◌≡◌, ◌≤◌};
-ghost use Rattle.paxos_msg.specs.Ballots.{count_of};
 ghost use Rattle.paxos_msg.specs.Tests.{is_majority};
 ghost use Rattle.paxos_learner.specs.Tallies.{begun, joined, tallied, has_node};
 
+use crate::node_set::NodeSet;
 use paxos_msg::{Ballot, Value};
 use std::marker::Model;
 
@@ -12,8 +12,7 @@ use std::marker::Model;
 pub struct Tally {
     ballot: Ballot,
     value: Value,
-    // Whether each node was heard, by its number.
-    nodes: [bool; 10],
+    nodes: NodeSet,
 }
 
 impl Model for Tally {
@@ -32,8 +31,8 @@ impl Tally {
         requires { node ≤ 9 }
         ensures { result ≡ begun node ballot value }
     {
-        let mut nodes = [false; 10];
-        nodes[usize::from(node)] = true;
+        let mut nodes = NodeSet::new();
+        nodes.insert(node);
         Tally {
             ballot,
             value,
@@ -51,10 +50,10 @@ impl Tally {
             value,
             mut nodes,
         } = self;
-        if nodes[usize::from(node)] {
+        if nodes.contains(node) {
             return None;
         }
-        nodes[usize::from(node)] = true;
+        nodes.insert(node);
         Some(Tally {
             ballot,
             value,
@@ -69,27 +68,12 @@ impl Tally {
         self.value
     }
 
-    /// How many of the nodes 1 to `size` were heard.
-    fn count(&self, size: u8) -> u8
-        requires { size ≤ 9 }
-        ensures count { result ≡ count_of (has_node self.now.nodes) size }
-        ensures few { result ≤ size }
-    {
-        let mut count = 0;
-        for before in 0..size {
-            if self.nodes[usize::from(before + 1)] {
-                count += 1;
-            }
-        }
-        count
-    }
-
     /// Whether the nodes that were heard are more than half of the nodes 1 to `size`.
     pub fn is_majority(&self, size: u8) -> bool
         requires { size ≤ 9 }
         ensures { result ≡ is_majority size (has_node self.now.nodes) }
     {
-        size < 2 * self.count(size)
+        u32::from(size) < 2 * self.nodes.count(size)
     }
 }
 

@@ -1,7 +1,8 @@
 pub mod Counting
-pub mod LastVote
 pub mod Passing
 pub mod Reported
+pub mod ByPlace
+pub mod GreatestPlace
 pub mod Growing
 pub mod Parts
 pub mod Begun

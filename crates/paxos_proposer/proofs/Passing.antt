@@ -1,41 +1,19 @@
 -- Dropping the votes that a proposer has passed.
-use Rattle.std.proofs.Common.{◌≡◌, ◌≢◌, ◌∙◌, ℕ, zero, suc, ◌+◌, ◌<◌, ◌≤◌, nat_le, nat_lt, ◌==◌, Bool, true, false, List, [], ◌∷◌, drop, length, get_or, slice_get, Option, Some, None, if◌then◌else◌, inl, inr, refl, sym, ap, arith}
+use Rattle.std.proofs.Common.{◌≡◌, ℕ, ◌≤◌, nat_le, nat_lt, ◌==◌, Bool, true, false, List, [], ◌∷◌, Option, Some, None, if◌then◌else◌, inl, inr, refl, arith}
 use Rattle.std.specs.Prelude.{All}
 use Rattle.std.proofs.lemmas.Bool.{cases_eq, cases_lt, eq-eqb, ne_eqb, le-leb, lt-leb, leb-true}
 use Rattle.std.proofs.lemmas.List.Elements.{All-cons, All-head, All-nil, All-tail}
 use Rattle.paxos_msg.specs.Batches.{Vote}
-use Rattle.paxos_msg.specs.Messages.{AreAbove, IsAscending, vote_at}
+use Rattle.paxos_msg.specs.Messages.{vote_at}
 use Rattle.paxos_msg.specs.Records.{with_vote}
 use Rattle.paxos_msg.specs.Tests.{ballot_lt}
 use Rattle.paxos_proposer.specs.Proposer.{greater, heard, heard_one, votes_from}
-use Rattle.paxos_proposer.specs.States.{AreLeft}
 
 -- each vote is at place s or above it
 abbrev AreFrom : ℕ → List Vote → Type 0
 AreFrom s votes = All (λ vote. s ≤ vote.place) votes
 
 -- ---- what is left from a place on
-
--- votes above a place are from the next one on, and so from each smaller one
-above_from : (low s : ℕ) (votes : List Vote) → low ≤ s + 1 → AreAbove s votes → AreFrom low votes
-above_from low s [] le h = All-nil (λ vote. low ≤ vote.place)
-above_from low s (x ∷ xs) le h = All-cons (λ vote. low ≤ vote.place) x xs (omega (arith, h.0)) (above_from low s xs le h.1)
-
--- votes that are all from a place on are all left
-all_left : (s : ℕ) (votes : List Vote) → AreFrom s votes → votes_from s votes ≡ votes
-all_left s [] h = refl
-all_left s (x ∷ xs) h =
-    rw (le-leb s x.place (All-head (λ vote. s ≤ vote.place) x xs h)) (ap (λ (rest : List Vote). x ∷ rest) (all_left s xs (All-tail (λ vote. s ≤ vote.place) x xs h)))
-
--- the first vote is passed where it is at the place
-first_passed : (s : ℕ) (x : Vote) (xs : List Vote) → x.place ≡ s → IsAscending (x ∷ xs) → votes_from (s + 1) (x ∷ xs) ≡ xs
-first_passed s x xs e h = rw (lt-leb (s + 1) x.place (omega arith)) (all_left (s + 1) xs (above_from (s + 1) s xs (omega arith) (rw e at h.0)))
-
--- and else none is
-none_passed : (s : ℕ) (x : Vote) (xs : List Vote) → x.place ≢ s → IsAscending (x ∷ xs) → AreFrom s (x ∷ xs) → votes_from (s + 1) (x ∷ xs) ≡ x ∷ xs
-none_passed s x xs ne h from =
-    let here : s + 1 ≤ x.place = omega (arith, All-head (λ vote. s ≤ vote.place) x xs from) in
-    all_left (s + 1) (x ∷ xs) (All-cons (λ vote. s + 1 ≤ vote.place) x xs here (above_from (s + 1) x.place xs (omega arith) h.0))
 
 -- what is left is from the place on
 pub left_from : (s : ℕ) (votes : List Vote) → AreFrom s (votes_from s votes)
@@ -61,52 +39,6 @@ left_at n s (x ∷ xs) low =
       | inl less ↦ rw (lt-leb n x.place less, ne_eqb x.place s (λ e. omega arith)) (left_at n s xs low)
       | inr high ↦ rw (le-leb n x.place high) (found_if s x (votes_from n xs) xs (left_at n s xs low))
     ]
-
--- ---- the votes as they are stored
-
--- the vote at an index within the list is there
-pub get_at : (votes : List Vote) (i : ℕ) (vote : Vote) → i < length votes → vote ≡ get_or votes i vote → slice_get votes i ≡ Some vote
-get_at [] i vote low e = absurd (omega arith)
-get_at (x ∷ xs) zero vote low e = λ i. Some (sym e i)
-get_at (x ∷ xs) (suc i) vote low e = get_at xs i vote (omega arith) e
-
--- the votes from an index on begin with the one there
-pub drop_here : (votes : List Vote) (i : ℕ) (vote : Vote) → slice_get votes i ≡ Some vote → drop i votes ≡ vote ∷ drop (i + 1) votes
-drop_here [] i vote e = absurd cc
-drop_here (x ∷ xs) zero vote e =
-    let same : x ≡ vote = cc in
-    ap (λ (v : Vote). v ∷ xs) same
-drop_here (x ∷ xs) (suc i) vote e =
-    let one : suc i + 1 ≡ suc (i + 1) = omega arith in
-    rw one (drop_here xs i vote e)
-
--- where there is none they are none
-drop_none : (votes : List Vote) (i : ℕ) → slice_get votes i ≡ None → drop i votes ≡ []
-drop_none [] zero e = refl
-drop_none [] (suc i) e = refl
-drop_none (x ∷ xs) zero e = absurd cc
-drop_none (x ∷ xs) (suc i) e = drop_none xs i e
-
-module _ (votes : List Vote) (passed place : ℕ) (h : AreLeft votes passed) (from : AreFrom place (drop passed votes)) where
-  -- a vote that stands first at the place is passed
-  pub pass_one : (vote : Vote) → slice_get votes passed ≡ Some vote → vote.place ≡ place → drop (passed + 1) votes ≡ votes_from (place + 1) (drop passed votes)
-  pass_one vote e at =
-      let is = drop_here votes passed vote e in
-      sym (ap (votes_from (place + 1)) is ∙ first_passed place vote (drop (passed + 1) votes) at (rw is at h.ascending))
-
-  -- one at another place is not
-  pub pass_none : (vote : Vote) → slice_get votes passed ≡ Some vote → vote.place ≢ place → drop passed votes ≡ votes_from (place + 1) (drop passed votes)
-  pass_none vote e ne =
-      let is = drop_here votes passed vote e in
-      is ∙ sym (ap (votes_from (place + 1)) is ∙ none_passed place vote (drop (passed + 1) votes) ne (rw is at h.ascending) (rw is at from))
-
-  -- nor where none is left
-  pub pass_end : slice_get votes passed ≡ None → drop passed votes ≡ votes_from (place + 1) (drop passed votes)
-  pass_end e = let none = drop_none votes passed e in none ∙ sym (ap (votes_from (place + 1)) none)
-
-  -- the others ascend still
-  pub left_one : (vote : Vote) → slice_get votes passed ≡ Some vote → IsAscending (drop (passed + 1) votes)
-  left_one vote e = (rw (drop_here votes passed vote e) at h.ascending).1
 
 -- ---- what holds of all votes that are kept
 

@@ -23,7 +23,7 @@ merged kept (Some vote) = Some (greater kept vote)
 -- ---- the votes of a part
 
 -- no vote above a place is at it
-none_above : (votes : List Vote) (s : ℕ) → AreAbove s votes → vote_at votes s ≡ None
+pub none_above : (votes : List Vote) (s : ℕ) → AreAbove s votes → vote_at votes s ≡ None
 none_above [] s h = refl
 none_above (x ∷ xs) s h = rw (ne_eqb x.place s (λ e. omega (arith, h.0))) (none_above xs s h.1)
 
@@ -42,10 +42,10 @@ pub none_upto : (size : ℕ) (b : Ballot) (low upto s : ℕ) (votes : List Vote)
 none_upto size b low upto s [] le h = refl
 none_upto size b low upto s (x ∷ xs) le h = rw (ne_eqb x.place s (λ e. omega (arith, h.0.below_upto))) (none_upto size b (x.place + 1) upto s xs le h.1)
 
-found_first : (x : Vote) (xs : List Vote) (s : ℕ) → x.place ≡ s → vote_at (x ∷ xs) s ≡ Some x
+pub found_first : (x : Vote) (xs : List Vote) (s : ℕ) → x.place ≡ s → vote_at (x ∷ xs) s ≡ Some x
 found_first x xs s e = rw (eq-eqb x.place s e)
 
-found_later : (x : Vote) (xs : List Vote) (s : ℕ) → x.place ≢ s → vote_at (x ∷ xs) s ≡ vote_at xs s
+pub found_later : (x : Vote) (xs : List Vote) (s : ℕ) → x.place ≢ s → vote_at (x ∷ xs) s ≡ vote_at xs s
 found_later x xs s ne = rw (ne_eqb x.place s ne)
 
 -- ---- what is kept

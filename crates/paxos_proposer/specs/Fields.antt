@@ -6,7 +6,7 @@ use Rattle.paxos_proposer.specs.declared.proposer.Proposer.TheInside.{Inside}
 
 -- what a proposer of these fields knows
 abbrev pub rules_of : Inside → Proposer
-rules_of p = record { ballot = p.ballot; size = p.size; coverages = p.coverages; kept = p.kept; first = p.first; values = p.values.items }
+rules_of p = record { ballot = p.ballot; size = p.size; coverages = p.coverages; kept = p.kept.votes; first = p.first; values = p.values.items }
 
 -- and how many more proposals are sure to find room
 abbrev pub state_of : Inside → State

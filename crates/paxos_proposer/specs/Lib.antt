@@ -1,5 +1,6 @@
 pub mod Proposer
 pub mod States
+pub mod KeptVotes
 pub mod Fields
 pub mod Backed
 pub mod Ranges

@@ -1,7 +1,5 @@
 -- What contracts see of a proposer, and what always holds of it.
-use Rattle.std.specs.Prelude.{◌≡◌, ℕ, ◌+◌, ◌≤◌, All, List, drop, length, slice_index}
-use Rattle.paxos_msg.specs.Batches.{Vote}
-use Rattle.paxos_msg.specs.Messages.{IsAscending}
+use Rattle.std.specs.Prelude.{◌≡◌, ℕ, ◌+◌, ◌≤◌, All, List, length, slice_index}
 use Rattle.paxos_proposer.specs.Proposer.{Proposer, next_of}
 
 -- what it knows, and how many more proposals are sure to find room
@@ -12,11 +10,6 @@ pub record State : Type 0 where
 -- no promise reaches above the last place
 pub record AreInRange (coverages : List ℕ) : Type 0 where
   pub upto : (i : ℕ) → slice_index coverages i ≤ 65536
-
--- the votes that were passed are the first ones, and the others ascend
-pub record AreLeft (votes : List Vote) (passed : ℕ) : Type 0 where
-  pub within : passed ≤ length votes
-  pub ascending : IsAscending (drop passed votes)
 
 -- what always holds of a proposer: a group has at most nine nodes, votes are kept from the next place on, and at most all places have
 -- a proposal

@@ -1,9 +1,13 @@
 //! The votes to keep, after a part of a promise reports more.
-ghost use Rattle.std.specs.Prelude.{◌≡◌, ◌+◌, ◌<◌, ◌≤◌, length, vec_len, vec_capacity};
-ghost use Rattle.paxos_msg.specs.Messages.{IsAscending};
+ghost use Rattle.std.specs.Prelude.{◌≡◌, ◌+◌, ◌<◌, ◌≤◌, OnOk, OnErr, length};
 ghost use Rattle.paxos_proposer.specs.Proposer.{greater, heard, heard_one};
 
-use paxos_msg::{LentVotes, Vote, find_vote, insert_vote};
+use crate::kept::KeptVotes;
+use paxos_msg::{LentVotes, Vote};
+use std::alloc::AllocError;
+
+/// How many votes a part of a promise reports at most.
+const PART_VOTES: usize = 8;
 
 /// The vote of the greater ballot; of equal ballots the one that is kept.
 fn greater(kept: Option<Vote>, vote: Vote) -> Vote
@@ -15,31 +19,32 @@ fn greater(kept: Option<Vote>, vote: Vote) -> Vote
     }
 }
 
-/// Keeps a vote that was reported, if it is for a place from `low` on and no kept one is greater. It
-/// takes no memory.
-fn hear_one(low: u32, vote: Vote, kept: &mut Vec<Vote>)
-    requires ascending { IsAscending kept.old.items }
-    requires room { vec_len kept.old < vec_capacity kept.old }
-    ensures kept { kept.new.items ≡ heard_one low kept.old.items vote }
-    ensures ascending { IsAscending kept.new.items }
-    ensures capacity { vec_capacity kept.old ≤ vec_capacity kept.new }
-    ensures len { vec_len kept.new ≤ vec_len kept.old + 1 }
+/// Keeps a vote that was reported, if it is for a place from `low` on and no kept one is greater.
+fn hear_one(low: u32, vote: Vote, kept: &mut KeptVotes)
+    requires { 0 < kept.old.room }
+    ensures votes { kept.new.votes ≡ heard_one low kept.old.votes vote }
+    ensures room { kept.old.room ≤ kept.new.room + 1 }
 {
     if vote.place < low {
         return;
     }
-    let before = find_vote(kept, vote.place);
-    insert_vote(kept, greater(before, vote)).unwrap();
+    let before = kept.at(vote.place);
+    kept.put(greater(before, vote));
 }
 
-/// Keeps these votes too, one after another. It takes no memory.
-pub(crate) fn hear_votes(low: u32, votes: LentVotes<'_>, kept: &mut Vec<Vote>)
-    requires ascending { IsAscending kept.old.items }
-    requires room { vec_len kept.old + length votes ≤ vec_capacity kept.old }
-    ensures kept { kept.new.items ≡ heard low kept.old.items votes.entry }
-    ensures ascending { IsAscending kept.new.items }
+/// Keeps these votes too, at most 8, one after another. After an error nothing has changed.
+pub(crate) fn hear_votes(
+    low: u32,
+    votes: LentVotes<'_>,
+    kept: &mut KeptVotes,
+) -> Result<(), AllocError>
+    requires { length votes ≤ 8 }
+    ensures ok { OnOk result (kept.new.votes ≡ heard low kept.old.votes votes.entry) }
+    ensures err { OnErr result (kept.new.votes ≡ kept.old.votes) }
 {
+    kept.make_room(PART_VOTES)?;
     for vote in votes {
         hear_one(low, vote, kept);
     }
+    Ok(())
 }

@@ -1,95 +1,104 @@
 //! The votes to keep.
-ghost use Rattle.std.specs.Prelude.{◌≡◌, ◌+◌, ◌≤◌, [], OnOk, OnErr, All, length};
-ghost use Rattle.paxos_msg.specs.Messages.{IsAscending, vote_at};
-ghost use Rattle.paxos_proposer.specs.Proposer.{heard, is_kept_from, votes_from};
+ghost use Rattle.std.specs.Prelude.{◌≡◌, ◌+◌, ◌<◌, ◌≤◌, [], All, OnOk};
+ghost use Rattle.paxos_msg.specs.Messages.{vote_at};
+ghost use Rattle.paxos_msg.specs.Records.{with_vote};
+ghost use Rattle.paxos_proposer.specs.Proposer.{is_kept_from, votes_from};
 
-use crate::hearing::hear_votes;
-use paxos_msg::{LentVotes, Vote, find_vote};
+use indexmap::IndexMap;
+use paxos_msg::{Ballot, Value, Vote};
 use std::alloc::{AllocError, Global};
 use std::marker::Model;
 
-/// How many votes a part of a promise reports at most.
-const PART_VOTES: usize = 8;
+/// A vote without its place, under which it is kept.
+#[derive(Clone, Copy)]
+pub(crate) struct Report {
+    ballot: Ballot,
+    value: Value,
+}
 
-/// The vote to keep for each place, in ascending order of place. Votes are passed from the front on, each
-/// by one step; what was passed is taken out when the next part is heard.
+/// The vote to keep for each place, seen as the votes in ascending order of place, and how many more
+/// there is room for. Each call takes one search, however many votes there are.
 #[derive(Drop)]
 pub(crate) struct KeptVotes {
-    votes: Vec<Vote>,
-    // How many of the first votes were passed.
-    passed: usize,
+    reports: IndexMap<u32, Report>,
+    // The greatest place that has a vote, if there is one.
+    greatest: Option<u32>,
 }
 
 impl Model for KeptVotes {
-    ghost use Rattle.std.specs.Prelude.{List, drop};
-    ghost use Rattle.paxos_msg.specs.Batches.{Vote};
-    ghost use Rattle.paxos_proposer.specs.States.{AreLeft};
+    ghost use Rattle.indexmap.specs.IndexMap.{spare};
+    ghost use Rattle.paxos_proposer.specs.KeptVotes.{IsGreatestPlace, Kept, votes_of};
 
-    ghost Value = { List Vote };
+    ghost Value = { Kept };
 
-    ghost view = { λ k. drop k.passed k.votes.items };
+    ghost view = { λ k. record { votes = votes_of k.reports.entries; room = spare k.reports } };
 
-    ghost invariant = { λ k. AreLeft k.votes.items k.passed };
+    ghost invariant = { λ k. IsGreatestPlace (votes_of k.reports.entries) k.greatest };
 }
 
 impl KeptVotes {
     /// No votes. It takes no memory.
     pub fn new(alloc: Global) -> KeptVotes
-        ensures { result ≡ [] }
+        ensures { result.votes ≡ [] }
     {
         KeptVotes {
-            votes: Vec::new(alloc),
-            passed: 0,
+            reports: IndexMap::new(alloc),
+            greatest: None,
         }
-    }
-
-    /// The votes that were not passed.
-    fn left(&self) -> &[Vote]
-        ensures votes { result.now ≡ self.now }
-        ensures ascending { IsAscending result.now }
-    {
-        &self.votes[self.passed..]
     }
 
     /// The vote that is kept at the place.
     pub fn at(&self, place: u32) -> Option<Vote>
-        ensures { result ≡ vote_at self.now place }
+        ensures { result ≡ vote_at self.now.votes place }
     {
-        find_vote(self.left(), place)
+        let report = self.reports.get(&place)?;
+        Some(Vote {
+            place,
+            ballot: report.ballot,
+            value: report.value,
+        })
     }
 
-    /// Whether a vote is kept at the place or above it.
-    #[tactic(auto, using(crate::proofs::LastVote::any_from))]
+    /// Whether a vote is kept at the place or above it. It takes no search.
     pub fn is_from(&self, place: u32) -> bool
-        ensures { result ≡ is_kept_from self.now place }
+        ensures { result ≡ is_kept_from self.now.votes place }
     {
-        match self.left().last() {
-            Some(vote) => place <= vote.place,
+        match self.greatest {
+            Some(greatest) => place <= greatest,
             None => false,
         }
     }
 
-    /// Keeps these votes too, at most 8, one after another. After an error nothing has changed.
-    pub fn hear(&mut self, low: u32, votes: LentVotes<'_>) -> Result<(), AllocError>
-        requires { length votes ≤ 8 }
-        ensures ok { OnOk result (self.new ≡ heard low self.old votes.entry) }
-        ensures err { OnErr result (self.new ≡ self.old) }
+    /// Makes room for that many votes more. The votes stay, also after an error.
+    pub fn make_room(&mut self, count: usize) -> Result<(), AllocError>
+        ensures votes { self.new.votes ≡ self.old.votes }
+        ensures room { OnOk result (count ≤ self.new.room) }
     {
-        self.votes.drain(..self.passed);
-        self.passed = 0;
-        self.votes.reserve(PART_VOTES)?;
-        hear_votes(low, votes, &mut self.votes);
-        Ok(())
+        self.reports.reserve(count)
+    }
+
+    /// Keeps the vote instead of the one at its place, if there is one. There is room for it.
+    pub fn put(&mut self, vote: Vote)
+        requires { 0 < self.old.room }
+        ensures votes { self.new.votes ≡ with_vote self.old.votes vote }
+        ensures room { self.old.room ≤ self.new.room + 1 }
+    {
+        let report = Report {
+            ballot: vote.ballot,
+            value: vote.value,
+        };
+        self.reports.insert(vote.place, report).unwrap();
+        self.greatest = self.greatest.max(Some(vote.place));
     }
 
     /// Drops the vote at the place, if there is one. No vote is at a smaller place.
     pub fn pass(&mut self, place: u32)
-        requires { All (λ vote. place ≤ vote.place) self.old }
-        ensures { self.new ≡ votes_from (place + 1) self.old }
+        requires { All (λ vote. place ≤ vote.place) self.old.votes }
+        ensures { self.new.votes ≡ votes_from (place + 1) self.old.votes }
     {
-        match self.votes.get(self.passed) {
-            Some(vote) if vote.place == place => self.passed += 1,
-            _ => {}
+        self.reports.swap_remove(&place);
+        if self.greatest == Some(place) {
+            self.greatest = None;
         }
     }
 }

@@ -5,6 +5,7 @@ ghost use Rattle.paxos_proposer.specs.Proposer.{IsPart, asks_after, begun, cover
 
 use crate::covering::count_covering;
 use crate::fault::ProposerFault;
+use crate::hearing::hear_votes;
 use crate::kept::KeptVotes;
 use paxos_msg::{Ballot, BodyView, Value, View, Vote};
 use std::alloc::Global;
@@ -17,8 +18,8 @@ const PLACES: u32 = 65_536;
 const RESERVED_PROPOSALS: usize = 17;
 
 /// A proposer under one ballot: from what the acceptors promise it finds the value that it may propose
-/// at each place, one place after another. A look, and a proposal, take a search; a part of a promise
-/// takes two for each vote in it, and may move the kept votes for each.
+/// at each place, one place after another. A proposal takes two searches, and a part of a promise two
+/// for each vote in it, however many votes are kept; a look takes none.
 pub struct Proposer {
     ballot: Ballot,
     size: u8,
@@ -151,7 +152,7 @@ impl Proposer {
             return Ok(None);
         }
         let low = reached.max(self.next_place());
-        self.kept.hear(low, votes.iter())?;
+        hear_votes(low, votes.iter(), &mut self.kept)?;
         self.coverages[node] = *upto;
         if *upto < PLACES {
             Ok(Some(*upto))

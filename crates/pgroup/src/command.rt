@@ -8,13 +8,14 @@ use machine_run::{
 };
 use paxos_msg::Group;
 use pcode_machine::End;
+use std::env;
 use std::io::{Read, Write};
 use std::net::Net;
-use std::rt::Files;
+use std::rt::{Env, Files};
 use std::time::Clock;
 
 /// What the words of `node` say, as a plan.
-fn plan_of<'a>(words: &'a NodeWords<'_>) -> NodePlan<'a> {
+fn plan_of<'a>(words: &'a NodeWords<'_>, is_logged: bool) -> NodePlan<'a> {
     NodePlan {
         node: words.node,
         group: Group {
@@ -27,6 +28,18 @@ fn plan_of<'a>(words: &'a NodeWords<'_>) -> NodePlan<'a> {
         seen: words.seen,
         campaigns: words.campaigns,
         keys: words.keys,
+        is_logged,
+    }
+}
+
+/// The variable of the environment that asks a node for a log, by the value 1.
+const LOG: &str = "PGROUP_LOG";
+
+/// Returns whether the environment asks a node for a log.
+fn is_log_asked<H: Env + AllocGlobal>(rt: &H) -> bool {
+    match env::var(rt, LOG) {
+        Ok(value) => value.as_str() == "1",
+        Err(_) => false,
     }
 }
 
@@ -111,7 +124,12 @@ pub fn explain<W: Write, E: Write>(writer: &mut W, errors: &mut E, reason: NotAs
 }
 
 /// Does what the words ask for, on an input, an output and an error stream, and returns the status.
-fn perform<H: Files + Net + Clock + AllocGlobal + Copy + Drop, R: Read, W: Write, E: Write>(
+fn perform<
+    H: Files + Net + Clock + Env + AllocGlobal + Copy + Drop,
+    R: Read,
+    W: Write,
+    E: Write,
+>(
     rt: &H,
     asked: &Asked<'_>,
     reader: &mut R,
@@ -140,7 +158,9 @@ fn perform<H: Files + Net + Clock + AllocGlobal + Copy + Drop, R: Read, W: Write
             net_file(rt, file, net.size, net.turns, reader, writer),
         ),
         Asked::Node { file, node } => {
-            tell_done(errors, node_file(rt, file, &plan_of(node), reader, writer))
+            let plan = plan_of(node, is_log_asked(rt));
+            let done = node_file(rt, file, &plan, reader, writer, errors);
+            tell_done(errors, done)
         }
     }
 }
@@ -148,7 +168,12 @@ fn perform<H: Files + Net + Clock + AllocGlobal + Copy + Drop, R: Read, W: Write
 /// Does what the program does with these words, which are without its own name, on an input, an output
 /// and an error stream, and returns the status: 0; 1 refused; 2 a fault of the command line; 3 an execution
 /// error; 4 the steps are spent. A fault of the error stream is passed over.
-pub fn command<H: Files + Net + Clock + AllocGlobal + Copy + Drop, R: Read, W: Write, E: Write>(
+pub fn command<
+    H: Files + Net + Clock + Env + AllocGlobal + Copy + Drop,
+    R: Read,
+    W: Write,
+    E: Write,
+>(
     rt: &H,
     words: &[String],
     reader: &mut R,

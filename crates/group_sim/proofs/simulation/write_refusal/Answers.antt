@@ -1,7 +1,7 @@
 use Rattle.std.proofs.Common.{ℕ, List, ◌++◌}
 use Rattle.std.specs.Prelude.{codes, decimal}
 use Rattle.std.proofs.KnownBytes.{Appends-trans}
-use Rattle.group_sim.specs.Texts.{code_of}
+use Rattle.group_node.specs.Fault.{code_of}
 use Rattle.group_sim.proofs.Writing.{appended, failed, front-first, front-second}
 use Rattle.group_sim.proofs.simulation.write_refusal.Goals as goal
 

@@ -1,6 +1,6 @@
 use Rattle.std.proofs.Common.{◌∙◌, arith}
 use Rattle.std.proofs.lemmas.Result.{err_from_is_err_and}
-use Rattle.group_udp.proofs.Writing.{wrote_last, wrote_more}
+use Rattle.group_udp.proofs.Writing.{wrote_last, wrote_more, wrote_so_far}
 use Rattle.group_udp.proofs.Rounding.{plays_more, plays_refused}
 use Rattle.group_udp.proofs.node.play.Goals as goal
 
@@ -19,3 +19,7 @@ loop-preserved g c = record {
   program = c.in_ok-is_busy.ensures.program ∙ c.loop.invariant.program;
   wrote = wrote_more c.args.plan.now.seen c.args.member.now.node c.loop.member.node c.round.new.member.node _ _ _ _ (λ f. absurd cc) c.loop.invariant.wrote c.in_ok-is_busy.ensures.writes;
 }
+
+pub returns-clause-writes : goal.returns-clause-writes
+returns-clause-writes g c =
+    wrote_so_far c.args.plan.now.seen c.args.member.now.node c.loop.member.node _ _ _ (λ f. absurd cc) c.loop.invariant.wrote

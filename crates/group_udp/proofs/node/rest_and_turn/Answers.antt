@@ -2,16 +2,16 @@ use Rattle.std.proofs.lemmas.Result.{err_from_is_err_and}
 use Rattle.group_udp.proofs.Rounding.{turns_done, turns_refused, turns_untyped}
 use Rattle.group_udp.proofs.node.rest_and_turn.Goals as goal
 
-pub returns-in_err-press-clause-turns : goal.returns-in_err-press-clause-turns
-returns-in_err-press-clause-turns g c =
-    let p = err_from_is_err_and c.from_residual-in_err-press.result c.from_residual-in_err-press.ensures.1 in
-    turns_untyped _ _ _ c.args.is_busy _ _ _ _ _ _ p.1 p.2 c.in_ok-rest_unless_busy.ensures.rests c.in_err-press.ensures.pressed
+pub returns-in_err-pressed-clause-turns : goal.returns-in_err-pressed-clause-turns
+returns-in_err-pressed-clause-turns g c =
+    let p = err_from_is_err_and c.from_residual-in_err-pressed.result c.from_residual-in_err-pressed.ensures.1 in
+    turns_untyped _ _ _ c.args.is_busy _ _ _ _ _ _ p.1 p.2 c.in_ok-rest_unless_busy.ensures.rests c.in_err-pressed.ensures.pressed
 
 pub returns-in_err-turned-clause-turns : goal.returns-in_err-turned-clause-turns
 returns-in_err-turned-clause-turns g c =
     let p = err_from_is_err_and c.from_residual-in_err-turned.result c.from_residual-in_err-turned.ensures.1 in
-    turns_refused _ _ _ c.args.is_busy _ _ _ _ _ _ _ p.1 p.2 c.in_ok-rest_unless_busy.ensures.rests c.in_ok-press.ensures.pressed c.in_err-turned.ensures.turn
+    turns_refused _ _ _ c.args.is_busy _ _ _ _ _ _ _ _ p.1 p.2 c.in_ok-rest_unless_busy.ensures.rests c.in_ok-pressed.ensures.pressed c.in_err-turned.ensures.turn
 
 pub returns-clause-turns : goal.returns-clause-turns
 returns-clause-turns g c =
-    turns_done _ _ _ c.args.is_busy _ _ _ _ _ _ c.is_busy_after.ensures c.in_ok-rest_unless_busy.ensures.rests c.in_ok-press.ensures.pressed c.in_ok-turned.ensures.turn
+    turns_done _ _ _ c.args.is_busy _ _ _ _ _ _ _ c.is_busy_after.ensures c.in_ok-rest_unless_busy.ensures.rests c.in_ok-pressed.ensures.pressed c.in_ok-turned.ensures.turn

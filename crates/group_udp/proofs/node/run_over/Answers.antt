@@ -1,4 +1,4 @@
-use Rattle.std.proofs.Common.{inr}
+use Rattle.std.proofs.Common.{inl, inr, refl}
 use Rattle.std.proofs.lemmas.Result.{err_from_is_err_and}
 use Rattle.group_udp.proofs.Showing.{shown_from, shown_none}
 use Rattle.group_udp.proofs.node.run_over.Goals as goal
@@ -6,6 +6,11 @@ use Rattle.group_udp.proofs.node.run_over.Goals as goal
 pub returns-in_err-member-clause-written : goal.returns-in_err-member-clause-written
 returns-in_err-member-clause-written g c =
     shown_none _ _ _ _ (λ f. let p = err_from_is_err_and c.from_residual.result c.from_residual.ensures.1 in cc)
+
+pub returns-in_err-member-clause-runs : goal.returns-in_err-member-clause-runs
+returns-in_err-member-clause-runs g c =
+    let p = err_from_is_err_and c.from_residual.result c.from_residual.ensures.1 in
+    rw p.1 (inl (c.in_err-member.field-0.0, c.in_err-member.ensures.starts, refl, rw p.2 refl))
 
 pub returns-clause-runs : goal.returns-clause-runs
 returns-clause-runs g c = inr (_, _, c.in_ok-member.ensures.starts, c.campaign_and_play-played.ensures.plays)

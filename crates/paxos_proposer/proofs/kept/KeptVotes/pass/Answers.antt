@@ -1,27 +1,35 @@
--- The first of the votes that are left is passed where it is at the place.
-use Rattle.std.proofs.Common.{◌≡◌, ◌+◌, ◌≤◌, ◌∙◌, List, Some, ap, slice_get, subst, sym}
+-- The reports without the first place make the votes above it, of which the greatest place is the same, or which are none.
+use Rattle.std.proofs.Common.{◌+◌, ◌≤◌, ◌∙◌, List, ap, subst, sym}
 use Rattle.std.specs.Prelude.{All}
-use Rattle.std.proofs.lemmas.Bool.{ltb-true}
 use Rattle.paxos_msg.specs.Batches.{Vote}
+use Rattle.paxos_proposer.specs.KeptVotes.{Kept, votes_of}
 use Rattle.paxos_proposer.specs.Proposer.{votes_from}
-use Rattle.paxos_proposer.proofs.Passing.{get_at, pass_none, pass_one}
+use Rattle.paxos_proposer.proofs.ByPlace.{votes_of-cut}
+use Rattle.paxos_proposer.proofs.GreatestPlace.{greatest-passed, greatest-left}
 use Rattle.paxos_proposer.proofs.kept.KeptVotes.pass.Goals as goal
 
-pub returns-in-Some : goal.returns-in-Some
-returns-in-Some c =
-    let found = c.in-Some.ensures.lookup in
-    let here : slice_get c.self.inside.votes.items c.self.inside.passed ≡ Some c.in-Some.vote.now
-    = rw c.deref.ensures.value at (get_at c.deref.result.now c.self.inside.passed c.in-Some.vote.now (ltb-true _ _ (sym found.0)) found.1) in
-    let from = subst (λ (votes : List Vote). All (λ vote. c.args.place ≤ vote.place) votes) (sym c.self.view_is) c.requires in
-    pass_one c.self.inside.votes.items c.self.inside.passed c.args.place c.self.invariant from c.in-Some.vote.now here c.if-vote-place.true
-    ∙ ap (votes_from (c.args.place + 1)) c.self.view_is
+pub invariant_of-self : goal.invariant_of-self
+invariant_of-self c =
+    let old : List Vote = votes_of c.self.inside.reports.entries in
+    let from = subst (λ (kept : Kept). All (λ vote. c.args.place ≤ vote.place) kept.votes) (sym c.self.view_is) c.requires in
+    let is = votes_of-cut c.self.inside.reports.entries c.swap_remove.new.self.entries c.args.place c.swap_remove.ensures.updates.0 from in
+    rw is (greatest-passed old c.self.inside.greatest c.args.place (sym c.eq.ensures ∙ c.if-eq.true) c.self.invariant)
 
-pub returns-else-vote-place : goal.returns-else-vote-place
-returns-else-vote-place c =
-    let found = c.in-Some.ensures.lookup in
-    let here : slice_get c.self.inside.votes.items c.self.inside.passed ≡ Some c.in-Some.vote.now
-    = rw c.deref.ensures.value at (get_at c.deref.result.now c.self.inside.passed c.in-Some.vote.now (ltb-true _ _ (sym found.0)) found.1) in
-    let from = subst (λ (votes : List Vote). All (λ vote. c.args.place ≤ vote.place) votes) (sym c.self.view_is) c.requires in
-    sym c.self.view_is
-    ∙ pass_none c.self.inside.votes.items c.self.inside.passed c.args.place c.self.invariant from c.in-Some.vote.now here c.if-vote-place.false
-    ∙ ap (votes_from (c.args.place + 1)) c.self.view_is
+pub invariant_of-self-else-eq : goal.invariant_of-self-else-eq
+invariant_of-self-else-eq c =
+    let old : List Vote = votes_of c.self.inside.reports.entries in
+    let from = subst (λ (kept : Kept). All (λ vote. c.args.place ≤ vote.place) kept.votes) (sym c.self.view_is) c.requires in
+    let is = votes_of-cut c.self.inside.reports.entries c.swap_remove.new.self.entries c.args.place c.swap_remove.ensures.updates.0 from in
+    rw is (greatest-left old c.self.inside.greatest c.args.place (sym c.eq.ensures ∙ c.if-eq.false) from c.self.invariant)
+
+pub returns-then-eq : goal.returns-then-eq
+returns-then-eq c =
+    let from = subst (λ (kept : Kept). All (λ vote. c.args.place ≤ vote.place) kept.votes) (sym c.self.view_is) c.requires in
+    votes_of-cut c.self.inside.reports.entries c.swap_remove.new.self.entries c.args.place c.swap_remove.ensures.updates.0 from
+    ∙ ap (λ kept. votes_from (c.args.place + 1) kept.votes) c.self.view_is
+
+pub returns-else-eq : goal.returns-else-eq
+returns-else-eq c =
+    let from = subst (λ (kept : Kept). All (λ vote. c.args.place ≤ vote.place) kept.votes) (sym c.self.view_is) c.requires in
+    votes_of-cut c.self.inside.reports.entries c.swap_remove.new.self.entries c.args.place c.swap_remove.ensures.updates.0 from
+    ∙ ap (λ kept. votes_from (c.args.place + 1) kept.votes) c.self.view_is

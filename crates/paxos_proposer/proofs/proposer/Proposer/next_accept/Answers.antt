@@ -18,6 +18,6 @@ invariant_of-self-2 c =
       few = h.few;
       nodes = h.nodes;
       reach = h.reach;
-      ahead = rw (c.pass.ensures, count) (left_from (c.next_place-place.result + 1) c.self.inside.kept);
+      ahead = rw (c.pass.ensures, count) (left_from (c.next_place-place.result + 1) c.self.inside.kept.votes);
       places = omega arith;
     }

@@ -1,0 +1,65 @@
+-- The text of what a node says of itself. Its parts are nested to the right, as they are printed.
+use Rattle.std.specs.Prelude.{ℕ, ◌/◌, ◌%◌, List, ◌++◌, Option, Some, None, codes, decimal}
+use Rattle.std.specs.Net.Text.{socket_text}
+use Rattle.paxos_msg.specs.declared.ballot.Ballot.{Ballot}
+use Rattle.paxos_msg.specs.declared.message.Group.{Group}
+use Rattle.group_node.specs.Fault.{code_of}
+use Rattle.group_log.specs.declared.drops.Drops.{Drops}
+use Rattle.group_log.specs.declared.note.End.{End}
+use Rattle.group_log.specs.declared.note.End.TheVariants.{Turns, Node, Other}
+use Rattle.group_log.specs.declared.note.Note.{Note}
+use Rattle.group_log.specs.declared.note.Note.TheVariants.{NoFile, NoSocket, StartedNew, Started, Campaigns, CampaignRefused, Leads, BallotRefused, Dropped, Full, Ended}
+
+-- a text, a number in decimal digits, and what follows
+abbrev pub numbered : List ℕ → ℕ → List ℕ → List ℕ
+numbered text n rest = text ++ (decimal n ++ rest)
+
+-- a ballot is written `ROUND.NODE`, and `-` where there is none
+abbrev pub ballot_text : Option Ballot → List ℕ
+ballot_text None = codes "-"
+ballot_text (Some b) = decimal b.round ++ (codes "." ++ decimal b.node)
+
+-- the group of a node that started
+abbrev pub group_text : Group → List ℕ → List ℕ
+group_text g rest =
+    numbered (codes "started size ") g.size (numbered (codes " session ") g.session rest)
+
+-- how a run was over
+abbrev pub end_text : End → List ℕ
+end_text Turns = codes "ended"
+end_text (Node fault) = codes "ended refused " ++ code_of fault
+end_text Other = codes "ended refused"
+
+-- dropped datagrams, for each reason
+abbrev pub drops_text : Drops → List ℕ
+drops_text d = numbered (codes "dropped source ") d.source
+    (numbered (codes " version ") d.version
+    (numbered (codes " size ") d.size
+    (numbered (codes " session ") d.session
+    (codes " damaged " ++ decimal d.damaged))))
+
+-- the text of a note
+abbrev pub note_text : Note → List ℕ
+note_text (NoFile path) = codes "file " ++ (path.now ++ codes " cannot be read")
+note_text (NoSocket address) = codes "socket " ++ (socket_text address ++ codes " cannot be made")
+note_text (StartedNew group) = group_text group (codes " record new")
+note_text (Started group starts promised places) =
+    group_text group (numbered (codes " starts ") starts
+    (codes " promised " ++ (ballot_text promised ++ (codes " places " ++ decimal places))))
+note_text (Campaigns ballot) = codes "campaigns ballot " ++ ballot_text (Some ballot)
+note_text (CampaignRefused fault) = codes "campaign refused " ++ code_of fault
+note_text (Leads ballot) = codes "leads ballot " ++ ballot_text (Some ballot)
+note_text (BallotRefused ballot by) =
+    codes "refused by " ++ (ballot_text by ++ (codes " ballot " ++ ballot_text (Some ballot)))
+note_text (Dropped drops) = drops_text drops
+note_text (Full waiting) = numbered (codes "full waiting ") waiting (codes " bytes left")
+note_text (Ended end) = end_text end
+
+-- the line of a note: the time in seconds with three decimals, the node, and the note
+abbrev pub line_text : ℕ → ℕ → Note → List ℕ
+line_text millis node note =
+    numbered (codes "") (millis / 1000)
+    (numbered (codes ".") (millis / 100 % 10)
+    (numbered (codes "") (millis / 10 % 10)
+    (numbered (codes "") (millis % 10)
+    (numbered (codes " node ") node (codes " " ++ (note_text note ++ codes "\n"))))))

@@ -1,0 +1,78 @@
+//! Datagrams that a node drops.
+ghost use Rattle.std.specs.Prelude.{◌≡◌, slice_get};
+ghost use Rattle.group_log.specs.Drops.{counted, group_reason, one_more, reason_of, size_index};
+
+use paxos_msg::{Group, WireFault, decode};
+
+/// At which index of a datagram the size of its group is.
+const SIZE: usize = 5;
+
+/// Why a node drops a datagram.
+#[derive(Clone, Copy, Debug, PartialEq, Eq)]
+pub enum DropReason {
+    /// It came from another address than that of the node that it names.
+    Source,
+    /// It is of another version.
+    Version,
+    /// It is of a group of another size.
+    Size,
+    /// It is of another session.
+    Session,
+    /// It is no datagram of a group, or a damaged one.
+    Damaged,
+}
+
+/// Returns whether a datagram of another group differs in the group's session or in its size.
+fn group_reason(group: Group, datagram: &[u8]) -> DropReason
+    ensures { result ≡ group_reason group (slice_get datagram.now size_index) }
+{
+    match datagram.get(SIZE) {
+        Some(size) if *size == group.size => DropReason::Session,
+        _ => DropReason::Size,
+    }
+}
+
+/// Returns why a node of this group drops a datagram, by the first check that the datagram fails.
+/// None where it spells a message of the group.
+pub fn reason_of(group: Group, datagram: &[u8]) -> Option<DropReason>
+    ensures { result ≡ reason_of group datagram.now }
+{
+    match decode(datagram, group) {
+        Ok(_) => None,
+        Err(WireFault::Version) => Some(DropReason::Version),
+        Err(WireFault::Group) => Some(group_reason(group, datagram)),
+        Err(_) => Some(DropReason::Damaged),
+    }
+}
+
+/// How many datagrams a node dropped, for each reason. A count ends at 4,294,967,295.
+#[derive(Clone, Copy, Debug, PartialEq, Eq, Default)]
+pub struct Drops {
+    pub source: u32,
+    pub version: u32,
+    pub size: u32,
+    pub session: u32,
+    pub damaged: u32,
+}
+
+/// Returns one more, or the greatest count.
+fn one_more(count: u32) -> u32
+    ensures { result ≡ one_more count }
+{
+    count.saturating_add(1)
+}
+
+impl Drops {
+    /// Counts one more dropped datagram.
+    pub fn count(&mut self, reason: DropReason)
+        ensures { self.new ≡ counted self.old reason }
+    {
+        match reason {
+            DropReason::Source => self.source = one_more(self.source),
+            DropReason::Version => self.version = one_more(self.version),
+            DropReason::Size => self.size = one_more(self.size),
+            DropReason::Session => self.session = one_more(self.session),
+            DropReason::Damaged => self.damaged = one_more(self.damaged),
+        }
+    }
+}

@@ -1,0 +1,156 @@
+//! The log of one node.
+use crate::drops::Drops;
+use crate::note::{Note, line_of};
+use crate::role::Role;
+use group_node::Node;
+use paxos_acceptor::Store;
+use paxos_msg::{Ballot, Group};
+use std::alloc::Global;
+use std::io::Write;
+use std::time::{Clock, Duration, Instant, SystemTime};
+
+/// How many seconds it is at least from one note of dropped datagrams to the next.
+const DROPS_APART: u64 = 1;
+
+/// The log of one node: it writes notes to `errors`, a line each, if it is on. A line that cannot
+/// be made or written is left out.
+pub struct Log<'a, H, E> {
+    alloc: Global,
+    clock: &'a H,
+    errors: &'a mut E,
+    is_on: bool,
+    node: u8,
+    role: Role,
+    is_full: bool,
+    drops_noted: Option<Instant>,
+}
+
+impl<'a, H, E> Drop for Log<'a, H, E> {
+    fn drop(self) {
+        let Log {
+            alloc: _alloc,
+            clock: _clock,
+            errors: _errors,
+            is_on: _is_on,
+            node: _node,
+            role: _role,
+            is_full: _is_full,
+            drops_noted: _drops_noted,
+        } = self;
+    }
+}
+
+impl<'a, H: Clock, E: Write> Log<'a, H, E> {
+    /// The log of node `node`, before its start.
+    pub fn new(
+        alloc: Global,
+        clock: &'a H,
+        errors: &'a mut E,
+        node: u8,
+        is_on: bool,
+    ) -> Log<'a, H, E> {
+        Log {
+            alloc,
+            clock,
+            errors,
+            is_on,
+            node,
+            role: Role::Follower,
+            is_full: false,
+            drops_noted: None,
+        }
+    }
+
+    /// Returns whether notes are written.
+    pub fn is_on(&self) -> bool {
+        self.is_on
+    }
+
+    /// Returns the time in milliseconds from the start of 1970 on, or 0 where the clock cannot be
+    /// read.
+    fn millis(&self) -> u64 {
+        let Ok(now) = SystemTime::now(self.clock) else {
+            return 0;
+        };
+        match now.duration_since(SystemTime::UNIX_EPOCH) {
+            Ok(time) => u64::try_from(time.as_millis()).unwrap_or(0),
+            Err(_) => 0,
+        }
+    }
+
+    /// Writes a note, if the log is on.
+    pub fn note(&mut self, note: &Note<'_>) {
+        if !self.is_on {
+            return;
+        }
+        if let Ok(line) = line_of(self.alloc, self.millis(), self.node, note) {
+            let _ = self.errors.write_all(line.as_bytes());
+        }
+    }
+
+    /// Notes over which record the node has started.
+    pub fn started<S: Store>(&mut self, node: &Node<'_, S>, group: Group) {
+        let record = node.record();
+        if record.starts == 1 && record.promised.is_none() {
+            return self.note(&Note::StartedNew(group));
+        }
+        self.note(&Note::Started {
+            group,
+            starts: record.starts,
+            promised: record.promised,
+            places: record.votes.as_slice().len(),
+        });
+    }
+
+    /// Notes what has changed of the node's ballot since the last look.
+    pub fn look<S: Store>(&mut self, node: &Node<'_, S>) {
+        if !self.is_on {
+            return;
+        }
+        let next = self.role.next(node.ballot(), node.is_leading());
+        if let Some(ballot) = self.role.lost_ballot(next) {
+            let by = greatest(node.refusing_ballot(), node.record().promised);
+            self.note(&Note::BallotRefused { ballot, by });
+        }
+        if let Some(ballot) = self.role.new_ballot(next) {
+            self.note(&Note::Campaigns(ballot));
+        }
+        if let Role::Leader(ballot) = next
+            && self.role != next
+        {
+            self.note(&Note::Leads(ballot));
+        }
+        self.role = next;
+    }
+
+    /// Notes dropped datagrams, once a second at most, and then counts from 0 on again.
+    pub fn dropped(&mut self, drops: &mut Drops) {
+        if !self.is_on || *drops == Drops::default() {
+            return;
+        }
+        let Ok(now) = Instant::now(self.clock) else {
+            return;
+        };
+        if let Some(last) = self.drops_noted
+            && now.saturating_duration_since(last) < Duration::from_secs(DROPS_APART)
+        {
+            return;
+        }
+        self.drops_noted = Some(now);
+        self.note(&Note::Dropped(*drops));
+        *drops = Drops::default();
+    }
+
+    /// Notes once that typed bytes are left for which there is no room, until there is room again.
+    pub fn full(&mut self, waiting: usize, is_full: bool) {
+        if is_full && !self.is_full {
+            self.note(&Note::Full(waiting));
+        }
+        self.is_full = is_full;
+    }
+}
+
+/// Returns the greater of two ballots, where there are any.
+fn greatest(first: Option<Ballot>, second: Option<Ballot>) -> Option<Ballot> {
+    first.max(second)
+}

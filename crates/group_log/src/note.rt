@@ -1,0 +1,155 @@
+//! What a node says of itself, as text.
+ghost use Rattle.std.specs.Prelude.{◌≡◌, IfOk, string_bytes};
+ghost use Rattle.group_log.specs.Notes.{line_text};
+
+use crate::drops::Drops;
+use group_node::NodeFault;
+use paxos_msg::{Ballot, Group};
+use std::alloc::{AllocError, Global};
+use std::fmt;
+use std::net::SocketAddr;
+
+/// How a node's run was over.
+#[derive(Clone, Copy, Debug, PartialEq, Eq)]
+pub enum End {
+    /// All turns were made.
+    Turns,
+    /// The node refused to start, or to go on.
+    Node(NodeFault),
+    /// A socket, memory, or a way to write the output was missing.
+    Other,
+}
+
+/// What a node says of itself.
+#[derive(Clone, Copy, Debug)]
+pub enum Note<'a> {
+    /// Its code file, of this path, cannot be read.
+    NoFile(&'a str),
+    /// No socket can be made at this address.
+    NoSocket(SocketAddr),
+    /// It has started for the first time: there was no record, or an empty one.
+    StartedNew(Group),
+    /// It has started over a record, which counts this start.
+    Started {
+        group: Group,
+        starts: u32,
+        promised: Option<Ballot>,
+        places: usize,
+    },
+    /// It asks for promises under this ballot.
+    Campaigns(Ballot),
+    /// It was asked to campaign, and refused.
+    CampaignRefused(NodeFault),
+    /// It leads: a majority has promised under this ballot.
+    Leads(Ballot),
+    /// Its ballot was refused, and `by` is the greatest one that it knows of.
+    BallotRefused {
+        ballot: Ballot,
+        by: Option<Ballot>,
+    },
+    /// It has dropped datagrams since the last note of this kind.
+    Dropped(Drops),
+    /// This many keys wait, and typed bytes are left for which there is no room.
+    Full(usize),
+    /// Its run is over.
+    Ended(End),
+}
+
+/// A ballot as text: `ROUND.NODE`, or `-` for none.
+#[derive(Clone, Copy)]
+struct Shown(Option<Ballot>);
+
+impl fmt::Display for Shown {
+    ghost use Rattle.std.specs.Prelude.{Some};
+    ghost use Rattle.group_log.specs.Notes.{ballot_text};
+
+    ghost output = { λ shown. Some (ballot_text shown.0) };
+
+    fn fmt<W: fmt::Write>(&self, f: &mut fmt::Formatter<W>) -> fmt::Result {
+        match self.0 {
+            Some(Ballot { round, node }) => write!(f, "{round}.{node}"),
+            None => write!(f, "-"),
+        }
+    }
+}
+
+impl fmt::Display for End {
+    ghost use Rattle.std.specs.Prelude.{Some};
+    ghost use Rattle.group_log.specs.Notes.{end_text};
+
+    ghost output = { λ end. Some (end_text end) };
+
+    fn fmt<W: fmt::Write>(&self, f: &mut fmt::Formatter<W>) -> fmt::Result {
+        match self {
+            End::Turns => write!(f, "ended"),
+            End::Node(fault) => write!(f, "ended refused {fault}"),
+            End::Other => write!(f, "ended refused"),
+        }
+    }
+}
+
+impl fmt::Display for Drops {
+    ghost use Rattle.std.specs.Prelude.{Some};
+    ghost use Rattle.group_log.specs.Notes.{drops_text};
+
+    ghost output = { λ drops. Some (drops_text drops) };
+
+    fn fmt<W: fmt::Write>(&self, f: &mut fmt::Formatter<W>) -> fmt::Result {
+        write!(
+            f,
+            "dropped source {} version {} size {} session {} damaged {}",
+            self.source, self.version, self.size, self.session, self.damaged
+        )
+    }
+}
+
+impl fmt::Display for Note<'_> {
+    ghost use Rattle.std.specs.Prelude.{Some};
+    ghost use Rattle.group_log.specs.Notes.{note_text};
+
+    ghost output = { λ note. Some (note_text note) };
+
+    fn fmt<W: fmt::Write>(&self, f: &mut fmt::Formatter<W>) -> fmt::Result {
+        match self {
+            Note::NoFile(path) => write!(f, "file {path} cannot be read"),
+            Note::NoSocket(address) => write!(f, "socket {address} cannot be made"),
+            Note::StartedNew(Group { size, session }) => {
+                write!(f, "started size {size} session {session} record new")
+            }
+            Note::Started {
+                group: Group { size, session },
+                starts,
+                promised,
+                places,
+            } => write!(
+                f,
+                "started size {size} session {session} starts {starts} promised {} places {places}",
+                Shown(*promised)
+            ),
+            Note::Campaigns(ballot) => write!(f, "campaigns ballot {}", Shown(Some(*ballot))),
+            Note::CampaignRefused(fault) => write!(f, "campaign refused {fault}"),
+            Note::Leads(ballot) => write!(f, "leads ballot {}", Shown(Some(*ballot))),
+            Note::BallotRefused { ballot, by } => write!(
+                f,
+                "refused by {} ballot {}",
+                Shown(*by),
+                Shown(Some(*ballot))
+            ),
+            Note::Dropped(drops) => write!(f, "{drops}"),
+            Note::Full(waiting) => write!(f, "full waiting {waiting} bytes left"),
+            Note::Ended(end) => write!(f, "{end}"),
+        }
+    }
+}
+
+/// Returns the line of a note of a node, at this time in milliseconds from the start of 1970 on, in
+/// UTC: seconds with three decimals, as `date +%s.%3N` prints them, the node, and the note.
+pub fn line_of(alloc: Global, millis: u64, node: u8, note: &Note<'_>) -> Result<String, AllocError>
+    ensures { IfOk result (λ line. string_bytes line ≡ line_text millis node note.now) }
+{
+    let seconds = millis / 1_000;
+    let tenths = millis / 100 % 10;
+    let hundredths = millis / 10 % 10;
+    let thousandths = millis % 10;
+    format!(in alloc; "{seconds}.{tenths}{hundredths}{thousandths} node {node} {note}\n")
+}

@@ -1,0 +1,62 @@
+//! The changes that can be made to a record.
+ghost use Rattle.std.specs.Prelude.{◌≡◌, ◌↔◌, IfSome, IsTrue, OnErr, OnOk};
+ghost use Rattle.paxos_msg.specs.Ballots.{IsAtMost};
+ghost use Rattle.paxos_msg.specs.Fits.{IsBallot, IsPlace, IsValue};
+ghost use Rattle.paxos_msg.specs.Records.{changed};
+ghost use Rattle.paxos_acceptor.specs.Log.{IsEntry};
+ghost use Rattle.paxos_acceptor.specs.Records.{IsRecord};
+
+use crate::me::Me;
+use paxos_msg::{Ballot, Change, Record, Value, Vote, fits_ballot, fits_votes};
+use std::alloc::AllocError;
+
+/// Whether the ballot is not below the promised one, if there is one.
+fn is_not_below(promised: Option<Ballot>, ballot: Ballot) -> bool
+    ensures { IsTrue result ↔ IfSome promised (λ p. IsAtMost p ballot) }
+{
+    match promised {
+        Some(promised) => !(ballot < promised),
+        None => true,
+    }
+}
+
+/// Whether the fields of a vote are in their ranges.
+fn fits_vote(size: u8, place: u32, ballot: Ballot, value: Value) -> bool
+    ensures { IsTrue result ↔ (IsPlace place × IsBallot size ballot × IsValue size value) }
+{
+    let vote = Vote {
+        place,
+        ballot,
+        value,
+    };
+    fits_votes(size, ballot, 0, 65536, &[vote])
+}
+
+/// Whether the change can be made to the record: by its own fields, the starts and the promised ballot alone, so that the
+/// answer takes as long with many votes as with none.
+pub(crate) fn is_entry(kept: &Record, change: Change, me: Me) -> bool
+    ensures { IsTrue result ↔ IsEntry me.group.size kept.now change }
+{
+    let size = me.group.size;
+    match change {
+        Change::Start => kept.starts < u32::MAX,
+        Change::Promise(ballot) => {
+            fits_ballot(size, ballot) && is_not_below(kept.promised, ballot)
+        }
+        Change::Ballotted(place, ballot, value) => {
+            fits_vote(size, place, ballot, value) && is_not_below(kept.promised, ballot)
+        }
+    }
+}
+
+/// Makes a change that can be made. After an error nothing has changed.
+pub(crate) fn enter(kept: &mut Record, change: Change, me: Me) -> Result<(), AllocError>
+    requires ranges { IsRecord me.group.size kept.old }
+    requires entry { IsEntry me.group.size kept.old change }
+    ensures ok { OnOk result (kept.new ≡ changed kept.old change) }
+    ensures ranges { OnOk result (IsRecord me.group.size kept.new) }
+    ensures err { OnErr result (kept.new ≡ kept.old) }
+{
+    kept.change(change)?;
+    Ok(())
+}

@@ -1,0 +1,34 @@
+-- Nodes as the bits of one word.
+use Rattle.std.specs.Prelude.{◌≡◌, ℕ, zero, suc, ◌+◌, ◌*◌, ◌/◌, ◌%◌, ◌<◌, ◌^◌, ◌==◌, Bool, List, [], ◌∷◌, cond}
+use Rattle.std.proofs.Common.{refl, arith}
+use Rattle.std.proofs.Math.Nat.{pow-suc}
+
+-- whether each of the lowest k bits is set, from the lowest on
+unfoldable pub low_bits : ℕ → ℕ → List Bool
+low_bits zero mask = []
+low_bits (suc k) mask = (mask % 2 == 1) ∷ low_bits k (mask / 2)
+
+-- whether each node, 0 to 9, is one of those whose bits are set
+unfoldable pub nodes_of : ℕ → List Bool
+nodes_of mask = low_bits 10 mask
+
+-- the word with these bits, from the lowest on
+unfoldable pub mask_of : List Bool → ℕ
+mask_of [] = 0
+mask_of (b ∷ bs) = cond b 1 0 + 2 * mask_of bs
+
+-- the nodes alone tell the word
+
+bit_back : (r : ℕ) → r < 2 → cond (r == 1) 1 0 ≡ r
+bit_back zero h = refl
+bit_back (suc zero) h = refl
+bit_back (suc (suc r)) h = absurd (omega arith)
+
+low_bits_back : (k mask : ℕ) → mask < 2 ^ k → mask_of (low_bits k mask) ≡ mask
+unfolding low_bits mask_of
+low_bits_back zero mask h = omega arith
+low_bits_back (suc k) mask h = omega (arith, bit_back (mask % 2) (omega arith), low_bits_back k (mask / 2) (omega (arith, pow-suc 2 k)))
+
+pub mask_back : (mask : ℕ) → mask < 1024 → mask_of (nodes_of mask) ≡ mask
+unfolding nodes_of
+mask_back mask h = low_bits_back 10 mask h

@@ -1,0 +1,175 @@
+-- Votes in ascending order of place are known by what is found at each place.
+use Rattle.std.proofs.Common.{◌≡◌, ◌∙◌, ℕ, ◌+◌, ◌<◌, ◌≤◌, nat_eq, nat_lt, ◌==◌, Bool, true, false, cond, List, [], ◌∷◌, Option, Some, None, option_map, if◌then◌else◌, inl, inr, refl, sym, ap, arith}
+use Rattle.std.specs.Prelude.{All}
+use Rattle.std.specs.Map.{lookup}
+use Rattle.std.proofs.lemmas.Bool.{cases_eq, cases_lt, eq-eqb, ne_eqb, lt-ltb, le-ltb, le-leb, lt-leb}
+use Rattle.std.proofs.lemmas.Bool.Decides.{nat_tests}
+use Rattle.std.proofs.lemmas.List.Elements.{All-head, All-tail}
+use Rattle.paxos_msg.specs.Batches.{Vote}
+use Rattle.paxos_msg.specs.Messages.{AreAbove, IsAscending, vote_at}
+use Rattle.paxos_msg.specs.Records.{with_vote}
+use Rattle.paxos_proposer.specs.declared.kept.Report.{Report}
+use Rattle.paxos_proposer.specs.KeptVotes.{vote_of, votes_of}
+use Rattle.paxos_proposer.specs.Proposer.{votes_from}
+use Rattle.paxos_proposer.proofs.Passing.{left_at, left_from}
+use Rattle.paxos_proposer.proofs.Reported.{found_first, found_later, none_above}
+
+-- ---- what is found at a place
+
+put_step : (x vote : Vote) (xs : List Vote) (s : ℕ) → vote_at (with_vote xs vote) s ≡ (if vote.place == s then Some vote else vote_at xs s)
+    → vote_at (with_vote (x ∷ xs) vote) s ≡ (if vote.place == s then Some vote else vote_at (x ∷ xs) s)
+put_step x vote xs s ih = grind (arith, nat_tests)
+
+-- a vote that is put at its place is found there, and nothing changes elsewhere
+vote_at-with_vote : (votes : List Vote) (vote : Vote) (s : ℕ) → vote_at (with_vote votes vote) s ≡ (if vote.place == s then Some vote else vote_at votes s)
+vote_at-with_vote [] vote s = refl
+vote_at-with_vote (x ∷ xs) vote s = put_step x vote xs s (vote_at-with_vote xs vote s)
+
+mapped : (t : Bool) (s : ℕ) (r : Report) (o : Option Report) → (if t then Some (vote_of s r) else option_map (vote_of s) o) ≡ option_map (vote_of s) (cond t (Some r) o)
+mapped true s r o = refl
+mapped false s r o = refl
+
+-- the votes have at a place what a search of the reports finds
+pub vote_at-votes_of : (es : List (ℕ × Report)) (s : ℕ) → vote_at (votes_of es) s ≡ option_map (vote_of s) (lookup (nat_eq s) es)
+vote_at-votes_of [] s = refl
+vote_at-votes_of (e ∷ es) s =
+    vote_at-with_vote (votes_of es) (vote_of e.0 e.1) s
+    ∙ elim (cases_eq e.0 s) [
+      | inl same ↦ rw (same, eq-eqb s s refl) refl
+      | inr ne ↦ rw (ne_eqb e.0 s ne, ne_eqb s e.0 (λ same. ne (sym same))) (vote_at-votes_of es s)
+    ]
+
+-- ---- ascending order
+
+either : (P : List Vote → Type 0) (t : Bool) (xs ys : List Vote) → P xs → P ys → P (if t then xs else ys)
+either P true xs ys h k = h
+either P false xs ys h k = k
+
+above_less : (low s : ℕ) (votes : List Vote) → low ≤ s → AreAbove s votes → AreAbove low votes
+above_less low s [] le h = tt
+above_less low s (x ∷ xs) le h = (omega (arith, h.0), above_less low s xs le h.1)
+
+above_with : (s : ℕ) (votes : List Vote) (vote : Vote) → s < vote.place → AreAbove s votes → AreAbove s (with_vote votes vote)
+above_with s [] vote lt h = (lt, tt)
+above_with s (x ∷ xs) vote lt h =
+    either (AreAbove s) (nat_lt vote.place x.place) _ _ (lt, h)
+    (either (AreAbove s) (x.place == vote.place) _ _ (lt, h.1) (h.0, above_with s xs vote lt h.1))
+
+ascending_with : (votes : List Vote) (vote : Vote) → IsAscending votes → IsAscending (with_vote votes vote)
+ascending_with [] vote h = (tt, tt)
+ascending_with (x ∷ xs) vote h =
+    elim (cases_lt vote.place x.place) [
+      | inl less ↦ rw (lt-ltb vote.place x.place less) ((less, above_less vote.place x.place xs (omega arith) h.0), h)
+      | inr from ↦ rw (le-ltb vote.place x.place from) (elim (cases_eq x.place vote.place) [
+        | inl same ↦ rw (eq-eqb x.place vote.place same) (rw same at h.0, h.1)
+        | inr ne ↦ rw (ne_eqb x.place vote.place ne) (above_with x.place xs vote (omega arith) h.0, ascending_with xs vote h.1)
+      ])
+    ]
+
+ascending_of : (es : List (ℕ × Report)) → IsAscending (votes_of es)
+ascending_of [] = tt
+ascending_of (e ∷ es) = ascending_with (votes_of es) (vote_of e.0 e.1) (ascending_of es)
+
+above_left : (s n : ℕ) (votes : List Vote) → AreAbove s votes → AreAbove s (votes_from n votes)
+above_left s n [] h = tt
+above_left s n (x ∷ xs) h =
+    elim (cases_lt x.place n) [
+      | inl low ↦ rw (lt-leb n x.place low) (above_left s n xs h.1)
+      | inr high ↦ rw (le-leb n x.place high) (h.0, above_left s n xs h.1)
+    ]
+
+ascending_left : (n : ℕ) (votes : List Vote) → IsAscending votes → IsAscending (votes_from n votes)
+ascending_left n [] h = tt
+ascending_left n (x ∷ xs) h =
+    elim (cases_lt x.place n) [
+      | inl low ↦ rw (lt-leb n x.place low) (ascending_left n xs h.1)
+      | inr high ↦ rw (le-leb n x.place high) (above_left x.place n xs h.0, ascending_left n xs h.1)
+    ]
+
+-- ---- votes that agree at each place
+
+-- a first vote is found below no vote of the other list
+not_less : (x y : Vote) (xs ys : List Vote) → AreAbove y.place ys → ((s : ℕ) → vote_at (x ∷ xs) s ≡ vote_at (y ∷ ys) s) → y.place ≤ x.place
+not_less x y xs ys h same =
+    elim (cases_lt x.place y.place) [
+      | inl less ↦
+          let here : vote_at (x ∷ xs) x.place ≡ Some x = found_first x xs x.place refl in
+          let none : vote_at (y ∷ ys) x.place ≡ None = none_above (y ∷ ys) x.place (less, above_less x.place y.place ys (omega arith) h) in
+          let both = same x.place in
+          absurd cc
+      | inr from ↦ from
+    ]
+
+same_first : (x y : Vote) (xs ys : List Vote) → x.place ≡ y.place → ((s : ℕ) → vote_at (x ∷ xs) s ≡ vote_at (y ∷ ys) s) → x ≡ y
+same_first x y xs ys e same =
+    let here : vote_at (x ∷ xs) x.place ≡ Some x = found_first x xs x.place refl in
+    let there : vote_at (y ∷ ys) x.place ≡ Some y = found_first y ys x.place (sym e) in
+    let both = same x.place in
+    (cc)
+
+same_later : (x y : Vote) (xs ys : List Vote) → x.place ≡ y.place → AreAbove x.place xs → AreAbove y.place ys → ((s : ℕ) → vote_at (x ∷ xs) s ≡ vote_at (y ∷ ys) s)
+    → (s : ℕ) → vote_at xs s ≡ vote_at ys s
+same_later x y xs ys e h k same s =
+    elim (cases_eq x.place s) [
+      | inl at ↦ none_above xs s (rw at at h) ∙ sym (none_above ys s (rw (sym e ∙ at) at k))
+      | inr ne ↦ sym (found_later x xs s ne) ∙ same s ∙ found_later y ys s (λ at. ne (e ∙ at))
+    ]
+
+pub same_votes : (xs ys : List Vote) → IsAscending xs → IsAscending ys → ((s : ℕ) → vote_at xs s ≡ vote_at ys s) → xs ≡ ys
+same_votes [] [] h k same = refl
+same_votes [] (y ∷ ys) h k same =
+    let there : vote_at (y ∷ ys) y.place ≡ Some y = found_first y ys y.place refl in
+    let both = same y.place in
+    absurd cc
+same_votes (x ∷ xs) [] h k same =
+    let here : vote_at (x ∷ xs) x.place ≡ Some x = found_first x xs x.place refl in
+    let both = same x.place in
+    absurd cc
+same_votes (x ∷ xs) (y ∷ ys) h k same =
+    let low = not_less x y xs ys k.0 same in
+    let high = not_less y x ys xs h.0 (λ s. sym (same s)) in
+    let e : x.place ≡ y.place = omega arith in
+    let first = same_first x y xs ys e same in
+    let rest = same_votes xs ys h.1 k.1 (same_later x y xs ys e h.0 k.0 same) in
+    λ i. first i ∷ rest i
+
+-- ---- the reports with one more, or without one
+
+-- reports that differ at one place make votes that differ there
+pub votes_of-put : (es fs : List (ℕ × Report)) (s : ℕ) (r : Report) → ((q : ℕ) → lookup (nat_eq q) fs ≡ cond (nat_eq s q) (Some r) (lookup (nat_eq q) es))
+    → votes_of fs ≡ with_vote (votes_of es) (vote_of s r)
+votes_of-put es fs s r put =
+    same_votes _ _ (ascending_of fs) (ascending_with (votes_of es) (vote_of s r) (ascending_of es)) (λ q.
+    vote_at-votes_of fs q ∙ ap (option_map (vote_of q)) (put q)
+    ∙ sym (vote_at-with_vote (votes_of es) (vote_of s r) q ∙ here q))
+  where
+    here : (q : ℕ) → (if s == q then Some (vote_of s r) else vote_at (votes_of es) q) ≡ option_map (vote_of q) (cond (nat_eq s q) (Some r) (lookup (nat_eq q) es))
+    here q = elim (cases_eq s q) [
+      | inl same ↦ rw (same, eq-eqb q q refl) refl
+      | inr ne ↦ rw (ne_eqb s q ne) (vote_at-votes_of es q)
+    ]
+
+-- where all are from a place on, none is below it
+none_below : (s q : ℕ) (votes : List Vote) → q < s → All (λ vote. s ≤ vote.place) votes → vote_at votes q ≡ None
+none_below s q [] lt h = refl
+none_below s q (x ∷ xs) lt h =
+    let from : s ≤ x.place = All-head (λ vote. s ≤ vote.place) x xs h in
+    found_later x xs q (λ e. omega arith) ∙ none_below s q xs lt (All-tail (λ vote. s ≤ vote.place) x xs h)
+
+-- reports that lack the first place make the votes above it
+pub votes_of-cut : (es fs : List (ℕ × Report)) (s : ℕ) → ((q : ℕ) → lookup (nat_eq q) fs ≡ cond (nat_eq s q) None (lookup (nat_eq q) es))
+    → All (λ vote. s ≤ vote.place) (votes_of es) → votes_of fs ≡ votes_from (s + 1) (votes_of es)
+votes_of-cut es fs s cut from =
+    same_votes _ _ (ascending_of fs) (ascending_left (s + 1) (votes_of es) (ascending_of es)) (λ q.
+    vote_at-votes_of fs q ∙ ap (option_map (vote_of q)) (cut q) ∙ there q)
+  where
+    there : (q : ℕ) → option_map (vote_of q) (cond (nat_eq s q) None (lookup (nat_eq q) es)) ≡ vote_at (votes_from (s + 1) (votes_of es)) q
+    there q = elim (cases_eq s q) [
+      | inl same ↦ rw (eq-eqb s q same) (sym (none_below (s + 1) q (votes_from (s + 1) (votes_of es)) (omega arith) (left_from (s + 1) (votes_of es))))
+      | inr ne ↦ rw (ne_eqb s q ne) (sym (vote_at-votes_of es q) ∙ elim (cases_lt q s) [
+        | inl low ↦
+            none_below s q (votes_of es) low from
+            ∙ sym (none_below (s + 1) q (votes_from (s + 1) (votes_of es)) (omega arith) (left_from (s + 1) (votes_of es)))
+        | inr high ↦ sym (left_at (s + 1) q (votes_of es) (omega arith))
+      ])
+    ]
