@@ -1,5 +1,6 @@
 //! Scripts that happen to a group.
 ghost use Rattle.std.specs.Prelude.{◌≡◌, ◌↔◌, ◌⊎◌, ℕ, ◌+◌, ◌≤◌, is_some, length, IfErr, IfOk, IfSome, IsNone, OnErr};
+ghost use Rattle.group_node.specs.Fault.{code_of};
 ghost use Rattle.group_node.specs.States.{IsSize};
 ghost use Rattle.group_world.specs.Worlds.{begun};
 ghost use Rattle.group_sim.specs.Moments.{Delivers, DeliversAll, Happens, InTurn, IsDone, IsHalted, IsNoGroup, Plays, ReleasesAll, Says, Settles, Shows, answer_of, halt_of, is_meant, kept, moment, waiting};
@@ -63,13 +64,20 @@ impl From<WriteFault> for Halt {
     }
 }
 
+/// Returns the code of a node's refusal.
+fn code(fault: NodeFault) -> &'static [u8]
+    ensures { result.now ≡ code_of fault }
+{
+    fault.code().as_bytes()
+}
+
 /// Writes what a node refused at a line.
 fn write_refusal<W: Write>(writer: &mut W, line: usize, fault: NodeFault) -> Result<(), WriteFault>
     ensures { Writes (W.contents writer.old) result (W.contents writer.new) (refusal_text line fault) }
 {
     put_number(writer, b"line ", line as u64)?;
     put(writer, b" node ")?;
-    put(writer, fault.code().as_bytes())?;
+    put(writer, code(fault))?;
     put(writer, b"\n")
 }
 
