@@ -124,12 +124,7 @@ pub fn explain<W: Write, E: Write>(writer: &mut W, errors: &mut E, reason: NotAs
 }
 
 /// Does what the words ask for, on an input, an output and an error stream, and returns the status.
-fn perform<
-    H: Files + Net + Clock + Env + AllocGlobal + Copy + Drop,
-    R: Read,
-    W: Write,
-    E: Write,
->(
+fn perform<H: Files + Net + Clock + Env + AllocGlobal + Copy + Drop, R: Read, W: Write, E: Write>(
     rt: &H,
     asked: &Asked<'_>,
     reader: &mut R,
@@ -173,13 +168,7 @@ pub fn command<
     R: Read,
     W: Write,
     E: Write,
->(
-    rt: &H,
-    words: &[String],
-    reader: &mut R,
-    writer: &mut W,
-    errors: &mut E,
-) -> u8 {
+>(rt: &H, words: &[String], reader: &mut R, writer: &mut W, errors: &mut E) -> u8 {
     match read_words(rt.alloc(), words) {
         Ok(asked) => perform(rt, &asked, reader, writer, errors),
         Err(reason) => explain(writer, errors, reason),
