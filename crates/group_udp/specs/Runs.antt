@@ -1,5 +1,5 @@
 -- What a whole run of a node on UDP does and writes.
-use Rattle.std.specs.Prelude.{◌≡◌, ◌⊎◌, ℕ, Bool, List, [], ◌++◌, length, Option, None, Result, Ok, Err}
+use Rattle.std.specs.Prelude.{◌≡◌, ◌⊎◌, ℕ, Bool, List, [], ◌++◌, length, Option, None, Result, Ok, Err, IsErr, IsErrOf}
 use Rattle.std.specs.Io.KnownBytes.{Appends}
 use Rattle.paxos_acceptor.specs.declared.me.Me.{Me}
 use Rattle.paxos_acceptor.specs.declared.store.StoreFault.{StoreFault}
@@ -14,7 +14,7 @@ use Rattle.group_udp.specs.declared.ended.Ended.{Ended}
 use Rattle.group_udp.specs.declared.ended.Ended.TheVariants as ended
 use Rattle.group_udp.specs.Members.{HasStarted, NodeAndOutbox}
 use Rattle.group_udp.specs.Output.{shown_of}
-use Rattle.group_udp.specs.Refusals.{IsOpenRefusal}
+use Rattle.group_udp.specs.Refusals.{IsOpenRefusal, write_failed}
 use Rattle.group_udp.specs.Rounds.{HasCampaignedAndPlayed}
 
 -- A run of a node over a store, and what its writer held and holds: its start is refused, and
@@ -62,3 +62,11 @@ HasRunOverFile me program campaigns seen turns from to result =
     ((e : Ended) × IsOpenRefusal e × (to ≡ from) × (result ≡ Err e))
     ⊎ HasRun ⊥ ⊥ filed_state filed_loads me program (record { me = me; found = None; faults = 0 })
     campaigns seen turns from to result
+
+-- A run over the file of a record, of some program, and what a wrapper of the given writer holds then; or it is refused before it begins,
+-- and the given writer is as it was.
+abbrev pub HasRunOrRefused : Me → Bool → ℕ → ℕ → Option (List ℕ) → Option (List ℕ) → Result (Unit {0}) Ended → Type 0
+HasRunOrRefused me campaigns seen turns from to result =
+    ((program : Parts) × (now : Option (List ℕ)) × HasRunOverFile me program campaigns seen turns from now result
+    × HasShown program seen (IsErrOf result write_failed) from now)
+    ⊎ (IsErr result × (to ≡ from))

@@ -120,8 +120,8 @@ impl<'a, H: Clock> Seat<'a, H> {
         ensures plays { HasTurnedAndShown self.old.member self.new.member result }
         ensures others { IfErr result (λ e. IsRefusal e ⊎ (e ≡ no_memory)) }
     {
-        self.wire.begin_wait();
-        self.wire.wait();
+        self.wire.begin_rest();
+        self.wire.wait(true);
         self.member.turn(&mut self.wire)?;
         self.release_all()
     }

@@ -1,14 +1,13 @@
 //! One node on UDP, over a record in a file.
-ghost use Rattle.std.specs.Prelude.{◌≡◌, ◌<◌, ◌≤◌, ◌+◌, ◌-◌, ℕ, List, [], ◌∷◌, ◌++◌, drop, length, ◌⊎◌, IfErr, IsErr, IsErrOf, IsOk, MatchResult, OnErr, OnOk, Option};
+ghost use Rattle.std.specs.Prelude.{◌≡◌, ◌<◌, ◌≤◌, ◌+◌, ◌-◌, ℕ, List, [], ◌∷◌, ◌++◌, drop, length, ◌⊎◌, IfErr, IsErrOf, IsOk, MatchResult, OnErr, OnOk};
 ghost use Rattle.std.specs.Io.KnownBytes.{Appends, Keeps};
 ghost use Rattle.base.specs.Faults.{HasRisen};
-ghost use Rattle.pcode_file.specs.Parts.{Parts};
 ghost use Rattle.group_node.specs.States.{input};
 ghost use Rattle.group_node.specs.Output.{unreleased_of};
 ghost use Rattle.group_udp.specs.Output.{Releases, Writes, all_released, released_by, unseen_of};
 ghost use Rattle.group_udp.specs.Refusals.{IsCampaignRefusal, IsOpenRefusal, IsRefusal, IsRunRefusal, write_failed};
 ghost use Rattle.group_udp.specs.Rounds.{CampaignsIf, HasCampaignedAndPlayed, HasPlayed, HasRested, HasRestedAndTurned, IsRound, RestsUnless, is_busy_after};
-ghost use Rattle.group_udp.specs.Runs.{HasRun, HasRunOverFile, HasShown};
+ghost use Rattle.group_udp.specs.Runs.{HasRun, HasRunOrRefused, HasRunOverFile, HasShown};
 
 use crate::ended::{Ended, end_of};
 use crate::member::Member;
@@ -192,9 +191,25 @@ fn own_wire<'a, H: Net + Clock, E: Write>(
     UdpWire::new(rt, socket, watch, plan.addresses, counted)
 }
 
-/// A node that has nothing to do hears what comes, until a place has become known, bytes were typed, or 10 milliseconds are over. What a
+/// Returns whether the known front has moved since it was at this place, and notes on the wire that it has.
+fn has_moved<H: Clock, S: Store + Drop>(
+    member: &Member<'_, S>,
+    front: u32,
+    wire: &mut UdpWire<'_, H>,
+) -> bool {
+    let has_moved = member.known_front() > front;
+    if has_moved {
+        wire.stir();
+    }
+    has_moved
+}
+
+/// A node that has nothing to do hears what comes, until a place has become known, bytes were typed, or the rest is over. What a
 /// message asks for is done when it is heard, so it needs no tick; and a tick after each would make the other nodes tick in turn, without
 /// end.
+///
+/// While typed keys wait, their batch is under way, and further bytes do not end the rest: so the next tick submits all that
+/// came meanwhile.
 fn rest<H: Clock, S: Store + Drop>(
     member: &mut Member<'_, S>,
     wire: &mut UdpWire<'_, H>,
@@ -205,11 +220,12 @@ fn rest<H: Clock, S: Store + Drop>(
     ensures others { IfErr result (λ e. (e ≡ Ended.Node NodeFault.Stopped) ⊎ (e ≡ Ended.Node NodeFault.Store)) }
 {
     let front = member.known_front();
-    wire.begin_wait();
+    let is_ended_by_keys = member.waiting() == 0;
+    wire.begin_rest();
     for _ in 0..HEARD {
         let is_over = match member.hear(wire)? {
-            Heard::Nothing => !wire.wait(),
-            Heard::Dropped | Heard::Lost | Heard::Message => member.known_front() > front,
+            Heard::Nothing => !wire.wait(is_ended_by_keys),
+            Heard::Dropped | Heard::Lost | Heard::Message => has_moved(member, front, wire),
         };
         if is_over {
             return Ok(());
@@ -218,7 +234,7 @@ fn rest<H: Clock, S: Store + Drop>(
     Ok(())
 }
 
-/// A node rests, unless it is busy or there is something to be typed at it.
+/// A node rests, unless it is busy, or no keys wait and there is something to be typed at it.
 fn rest_unless_busy<H: Clock, S: Store + Drop>(
     member: &mut Member<'_, S>,
     sources: &mut Sources<'_, H>,
@@ -232,7 +248,7 @@ fn rest_unless_busy<H: Clock, S: Store + Drop>(
     if is_busy {
         return Ok(());
     }
-    if sources.typed.is_ready(member.waiting()) {
+    if member.waiting() == 0 && sources.typed.is_ready(0) {
         return Ok(());
     }
     rest(member, &mut sources.wire)
@@ -437,11 +453,8 @@ fn node_noted<H: Files + Net + Clock + AllocGlobal + Copy + Drop, R: Read, W: Wr
     writer: &mut W,
     log: &mut Log<'_, H, E>,
 ) -> Result<(), Ended>
-    ensures runs { ((program : Parts) × (now : Option (List ℕ))
-        × HasRunOverFile (record { node = plan.now.node; group = plan.now.group })
-        program plan.now.campaigns plan.now.seen plan.now.turns (W.contents writer.old) now result
-        × HasShown program plan.now.seen (IsErrOf result write_failed) (W.contents writer.old) now)
-        ⊎ (IsErr result × (W.contents writer.new ≡ W.contents writer.old)) }
+    ensures runs { HasRunOrRefused (record { node = plan.now.node; group = plan.now.group }) plan.now.campaigns plan.now.seen plan.now.turns
+        (W.contents writer.old) (W.contents writer.new) result }
 {
     let program = load_noted(rt, file, log)?;
     let config = Config::new(plan.node, plan.group.size, plan.group.session)?;
@@ -476,11 +489,8 @@ pub fn node_file<H: Files + Net + Clock + AllocGlobal + Copy + Drop, R: Read, W:
     writer: &mut W,
     errors: &mut E,
 ) -> Result<(), Ended>
-    ensures runs { ((program : Parts) × (now : Option (List ℕ))
-        × HasRunOverFile (record { node = plan.now.node; group = plan.now.group })
-        program plan.now.campaigns plan.now.seen plan.now.turns (W.contents writer.old) now result
-        × HasShown program plan.now.seen (IsErrOf result write_failed) (W.contents writer.old) now)
-        ⊎ (IsErr result × (W.contents writer.new ≡ W.contents writer.old)) }
+    ensures runs { HasRunOrRefused (record { node = plan.now.node; group = plan.now.group }) plan.now.campaigns plan.now.seen plan.now.turns
+        (W.contents writer.old) (W.contents writer.new) result }
 {
     let mut log = Log::new(rt.alloc(), rt, errors, plan.node, plan.is_logged);
     let done = node_noted(rt, file, plan, reader, writer, &mut log);

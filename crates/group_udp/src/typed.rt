@@ -1,5 +1,5 @@
 //! What a node types.
-ghost use Rattle.std.specs.Prelude.{◌≡◌, ◌⊎◌, IfErr};
+ghost use Rattle.std.specs.Prelude.{◌≡◌, ◌⊎◌, ◌≤◌, IfErr};
 ghost use Rattle.group_udp.specs.Output.{released_by};
 ghost use Rattle.group_udp.specs.Refusals.{IsRefusal};
 ghost use Rattle.group_udp.specs.Rounds.{HasCampaignedAsAsked, HasPressed};
@@ -23,6 +23,14 @@ fn is_next_taken(socket: &UdpSocket, waiting: usize) -> bool {
     match socket.peek_from(&mut [0u8; 1]) {
         Ok((count, _)) => count == 0 || waiting <= WAITING - KEYS,
         Err(_) => false,
+    }
+}
+
+/// Takes the next datagram, if it is there and empty: it asks the node to campaign. Returns whether it did.
+fn is_asked(socket: &UdpSocket) -> bool {
+    match socket.peek_from(&mut [0u8; 1]) {
+        Ok((0, _)) => receive_from(socket, &mut [0u8; 1]).is_some(),
+        _ => false,
     }
 }
 
@@ -81,7 +89,7 @@ impl Typed<'_> {
                 member.press_some(rest)?;
                 Ok(Pressed::Typed)
             }
-            Typed::Datagrams(socket) => press_datagram(member, socket),
+            Typed::Datagrams(socket) => press_datagrams(member, socket),
         }
     }
 }
@@ -102,9 +110,28 @@ fn campaign_when_asked<S: Store + Drop>(member: &mut Member<'_, S>) -> Result<Pr
     }
 }
 
-/// Takes one datagram, if one is there: the node campaigns if it is empty, and else its bytes are
-/// typed. While fewer than 64 keys have room, one with bytes stays where it is.
-fn press_datagram<S: Store + Drop>(
+/// Receives the datagrams with bytes that are there to the front of the buffer, one behind the other, as long as another one has room
+/// for sure. A longer one than 64 bytes is dropped. Returns how many bytes they have.
+fn gather(socket: &UdpSocket, buffer: &mut [u8; WAITING + 1], waiting: usize) -> usize
+    ensures { result ≤ 256 }
+{
+    let mut length = 0;
+    for _ in 0..WAITING {
+        let is_next = has_bytes(socket) && waiting.saturating_add(length) <= WAITING - KEYS;
+        if !is_next {
+            return length;
+        }
+        match receive_from(socket, &mut buffer[length..length + KEYS + 1]) {
+            Some((count, _)) if count <= KEYS => length += count,
+            _ => {}
+        }
+    }
+    length
+}
+
+/// Takes what is there: the node campaigns if the first datagram is empty. Else the bytes of all up to the first empty one are typed. While
+/// fewer than 64 keys have room, one with bytes stays where it is.
+fn press_datagrams<S: Store + Drop>(
     member: &mut Member<'_, S>,
     socket: &UdpSocket,
 ) -> Result<Pressed, Ended>
@@ -113,17 +140,12 @@ fn press_datagram<S: Store + Drop>(
     ensures progress { member.new.node.progress ≡ member.old.node.progress }
     ensures others { IfErr result (λ e. IsRefusal e) }
 {
-    if !is_next_taken(socket, member.waiting()) {
-        return Ok(Pressed::Typed);
+    if is_asked(socket) {
+        return campaign_when_asked(member);
     }
-    let mut buffer = [0u8; KEYS + 1];
-    match receive_from(socket, &mut buffer) {
-        Some((0, _)) => campaign_when_asked(member),
-        Some((count, _)) if count <= KEYS => {
-            let mut bytes = &buffer[..count];
-            member.press_some(&mut bytes)?;
-            Ok(Pressed::Typed)
-        }
-        _ => Ok(Pressed::Typed),
-    }
+    let mut buffer = [0u8; WAITING + 1];
+    let length = gather(socket, &mut buffer, member.waiting());
+    let mut bytes = &buffer[..length];
+    member.press_some(&mut bytes)?;
+    Ok(Pressed::Typed)
 }

@@ -1,5 +1,5 @@
 //! UDP sockets as wires.
-ghost use Rattle.std.specs.Prelude.{◌≡◌, ◌≤◌, length, IfErr, IfSome};
+ghost use Rattle.std.specs.Prelude.{◌≡◌, ◌+◌, ◌-◌, ◌≤◌, min, length, IfErr, IfSome};
 ghost use Rattle.group_udp.specs.Refusals.{IsOpenRefusal};
 ghost use Rattle.group_udp.specs.Sources.{drop_of};
 
@@ -13,8 +13,26 @@ use paxos_msg::Group;
 use std::net::{Net, SocketAddr};
 use std::time::{Clock, Duration, Instant};
 
-/// How long a node waits between two turns at most, in milliseconds.
-const WAIT: u64 = 10;
+/// How long a node rests between two turns, in milliseconds, while something happens.
+const SHORT_REST: u64 = 10;
+
+/// How long it rests at most, in milliseconds, where nothing has happened for long.
+const LONG_REST: u64 = 100;
+
+/// How many rests without an event are short: they take a second. Each further one is a millisecond longer than the one before.
+const SHORT_RESTS: u64 = 100;
+
+/// The byte of a datagram that tells its kind, and the kind of an Ask.
+const KIND: usize = 3;
+
+const ASK: u8 = 7;
+
+/// Returns how long a rest is after this many rests without an event, in milliseconds.
+fn rest_after(quiet: u64) -> u64
+    ensures { result ≡ min (10 + (quiet - 100)) 100 }
+{
+    LONG_REST.min(SHORT_REST + quiet.saturating_sub(SHORT_RESTS))
+}
 
 /// A socket at this address, whose calls never wait.
 pub fn bind<H: Net>(rt: &H, address: SocketAddr) -> Result<UdpSocket, Ended>
@@ -101,6 +119,8 @@ pub struct UdpWire<'a, H> {
     addresses: &'a [SocketAddr],
     /// Until when it is waited for a datagram.
     until: Option<Instant>,
+    /// How many rests were begun since something happened.
+    quiet: u64,
     /// Of which group's datagrams it counts why they are dropped; None where it counts none.
     counted: Option<Group>,
     /// How many datagrams were dropped since these counts were last emptied.
@@ -115,6 +135,7 @@ impl<'a, H> Drop for UdpWire<'a, H> {
             watch: _watch,
             addresses: _addresses,
             until: _until,
+            quiet: _quiet,
             counted: _counted,
             drops: _drops,
         } = self;
@@ -140,6 +161,7 @@ impl<'a, H: Clock> UdpWire<'a, H> {
             watch,
             addresses,
             until: None,
+            quiet: 0,
             counted,
             drops: Drops::default(),
         })
@@ -155,10 +177,17 @@ impl<'a, H: Clock> UdpWire<'a, H> {
         }
     }
 
-    /// Begins a time of waiting: 10 milliseconds in all.
-    pub fn begin_wait(&mut self) {
+    /// Notes that something has happened: the next rest is short.
+    pub fn stir(&mut self) {
+        self.quiet = 0;
+    }
+
+    /// Begins a rest. It takes 10 milliseconds. Where the last 100 rests were without an event it takes longer, and 100 at most.
+    pub fn begin_rest(&mut self) {
+        let length = Duration::from_millis(rest_after(self.quiet));
+        self.quiet = self.quiet.saturating_add(1);
         self.until = match Instant::now(self.clock) {
-            Ok(now) => now.checked_add(Duration::from_millis(WAIT)),
+            Ok(now) => now.checked_add(length),
             Err(_) => None,
         };
     }
@@ -169,11 +198,11 @@ impl<'a, H: Clock> UdpWire<'a, H> {
         self.until?.checked_duration_since(now)
     }
 
-    /// Waits for a datagram, where all that were there have been received. Whether there may be one: not where the time is over, or where
-    /// bytes were typed.
-    pub fn wait(&mut self) -> bool {
+    /// Waits for a datagram, where all that were there have been received. Returns whether there may be one: not where the rest is over,
+    /// or where bytes were typed and `is_ended_by_keys`.
+    pub fn wait(&mut self, is_ended_by_keys: bool) -> bool {
         match self.left() {
-            Some(left) => !self.watch.wait(left),
+            Some(left) => !(self.watch.wait(left) && is_ended_by_keys),
             None => false,
         }
     }
@@ -185,7 +214,11 @@ impl<H: Clock> Wire for UdpWire<'_, H> {
     // What the system does with it is not known.
     ghost traffic = { λ _. None };
 
+    // A node that has nothing to do sends Asks alone.
     fn send(&mut self, to: u8, bytes: &[u8]) -> bool {
+        if bytes.get(KIND) != Some(&ASK) {
+            self.stir();
+        }
         let Some(index) = usize::from(to).checked_sub(1) else {
             return false;
         };

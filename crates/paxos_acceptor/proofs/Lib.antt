@@ -10,3 +10,7 @@ mod VotesV1
 mod Migrating
 mod RecordRead
 mod Apart
+mod LogEntries
+mod LogFolds
+mod LogGrowth
+mod Forms

@@ -11,7 +11,7 @@ use Rattle.paxos_msg.specs.Ballots.{IsAtMost}
 use Rattle.paxos_msg.specs.Fits.{IsBallot, IsPlace, IsValue, IsVote, AreVotes}
 use Rattle.paxos_msg.specs.Messages.{AreAbove, IsAscending}
 use Rattle.paxos_msg.specs.Records.{changed, with_vote}
-use Rattle.paxos_acceptor.specs.Log.{IsEntry}
+use Rattle.paxos_acceptor.specs.Log.{IsEntry, IsInRanges, IsNext}
 use Rattle.paxos_acceptor.specs.Records.{AreKept, IsRecord}
 
 module _ (size upto : ℕ) (b : Ballot) where
@@ -105,13 +105,15 @@ vote_in_ranges size r b s v rises ballot place value h =
 
 -- so does each change that can be made
 pub entry_in_ranges : (size : ℕ) (r : Record) (c : Change) → IsEntry size r c → IsRecord size r → IsRecord size (changed r c)
-entry_in_ranges size r Start entry h = record { starts = omega (arith, entry); kept = h.kept }
-entry_in_ranges size r (Promise b) entry h = promise_in_ranges size r b entry.1 entry.0 h
-entry_in_ranges size r (Ballotted s b v) entry h = vote_in_ranges size r b s v entry.3 entry.1 entry.0 entry.2 h
+entry_in_ranges size r c entry h = by c entry.in_ranges entry.next where
+  by : (c : Change) → IsInRanges size c → IsNext r c → IsRecord size (changed r c)
+  by Start fits next = record { starts = omega (arith, next); kept = h.kept }
+  by (Promise b) fits next = promise_in_ranges size r b next fits h
+  by (Ballotted s b v) fits next = vote_in_ranges size r b s v next fits.1 fits.0 fits.2 h
 
 -- a start that can be counted is one to spare
 pub start_to_spare : (size : ℕ) (r : Record) (c : Change) → IsEntry size r c → c ≡ Start → r.starts < 4294967295
-start_to_spare size r c entry e = subst (IsEntry size r) e entry
+start_to_spare size r c entry e = subst (IsNext r) e entry.next
 
 -- ---- what an acceptor knows of its record
 

@@ -1,17 +1,62 @@
 -- A store in a file: what it has in memory of it.
-use Rattle.std.specs.Prelude.{◌≡◌, ℕ, ◌⊎◌, List, Option, Some, None, IsSomeAnd, Result, IfOk, OnErr, OnOk, IsErrOf}
+use Rattle.std.specs.Prelude.{◌≡◌, ℕ, ◌+◌, ◌<◌, ◌⊎◌, min, List, ◌++◌, length, take, Option, Some, None, IsSomeAnd, Result, IfOk, OnErr, OnOk, IsErrOf}
 use Rattle.paxos_msg.specs.Batches.{Change, Record}
-use Rattle.paxos_msg.specs.Records.{changed}
+use Rattle.paxos_msg.specs.Records.{changed, empty_record}
 use Rattle.paxos_acceptor.specs.declared.me.Me.{Me}
 use Rattle.paxos_acceptor.specs.declared.store.StoreFault.{StoreFault}
 use Rattle.paxos_acceptor.specs.declared.store.StoreFault.TheVariants as fault
-use Rattle.paxos_acceptor.specs.Records.{Rec}
+use Rattle.paxos_acceptor.specs.declared.version.Version.TheVariants.{One, Two}
+use Rattle.paxos_acceptor.specs.declared.form.Form.{Form}
+use Rattle.paxos_acceptor.specs.declared.form.Form.TheVariants.{Missing, Cut, Log, Whole}
+use Rattle.paxos_acceptor.specs.declared.form.Patch.{Patch}
+use Rattle.paxos_acceptor.specs.Log.{IsUncut, LogIn, entry_bytes, log_header}
+use Rattle.paxos_acceptor.specs.Records.{Rec, record_bytes}
 use Rattle.paxos_acceptor.specs.Stores.{HasCause}
 use Rattle.paxos_acceptor.specs.Version1.{Rec1}
 
--- the bytes of a file are the spelling of the record, in version 2 or in version 1
+-- the bytes are of a file whose next save writes a whole record: they are its spelling, in version 2 or in version 1, or a log of version 1
+abbrev pub IsWhole : Me → List ℕ → Record → Type 0
+IsWhole me bytes r = Rec me bytes r ⊎ Rec1 me bytes r ⊎ (n : ℕ) × LogIn One me bytes r n
+
+-- the bytes of a file are the record's, in one of the four forms
 abbrev pub IsWritten : Me → List ℕ → Record → Type 0
-IsWritten me bytes r = Rec me bytes r ⊎ Rec1 me bytes r
+IsWritten me bytes r = IsWhole me bytes r ⊎ (n : ℕ) × LogIn Two me bytes r n
+
+-- a file with these bytes has the record, in that form; a log whose last entry was cut has it without that entry
+abbrev pub IsFormIn : Me → List ℕ → Record → Form → Type 0
+IsFormIn me bytes r Missing = ⊥
+IsFormIn me bytes r (Cut kept) = (n : ℕ) × LogIn Two me bytes r n × (n < length bytes) × (kept.items ≡ take n bytes)
+IsFormIn me bytes r (Log n) = LogIn Two me bytes r n × (n ≡ length bytes)
+IsFormIn me bytes r Whole = IsWhole me bytes r
+
+-- a file of that form can have the record
+abbrev pub IsFormOf : Me → Record → Form → Type 0
+IsFormOf me r Missing = r ≡ empty_record
+IsFormOf me r (Cut bytes) = IsUncut me bytes.items r
+IsFormOf me r (Log n) = Unit {0}
+IsFormOf me r Whole = Unit {0}
+
+-- What a save of the change writes: behind a log its entry; where an entry was cut, or no file is, the log with its entry; and in whole form the
+-- changed record.
+abbrev pub IsPatch : Me → Record → Change → Form → Patch → Type 0
+IsPatch me r c Missing patch = (patch.at ≡ None) × (patch.bytes.items ≡ log_header Two me ++ entry_bytes Two c)
+IsPatch me r c (Cut bytes) patch = (patch.at ≡ None) × (patch.bytes.items ≡ bytes.items ++ entry_bytes Two c)
+IsPatch me r c (Log n) patch = (patch.at ≡ Some n) × (patch.bytes.items ≡ entry_bytes Two c)
+IsPatch me r c Whole patch = (patch.at ≡ None) × (patch.bytes.items ≡ record_bytes me (changed r c))
+
+-- what a file with these bytes has after the patch
+abbrev pub patched : List ℕ → Patch → List ℕ
+patched bytes patch = by patch.at where
+  by : Option ℕ → List ℕ
+  by None = patch.bytes.items
+  by (Some n) = bytes ++ patch.bytes.items
+
+-- the form of a file that had the first form and got the patch; a length stops at the greatest that there is
+abbrev pub IsFormAfter : Form → Patch → Form → Type 0
+IsFormAfter Missing patch after = after ≡ Log (length patch.bytes.items)
+IsFormAfter (Cut bytes) patch after = after ≡ Log (length patch.bytes.items)
+IsFormAfter (Log n) patch after = after ≡ Log (min (n + length patch.bytes.items) 18446744073709551615)
+IsFormAfter Whole patch after = after ≡ Whole
 
 -- whose record it is, the record that the file is known to have, if any, and how often the device failed
 pub record Filed : Type 0 where

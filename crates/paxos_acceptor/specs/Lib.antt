@@ -10,5 +10,6 @@ pub mod Memories
 pub mod Opening
 pub mod Cases
 pub mod Saves
-pub mod Files
 pub mod Log
+pub mod Files
+pub mod LogReading

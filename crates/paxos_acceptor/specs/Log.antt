@@ -1,12 +1,113 @@
--- Which changes of a record can be entries of a log.
-use Rattle.std.specs.Prelude.{ℕ, ◌<◌, IfSome}
+-- A log: a header, and behind it the changes of a record as entries, each spelled behind the one before. The record is what they make
+-- of the empty one. An entry that was cut at the end is left out.
+use Rattle.std.specs.Prelude.{◌≡◌, ℕ, ◌+◌, ◌<◌, ◌≤◌, ◌⊎◌, List, [], ◌∷◌, ◌++◌, length, drop, slice_index, IfSome}
 use Rattle.paxos_msg.specs.Batches.{Change, Record}
 use Rattle.paxos_msg.specs.declared.record.Change.TheVariants.{Start, Promise, Ballotted}
+use Rattle.paxos_msg.specs.declared.value.Value.{Value}
 use Rattle.paxos_msg.specs.Ballots.{IsAtMost}
 use Rattle.paxos_msg.specs.Fits.{IsBallot, IsPlace, IsValue}
+use Rattle.paxos_msg.specs.Records.{changed, empty_record}
+use Rattle.paxos_msg.specs.Spelling.{ballot_bytes, number_bytes, value_bytes}
+use Rattle.paxos_msg.specs.Version1.{IsSingle, value_bytes_v1}
+use Rattle.paxos_acceptor.specs.RecordReading.{version_byte}
+use Rattle.paxos_acceptor.specs.declared.me.Me.{Me}
+use Rattle.paxos_acceptor.specs.declared.version.Version.{Version}
+use Rattle.paxos_acceptor.specs.declared.version.Version.TheVariants.{One, Two}
 
--- the change can be made to this record: there is a start to spare; a ballot is not below the promised one; each field is in its ranges
-abbrev pub IsEntry : ℕ → Record → Change → Type 0
-IsEntry size r Start = r.starts < 4294967295
-IsEntry size r (Promise b) = IsBallot size b × IfSome r.promised (λ p. IsAtMost p b)
-IsEntry size r (Ballotted s b v) = IsPlace s × IsBallot size b × IsValue size v × IfSome r.promised (λ p. IsAtMost p b)
+-- ---- which changes can be entries
+
+-- the fields of the change are in their ranges
+abbrev pub IsInRanges : ℕ → Change → Type 0
+IsInRanges size Start = Unit {0}
+IsInRanges size (Promise b) = IsBallot size b
+IsInRanges size (Ballotted s b v) = IsPlace s × IsBallot size b × IsValue size v
+
+-- the change can be made to the record: there is a start to spare, and no ballot is below the promised one
+abbrev pub IsNext : Record → Change → Type 0
+IsNext r Start = r.starts < 4294967295
+IsNext r (Promise b) = IfSome r.promised (λ p. IsAtMost p b)
+IsNext r (Ballotted s b v) = IfSome r.promised (λ p. IsAtMost p b)
+
+-- it can be the next entry behind those that make this record
+pub record IsEntry (size : ℕ) (r : Record) (c : Change) : Type 0 where
+  pub in_ranges : IsInRanges size c
+  pub next : IsNext r c
+
+-- ---- how they are spelled
+
+-- a value in that version
+abbrev pub value_text : Version → Value → List ℕ
+value_text One v = value_bytes_v1 v
+value_text Two v = value_bytes v
+
+-- a start is 1; a promise is 2 and the ballot; a vote is 3, the place, the ballot and the value
+abbrev pub entry_bytes : Version → Change → List ℕ
+entry_bytes version Start = 1 ∷ []
+entry_bytes version (Promise b) = 2 ∷ ballot_bytes b
+entry_bytes version (Ballotted s b v) = 3 ∷ (number_bytes s ++ (ballot_bytes b ++ value_text version v))
+
+abbrev pub entries_bytes : Version → List Change → List ℕ
+entries_bytes version [] = []
+entries_bytes version (c ∷ cs) = entry_bytes version c ++ entries_bytes version cs
+
+-- the version can spell the change: version 1 has no batch of more than one key
+abbrev pub IsFor : Version → Change → Type 0
+IsFor One (Ballotted s b v) = IsSingle v
+IsFor One Start = Unit {0}
+IsFor One (Promise b) = Unit {0}
+IsFor Two c = Unit {0}
+
+-- ---- the whole log
+
+-- `PL`, the version, and whose record it is
+abbrev pub log_header : Version → Me → List ℕ
+log_header version me = 80 ∷ 76 ∷ version_byte version ∷ me.node ∷ me.group.size ∷ number_bytes me.group.session
+
+-- the record that the changes make of this one
+abbrev pub folded : Record → List Change → Record
+folded r [] = r
+folded r (c ∷ cs) = folded (changed r c) cs
+
+-- each of them can be the next entry, in that version
+abbrev pub AreEntries : Version → ℕ → Record → List Change → Type 0
+AreEntries version size r [] = Unit {0}
+AreEntries version size r (c ∷ cs) = IsEntry size r c × IsFor version c × AreEntries version size (changed r c) cs
+
+-- Behind the tag of a batch: its node, start and first serial, nine bytes, and then a key's byte or, from version 2 on, a count from
+-- 1 to 32 and so many bytes. Here some are missing.
+abbrev pub IsCutBatch : Version → List ℕ → Type 0
+IsCutBatch One bytes = length bytes < 10
+IsCutBatch Two bytes = (length bytes < 10) ⊎ ((0 < slice_index bytes 9) × (slice_index bytes 9 ≤ 32) × (length bytes < 10 + slice_index bytes 9))
+
+-- behind the tag of a vote: its place and ballot, nine bytes, and a value, which is 0, or 1 and a batch
+abbrev pub IsCutVote : Version → List ℕ → Type 0
+IsCutVote version bytes = (length bytes < 10) ⊎ ((slice_index bytes 9 ≡ 1) × IsCutBatch version (drop 10 bytes))
+
+-- the end of a log: nothing, or an entry of which the last bytes are missing, whatever the others are
+abbrev pub IsEnd : Version → List ℕ → Type 0
+IsEnd version [] = Unit {0}
+IsEnd version (tag ∷ bytes) = ((tag ≡ 2) × (length bytes < 5)) ⊎ ((tag ≡ 3) × IsCutVote version bytes)
+
+-- the bytes are these changes and behind them the end; the changes can be made to this record, and make the other of it
+pub record IsFold (version : Version) (size : ℕ) (r : Record) (bytes : List ℕ) (changes : List Change) (made : Record) (end : List ℕ) : Type 0 where
+  pub entries : AreEntries version size r changes
+  pub spelled : bytes ≡ entries_bytes version changes ++ end
+  pub ends : IsEnd version end
+  pub all : made ≡ folded r changes
+
+-- some changes are so
+abbrev pub Folds : Version → ℕ → Record → List ℕ → Record → List ℕ → Type 0
+Folds version size r bytes made end = (changes : List Change) × IsFold version size r bytes changes made end
+
+-- the bytes are a log of the record in that version; its header and whole entries take n bytes
+abbrev pub LogIn : Version → Me → List ℕ → Record → ℕ → Type 0
+LogIn version me bytes r n =
+    (entries : List ℕ) × (end : List ℕ) × (bytes ≡ log_header version me ++ entries) × Folds version me.group.size empty_record entries r end × (n + length end ≡ length bytes)
+
+-- in either version
+abbrev pub Log : Me → List ℕ → Record → ℕ → Type 0
+Log me bytes r n = LogIn Two me bytes r n ⊎ LogIn One me bytes r n
+
+-- the bytes are a log of the record in version 2, and all its entries are whole
+abbrev pub IsUncut : Me → List ℕ → Record → Type 0
+IsUncut me bytes r = LogIn Two me bytes r (length bytes)

@@ -2,10 +2,11 @@
 ghost use Rattle.std.specs.Prelude.{◌≡◌, ◌≢◌, None, Ok, Err, Some, IfErr, IfOk};
 ghost use Rattle.std.specs.IoError.{error_kind};
 
+use crate::form::Patch;
 use crate::synced::{Synced, sync_folder};
 use std::fs;
-use std::fs::{File, OpenFile};
-use std::io::{self, ErrorKind};
+use std::fs::{File, OpenFile, OpenOptions};
+use std::io::{self, ErrorKind, Read, Write};
 use std::rt::Files;
 
 /// What a read says, where to find no file is no fault. Every other error stays one.
@@ -21,13 +22,32 @@ pub(crate) fn if_there<T: Drop>(read: io::Result<T>) -> io::Result<Option<T>>
     }
 }
 
+/// The most bytes that a whole record has: 22, and 52 for a vote at each place.
+const LONGEST: u64 = 22 + 52 * 65_536;
+
+/// The first bytes of a file, `most` at most.
+fn read_most<R: Files + AllocGlobal>(rt: &R, path: &str, most: u64) -> io::Result<Vec<u8>> {
+    let mut bytes = Vec::new(rt.alloc());
+    File::open(rt, path)?.take(most).read_to_end(&mut bytes)?;
+    Ok(bytes)
+}
+
+/// The bytes of a file: all, where it begins as a log does, and else one more than a whole record has at most. So of a file without an
+/// end, which is no record, only the first megabytes are read.
+fn read_record<R: Files + AllocGlobal>(rt: &R, path: &str) -> io::Result<Vec<u8>> {
+    if read_most(rt, path, 2)?.as_slice() == b"PL".as_slice() {
+        return fs::read(rt, path);
+    }
+    read_most(rt, path, LONGEST + 1)
+}
+
 /// The bytes of the file, which are on the disk, under its name, before it answers; `None` where there is no file. It may have been
 /// put there by a save that failed behind the renaming.
 pub(crate) fn read_synced<R: Files + AllocGlobal>(
     rt: &R,
     path: &str,
 ) -> io::Result<Option<Vec<u8>>> {
-    let found = if_there(fs::read(rt, path))?;
+    let found = if_there(read_record(rt, path))?;
     if found.is_some() {
         File::open(rt, path)?.sync_all()?;
         sync_folder(rt, path)?;
@@ -36,11 +56,31 @@ pub(crate) fn read_synced<R: Files + AllocGlobal>(
 }
 
 /// Writes the bytes to the fresh file, and then gives it the path: so a restart finds the old bytes or the new ones, and no others.
-pub(crate) fn write_synced<R: Files>(
+fn replace_synced<R: Files>(rt: &R, path: &str, fresh_path: &str, bytes: &[u8]) -> io::Result<()> {
+    Synced::write(rt, fresh_path, bytes)?.put_at(rt, path)
+}
+
+/// Writes the bytes behind these many, which have to be all that the file has, and syncs them: so a restart finds the old bytes, and
+/// behind them all of the new ones or those before one of them.
+fn append_synced<R: Files>(rt: &R, path: &str, length: usize, bytes: &[u8]) -> io::Result<()> {
+    let mut file = OpenOptions::new().append(true).open(rt, path)?;
+    if file.metadata()?.len() != length as u64 {
+        return Err(io::Error::from(ErrorKind::InvalidData));
+    }
+    file.write_all(bytes)?;
+    file.sync_data()
+}
+
+/// Writes what a save writes.
+pub(crate) fn put_synced<R: Files>(
     rt: &R,
     path: &str,
     fresh_path: &str,
-    bytes: &[u8],
+    patch: &Patch,
 ) -> io::Result<()> {
-    Synced::write(rt, fresh_path, bytes)?.put_at(rt, path)
+    let bytes = patch.bytes.as_slice();
+    match patch.at {
+        Some(length) => append_synced(rt, path, length, bytes),
+        None => replace_synced(rt, path, fresh_path, bytes),
+    }
 }

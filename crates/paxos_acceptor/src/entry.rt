@@ -3,7 +3,7 @@ ghost use Rattle.std.specs.Prelude.{◌≡◌, ◌↔◌, IfSome, IsTrue, OnErr,
 ghost use Rattle.paxos_msg.specs.Ballots.{IsAtMost};
 ghost use Rattle.paxos_msg.specs.Fits.{IsBallot, IsPlace, IsValue};
 ghost use Rattle.paxos_msg.specs.Records.{changed};
-ghost use Rattle.paxos_acceptor.specs.Log.{IsEntry};
+ghost use Rattle.paxos_acceptor.specs.Log.{IsEntry, IsInRanges, IsNext};
 ghost use Rattle.paxos_acceptor.specs.Records.{IsRecord};
 
 use crate::me::Me;
@@ -32,21 +32,35 @@ fn fits_vote(size: u8, place: u32, ballot: Ballot, value: Value) -> bool
     fits_votes(size, ballot, 0, 65536, &[vote])
 }
 
-/// Whether the change can be made to the record: by its own fields, the starts and the promised ballot alone, so that the
-/// answer takes as long with many votes as with none.
-pub(crate) fn is_entry(kept: &Record, change: Change, me: Me) -> bool
-    ensures { IsTrue result ↔ IsEntry me.group.size kept.now change }
+/// Whether the fields of a change are in their ranges.
+fn is_in_ranges(size: u8, change: Change) -> bool
+    ensures { IsTrue result ↔ IsInRanges size change }
 {
-    let size = me.group.size;
+    match change {
+        Change::Start => true,
+        Change::Promise(ballot) => fits_ballot(size, ballot),
+        Change::Ballotted(place, ballot, value) => fits_vote(size, place, ballot, value),
+    }
+}
+
+/// Whether a change whose fields are in their ranges can be made to the record: there is a start to spare, and no ballot is below
+/// the promised one.
+pub(crate) fn is_next(kept: &Record, change: &Change) -> bool
+    ensures { IsTrue result ↔ IsNext kept.now change.now }
+{
     match change {
         Change::Start => kept.starts < u32::MAX,
-        Change::Promise(ballot) => {
-            fits_ballot(size, ballot) && is_not_below(kept.promised, ballot)
-        }
-        Change::Ballotted(place, ballot, value) => {
-            fits_vote(size, place, ballot, value) && is_not_below(kept.promised, ballot)
-        }
+        Change::Promise(ballot) => is_not_below(kept.promised, *ballot),
+        Change::Ballotted(_, ballot, _) => is_not_below(kept.promised, *ballot),
     }
+}
+
+/// Whether the change can be made to the record. Its own fields, the starts and the promised ballot tell it, so that the answer
+/// takes as long with many votes as with none.
+pub(crate) fn is_entry(kept: &Record, change: &Change, me: Me) -> bool
+    ensures { IsTrue result ↔ IsEntry me.group.size kept.now change.now }
+{
+    is_in_ranges(me.group.size, *change) && is_next(kept, change)
 }
 
 /// Makes a change that can be made. After an error nothing has changed.

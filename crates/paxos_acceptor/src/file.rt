@@ -1,18 +1,13 @@
 //! A store in a file.
 ghost use Rattle.base.specs.Faults.{HasRisen};
-ghost use Rattle.std.specs.Prelude.{◌≡◌, None, Some, IfOk, IfSome, IsErrOf, IsNone, IsOk, OnErr, OnOk};
-ghost use Rattle.paxos_msg.specs.declared.record.Record.{Record};
-ghost use Rattle.paxos_msg.specs.declared.value.Value.{Value};
-ghost use Rattle.paxos_msg.specs.Records.{changed, empty_record};
-ghost use Rattle.paxos_acceptor.specs.Files.{Finds, IsWritten, Notes};
-ghost use Rattle.paxos_acceptor.specs.Log.{IsEntry};
-ghost use Rattle.paxos_acceptor.specs.Records.{IsRecord, record_bytes};
+ghost use Rattle.std.specs.Prelude.{◌≡◌, None, IfOk, IsErrOf};
+ghost use Rattle.paxos_msg.specs.Records.{empty_record};
+ghost use Rattle.paxos_acceptor.specs.Files.{Finds, Notes};
 ghost use Rattle.paxos_acceptor.specs.Stores.{HasCause};
 
-use crate::codec::{kept_votes_are_few, most_bytes, put_record, record_decode, record_migrate};
-use crate::disk::{read_synced, write_synced};
-use crate::entry::{enter, is_entry};
-use crate::laws::versions_are_apart;
+use crate::disk::{put_synced, read_synced};
+use crate::entry::is_entry;
+use crate::form::{Form, form_after, form_of, patch_of};
 use crate::me::Me;
 use crate::store::{Store, StoreFault};
 use base::count_fault;
@@ -22,15 +17,17 @@ use std::io;
 use std::marker::Model;
 use std::rt::Files;
 
-/// A record in a file, which each save writes anew beside it and then puts in its place. What can be known of it is what it has
-/// found or saved there last, and how often the device has failed. After a fault it saves no more until it is loaded again. A load
-/// also takes a file with a record of version 1, and leaves it as it is; a save writes version 2.
+/// A record in a file. A new file is a log of changes, to which each save appends one, whatever the record's size. A file that has a
+/// whole record is loaded too, in version 2 or in version 1, and so is a log of version 1: each save then writes the whole record of
+/// version 2 to a second file, which gets its name. A load changes nothing. What can be known of the record is what was found or saved
+/// last, and how often the device has failed. After a fault nothing is saved until it is loaded again.
 pub struct FileStore<R> {
     rt: R,
     path: String,
     fresh_path: String,
     me: Me,
     found: Option<Record>,
+    form: Form,
     faults: u64,
 }
 
@@ -42,6 +39,7 @@ impl<R: Drop> Drop for FileStore<R> {
             fresh_path: _fresh_path,
             me: _me,
             found: _found,
+            form: _form,
             faults: _faults,
         } = self;
     }
@@ -49,65 +47,14 @@ impl<R: Drop> Drop for FileStore<R> {
 
 impl<R> Model for FileStore<R> {
     ghost use Rattle.std.specs.Prelude.{IfSome};
-    ghost use Rattle.paxos_acceptor.specs.Files.{Filed};
+    ghost use Rattle.paxos_acceptor.specs.Files.{Filed, IsFormOf};
     ghost use Rattle.paxos_acceptor.specs.Records.{IsRecord};
 
     ghost Value = { Filed };
 
     ghost view = { λ s. record { me = s.me; found = s.found; faults = s.faults } };
 
-    ghost invariant = { λ s. IfSome s.found (IsRecord s.me.group.size) };
-}
-
-/// The record that the bytes are the spelling of, in version 2 or in version 1.
-fn record_of_either(alloc: Global, bytes: &[u8], me: Me) -> Result<Record, StoreFault>
-    ensures found { IfOk result (λ r. IsWritten me bytes.now r) }
-    ensures only { (r : Record Value) → IsWritten me bytes.now r → IfOk result (λ found. found ≡ r) }
-    ensures bad { IsErrOf result StoreFault.Bad → (r : Record Value) → ¬ IsWritten me bytes.now r }
-    ensures others { ¬ IsErrOf result StoreFault.Device }
-{
-    versions_are_apart();
-    match record_decode(alloc, bytes, me) {
-        Err(StoreFault::Bad) => record_migrate(alloc, bytes, me),
-        read => read,
-    }
-}
-
-/// The record that the file has: the empty one, where there is no file.
-fn record_in(alloc: Global, file: &Option<Vec<u8>>, me: Me) -> Result<Record, StoreFault>
-    ensures missing { IsNone file.now → IfOk result (λ r. r ≡ empty_record) }
-    ensures found { IfSome file.now (λ bytes. IfOk result (λ r. IsWritten me bytes.items r)) }
-    ensures only { IfSome file.now (λ bytes. (r : Record Value) → IsWritten me bytes.items r → IfOk result (λ found. found ≡ r)) }
-    ensures bad { IsErrOf result StoreFault.Bad → IfSome file.now (λ bytes. (r : Record Value) → ¬ IsWritten me bytes.items r) }
-    ensures no_file_is_good { IsNone file.now → IsOk result }
-    ensures others { ¬ IsErrOf result StoreFault.Device }
-{
-    match file {
-        Some(bytes) => record_of_either(alloc, bytes.as_slice(), me),
-        None => Ok(Record::new(alloc)),
-    }
-}
-
-/// Makes a change that can be made, and gives the spelling of the record that it leaves. The room for both is made first: after an
-/// error nothing has changed.
-fn spell_changed(
-    alloc: Global,
-    kept: &mut Record,
-    change: Change,
-    me: Me,
-) -> Result<Vec<u8>, AllocError>
-    requires ranges { IsRecord me.group.size kept.old }
-    requires entry { IsEntry me.group.size kept.old change }
-    ensures changed { OnOk result (kept.new ≡ changed kept.old change) }
-    ensures spelled { IfOk result (λ bytes. bytes.items ≡ record_bytes me (changed kept.old change)) }
-    ensures ranges { OnOk result (IsRecord me.group.size kept.new) }
-    ensures err { OnErr result (kept.new ≡ kept.old) }
-{
-    kept_votes_are_few();
-    let mut bytes = Vec::with_capacity(alloc, most_bytes(kept.votes.as_slice().len() + 1))?;
-    enter(kept, change, me)?;
-    put_record(kept, me, &mut bytes);
-    Ok(bytes)
+    ghost invariant = { λ s. IfSome s.found (λ r. IsRecord s.me.group.size r × IsFormOf s.me r s.form) };
 }
 
 impl<R> FileStore<R> {
@@ -136,6 +83,7 @@ impl<R: Files + AllocGlobal + Copy + Drop> FileStore<R> {
             fresh_path: format!(in alloc; "{path}.new")?,
             me,
             found: None,
+            form: Form::Missing,
             faults: 0,
         })
     }
@@ -160,8 +108,10 @@ impl<R: Files + AllocGlobal + Copy + Drop> Store for FileStore<R> {
             Err(e) if e.kind() == io::ErrorKind::OutOfMemory => return Err(StoreFault::Memory),
             Err(_) => return Err(self.give_up()),
         };
-        let record = record_in(self.rt.alloc(), &read, self.me)?;
-        self.found = Some(record.clone()?);
+        let (record, form) = form_of(self.rt.alloc(), read, self.me)?;
+        let found = record.clone()?;
+        self.form = form;
+        self.found = Some(found);
         Ok(record)
     }
 
@@ -174,12 +124,19 @@ impl<R: Files + AllocGlobal + Copy + Drop> Store for FileStore<R> {
         let Some(found) = &mut self.found else {
             return Err(self.give_up());
         };
-        if !is_entry(found, *change, self.me) {
+        if !is_entry(found, change, self.me) {
             return Err(self.give_up());
         }
-        let bytes = spell_changed(self.rt.alloc(), found, *change, self.me)?;
-        let path = self.path.as_str();
-        if write_synced(&self.rt, path, self.fresh_path.as_str(), bytes.as_slice()).is_err() {
+        let patch = patch_of(self.rt.alloc(), &self.form, found, *change, self.me)?;
+        self.form = form_after(&self.form, &patch);
+        if put_synced(
+            &self.rt,
+            self.path.as_str(),
+            self.fresh_path.as_str(),
+            &patch,
+        )
+        .is_err()
+        {
             return Err(self.give_up());
         }
         Ok(())

@@ -1,5 +1,5 @@
 //! The laws of an acceptor, over the definitions alone: what it answers may be sent, over the record after its save.
-ghost use Rattle.std.specs.Prelude.{◌≡◌, ◌≢◌, ◌+◌, ◌++◌, ◌<◌, ◌⊎◌, ℕ, List, Option, Some, IfSome};
+ghost use Rattle.std.specs.Prelude.{◌≡◌, ◌≢◌, ◌+◌, ◌^◌, ◌++◌, ◌<◌, ◌⊎◌, ℕ, List, Option, Some, IfSome, length, take};
 ghost use Rattle.paxos_msg.specs.declared.ballot.Ballot.{Ballot};
 ghost use Rattle.paxos_msg.specs.declared.message.Body.TheVariants.{Accept};
 ghost use Rattle.paxos_msg.specs.Ballots.{IsBelow};
@@ -11,8 +11,15 @@ ghost use Rattle.paxos_msg.specs.Keys.{Key};
 ghost use Rattle.paxos_msg.specs.Messages.{IsSaid};
 ghost use Rattle.paxos_msg.specs.Records.{changed, empty_record, MaySave};
 ghost use Rattle.paxos_acceptor.specs.declared.me.Me.{Me};
+ghost use Rattle.paxos_acceptor.specs.declared.version.Version.TheVariants.{One, Two};
+ghost use Rattle.paxos_acceptor.specs.declared.version.Version.{Version};
 ghost use Rattle.paxos_acceptor.specs.Answers.{accept_of, after, prepare_of};
 ghost use Rattle.paxos_acceptor.specs.Backed.{IsBacked};
+ghost use Rattle.paxos_acceptor.specs.declared.form.Form.{Form};
+ghost use Rattle.paxos_acceptor.specs.declared.form.Form.TheVariants.{Missing};
+ghost use Rattle.paxos_acceptor.specs.declared.form.Patch.{Patch};
+ghost use Rattle.paxos_acceptor.specs.Files.{IsFormAfter, IsFormIn, IsFormOf, IsPatch, patched};
+ghost use Rattle.paxos_acceptor.specs.Log.{IsEntry, IsUncut, LogIn, entry_bytes, log_header};
 ghost use Rattle.paxos_acceptor.specs.Records.{IsRecord, Rec};
 ghost use Rattle.paxos_acceptor.specs.Stores.{IsOneOf};
 ghost use Rattle.paxos_acceptor.specs.Version1.{Rec1};
@@ -56,6 +63,16 @@ pub fn votes_may_be_sent()
     votes_are_by_place();
 }
 
+/// A log grows by its next entry. Where that was cut, it is a log of the record before it: so a save that was cut short while it
+/// appended leaves the old record or the changed one. What is kept of a log whose last entry was cut is a log without that entry.
+pub fn logs_grow()
+    ensures new { (me : Me) → IsUncut me (log_header Two me) empty_record }
+    ensures grown { (me : Me) (bytes : List ℕ) (r : Record) (c : Change) → IsUncut me bytes r → IsEntry me.group.size r c → IsUncut me (bytes ++ entry_bytes Two c) (changed r c) }
+    ensures cut { (me : Me) (bytes : List ℕ) (r : Record) (c : Change) (xs ys : List ℕ) → IsUncut me bytes r → IsEntry me.group.size r c →
+        entry_bytes Two c ≡ xs ++ ys → 0 < length ys → LogIn Two me (bytes ++ xs) r (length bytes) }
+    ensures kept { (me : Me) (bytes : List ℕ) (r : Record) (n : ℕ) → LogIn Two me bytes r n → IsUncut me (take n bytes) r }
+{}
+
 /// What goes out fits: over a record in its ranges the answer to a Prepare is in its ranges, whichever node sends it, and so
 /// is the record after its save.
 pub fn promises_fit()
@@ -78,7 +95,21 @@ pub fn starts_are_counted()
     ensures fits { (size : ℕ) (r : Record) → IsRecord size r → r.starts < 4294967295 → IsRecord size (changed r Start) }
 {}
 
-/// No bytes are the spelling of a record both in version 2 and in version 1.
-pub fn versions_are_apart()
-    ensures { (me : Me) (bytes : List ℕ) (r old : Record) → Rec me bytes r → ¬ Rec1 me bytes old }
+/// What a store in a file knows of its file stays so at each save, as long as nothing else writes there: the file has the changed
+/// record, in the form that the store notes. The length of a log is below 2 to the power of 64.
+pub(crate) fn files_are_known()
+    ensures first { (me : Me) (c : Change) (patch : Patch) (form : Form) → IsEntry me.group.size empty_record c → IsPatch me empty_record c Missing patch →
+        IsFormAfter Missing patch form → IsFormIn me patch.bytes.items (changed empty_record c) form }
+    ensures next { (me : Me) (bytes : List ℕ) (r : Record) (c : Change) (form after : Form) (patch : Patch) → IsFormIn me bytes r form →
+        IsEntry me.group.size r c → IsRecord me.group.size (changed r c) → IsPatch me r c form patch → IsFormAfter form patch after →
+        length (patched bytes patch) < 2 ^ 64 → IsFormIn me (patched bytes patch) (changed r c) after }
+    ensures fits { (me : Me) (bytes : List ℕ) (r : Record) (form : Form) → IsFormIn me bytes r form → IsFormOf me r form }
+{}
+
+/// No bytes are of two forms: of a record and of a log, or of two versions.
+pub fn forms_are_apart()
+    ensures records { (me : Me) (bytes : List ℕ) (r old : Record) → Rec me bytes r → ¬ Rec1 me bytes old }
+    ensures logs { (me : Me) (bytes : List ℕ) (r s : Record) (m n : ℕ) → LogIn Two me bytes r m → ¬ LogIn One me bytes s n }
+    ensures log_or_record { (me : Me) (version : Version) (bytes : List ℕ) (r s : Record) (n : ℕ) → LogIn version me bytes r n → ¬ Rec me bytes s }
+    ensures log_or_old_record { (me : Me) (version : Version) (bytes : List ℕ) (r s : Record) (n : ℕ) → LogIn version me bytes r n → ¬ Rec1 me bytes s }
 {}

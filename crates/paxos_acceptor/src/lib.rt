@@ -2,13 +2,17 @@
 #![tactic(auto)]
 
 mod acceptor;
+mod append;
 mod cases;
 mod codec;
 mod disk;
+mod ending;
 mod entry;
 mod fault;
 mod file;
+mod form;
 pub mod laws;
+mod log;
 mod me;
 mod memory;
 mod part;
@@ -24,6 +28,7 @@ pub use cases::greater_promise;
 pub use codec::{record_decode, record_encode, record_fits, record_migrate};
 pub use fault::AcceptorFault;
 pub use file::FileStore;
+pub use log::log_decode;
 pub use me::Me;
 pub use memory::MemoryStore;
 pub use store::{Store, StoreFault};

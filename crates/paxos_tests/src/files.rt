@@ -125,7 +125,7 @@ fn refusal(rt: HostRuntime, path: &str) -> Result<Option<(AcceptorFault, u64)>, 
 }
 
 /// What can't be read is no missing file: a folder in the place of the file, and a path through a file. An empty file is no
-/// record.
+/// record. Of one without an end the first megabytes are read, and it can't be synced.
 #[test]
 fn files_that_cannot_be_read(rt: HostRuntime) -> Result<(), Fail> {
     let _ = fs::remove_dir(&rt, "folder_of_a_test");
@@ -138,31 +138,52 @@ fn files_that_cannot_be_read(rt: HostRuntime) -> Result<(), Fail> {
         refusal(rt, "file_of_a_test")?,
         Some((AcceptorFault::BadRecord, 0))
     );
+    assert_eq!(rt; refusal(rt, "/dev/zero")?, failed);
     fs::remove_dir(&rt, "folder_of_a_test")?;
     fs::remove_file(&rt, "file_of_a_test")?;
     Ok(())
 }
 
-/// After a save that failed a store saves no more until it is loaded: here a folder lies where the fresh file would.
+/// After a save that failed a store saves no more until it is loaded: here a folder lies in the place of the file for a while.
 #[test]
 fn saves_no_more_after_a_fault(rt: HostRuntime) -> Result<(), Fail> {
     let path = "faulty_record_of_a_test";
-    let fresh_path = "faulty_record_of_a_test.new";
+    let other_path = "faulty_record_of_a_test.kept";
+    let _ = fs::remove_dir(&rt, path);
     let _ = fs::remove_file(&rt, path);
-    let _ = fs::remove_dir(&rt, fresh_path);
     let mut store = Kept::new(rt, path)?;
     assert_eq!(rt; store.starts()?, 0);
     store.save(&[Change::Start])?;
 
-    fs::create_dir(&rt, fresh_path)?;
+    fs::rename(&rt, path, other_path)?;
+    fs::create_dir(&rt, path)?;
     assert!(rt; store.fails());
-    fs::remove_dir(&rt, fresh_path)?;
+    fs::remove_dir(&rt, path)?;
+    fs::rename(&rt, other_path, path)?;
     assert!(rt; store.fails());
     assert_eq!(rt; store.faults(), 2);
 
     assert_eq!(rt; store.starts()?, 1);
     store.save(&[Change::Start])?;
     assert_eq!(rt; store.starts()?, 2);
+    fs::remove_file(&rt, path)?;
+    Ok(())
+}
+
+/// Likewise where the second file can't be written: here a folder lies in its place.
+#[test]
+fn no_second_file(rt: HostRuntime) -> Result<(), Fail> {
+    let path = "whole_faulty_record_of_a_test";
+    let fresh_path = "whole_faulty_record_of_a_test.new";
+    let _ = fs::remove_dir(&rt, fresh_path);
+    fs::write(&rt, path, BYTES.as_slice())?;
+    let mut store = Kept::new(rt, path)?;
+    assert_eq!(rt; store.starts()?, 1);
+
+    fs::create_dir(&rt, fresh_path)?;
+    assert!(rt; store.fails());
+    fs::remove_dir(&rt, fresh_path)?;
+    assert_eq!(rt; fs::read(&rt, path)?.as_slice(), BYTES.as_slice());
     fs::remove_file(&rt, path)?;
     Ok(())
 }

@@ -12,6 +12,8 @@ mod files;
 #[cfg(test)]
 mod learner;
 #[cfg(test)]
+mod logs;
+#[cfg(test)]
 mod proposer;
 #[cfg(test)]
 mod readme;

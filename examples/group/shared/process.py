@@ -37,7 +37,7 @@ def say(words, text):
 
 def activity_of(pid):
     """What grows while a process runs: its processor time, and how often it was given a processor.
-    A node that has nothing to do takes a turn every 10 milliseconds."""
+    A node that has nothing to do takes a turn every 10 to 100 milliseconds."""
     try:
         with open(f"/proc/{pid}/status", encoding="ascii", errors="replace") as status:
             switches = [int(line.split()[1]) for line in status if "ctxt_switches" in line]

@@ -1,7 +1,8 @@
-"""Reads a node's record, of version 1 or 2, as docs/FORMATS.md describes it, and refuses all that
-is none."""
+"""Reads a node's record, whole or as a log, of version 1 or 2, as docs/FORMATS.md describes it, and
+refuses all that is none."""
 
 import collections
+import os
 
 # `promised` is a ballot or None; `votes` has a ballot and a value for each place with a vote.
 Record = collections.namedtuple("Record", "version node size session starts promised votes")
@@ -15,7 +16,12 @@ NOOP = None
 PLACES = 65536
 MOST_KEYS = 32
 LAST_SERIAL = 4294967295
+LAST_START = 4294967295
+# The bytes of a whole record before its votes, and of a log before its entries.
 HEADER = 22
+LOG_HEADER = 9
+# The tags of a log's entries.
+START, PROMISE, VOTE = 1, 2, 3
 
 
 class Damaged(Exception):
@@ -89,21 +95,67 @@ def votes_of(reader, version, size, promised):
     return votes
 
 
-def head_of(reader):
-    """All but the votes, of which there are none yet."""
-    must(reader.take(2) == b"PR", "it does not begin with PR")
+def owner_of(reader):
+    """The letters that a record begins with, its version, node, size and session."""
+    letters = reader.take(2)
+    must(letters in (b"PR", b"PL"), "it begins with neither PR nor PL")
     version = reader.number(1)
     must(version in (1, 2), f"version {version}")
     node, size = reader.number(1), reader.number(1)
     must(size in (1, 3, 5, 7, 9) and 1 <= node <= size, f"node {node} of {size}")
-    session, starts = reader.number(4), reader.number(4)
-    return Record(version, node, size, session, starts, promised_of(reader, size), {})
+    return letters, Record(version, node, size, reader.number(4), 0, None, {})
+
+
+def head_of(reader, record):
+    """A whole record without its votes."""
+    starts = reader.number(4)
+    return record._replace(starts=starts, promised=promised_of(reader, record.size))
+
+
+def is_cut_at(data, at, version):
+    """Whether bytes are missing at the end of the entry there, whatever its others are."""
+    size = len(data) - at
+    if size == 0 or data[at] == PROMISE:
+        return size < 6
+    if data[at] != VOTE or size < 11:
+        return data[at] == VOTE
+    if data[at + 10] != 1 or size < 21:
+        return data[at + 10] == 1
+    return version == 2 and 0 < data[at + 20] <= MOST_KEYS and size < 21 + data[at + 20]
+
+
+def with_entry(reader, record):
+    """The record with the change of the next entry."""
+    tag = reader.number(1)
+    must(tag in (START, PROMISE, VOTE), f"an entry with the tag {tag}")
+    if tag == START:
+        must(record.starts < LAST_START, f"a start after {LAST_START}")
+        return record._replace(starts=record.starts + 1)
+    place = reader.number(4) if tag == VOTE else 0
+    must(place < PLACES, f"a vote at place {place}")
+    ballot = ballot_of(reader, record.size)
+    is_below = record.promised is not None and ballot < record.promised
+    must(not is_below, f"an entry under {text_of(ballot)} after {text_of(record.promised)}")
+    if tag == VOTE:
+        record.votes[place] = (ballot, value_of(reader, record.version, record.size))
+    return record._replace(promised=ballot)
+
+
+def with_entries(reader, record):
+    """The record with the changes of all whole entries. One that was cut at the end is left."""
+    while not is_cut_at(reader.data, reader.at, record.version):
+        record = with_entry(reader, record)
+    return record
 
 
 def record_of(data):
-    """The record whose bytes these are, all of them."""
+    """The record whose bytes these are, all of them but an entry that was cut."""
     reader = Reader(data)
-    head = head_of(reader)
+    letters, record = owner_of(reader)
+    if letters == b"PL":
+        record = with_entries(reader, record)
+        return record._replace(votes=dict(sorted(record.votes.items())))
+    head = head_of(reader, record)
     record = head._replace(votes=votes_of(reader, head.version, head.size, head.promised))
     must(reader.at == len(data), f"{len(data) - reader.at} bytes follow the last vote")
     return record
@@ -115,10 +167,47 @@ def read_record(path):
         return record_of(file.read())
 
 
+class Head:
+    """The record of a file without its votes, again and again: of a log each time only what was
+    appended is read, and of a whole record never its votes. So it takes no longer where there are
+    many."""
+
+    def __init__(self, path):
+        self.path = path
+        self.inode = None  # of the log that was read, up to `at`, and has this record up to there
+        self.at, self.record = 0, None
+
+    def read(self):
+        with open(self.path, "rb") as file:
+            inode = os.fstat(file.fileno()).st_ino
+            if inode == self.inode and file.seek(0, os.SEEK_END) >= self.at:
+                file.seek(self.at)
+                return self.follow(file.read())
+            file.seek(0)
+            letters, record = owner_of(Reader(file.read(LOG_HEADER)))
+            file.seek(LOG_HEADER)
+            if letters == b"PR":
+                self.inode = None
+                return head_of(Reader(file.read(HEADER - LOG_HEADER)), record)
+            self.inode, self.at, self.record = inode, LOG_HEADER, record
+            return self.follow(file.read())
+
+    def follow(self, data):
+        """The record with what follows it in its log."""
+        reader = Reader(data)
+        try:
+            self.record = with_entries(reader, self.record)
+        except Damaged:
+            self.inode = None
+            raise
+        self.record.votes.clear()
+        self.at += reader.at
+        return self.record
+
+
 def read_head(path):
-    """The record of a file without its votes: this takes no longer where there are many."""
-    with open(path, "rb") as file:
-        return head_of(Reader(file.read(HEADER)))
+    """The record of a file without its votes."""
+    return Head(path).read()
 
 
 def text_of(ballot):

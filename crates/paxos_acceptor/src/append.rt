@@ -1,0 +1,63 @@
+//! A change as the next entry of a log.
+ghost use Rattle.std.specs.Prelude.{◌≡◌, ◌+◌, ◌++◌, ◌≤◌, ℕ, length, vec_capacity, vec_len, OnErr, OnOk};
+ghost use Rattle.paxos_msg.specs.Records.{changed};
+ghost use Rattle.paxos_msg.specs.declared.record.Change.{Change};
+ghost use Rattle.paxos_msg.specs.declared.value.Value.{Value};
+ghost use Rattle.paxos_acceptor.specs.declared.version.Version.TheVariants.{Two};
+ghost use Rattle.paxos_acceptor.specs.Log.{IsEntry, IsInRanges, entry_bytes};
+ghost use Rattle.paxos_acceptor.specs.Records.{IsRecord};
+
+use crate::entry::enter;
+use crate::me::Me;
+use paxos_msg::{Change, Record, put_ballot, put_number, put_value};
+use std::alloc::AllocError;
+
+/// How many bytes an entry has at most: its tag, a place, a ballot, and a batch of 32 characters.
+const MOST_BYTES: usize = 53;
+
+/// An entry is short.
+fn entries_are_short()
+    ensures { (size : ℕ) (c : Change Value) → IsInRanges size c → length (entry_bytes Two c) ≤ 53 }
+{}
+
+/// Writes the entry of the change, in version 2.
+fn put_entry(change: &Change, out: &mut Vec<u8>)
+    requires room { vec_len out.old + length (entry_bytes Two change.now) ≤ vec_capacity out.old }
+    ensures { out.new.items ≡ out.old.items ++ entry_bytes Two change.now }
+{
+    match *change {
+        Change::Start => out.push_reserved(1),
+        Change::Promise(ballot) => {
+            out.push_reserved(2);
+            put_ballot(ballot, out);
+        }
+        Change::Ballotted(place, ballot, value) => {
+            out.push_reserved(3);
+            put_number(place, out);
+            put_ballot(ballot, out);
+            put_value(value, out);
+        }
+    }
+}
+
+/// Makes a change that can be made, and writes its entry behind the bytes. The room for both is made first: after an error nothing
+/// has changed.
+pub(crate) fn append(
+    kept: &mut Record,
+    change: Change,
+    me: Me,
+    out: &mut Vec<u8>,
+) -> Result<(), AllocError>
+    requires ranges { IsRecord me.group.size kept.old }
+    requires entry { IsEntry me.group.size kept.old change }
+    ensures changed { OnOk result (kept.new ≡ changed kept.old change) }
+    ensures spelled { OnOk result (out.new.items ≡ out.old.items ++ entry_bytes Two change) }
+    ensures ranges { OnOk result (IsRecord me.group.size kept.new) }
+    ensures err { OnErr result ((kept.new ≡ kept.old) × (out.new.items ≡ out.old.items)) }
+{
+    entries_are_short();
+    out.reserve(MOST_BYTES)?;
+    enter(kept, change, me)?;
+    put_entry(&change, out);
+    Ok(())
+}

@@ -1,0 +1,309 @@
+//! Records as logs of changes: their bytes, those that were cut or changed, and files that have one.
+ghost use Rattle.std.specs.Prelude.{◌≡◌, ◌<◌, ◌≤◌, length, IfOk};
+
+use super::acceptor::{FIRST, ME, opened};
+use super::records::{BYTES, BYTES_V1, is_of_bytes};
+use paxos_acceptor::{Acceptor, AcceptorFault, FileStore, StoreFault, log_decode};
+use paxos_msg::{Characters, Record, Value};
+use std::alloc::Global;
+use std::fs;
+use std::process::Abort;
+use std::test::Fail;
+
+/// The log of one start, one promise and one vote, byte by byte.
+const LOG: [u8; 38] = [
+    0x50, 0x4C, 0x02, 0x02, 0x03, 0x00, 0x00, 0x00, 0x07, 0x01, 0x02, 0x00, 0x00, 0x00, 0x01, 0x01,
+    0x03, 0x00, 0x00, 0x00, 0x00, 0x00, 0x00, 0x00, 0x01, 0x01, 0x01, 0x02, 0x00, 0x00, 0x00, 0x01,
+    0x00, 0x00, 0x00, 0x01, 0x01, 0x48,
+];
+
+/// The same log as version 1 spelled it.
+const LOG_V1: [u8; 37] = [
+    0x50, 0x4C, 0x01, 0x02, 0x03, 0x00, 0x00, 0x00, 0x07, 0x01, 0x02, 0x00, 0x00, 0x00, 0x01, 0x01,
+    0x03, 0x00, 0x00, 0x00, 0x00, 0x00, 0x00, 0x00, 0x01, 0x01, 0x01, 0x02, 0x00, 0x00, 0x00, 0x01,
+    0x00, 0x00, 0x00, 0x01, 0x48,
+];
+
+/// Of the first `length` bytes of either log how many are its header and its whole entries.
+fn whole_of_first(length: usize) -> usize {
+    match length {
+        0..=9 => 9,
+        10..=15 => 10,
+        _ => 16,
+    }
+}
+
+/// Whether the record is what the first `length` bytes of either log have, where an entry was cut.
+fn is_of_first(record: &Record, length: usize) -> bool {
+    let starts = if length < 10 { 0 } else { 1 };
+    let promised = if length < 16 { None } else { Some(FIRST) };
+    record.starts == starts && record.promised == promised && record.votes.as_slice().is_empty()
+}
+
+/// Bytes that are no log.
+fn are_none(alloc: Global, bytes: &[u8]) -> bool {
+    log_decode(alloc, bytes, ME).err() == Some(StoreFault::Bad)
+}
+
+/// A log is what its entries make of the empty record, all of them where none was cut.
+#[test]
+fn log_bytes(rt: HostRuntime) -> Result<(), Fail> {
+    let (record, taken) = log_decode(rt.alloc(), LOG.as_slice(), ME)?;
+    assert!(rt; is_of_bytes(&record));
+    assert_eq!(rt; taken, 38);
+
+    let (record, taken) = log_decode(rt.alloc(), LOG_V1.as_slice(), ME)?;
+    assert!(rt; is_of_bytes(&record));
+    assert_eq!(rt; taken, 37);
+
+    assert!(rt; are_none(rt.alloc(), BYTES.as_slice()));
+    assert!(rt; are_none(rt.alloc(), BYTES_V1.as_slice()));
+    Ok(())
+}
+
+/// The first bytes of a log are none without the whole header, and else a log without the entry that was cut.
+fn cut_at(rt: &impl Abort, alloc: Global, bytes: &[u8], count: usize) -> Result<(), Fail>
+    requires few { count ≤ 36 }
+    requires enough { 36 < length bytes.now }
+{
+    let first = &bytes[..count];
+    if count < 9 {
+        assert!(rt; are_none(alloc, first), "of {count} bytes");
+        return Ok(());
+    }
+    let (record, taken) = log_decode(alloc, first, ME)?;
+    assert!(rt; is_of_first(&record, count), "of {count} bytes");
+    assert_eq!(rt; taken, whole_of_first(count), "of {count} bytes");
+    Ok(())
+}
+
+/// Of a log that was cut the whole entries are kept.
+#[test]
+fn cut_logs(rt: HostRuntime) -> Result<(), Fail> {
+    for length in 0..37 {
+        cut_at(&rt, rt.alloc(), LOG.as_slice(), length)?;
+        cut_at(&rt, rt.alloc(), LOG_V1.as_slice(), length)?;
+    }
+    let (record, taken) = log_decode(rt.alloc(), &LOG[..37], ME)?;
+    assert!(rt; is_of_first(&record, 37));
+    assert_eq!(rt; taken, 16);
+    Ok(())
+}
+
+/// How many starts a log of version 2 with these entries has, or none where it is bad.
+fn starts_of(alloc: Global, entries: &[u8]) -> Result<Option<u32>, Fail> {
+    let mut bytes = Vec::new(alloc);
+    bytes.extend_from_slice(&LOG[..9])?;
+    bytes.extend_from_slice(entries)?;
+    match log_decode(alloc, bytes.as_slice(), ME) {
+        Ok((record, _)) => Ok(Some(record.starts)),
+        Err(_) => Ok(None),
+    }
+}
+
+/// An entry of an unknown tag or out of its ranges makes a log bad, whatever stands before it.
+#[test]
+fn entries_out_of_ranges(rt: HostRuntime) -> Result<(), Fail> {
+    // Unknown tags.
+    assert_eq!(rt; starts_of(rt.alloc(), [4].as_slice())?, None);
+    assert_eq!(rt; starts_of(rt.alloc(), [1, 0].as_slice())?, None);
+    // A ballot of round 0, and one of node 4.
+    assert_eq!(rt; starts_of(rt.alloc(), [2, 0, 0, 0, 0, 1].as_slice())?, None);
+    assert_eq!(rt; starts_of(rt.alloc(), [2, 0, 0, 0, 1, 4].as_slice())?, None);
+    // A vote at place 65,536, and one for a value of an unknown tag.
+    let there = [3, 0, 1, 0, 0, 0, 0, 0, 1, 1, 0];
+    assert_eq!(rt; starts_of(rt.alloc(), there.as_slice())?, None);
+    let value = [3, 0, 0, 0, 0, 0, 0, 0, 1, 1, 2];
+    assert_eq!(rt; starts_of(rt.alloc(), value.as_slice())?, None);
+    Ok(())
+}
+
+/// A ballot may be promised again, but none below it may be, nor be voted under.
+#[test]
+fn entries_below_the_promise(rt: HostRuntime) -> Result<(), Fail> {
+    let again = [2, 0, 0, 0, 2, 2, 2, 0, 0, 0, 2, 2, 1];
+    assert_eq!(rt; starts_of(rt.alloc(), again.as_slice())?, Some(1));
+    let below = [2, 0, 0, 0, 2, 2, 2, 0, 0, 0, 2, 1, 1];
+    assert_eq!(rt; starts_of(rt.alloc(), below.as_slice())?, None);
+    let vote = [2, 0, 0, 0, 2, 2, 3, 0, 0, 0, 0, 0, 0, 0, 1, 1, 0];
+    assert_eq!(rt; starts_of(rt.alloc(), vote.as_slice())?, None);
+    Ok(())
+}
+
+/// Of each byte of the log how many of its 255 other values give another record. Those of the place up to 65,535, of a round of the
+/// vote that is not 0, of its nodes 2 and 3, of a key's nodes 1 and 3, start and serial but 0, and byte. A count of 2 to 32 tells a
+/// vote that was cut. A greater promise than the vote's ballot makes the log bad.
+const OTHERS: [u32; 38] = [
+    0, 0, 0, 0, 0, 0, 0, 0, 0, 0, 0, 0, 0, 0, 0, 0, 0, 0, 0, 255, 255, 255, 255, 255, 254, 2, 0, 2,
+    255, 255, 255, 254, 255, 255, 255, 254, 31, 255,
+];
+
+/// Whether the bytes are another log. Else they have to be none.
+fn are_another(rt: &impl Abort, alloc: Global, bytes: &[u8]) -> bool {
+    match log_decode(alloc, bytes, ME) {
+        Ok((record, _)) => {
+            assert!(rt; !is_of_bytes(&record));
+            true
+        }
+        Err(fault) => {
+            assert_eq!(rt; fault, StoreFault::Bad);
+            false
+        }
+    }
+}
+
+/// How many other values of that byte give another record.
+fn others_at(rt: &impl Abort, alloc: Global, index: usize) -> u32
+    requires { index < 38 }
+{
+    let mut others: u32 = 0;
+    for change in 0..255 {
+        let mut bytes = LOG;
+        bytes[index] ^= change + 1;
+        if are_another(rt, alloc, bytes.as_slice()) {
+            others = others.saturating_add(1);
+        }
+    }
+    others
+}
+
+/// A log with one byte changed has another record or none.
+#[test]
+fn damaged_logs(rt: HostRuntime) -> Result<(), Fail> {
+    for index in 0..LOG.len() {
+        assert_eq!(rt;
+            others_at(&rt, rt.alloc(), index),
+            OTHERS[index],
+            "at {index}"
+        );
+    }
+    Ok(())
+}
+
+// ---- files
+
+/// An acceptor whose record is in the file of that path.
+fn in_file(
+    rt: &impl Abort,
+    files: HostRuntime,
+    path: &str,
+) -> Result<Acceptor<FileStore<HostRuntime>>, Fail>
+    ensures { IfOk result (λ acceptor. acceptor.me ≡ ME) }
+{
+    Ok(opened(rt, files.alloc(), FileStore::new(files, path, ME)?))
+}
+
+/// A new file is a log, to which each save appends its entry.
+#[test]
+fn new_file_is_a_log(rt: HostRuntime) -> Result<(), Fail> {
+    let path = "log_of_a_test";
+    let _ = fs::remove_file(&rt, path);
+    let mut acceptor = in_file(&rt, rt, path)?;
+    assert_eq!(rt; acceptor.new_start(), Ok(1));
+    assert_eq!(rt; fs::read(&rt, path)?.as_slice(), &LOG[..10]);
+    assert!(rt; acceptor.prepare(FIRST, 0).is_ok());
+    assert_eq!(rt; fs::read(&rt, path)?.as_slice(), &LOG[..16]);
+    let value = Value::Keys {
+        node: 2,
+        start: 1,
+        first: 1,
+        bytes: Characters::from(0x48),
+    };
+    assert!(rt; acceptor.accept(FIRST, 0, value).is_ok());
+    assert_eq!(rt; fs::read(&rt, path)?.as_slice(), LOG.as_slice());
+    assert!(rt; is_of_bytes(in_file(&rt, rt, path)?.record()));
+    fs::remove_file(&rt, path)?;
+    Ok(())
+}
+
+/// A file with the first `length` bytes of the log is opened, and a start is saved: the whole entries stand before it, and nothing of
+/// the one that was cut.
+fn goes_on(rt: &impl Abort, files: HostRuntime, path: &str, length: usize) -> Result<(), Fail>
+    requires { length ≤ 38 }
+{
+    fs::write(&files, path, &LOG[..length])?;
+    let mut acceptor = in_file(rt, files, path)?;
+    assert_eq!(rt; fs::read(&files, path)?.as_slice(), &LOG[..length]);
+    assert!(rt; acceptor.new_start().is_ok());
+    let whole = if length == 38 {
+        38
+    } else {
+        whole_of_first(length)
+    };
+    let mut expected = Vec::new(files.alloc());
+    expected.extend_from_slice(LOG.get(..whole).unwrap_or_default())?;
+    expected.push(1)?;
+    assert_eq!(rt;
+        fs::read(&files, path)?.as_slice(),
+        expected.as_slice(),
+        "of {length} bytes"
+    );
+    Ok(())
+}
+
+#[test]
+fn cut_files_go_on(rt: HostRuntime) -> Result<(), Fail> {
+    let path = "cut_log_of_a_test";
+    for length in 9..39 {
+        goes_on(&rt, rt, path, length)?;
+    }
+    fs::remove_file(&rt, path)?;
+    Ok(())
+}
+
+/// What the file has after a start was saved to it that had these bytes.
+fn after_start(rt: &impl Abort, files: HostRuntime, bytes: &[u8]) -> Result<Vec<u8>, Fail> {
+    let path = "whole_record_of_a_test";
+    fs::write(&files, path, bytes)?;
+    let mut acceptor = in_file(rt, files, path)?;
+    assert!(rt; is_of_bytes(acceptor.record()));
+    assert_eq!(rt; fs::read(&files, path)?.as_slice(), bytes);
+    assert!(rt; acceptor.new_start().is_ok());
+    let read = fs::read(&files, path)?;
+    fs::remove_file(&files, path)?;
+    Ok(read)
+}
+
+/// A file in whole form stays in it, and one of version 1, in either form, becomes a whole record of version 2.
+#[test]
+fn whole_files(rt: HostRuntime) -> Result<(), Fail> {
+    let mut expected = BYTES;
+    expected[12] = 2;
+    assert_eq!(rt;
+        after_start(&rt, rt, BYTES.as_slice())?.as_slice(),
+        expected.as_slice()
+    );
+    assert_eq!(rt;
+        after_start(&rt, rt, BYTES_V1.as_slice())?.as_slice(),
+        expected.as_slice()
+    );
+    assert_eq!(rt;
+        after_start(&rt, rt, LOG_V1.as_slice())?.as_slice(),
+        expected.as_slice()
+    );
+    Ok(())
+}
+
+/// A log that grew or shrank, or is gone, is no more what the store knows: the next save is a fault of the device, and changes nothing.
+#[test]
+fn files_of_other_hands(rt: HostRuntime) -> Result<(), Fail> {
+    let path = "changed_log_of_a_test";
+    for length in [37, 16, 0] {
+        fs::write(&rt, path, LOG.as_slice())?;
+        let mut acceptor = in_file(&rt, rt, path)?;
+        fs::write(&rt, path, LOG.get(..length).unwrap_or_default())?;
+        assert_eq!(rt; acceptor.new_start(), Err(AcceptorFault::Store));
+        assert_eq!(rt; fs::read(&rt, path)?.len(), length);
+    }
+    fs::write(&rt, path, &LOG[..16])?;
+    let mut acceptor = in_file(&rt, rt, path)?;
+    fs::write(&rt, path, LOG.as_slice())?;
+    assert_eq!(rt; acceptor.new_start(), Err(AcceptorFault::Store));
+    assert_eq!(rt; fs::read(&rt, path)?.as_slice(), LOG.as_slice());
+
+    let mut acceptor = in_file(&rt, rt, path)?;
+    fs::remove_file(&rt, path)?;
+    assert_eq!(rt; acceptor.new_start(), Err(AcceptorFault::Store));
+    assert!(rt; fs::read(&rt, path).is_err());
+    Ok(())
+}
