@@ -77,8 +77,8 @@ Exit status:
 docs/FORMATS.md explains the codes.";
 
 pub const NODE: &str = "The output of the program is written to standard output. docs/GROUP.md tells
-how a group is run. Where the environment has PGROUP_LOG=1 the node also says what it
-does, line by line on standard error.
+how a group is run. With PGROUP_LOG=1 in the environment the node says what it
+does, line by line, on standard error.
 
 Example, node 1 of 3:
   pgroup node examples/echo.code 1 3 7 record1 4294967295 \\
