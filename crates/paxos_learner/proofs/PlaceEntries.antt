@@ -1,11 +1,27 @@
 -- A list of entries by place, and the finite map that it makes.
-use Rattle.std.proofs.Common.{◌≡◌, ◌∙◌, ℕ, cond, nat_eq, List, [], ◌∷◌, Some, None, refl, sym}
+use Rattle.std.proofs.Common.{◌≡◌, ◌∙◌, ◌<◌, ℕ, cond, nat_eq, List, [], ◌∷◌, length, position, slice_get, get_or, Some, None, ap, refl, sym}
+use Rattle.std.proofs.lemmas.Bool.{eqb-true}
+use Rattle.std.proofs.lemmas.List.Quantifiers.{position-Some}
+use Rattle.std.proofs.lemmas.Option.{get_or_from_slice_get, slice_get-map}
+use Rattle.std.specs.Prelude.{option_map, slice_index}
+use Rattle.std.specs.Map.{keys_of}
 use Rattle.std.specs.Ordering.{nat_cmp}
 use Rattle.std.specs.Cmp.{nat_cmp_total, nat_eq_equiv, unsigned_tied}
 use Rattle.std.specs.Map.{lookup}
 use Rattle.std.specs.FinMap.{find, get, insert, remove, from_entries, get-from_entries, get-insert, get-remove, same_map, nat_cmp-IsAntisymmetric}
 
+-- a search ends at an index where the place is
+pub found_place : (places : List ℕ) (q i : ℕ) → position (nat_eq q) places ≡ Some i → (i < length places) × (slice_index places i ≡ q)
+found_place places q i h =
+    let found = position-Some (nat_eq q) places i 0 h in
+    (found.0, sym (eqb-true q (get_or places i 0) found.1))
+
 module _ {V : Type 0} where
+  -- the place of the entry at an index
+  pub place_at : (es : List (ℕ × V)) (i s : ℕ) (v : V) → slice_get es i ≡ Some (s, v) → slice_index (keys_of es) i ≡ s
+  place_at es i s v h =
+      get_or_from_slice_get (keys_of es) i s 0 (slice_get-map (λ e. e.0) es i ∙ ap (option_map (λ (e : ℕ × V). e.0)) h)
+
   -- both searches find the same
   find_place : (es : List (ℕ × V)) (q : ℕ) → find nat_cmp q es ≡ lookup (nat_eq q) es
   find_place [] q = refl

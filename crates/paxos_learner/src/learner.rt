@@ -119,8 +119,9 @@ impl Learner {
     /// `Passed`: nothing has changed. `Memory` comes where there is no room for what is new, reckoned with 32
     /// keys at each place up to a learned one, and then nothing has changed.
     ///
-    /// A message takes a search of the learned places, and where the place is open one of the tallies, and a
-    /// second one where its tally changes. A place that has a tally takes no memory before it is learned.
+    /// A message takes a search of the learned places, and where the place is open one of the tallies: a tally
+    /// that changes is written where that search has found it. A second one puts the first tally of a place, and
+    /// takes out the tally of a place that is learned. A place that has a tally takes no memory before that.
     pub fn on_accepted(
         &mut self,
         sender: u8,
@@ -137,14 +138,18 @@ impl Learner {
         if !self.is_open(place) {
             return Ok(Heard::Passed);
         }
-        let Some(tally) = tallied(self.tallies.get(place), sender, ballot, value) else {
+        let (index, heard) = self.tallies.find(place).unzip();
+        let Some(tally) = tallied(heard, sender, ballot, value) else {
             return Ok(Heard::Passed);
         };
         if tally.is_majority(self.size) {
             self.learn(place, &tally.value())?;
             return Ok(Heard::Learned);
         }
-        self.tallies.put(place, tally)?;
+        match index {
+            Some(index) => self.tallies.put_at(index, tally),
+            None => self.tallies.put(place, tally)?,
+        }
         Ok(Heard::Counted)
     }
 

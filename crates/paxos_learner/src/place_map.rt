@@ -1,12 +1,13 @@
 //! A map from places.
-ghost use Rattle.std.specs.Prelude.{◌≡◌, ◌+◌, ◌<◌, ◌≤◌, OnErr, OnOk};
+ghost use Rattle.std.specs.Prelude.{◌≡◌, ◌+◌, ◌<◌, ◌≤◌, IfSome, OnErr, OnOk, length, option_map, slice_index};
 ghost use Rattle.std.specs.FinMap.{empty, get, insert, remove};
 
 use indexmap::IndexMap;
 use std::alloc::{AllocError, Global};
 use std::marker::Model;
 
-/// Values by place, seen as a finite map and how many places more it has room for.
+/// Values by place. Contracts see a finite map, which index each place has, and how many places more there is
+/// room for.
 #[derive(Drop)]
 pub struct PlaceMap<V: Copy> {
     entries: IndexMap<u32, V>,
@@ -20,9 +21,9 @@ impl<V: Copy> Model for PlaceMap<V> {
     ghost coded = { places_code V.code };
 
     ghost use Rattle.std.specs.FinMap.{from_entries};
-    ghost use Rattle.indexmap.specs.IndexMap.{spare};
+    ghost use Rattle.indexmap.specs.IndexMap.{keys, spare};
 
-    ghost view = { λ m. record { map = from_entries m.entries.entries; room = spare m.entries } };
+    ghost view = { λ m. record { map = from_entries m.entries.entries; places = keys m.entries; room = spare m.entries } };
 }
 
 impl<V: Copy> PlaceMap<V> {
@@ -40,6 +41,25 @@ impl<V: Copy> PlaceMap<V> {
         ensures { result ≡ get self.now.map place }
     {
         self.entries.get(&place).copied()
+    }
+
+    /// The index of a place, and its value.
+    pub fn find(&self, place: u32) -> Option<(usize, V)>
+        ensures value { option_map (λ found. found.1) result ≡ get self.now.map place }
+        ensures within { IfSome result (λ found. found.0 < length self.now.places) }
+        ensures place { IfSome result (λ found. slice_index self.now.places found.0 ≡ place) }
+    {
+        let (index, _, value) = self.entries.get_full(&place)?;
+        Some((index, *value))
+    }
+
+    /// Puts a value at the place that has this index. It takes no search.
+    pub fn put_at(&mut self, index: usize, value: V)
+        requires { index < length self.old.places }
+        ensures { self.new.map ≡ insert self.old.map (slice_index self.old.places index) value }
+    {
+        let (_, old) = self.entries.pair_mut(index);
+        *old = value;
     }
 
     /// Makes room for one place more. After an error nothing has changed.
