@@ -3,7 +3,7 @@
 import struct
 from dataclasses import dataclass
 
-from .instructions import BIG, BLOCK, BYTE, CALL, COMPARE, JUMP, LDCI, LEVELS, MOST_BYTES, PLAIN, SHORT, XJP, Fault, at
+from .instructions import BIG, BLOCK, BYTE, CALL, COMPARE, JUMP, LDCI, LEVELS, MOST_BYTES, PACKED, PLAIN, SHORT, XJP, Fault, at
 from .source import Line, in_range, number_of
 
 
@@ -88,11 +88,11 @@ class Assembler:
         name, operands = line.name, line.operands
         if name == "XJP":
             return self.case(line)
-        forms = (PLAIN, SHORT, BYTE, BIG, LEVELS, COMPARE, CALL, JUMP, {"LDCI": LDCI})
+        forms = (PLAIN, SHORT, BYTE, BIG, LEVELS, PACKED, COMPARE, CALL, JUMP, {"LDCI": LDCI})
         table = next((table for table in forms if name in table), None)
         if table is None:
             raise Fault(f"there is no instruction {name}")
-        wanted = 0 if table is PLAIN else 2 if table is LEVELS else 1
+        wanted = 0 if table is PLAIN else 2 if table in (LEVELS, PACKED) else 1
         if len(operands) != wanted:
             raise Fault(f"{name} has {wanted} operand{'s' * (wanted != 1)}, and not {len(operands)}")
         if table is SHORT:
@@ -109,6 +109,12 @@ class Assembler:
             return big(self.value(name, operands[0], 0, 32767))
         if table is LEVELS:
             return byte(self.value(name, operands[0], 0, 255)) + big(self.value(name, operands[1], 0, 32767))
+        if table is PACKED:
+            elements = self.value(name, operands[0], 1, 16)
+            width = self.value(name, operands[1], 1, 16)
+            if elements * width > 16:
+                raise Fault(f"{elements} elements of {width} bits do not fit a word")
+            return byte(elements) + byte(width)
         if table is COMPARE:
             return byte(self.value(name, operands[0], 6, 6))
         if table is CALL:

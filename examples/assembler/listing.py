@@ -2,13 +2,13 @@
 
 import struct
 
-from .instructions import BIG, BLOCK, BYTE, CALL, COMPARE, JUMP, LAST, LDCI, LEVELS, PLAIN, SHORT, XJP, Fault
+from .instructions import BIG, BLOCK, BYTE, CALL, COMPARE, JUMP, LAST, LDCI, LEVELS, PACKED, PLAIN, SHORT, XJP, Fault
 
 
 def names_by_opcode():
     """The name and the form of each opcode, and the number of a short one."""
     table = {}
-    forms = {"plain": PLAIN, "byte": BYTE, "big": BIG, "levels": LEVELS, "compare": COMPARE, "call": CALL,
+    forms = {"plain": PLAIN, "byte": BYTE, "big": BIG, "levels": LEVELS, "packed": PACKED, "compare": COMPARE, "call": CALL,
              "jump": JUMP, "word": {"LDCI": LDCI}, "case": {"XJP": XJP}}
     for form, opcodes in forms.items():
         for name, opcode in opcodes.items():
@@ -83,6 +83,8 @@ class Lister:
                 operands, after = [self.byte(after)], after + 1
             operand, after = self.big(after)
             operands.append(operand)
+        elif form == "packed":
+            operands, after = [self.byte(after), self.byte(after + 1)], after + 2
         elif form == "jump":
             targets = operands = [self.target(after, jtab)]
             after += 1

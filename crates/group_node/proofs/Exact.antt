@@ -4,73 +4,24 @@ use Rattle.std.proofs.lemmas.List.{drop-drop, length-drop, length-take, take-app
 use Rattle.std.proofs.lemmas.Option.{slice_get_within}
 use Rattle.circular_buffer.specs.Buffer.{buffer, Buffer}
 use Rattle.pcode_file.specs.Parts.{Parts}
-use Rattle.pcode_machine.specs.declared.turn.Turn.{Turn}
-use Rattle.pcode_machine.specs.declared.turn.Turn.TheVariants.{Went, Wrote, Took, TookAndWrote, Waits, Ended}
 use Rattle.pcode_machine.specs.declared.turn.End.{End}
 use Rattle.pcode_machine.specs.Configuration.{State, Configuration, joined, start}
 use Rattle.pcode_machine.specs.Outcome.{outcome, Goes, Stops, Waiting}
 use Rattle.pcode_machine.specs.Runs.{after, Leads}
-use Rattle.pcode_machine.specs.Step.{Ends}
-use Rattle.pcode_machine.specs.Turns.{told, IsTurn, TakesByte, AreQuiet, Makes, WaitsOn}
+use Rattle.pcode_machine.specs.Turns.{AreQuiet, IsLast, Makes, WaitsOn, Writes}
 use Rattle.group_node.specs.declared.player.Player.{Player}
-use Rattle.group_node.specs.Player.{IsExact, Moves}
+use Rattle.group_node.specs.Player.{Advances, IsExact, Moves}
 
 -- the laws of runs that a step stands on
 pub record Laws : Type 0 where
   pub there : (p : Parts) (x : List ℕ) (n : ℕ) (c : Configuration) → Leads p x n c → after p x n ≡ c
   pub longer : (p : Parts) (x y : List ℕ) (c d : Configuration) → outcome p x c ≡ Goes d → outcome p (x ++ y) c ≡ Goes d
-  pub ends : (p : Parts) (x : List ℕ) (c : Configuration) (e : End) → Ends p c e ↔ (outcome p x c ≡ Stops e)
 
--- ---- a turn, whatever came before
+-- ---- steps that write or take a byte
 
--- a turn that reads and writes nothing
-pub makes-went : {p : Parts} {old new : State} → IsTurn p [] old Went new → Makes p old new [] []
-makes-went t = record { steps = λ before output. rw (add-zero (length before), append-nil output) (t.tells before output) }
-
--- a turn that writes
-pub makes-wrote : {p : Parts} {old new : State} {b : ℕ} → IsTurn p [] old (Wrote b) new → Makes p old new [] (b ∷ [])
-makes-wrote t = record { steps = λ before output. rw (add-zero (length before)) (t.tells before output) }
-
--- a turn that takes the offered byte
-pub makes-took : {p : Parts} {old new : State} {b : ℕ} → IsTurn p (b ∷ []) old Took new → Makes p old new (b ∷ []) []
-makes-took t = record { steps = λ before output. rw (append-nil output) (t.tells before output) }
-
--- a turn that takes the offered byte and writes it
-pub makes-echoed : {p : Parts} {old new : State} {b e : ℕ} → IsTurn p (b ∷ []) old (TookAndWrote e) new → Makes p old new (b ∷ []) (e ∷ [])
-makes-echoed t = record { steps = λ before output. t.tells before output }
-
--- what a turn without an offered byte tells
-told-idle : {p : Parts} {old new : State} {turn : Turn} → IsTurn p [] old turn new
-    → (before output : List ℕ) → outcome p before (joined old (length before) output) ≡ told turn new (length before) output
-told-idle {p} {old} {new} {turn} t before output =
-    let P : List ℕ → Type 0 = λ x. outcome p x (joined old (length before) output) ≡ told turn new (length before) output in
-    subst P (append-nil before) (t.tells before output)
-
--- a turn that waits
-pub waits-idle : {p : Parts} {old new : State} → IsTurn p [] old Waits new → WaitsOn p old
-waits-idle t = record { waits = told-idle t }
-
--- a machine that waits takes the byte that it is given
-pub takes-fed : {p : Parts} {old new : State} {b : ℕ} {turn : Turn}
-    → ((p : Parts) (x : List ℕ) (b : ℕ) (c : Configuration) → c.read ≡ length x → outcome p x c ≡ Waiting → (d : Configuration) × (outcome p (x ++ b ∷ []) c ≡ Goes d) × (d.read ≡ c.read + 1))
-    → WaitsOn p old → IsTurn p (b ∷ []) old turn new → TakesByte turn
-takes-fed {p} {old} {new} {b} {turn} law w t = takes turn (t.tells [] []) (law p [] b (joined old 0 []) refl (w.waits [] [])) where
-  takes : (turn : Turn) → outcome p (b ∷ []) (joined old 0 []) ≡ told turn new 0 [] → ((d : Configuration) × (outcome p (b ∷ []) (joined old 0 []) ≡ Goes d) × (d.read ≡ 1)) → TakesByte turn
-  takes Took t g = tt
-  takes (TookAndWrote e) t g = tt
-  takes Went t g = absurd cc
-  takes (Wrote e) t g = absurd cc
-  takes Waits t g = absurd cc
-  takes (Ended e) t g = absurd cc
-
--- there are two turns that take a byte
-pub not-takes : (turn : Turn) → TakesByte turn → (turn ≡ Took → ⊥) → ((b : ℕ) → turn ≡ TookAndWrote b → ⊥) → ⊥
-not-takes Took t no_took no_echo = no_took refl
-not-takes (TookAndWrote b) t no_took no_echo = no_echo b refl
-not-takes Went t no_took no_echo = t
-not-takes (Wrote b) t no_took no_echo = t
-not-takes Waits t no_took no_echo = t
-not-takes (Ended e) t no_took no_echo = t
+-- a step that writes a byte takes none
+pub makes-wrote : {p : Parts} {old new : State} {b : ℕ} → Writes p old new b → Makes p old new [] (b ∷ [])
+makes-wrote w = record { steps = λ before output. rw (add-zero (length before), append-nil before) (w.goes before (length before) output) }
 
 -- ---- one step more
 
@@ -137,22 +88,17 @@ all_read (y ∷ ys) zero e le = absurd cc
 all_read (y ∷ ys) (suc n) e le = let r = all_read ys n e (omega arith) in (ap suc r.0, ap (λ (zs : List ℕ). y ∷ zs) r.1)
 
 -- the machine waits, and all of the input is read
-pub halts_waiting : {x : List ℕ} {q : Player} → Laws → IsExact x q → WaitsOn q.machine.program q.machine.state → slice_get x q.read ≡ None
+pub halts_waiting : {x : List ℕ} {q : Player} {p : Parts} → Laws → IsExact x q → q.machine.program ≡ p → WaitsOn p q.machine.state → slice_get x q.read ≡ None
     → outcome q.machine.program x (after q.machine.program x q.steps) ≡ Waiting
-halts_waiting {x} {q} laws h w e =
+halts_waiting {x} {q} {p} laws h same w e =
     let r = all_read x q.read e h.read in
-    let Q : ℕ → Type 0 = λ k. outcome q.machine.program x (joined q.machine.state k h.output) ≡ Waiting in
-    rw (replayed laws.there h) (subst Q (sym r.0) (w.waits x h.output))
+    let Q : ℕ → Type 0 = λ k. outcome p x (joined q.machine.state k h.output) ≡ Waiting in
+    rw (replayed laws.there h, same) (subst Q (sym r.0) (w.waits x h.output))
 
 -- the program has ended
-pub halts_ended : {x : List ℕ} {q : Player} {new : State} {e : End} → Laws → IsExact x q → IsTurn q.machine.program [] q.machine.state (Ended e) new
+pub halts_ended : {x : List ℕ} {q : Player} {p : Parts} {e : End} → Laws → IsExact x q → q.machine.program ≡ p → IsLast p q.machine.state e
     → outcome q.machine.program x (after q.machine.program x q.steps) ≡ Stops e
-halts_ended {x} {q} {new} {e} laws h t =
-    let len = taken_length x q.read h.read in
-    let short = told-idle t (take q.read x) h.output in
-    let Q : ℕ → Type 0 = λ k. outcome q.machine.program (take q.read x) (joined q.machine.state k h.output) ≡ Stops e in
-    let there : Ends q.machine.program (joined q.machine.state q.read h.output) e = (laws.ends q.machine.program (take q.read x) (joined q.machine.state q.read h.output) e).1 (subst Q len short) in
-    rw (replayed laws.there h) ((laws.ends q.machine.program x (joined q.machine.state q.read h.output) e).0 there)
+halts_ended {x} {q} {p} {e} laws h same last = rw (replayed laws.there h, same) (last.stops x q.read h.output)
 
 -- ---- other calls
 
@@ -171,6 +117,24 @@ exact_quiet {x} {old} {new} k quiet h a program waits steps read released = reco
   room = rw waits h.room;
   capacity = rw waits h.capacity;
 }
+
+-- ---- turns
+
+-- the same as it is seen after them
+pub advances : {x : List ℕ} {old new : Player} (k : ℕ)
+    → ((p : Parts) (x : List ℕ) (n m r : ℕ) (o : List ℕ) (s t : State) → Leads p x n (joined s r o) → AreQuiet p m s t → Leads p x (n + m) (joined t r o)) → IsExact x old → AreQuiet old.machine.program k old.machine.state new.machine.state
+    → new.machine.program ≡ old.machine.program → new.unreleased ≡ old.unreleased → new.steps ≡ old.steps + k → new.read ≡ old.read → new.released ≡ old.released → Advances x k old new
+advances {x} {old} {new} k quiet h a program waits steps read released =
+    record { exact = exact_quiet k quiet h a program waits steps read released; unreleased = waits; program = program; released = released; steps = steps }
+
+-- the steps before the one that wrote a byte
+abbrev pub advanced : Player → ℕ → State → Player
+advanced old k u = record old { machine = record old.machine { state = u }; steps = old.steps + k }
+
+pub to_advanced : {x : List ℕ} {old : Player} (k : ℕ) (u : State)
+    → ((p : Parts) (x : List ℕ) (n m r : ℕ) (o : List ℕ) (s t : State) → Leads p x n (joined s r o) → AreQuiet p m s t → Leads p x (n + m) (joined t r o)) → IsExact x old → AreQuiet old.machine.program k old.machine.state u
+    → Advances x k old (advanced old k u)
+to_advanced k u quiet h a = advances k quiet h a refl refl refl refl refl
 
 -- before the first step
 pub exact_start : (x : List ℕ) (q : Player) → q.machine.state ≡ start q.machine.program → q.steps ≡ 0 → q.read ≡ 0 → q.released ≡ 0 → q.unreleased ≡ buffer [] 256 → IsExact x q

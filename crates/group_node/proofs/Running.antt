@@ -1,5 +1,5 @@
 -- A run of the machine, up to where it is over.
-use Rattle.std.proofs.Common.{◌≡◌, ℕ, ◌+◌, ◌-◌, ◌<◌, ◌≤◌, List, length, drop, refl, sym, ◌∙◌, ap, subst, arith}
+use Rattle.std.proofs.Common.{◌≡◌, ℕ, ◌+◌, ◌-◌, ◌<◌, ◌≤◌, List, length, drop, Some, None, refl, sym, ◌∙◌, ap, subst, arith}
 use Rattle.std.proofs.lemmas.List.{length-drop}
 use Rattle.pcode_file.specs.Parts.{Parts}
 use Rattle.pcode_machine.specs.Prefixes.{IsPrefix}
@@ -8,7 +8,7 @@ use Rattle.group_node.specs.declared.player.Player.{Player}
 use Rattle.group_node.specs.declared.player.Ran.{Ran}
 use Rattle.group_node.specs.declared.player.Ran.TheVariants as ran
 use Rattle.group_node.specs.Output.{IsIdle, IsOver, most_of, Progress, RunsOn, unreleased_of}
-use Rattle.group_node.specs.Player.{Halts, IsExact, progress_of, RanSoFar}
+use Rattle.group_node.specs.Player.{Halts, IsExact, progress_of, RanSoFar, TurnsTo}
 use Rattle.group_node.proofs.Prefixes.{prefix_length}
 use Rattle.group_node.proofs.Replays.{There, waits_unreleased}
 
@@ -120,12 +120,28 @@ halts {x} {old} {now} steps left why there some room h r = over_by steps why r (
   over ran.Waits h = (idle, h)
   over (ran.Ended e) h = (idle, h)
 
--- the same where the machine was left as it was
-pub run_halts : {x : List ℕ} {old now new : Player} (steps left : ℕ) (why : Ran) → There → 0 < left → length now.unreleased.items < 256 → new ≡ now → Halts x new why
-    → RanSoFar x (most_of old.steps steps) left old now → RunsOn x steps (progress_of old) (progress_of new) why
-run_halts {x} {old} {now} {new} steps left why there some room same =
-    subst (λ (q : Player). Halts x q why → RanSoFar x (most_of old.steps steps) left old now → RunsOn x steps (progress_of old) (progress_of q) why) (sym same)
-    (halts steps left why there some room)
+-- ---- by a turn
+
+-- a turn after which the run goes on
+pub run_goes_on : {x : List ℕ} {most left : ℕ} {old now new : Player} (n : ℕ) → Laws → RanSoFar x most left old now → length now.unreleased.items < 256
+    → TurnsTo x left now new (n, None) → IsExact x new → new.machine.program ≡ now.machine.program → new.released ≡ now.released → new.steps ≡ now.steps + n → RanSoFar x most (left - n) old new
+run_goes_on {x} {most} {left} {old} {now} {new} n laws r room (k, mid, a, few, is) exact program released steps =
+    let still : length mid.unreleased.items < 256 = rw a.unreleased room in
+    let here : RanSoFar x most (left - k) old mid = run_advances k laws r room a.exact a.unreleased a.program a.released a.steps (omega arith) in
+    let fewer : left - k - 1 ≡ left - n = omega arith in
+    let one : new.steps ≡ mid.steps + 1 = omega (arith, a.steps) in
+    rw fewer at (run_turns laws here still exact (program ∙ sym a.program) (released ∙ sym a.released) one (omega arith))
+
+-- a turn with which it is over
+pub run_is_over : {x : List ℕ} {old now : Player} (steps left n : ℕ) (new : Player) (why : Ran) → Laws → RanSoFar x (most_of old.steps steps) left old now → length now.unreleased.items < 256
+    → TurnsTo x left now new (n, Some why) → RunsOn x steps (progress_of old) (progress_of new) why
+run_is_over {x} {old} {now} steps left n new ran.More laws r room (all, a) =
+    run_spent steps (left - n) (omega arith) (run_advances n laws r room a.exact a.unreleased a.program a.released a.steps (omega arith))
+run_is_over steps left n new ran.Full laws r room h = absurd h
+run_is_over {x} {old} {now} steps left n new ran.Waits laws r room (few, a, h) =
+    halts steps (left - n) ran.Waits laws.there (omega arith) (rw a.unreleased room) h (run_advances n laws r room a.exact a.unreleased a.program a.released a.steps (omega arith))
+run_is_over {x} {old} {now} steps left n new (ran.Ended e) laws r room (few, a, h) =
+    halts steps (left - n) (ran.Ended e) laws.there (omega arith) (rw a.unreleased room) h (run_advances n laws r room a.exact a.unreleased a.program a.released a.steps (omega arith))
 
 -- a run makes at most as many steps as it may
 pub few_steps : (x : List ℕ) (steps : ℕ) (old new : Progress) (answer : Ran) → RunsOn x steps old new answer → new.steps ≤ old.steps + steps

@@ -1,5 +1,5 @@
 -- A node's machine as the code keeps it.
-use Rattle.std.specs.Prelude.{◌≡◌, ℕ, ◌+◌, ◌<◌, ◌≤◌, List, ◌++◌, drop, length}
+use Rattle.std.specs.Prelude.{◌≡◌, ℕ, ◌+◌, ◌<◌, ◌≤◌, List, ◌++◌, drop, length, Option, Some, None}
 use Rattle.circular_buffer.specs.Buffer.{buffer}
 use Rattle.pcode_machine.specs.Configuration.{joined}
 use Rattle.pcode_machine.specs.Outcome.{outcome, Stops, Waiting}
@@ -44,6 +44,23 @@ Halts x q ran.More = ⊥
 Halts x q ran.Full = ⊥
 Halts x q ran.Waits = outcome q.machine.program x (after q.machine.program x q.steps) ≡ Waiting
 Halts x q (ran.Ended e) = outcome q.machine.program x (after q.machine.program x q.steps) ≡ Stops e
+
+-- k steps that read and wrote nothing
+pub record Advances (x : List ℕ) (k : ℕ) (old new : Player) : Type 0 where
+  pub exact : IsExact x new
+  pub unreleased : new.unreleased ≡ old.unreleased
+  pub program : new.machine.program ≡ old.machine.program
+  pub released : new.released ≡ old.released
+  pub steps : new.steps ≡ old.steps + k
+
+-- A turn of at most so many steps made n of them: some that read and write nothing, and then one that takes or writes a byte; or the run
+-- is over.
+abbrev pub TurnsTo : List ℕ → ℕ → Player → Player → ℕ × Option Ran → Type 0
+TurnsTo x most old new (n, None) = (k : ℕ) × (mid : Player) × Advances x k old mid × (k < most) × (n ≡ k + 1)
+TurnsTo x most old new (n, Some ran.More) = (n ≡ most) × Advances x n old new
+TurnsTo x most old new (n, Some ran.Full) = ⊥
+TurnsTo x most old new (n, Some ran.Waits) = (n < most) × Advances x n old new × Halts x new ran.Waits
+TurnsTo x most old new (n, Some (ran.Ended e)) = (n < most) × Advances x n old new × Halts x new (ran.Ended e)
 
 -- So many steps are left of a run that may come to `most` of them: it is exact, and before each step that it made there was room for a byte.
 pub record RanSoFar (x : List ℕ) (most left : ℕ) (old now : Player) : Type 0 where

@@ -4,15 +4,14 @@ ghost use Rattle.circular_buffer.specs.Buffer.{buffer};
 ghost use Rattle.paxos_learner.specs.Input.{learned_input};
 ghost use Rattle.pcode_machine.specs.Turns.{WaitsOn};
 ghost use Rattle.group_node.specs.Output.{most_of, no_progress, RunsOn, unreleased_of};
-ghost use Rattle.group_node.specs.Player.{Halts, IsExact, Moves, progress_of};
+ghost use Rattle.group_node.specs.Player.{IsExact, Moves, TurnsTo, progress_of};
 
 use circular_buffer::HeapCircularBuffer;
 use paxos_learner::Learner;
 use pcode_machine::laws::{
-    goes_on_with_a_byte, output_only_grows, quiet_steps_lead_on, run_is_after,
-    same_step_on_longer_input, step_is_outcome,
+    output_only_grows, quiet_steps_lead_on, run_is_after, same_step_on_longer_input,
 };
-use pcode_machine::{End, Machine, MachineFault, Turn};
+use pcode_machine::{End, Machine, MachineFault, Pause};
 use pcode_ops::Program;
 use std::alloc::{AllocError, Global};
 
@@ -110,13 +109,10 @@ impl<'a> Player<'a> {
         requires read { self.old.read < 18446744073709551615 }
         ensures { (wrote : List ℕ) × Moves self.old self.new (byte ∷ []) wrote }
     {
-        goes_on_with_a_byte();
         self.read += 1;
         self.steps += 1;
-        match self.machine.step(Some(byte)) {
-            Turn::Took => (),
-            Turn::TookAndWrote(echo) => self.write(echo),
-            _ => unreachable!(),
+        if let Some(echo) = self.machine.take(byte) {
+            self.write(echo);
         }
     }
 
@@ -127,57 +123,39 @@ impl<'a> Player<'a> {
         learner.input_at(self.read)
     }
 
-    /// One step, on the next byte of the learned input if the machine waits for it; or why there is none.
-    fn turn(&mut self, learner: &Learner) -> Option<Ran>
+    /// Makes steps, at most `most`, until one takes a byte of the learned input or writes one, or the run is
+    /// over. Returns how many it made, and how the run is over if it is.
+    fn turn(&mut self, learner: &Learner, most: u32) -> (u32, Option<Ran>)
         requires exact { IsExact (learned_input learner.now.learned) self.old }
         requires room { length self.old.unreleased.items < 256 }
-        requires steps { self.old.steps < 18446744073709551615 }
+        requires steps { self.old.steps + most ≤ 18446744073709551615 }
         ensures exact { IsExact (learned_input learner.now.learned) self.new }
-        ensures steps { IfNone result (self.new.steps ≡ self.old.steps + 1) }
-        ensures halts { IfSome result (λ ran. Halts (learned_input learner.now.learned) self.new ran) }
-        ensures still { OnSome result (self.new ≡ self.old) }
+        ensures turns { TurnsTo (learned_input learner.now.learned) most self.old self.new result }
+        ensures most { result.0 ≤ most }
+        ensures steps { self.new.steps ≡ self.old.steps + result.0 }
         ensures released { self.new.released ≡ self.old.released }
         ensures program { self.new.machine.program ≡ self.old.machine.program }
     {
         run_is_after();
         same_step_on_longer_input();
-        step_is_outcome();
-        match self.machine.step(None) {
-            Turn::Went => {
-                self.steps += 1;
-                None
-            }
-            Turn::Wrote(byte) => {
+        quiet_steps_lead_on();
+        let (made, pause) = self.machine.run(most);
+        self.steps += u64::from(made);
+        match pause {
+            Pause::Spent => (made, Some(Ran::More)),
+            Pause::Ended(end) => (made, Some(Ran::Ended(end))),
+            Pause::Wrote(byte) => {
                 self.write(byte);
-                self.steps += 1;
-                None
+                (made, None)
             }
-            Turn::Ended(end) => Some(Ran::Ended(end)),
-            Turn::Waits => match self.next_byte(learner) {
+            Pause::Wants => match self.next_byte(learner) {
                 Some(byte) => {
                     self.feed(byte);
-                    None
+                    (made + 1, None)
                 }
-                None => Some(Ran::Waits),
+                None => (made, Some(Ran::Waits)),
             },
-            Turn::Took | Turn::TookAndWrote(_) => unreachable!(),
         }
-    }
-
-    /// Makes steps that read and write nothing, at most so many, and says how many.
-    fn advance(&mut self, most: u32) -> u32
-        requires { self.old.steps + most ≤ 18446744073709551615 }
-        ensures exact { (x : List ℕ) → IsExact x self.old → IsExact x self.new }
-        ensures most { result ≤ most }
-        ensures steps { self.new.steps ≡ self.old.steps + result }
-        ensures waits { self.new.unreleased ≡ self.old.unreleased }
-        ensures released { self.new.released ≡ self.old.released }
-        ensures program { self.new.machine.program ≡ self.old.machine.program }
-    {
-        quiet_steps_lead_on();
-        let made = self.machine.advance(most);
-        self.steps += u64::from(made);
-        made
     }
 
     /// Makes steps, at most so many, on the learned input. Before each step it looks first whether the steps are
@@ -194,15 +172,11 @@ impl<'a> Player<'a> {
             if !self.has_room() {
                 return Ran::Full;
             }
-            // These steps write nothing, so that there is room for the next byte behind them too.
-            left -= self.advance(left);
-            if left == 0 {
-                return Ran::More;
+            let (made, ran) = self.turn(learner, left);
+            if let Some(ran) = ran {
+                return ran;
             }
-            match self.turn(learner) {
-                Some(ran) => return ran,
-                None => left -= 1,
-            }
+            left -= made;
         }
         Ran::More
     }

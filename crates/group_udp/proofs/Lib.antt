@@ -6,3 +6,4 @@ mod Writing
 mod Rounding
 mod Showing
 mod Senders
+mod Kept

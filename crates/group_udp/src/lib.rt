@@ -8,6 +8,7 @@ pub mod laws;
 mod member;
 mod net;
 mod node;
+mod own_datagrams;
 mod sources;
 mod typed;
 mod udp;

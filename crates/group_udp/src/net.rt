@@ -9,6 +9,7 @@ ghost use Rattle.machine_run.specs.declared.refusal.MachineRefusal.{MachineRefus
 
 use crate::ended::Ended;
 use crate::member::Member;
+use crate::own_datagrams::OwnDatagrams;
 use crate::udp::{UdpWire, Watch, bind};
 use group_node::{Config, Console, Offer};
 use machine_run::{RunIo, load_file, read_input, write_bytes};
@@ -161,7 +162,7 @@ fn addresses(alloc: Global, sockets: &[UdpSocket]) -> Result<Vec<SocketAddr>, En
     Ok(addresses)
 }
 
-/// Sockets as wires of the nodes with these addresses.
+/// Sockets as wires of the nodes with these addresses, node 1 first.
 fn wires<'a, H: Net + Clock + AllocGlobal>(
     rt: &'a H,
     sockets: Vec<UdpSocket>,
@@ -170,8 +171,13 @@ fn wires<'a, H: Net + Clock + AllocGlobal>(
     ensures others { IfErr result (λ e. IsOpenRefusal e) }
 {
     let mut wires = Vec::new(rt.alloc());
+    let mut node = 0u8;
     for socket in sockets {
-        wires.push(UdpWire::new(rt, socket, Watch::new(rt)?, addresses, None)?)?;
+        node = node.saturating_add(1);
+        let watch = Watch::new(rt)?;
+        let own = OwnDatagrams::new(rt.alloc())?;
+        let wire = UdpWire::new(rt, node, socket, watch, addresses, own, None)?;
+        wires.push(wire)?;
     }
     Ok(wires)
 }

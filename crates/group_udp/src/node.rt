@@ -11,6 +11,7 @@ ghost use Rattle.group_udp.specs.Runs.{HasRun, HasRunOrRefused, HasRunOverFile, 
 
 use crate::ended::{Ended, end_of};
 use crate::member::Member;
+use crate::own_datagrams::OwnDatagrams;
 use crate::typed::{Pressed, Typed};
 use crate::udp::{UdpWire, Watch, bind};
 use group_log::{Log, Note};
@@ -174,13 +175,13 @@ fn typed_of<'a, H: Net + Clock, E: Write>(
 }
 
 /// The wire of the node, on the socket of its address. Typed bytes end its waiting too.
-fn own_wire<'a, H: Net + Clock, E: Write>(
+fn own_wire<'a, H: Net + Clock + AllocGlobal, E: Write>(
     rt: &'a H,
     plan: &NodePlan<'a>,
     watch: Watch,
     log: &mut Log<'_, H, E>,
 ) -> Result<UdpWire<'a, H>, Ended>
-    ensures others { IfErr result (λ e. e ≡ Ended.Socket) }
+    ensures others { IfErr result (λ e. IsOpenRefusal e) }
 {
     let index = usize::from(plan.node).saturating_sub(1);
     let Some(address) = plan.addresses.get(index) else {
@@ -188,7 +189,8 @@ fn own_wire<'a, H: Net + Clock, E: Write>(
     };
     let socket = bind_noted(rt, *address, log)?;
     let counted = if log.is_on() { Some(plan.group) } else { None };
-    UdpWire::new(rt, socket, watch, plan.addresses, counted)
+    let own = OwnDatagrams::new(rt.alloc())?;
+    UdpWire::new(rt, plan.node, socket, watch, plan.addresses, own, counted)
 }
 
 /// Returns whether the known front has moved since it was at this place, and notes on the wire that it has.

@@ -4,6 +4,7 @@ ghost use Rattle.group_udp.specs.Refusals.{IsOpenRefusal};
 ghost use Rattle.group_udp.specs.Sources.{drop_of};
 
 use crate::ended::Ended;
+use crate::own_datagrams::OwnDatagrams;
 use crate::sources::is_from_sender;
 use group_log::{DropReason, Drops, reason_of};
 use group_wire::Wire;
@@ -111,12 +112,19 @@ impl Watch {
     }
 }
 
-/// A node's socket, and the addresses of all nodes in order. Its receives don't wait; the node waits between its turns.
+/// A node's socket, and the addresses of all nodes in order. Its receives don't wait; the node waits between its turns. What the node sends
+/// to itself does not pass the socket, as long as there is room for it here.
 pub struct UdpWire<'a, H> {
     clock: &'a H,
+    /// The node's number.
+    node: u8,
     socket: UdpSocket,
     watch: Watch,
     addresses: &'a [SocketAddr],
+    own: OwnDatagrams,
+    /// Whether the next receive takes one of the node's own first. While both have some, they and the socket's come in turn, so that
+    /// neither many datagrams of others nor a long answer of the node to itself holds the rest back.
+    is_own_next: bool,
     /// Until when it is waited for a datagram.
     until: Option<Instant>,
     /// How many rests were begun since something happened.
@@ -131,9 +139,12 @@ impl<'a, H> Drop for UdpWire<'a, H> {
     fn drop(self) {
         let UdpWire {
             clock: _clock,
+            node: _node,
             socket: _socket,
             watch: _watch,
             addresses: _addresses,
+            own: _own,
+            is_own_next: _is_own_next,
             until: _until,
             quiet: _quiet,
             counted: _counted,
@@ -143,13 +154,16 @@ impl<'a, H> Drop for UdpWire<'a, H> {
 }
 
 impl<'a, H: Clock> UdpWire<'a, H> {
-    /// The wire of a node with this socket. Typed bytes end its waiting too, where the watch has a
-    /// socket for them. It counts the datagrams that a node of the group `counted` drops.
+    /// The wire of the node `node` with this socket. Typed bytes end its waiting too, where the watch has a
+    /// socket for them. `own` keeps what it sends to itself. It counts the datagrams that a node of the group
+    /// `counted` drops.
     pub fn new(
         clock: &'a H,
+        node: u8,
         mut socket: UdpSocket,
         watch: Watch,
         addresses: &'a [SocketAddr],
+        own: OwnDatagrams,
         counted: Option<Group>,
     ) -> Result<UdpWire<'a, H>, Ended>
         ensures others { IfErr result (λ e. e ≡ Ended.Socket) }
@@ -157,9 +171,12 @@ impl<'a, H: Clock> UdpWire<'a, H> {
         watch.add(&mut socket, OWN)?;
         Ok(UdpWire {
             clock,
+            node,
             socket,
             watch,
             addresses,
+            own,
+            is_own_next: true,
             until: None,
             quiet: 0,
             counted,
@@ -198,9 +215,34 @@ impl<'a, H: Clock> UdpWire<'a, H> {
         self.until?.checked_duration_since(now)
     }
 
-    /// Waits for a datagram, where all that were there have been received. Returns whether there may be one: not where the rest is over,
-    /// or where bytes were typed and `is_ended_by_keys`.
+    /// Sends a datagram by the socket. Returns whether the system took it.
+    fn send_out(&self, to: u8, bytes: &[u8]) -> bool {
+        let Some(index) = usize::from(to).checked_sub(1) else {
+            return false;
+        };
+        match self.addresses.get(index) {
+            Some(address) => self.socket.send_to(bytes, *address).is_ok(),
+            None => false,
+        }
+    }
+
+    /// Receives the next datagram of the socket, if one is there. One that another than its sender sent is handed on as an empty one,
+    /// which spells no message.
+    fn receive_in(&mut self, buffer: &mut [u8]) -> Option<usize>
+        ensures within { IfSome result (λ count. count ≤ length buffer.new) }
+    {
+        let (count, source) = receive_from(&self.socket, buffer)?;
+        let is_taken = is_from_sender(self.addresses, source, &buffer[..count]);
+        self.count_drop(is_taken, &buffer[..count]);
+        if is_taken { Some(count) } else { Some(0) }
+    }
+
+    /// Waits for a datagram, unless one of the node's own is there. All that were in the socket have been received. Returns whether there
+    /// may be one: not where the rest is over, or where bytes were typed and `is_ended_by_keys`.
     pub fn wait(&mut self, is_ended_by_keys: bool) -> bool {
+        if !self.own.is_empty() {
+            return true;
+        }
         match self.left() {
             Some(left) => !(self.watch.wait(left) && is_ended_by_keys),
             None => false,
@@ -219,21 +261,21 @@ impl<H: Clock> Wire for UdpWire<'_, H> {
         if bytes.get(KIND) != Some(&ASK) {
             self.stir();
         }
-        let Some(index) = usize::from(to).checked_sub(1) else {
-            return false;
-        };
-        match self.addresses.get(index) {
-            Some(address) => self.socket.send_to(bytes, *address).is_ok(),
-            None => false,
+        if to == self.node && self.own.push(bytes) {
+            return true;
         }
+        self.send_out(to, bytes)
     }
 
-    // A datagram that another than its sender sent is handed on as an empty one, which spells no
-    // message.
     fn receive(&mut self, buffer: &mut [u8]) -> Option<usize> {
-        let (count, source) = receive_from(&self.socket, buffer)?;
-        let is_taken = is_from_sender(self.addresses, source, &buffer[..count]);
-        self.count_drop(is_taken, &buffer[..count]);
-        if is_taken { Some(count) } else { Some(0) }
+        if self.is_own_next && !self.own.is_empty() {
+            self.is_own_next = false;
+            return self.own.pop_into(buffer);
+        }
+        self.is_own_next = true;
+        match self.receive_in(buffer) {
+            None => self.own.pop_into(buffer),
+            received => received,
+        }
     }
 }

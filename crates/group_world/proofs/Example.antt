@@ -2,6 +2,7 @@
 use Rattle.std.proofs.Common.{◌≡◌, ℕ, zero, suc, ◌&&◌, ◌-◌, ◌≤◌, Bool, true, false, List, [], ◌∷◌, ◌++◌, drop, length, slice_get, slice_set, None, Some, refl, ap, subst, length-append, arith}
 use Rattle.std.proofs.lemmas.Bool.{and_parts}
 use Rattle.pcode_file.specs.Parts.{Parts}
+use Rattle.pcode_ops.specs.Decoding.{instr_of}
 use Rattle.pcode_machine.specs.Configuration.{Configuration}
 use Rattle.pcode_machine.specs.Outcome.{Goes as Leads_to, Outcome, Stops, Stuck, Waiting, outcome}
 use Rattle.pcode_machine.specs.Prefixes.{IsPrefix}
@@ -57,11 +58,11 @@ leads_by p x (suc n) h =
     (after p x n, leads_by p x n both.0, goes_by p x (after p x n) (outcome p x (after p x n)) both.1 refl)
 
 ten_steps : (x : List ℕ) → all_go writes_a x 10 ≡ true
-unfolding all_go is_step after
+unfolding all_go is_step after instr_of
 ten_steps x = refl
 
 one_byte : (x : List ℕ) → out writes_a x 10 ≡ 65 ∷ []
-unfolding out after
+unfolding out after instr_of
 one_byte x = refl
 
 -- ---- its runs

@@ -1,6 +1,7 @@
 -- The events of the witness lead to a world in which the key is learned and shown.
 use Rattle.std.proofs.Common.{◌≡◌, ◌∙◌, ℕ, Bool, true, false, List, [], ◌∷◌, ◌++◌, drop, take, length, slice_get, Option, None, Some, refl, sym, ap, subst, arith}
 use Rattle.std.proofs.lemmas.List.{map-append}
+use Rattle.pcode_ops.specs.Decoding.{instr_of}
 use Rattle.pcode_machine.specs.Runs.{after, out}
 use Rattle.paxos_msg.specs.declared.message.Body.TheVariants.{Accept, Accepted, Ask, Prepare, Promise, Submit}
 use Rattle.paxos_msg.specs.declared.record.Change.TheVariants as change
@@ -157,11 +158,11 @@ abbrev line : List ℕ
 line = 65 ∷ []
 
 ten_steps : all_go echoes line 10 ≡ true
-unfolding all_go is_step after
+unfolding all_go is_step after instr_of
 ten_steps = refl
 
 one_byte : out echoes line 10 ≡ 65 ∷ []
-unfolding out after
+unfolding out after instr_of
 one_byte = refl
 
 abbrev ten : Progress

@@ -1,7 +1,6 @@
 -- A run, one step after another.
-use Rattle.std.proofs.Common.{◌≡◌, ℕ, zero, suc, ◌+◌, ◌<◌, List, [], ◌∷◌, ◌++◌, length, Some, None, Ok, Err, refl, sym, ◌∙◌, ap, subst, append-nil, length-append, arith}
+use Rattle.std.proofs.Common.{◌≡◌, ℕ, suc, ◌+◌, ◌<◌, List, [], ◌∷◌, ◌++◌, length, Some, None, Ok, Err, refl, sym, ◌∙◌, ap, subst, append-nil, length-append, arith}
 use Rattle.std.specs.Option.{option_to_list}
-use Rattle.std.specs.Io.KnownBytes.{Appends, Consumes}
 use Rattle.std.proofs.KnownBytes.{Appends-nil, Consumes-nil, Appends-trans, Consumes-trans}
 use Rattle.base.specs.Faults.{HasRisen}
 use Rattle.pcode_file.specs.Parts.{Parts}
@@ -14,7 +13,7 @@ use Rattle.machine_run.specs.declared.run.RunIo.TheVariants as io
 use Rattle.machine_run.specs.declared.run.Finish.{Finish}
 use Rattle.machine_run.specs.declared.run.Finish.TheVariants as finish
 use Rattle.machine_run.specs.Streams.{Streams, HasMoved, HasNoFault, HasReadFault, HasWriteFault}
-use Rattle.machine_run.specs.Run.{LosesByte, Halts, HasRun, IsOver, RunsTo, Turns, Reached}
+use Rattle.machine_run.specs.Run.{LosesByte, Halts, HasRun, IsOver, Rests, RunsTo, Turns, Reached}
 
 -- the laws of runs that a run stands on
 pub record Laws : Type 0 where
@@ -108,21 +107,6 @@ halted {p} {from} {to} {n} {steps} {s} (finish.Error e) laws r h less = (less, h
 halted {p} {from} {to} {n} {steps} {s} finish.Waits laws r h less = (less, rw (laws.there p r.input n _ r.made) (h.0.waits r.input r.output), h.1)
 halted finish.Steps laws r h less = absurd h
 
--- ---- the same by what a turn of the run says
-
-pub next_turn : {p q : Parts} {from mid to : Streams} {n : ℕ} {old new : State} → Laws → q ≡ p → Reached p from mid n old → Turns q old new mid to (Ok None) → Reached p from to (suc n) new
-next_turn {p} {q} {from} {mid} {to} {n} {old} {new} laws e r t = Reached-more laws r (rw e at t.2) t.3 t.4
-
--- what a turn that makes no step leaves is still reached: it read and wrote nothing
-idle : {p : Parts} {from mid to : Streams} {n : ℕ} {s : State} → Reached p from mid n s → HasMoved mid to [] [] → HasNoFault mid to → Reached p from to n s
-idle r h f = record { input = r.input; output = r.output; made = r.made; moved = moved_idle r.moved h; faultless = faultless_on r.faultless f }
-
-pub last_turn : {p q : Parts} {from mid to : Streams} {n steps : ℕ} {old : State} (new : State) (f : Finish) → Laws → q ≡ p → Reached p from mid n old → Turns q old new mid to (Ok (Some f)) → n < steps → RunsTo p from to steps (Ok f)
-last_turn {p} {q} {from} {mid} {to} {n} {steps} {old} new f laws e r t less =
-    let P : Parts → Type 0 = λ k. Halts k old to.reader f in
-    let there = idle r t.1 t.2 in
-    done f laws there (halted f laws there (subst P e t.0) less)
-
 -- a byte was lost in the step after n of them
 lost : {p : Parts} {from mid to : Streams} {n steps : ℕ} {old new : State} → Laws → Reached p from mid n old → LosesByte p old new mid to → n < steps → RunsTo p from to steps (Err io.Write)
 unfolding out
@@ -157,18 +141,42 @@ unread {p} {from} {mid} {to} {n} {steps} {old} laws r w h f less =
       fault = read_fault_on r.faultless f;
     }
 
-failed : {p q : Parts} {from mid : Streams} {n : ℕ} {old : State} (to : Streams) (new : State) (steps : ℕ) (e : RunIo) → Laws → q ≡ p → Reached p from mid n old
-    → Turns q old new mid to (Err e) → n < steps → RunsTo p from to steps (Err e)
-failed to new steps io.Memory laws same r t less = absurd t
-failed {p} {q} {from} {mid} {n} {old} to new steps io.Read laws same r t less =
-    let P : Parts → Type 0 = λ k. WaitsOn k old in
-    unread laws r (subst P same t.0) t.1 t.2 less
-failed {p} {q} {from} {mid} {n} {old} to new steps io.Write laws same r t less =
-    let P : Parts → Type 0 = λ k. LosesByte k old new mid to in
-    lost laws r (subst P same t) less
+-- ---- the same by what a turn of the run says
 
-pub failed_turn : {p q : Parts} {from mid : Streams} {n : ℕ} {old : State} (to : Streams) (new : State) (steps : ℕ) (e f : RunIo) → Laws → q ≡ p → Reached p from mid n old
-    → Turns q old new mid to (Err e) → n < steps → f ≡ e → RunsTo p from to steps (Err f)
-failed_turn {p} {q} {from} {mid} {n} {old} to new steps e f laws same r t less is =
+-- what a turn that takes and writes nothing leaves is still reached
+idle : {p : Parts} {from mid to : Streams} {n : ℕ} {s : State} → Reached p from mid n s → HasMoved mid to [] [] → HasNoFault mid to → Reached p from to n s
+idle r h f = record { input = r.input; output = r.output; made = r.made; moved = moved_idle r.moved h; faultless = faultless_on r.faultless f }
+
+pub next_turn : {p q : Parts} {from mid to : Streams} {n : ℕ} {old new : State} (m most : ℕ) → Laws → q ≡ p → Reached p from mid n old → Turns q most old new mid to (Ok (m, None)) → Reached p from to (n + m) new
+next_turn {p} {q} {from} {mid} {to} {n} {old} {new} m most laws e r (k, u, took, wrote, is, few, quiet, makes, moved, faultless) =
+    let all : n + m ≡ suc (n + k) = omega arith in
+    rw all (Reached-more laws (reached_on k laws e r quiet) (rw e at makes) moved faultless)
+
+rests : {p : Parts} {from to : Streams} {steps : ℕ} {s : State} (n m most : ℕ) (f : Finish) → Laws → (r : Reached p from to (n + m) s) → Rests p most m s to.reader f
+    → n + most ≡ steps → RunsTo p from to steps (Ok f)
+rests n m most finish.Steps laws r h all = spent laws r (omega arith)
+rests n m most finish.Normal laws r h all = done finish.Normal laws r (halted finish.Normal laws r h.1 (omega arith))
+rests n m most (finish.Error e) laws r h all = done (finish.Error e) laws r (halted (finish.Error e) laws r h.1 (omega arith))
+rests n m most finish.Waits laws r h all = done finish.Waits laws r (halted finish.Waits laws r h.1 (omega arith))
+
+pub last_turn : {p q : Parts} {from mid to : Streams} {n steps : ℕ} {old : State} (m most : ℕ) (new : State) (f : Finish) → Laws → q ≡ p → Reached p from mid n old
+    → Turns q most old new mid to (Ok (m, Some f)) → n + most ≡ steps → RunsTo p from to steps (Ok f)
+last_turn {p} {q} {from} {mid} {to} {n} {steps} {old} m most new f laws e r (quiet, over, moved, faultless) all =
+    let P : Parts → Type 0 = λ k. Rests k most m new to.reader f in
+    rests n m most f laws (idle (reached_on m laws e r quiet) moved faultless) (subst P e over) all
+
+failed : {p q : Parts} {from mid : Streams} {n : ℕ} {old : State} (to : Streams) (new : State) (most steps : ℕ) (e : RunIo) → Laws → q ≡ p → Reached p from mid n old
+    → Turns q most old new mid to (Err e) → n + most ≡ steps → RunsTo p from to steps (Err e)
+failed to new most steps io.Memory laws same r t all = absurd t
+failed {p} {q} {from} {mid} {n} {old} to new most steps io.Read laws same r (k, few, quiet, waits, moved, fault) all =
+    let P : Parts → Type 0 = λ k. WaitsOn k new in
+    unread laws (reached_on k laws same r quiet) (subst P same waits) moved fault (omega arith)
+failed {p} {q} {from} {mid} {n} {old} to new most steps io.Write laws same r (k, u, few, quiet, loses) all =
+    let P : Parts → Type 0 = λ k. LosesByte k u new mid to in
+    lost laws (reached_on k laws same r quiet) (subst P same loses) (omega arith)
+
+pub failed_turn : {p q : Parts} {from mid : Streams} {n : ℕ} {old : State} (to : Streams) (new : State) (most steps : ℕ) (e f : RunIo) → Laws → q ≡ p → Reached p from mid n old
+    → Turns q most old new mid to (Err e) → n + most ≡ steps → f ≡ e → RunsTo p from to steps (Err f)
+failed_turn {p} {q} {from} {mid} {n} {old} to new most steps e f laws same r t all is =
     let P : RunIo → Type 0 = λ k. RunsTo p from to steps (Err k) in
-    subst P (sym is) (failed to new steps e laws same r t less)
+    subst P (sym is) (failed to new most steps e laws same r t all)

@@ -8,7 +8,7 @@ use Rattle.pcode_machine.specs.declared.turn.End.TheVariants as ends
 use Rattle.pcode_machine.specs.Configuration.{State, joined}
 use Rattle.pcode_machine.specs.Outcome.{outcome, Goes, Stops, Waiting}
 use Rattle.pcode_machine.specs.Runs.{after, out, Leads}
-use Rattle.pcode_machine.specs.Turns.{EndsBy, Makes, WaitsOn}
+use Rattle.pcode_machine.specs.Turns.{AreQuiet, EndsBy, Makes, WaitsOn}
 use Rattle.machine_run.specs.declared.run.Finish.{Finish}
 use Rattle.machine_run.specs.declared.run.Finish.TheVariants as finish
 use Rattle.machine_run.specs.declared.run.RunIo.{RunIo}
@@ -70,12 +70,19 @@ RunsTo p from to steps (Err io.Write) = FailsToWrite p from to steps
 
 -- ---- one turn of the run, as the machine's state sees it
 
--- no step is made, for this reason
+-- no step is made, for this reason of the machine's
 abbrev pub Halts : Parts → State → Option (List ℕ) → Finish → Type 0
 Halts p s r finish.Normal = EndsBy p s ends.Normal
 Halts p s r (finish.Error e) = EndsBy p s e × (e ≢ ends.Normal)
 Halts p s r finish.Waits = WaitsOn p s × IsAtEnd r
 Halts p s r finish.Steps = ⊥
+
+-- a turn of at most so many steps is over after n of them: all were made, or the machine makes none
+abbrev pub Rests : Parts → ℕ → ℕ → State → Option (List ℕ) → Finish → Type 0
+Rests p most n s r finish.Steps = n ≡ most
+Rests p most n s r finish.Normal = (n < most) × Halts p s r finish.Normal
+Rests p most n s r (finish.Error e) = (n < most) × Halts p s r (finish.Error e)
+Rests p most n s r finish.Waits = (n < most) × Halts p s r finish.Waits
 
 -- a byte could not be written: that of a step which takes the byte that was read, if one was
 pub record LosesByte (p : Parts) (old new : State) (from to : Streams) : Type 0 where
@@ -85,13 +92,16 @@ pub record LosesByte (p : Parts) (old new : State) (from to : Streams) : Type 0 
   pub moved : HasMoved from to (option_to_list took) []
   pub fault : HasWriteFault from to
 
--- one turn of the run: a step, a finish, or a fault
-abbrev pub Turns : Parts → State → State → Streams → Streams → Result (Option Finish) RunIo → Type 0
-Turns p old new from to (Ok None) = (took : List ℕ) × (wrote : List ℕ) × Makes p old new took wrote × HasMoved from to took wrote × HasNoFault from to
-Turns p old new from to (Ok (Some f)) = Halts p old to.reader f × HasMoved from to [] [] × HasNoFault from to
-Turns p old new from to (Err io.Memory) = ⊥
-Turns p old new from to (Err io.Read) = WaitsOn p old × HasMoved from to [] [] × HasReadFault from to
-Turns p old new from to (Err io.Write) = LosesByte p old new from to
+-- One turn of the run, of at most so many steps: some that read and write nothing, and then one that takes or writes a byte, a finish, or
+-- a fault.
+abbrev pub Turns : Parts → ℕ → State → State → Streams → Streams → Result (ℕ × Option Finish) RunIo → Type 0
+Turns p most old new from to (Ok (n, None)) =
+    (k : ℕ) × (mid : State) × (took : List ℕ) × (wrote : List ℕ) × (n ≡ k + 1) × (k < most) × AreQuiet p k old mid × Makes p mid new took wrote
+    × HasMoved from to took wrote × HasNoFault from to
+Turns p most old new from to (Ok (n, Some f)) = AreQuiet p n old new × Rests p most n new to.reader f × HasMoved from to [] [] × HasNoFault from to
+Turns p most old new from to (Err io.Memory) = ⊥
+Turns p most old new from to (Err io.Read) = (k : ℕ) × (k < most) × AreQuiet p k old new × WaitsOn p new × HasMoved from to [] [] × HasReadFault from to
+Turns p most old new from to (Err io.Write) = (k : ℕ) × (mid : State) × (k < most) × AreQuiet p k old mid × LosesByte p mid new from to
 
 -- n steps were made, on some input, up to this state of the machine, and nothing has failed
 pub record Reached (p : Parts) (from to : Streams) (n : ℕ) (s : State) : Type 0 where

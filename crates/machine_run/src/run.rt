@@ -1,15 +1,13 @@
 //! A program over a reader and a writer.
-ghost use Rattle.std.specs.Prelude.{◌≡◌, ℕ, List, [], ◌∷◌, MatchResult};
+ghost use Rattle.std.specs.Prelude.{◌≡◌, ◌≤◌, ℕ, List, [], ◌∷◌, IfOk, MatchResult};
 ghost use Rattle.std.specs.Io.KnownBytes.{Keeps, Appends};
 ghost use Rattle.base.specs.Faults.{HasRisen};
 ghost use Rattle.pcode_machine.specs.Turns.{Makes, WaitsOn};
 ghost use Rattle.machine_run.specs.Run.{Turns, RunsTo, finish_of};
 
 use crate::streams::{ByteReader, ByteWriter, ReadFault, WriteFault};
-use pcode_machine::laws::{
-    goes_on_with_a_byte, quiet_steps_lead_on, run_is_after, same_run_on_longer_input,
-};
-use pcode_machine::{End, Machine, Turn};
+use pcode_machine::laws::{quiet_steps_lead_on, run_is_after, same_run_on_longer_input};
+use pcode_machine::{End, Machine, Pause};
 use pcode_ops::Program;
 use std::alloc::Global;
 use thiserror::Error;
@@ -67,42 +65,42 @@ fn feed<W: ByteWriter>(
         × Keeps (W.contents writer.old) (W.contents writer.new)
         × HasRisen (W.write_faults writer.old) (W.write_faults writer.new)) }
 {
-    // A machine that waits goes on with a byte, and takes it.
-    goes_on_with_a_byte();
-    match machine.step(Some(byte)) {
-        Turn::Took => Ok(()),
-        Turn::TookAndWrote(echo) => writer.write_byte(echo),
-        _ => unreachable!(),
+    match machine.take(byte) {
+        None => Ok(()),
+        Some(echo) => writer.write_byte(echo),
     }
 }
 
-/// One step of the machine, with the byte that it waits for and the byte that it writes.
+/// Makes steps, at most `most`, until one takes or writes a byte, or the run is over. Returns how many steps it
+/// made, and how the run was over if it is.
 fn turn<R: ByteReader, W: ByteWriter>(
     reader: &mut R,
     writer: &mut W,
     machine: &mut Machine<'_>,
-) -> Result<Option<Finish>, RunIo>
+    most: u32,
+) -> Result<(u32, Option<Finish>), RunIo>
     ensures program { machine.new.program ≡ machine.old.program }
-    ensures turn { Turns machine.old.program machine.old.state machine.new.state
+    ensures turn { Turns machine.old.program most machine.old.state machine.new.state
         (record { reader = R.remaining reader.old; writer = W.contents writer.old; read_faults = R.read_faults reader.old; write_faults = W.write_faults writer.old })
         (record { reader = R.remaining reader.new; writer = W.contents writer.new; read_faults = R.read_faults reader.new; write_faults = W.write_faults writer.new }) result }
+    ensures most { IfOk result (λ r. r.0 ≤ most) }
 {
-    match machine.step(None) {
-        Turn::Went => Ok(None),
-        Turn::Wrote(byte) => match writer.write_byte(byte) {
-            Ok(()) => Ok(None),
+    let (made, pause) = machine.run(most);
+    match pause {
+        Pause::Spent => Ok((made, Some(Finish::Steps))),
+        Pause::Ended(end) => Ok((made, Some(finish_by(end)))),
+        Pause::Wrote(byte) => match writer.write_byte(byte) {
+            Ok(()) => Ok((made, None)),
             Err(WriteFault) => Err(RunIo::Write),
         },
-        Turn::Ended(end) => Ok(Some(finish_by(end))),
-        Turn::Waits => match reader.read_byte() {
+        Pause::Wants => match reader.read_byte() {
             Ok(Some(byte)) => match feed(writer, machine, byte) {
-                Ok(()) => Ok(None),
-                Err(_) => Err(RunIo::Write),
+                Ok(()) => Ok((made + 1, None)),
+                Err(WriteFault) => Err(RunIo::Write),
             },
-            Ok(None) => Ok(Some(Finish::Waits)),
+            Ok(None) => Ok((made, Some(Finish::Waits))),
             Err(ReadFault) => Err(RunIo::Read),
         },
-        Turn::Took | Turn::TookAndWrote(_) => unreachable!(),
     }
 }
 
@@ -126,16 +124,13 @@ pub fn run_program<R: ByteReader, W: ByteWriter>(
     let Ok(mut machine) = Machine::new(alloc, program) else {
         return Err(RunIo::Memory);
     };
-    let mut done = 0;
-    while done < steps {
-        done += machine.advance(steps - done);
-        if done == steps {
-            return Ok(Finish::Steps);
-        }
-        if let Some(finish) = turn(reader, writer, &mut machine)? {
+    let mut left = steps;
+    while left > 0 {
+        let (made, finish) = turn(reader, writer, &mut machine, left)?;
+        if let Some(finish) = finish {
             return Ok(finish);
         }
-        done += 1;
+        left -= made;
     }
     Ok(Finish::Steps)
 }

@@ -5,18 +5,19 @@ use Rattle.pcode_machine.specs.declared.turn.Stop.TheVariants.{Normal, Error}
 use Rattle.pcode_machine.specs.Configuration.{State}
 use Rattle.pcode_machine.specs.Effects.{Effect, Finish}
 use Rattle.pcode_machine.specs.Step.{Makes, FailsBy}
+use Rattle.pcode_machine.specs.declared.errors.ExecutionError.{ExecutionError}
 
--- why an answer stops: N at the normal end, F of the number of an error
-abbrev pub Stopped : Type 0 → (ℕ → Type 0) → Stop → Type 0
+-- why an answer stops: N at the normal end, F of an error
+abbrev pub Stopped : Type 0 → (ExecutionError → Type 0) → Stop → Type 0
 Stopped N F Normal = N
 Stopped N F (Error e) = F e
 
 -- An answer agrees with its relations: A holds of the state that it gives and of no other, and where it stops
--- N or F holds, F of no other number. Each effect has a lemma that says so.
-pub record Agrees (N : Type 0) (A : State → Type 0) (F : ℕ → Type 0) (r : Option (Result State Stop)) : Type 0 where
+-- N or F holds, F of no other error. Each effect has a lemma that says so.
+pub record Agrees (N : Type 0) (A : State → Type 0) (F : ExecutionError → Type 0) (r : Option (Result State Stop)) : Type 0 where
   pub holds : MatchOption r (Unit {0}) (λ r. MatchResult r A (Stopped N F))
   pub goes : (t : State) → A t → r ≡ Some (Ok t)
-  pub fails : (e : ℕ) → F e → r ≡ Some (Err (Error e))
+  pub fails : (e : ExecutionError) → F e → r ≡ Some (Err (Error e))
 
 -- what an effect's answer has to meet
 abbrev pub Meets : Effect → ℕ → State → Result State Stop → Type 0
@@ -49,3 +50,8 @@ below_two f r none one (a ∷ rest) h = below_one (λ l. f (a ∷ l)) r (one a) 
 pub below_three : {R : Type 0} (f : List ℕ → R) (r : R) → f [] ≡ r → ((a : ℕ) → f (a ∷ []) ≡ r) → ((a b : ℕ) → f (a ∷ b ∷ []) ≡ r) → (st : List ℕ) → length st < 3 → f st ≡ r
 below_three f r none one two [] h = none
 below_three f r none one two (a ∷ rest) h = below_two (λ l. f (a ∷ l)) r (one a) (two a) rest (omega arith)
+
+pub below_four : {R : Type 0} (f : List ℕ → R) (r : R) → f [] ≡ r → ((a : ℕ) → f (a ∷ []) ≡ r) → ((a b : ℕ) → f (a ∷ b ∷ []) ≡ r) → ((a b c : ℕ) → f (a ∷ b ∷ c ∷ []) ≡ r)
+    → (st : List ℕ) → length st < 4 → f st ≡ r
+below_four f r none one two three [] h = none
+below_four f r none one two three (a ∷ rest) h = below_three (λ l. f (a ∷ l)) r (one a) (two a) (three a) rest (omega arith)

@@ -3,6 +3,8 @@ pub mod Live
 pub mod Agreeing
 pub mod RelatedWords
 pub mod RelatedBlocks
+pub mod RelatedFields
+pub mod Powers
 pub mod RelatedValues
 pub mod RelatedCalls
 pub mod Related
@@ -18,4 +20,5 @@ pub mod Outputs
 pub mod Steps
 pub mod Alone
 pub mod Numbered
+pub mod Pausing
 pub mod Quiet

@@ -4,10 +4,10 @@ use Rattle.pcode_file.specs.declared.file.Proc.{Proc}
 use Rattle.pcode_file.specs.InFile.{AreProcs}
 use Rattle.pcode_file.specs.Parts.{Parts, procedure_of}
 use Rattle.pcode_ops.specs.declared.instr.Instr.{Instr}
-use Rattle.pcode_ops.specs.declared.instr.Instr.TheVariants.{Ujp, Fjp, Efj, Nfj, Xjp}
+use Rattle.pcode_ops.specs.declared.instr.Instr.TheVariants.{Xjp}
 use Rattle.pcode_ops.specs.Decoding.{instr_at}
 use Rattle.pcode_ops.specs.Jumps.{StaysWith, IsCaseTable, case_of}
-use Rattle.pcode_ops.specs.Loading.{owner, LeadsTo, HasNext}
+use Rattle.pcode_ops.specs.Loading.{owner, LeadsTo, HasNext, JumpsBy}
 use Rattle.pcode_ops.specs.Reach.{Reach}
 use Rattle.pcode_ops.specs.Standing.{MayStand}
 use Rattle.pcode_machine.specs.Loaded.{IsLoaded}
@@ -16,22 +16,16 @@ use Rattle.pcode_machine.specs.Loaded.{IsLoaded}
 pub loaded : (p : Parts) → AreProcs p.segment p.procs
     → ((p : Parts) (n : ℕ) (q : Proc) → AreProcs p.segment p.procs → procedure_of p.procs n ≡ Some q → Reach p q.enter × (owner p.procs q.enter ≡ Ok q))
     → ((p : Parts) (q : Proc) (i : Instr) (j : ℕ) → MayStand p q i j → HasNext i → Reach p j × (owner p.procs j ≡ Ok q))
-    → ((p : Parts) (n : ℕ) (q : Proc) (sb : ℤ) (j : ℕ) → MayStand p q (Ujp sb) j → procedure_of p.procs n ≡ Some q → StaysWith p n q sb j)
-    → ((p : Parts) (n : ℕ) (q : Proc) (sb : ℤ) (j : ℕ) → MayStand p q (Fjp sb) j → procedure_of p.procs n ≡ Some q → StaysWith p n q sb j)
-    → ((p : Parts) (n : ℕ) (q : Proc) (sb : ℤ) (j : ℕ) → MayStand p q (Efj sb) j → procedure_of p.procs n ≡ Some q → StaysWith p n q sb j)
-    → ((p : Parts) (n : ℕ) (q : Proc) (sb : ℤ) (j : ℕ) → MayStand p q (Nfj sb) j → procedure_of p.procs n ≡ Some q → StaysWith p n q sb j)
+    → ((p : Parts) (n : ℕ) (q : Proc) (i : Instr) (sb : ℤ) (j : ℕ) → JumpsBy i sb → MayStand p q i j → procedure_of p.procs n ≡ Some q → StaysWith p n q sb j)
     → ((p : Parts) (q : Proc) (low high sb : ℤ) (table j w : ℕ) → (m : MayStand p q (Xjp low high sb table) j) → LeadsTo p.segment m.leads (case_of p.segment low high table w))
     → ((p : Parts) (i : ℕ) (q : Proc) (low high sb : ℤ) (table j : ℕ) → instr_at p.segment i ≡ Ok (Xjp low high sb table, j)
     → MayStand p q (Xjp low high sb table) j → IsCaseTable p.segment q low high table)
     → IsLoaded p
-loaded p procs enter next ujp fjp efj nfj case table = record {
+loaded p procs enter next jump case table = record {
   procs = procs;
   enter = λ n q. enter p n q procs;
   next = next p;
-  ujp = ujp p;
-  fjp = fjp p;
-  efj = efj p;
-  nfj = nfj p;
+  jump = jump p;
   case = case p;
   table = table p;
 }

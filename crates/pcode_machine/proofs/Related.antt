@@ -7,14 +7,16 @@ use Rattle.pcode_frames.specs.Words.{word_at}
 use Rattle.pcode_machine.specs.declared.turn.Stop.{Stop}
 use Rattle.pcode_machine.specs.declared.turn.Stop.TheVariants.{Error}
 use Rattle.pcode_machine.specs.Configuration.{State}
-use Rattle.pcode_machine.specs.Effects.{Effect, Push, Load, Store, Fetch, StoreAt, MoveBlock, LoadBlock, StoreBlock, LoadByte, StoreByte, Replace, Combine, Check, Go, Branch, BranchByTwo, Call, Return, Begin, Fail, Finish, Nowhere, effect_of}
+use Rattle.pcode_machine.specs.Effects.{Effect, Push, Load, Store, Fetch, StoreAt, MoveBlock, LoadBlock, StoreBlock, LoadByte, StoreByte, IndexField, LoadField, StoreField, Replace, Combine, Check, Go, Branch, BranchByTwo, Call, Return, Begin, Fail, Finish, Nowhere, effect_of}
 use Rattle.pcode_machine.specs.Execute.{made, execute}
 use Rattle.pcode_machine.specs.Step.{Makes, Executes, FailsBy, FailsWith}
 use Rattle.pcode_machine.proofs.Agreeing.{Stopped, Agrees, Meets}
 use Rattle.pcode_machine.proofs.RelatedWords.{push_holds, push_goes, push_fails, load_holds, load_fails, store_holds, store_fails, fetch_holds, fetch_fails, store_at_holds, store_at_fails}
 use Rattle.pcode_machine.proofs.RelatedBlocks.{move_holds, move_fails, load_block_holds, load_block_goes, load_block_fails, store_block_holds, store_block_fails, load_byte_holds, load_byte_fails, store_byte_holds, store_byte_fails}
+use Rattle.pcode_machine.proofs.RelatedFields.{index_holds, index_goes, index_fails, load_field_holds, load_field_fails, store_field_holds, store_field_fails}
 use Rattle.pcode_machine.proofs.RelatedValues.{replace_holds, replace_fails, combine_holds, combine_fails, check_holds, check_fails, branch_holds, branch_fails, branch_two_holds, branch_two_fails}
 use Rattle.pcode_machine.proofs.RelatedCalls.{enter_by, enter_goes, enter_fails, leave_by, leave_goes, leave_fails, begin_holds, begin_fails}
+use Rattle.pcode_machine.specs.declared.errors.ExecutionError.{ExecutionError}
 
 -- an effect that is made meets its relation
 abbrev IsMet : Effect → ℕ → State → Option (Result State Stop) → Type 0
@@ -31,6 +33,9 @@ holds (LoadBlock n) j s = load_block_holds n j s s.stack refl
 holds (StoreBlock n) j s = store_block_holds n j s (slice_get s.stack n) refl
 holds LoadByte j s = load_byte_holds j s s.stack refl
 holds StoreByte j s = store_byte_holds j s s.stack refl
+holds (IndexField n w) j s = index_holds n w j s s.stack refl
+holds LoadField j s = load_field_holds j s s.stack refl
+holds StoreField j s = store_field_holds j s s.stack refl
 holds (Replace f) j s = replace_holds f j s s.stack refl
 holds (Combine f) j s = combine_holds f j s s.stack refl
 holds Check j s = check_holds j s s.stack refl
@@ -59,6 +64,9 @@ goes (LoadBlock n) j s t h = some_is _ _ (load_block_goes n j h.0 s t h.1 h.2 h.
 goes (StoreBlock n) j s t h = rw (h.1, h.2, h.3) refl
 goes LoadByte j s t h = rw (h.4, h.5, h.6) refl
 goes StoreByte j s t h = rw (h.4, h.5, h.6) refl
+goes (IndexField n w) j s t h = some_is _ _ (rw h.6 (index_goes n w j s h.0 h.1 h.2 h.3 h.4 h.5))
+goes LoadField j s t h = rw (h.5, h.6, h.7) refl
+goes StoreField j s t h = rw (h.6, h.7, h.8) refl
 goes (Replace f) j s t h = rw (h.2, h.3) refl
 goes (Combine f) j s t h = rw (h.4, h.5, h.6) refl
 goes Check j s t h = rw (h.5, h.6, h.7) refl
@@ -72,7 +80,7 @@ goes (Fail n) j s t h = absurd h
 goes Finish j s t h = absurd h
 goes Nowhere j s t h = absurd h
 
-fails : (x : Effect) (j e : ℕ) (s : State) → FailsBy x s e → made x j s ≡ Some (Err (Error e))
+fails : (x : Effect) (j : ℕ) (e : ExecutionError) (s : State) → FailsBy x s e → made x j s ≡ Some (Err (Error e))
 fails (Push n) j e s h = some_is _ _ (rw h.0 (push_fails n j s h.1))
 fails (Load n) j e s h = some_is _ _ (load_fails n j e s (word_at s.words n) refl h)
 fails (Store n) j e s h = some_is _ _ (store_fails n j e s s.stack refl h)
@@ -83,6 +91,9 @@ fails (LoadBlock n) j e s h = some_is _ _ (load_block_fails n j e s h)
 fails (StoreBlock n) j e s h = some_is _ _ (store_block_fails n j e s h)
 fails LoadByte j e s h = some_is _ _ (load_byte_fails j e s h)
 fails StoreByte j e s h = some_is _ _ (store_byte_fails j e s h)
+fails (IndexField n w) j e s h = some_is _ _ (index_fails n w j e s h)
+fails LoadField j e s h = some_is _ _ (load_field_fails j e s h)
+fails StoreField j e s h = some_is _ _ (store_field_fails j e s h)
 fails (Replace f) j e s h = some_is _ _ (replace_fails f j e s h)
 fails (Combine f) j e s h = some_is _ _ (combine_fails f j e s h)
 fails Check j e s h = some_is _ _ (check_fails j e s h)

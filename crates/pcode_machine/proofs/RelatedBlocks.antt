@@ -12,12 +12,14 @@ use Rattle.pcode_machine.specs.Effects.{MoveBlock, LoadBlock, StoreBlock, LoadBy
 use Rattle.pcode_machine.specs.Step.{FailsBy}
 use Rattle.pcode_machine.proofs.Agreeing.{Meets, none_is, below_one, below_two, below_three}
 use Rattle.base.proofs.Lists.{get_none}
+use Rattle.pcode_machine.specs.declared.errors.ExecutionError.TheVariants.{NoRoom, BadAddress}
+use Rattle.pcode_machine.specs.declared.errors.ExecutionError.{ExecutionError}
 
 -- ---- words are copied
 
 move_by : (n j from to : ℕ) (s : State) (rest : List ℕ) (b c : Bool) → s.stack ≡ from ∷ to ∷ rest → is_block s.words from n ≡ b → is_block s.words to n ≡ c
     → Meets (MoveBlock n) j s
-    (cond (b && c) (Ok (record s { words = with_block s.words (to / 2) (block_of s.words (from / 2) n); stack = rest; next = j })) (Err (Error 7)))
+    (cond (b && c) (Ok (record s { words = with_block s.words (to / 2) (block_of s.words (from / 2) n); stack = rest; next = j })) (Err (Error BadAddress)))
 move_by n j from to s rest true true e f g = (from, to, rest, e, f, g, refl)
 move_by n j from to s rest true false e f g = inr (refl, from, to, rest, e, rw (f, g) refl)
 move_by n j from to s rest false c e f g = inr (refl, from, to, rest, e, rw f refl)
@@ -27,7 +29,7 @@ move_holds n j s [] e = inl (refl, rw e (omega arith))
 move_holds n j s (from ∷ []) e = inl (refl, rw e (omega arith))
 move_holds n j s (from ∷ to ∷ rest) e = move_by n j from to s rest (is_block s.words from n) (is_block s.words to n) e refl refl
 
-pub move_fails : (n j e : ℕ) (s : State) → FailsBy (MoveBlock n) s e → block_moved n j s s.stack ≡ Err (Error e)
+pub move_fails : (n j : ℕ) (e : ExecutionError) (s : State) → FailsBy (MoveBlock n) s e → block_moved n j s s.stack ≡ Err (Error e)
 move_fails n j e s (inl h) = rw (below_two (block_moved n j s) _ refl (λ v. refl) s.stack h.1, h.0) refl
 move_fails n j e s (inr h) = rw (h.4, h.5, h.0) refl
 
@@ -35,7 +37,7 @@ move_fails n j e s (inr h) = rw (h.4, h.5, h.0) refl
 
 load_by : (n j pointer : ℕ) (s : State) (rest : List ℕ) (b c : Bool) → s.stack ≡ pointer ∷ rest → is_block s.words pointer n ≡ b → ltb 1024 (length rest + n) ≡ c
     → Meets (LoadBlock n) j s
-    (cond b (cond c (Err (Error 4)) (Ok (record s { stack = block_of s.words (pointer / 2) n ++ rest; next = j }))) (Err (Error 7)))
+    (cond b (cond c (Err (Error NoRoom)) (Ok (record s { stack = block_of s.words (pointer / 2) n ++ rest; next = j }))) (Err (Error BadAddress)))
 load_by n j pointer s rest true true e f g = inr (pointer, rest, e, inr (refl, f, ltb-true 1024 (length rest + n) g))
 load_by n j pointer s rest true false e f g = (pointer, rest, e, f, ltb-false 1024 (length rest + n) g, refl)
 load_by n j pointer s rest false c e f g = inr (pointer, rest, e, inl (refl, f))
@@ -48,7 +50,7 @@ pub load_block_goes : (n j pointer : ℕ) (s t : State) (rest : List ℕ) → s.
     → t ≡ record s { stack = block_of s.words (pointer / 2) n ++ rest; next = j } → block_loaded n j s s.stack ≡ Ok t
 load_block_goes n j pointer s t rest e live room is = rw (e, live, le-ltb 1024 (length rest + n) room, is) refl
 
-pub load_block_fails : (n j e : ℕ) (s : State) → FailsBy (LoadBlock n) s e → block_loaded n j s s.stack ≡ Err (Error e)
+pub load_block_fails : (n j : ℕ) (e : ExecutionError) (s : State) → FailsBy (LoadBlock n) s e → block_loaded n j s s.stack ≡ Err (Error e)
 load_block_fails n j e s (inl h) = rw (below_one (block_loaded n j s) _ refl s.stack h.1, h.0) refl
 load_block_fails n j e s (inr (pointer, rest, st, inl h)) = rw (st, h.1, h.0) refl
 load_block_fails n j e s (inr (pointer, rest, st, inr h)) = rw (st, h.1, lt-ltb 1024 (length rest + n) h.2, h.0) refl
@@ -59,7 +61,7 @@ past_end : (st : List ℕ) (n : ℕ) → slice_get st n ≡ None → length st <
 past_end st n e = omega (arith, get_none st n e)
 
 store_by : (n j pointer : ℕ) (s : State) (b : Bool) → slice_get s.stack n ≡ Some pointer → is_block s.words pointer n ≡ b
-    → Meets (StoreBlock n) j s (cond b (Ok (record s { words = with_block s.words (pointer / 2) (take n s.stack); stack = drop (n + 1) s.stack; next = j })) (Err (Error 7)))
+    → Meets (StoreBlock n) j s (cond b (Ok (record s { words = with_block s.words (pointer / 2) (take n s.stack); stack = drop (n + 1) s.stack; next = j })) (Err (Error BadAddress)))
 store_by n j pointer s true e f = (pointer, e, f, refl)
 store_by n j pointer s false e f = inr (refl, pointer, e, f)
 
@@ -67,7 +69,7 @@ pub store_block_holds : (n j : ℕ) (s : State) (o : Option ℕ) → slice_get s
 store_block_holds n j s None e = inl (refl, past_end s.stack n e)
 store_block_holds n j s (Some pointer) e = store_by n j pointer s (is_block s.words pointer n) e refl
 
-pub store_block_fails : (n j e : ℕ) (s : State) → FailsBy (StoreBlock n) s e → block_stored n j s ≡ Err (Error e)
+pub store_block_fails : (n j : ℕ) (e : ExecutionError) (s : State) → FailsBy (StoreBlock n) s e → block_stored n j s ≡ Err (Error e)
 store_block_fails n j e s (inl h) = rw (slice_get_past s.stack n (omega (arith, h.1)), h.0) refl
 store_block_fails n j e s (inr h) = rw (h.2, h.3, h.0) refl
 
@@ -83,13 +85,13 @@ load_byte_holds j s [] e = inl (refl, rw e (omega arith))
 load_byte_holds j s (index ∷ []) e = inl (refl, rw e (omega arith))
 load_byte_holds j s (index ∷ base ∷ rest) e = byte_by j index base s rest (byte_at s.words (byte_address base index)) e refl
 
-pub load_byte_fails : (j e : ℕ) (s : State) → FailsBy LoadByte s e → byte_loaded j s s.stack ≡ Err (Error e)
+pub load_byte_fails : (j : ℕ) (e : ExecutionError) (s : State) → FailsBy LoadByte s e → byte_loaded j s s.stack ≡ Err (Error e)
 load_byte_fails j e s (inl h) = rw (below_two (byte_loaded j s) _ refl (λ v. refl) s.stack h.1, h.0) refl
 load_byte_fails j e s (inr h) = rw (h.4, none_is _ h.5, h.0) refl
 
 byte_to : (j v index base : ℕ) (s : State) (rest : List ℕ) (o : Option ℕ) → s.stack ≡ v ∷ index ∷ base ∷ rest → byte_at s.words (byte_address base index) ≡ o
     → Meets StoreByte j s
-    (cond (is_some o) (Ok (record s { words = with_byte s.words (byte_address base index) (v % 256); stack = rest; next = j })) (Err (Error 7)))
+    (cond (is_some o) (Ok (record s { words = with_byte s.words (byte_address base index) (v % 256); stack = rest; next = j })) (Err (Error BadAddress)))
 byte_to j v index base s rest None e f = inr (refl, v, index, base, rest, e, rw f refl)
 byte_to j v index base s rest (Some b) e f = (v, index, base, rest, e, rw f refl, refl)
 
@@ -99,6 +101,6 @@ store_byte_holds j s (v ∷ []) e = inl (refl, rw e (omega arith))
 store_byte_holds j s (v ∷ index ∷ []) e = inl (refl, rw e (omega arith))
 store_byte_holds j s (v ∷ index ∷ base ∷ rest) e = byte_to j v index base s rest (byte_at s.words (byte_address base index)) e refl
 
-pub store_byte_fails : (j e : ℕ) (s : State) → FailsBy StoreByte s e → byte_stored j s s.stack ≡ Err (Error e)
+pub store_byte_fails : (j : ℕ) (e : ExecutionError) (s : State) → FailsBy StoreByte s e → byte_stored j s s.stack ≡ Err (Error e)
 store_byte_fails j e s (inl h) = rw (below_three (byte_stored j s) _ refl (λ v. refl) (λ v w. refl) s.stack h.1, h.0) refl
 store_byte_fails j e s (inr h) = rw (h.5, none_is _ h.6, h.0) refl

@@ -13,6 +13,8 @@ use Rattle.pcode_machine.specs.Transfers.{called}
 use Rattle.pcode_machine.specs.Effects.{Call, Return, Begin}
 use Rattle.pcode_machine.specs.Step.{Enters, Leaves, FailsBy}
 use Rattle.pcode_machine.proofs.Agreeing.{Meets}
+use Rattle.pcode_machine.specs.declared.errors.ExecutionError.TheVariants.{StackUnderflow}
+use Rattle.pcode_machine.specs.declared.errors.ExecutionError.{ExecutionError}
 
 -- ---- a transfer is begun, which needs six words to pop
 
@@ -20,7 +22,7 @@ pub begin_holds : (d : Direction) (j : ℕ) (s : State) (st : List ℕ) → s.st
 begin_holds d j s (a ∷ b ∷ c ∷ e ∷ f ∷ g ∷ rest) h = (a, b, c, e, f, g, rest, h, refl)
 begin_holds d j s _ h = (refl, rw h (omega arith))
 
-pub begin_fails : (d : Direction) (j : ℕ) (s : State) (st : List ℕ) → length st < 6 → called d j s st ≡ Err (Error 0)
+pub begin_fails : (d : Direction) (j : ℕ) (s : State) (st : List ℕ) → length st < 6 → called d j s st ≡ Err (Error StackUnderflow)
 begin_fails d j s (a ∷ b ∷ c ∷ e ∷ f ∷ g ∷ rest) h = absurd (omega arith)
 begin_fails d j s _ h = refl
 
@@ -55,7 +57,7 @@ full : (f w : ℕ) → (1024 ≤ f) ⊎ (16383 < w) → (ltb 1023 f || ltb 16383
 full f w (inl h) = rw (lt-ltb 1023 f (omega (arith, h))) refl
 full f w (inr h) = by_second (ltb 1023 f) (ltb 16383 w) (lt-ltb 16383 w h)
 
-pub enter_fails : (n : ℕ) (q : Proc) (k j e : ℕ) (s : State) → FailsBy (Call n q k) s e → entered n q k j s ≡ Err (Error e)
+pub enter_fails : (n : ℕ) (q : Proc) (k j : ℕ) (e : ExecutionError) (s : State) → FailsBy (Call n q k) s e → entered n q k j s ≡ Err (Error e)
 enter_fails n q k j e s (inl h) = rw (lt-ltb (length s.stack) q.params h.1, h.0) refl
 enter_fails n q k j e s (inr h) = rw (le-ltb (length s.stack) q.params h.1, full (length s.frames) (length s.words + (q.params + q.vars)) h.2, h.0) refl
 
@@ -77,6 +79,6 @@ leave_by n f j s false false e g = (ltb-false (length s.words) (f.base + n) e, l
 pub leave_goes : (n : ℕ) (f : Frame) (s t : State) → Leaves n f s t → left n f s ≡ Ok t
 leave_goes n f s t h = rw (le-ltb (length s.words) (f.base + n) h.0, le-ltb 1024 (length s.stack + n) h.1, h.2) refl
 
-pub leave_fails : (n : ℕ) (f : Frame) (j e : ℕ) (s : State) → FailsBy (Return n f) s e → left n f s ≡ Err (Error e)
+pub leave_fails : (n : ℕ) (f : Frame) (j : ℕ) (e : ExecutionError) (s : State) → FailsBy (Return n f) s e → left n f s ≡ Err (Error e)
 leave_fails n f j e s (inl h) = rw (lt-ltb (length s.words) (f.base + n) h.1, h.0) refl
 leave_fails n f j e s (inr h) = rw (le-ltb (length s.words) (f.base + n) h.1, lt-ltb 1024 (length s.stack + n) h.2, h.0) refl

@@ -10,6 +10,7 @@ use Rattle.pcode_machine.specs.Jumps.{branched, branched_by_two}
 use Rattle.pcode_machine.specs.Effects.{Replace, Combine, Check, Branch, BranchByTwo}
 use Rattle.pcode_machine.specs.Step.{HasTooFew, FailsBy}
 use Rattle.pcode_machine.proofs.Agreeing.{Meets, below_one, below_two, below_three}
+use Rattle.pcode_machine.specs.declared.errors.ExecutionError.{ExecutionError}
 
 -- ---- a word gives way to another
 
@@ -17,12 +18,12 @@ pub replace_holds : (f : Change) (j : ℕ) (s : State) (st : List ℕ) → s.sta
 replace_holds f j s [] e = (refl, rw e (omega arith))
 replace_holds f j s (a ∷ rest) e = (a, rest, e, refl)
 
-pub replace_fails : (f : Change) (j e : ℕ) (s : State) → HasTooFew 1 s e → replaced f j s s.stack ≡ Err (Error e)
+pub replace_fails : (f : Change) (j : ℕ) (e : ExecutionError) (s : State) → HasTooFew 1 s e → replaced f j s s.stack ≡ Err (Error e)
 replace_fails f j e s h = rw (below_one (replaced f j s) _ refl s.stack h.1, h.0) refl
 
 -- ---- two words give way to one
 
-combine_by : (f : Operation) (j b a : ℕ) (s : State) (rest : List ℕ) (r : Result ℕ ℕ) → s.stack ≡ b ∷ a ∷ rest → value_of f a b ≡ r → Meets (Combine f) j s (put_above r j s rest)
+combine_by : (f : Operation) (j b a : ℕ) (s : State) (rest : List ℕ) (r : Result ℕ ExecutionError) → s.stack ≡ b ∷ a ∷ rest → value_of f a b ≡ r → Meets (Combine f) j s (put_above r j s rest)
 combine_by f j b a s rest (Ok v) e g = (b, a, rest, v, e, g, refl)
 combine_by f j b a s rest (Err n) e g = inr (b, a, rest, e, g)
 
@@ -31,13 +32,13 @@ combine_holds f j s [] e = inl (refl, rw e (omega arith))
 combine_holds f j s (b ∷ []) e = inl (refl, rw e (omega arith))
 combine_holds f j s (b ∷ a ∷ rest) e = combine_by f j b a s rest (value_of f a b) e refl
 
-pub combine_fails : (f : Operation) (j e : ℕ) (s : State) → FailsBy (Combine f) s e → combined f j s s.stack ≡ Err (Error e)
+pub combine_fails : (f : Operation) (j : ℕ) (e : ExecutionError) (s : State) → FailsBy (Combine f) s e → combined f j s s.stack ≡ Err (Error e)
 combine_fails f j e s (inl h) = rw (below_two (combined f j s) _ refl (λ v. refl) s.stack h.1, h.0) refl
 combine_fails f j e s (inr h) = rw (h.3, h.4) refl
 
 -- ---- a word stays that lies between two others
 
-check_by : (j high low v : ℕ) (s : State) (rest : List ℕ) (r : Result ℕ ℕ) → s.stack ≡ high ∷ low ∷ v ∷ rest → checked_of v low high ≡ r → Meets Check j s (put_above r j s rest)
+check_by : (j high low v : ℕ) (s : State) (rest : List ℕ) (r : Result ℕ ExecutionError) → s.stack ≡ high ∷ low ∷ v ∷ rest → checked_of v low high ≡ r → Meets Check j s (put_above r j s rest)
 check_by j high low v s rest (Ok w) e g = (high, low, v, rest, w, e, g, refl)
 check_by j high low v s rest (Err n) e g = inr (high, low, v, rest, e, g)
 
@@ -47,7 +48,7 @@ check_holds j s (high ∷ []) e = inl (refl, rw e (omega arith))
 check_holds j s (high ∷ low ∷ []) e = inl (refl, rw e (omega arith))
 check_holds j s (high ∷ low ∷ v ∷ rest) e = check_by j high low v s rest (checked_of v low high) e refl
 
-pub check_fails : (j e : ℕ) (s : State) → FailsBy Check s e → checked j s s.stack ≡ Err (Error e)
+pub check_fails : (j : ℕ) (e : ExecutionError) (s : State) → FailsBy Check s e → checked j s s.stack ≡ Err (Error e)
 check_fails j e s (inl h) = rw (below_three (checked j s) _ refl (λ v. refl) (λ v w. refl) s.stack h.1, h.0) refl
 check_fails j e s (inr h) = rw (h.4, h.5) refl
 
@@ -57,7 +58,7 @@ pub branch_holds : (to : ℕ → ℕ) (j : ℕ) (s : State) (st : List ℕ) → 
 branch_holds to j s [] e = (refl, rw e (omega arith))
 branch_holds to j s (v ∷ rest) e = (v, rest, e, refl)
 
-pub branch_fails : (to : ℕ → ℕ) (e : ℕ) (s : State) → HasTooFew 1 s e → branched to s s.stack ≡ Err (Error e)
+pub branch_fails : (to : ℕ → ℕ) (e : ExecutionError) (s : State) → HasTooFew 1 s e → branched to s s.stack ≡ Err (Error e)
 branch_fails to e s h = rw (below_one (branched to s) _ refl s.stack h.1, h.0) refl
 
 pub branch_two_holds : (to : ℕ → ℕ → ℕ) (j : ℕ) (s : State) (st : List ℕ) → s.stack ≡ st → Meets (BranchByTwo to) j s (branched_by_two to s st)
@@ -65,5 +66,5 @@ branch_two_holds to j s [] e = (refl, rw e (omega arith))
 branch_two_holds to j s (b ∷ []) e = (refl, rw e (omega arith))
 branch_two_holds to j s (b ∷ a ∷ rest) e = (b, a, rest, e, refl)
 
-pub branch_two_fails : (to : ℕ → ℕ → ℕ) (e : ℕ) (s : State) → HasTooFew 2 s e → branched_by_two to s s.stack ≡ Err (Error e)
+pub branch_two_fails : (to : ℕ → ℕ → ℕ) (e : ExecutionError) (s : State) → HasTooFew 2 s e → branched_by_two to s s.stack ≡ Err (Error e)
 branch_two_fails to e s h = rw (below_two (branched_by_two to s) _ refl (λ v. refl) s.stack h.1, h.0) refl

@@ -10,24 +10,26 @@ use Rattle.pcode_machine.specs.Pointers.{behind, pointed, fetched_by, fetched, s
 use Rattle.pcode_machine.specs.Effects.{Push, Load, Store, Fetch, StoreAt}
 use Rattle.pcode_machine.specs.Step.{Pushes, FailsBy}
 use Rattle.pcode_machine.proofs.Agreeing.{Meets, not_some, not_none, none_is, below_one, below_two}
+use Rattle.pcode_machine.specs.declared.errors.ExecutionError.TheVariants.{NoRoom, BadAddress}
+use Rattle.pcode_machine.specs.declared.errors.ExecutionError.{ExecutionError}
 
 -- ---- a word is pushed, which needs room
 
 pub push_holds : (n j : ℕ) (s : State) (b : Bool) → ltb (length s.stack) 1024 ≡ b
-    → Meets (Push n) j s (cond b (Ok (record s { stack = n ∷ s.stack; next = j })) (Err (Error 4)))
+    → Meets (Push n) j s (cond b (Ok (record s { stack = n ∷ s.stack; next = j })) (Err (Error NoRoom)))
 push_holds n j s true e = (ltb-true (length s.stack) 1024 e, refl)
 push_holds n j s false e = (refl, ltb-false (length s.stack) 1024 e)
 
 pub push_goes : (n j : ℕ) (s t : State) → Pushes n j s t → pushed n j s ≡ Ok t
 push_goes n j s t h = rw (lt-ltb (length s.stack) 1024 h.0, h.1) refl
 
-pub push_fails : (n j : ℕ) (s : State) → 1024 ≤ length s.stack → pushed n j s ≡ Err (Error 4)
+pub push_fails : (n j : ℕ) (s : State) → 1024 ≤ length s.stack → pushed n j s ≡ Err (Error NoRoom)
 push_fails n j s h = rw (le-ltb (length s.stack) 1024 h) refl
 
 -- ---- a word at a word address is pushed
 
 load_room : (n j v : ℕ) (s : State) (b : Bool) → word_at s.words n ≡ Some v → ltb (length s.stack) 1024 ≡ b
-    → Meets (Load n) j s (cond b (Ok (record s { stack = v ∷ s.stack; next = j })) (Err (Error 4)))
+    → Meets (Load n) j s (cond b (Ok (record s { stack = v ∷ s.stack; next = j })) (Err (Error NoRoom)))
 load_room n j v s true e f = (v, e, (ltb-true (length s.stack) 1024 f, refl))
 load_room n j v s false e f = inr (refl, rw e refl, ltb-false (length s.stack) 1024 f)
 
@@ -35,7 +37,7 @@ pub load_holds : (n j : ℕ) (s : State) (o : Option ℕ) → word_at s.words n 
 load_holds n j s None e = inl (refl, rw e refl)
 load_holds n j s (Some v) e = load_room n j v s (ltb (length s.stack) 1024) e refl
 
-pub load_fails : (n j e : ℕ) (s : State) (o : Option ℕ) → word_at s.words n ≡ o → FailsBy (Load n) s e → loaded_by o j s ≡ Err (Error e)
+pub load_fails : (n j : ℕ) (e : ExecutionError) (s : State) (o : Option ℕ) → word_at s.words n ≡ o → FailsBy (Load n) s e → loaded_by o j s ≡ Err (Error e)
 load_fails n j e s None f (inl h) = rw h.0 refl
 load_fails n j e s None f (inr h) = absurd (not_none (word_at s.words n) f h.1)
 load_fails n j e s (Some v) f (inl h) = absurd (not_some (word_at s.words n) v f h.1)
@@ -44,7 +46,7 @@ load_fails n j e s (Some v) f (inr h) = rw h.0 (push_fails v j s h.2)
 -- ---- a word is popped to a word address
 
 store_at : (n j v : ℕ) (s : State) (rest : List ℕ) (o : Option ℕ) → s.stack ≡ v ∷ rest → word_at s.words n ≡ o
-    → Meets (Store n) j s (cond (is_some o) (Ok (record s { words = with_word s.words n v; stack = rest; next = j })) (Err (Error 7)))
+    → Meets (Store n) j s (cond (is_some o) (Ok (record s { words = with_word s.words n v; stack = rest; next = j })) (Err (Error BadAddress)))
 store_at n j v s rest None e f = inr (refl, rw e (omega arith), rw f refl)
 store_at n j v s rest (Some x) e f = (v, rest, e, rw f refl, refl)
 
@@ -52,7 +54,7 @@ pub store_holds : (n j : ℕ) (s : State) (st : List ℕ) → s.stack ≡ st →
 store_holds n j s [] e = inl (refl, rw e (omega arith))
 store_holds n j s (v ∷ rest) e = store_at n j v s rest (word_at s.words n) e refl
 
-pub store_fails : (n j e : ℕ) (s : State) (st : List ℕ) → s.stack ≡ st → FailsBy (Store n) s e → stored n j s st ≡ Err (Error e)
+pub store_fails : (n j : ℕ) (e : ExecutionError) (s : State) (st : List ℕ) → s.stack ≡ st → FailsBy (Store n) s e → stored n j s st ≡ Err (Error e)
 store_fails n j e s [] same (inl h) = rw h.0 refl
 store_fails n j e s [] same (inr h) = absurd (omega (arith, h.1, ap length same))
 store_fails n j e s (v ∷ rest) same (inl h) = absurd (omega (arith, h.1, ap length same))
@@ -69,14 +71,14 @@ pub fetch_holds : (n j : ℕ) (s : State) (st : List ℕ) → s.stack ≡ st →
 fetch_holds n j s [] e = inl (refl, rw e (omega arith))
 fetch_holds n j s (pointer ∷ rest) e = fetch_by n j pointer s rest (pointed s.words (behind pointer n)) e refl
 
-pub fetch_fails : (n j e : ℕ) (s : State) → FailsBy (Fetch n) s e → fetched n j s s.stack ≡ Err (Error e)
+pub fetch_fails : (n j : ℕ) (e : ExecutionError) (s : State) → FailsBy (Fetch n) s e → fetched n j s s.stack ≡ Err (Error e)
 fetch_fails n j e s (inl h) = rw (below_one (fetched n j s) _ refl s.stack h.1, h.0) refl
 fetch_fails n j e s (inr h) = rw (h.3, none_is _ h.4, h.0) refl
 
 -- ---- a word is popped to where the pointer below it points
 
 store_to : (j v pointer : ℕ) (s : State) (rest : List ℕ) (o : Option ℕ) → s.stack ≡ v ∷ pointer ∷ rest → pointed s.words pointer ≡ o
-    → Meets StoreAt j s (cond (is_some o) (Ok (record s { words = with_word s.words (pointer / 2) v; stack = rest; next = j })) (Err (Error 7)))
+    → Meets StoreAt j s (cond (is_some o) (Ok (record s { words = with_word s.words (pointer / 2) v; stack = rest; next = j })) (Err (Error BadAddress)))
 store_to j v pointer s rest None e f = inr (refl, v, pointer, rest, e, rw f refl)
 store_to j v pointer s rest (Some x) e f = (v, pointer, rest, e, rw f refl, refl)
 
@@ -85,6 +87,6 @@ store_at_holds j s [] e = inl (refl, rw e (omega arith))
 store_at_holds j s (v ∷ []) e = inl (refl, rw e (omega arith))
 store_at_holds j s (v ∷ pointer ∷ rest) e = store_to j v pointer s rest (pointed s.words pointer) e refl
 
-pub store_at_fails : (j e : ℕ) (s : State) → FailsBy StoreAt s e → stored_at j s s.stack ≡ Err (Error e)
+pub store_at_fails : (j : ℕ) (e : ExecutionError) (s : State) → FailsBy StoreAt s e → stored_at j s s.stack ≡ Err (Error e)
 store_at_fails j e s (inl h) = rw (below_two (stored_at j s) _ refl (λ v. refl) s.stack h.1, h.0) refl
 store_at_fails j e s (inr h) = rw (h.4, none_is _ h.5, h.0) refl

@@ -21,6 +21,8 @@ use Rattle.pcode_machine.specs.Execute.{execute}
 use Rattle.pcode_machine.specs.Outcome.{Outcome, Goes, Stops, Waiting, Stuck, outcome, in_frame, pending, moved, decoded, after_effect, on_some, written, taken}
 use Rattle.pcode_machine.specs.Step.{Executes, Moves, Acts, Step, StopsBy, StopsIn, EndsIn, Ends, WaitsIn, Awaits}
 use Rattle.pcode_machine.proofs.Related.{Fails, execute_agrees}
+use Rattle.pcode_machine.specs.Errors.{number_of}
+use Rattle.pcode_machine.specs.declared.errors.ExecutionError.TheVariants.{BadAddress}
 
 -- an instruction is decoded exactly where it stands
 abbrev pub Decodes : List ℕ → Type 0
@@ -47,9 +49,9 @@ step_is p known x c d h = step_in p known x c (current_of c.state.frames) h.0 d 
 
 instruction_stops : (p : Parts) (c : Configuration) (f : Frame) (i : Instr) (j : ℕ) (e : End) → StopsBy p c f i j e → after_effect c f (execute p f i j c.state) ≡ Stops e
 instruction_stops p c f i j ends.Normal h = rw h refl
-instruction_stops p c f i j (ends.Error n procedure at) h = rw ((execute_agrees p f i j c.state).fails n h.0, h.1, h.2) refl
+instruction_stops p c f i j (ends.Error n procedure at) h = rw ((execute_agrees p f i j c.state).fails h.0 h.1, h.2, h.3, h.4) refl
 
-moved_stops : (dir : Direction) (x : List ℕ) (c : Configuration) (f : Frame) (t : Transfer) → byte_at c.state.words t.address ≡ None → moved dir x c f t ≡ Stops (ends.Error 7 f.procedure t.at)
+moved_stops : (dir : Direction) (x : List ℕ) (c : Configuration) (f : Frame) (t : Transfer) → byte_at c.state.words t.address ≡ None → moved dir x c f t ≡ Stops (ends.Error (number_of BadAddress) f.procedure t.at)
 moved_stops Writing x c f t h = rw h refl
 moved_stops Reading x c f t h = rw h refl
 
@@ -91,7 +93,7 @@ Meets p x c f o Waiting = WaitsIn x c o
 Meets p x c f o Stuck = Unit {0}
 
 write_meets : (p : Parts) (x : List ℕ) (c : Configuration) (f : Frame) (t : Transfer) (o : Option ℕ) → t.direction ≡ Writing → byte_at c.state.words t.address ≡ o
-    → Meets p x c f (Some t) (on_some o (Stops (ends.Error 7 f.procedure t.at)) (λ b. Goes (written c t b)))
+    → Meets p x c f (Some t) (on_some o (Stops (ends.Error (number_of BadAddress) f.procedure t.at)) (λ b. Goes (written c t b)))
 write_meets p x c f t None w e = (e, refl)
 write_meets p x c f t (Some b) w e = let P : Direction → Type 0 = λ k. Moves k x c t (written c t b) in subst P (sym w) (b, e, refl)
 
@@ -101,7 +103,7 @@ found_meets p x c f t old None w e g = (w, rw e refl, get_none x c.read g)
 found_meets p x c f t old (Some b) w e g = let P : Direction → Type 0 = λ k. Moves k x c t (taken c t b) in subst P (sym w) (old, b, e, g, refl)
 
 read_meets : (p : Parts) (x : List ℕ) (c : Configuration) (f : Frame) (t : Transfer) (o : Option ℕ) → t.direction ≡ Reading → byte_at c.state.words t.address ≡ o
-    → Meets p x c f (Some t) (on_some o (Stops (ends.Error 7 f.procedure t.at)) (λ _. on_some (slice_get x c.read) Waiting (λ b. Goes (taken c t b))))
+    → Meets p x c f (Some t) (on_some o (Stops (ends.Error (number_of BadAddress) f.procedure t.at)) (λ _. on_some (slice_get x c.read) Waiting (λ b. Goes (taken c t b))))
 read_meets p x c f t None w e = (e, refl)
 read_meets p x c f t (Some old) w e = found_meets p x c f t old (slice_get x c.read) w e refl
 
@@ -114,7 +116,7 @@ effect_meets : (p : Parts) (x : List ℕ) (c : Configuration) (f : Frame) (i : I
 effect_meets p x c f i j None at h = tt
 effect_meets p x c f i j (Some (Ok s)) at h = (i, j, s, at, h, refl)
 effect_meets p x c f i j (Some (Err Normal)) at h = (i, j, at, h)
-effect_meets p x c f i j (Some (Err (Error n))) at h = (i, j, at, (h, refl, refl))
+effect_meets p x c f i j (Some (Err (Error e))) at h = (i, j, at, (e, h, refl, refl, refl))
 
 instruction_meets : (p : Parts) → Decodes p.segment → (x : List ℕ) (c : Configuration) (f : Frame) (r : Result (Instr × ℕ) OpFault) → instr_at p.segment c.state.next ≡ r
     → Meets p x c f None (decoded p c f r)

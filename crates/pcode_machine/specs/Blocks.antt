@@ -4,6 +4,7 @@ use Rattle.pcode_frames.specs.Blocks.{is_live, block_of, with_block}
 use Rattle.pcode_machine.specs.declared.turn.Stop.{Stop}
 use Rattle.pcode_machine.specs.declared.turn.Stop.TheVariants.{Error}
 use Rattle.pcode_machine.specs.Configuration.{State}
+use Rattle.pcode_machine.specs.declared.errors.ExecutionError.TheVariants.{StackUnderflow, NoRoom, BadAddress}
 
 -- whether n words from a pointer on, which has to be even, are live; nothing is asked of a pointer to no words
 abbrev pub is_block : List ℕ → ℕ → ℕ → Bool
@@ -14,24 +15,24 @@ abbrev pub block_moved : ℕ → ℕ → State → List ℕ → Result State Sto
 block_moved n j s (from ∷ to ∷ rest) =
     if is_block s.words from n && is_block s.words to n
     then Ok (record s { words = with_block s.words (to / 2) (block_of s.words (from / 2) n); stack = rest; next = j })
-    else Err (Error 7)
-block_moved n j s _ = Err (Error 0)
+    else Err (Error BadAddress)
+block_moved n j s _ = Err (Error StackUnderflow)
 
 -- the pointer on top of this stack gives way to n words from it on, the first on top; dead words come before want of room
 abbrev pub block_loaded : ℕ → ℕ → State → List ℕ → Result State Stop
 block_loaded n j s (pointer ∷ rest) =
     if is_block s.words pointer n then
-    (if nat_lt 1024 (length rest + n) then Err (Error 4) else Ok (record s { stack = block_of s.words (pointer / 2) n ++ rest; next = j }))
-    else Err (Error 7)
-block_loaded n j s [] = Err (Error 0)
+    (if nat_lt 1024 (length rest + n) then Err (Error NoRoom) else Ok (record s { stack = block_of s.words (pointer / 2) n ++ rest; next = j }))
+    else Err (Error BadAddress)
+block_loaded n j s [] = Err (Error StackUnderflow)
 
 -- n words, the top first, go to the live words from a pointer on
 abbrev pub block_stored_at : Option ℕ → ℕ → ℕ → State → Result State Stop
-block_stored_at None n j s = Err (Error 0)
+block_stored_at None n j s = Err (Error StackUnderflow)
 block_stored_at (Some pointer) n j s =
     if is_block s.words pointer n
     then Ok (record s { words = with_block s.words (pointer / 2) (take n s.stack); stack = drop (n + 1) s.stack; next = j })
-    else Err (Error 7)
+    else Err (Error BadAddress)
 
 -- the pointer stands below the words
 abbrev pub block_stored : ℕ → ℕ → State → Result State Stop

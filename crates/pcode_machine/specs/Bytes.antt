@@ -5,6 +5,7 @@ use Rattle.pcode_machine.specs.declared.turn.Stop.{Stop}
 use Rattle.pcode_machine.specs.declared.turn.Stop.TheVariants.{Error}
 use Rattle.pcode_machine.specs.Configuration.{State}
 use Rattle.pcode_machine.specs.Signed.{signed}
+use Rattle.pcode_machine.specs.declared.errors.ExecutionError.TheVariants.{StackUnderflow, BadAddress}
 
 -- the byte address at an index behind a base, not taken modulo 65,536: the index is signed, the base is not
 abbrev pub byte_address : ℕ → ℕ → ℤ
@@ -12,18 +13,18 @@ byte_address base index = pos base +ℤ signed index
 
 -- the byte is pushed above these words, if it is live
 abbrev pub byte_pushed : Option ℕ → ℕ → State → List ℕ → Result State Stop
-byte_pushed None j s rest = Err (Error 7)
+byte_pushed None j s rest = Err (Error BadAddress)
 byte_pushed (Some b) j s rest = Ok (record s { stack = b ∷ rest; next = j })
 
 -- index and base on top of this stack give way to the byte there
 abbrev pub byte_loaded : ℕ → State → List ℕ → Result State Stop
 byte_loaded j s (index ∷ base ∷ rest) = byte_pushed (byte_at s.words (byte_address base index)) j s rest
-byte_loaded j s _ = Err (Error 0)
+byte_loaded j s _ = Err (Error StackUnderflow)
 
 -- the low byte of the word on top goes to the live byte at the index and base below it
 abbrev pub byte_stored : ℕ → State → List ℕ → Result State Stop
 byte_stored j s (v ∷ index ∷ base ∷ rest) =
     if is_some (byte_at s.words (byte_address base index))
     then Ok (record s { words = with_byte s.words (byte_address base index) (v % 256); stack = rest; next = j })
-    else Err (Error 7)
-byte_stored j s _ = Err (Error 0)
+    else Err (Error BadAddress)
+byte_stored j s _ = Err (Error StackUnderflow)

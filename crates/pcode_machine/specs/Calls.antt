@@ -7,10 +7,10 @@ use Rattle.pcode_frames.specs.declared.frame.Frame.{Frame}
 use Rattle.pcode_frames.specs.declared.halt.Halt.{Halt}
 use Rattle.pcode_frames.specs.Frames.{called, returned, parts, link_up_of}
 use Rattle.pcode_frames.specs.Frames as frames
-use Rattle.pcode_frames.specs.Halts.{number_of}
 use Rattle.pcode_machine.specs.declared.turn.Stop.{Stop}
 use Rattle.pcode_machine.specs.declared.turn.Stop.TheVariants.{Error}
 use Rattle.pcode_machine.specs.Configuration.{State}
+use Rattle.pcode_machine.specs.Errors.{error_of}
 
 -- the frame so many static links up from the current one, if there is one
 abbrev pub frame_up : List Frame → ℕ → Option Frame
@@ -26,7 +26,7 @@ link_outward p f n fs =
 -- the state with what a call or a return made of words, stack and frames, where execution goes on at an offset
 abbrev pub with_parts : ℕ → State → Result frames.Parts Halt → Result State Stop
 with_parts next s (Ok new) = Ok (record s { words = new.words; stack = new.stack; frames = new.frames; next = next })
-with_parts next s (Err halt) = Err (Error (number_of halt))
+with_parts next s (Err halt) = Err (Error (error_of halt))
 
 -- procedure n is called, which goes on at j when it returns
 abbrev pub entered : ℕ → Proc → ℕ → ℕ → State → Result State Stop

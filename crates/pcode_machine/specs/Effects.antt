@@ -3,7 +3,7 @@ use Rattle.std.specs.Prelude.{ℕ, ◌+◌, ◌%◌, ◌==◌, ◌≤◌, ◌<�
 use Rattle.pcode_file.specs.declared.file.Proc.{Proc}
 use Rattle.pcode_file.specs.Parts.{Parts, procedure_of}
 use Rattle.pcode_ops.specs.declared.instr.Instr.{Instr}
-use Rattle.pcode_ops.specs.declared.instr.Instr.TheVariants.{Sldc, Ldcn, Ldci, Sldl, Ldl, Stl, Lla, Sldo, Ldo, Sro, Lao, Lod, Str, Lda, Sto, Sind, Ind, Inc, Ixa, Mov, Ldm, Stm, Ldb, Stb, Adi, Sbi, Mpi, Dvi, Modi, Abi, Ngi, Sqi, Chk, Land, Lor, Lnot, Equi, Neqi, Leqi, Lesi, Geqi, Grti, Equ, Neq, Leq, Les, Geq, Grt, Ujp, Fjp, Efj, Nfj, Xjp, Clp, Cgp, Cip, Csp, Rnp, Rbp, Nop}
+use Rattle.pcode_ops.specs.declared.instr.Instr.TheVariants.{Sldc, Ldcn, Ldci, Sldl, Ldl, Stl, Lla, Sldo, Ldo, Sro, Lao, Lod, Str, Lda, Sto, Sind, Ind, Inc, Ixa, Mov, Ldm, Stm, Ldb, Stb, Ixp, Ldp, Stp, Adi, Sbi, Mpi, Dvi, Modi, Abi, Ngi, Sqi, Chk, Land, Lor, Lnot, Equi, Neqi, Leqi, Lesi, Geqi, Grti, Equ, Neq, Leq, Les, Geq, Grt, Ujp, Fjp, Efj, Nfj, Xjp, Clp, Cgp, Cip, Csp, Rnp, Rbp, Nop}
 use Rattle.pcode_ops.specs.declared.instr.StandardProcedure.{StandardProcedure}
 use Rattle.pcode_ops.specs.declared.instr.StandardProcedure.TheVariants.{IoCheck, UnitRead, UnitWrite, IoResult, Halt}
 use Rattle.pcode_ops.specs.Jumps.{jump_in, case_of, IsCaseTable}
@@ -19,6 +19,8 @@ use Rattle.pcode_machine.specs.declared.comparisons.Comparison.TheVariants.{Equa
 use Rattle.pcode_machine.specs.Configuration.{State}
 use Rattle.pcode_machine.specs.Loads.{address_of}
 use Rattle.pcode_machine.specs.Calls.{frame_up, link_outward}
+use Rattle.pcode_machine.specs.declared.errors.ExecutionError.{ExecutionError}
+use Rattle.pcode_machine.specs.declared.errors.ExecutionError.TheVariants.{NoUnit, Halted}
 
 pub data Effect : Type 0 where
   -- a word is pushed
@@ -41,6 +43,12 @@ pub data Effect : Type 0 where
   LoadByte : Effect
   -- a word's low byte is popped to an index behind a pointer
   StoreByte : Effect
+  -- an index and a pointer give way to the field there, where a word has so many elements of this width
+  IndexField : (elements width : ℕ) → Effect
+  -- the bits of the field that three words name take their place
+  LoadField : Effect
+  -- a word's low bits are popped to the field that the three words below it name
+  StoreField : Effect
   -- a word gives way to another
   Replace : (change : Change) → Effect
   -- two words give way to one
@@ -60,7 +68,7 @@ pub data Effect : Type 0 where
   -- a transfer is begun
   Begin : (direction : Direction) → Effect
   -- it is an error
-  Fail : (number : ℕ) → Effect
+  Fail : (error : ExecutionError) → Effect
   -- the program ends
   Finish : Effect
   -- nothing is stated: a frame, a procedure or a target is named that is not there. No machine meets it.
@@ -76,11 +84,11 @@ abbrev pub calling : Parts → ℕ → Option ℕ → Effect
 calling p n link = given (procedure_of p.procs n) (λ q. given link (λ k. Call n q k))
 
 abbrev pub standard : StandardProcedure → ℕ → State → Effect
-standard IoCheck j s = if s.io_result == 0 then Go j else Fail 10
+standard IoCheck j s = if s.io_result == 0 then Go j else Fail NoUnit
 standard UnitRead j s = Begin Reading
 standard UnitWrite j s = Begin Writing
 standard IoResult j s = Push s.io_result
-standard Halt j s = Fail 14
+standard Halt j s = Fail Halted
 
 -- by the current frame, the offset j after the instruction, and the state before it
 abbrev pub effect_of : Parts → Frame → Instr → ℕ → State → Effect
@@ -108,6 +116,9 @@ effect_of p f (Ldm n) j s = LoadBlock n
 effect_of p f (Stm n) j s = StoreBlock n
 effect_of p f Ldb j s = LoadByte
 effect_of p f Stb j s = StoreByte
+effect_of p f (Ixp elements width) j s = IndexField elements width
+effect_of p f Ldp j s = LoadField
+effect_of p f Stp j s = StoreField
 effect_of p f Adi j s = Combine Sum
 effect_of p f Sbi j s = Combine Difference
 effect_of p f Mpi j s = Combine Product

@@ -1,3 +1,4 @@
+pub mod Errors
 pub mod Configuration
 pub mod Signed
 pub mod Arithmetic
@@ -21,3 +22,4 @@ pub mod Turns
 pub mod InCode
 pub mod Loaded
 pub mod Ready
+pub mod Fields

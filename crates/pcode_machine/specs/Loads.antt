@@ -4,10 +4,11 @@ use Rattle.pcode_frames.specs.Words.{word_at}
 use Rattle.pcode_machine.specs.declared.turn.Stop.{Stop}
 use Rattle.pcode_machine.specs.declared.turn.Stop.TheVariants.{Error}
 use Rattle.pcode_machine.specs.Configuration.{State}
+use Rattle.pcode_machine.specs.declared.errors.ExecutionError.TheVariants.{NoRoom, BadAddress}
 
 -- a word is pushed, and execution goes on at j; the stack has at most 1,024 words
 abbrev pub pushed : ℕ → ℕ → State → Result State Stop
-pushed word j s = if nat_lt (length s.stack) 1024 then Ok (record s { stack = word ∷ s.stack; next = j }) else Err (Error 4)
+pushed word j s = if nat_lt (length s.stack) 1024 then Ok (record s { stack = word ∷ s.stack; next = j }) else Err (Error NoRoom)
 
 -- the address of a word, in bytes: twice the word, modulo 65,536
 abbrev pub address_of : ℕ → ℕ
@@ -15,7 +16,7 @@ address_of n = 2 * n % 65536
 
 -- the word is pushed, if it is live
 abbrev pub loaded_by : Option ℕ → ℕ → State → Result State Stop
-loaded_by None j s = Err (Error 7)
+loaded_by None j s = Err (Error BadAddress)
 loaded_by (Some v) j s = pushed v j s
 
 -- the word at a word address is pushed

@@ -10,6 +10,8 @@ use Rattle.pcode_machine.specs.Configuration.{State}
 use Rattle.pcode_machine.specs.Arithmetic.{sum_of, difference_of, product_of, quotient_of, remainder_of, absolute_of, negation_of, square_of, both_of, either_of, complement_of, checked_of, element_of}
 use Rattle.pcode_machine.specs.Comparisons.{compared, compared_bits}
 use Rattle.pcode_machine.specs.Pointers.{behind}
+use Rattle.pcode_machine.specs.declared.errors.ExecutionError.{ExecutionError}
+use Rattle.pcode_machine.specs.declared.errors.ExecutionError.TheVariants.{StackUnderflow}
 
 -- what a change makes of a word
 abbrev pub changed_of : Change → ℕ → ℕ
@@ -19,8 +21,8 @@ changed_of Square a = square_of a
 changed_of Complement a = complement_of a
 changed_of (Behind words) a = behind a words
 
--- what an operation makes of two words, or the number of its error
-abbrev pub value_of : Operation → ℕ → ℕ → Result ℕ ℕ
+-- what an operation makes of two words, or its error
+abbrev pub value_of : Operation → ℕ → ℕ → Result ℕ ExecutionError
 value_of Sum a b = Ok (sum_of a b)
 value_of Difference a b = Ok (difference_of a b)
 value_of Product a b = Ok (product_of a b)
@@ -34,20 +36,20 @@ value_of (Element words) a b = Ok (element_of a b words)
 
 -- the word on top of this stack gives way to another
 abbrev pub replaced : Change → ℕ → State → List ℕ → Result State Stop
-replaced change j s [] = Err (Error 0)
+replaced change j s [] = Err (Error StackUnderflow)
 replaced change j s (a ∷ rest) = Ok (record s { stack = changed_of change a ∷ rest; next = j })
 
 -- a word is put above these, or it is an error
-abbrev pub put_above : Result ℕ ℕ → ℕ → State → List ℕ → Result State Stop
+abbrev pub put_above : Result ℕ ExecutionError → ℕ → State → List ℕ → Result State Stop
 put_above (Ok word) j s rest = Ok (record s { stack = word ∷ rest; next = j })
-put_above (Err number) j s rest = Err (Error number)
+put_above (Err error) j s rest = Err (Error error)
 
 -- the two words on top of this stack, the first operand below the second, give way to one
 abbrev pub combined : Operation → ℕ → State → List ℕ → Result State Stop
 combined operation j s (b ∷ a ∷ rest) = put_above (value_of operation a b) j s rest
-combined operation j s _ = Err (Error 0)
+combined operation j s _ = Err (Error StackUnderflow)
 
 -- of the three words on top of this stack the lowest stays, if it lies from the next one to the top
 abbrev pub checked : ℕ → State → List ℕ → Result State Stop
 checked j s (high ∷ low ∷ v ∷ rest) = put_above (checked_of v low high) j s rest
-checked j s _ = Err (Error 0)
+checked j s _ = Err (Error StackUnderflow)

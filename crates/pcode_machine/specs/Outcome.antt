@@ -16,6 +16,8 @@ use Rattle.pcode_frames.specs.Words.{byte_at, with_byte}
 use Rattle.pcode_machine.specs.Configuration.{State, Configuration, current_of}
 use Rattle.pcode_machine.specs.Transfers.{later}
 use Rattle.pcode_machine.specs.Execute.{execute}
+use Rattle.pcode_machine.specs.declared.errors.ExecutionError.TheVariants.{NoRoom, BadAddress}
+use Rattle.pcode_machine.specs.Errors.{number_of}
 
 -- Another configuration, an end, a wait for input, or nothing that is stated: no instruction stands there, or what it names is
 -- not there.
@@ -46,16 +48,16 @@ taken c t b = record {
 -- the byte's address is looked at before it moves, and before the machine waits
 abbrev pub moved : Direction → List ℕ → Configuration → Frame → Transfer → Outcome
 moved Writing x c f t =
-    on_some (byte_at c.state.words t.address) (Stops (ends.Error 7 f.procedure t.at)) (λ b. Goes (written c t b))
+    on_some (byte_at c.state.words t.address) (Stops (ends.Error (number_of BadAddress) f.procedure t.at)) (λ b. Goes (written c t b))
 moved Reading x c f t =
-    on_some (byte_at c.state.words t.address) (Stops (ends.Error 7 f.procedure t.at))
+    on_some (byte_at c.state.words t.address) (Stops (ends.Error (number_of BadAddress) f.procedure t.at))
     (λ _. on_some (slice_get x c.read) Waiting (λ b. Goes (taken c t b)))
 
 -- ---- one instruction
 
 abbrev pub end_by : Stop → Frame → ℕ → End
 end_by Normal f at = ends.Normal
-end_by (Error n) f at = ends.Error n f.procedure at
+end_by (Error error) f at = ends.Error (number_of error) f.procedure at
 
 abbrev pub after_effect : Configuration → Frame → Option (Result State Stop) → Outcome
 after_effect c f (Some (Ok s)) = Goes (record c { state = s })
@@ -76,7 +78,7 @@ pending p x c f None = instructed p c f
 pending p x c f (Some t) = moved t.direction x c f t
 
 abbrev pub in_frame : Parts → List ℕ → Configuration → Option Frame → Outcome
-in_frame p x c None = Stops (ends.Error 4 1 c.state.next)
+in_frame p x c None = Stops (ends.Error (number_of NoRoom) 1 c.state.next)
 in_frame p x c (Some f) = pending p x c f c.state.transfer
 
 abbrev pub outcome : Parts → List ℕ → Configuration → Outcome

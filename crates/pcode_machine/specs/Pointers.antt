@@ -4,6 +4,7 @@ use Rattle.pcode_frames.specs.Words.{word_at, with_word}
 use Rattle.pcode_machine.specs.declared.turn.Stop.{Stop}
 use Rattle.pcode_machine.specs.declared.turn.Stop.TheVariants.{Error}
 use Rattle.pcode_machine.specs.Configuration.{State}
+use Rattle.pcode_machine.specs.declared.errors.ExecutionError.TheVariants.{StackUnderflow, BadAddress}
 
 -- so many words behind a pointer, modulo 65,536
 abbrev pub behind : ℕ → ℕ → ℕ
@@ -15,17 +16,17 @@ pointed live pointer = if pointer % 2 == 0 then word_at live (pointer / 2) else 
 
 -- the word takes the place of the pointer above these words
 abbrev pub fetched_by : Option ℕ → ℕ → State → List ℕ → Result State Stop
-fetched_by None j s rest = Err (Error 7)
+fetched_by None j s rest = Err (Error BadAddress)
 fetched_by (Some v) j s rest = Ok (record s { stack = v ∷ rest; next = j })
 
 -- the pointer on top of this stack gives way to the word so many words behind it
 abbrev pub fetched : ℕ → ℕ → State → List ℕ → Result State Stop
-fetched words j s [] = Err (Error 0)
+fetched words j s [] = Err (Error StackUnderflow)
 fetched words j s (pointer ∷ rest) = fetched_by (pointed s.words (behind pointer words)) j s rest
 
 -- the word popped from this stack goes to the live word that the pointer below it points to
 abbrev pub stored_at : ℕ → State → List ℕ → Result State Stop
-stored_at j s [] = Err (Error 0)
-stored_at j s (v ∷ []) = Err (Error 0)
+stored_at j s [] = Err (Error StackUnderflow)
+stored_at j s (v ∷ []) = Err (Error StackUnderflow)
 stored_at j s (v ∷ pointer ∷ rest) =
-    if is_some (pointed s.words pointer) then Ok (record s { words = with_word s.words (pointer / 2) v; stack = rest; next = j }) else Err (Error 7)
+    if is_some (pointed s.words pointer) then Ok (record s { words = with_word s.words (pointer / 2) v; stack = rest; next = j }) else Err (Error BadAddress)

@@ -6,6 +6,7 @@ use Rattle.pcode_machine.specs.declared.turn.Stop.{Stop}
 use Rattle.pcode_machine.specs.declared.turn.Stop.TheVariants.{Error}
 use Rattle.pcode_machine.specs.Configuration.{State}
 use Rattle.pcode_machine.specs.Bytes.{byte_address}
+use Rattle.pcode_machine.specs.declared.errors.ExecutionError.TheVariants.{StackUnderflow}
 
 -- units 1 (CONSOLE:) and 2 (SYSTERM:)
 abbrev pub is_console : ℕ → Bool
@@ -27,7 +28,7 @@ begun direction unit base index len at =
 abbrev pub called : Direction → ℕ → State → List ℕ → Result State Stop
 called direction j s (mode ∷ block ∷ len ∷ index ∷ base ∷ unit ∷ rest) =
     Ok (record s { stack = rest; next = j; io_result = if is_console unit then 0 else 2; transfer = begun direction unit base index len s.next })
-called direction j s _ = Err (Error 0)
+called direction j s _ = Err (Error StackUnderflow)
 
 -- what is left of a transfer after one byte
 abbrev pub later : Transfer → Option Transfer

@@ -2,6 +2,8 @@
 ghost use Rattle.std.specs.Prelude.{◌≡◌};
 ghost use Rattle.pcode_machine.specs.Arithmetic.{absolute_of, both_of, checked_of, complement_of, difference_of, either_of, element_of, negation_of, product_of, quotient_of, remainder_of, square_of, sum_of};
 
+use crate::errors::ExecutionError;
+
 /// The sum of two words, modulo 65,536.
 pub fn sum(a: u16, b: u16) -> u16
     ensures { result ≡ sum_of a b }
@@ -25,11 +27,11 @@ pub fn product(a: u16, b: u16) -> u16
 
 /// The quotient of two signed words, rounded towards zero, modulo 65,536: -32,768 by -1 is
 /// -32,768. Refused with error 6 where the divisor is 0.
-pub fn quotient(a: u16, b: u16) -> Result<u16, u8>
+pub fn quotient(a: u16, b: u16) -> Result<u16, ExecutionError>
     ensures { result ≡ quotient_of a b }
 {
     if b == 0 {
-        return Err(6);
+        return Err(ExecutionError::DivisionByZero);
     }
     let whole = a.cast_signed().wrapping_div(b.cast_signed());
     Ok(whole.cast_unsigned())
@@ -37,11 +39,11 @@ pub fn quotient(a: u16, b: u16) -> Result<u16, u8>
 
 /// What that quotient leaves, which has the sign of the dividend: -32,768 by -1 leaves 0. Refused
 /// with error 6 where the divisor is 0.
-pub fn remainder(a: u16, b: u16) -> Result<u16, u8>
+pub fn remainder(a: u16, b: u16) -> Result<u16, ExecutionError>
     ensures { result ≡ remainder_of a b }
 {
     if b == 0 {
-        return Err(6);
+        return Err(ExecutionError::DivisionByZero);
     }
     let left = a.cast_signed().wrapping_rem(b.cast_signed());
     Ok(left.cast_unsigned())
@@ -91,13 +93,13 @@ pub fn complement(a: u16) -> u16
 
 /// The word itself. Refused with error 1 where, all three signed, it lies below the low bound or
 /// above the high one.
-pub fn checked(value: u16, low: u16, high: u16) -> Result<u16, u8>
+pub fn checked(value: u16, low: u16, high: u16) -> Result<u16, ExecutionError>
     ensures { result ≡ checked_of value low high }
 {
     if low.cast_signed() <= value.cast_signed() && value.cast_signed() <= high.cast_signed() {
         Ok(value)
     } else {
-        Err(1)
+        Err(ExecutionError::OutOfRange)
     }
 }
 

@@ -3,6 +3,7 @@ ghost use Rattle.std.specs.Prelude.{◌≡◌, OnErr};
 ghost use Rattle.pcode_machine.specs.Blocks.{block_loaded, block_moved, block_stored, is_block};
 ghost use Rattle.pcode_machine.specs.Ready.{state_of, answered};
 
+use crate::errors::ExecutionError;
 use crate::parts::MachineParts;
 use crate::turn::Stop;
 use pcode_frames::{Memory, STACK_WORDS};
@@ -29,16 +30,16 @@ impl MachineParts {
         ensures err { OnErr result (self.new ≡ self.old) }
     {
         let Some(from) = self.stack.get(0) else {
-            return Err(Stop::Error(0));
+            return Err(Stop::Error(ExecutionError::StackUnderflow));
         };
         let Some(to) = self.stack.get(1) else {
-            return Err(Stop::Error(0));
+            return Err(Stop::Error(ExecutionError::StackUnderflow));
         };
         if !is_block(&self.memory, from, words) {
-            return Err(Stop::Error(7));
+            return Err(Stop::Error(ExecutionError::BadAddress));
         }
         if !is_block(&self.memory, to, words) {
-            return Err(Stop::Error(7));
+            return Err(Stop::Error(ExecutionError::BadAddress));
         }
         self.stack.pop()?;
         self.stack.pop()?;
@@ -54,13 +55,13 @@ impl MachineParts {
         ensures err { OnErr result (self.new ≡ self.old) }
     {
         let Some(pointer) = self.stack.get(0) else {
-            return Err(Stop::Error(0));
+            return Err(Stop::Error(ExecutionError::StackUnderflow));
         };
         if !is_block(&self.memory, pointer, words) {
-            return Err(Stop::Error(7));
+            return Err(Stop::Error(ExecutionError::BadAddress));
         }
         if self.stack.len() - 1 + usize::from(words) > STACK_WORDS {
-            return Err(Stop::Error(4));
+            return Err(Stop::Error(ExecutionError::NoRoom));
         }
         self.stack.pop()?;
         self.memory.push_block(&mut self.stack, pointer / 2, words);
@@ -76,10 +77,10 @@ impl MachineParts {
         ensures err { OnErr result (self.new ≡ self.old) }
     {
         let Some(pointer) = self.stack.get(words) else {
-            return Err(Stop::Error(0));
+            return Err(Stop::Error(ExecutionError::StackUnderflow));
         };
         if !is_block(&self.memory, pointer, words) {
-            return Err(Stop::Error(7));
+            return Err(Stop::Error(ExecutionError::BadAddress));
         }
         self.memory.pop_block(&mut self.stack, pointer / 2, words);
         self.stack.pop()?;

@@ -3,6 +3,7 @@ ghost use Rattle.std.specs.Prelude.{◌≡◌, OnErr, ◌≤ℤ◌, pos, neg_ℤ
 ghost use Rattle.pcode_machine.specs.Bytes.{byte_address, byte_loaded, byte_stored};
 ghost use Rattle.pcode_machine.specs.Ready.{state_of, answered};
 
+use crate::errors::ExecutionError;
 use crate::parts::MachineParts;
 use crate::turn::Stop;
 
@@ -21,7 +22,7 @@ impl MachineParts {
         ensures err { OnErr result (self.new ≡ self.old) }
     {
         if self.stack.len() < 2 {
-            return Err(Stop::Error(0));
+            return Err(Stop::Error(ExecutionError::StackUnderflow));
         }
         let index = self.stack.pop()?;
         let base = self.stack.pop()?;
@@ -34,7 +35,7 @@ impl MachineParts {
             None => {
                 self.stack.push(base).unwrap();
                 self.stack.push(index).unwrap();
-                Err(Stop::Error(7))
+                Err(Stop::Error(ExecutionError::BadAddress))
             }
         }
     }
@@ -45,7 +46,7 @@ impl MachineParts {
         ensures err { OnErr result (self.new ≡ self.old) }
     {
         if self.stack.len() < 3 {
-            return Err(Stop::Error(0));
+            return Err(Stop::Error(ExecutionError::StackUnderflow));
         }
         let value = self.stack.pop()?;
         let index = self.stack.pop()?;
@@ -60,6 +61,6 @@ impl MachineParts {
         self.stack.push(base).unwrap();
         self.stack.push(index).unwrap();
         self.stack.push(value).unwrap();
-        Err(Stop::Error(7))
+        Err(Stop::Error(ExecutionError::BadAddress))
     }
 }

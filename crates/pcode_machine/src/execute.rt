@@ -3,9 +3,11 @@ ghost use Rattle.std.specs.Prelude.{◌≡◌, Some, OnErr};
 ghost use Rattle.pcode_frames.specs.Frames.{current_of};
 ghost use Rattle.pcode_machine.specs.Execute.{execute, made};
 ghost use Rattle.pcode_machine.specs.Effects.{standard, effect_of, HasTable, IsPossible};
+ghost use Rattle.pcode_ops.specs.At.{HasElements};
 ghost use Rattle.pcode_machine.specs.Ready.{state_of, answered};
 
 use crate::comparisons::Comparison;
+use crate::errors::ExecutionError;
 use crate::loads::{address_from, address_of};
 use crate::operations::{Change, Operation};
 use crate::parts::MachineParts;
@@ -24,13 +26,13 @@ impl MachineParts {
                 if self.io_result == 0 {
                     self.go(next)
                 } else {
-                    Err(Stop::Error(10))
+                    Err(Stop::Error(ExecutionError::NoUnit))
                 }
             }
             StandardProcedure::UnitRead => self.call(Direction::Reading, next),
             StandardProcedure::UnitWrite => self.call(Direction::Writing, next),
             StandardProcedure::IoResult => self.push(self.io_result, next),
-            StandardProcedure::Halt => Err(Stop::Error(14)),
+            StandardProcedure::Halt => Err(Stop::Error(ExecutionError::Halted)),
         }
     }
 
@@ -47,6 +49,7 @@ impl MachineParts {
         requires current { current_of self.old.frames ≡ Some frame }
         requires possible { IsPossible (effect_of program.now frame instr.now next (state_of self.old)) (state_of self.old) }
         requires table { HasTable program.now instr.now }
+        requires packs { HasElements instr.now }
         ensures value { execute program.now frame instr.now next (state_of self.old) ≡ Some (answered result (state_of self.new)) }
         ensures err { OnErr result (self.new ≡ self.old) }
     {
@@ -76,6 +79,9 @@ impl MachineParts {
             Instr::Stm(words) => self.store_block(u16::from(words), next),
             Instr::Ldb => self.load_byte(next),
             Instr::Stb => self.store_byte(next),
+            Instr::Ixp(elements, width) => self.index_field(elements, width, next),
+            Instr::Ldp => self.load_field(next),
+            Instr::Stp => self.store_field(next),
             Instr::Adi => self.combine(Operation::Sum, next),
             Instr::Sbi => self.combine(Operation::Difference, next),
             Instr::Mpi => self.combine(Operation::Product, next),

@@ -5,6 +5,7 @@ ghost use Rattle.pcode_ops.specs.Jumps.{IsCaseTable, case_of};
 ghost use Rattle.pcode_machine.specs.Jumps.{branched, branched_by_two};
 ghost use Rattle.pcode_machine.specs.Ready.{state_of, answered};
 
+use crate::errors::ExecutionError;
 use crate::parts::MachineParts;
 use crate::turn::Stop;
 use pcode_ops::Program;
@@ -38,7 +39,7 @@ impl MachineParts {
         ensures err { OnErr result (self.new ≡ self.old) }
     {
         if self.stack.len() < 2 {
-            return Err(Stop::Error(0));
+            return Err(Stop::Error(ExecutionError::StackUnderflow));
         }
         let b = self.stack.pop()?;
         let a = self.stack.pop()?;

@@ -6,7 +6,9 @@ mod blocks;
 mod bytes;
 mod calls;
 mod comparisons;
+mod errors;
 mod execute;
+mod fields;
 mod jumps;
 pub mod laws;
 mod loads;
@@ -19,4 +21,4 @@ mod transfers;
 mod turn;
 
 pub use machine::Machine;
-pub use turn::{Direction, End, MachineFault, Stop, Transfer, Turn};
+pub use turn::{Direction, End, MachineFault, Pause, Stop, Transfer, Turn};

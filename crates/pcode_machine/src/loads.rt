@@ -4,6 +4,7 @@ ghost use Rattle.pcode_frames.specs.Words.{word_at};
 ghost use Rattle.pcode_machine.specs.Loads.{pushed, address_of, loaded};
 ghost use Rattle.pcode_machine.specs.Ready.{state_of, answered};
 
+use crate::errors::ExecutionError;
 use crate::parts::MachineParts;
 use crate::turn::Stop;
 
@@ -51,7 +52,7 @@ impl MachineParts {
     {
         match self.word(base, offset) {
             Some(word) => self.push(word, next),
-            None => Err(Stop::Error(7)),
+            None => Err(Stop::Error(ExecutionError::BadAddress)),
         }
     }
 }

@@ -5,6 +5,7 @@ ghost use Rattle.pcode_machine.specs.Ready.{state_of, answered};
 
 use crate::arithmetic as words;
 use crate::comparisons::{Comparison, compared, compared_bits};
+use crate::errors::ExecutionError;
 use crate::parts::MachineParts;
 use crate::pointers::behind;
 use crate::turn::Stop;
@@ -54,7 +55,7 @@ fn changed(change: Change, a: u16) -> u16
 
 /// What an operation makes of two words, or the number of its error.
 #[inline(always)]
-fn value(operation: Operation, a: u16, b: u16) -> Result<u16, u8>
+fn value(operation: Operation, a: u16, b: u16) -> Result<u16, ExecutionError>
     ensures { result ≡ value_of operation a b }
 {
     match operation {
@@ -79,7 +80,7 @@ impl MachineParts {
         ensures err { OnErr result (self.new ≡ self.old) }
     {
         if self.stack.len() == 0 {
-            return Err(Stop::Error(0));
+            return Err(Stop::Error(ExecutionError::StackUnderflow));
         }
         let word = self.stack.top();
         self.stack.set_top(changed(change, word));
@@ -94,7 +95,7 @@ impl MachineParts {
         ensures err { OnErr result (self.new ≡ self.old) }
     {
         if self.stack.len() < 2 {
-            return Err(Stop::Error(0));
+            return Err(Stop::Error(ExecutionError::StackUnderflow));
         }
         let b = self.stack.pop()?;
         let a = self.stack.top();
@@ -104,9 +105,9 @@ impl MachineParts {
                 self.next = next;
                 Ok(())
             }
-            Err(number) => {
+            Err(error) => {
                 self.stack.push(b).unwrap();
-                Err(Stop::Error(number))
+                Err(Stop::Error(error))
             }
         }
     }
@@ -118,7 +119,7 @@ impl MachineParts {
         ensures err { OnErr result (self.new ≡ self.old) }
     {
         if self.stack.len() < 3 {
-            return Err(Stop::Error(0));
+            return Err(Stop::Error(ExecutionError::StackUnderflow));
         }
         let high = self.stack.pop()?;
         let low = self.stack.pop()?;
@@ -128,10 +129,10 @@ impl MachineParts {
                 self.next = next;
                 Ok(())
             }
-            Err(number) => {
+            Err(error) => {
                 self.stack.push(low).unwrap();
                 self.stack.push(high).unwrap();
-                Err(Stop::Error(number))
+                Err(Stop::Error(error))
             }
         }
     }

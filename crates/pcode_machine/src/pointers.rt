@@ -3,6 +3,7 @@ ghost use Rattle.std.specs.Prelude.{◌≡◌, OnErr};
 ghost use Rattle.pcode_machine.specs.Pointers.{behind, fetched, pointed, stored_at};
 ghost use Rattle.pcode_machine.specs.Ready.{state_of, answered};
 
+use crate::errors::ExecutionError;
 use crate::parts::MachineParts;
 use crate::turn::Stop;
 use pcode_frames::Memory;
@@ -15,7 +16,7 @@ pub fn behind(pointer: u16, words: u16) -> u16
 }
 
 /// The word at a pointer, which has to be even, if it is live.
-fn pointed(memory: &Memory, pointer: u16) -> Option<u16>
+pub fn pointed(memory: &Memory, pointer: u16) -> Option<u16>
     ensures { result ≡ pointed memory.now pointer }
 {
     if pointer % 2 == 0 {
@@ -32,11 +33,11 @@ impl MachineParts {
         ensures err { OnErr result (self.new ≡ self.old) }
     {
         if self.stack.len() == 0 {
-            return Err(Stop::Error(0));
+            return Err(Stop::Error(ExecutionError::StackUnderflow));
         }
         let pointer = self.stack.top();
         let Some(word) = pointed(&self.memory, behind(pointer, words)) else {
-            return Err(Stop::Error(7));
+            return Err(Stop::Error(ExecutionError::BadAddress));
         };
         self.stack.set_top(word);
         self.next = next;
@@ -49,14 +50,14 @@ impl MachineParts {
         ensures err { OnErr result (self.new ≡ self.old) }
     {
         if self.stack.len() < 2 {
-            return Err(Stop::Error(0));
+            return Err(Stop::Error(ExecutionError::StackUnderflow));
         }
         let value = self.stack.pop()?;
         let pointer = self.stack.pop()?;
         if pointed(&self.memory, pointer).is_none() {
             self.stack.push(pointer).unwrap();
             self.stack.push(value).unwrap();
-            return Err(Stop::Error(7));
+            return Err(Stop::Error(ExecutionError::BadAddress));
         }
         self.memory.put(pointer / 2, value);
         self.next = next;

@@ -4,6 +4,7 @@ ghost use Rattle.pcode_frames.specs.Words.{word_at};
 ghost use Rattle.pcode_machine.specs.Stores.{stored};
 ghost use Rattle.pcode_machine.specs.Ready.{state_of, answered};
 
+use crate::errors::ExecutionError;
 use crate::parts::MachineParts;
 use crate::turn::Stop;
 use pcode_frames::Memory;
@@ -30,10 +31,10 @@ impl MachineParts {
         ensures err { OnErr result (self.new ≡ self.old) }
     {
         if self.stack.len() == 0 {
-            return Err(Stop::Error(0));
+            return Err(Stop::Error(ExecutionError::StackUnderflow));
         }
         let Some(word) = live_word(&self.memory, base, offset) else {
-            return Err(Stop::Error(7));
+            return Err(Stop::Error(ExecutionError::BadAddress));
         };
         let value = self.stack.pop()?;
         self.memory.put(word, value);

@@ -1,18 +1,22 @@
 //! Transfers between memory and a unit: the call that begins one, and each byte.
-ghost use Rattle.std.specs.Prelude.{◌≡◌, ℕ, ◌+◌, ◌==◌, if◌then◌else◌, List, [], ◌∷◌, ◌++◌, length, Some, IsSome, OnErr};
-ghost use Rattle.std.specs.Option.{option_to_list};
-ghost use Rattle.pcode_machine.specs.declared.turn.Direction.TheVariants.{Reading, Writing};
+ghost use Rattle.std.specs.Prelude.{◌≡◌, ℕ, List, None, Some, IfErr, IsSome, OnErr, OnOk};
+ghost use Rattle.pcode_file.specs.Parts.{Parts};
+ghost use Rattle.pcode_frames.specs.Frames.{current_of};
+ghost use Rattle.pcode_machine.specs.declared.turn.Direction.TheVariants.{Writing};
+ghost use Rattle.pcode_machine.specs.declared.errors.ExecutionError.TheVariants.{BadAddress};
 ghost use Rattle.pcode_machine.specs.declared.turn.End.TheVariants.{Error};
+ghost use Rattle.pcode_machine.specs.Errors.{number_of};
 ghost use Rattle.pcode_frames.specs.Words.{byte_at, with_byte};
-ghost use Rattle.pcode_machine.specs.Configuration.{State, joined};
+ghost use Rattle.pcode_machine.specs.Configuration.{joined};
 ghost use Rattle.pcode_machine.specs.Transfers.{begun, called, is_console, later};
-ghost use Rattle.pcode_machine.specs.Outcome.{Goes, moved};
-ghost use Rattle.pcode_machine.specs.Turns.{told, IsStill, TakesByte};
+ghost use Rattle.pcode_machine.specs.Outcome.{moved};
+ghost use Rattle.pcode_machine.specs.Turns.{Passes, sent};
 ghost use Rattle.pcode_machine.specs.Ready.{state_of, answered};
 
 use crate::bytes::byte_address;
+use crate::errors::ExecutionError;
 use crate::parts::MachineParts;
-use crate::turn::{Direction, End, Stop, Transfer, Turn};
+use crate::turn::{Direction, End, Pause, Stop, Transfer};
 use pcode_frames::Frame;
 
 /// Whether a unit is the console: unit 1 (CONSOLE:) or unit 2 (SYSTERM:).
@@ -54,26 +58,12 @@ fn begun(
 
 /// The end of a transfer whose next byte is not in a live word.
 fn not_live(frame: Frame, transfer: Transfer) -> End
-    ensures { result ≡ Error 7 frame.procedure transfer.at }
+    ensures { result ≡ Error (number_of BadAddress) frame.procedure transfer.at }
 {
     End::Error {
-        number: 7,
+        number: ExecutionError::BadAddress.number(),
         procedure: frame.procedure,
         at: transfer.at,
-    }
-}
-
-/// What a step did that took a byte from a unit: unit 1 writes what is read.
-fn turn_of(unit: u16, byte: u8) -> Turn
-    ensures value { (s : State) (read : ℕ) (output : List ℕ) →
-        told result s read output ≡ Goes (joined s (read + 1) (if unit == 1 then output ++ byte ∷ [] else output)) }
-    ensures taken { TakesByte result }
-    ensures moving { IsStill result → ⊥ }
-{
-    if unit == 1 {
-        Turn::TookAndWrote(byte)
-    } else {
-        Turn::Took
     }
 }
 
@@ -85,7 +75,7 @@ impl MachineParts {
         ensures err { OnErr result (self.new ≡ self.old) }
     {
         if self.stack.len() < 6 {
-            return Err(Stop::Error(0));
+            return Err(Stop::Error(ExecutionError::StackUnderflow));
         }
         let _mode = self.stack.pop()?;
         let _block = self.stack.pop()?;
@@ -119,7 +109,7 @@ impl MachineParts {
     }
 
     /// Stores a byte of a transfer at its live address, and keeps what is left of it.
-    fn take_byte(&mut self, transfer: Transfer, byte: u8)
+    pub fn take_byte(&mut self, transfer: Transfer, byte: u8)
         requires live { IsSome (byte_at self.old.memory transfer.address) }
         ensures { self.new ≡ record self.old { memory = with_byte self.old.memory transfer.address byte; transfer = later transfer } }
     {
@@ -127,63 +117,57 @@ impl MachineParts {
         self.memory.put_byte(transfer.address, byte);
     }
 
-    /// Writes one byte of memory.
-    fn write_byte(&mut self, frame: Frame, transfer: Transfer) -> Turn
+    /// Writes the next byte of a transfer to a unit, and returns it; or says how the program ends, where its
+    /// address is not live.
+    fn write_byte(&mut self, frame: Frame, transfer: Transfer) -> Result<u8, End>
         requires { self.old.transfer ≡ Some transfer }
         ensures value { (x : List ℕ) (read : ℕ) (output : List ℕ) →
             moved Writing x (joined (state_of self.old) read output) frame transfer
-            ≡ told result (state_of self.new) read output }
-        ensures taken { TakesByte result → ⊥ }
-        ensures still { IsStill result → self.new ≡ self.old }
+            ≡ sent result (state_of self.new) read output }
+        ensures err { OnErr result (self.new ≡ self.old) }
         ensures next { self.new.next ≡ self.old.next }
         ensures frames { self.new.frames ≡ self.old.frames }
     {
         match self.memory.get_byte(transfer.address) {
-            None => Turn::Ended(not_live(frame, transfer)),
+            None => Err(not_live(frame, transfer)),
             Some(byte) => {
                 self.pass_byte(transfer);
-                Turn::Wrote(byte)
+                Ok(byte)
             }
         }
     }
 
-    /// Takes one byte to memory, if one is offered; unit 1 writes it too. The address is looked at
-    /// before the machine waits.
-    #[tactic(auto, using(crate::proofs::Inputs::offered_at_end))]
-    fn read_byte(&mut self, frame: Frame, transfer: Transfer, offered: Option<u8>) -> Turn
-        requires { self.old.transfer ≡ Some transfer }
-        ensures value { (before output : List ℕ) →
-            moved Reading (before ++ option_to_list offered) (joined (state_of self.old) (length before) output) frame transfer
-            ≡ told result (state_of self.new) (length before) output }
-        ensures taken { TakesByte result → IsSome offered }
-        ensures still { IsStill result → self.new ≡ self.old }
-        ensures next { self.new.next ≡ self.old.next }
-        ensures frames { self.new.frames ≡ self.old.frames }
+    /// Looks at the address of the next byte of a transfer from a unit. Refused, by how the program ends,
+    /// where it is not live.
+    fn find_place(&self, frame: Frame, transfer: Transfer) -> Result<(), End>
+        ensures live { OnOk result (IsSome (byte_at self.now.memory transfer.address)) }
+        ensures dead { IfErr result (λ e. (byte_at self.now.memory transfer.address ≡ None)
+            × (e ≡ Error (number_of BadAddress) frame.procedure transfer.at)) }
     {
-        let Some(_old) = self.memory.get_byte(transfer.address) else {
-            return Turn::Ended(not_live(frame, transfer));
-        };
-        let Some(byte) = offered else {
-            return Turn::Waits;
-        };
-        self.take_byte(transfer, byte);
-        turn_of(transfer.unit, byte)
+        match self.memory.get_byte(transfer.address) {
+            None => Err(not_live(frame, transfer)),
+            Some(_) => Ok(()),
+        }
     }
 
-    /// Moves one byte of a pending transfer, or waits for it.
-    pub fn move_byte(&mut self, frame: Frame, transfer: Transfer, offered: Option<u8>) -> Turn
-        requires { self.old.transfer ≡ Some transfer }
-        ensures value { (before output : List ℕ) →
-            moved transfer.direction (before ++ option_to_list offered) (joined (state_of self.old) (length before) output) frame transfer
-            ≡ told result (state_of self.new) (length before) output }
-        ensures taken { TakesByte result → IsSome offered }
-        ensures still { IsStill result → self.new ≡ self.old }
+    /// Goes on with a pending transfer: writes its next byte, or waits for it. The address is looked at
+    /// first.
+    pub fn pass(&mut self, frame: Frame, transfer: Transfer) -> Pause
+        requires current { current_of self.old.frames ≡ Some frame }
+        requires pending { self.old.transfer ≡ Some transfer }
+        ensures passes { (p : Parts) → Passes p (state_of self.old) (state_of self.new) result }
         ensures next { self.new.next ≡ self.old.next }
         ensures frames { self.new.frames ≡ self.old.frames }
     {
         match transfer.direction {
-            Direction::Reading => self.read_byte(frame, transfer, offered),
-            Direction::Writing => self.write_byte(frame, transfer),
+            Direction::Reading => match self.find_place(frame, transfer) {
+                Ok(()) => Pause::Wants,
+                Err(end) => Pause::Ended(end),
+            },
+            Direction::Writing => match self.write_byte(frame, transfer) {
+                Ok(byte) => Pause::Wrote(byte),
+                Err(end) => Pause::Ended(end),
+            },
         }
     }
 }

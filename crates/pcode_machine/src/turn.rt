@@ -1,8 +1,9 @@
 //! What a machine is made of, and what its turns say.
 ghost use Rattle.std.specs.Prelude.{◌≡◌};
-ghost use Rattle.pcode_frames.specs.Halts.{number_of};
+ghost use Rattle.pcode_machine.specs.Errors.{error_of};
 ghost use Rattle.pcode_machine.specs.declared.turn.Stop.TheVariants.{Error};
 
+use crate::errors::ExecutionError;
 use pcode_frames::Halt;
 use thiserror::Error;
 
@@ -32,15 +33,15 @@ pub struct Transfer {
 pub enum Stop {
     /// The program is over.
     Normal,
-    /// An execution error of this number.
-    Error(u8),
+    /// An execution error.
+    Error(ExecutionError),
 }
 
 impl From<Halt> for Stop {
-    ghost from_gives = { λ halt stop. stop ≡ Error (number_of halt) };
+    ghost from_gives = { λ halt stop. stop ≡ Error (error_of halt) };
 
     fn from(halt: Halt) -> Self {
-        Stop::Error(halt.number())
+        Stop::Error(ExecutionError::from(halt))
     }
 }
 
@@ -67,6 +68,19 @@ pub enum Turn {
     /// Nothing changed: it waits for a byte.
     Waits,
     /// Nothing changed: the program has ended.
+    Ended(End),
+}
+
+/// Why a run of a machine pauses.
+#[derive(Clone, Copy, Debug, PartialEq, Eq)]
+pub enum Pause {
+    /// All steps were made.
+    Spent,
+    /// The machine waits for a byte.
+    Wants,
+    /// The last step wrote this byte.
+    Wrote(u8),
+    /// The program has ended.
     Ended(End),
 }
 

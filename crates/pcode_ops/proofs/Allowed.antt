@@ -4,7 +4,7 @@ use Rattle.pcode_file.specs.declared.file.Proc.{Proc}
 use Rattle.pcode_file.specs.InFile.{AreProcs}
 use Rattle.pcode_file.specs.Parts.{Parts, end_of, procedure_of}
 use Rattle.pcode_ops.specs.declared.instr.Instr.{Instr}
-use Rattle.pcode_ops.specs.declared.look.Onward.{Onward}
+use Rattle.pcode_ops.specs.declared.loading.Onward.{Onward}
 use Rattle.pcode_ops.specs.Decoding.{instr_at}
 use Rattle.pcode_ops.specs.Loading.{is_in, owner, IsFine, HasNext}
 use Rattle.pcode_ops.specs.Reach.{Reach, entered, followed}

@@ -7,33 +7,32 @@ use Rattle.pcode_file.specs.Parts.{Parts, end_of}
 use Rattle.pcode_ops.specs.declared.fault.OpFault.{OpFault}
 use Rattle.pcode_ops.specs.declared.fault.OpFault.TheVariants.{Cut}
 use Rattle.pcode_ops.specs.declared.instr.Instr.{Instr}
-use Rattle.pcode_ops.specs.declared.instr.Instr.TheVariants.{Ujp, Fjp, Efj, Nfj, Xjp, Rnp, Rbp}
-use Rattle.pcode_ops.specs.declared.look.Onward.{Onward}
+use Rattle.pcode_ops.specs.declared.loading.Onward.{Onward}
 use Rattle.pcode_ops.specs.Decoding.{instr_at}
-use Rattle.pcode_ops.specs.Loading.{is_in, jump_to, goes, onward, IsFine, HasNext}
+use Rattle.pcode_ops.specs.Loading.{is_in, jump_to, goes_on, Flow, On, Jumps, Branches, Switches, Ends, flow_of, flows_to, onward, IsFine, HasNextBy, HasNext}
 use Rattle.pcode_ops.specs.Reach.{Reach, followed}
 use Rattle.pcode_ops.proofs.Longer.{decoded_longer}
 use Rattle.pcode_ops.proofs.Looking.{looked_is, fine_leads}
 
 -- ---- the next offset of an instruction that has one
 
-goes_next : (q : Proc) (j : ℕ) (target : Option ℕ) (o : Onward) → goes q j target ≡ Ok o → o.next ≡ Some j
+goes_next : (q : Proc) (j : ℕ) (target : Option ℕ) (o : Onward) → goes_on q j target ≡ Ok o → o.next ≡ Some j
 goes_next q j target o e = let made = pass_ok (is_in q j) Cut (Ok (record { next = Some j; target = target; table = 0; count = 0 })) o e in cc (made.1)
 
--- a jump that may also go on behind itself
-branch_next : (q : Proc) (j : ℕ) (r : Result ℕ OpFault) (o : Onward) → (r >>= λ t. goes q j (Some t)) ≡ Ok o → o.next ≡ Some j
+-- a jump that may also go on after itself
+branch_next : (q : Proc) (j : ℕ) (r : Result ℕ OpFault) (o : Onward) → (r >>= λ t. goes_on q j (Some t)) ≡ Ok o → o.next ≡ Some j
 branch_next q j (Ok t) o e = goes_next q j (Some t) o e
 branch_next q j (Err f) o e = absurd cc
 
+next_of : (segment : List ℕ) (q : Proc) (flow : Flow) (j : ℕ) (o : Onward) → HasNextBy flow → flows_to segment q flow j ≡ Ok o → o.next ≡ Some j
+next_of segment q On j o h e = goes_next q j None o e
+next_of segment q (Branches sb) j o h e = branch_next q j (jump_to segment q sb j) o e
+next_of segment q (Jumps sb) j o h e = absurd h
+next_of segment q (Switches low high table) j o h e = absurd h
+next_of segment q Ends j o h e = absurd h
+
 pub next_is : (segment : List ℕ) (q : Proc) (instr : Instr) (j : ℕ) (o : Onward) → HasNext instr → onward segment q instr j ≡ Ok o → o.next ≡ Some j
-next_is segment q (Fjp sb) j o h e = branch_next q j (jump_to segment q sb j) o e
-next_is segment q (Efj sb) j o h e = branch_next q j (jump_to segment q sb j) o e
-next_is segment q (Nfj sb) j o h e = branch_next q j (jump_to segment q sb j) o e
-next_is segment q (Ujp sb) j o h e = absurd h
-next_is segment q (Xjp low high sb table) j o h e = absurd h
-next_is segment q (Rnp n) j o h e = absurd h
-next_is segment q (Rbp n) j o h e = absurd h
-next_is segment q _ j o h e = goes_next q j None o e
+next_is segment q instr j o h e = next_of segment q (flow_of instr) j o h e
 
 -- ---- what was decoded at a reached offset
 

@@ -9,14 +9,16 @@ use Rattle.pcode_file.specs.declared.file.Proc.{Proc}
 use Rattle.pcode_file.specs.Parts.{Parts, procedure_of}
 use Rattle.pcode_ops.specs.declared.fault.OpFault.{OpFault}
 use Rattle.pcode_ops.specs.declared.fault.OpFault.TheVariants.{Cut, JumpRange}
-use Rattle.pcode_ops.specs.declared.instr.Instr.TheVariants.{Ujp, Xjp}
-use Rattle.pcode_ops.specs.declared.look.Onward.{Onward}
+use Rattle.pcode_ops.specs.declared.instr.Instr.{Instr}
+use Rattle.pcode_ops.specs.declared.instr.Instr.TheVariants.{Xjp}
+use Rattle.pcode_ops.specs.declared.loading.Onward.{Onward}
 use Rattle.pcode_ops.specs.At.{cases}
 use Rattle.pcode_ops.specs.Decoding.{instr_at}
 use Rattle.pcode_ops.specs.Jumps.{jump_in, StaysWith, pointed_by, case_of, IsCaseTable}
-use Rattle.pcode_ops.specs.Loading.{is_in, owner, jump_to, entries_in, goes, branch_to, LeadsTo}
+use Rattle.pcode_ops.specs.Loading.{is_in, owner, jump_to, entries_in, goes_on, ends_at, Flow, On, Jumps, Branches, Switches, Ends, flow_of, flows_to, LeadsTo, JumpsWith, JumpsBy}
 use Rattle.pcode_ops.specs.Reach.{Reach}
 use Rattle.pcode_ops.specs.Standing.{MayStand}
+use Rattle.pcode_ops.proofs.Operating.{case_jump_at_is}
 use Rattle.pcode_ops.proofs.Standing.{decoded_at}
 
 -- ---- jumps
@@ -25,14 +27,14 @@ use Rattle.pcode_ops.proofs.Standing.{decoded_at}
 abbrev HasTarget : Result ℕ OpFault → Onward → Type 0
 HasTarget r o = (t : ℕ) × (r ≡ Ok t) × (o.target ≡ Some t)
 
-goes_to : (q : Proc) (next t : ℕ) (o : Onward) → goes q next (Some t) ≡ Ok o → o.target ≡ Some t
+goes_to : (q : Proc) (next t : ℕ) (o : Onward) → goes_on q next (Some t) ≡ Ok o → o.target ≡ Some t
 goes_to q next t o e = let made = pass_ok (is_in q next) Cut (Ok (record { next = Some next; target = Some t; table = 0; count = 0 })) o e in cc (made.1)
 
-branch_target : (q : Proc) (next : ℕ) (r : Result ℕ OpFault) (o : Onward) → (r >>= λ t. goes q next (Some t)) ≡ Ok o → HasTarget r o
+branch_target : (q : Proc) (next : ℕ) (r : Result ℕ OpFault) (o : Onward) → (r >>= λ t. goes_on q next (Some t)) ≡ Ok o → HasTarget r o
 branch_target q next (Ok t) o e = (t, refl, goes_to q next t o e)
 branch_target q next (Err f) o e = absurd cc
 
-jump_target : (r : Result ℕ OpFault) (o : Onward) → (r >>= λ t. Ok (record { next = None; target = Some t; table = 0; count = 0 })) ≡ Ok o → HasTarget r o
+jump_target : (r : Result ℕ OpFault) (o : Onward) → (r >>= λ t. Ok (ends_at (Some t))) ≡ Ok o → HasTarget r o
 jump_target (Ok t) o e = (t, refl, cc)
 jump_target (Err f) o e = absurd cc
 
@@ -46,13 +48,15 @@ stays_with p n q sb next o at reached h =
       stays = λ t e. (let same : h.0 ≡ t = cc in subst P same (reached h.0 (inr (inl h.2))));
     }
 
-pub jump_stays : (p : Parts) (n : ℕ) (q : Proc) (sb : ℤ) (next : ℕ) → MayStand p q (Ujp sb) next → procedure_of p.procs n ≡ Some q → StaysWith p n q sb next
-jump_stays p n q sb next m at = stays_with p n q sb next m.leads at m.reached (jump_target (jump_to p.segment q sb next) m.leads m.found)
+flow_target : (segment : List ℕ) (q : Proc) (flow : Flow) (sb : ℤ) (next : ℕ) (o : Onward) → JumpsWith flow sb → flows_to segment q flow next ≡ Ok o → HasTarget (jump_to segment q sb next) o
+flow_target segment q (Jumps by) sb next o same e = let P : ℤ → Type 0 = λ x. HasTarget (jump_to segment q x next) o in subst P same (jump_target (jump_to segment q by next) o e)
+flow_target segment q (Branches by) sb next o same e = let P : ℤ → Type 0 = λ x. HasTarget (jump_to segment q x next) o in subst P same (branch_target q next (jump_to segment q by next) o e)
+flow_target segment q On sb next o same e = absurd same
+flow_target segment q (Switches low high table) sb next o same e = absurd same
+flow_target segment q Ends sb next o same e = absurd same
 
--- a jump that may also go on behind itself
-pub branch_stays : (p : Parts) (n : ℕ) (q : Proc) (sb : ℤ) (next : ℕ) (o : Onward) → procedure_of p.procs n ≡ Some q → ((k : ℕ) → LeadsTo p.segment o k → Reach p k × (owner p.procs k ≡ Ok q))
-    → branch_to p.segment q sb next ≡ Ok o → StaysWith p n q sb next
-branch_stays p n q sb next o at reached found = stays_with p n q sb next o at reached (branch_target q next (jump_to p.segment q sb next) o found)
+pub jump_stays : (p : Parts) (n : ℕ) (q : Proc) (instr : Instr) (sb : ℤ) (next : ℕ) → JumpsBy instr sb → MayStand p q instr next → procedure_of p.procs n ≡ Some q → StaysWith p n q sb next
+jump_stays p n q instr sb next jumps m at = stays_with p n q sb next m.leads at m.reached (flow_target p.segment q (flow_of instr) sb next m.leads jumps m.found)
 
 -- ---- case jumps
 
@@ -84,9 +88,9 @@ case_leads p q low high sb table next w m =
 
 pub case_table : (p : Parts) (i : ℕ) (q : Proc) (low high sb : ℤ) (table next : ℕ) → instr_at p.segment i ≡ Ok (Xjp low high sb table, next) → MayStand p q (Xjp low high sb table) next → IsCaseTable p.segment q low high table
 case_table p i q low high sb table next at m =
-    let stands = decoded_at p.segment i (Xjp low high sb table) next at in
+    let stands = case_jump_at_is p.segment i low high sb table next (decoded_at p.segment i (Xjp low high sb table) next at) in
     record {
-      behind = omega (arith, stands.4.1.3);
+      behind = omega (arith, stands.4.3);
       ends = omega (arith, stands.5, stands.6);
       entries = (entries p q low high sb table next m).0;
     }

@@ -1,5 +1,5 @@
 -- An offset without fault leads only into its own part.
-use Rattle.std.proofs.Common.{◌≡◌, ℕ, zero, suc, ◌+◌, ◌-◌, ◌*◌, ◌%◌, ◌<◌, ◌&&◌, true, cond, leb, eqb, length, List, take, Option, Some, None, Result, Ok, Err, IfOk, inl, inr, subst, arith, ℤ, pos, int_le, unsigned_abs}
+use Rattle.std.proofs.Common.{◌≡◌, ℕ, zero, suc, ◌+◌, ◌-◌, ◌*◌, ◌%◌, ◌<◌, ◌&&◌, true, leb, eqb, length, List, take, Option, Some, None, Result, Ok, Err, IfOk, inl, inr, subst, arith, ℤ, pos, int_le, unsigned_abs}
 use Rattle.std.proofs.lemmas.Bool.{leb-true, and_parts, cond_both}
 use Rattle.std.proofs.lemmas.List.{length-take}
 use Rattle.std.proofs.lemmas.Option.{slice_get_within}
@@ -9,12 +9,13 @@ use Rattle.pcode_file.specs.Parts.{Parts, end_of}
 use Rattle.pcode_ops.specs.declared.fault.OpFault.{OpFault}
 use Rattle.pcode_ops.specs.declared.fault.OpFault.TheVariants.{Cut, JumpRange}
 use Rattle.pcode_ops.specs.declared.instr.Instr.{Instr}
-use Rattle.pcode_ops.specs.declared.instr.Instr.TheVariants.{Ujp, Fjp, Efj, Nfj, Xjp, Rnp, Rbp}
-use Rattle.pcode_ops.specs.declared.look.Onward.{Onward}
-use Rattle.pcode_ops.specs.At.{CaseJump, cases, At}
-use Rattle.pcode_ops.specs.Loading.{is_in, leads_in, jump_to, entries_in, goes, onward, LeadsTo}
+use Rattle.pcode_ops.specs.declared.instr.Instr.TheVariants.{Xjp}
+use Rattle.pcode_ops.specs.declared.loading.Onward.{Onward}
+use Rattle.pcode_ops.specs.At.{Cases, cases, At}
+use Rattle.pcode_ops.specs.Loading.{is_in, leads_in, jump_to, entries_in, goes_on, Flow, On, Jumps, Branches, Switches, Ends, flow_of, flows_to, cases_to, ends_at, onward, LeadsTo}
 use Rattle.pcode_ops.proofs.Looking.{IsLooked, owner_is}
 use Rattle.pcode_ops.proofs.Operands.{step_has}
+use Rattle.pcode_ops.proofs.Operating.{case_jump_at_is}
 use Rattle.pcode_ops.proofs.Procedures.{is_inside}
 use Rattle.pcode_ops.proofs.Standing.{decoded_at}
 
@@ -40,7 +41,7 @@ made_inside segment q next target f g k (inl h) = f k h
 made_inside segment q next target f g k (inr (inl h)) = g k h
 made_inside segment q next target f g k (inr (inr h)) = absurd (omega (arith, h.1))
 
-goes_inside : (segment : List ℕ) (q : Proc) (j : ℕ) (target : Option ℕ) → ((n : ℕ) → target ≡ Some n → is_in q n ≡ true) → IsInside segment q (goes q j target)
+goes_inside : (segment : List ℕ) (q : Proc) (j : ℕ) (target : Option ℕ) → ((n : ℕ) → target ≡ Some n → is_in q n ≡ true) → IsInside segment q (goes_on q j target)
 goes_inside segment q j target g =
     cond_both (is_in q j) (Ok (record { next = Some j; target = target; table = 0; count = 0 })) (Err Cut) (IsInside segment q) (λ e. made_inside segment q (Some j) target (some_inside q j e) g) (λ _. tt)
 
@@ -56,12 +57,12 @@ jump_inside segment q sb j =
     (λ _. cond_both ((eqb (by % 2) 0) && leb 10 by && leb (q.low + by) q.jtab) _ (Err JumpRange) (IsTarget q)
     (λ _. cond_both (leads_in segment q (q.jtab - by)) _ (Err JumpRange) (IsTarget q) (λ t. (and_parts _ _ t).1) (λ _. tt)) (λ _. tt))
 
-branch_inside : (segment : List ℕ) (q : Proc) (j : ℕ) (r : Result ℕ OpFault) → IsTarget q r → IsInside segment q (r >>= λ t. goes q j (Some t))
-branch_inside segment q j r h = step_has (λ t. is_in q t ≡ true) _ r (λ t. goes q j (Some t)) h (λ t e. goes_inside segment q j (Some t) (some_inside q t e))
+branch_inside : (segment : List ℕ) (q : Proc) (j : ℕ) (r : Result ℕ OpFault) → IsTarget q r → IsInside segment q (r >>= λ t. goes_on q j (Some t))
+branch_inside segment q j r h = step_has (λ t. is_in q t ≡ true) _ r (λ t. goes_on q j (Some t)) h (λ t e. goes_inside segment q j (Some t) (some_inside q t e))
 
-ends_inside : (segment : List ℕ) (q : Proc) (r : Result ℕ OpFault) → IsTarget q r → IsInside segment q (r >>= λ t. Ok (record { next = None; target = Some t; table = 0; count = 0 }))
+ends_inside : (segment : List ℕ) (q : Proc) (r : Result ℕ OpFault) → IsTarget q r → IsInside segment q (r >>= λ t. Ok (ends_at (Some t)))
 ends_inside segment q r h =
-    step_has (λ t. is_in q t ≡ true) _ r (λ t. Ok (record { next = None; target = Some t; table = 0; count = 0 })) h (λ t e. made_inside segment q None (Some t) (none_inside q) (some_inside q t e))
+    step_has (λ t. is_in q t ≡ true) _ r (λ t. Ok (ends_at (Some t))) h (λ t e. made_inside segment q None (Some t) (none_inside q) (some_inside q t e))
 
 -- ---- case jumps
 
@@ -82,30 +83,39 @@ entries_inside segment q table count e h k (inr (inl target)) = absurd cc
 entries_inside segment q table count e h k (inr (inr entry)) = rw entry.2 ((and_parts _ _ (each_entry segment q count table entry.0 e entry.1)).1)
 
 cases_inside : (segment : List ℕ) (q : Proc) (table count : ℕ) → is_in q (table - 2) ≡ true
-    → IsInside segment q (cond (entries_in segment q table count) (Ok (record { next = Some (table - 2); target = None; table = table; count = count })) (Err JumpRange))
+    → IsInside segment q (cases_to segment q table count)
 cases_inside segment q table count h = cond_both (entries_in segment q table count) _ (Err JumpRange) (IsInside segment q) (λ e. entries_inside segment q table count e h) (λ _. tt)
 
 -- the UJP of a case jump
-jump_of_cases : (segment : List ℕ) (q : Proc) (i : ℕ) (low high sb : ℤ) (table j : ℕ) → CaseJump (take (end_of q) segment) i low high sb table j → is_in q i ≡ true → is_in q (table - 2) ≡ true
+jump_of_cases : (segment : List ℕ) (q : Proc) (i : ℕ) (low high sb : ℤ) (table j : ℕ) → Cases (take (end_of q) segment) (i + 1 + (i + 1) % 2) low high sb table j → is_in q i ≡ true → is_in q (table - 2) ≡ true
 jump_of_cases segment q i low high sb table j h e =
     let at : ℕ = i + 1 + (i + 1) % 2 in
     let code : List ℕ = take (end_of q) segment in
-    let inside : at + 4 < length code = slice_get_within code (at + 4) 185 h.4.0 in
+    let inside : at + 4 < length code = slice_get_within code (at + 4) 185 h.3 in
     let from = leb-true q.low i ((and_parts _ _ e).0) in
-    let place : table - 2 ≡ at + 4 = omega (arith, h.4.1.3) in
+    let place : table - 2 ≡ at + 4 = omega (arith, h.4.3) in
     rw place (is_inside q (at + 4) (omega arith) (omega (arith, length-take (end_of q) segment)))
 
 -- ---- instructions
 
+-- the UJP of a case jump lies in the part
+abbrev HasJump : Proc → Flow → Type 0
+HasJump q (Switches low high table) = is_in q (table - 2) ≡ true
+HasJump q _ = Unit {0}
+
+flow_inside : (segment : List ℕ) (q : Proc) (flow : Flow) (j : ℕ) → HasJump q flow → IsInside segment q (flows_to segment q flow j)
+flow_inside segment q On j h = goes_inside segment q j None (none_inside q)
+flow_inside segment q (Jumps sb) j h = ends_inside segment q (jump_to segment q sb j) (jump_inside segment q sb j)
+flow_inside segment q (Branches sb) j h = branch_inside segment q j (jump_to segment q sb j) (jump_inside segment q sb j)
+flow_inside segment q (Switches low high table) j h = cases_inside segment q table (cases low high) h
+flow_inside segment q Ends j h = made_inside segment q None None (none_inside q) (none_inside q)
+
+has_jump : (segment : List ℕ) (q : Proc) (i : ℕ) (instr : Instr) (j : ℕ) → At (take (end_of q) segment) i instr j → is_in q i ≡ true → HasJump q (flow_of instr)
+has_jump segment q i (Xjp low high sb table) j h e = jump_of_cases segment q i low high sb table j (case_jump_at_is (take (end_of q) segment) i low high sb table j h) e
+has_jump segment q i _ j h e = tt
+
 onward_inside : (segment : List ℕ) (q : Proc) (i : ℕ) (instr : Instr) (j : ℕ) → At (take (end_of q) segment) i instr j → is_in q i ≡ true → IsInside segment q (onward segment q instr j)
-onward_inside segment q i (Fjp sb) j h e = branch_inside segment q j (jump_to segment q sb j) (jump_inside segment q sb j)
-onward_inside segment q i (Efj sb) j h e = branch_inside segment q j (jump_to segment q sb j) (jump_inside segment q sb j)
-onward_inside segment q i (Nfj sb) j h e = branch_inside segment q j (jump_to segment q sb j) (jump_inside segment q sb j)
-onward_inside segment q i (Ujp sb) j h e = ends_inside segment q (jump_to segment q sb j) (jump_inside segment q sb j)
-onward_inside segment q i (Xjp low high sb table) j h e = cases_inside segment q table (cases low high) (jump_of_cases segment q i low high sb table j h e)
-onward_inside segment q i (Rnp n) j h e = made_inside segment q None None (none_inside q) (none_inside q)
-onward_inside segment q i (Rbp n) j h e = made_inside segment q None None (none_inside q) (none_inside q)
-onward_inside segment q i _ j h e = goes_inside segment q j None (none_inside q)
+onward_inside segment q i instr j h e = flow_inside segment q (flow_of instr) j (has_jump segment q i instr j h e)
 
 -- where an offset without fault leads lies in its owner's part
 pub looked_inside : (p : Parts) (i : ℕ) (q : Proc) (found : Instr × ℕ) (leads : Onward) → IsLooked p i q found leads → (k : ℕ) → LeadsTo p.segment leads k → is_in q k ≡ true

@@ -8,6 +8,9 @@ pub mod Procedures
 pub mod Searching
 pub mod Standing
 pub mod Looking
+pub mod Rows
+pub mod Reading
+pub mod Operating
 pub mod Operands
 pub mod Leading
 pub mod Staying
@@ -15,4 +18,5 @@ pub mod Apart
 pub mod Allowed
 pub mod Targets
 pub mod Landing
+pub mod Ruling
 pub mod Cells

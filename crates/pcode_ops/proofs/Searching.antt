@@ -5,7 +5,7 @@ use Rattle.std.proofs.lemmas.Option.{slice_get_within, slice_get-get_or}
 use Rattle.pcode_ops.specs.declared.fault.OpFault.{OpFault}
 use Rattle.pcode_file.specs.declared.file.Proc.{Proc}
 use Rattle.pcode_file.specs.Parts.{Parts}
-use Rattle.pcode_ops.specs.declared.look.Onward.{Onward}
+use Rattle.pcode_ops.specs.declared.loading.Onward.{Onward}
 use Rattle.pcode_ops.specs.Loading.{look, LeadsTo}
 use Rattle.pcode_ops.specs.Reach.{Reach, entered, exited, followed}
 use Rattle.pcode_ops.specs.Walks.{Marks, IsMarked, IsListing, Adds, IsStarted, IsSearch, IsExact}

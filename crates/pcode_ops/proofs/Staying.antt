@@ -4,7 +4,7 @@ use Rattle.std.proofs.lemmas.Option.{slice_get_within, get_or_from_slice_get}
 use Rattle.pcode_file.specs.declared.file.Proc.{Proc}
 use Rattle.pcode_file.specs.Parts.{Parts, end_of}
 use Rattle.pcode_ops.specs.declared.instr.Instr.{Instr}
-use Rattle.pcode_ops.specs.declared.look.Onward.{Onward}
+use Rattle.pcode_ops.specs.declared.loading.Onward.{Onward}
 use Rattle.pcode_ops.specs.Reach.{Reach, IsLoadable}
 use Rattle.pcode_ops.specs.Staying.{StaysInPart}
 use Rattle.pcode_ops.proofs.Leading.{looked_inside}

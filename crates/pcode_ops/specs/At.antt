@@ -1,10 +1,11 @@
--- Instructions in the bytes of a code, as a relation: one case for each line of the table.
-use Rattle.std.specs.Prelude.{◌≡◌, ℕ, ◌+◌, ◌-◌, ◌*◌, ◌%◌, ◌<◌, ◌≤◌, ◌⊎◌, List, length, Some, slice_get, ℤ, pos, ◌+ℤ◌, ◌-ℤ◌, ◌≤ℤ◌, int_lt, unsigned_abs, if◌then◌else◌}
+-- Instructions in the bytes of a code, as a relation: one case for each form.
+use Rattle.std.specs.Prelude.{◌≡◌, ℕ, ◌+◌, ◌*◌, ◌%◌, ◌<◌, ◌≤◌, ◌⊎◌, List, length, Some, slice_get, ℤ, pos, ◌+ℤ◌, ◌-ℤ◌, ◌≤ℤ◌, int_lt, unsigned_abs, if◌then◌else◌}
 use Rattle.std.specs.Int.{w8, w16, cast_signed}
 use Rattle.pcode_ops.specs.declared.instr.Instr.{Instr}
-use Rattle.pcode_ops.specs.declared.instr.Instr.TheVariants.{Sldc, Ldcn, Ldci, Sldl, Ldl, Stl, Lla, Sldo, Ldo, Sro, Lao, Lod, Str, Lda, Sto, Sind, Ind, Inc, Ixa, Mov, Ldm, Stm, Ldb, Stb, Adi, Sbi, Mpi, Dvi, Modi, Abi, Ngi, Sqi, Chk, Land, Lor, Lnot, Equi, Neqi, Leqi, Lesi, Geqi, Grti, Equ, Neq, Leq, Les, Geq, Grt, Ujp, Fjp, Efj, Nfj, Xjp, Clp, Cgp, Cip, Csp, Rnp, Rbp, Nop}
+use Rattle.pcode_ops.specs.declared.instr.Instr.TheVariants.{Ixp, Xjp, Csp}
 use Rattle.pcode_ops.specs.declared.instr.StandardProcedure as standard
 use Rattle.pcode_ops.specs.declared.instr.StandardProcedure.TheVariants.{IoCheck, UnitRead, UnitWrite, IoResult, Halt}
+use Rattle.pcode_ops.specs.Opcodes.{Form, Alone, Numbered, WithByte, WithBig, WithWord, WithLevels, WithSigned, Typed, Packed, Standard, CaseJump, IsRow}
 
 -- ---- operands, from offset i up to j
 
@@ -22,7 +23,9 @@ SignedByte code i sb j = (b : ℕ) × HasByte code i b × (sb ≡ cast_signed w8
 
 -- W: two bytes, the low one first
 abbrev pub Word : List ℕ → ℕ → ℕ → ℕ → Type 0
-Word code i n j = (low : ℕ) × (high : ℕ) × HasByte code i low × HasByte code (i + 1) high × (n ≡ low + 256 * high) × (j ≡ i + 2)
+Word code i n j =
+    (low : ℕ) × (high : ℕ) × HasByte code i low × HasByte code (i + 1) high
+    × (n ≡ low + 256 * high) × (j ≡ i + 2)
 
 -- a word, signed
 abbrev pub SignedWord : List ℕ → ℕ → ℤ → ℕ → Type 0
@@ -32,7 +35,8 @@ SignedWord code i w j = (n : ℕ) × Word code i n j × (w ≡ cast_signed w16 n
 abbrev pub Big : List ℕ → ℕ → ℕ → ℕ → Type 0
 Big code i n j =
     (HasByte code i n × (n < 128) × (j ≡ i + 1))
-    ⊎ ((high : ℕ) × (low : ℕ) × HasByte code i (high + 128) × HasByte code (i + 1) low × (n ≡ high * 256 + low) × (j ≡ i + 2))
+    ⊎ ((high : ℕ) × (low : ℕ) × HasByte code i (high + 128) × HasByte code (i + 1) low
+    × (n ≡ high * 256 + low) × (j ≡ i + 2))
 
 -- the number of a standard procedure
 abbrev pub number_of : standard.StandardProcedure → ℕ
@@ -42,99 +46,58 @@ number_of UnitWrite = 6
 number_of IoResult = 34
 number_of Halt = 39
 
--- ---- forms of instructions: the opcode at offset i, and what stands behind it, up to j
+-- elements of this width fit a word, at least one of at least one bit
+abbrev pub FitsWord : ℕ → ℕ → Type 0
+FitsWord elements width = (1 ≤ elements) × (1 ≤ width) × (elements * width ≤ 16)
 
--- the opcode alone
-abbrev pub Plain : List ℕ → ℕ → ℕ → ℕ → Type 0
-Plain code i opcode j = HasByte code i opcode × (j ≡ i + 1)
-
--- one of so many opcodes from one on, which have the numbers from `first` on
-abbrev pub Short : List ℕ → ℕ → ℕ → ℕ → ℕ → ℕ → ℕ → Type 0
-Short code i opcode first count n j = (first ≤ n) × (n < first + count) × Plain code i (opcode + n - first) j
-
-abbrev pub WithByte : List ℕ → ℕ → ℕ → ℕ → ℕ → Type 0
-WithByte code i opcode n j = HasByte code i opcode × Byte code (i + 1) n j
-
-abbrev pub WithBig : List ℕ → ℕ → ℕ → ℕ → ℕ → Type 0
-WithBig code i opcode n j = HasByte code i opcode × Big code (i + 1) n j
-
--- DB,B: levels, then an offset
-abbrev pub WithLevels : List ℕ → ℕ → ℕ → ℕ → ℕ → ℕ → Type 0
-WithLevels code i opcode levels n j = HasByte code i opcode × HasByte code (i + 1) levels × Big code (i + 2) n j
-
-abbrev pub WithSigned : List ℕ → ℕ → ℕ → ℤ → ℕ → Type 0
-WithSigned code i opcode sb j = HasByte code i opcode × SignedByte code (i + 1) sb j
+-- the elements of a packed word fit it
+abbrev pub HasElements : Instr → Type 0
+HasElements (Ixp elements width) = FitsWord elements width
+HasElements _ = Unit {0}
 
 -- how many entries a case table from W1 to W2 has
 abbrev pub cases : ℤ → ℤ → ℕ
 cases low high = if int_lt high low then 0 else unsigned_abs (high -ℤ low +ℤ pos 1)
 
--- W1 and W2 at the next even offset, a UJP, and the table behind it
-abbrev pub CaseJump : List ℕ → ℕ → ℤ → ℤ → ℤ → ℕ → ℕ → Type 0
-CaseJump code i low high sb table j =
-    let at = i + 1 + (i + 1) % 2 in
-    HasByte code i 172 × SignedWord code at low (at + 2) × SignedWord code (at + 2) high (at + 4) × (low ≤ℤ high)
-    × WithSigned code (at + 4) 185 sb table × (j ≡ table + 2 * cases low high) × (j ≤ length code)
+-- W1 and W2, then a UJP, and the table after it
+abbrev pub Cases : List ℕ → ℕ → ℤ → ℤ → ℤ → ℕ → ℕ → Type 0
+Cases code i low high sb table j =
+    SignedWord code i low (i + 2) × SignedWord code (i + 2) high (i + 4) × (low ≤ℤ high)
+    × HasByte code (i + 4) 185 × SignedByte code (i + 4 + 1) sb table
+    × (j ≡ table + 2 * cases low high) × (j ≤ length code)
 
--- the instruction stands in the code's bytes from offset i up to j
-abbrev pub At : List ℕ → ℕ → Instr → ℕ → Type 0
-At code i (Sldc n) j = Short code i 0 0 128 n j
-At code i Ldcn j = Plain code i 159 j
-At code i (Ldci n) j = HasByte code i 199 × Word code (i + 1) n j
-At code i (Sldl n) j = Short code i 216 1 16 n j
-At code i (Ldl n) j = WithBig code i 202 n j
-At code i (Stl n) j = WithBig code i 204 n j
-At code i (Lla n) j = WithBig code i 198 n j
-At code i (Sldo n) j = Short code i 232 1 16 n j
-At code i (Ldo n) j = WithBig code i 169 n j
-At code i (Sro n) j = WithBig code i 171 n j
-At code i (Lao n) j = WithBig code i 165 n j
-At code i (Lod levels n) j = WithLevels code i 182 levels n j
-At code i (Str levels n) j = WithLevels code i 184 levels n j
-At code i (Lda levels n) j = WithLevels code i 178 levels n j
-At code i Sto j = Plain code i 154 j
-At code i (Sind n) j = Short code i 248 0 8 n j
-At code i (Ind n) j = WithBig code i 163 n j
-At code i (Inc n) j = WithBig code i 162 n j
-At code i (Ixa n) j = WithBig code i 164 n j
-At code i (Mov n) j = WithBig code i 168 n j
-At code i (Ldm n) j = WithByte code i 188 n j
-At code i (Stm n) j = WithByte code i 189 n j
-At code i Ldb j = Plain code i 190 j
-At code i Stb j = Plain code i 191 j
-At code i Adi j = Plain code i 130 j
-At code i Sbi j = Plain code i 149 j
-At code i Mpi j = Plain code i 143 j
-At code i Dvi j = Plain code i 134 j
-At code i Modi j = Plain code i 142 j
-At code i Abi j = Plain code i 128 j
-At code i Ngi j = Plain code i 145 j
-At code i Sqi j = Plain code i 152 j
-At code i Chk j = Plain code i 136 j
-At code i Land j = Plain code i 132 j
-At code i Lor j = Plain code i 141 j
-At code i Lnot j = Plain code i 147 j
-At code i Equi j = Plain code i 195 j
-At code i Neqi j = Plain code i 203 j
-At code i Leqi j = Plain code i 200 j
-At code i Lesi j = Plain code i 201 j
-At code i Geqi j = Plain code i 196 j
-At code i Grti j = Plain code i 197 j
-At code i Equ j = WithByte code i 175 6 j
-At code i Neq j = WithByte code i 183 6 j
-At code i Leq j = WithByte code i 180 6 j
-At code i Les j = WithByte code i 181 6 j
-At code i Geq j = WithByte code i 176 6 j
-At code i Grt j = WithByte code i 177 6 j
-At code i (Ujp sb) j = WithSigned code i 185 sb j
-At code i (Fjp sb) j = WithSigned code i 161 sb j
-At code i (Efj sb) j = WithSigned code i 211 sb j
-At code i (Nfj sb) j = WithSigned code i 212 sb j
-At code i (Xjp low high sb table) j = CaseJump code i low high sb table j
-At code i (Clp n) j = WithByte code i 206 n j
-At code i (Cgp n) j = WithByte code i 207 n j
-At code i (Cip n) j = WithByte code i 174 n j
-At code i (Csp p) j = WithByte code i 158 (number_of p) j
-At code i (Rnp n) j = WithByte code i 173 n j
-At code i (Rbp n) j = WithByte code i 193 n j
-At code i Nop j = Plain code i 215 j
+-- ---- instructions: the opcode at offset i, and what follows it in its form, up to j
+
+abbrev pub Stands : List ℕ → ℕ → ℕ → Form → Instr → ℕ → Type 0
+Stands code i opcode (Alone made) instr j = HasByte code i opcode × (instr ≡ made) × (j ≡ i + 1)
+Stands code i opcode (Numbered count number make) instr j =
+    (n : ℕ) × (n < count) × HasByte code i (opcode + n) × (instr ≡ make (n + number)) × (j ≡ i + 1)
+Stands code i opcode (WithByte make) instr j =
+    (n : ℕ) × HasByte code i opcode × Byte code (i + 1) n j × (instr ≡ make n)
+Stands code i opcode (WithBig make) instr j =
+    (n : ℕ) × HasByte code i opcode × Big code (i + 1) n j × (instr ≡ make n)
+Stands code i opcode (WithWord make) instr j =
+    (n : ℕ) × HasByte code i opcode × Word code (i + 1) n j × (instr ≡ make n)
+Stands code i opcode (WithLevels make) instr j =
+    (levels : ℕ) × (n : ℕ) × HasByte code i opcode × HasByte code (i + 1) levels
+    × Big code (i + 2) n j × (instr ≡ make levels n)
+Stands code i opcode (WithSigned make) instr j =
+    (sb : ℤ) × HasByte code i opcode × SignedByte code (i + 1) sb j × (instr ≡ make sb)
+Stands code i opcode (Typed made) instr j =
+    HasByte code i opcode × Byte code (i + 1) 6 j × (instr ≡ made)
+Stands code i opcode Packed instr j =
+    (elements : ℕ) × (width : ℕ) × HasByte code i opcode × HasByte code (i + 1) elements
+    × Byte code (i + 2) width j × FitsWord elements width × (instr ≡ Ixp elements width)
+Stands code i opcode Standard instr j =
+    (p : standard.StandardProcedure) × HasByte code i opcode × Byte code (i + 1) (number_of p) j
+    × (instr ≡ Csp p)
+Stands code i opcode CaseJump instr j =
+    (low : ℤ) × (high : ℤ) × (sb : ℤ) × (table : ℕ) × HasByte code i opcode
+    × Cases code (i + 1 + (i + 1) % 2) low high sb table j × (instr ≡ Xjp low high sb table)
+
+-- the instruction is in the code's bytes from offset i up to j
+pub record At (code : List ℕ) (i : ℕ) (instr : Instr) (j : ℕ) : Type 0 where
+  pub opcode : ℕ
+  pub form : Form
+  pub row : IsRow opcode form
+  pub stands : Stands code i opcode form instr j

@@ -1,9 +1,10 @@
+pub mod Opcodes
 pub mod At
 pub mod Decoding
 pub mod Decoded
 pub mod Loading
+pub mod Rules
 pub mod Reach
-pub mod Calls
 pub mod Walks
 pub mod Staying
 pub mod Standing

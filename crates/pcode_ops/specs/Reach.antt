@@ -5,7 +5,7 @@ use Rattle.pcode_file.specs.Parts.{Parts}
 use Rattle.pcode_ops.specs.declared.fault.OpFault.{OpFault}
 use Rattle.pcode_ops.specs.declared.fault.OpFault.TheVariants.{Memory}
 use Rattle.pcode_ops.specs.declared.fault.LoadFault.{LoadFault}
-use Rattle.pcode_ops.specs.declared.look.Onward.{Onward}
+use Rattle.pcode_ops.specs.declared.loading.Onward.{Onward}
 use Rattle.pcode_ops.specs.Loading.{look, LeadsTo, IsFaulty, IsFine}
 
 -- the least set with each ENTER and EXIT, and with where a member without fault leads

@@ -4,7 +4,7 @@ use Rattle.pcode_file.specs.declared.file.Proc.{Proc}
 use Rattle.pcode_file.specs.InFile.{AreProcs}
 use Rattle.pcode_file.specs.Parts.{Parts}
 use Rattle.pcode_ops.specs.declared.fault.LoadFault.{LoadFault}
-use Rattle.pcode_ops.specs.declared.look.Onward.{Onward}
+use Rattle.pcode_ops.specs.declared.loading.Onward.{Onward}
 use Rattle.pcode_ops.specs.declared.instr.Instr.{Instr}
 use Rattle.pcode_ops.specs.declared.instr.Instr.TheVariants.{Xjp}
 use Rattle.pcode_ops.specs.At.{cases}

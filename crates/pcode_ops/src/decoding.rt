@@ -4,17 +4,13 @@ ghost use Rattle.pcode_ops.specs.declared.instr.Instr.{Instr};
 ghost use Rattle.pcode_file.specs.Parts.{word};
 ghost use Rattle.pcode_ops.specs.At.{At, cases};
 ghost use Rattle.pcode_ops.specs.Walks.{IsTableIn};
-ghost use Rattle.pcode_ops.specs.Decoding.{byte_at, word_at, big_at, standard_of, signed_word, case_jump_at, special_at, jump_or_typed_at, with_operands_at, instr_of, instr_at};
+ghost use Rattle.pcode_ops.specs.Decoding.{byte_at, word_at, big_at, or_zero, first_or_zero, operands_at, standard_of, packed_of, signed_word, case_jump_at, finished_at, instr_of, instr_at};
 
 use crate::fault::OpFault;
 use crate::instr::{Instr, StandardProcedure};
-use crate::opcodes::{
-    is_jump, jump, plain, refusal, takes_big, takes_byte, takes_levels, typed, with_big, with_byte,
-    with_levels,
-};
+use crate::opcodes::{Operands, Row, make_row, refusal};
 
 /// The byte at an offset.
-#[inline(always)]
 fn byte(code: &[u8], at: usize) -> Result<u8, OpFault>
     ensures value { result ≡ byte_at code.now at }
     ensures within { IfOk result (λ _. at < length code.now) }
@@ -34,7 +30,7 @@ pub(crate) fn get_word(code: &[u8], at: usize) -> u16
 }
 
 /// The operand of two bytes at an offset, the low one first.
-fn word_operand(code: &[u8], at: usize) -> Result<u16, OpFault>
+fn word_at(code: &[u8], at: usize) -> Result<u16, OpFault>
     ensures value { result ≡ word_at code.now at }
     ensures within { IfOk result (λ _. at + 1 < length code.now) }
 {
@@ -44,7 +40,6 @@ fn word_operand(code: &[u8], at: usize) -> Result<u16, OpFault>
 }
 
 /// The operand of one or two bytes at an offset, and the offset after it.
-#[inline(always)]
 fn big(code: &[u8], at: usize) -> Result<(u16, usize), OpFault>
     ensures value { result ≡ big_at code.now at }
     ensures within { IfOk result (λ r. r.1 ≤ length code.now) }
@@ -73,8 +68,20 @@ fn standard(next: usize, number: u8) -> Result<(Instr, usize), OpFault>
     }
 }
 
+/// IXP with this number of elements of a word and this width of each in bits, if they fit.
+fn packed(next: usize, elements: u8, width: u8) -> Result<(Instr, usize), OpFault>
+    ensures value { result ≡ packed_of next elements width }
+    ensures within { IfOk result (λ r. r.1 ≡ next) }
+{
+    if elements >= 1 && width >= 1 && u16::from(elements) * u16::from(width) <= 16 {
+        Ok((Instr::Ixp(elements, width), next))
+    } else {
+        Err(OpFault::Packing)
+    }
+}
+
 /// How many entries a case table from W1 to W2 has; none where W1 is above W2.
-pub(crate) fn count_cases(low: i16, high: i16) -> u32
+pub(crate) fn cases(low: i16, high: i16) -> u32
     ensures value { result ≡ cases low high }
     ensures small { result ≤ 65536 }
 {
@@ -85,25 +92,24 @@ pub(crate) fn count_cases(low: i16, high: i16) -> u32
 }
 
 /// The signed word at an offset that is there.
-fn get_signed(code: &[u8], at: usize) -> i16
+fn signed_word(code: &[u8], at: usize) -> i16
     requires { at + 1 < length code.now }
     ensures { result ≡ signed_word code.now at }
 {
     get_word(code, at).cast_signed()
 }
 
-/// A case jump whose W1 stands at an even offset.
+/// A case jump whose W1 is at an even offset.
 fn case_jump(code: &[u8], at: usize) -> Result<(Instr, usize), OpFault>
     ensures value { result ≡ case_jump_at code.now at }
     ensures within { IfOk result (λ r. r.1 ≤ length code.now) }
-    ensures table { IfOk result (λ r. IsTableIn (length code.now) r.0) }
 {
     if code.len() < 6 || code.len() - 6 < at {
         return Err(OpFault::Cut);
     }
-    let low = get_signed(code, at);
-    let high = get_signed(code, at + 2);
-    let count = count_cases(low, high) as usize;
+    let low = signed_word(code, at);
+    let high = signed_word(code, at + 2);
+    let count = cases(low, high) as usize;
     if count == 0 {
         return Err(OpFault::CaseTable);
     }
@@ -127,107 +133,79 @@ fn case_jump(code: &[u8], at: usize) -> Result<(Instr, usize), OpFault>
     ))
 }
 
-/// The instruction of an opcode with a form of its own, or why the opcode has none.
-fn special(code: &[u8], at: usize, opcode: u8) -> Result<(Instr, usize), OpFault>
+/// The operands at an offset, each as far as it is there.
+fn operands(code: &[u8], at: usize) -> Operands
     requires { at < length code.now }
-    ensures value { result ≡ special_at code.now at opcode }
-    ensures within { IfOk result (λ r. r.1 ≤ length code.now) }
-    ensures table { IfOk result (λ r. IsTableIn (length code.now) r.0) }
+    ensures { result ≡ operands_at code.now at }
 {
-    match opcode {
-        199 => {
-            let word = word_operand(code, at + 1)?;
-            Ok((Instr::Ldci(word), at + 3))
-        }
-        158 => {
-            let number = byte(code, at + 1)?;
-            standard(at + 2, number)
-        }
-        172 => case_jump(code, at + 1 + (at + 1) % 2),
-        _ => Err(refusal(opcode)),
+    Operands {
+        byte: byte(code, at + 1).unwrap_or(0),
+        big: big(code, at + 1).map_or(0, |found| found.0),
+        word: word_at(code, at + 1).unwrap_or(0),
+        offset: big(code, at + 2).map_or(0, |found| found.0),
     }
 }
 
-/// A jump, a comparison with a type byte, or one of the rest.
-#[inline(always)]
-fn jump_or_typed(code: &[u8], at: usize, opcode: u8) -> Result<(Instr, usize), OpFault>
+/// The instruction of a row whose opcode is at an offset, and the offset after it, if its operands
+/// are there and are what they have to be.
+fn finish(code: &[u8], at: usize, opcode: u8, row: Row) -> Result<(Instr, usize), OpFault>
     requires { at < length code.now }
-    ensures value { result ≡ jump_or_typed_at code.now at opcode }
+    ensures value { result ≡ finished_at code.now at opcode row }
     ensures within { IfOk result (λ r. r.1 ≤ length code.now) }
-    ensures table { IfOk result (λ r. IsTableIn (length code.now) r.0) }
 {
-    if is_jump(opcode) {
-        let sb = byte(code, at + 1)?;
-        let Some(instr) = jump(opcode, sb) else {
-            unreachable!()
-        };
-        return Ok((instr, at + 2));
-    }
-    if let Some(instr) = typed(opcode) {
-        let kind = byte(code, at + 1)?;
-        if kind != 6 {
-            return Err(OpFault::Unsupported(opcode));
+    let first = at + 1;
+    match row {
+        Row::Alone(instr) => Ok((instr, first)),
+        Row::Byte(instr) => {
+            byte(code, first)?;
+            Ok((instr, at + 2))
         }
-        return Ok((instr, at + 2));
+        Row::Big(instr) => {
+            let (_, next) = big(code, first)?;
+            Ok((instr, next))
+        }
+        Row::Word(instr) => {
+            word_at(code, first)?;
+            Ok((instr, at + 3))
+        }
+        Row::Levels(instr) => {
+            byte(code, first)?;
+            let (_, next) = big(code, at + 2)?;
+            Ok((instr, next))
+        }
+        Row::Typed(instr) => {
+            if byte(code, first)? != 6 {
+                return Err(OpFault::Unsupported(opcode));
+            }
+            Ok((instr, at + 2))
+        }
+        Row::Packed => {
+            let elements = byte(code, first)?;
+            packed(at + 3, elements, byte(code, at + 2)?)
+        }
+        Row::Standard => standard(at + 2, byte(code, first)?),
+        Row::CaseJump => case_jump(code, first + first % 2),
     }
-    special(code, at, opcode)
 }
 
-/// An instruction with an operand of one byte, of one or two bytes, of levels and an offset, or one of
-/// the rest.
-#[inline(always)]
-fn with_operands(code: &[u8], at: usize, opcode: u8) -> Result<(Instr, usize), OpFault>
-    requires { at < length code.now }
-    ensures value { result ≡ with_operands_at code.now at opcode }
-    ensures within { IfOk result (λ r. r.1 ≤ length code.now) }
-    ensures table { IfOk result (λ r. IsTableIn (length code.now) r.0) }
-{
-    if takes_byte(opcode) {
-        let n = byte(code, at + 1)?;
-        let Some(instr) = with_byte(opcode, n) else {
-            unreachable!()
-        };
-        return Ok((instr, at + 2));
-    }
-    if takes_big(opcode) {
-        let (n, next) = big(code, at + 1)?;
-        let Some(instr) = with_big(opcode, n) else {
-            unreachable!()
-        };
-        return Ok((instr, next));
-    }
-    if takes_levels(opcode) {
-        let levels = byte(code, at + 1)?;
-        let (n, next) = big(code, at + 2)?;
-        let Some(instr) = with_levels(opcode, levels, n) else {
-            unreachable!()
-        };
-        return Ok((instr, next));
-    }
-    jump_or_typed(code, at, opcode)
-}
-
-/// The instruction of an opcode, which stands at an offset, and the offset after it.
-#[inline(always)]
+/// The instruction of an opcode, which is at an offset, and the offset after it.
 fn instruction(code: &[u8], at: usize, opcode: u8) -> Result<(Instr, usize), OpFault>
     requires { at < length code.now }
     ensures value { result ≡ instr_of code.now at opcode }
     ensures within { IfOk result (λ r. r.1 ≤ length code.now) }
-    ensures table { IfOk result (λ r. IsTableIn (length code.now) r.0) }
 {
-    if let Some(instr) = plain(opcode) {
-        return Ok((instr, at + 1));
+    match make_row(opcode, operands(code, at)) {
+        Some(row) => finish(code, at, opcode, row),
+        None => Err(refusal(opcode)),
     }
-    with_operands(code, at, opcode)
 }
 
 /// The instruction at an offset of a code, and the offset after it. It sees the bytes up to the
 /// code's end.
-#[inline(always)]
 pub fn decode(code: &[u8], at: usize) -> Result<(Instr, usize), OpFault>
-    // What is answered stands there.
+    // What is answered is there.
     ensures found { IfOk result (λ r. At code.now at r.0 r.1) }
-    // What stands there is answered.
+    // What is there is answered.
     ensures only { (instr : Instr) (j : ℕ) → At code.now at instr j → result ≡ Ok (instr, j) }
     // Which check is the first that fails.
     ensures exact { result ≡ instr_at code.now at }

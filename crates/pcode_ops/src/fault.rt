@@ -25,7 +25,7 @@ pub enum OpFault {
     /// An opcode that is not supported.
     #[error("O6 opcode {0}")]
     Unsupported(u8),
-    /// A case jump whose bounds are the wrong way round, or that has no jump behind them.
+    /// A case jump whose bounds are the wrong way round, or that has no jump after them.
     #[error("O7")]
     CaseTable,
     /// A jump out of the procedure's part.
@@ -52,10 +52,14 @@ pub enum OpFault {
     /// There is no memory. It is taken before anything is checked.
     #[error("O15")]
     Memory,
+    /// Packed elements that do not fit a word: their number or their width is 0, or together they
+    /// have more than 16 bits. It is checked right after the type byte.
+    #[error("O16")]
+    Packing,
 }
 
-/// A faulty offset, in bytes from the segment's start, and the first of its faults; with `Memory` the
-/// offset is 0.
+/// A faulty offset, in bytes from the segment's start, and the first of its faults; with `Memory`
+/// the offset is 0.
 #[derive(Clone, Copy, Debug, PartialEq, Eq)]
 pub struct LoadFault {
     /// The faulty offset.

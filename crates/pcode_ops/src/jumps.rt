@@ -7,7 +7,7 @@ ghost use Rattle.pcode_ops.specs.Jumps.{pointed_by, case_of, IsCaseTable};
 use crate::decoding::get_word;
 
 /// What the self-relative pointer at a place points to.
-pub(crate) fn follow(segment: &[u8], place: u32) -> u32
+pub(crate) fn pointed_by(segment: &[u8], place: u32) -> u32
     requires inside { place + 1 < length segment.now }
     requires above { word segment.now place ≤ place }
     ensures { result ≡ pointed_by segment.now place }
@@ -16,7 +16,7 @@ pub(crate) fn follow(segment: &[u8], place: u32) -> u32
 }
 
 /// Where a case jump leads on a word.
-pub(crate) fn follow_case(segment: &[u8], low: i16, high: i16, table: usize, word: u16) -> u32
+pub(crate) fn case_of(segment: &[u8], low: i16, high: i16, table: usize, word: u16) -> u32
     requires size { length segment.now < 2 ^ 16 }
     requires table { (q : Proc) × IsCaseTable segment.now q low high table }
     ensures { result ≡ case_of segment.now low high table word }
@@ -30,5 +30,5 @@ pub(crate) fn follow_case(segment: &[u8], low: i16, high: i16, table: usize, wor
         return table - 2;
     }
     let entry = (i32::from(index) - i32::from(low)).unsigned_abs();
-    follow(segment, table + 2 * entry)
+    pointed_by(segment, table + 2 * entry)
 }

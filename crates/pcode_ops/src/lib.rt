@@ -9,7 +9,7 @@ mod instr;
 mod jumps;
 pub mod laws;
 mod listing;
-mod look;
+mod loading;
 mod opcodes;
 mod program;
 mod text;

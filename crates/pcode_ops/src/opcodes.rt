@@ -1,213 +1,201 @@
-//! What an opcode stands for: a table for each form of instruction.
-ghost use Rattle.std.specs.Prelude.{◌≡◌, is_some};
-ghost use Rattle.std.specs.Int.{w8, cast_signed};
-ghost use Rattle.std.specs.Option.{option_map};
-ghost use Rattle.pcode_ops.specs.Decoding.{in_table, short_of, pointer_opcodes, arithmetic_opcodes, comparison_opcodes, plain_of, typed_opcodes, byte_opcodes, big_opcodes, levels_opcodes, jump_opcodes, refusal_of};
+//! The table of instructions: for each opcode its row, which says what operands follow and which
+//! instruction they make.
+ghost use Rattle.std.specs.Prelude.{◌≡◌};
+ghost use Rattle.pcode_ops.specs.Opcodes.{row_of, constant_rows, frame_rows, link_rows, pointer_rows, arithmetic_rows, comparison_rows, flow_rows, opcodes, refusal_of};
+ghost use Rattle.pcode_ops.specs.Decoding.{made_by};
 
 use crate::fault::OpFault;
 use crate::instr::Instr;
 
-/// An instruction that has its number in its opcode.
-#[inline(always)]
-fn short(opcode: u8) -> Option<Instr>
-    ensures { result ≡ short_of opcode }
+/// What follows an opcode, as each row reads it. What the code does not have is 0 here, and a fault
+/// once the row asks for it.
+#[derive(Clone, Copy, Debug, PartialEq, Eq)]
+pub(crate) struct Operands {
+    /// UB, DB or SB.
+    pub byte: u8,
+    /// B.
+    pub big: u16,
+    /// W.
+    pub word: u16,
+    /// B after a DB.
+    pub offset: u16,
+}
+
+impl Operands {
+    ghost use Rattle.std.specs.Int.{w8, cast_signed};
+
+    /// The byte as SB.
+    #[inline(always)]
+    fn signed(self) -> i8
+        ensures { result ≡ cast_signed w8 self.byte }
+    {
+        self.byte.cast_signed()
+    }
+}
+
+/// The form of an opcode, with the instruction that its operands make.
+#[derive(Clone, Copy, Debug, PartialEq, Eq)]
+pub(crate) enum Row {
+    /// The opcode alone.
+    Alone(Instr),
+    /// UB, DB or SB.
+    Byte(Instr),
+    /// B.
+    Big(Instr),
+    /// W.
+    Word(Instr),
+    /// DB,B.
+    Levels(Instr),
+    /// A type byte, which has to be 6.
+    Typed(Instr),
+    /// UB,UB: the elements of a word and their width, which have to fit.
+    Packed,
+    /// UB: the number of a standard procedure.
+    Standard,
+    /// W1, W2, a UJP and a table.
+    CaseJump,
+}
+
+/// Constants.
+fn constant(opcode: u8, o: Operands) -> Option<Row>
+    ensures { result ≡ made_by o opcode (row_of opcode constant_rows) }
 {
     match opcode {
-        0..=127 => Some(Instr::Sldc(opcode)),
-        216..=231 => Some(Instr::Sldl(opcode - 215)),
-        232..=247 => Some(Instr::Sldo(opcode - 231)),
-        248..=255 => Some(Instr::Sind(opcode - 248)),
+        0..=127 => Some(Row::Alone(Instr::Sldc(opcode))),
+        159 => Some(Row::Alone(Instr::Ldcn)),
+        199 => Some(Row::Word(Instr::Ldci(o.word))),
         _ => None,
     }
 }
 
-/// An instruction on pointers, NIL among them, or none at all.
-#[inline(always)]
-fn pointer(opcode: u8) -> Option<Instr>
-    ensures { result ≡ in_table opcode pointer_opcodes }
+/// Words of the current frame and of the main frame.
+fn frame(opcode: u8, o: Operands) -> Option<Row>
+    ensures { result ≡ made_by o opcode (row_of opcode frame_rows) }
 {
     match opcode {
-        159 => Some(Instr::Ldcn),
-        154 => Some(Instr::Sto),
-        190 => Some(Instr::Ldb),
-        191 => Some(Instr::Stb),
-        215 => Some(Instr::Nop),
+        216..=231 => Some(Row::Alone(Instr::Sldl(opcode - 216 + 1))),
+        202 => Some(Row::Big(Instr::Ldl(o.big))),
+        204 => Some(Row::Big(Instr::Stl(o.big))),
+        198 => Some(Row::Big(Instr::Lla(o.big))),
+        232..=247 => Some(Row::Alone(Instr::Sldo(opcode - 232 + 1))),
+        169 => Some(Row::Big(Instr::Ldo(o.big))),
+        171 => Some(Row::Big(Instr::Sro(o.big))),
+        165 => Some(Row::Big(Instr::Lao(o.big))),
         _ => None,
     }
 }
 
-/// An instruction of arithmetic or logic.
-#[inline(always)]
-fn arithmetic(opcode: u8) -> Option<Instr>
-    ensures { result ≡ in_table opcode arithmetic_opcodes }
+/// Words of a frame some static links up.
+fn link(opcode: u8, o: Operands) -> Option<Row>
+    ensures { result ≡ made_by o opcode (row_of opcode link_rows) }
 {
     match opcode {
-        130 => Some(Instr::Adi),
-        149 => Some(Instr::Sbi),
-        143 => Some(Instr::Mpi),
-        134 => Some(Instr::Dvi),
-        142 => Some(Instr::Modi),
-        128 => Some(Instr::Abi),
-        145 => Some(Instr::Ngi),
-        152 => Some(Instr::Sqi),
-        136 => Some(Instr::Chk),
-        132 => Some(Instr::Land),
-        141 => Some(Instr::Lor),
-        147 => Some(Instr::Lnot),
+        182 => Some(Row::Levels(Instr::Lod(o.byte, o.offset))),
+        184 => Some(Row::Levels(Instr::Str(o.byte, o.offset))),
+        178 => Some(Row::Levels(Instr::Lda(o.byte, o.offset))),
         _ => None,
     }
 }
 
-/// A comparison of integers.
-#[inline(always)]
-fn comparison(opcode: u8) -> Option<Instr>
-    ensures { result ≡ in_table opcode comparison_opcodes }
+/// Words, bytes and packed elements at pointers.
+fn pointer(opcode: u8, o: Operands) -> Option<Row>
+    ensures { result ≡ made_by o opcode (row_of opcode pointer_rows) }
 {
     match opcode {
-        195 => Some(Instr::Equi),
-        203 => Some(Instr::Neqi),
-        200 => Some(Instr::Leqi),
-        201 => Some(Instr::Lesi),
-        196 => Some(Instr::Geqi),
-        197 => Some(Instr::Grti),
+        154 => Some(Row::Alone(Instr::Sto)),
+        248..=255 => Some(Row::Alone(Instr::Sind(opcode - 248))),
+        163 => Some(Row::Big(Instr::Ind(o.big))),
+        162 => Some(Row::Big(Instr::Inc(o.big))),
+        164 => Some(Row::Big(Instr::Ixa(o.big))),
+        168 => Some(Row::Big(Instr::Mov(o.big))),
+        188 => Some(Row::Byte(Instr::Ldm(o.byte))),
+        189 => Some(Row::Byte(Instr::Stm(o.byte))),
+        190 => Some(Row::Alone(Instr::Ldb)),
+        191 => Some(Row::Alone(Instr::Stb)),
+        192 => Some(Row::Packed),
+        186 => Some(Row::Alone(Instr::Ldp)),
+        187 => Some(Row::Alone(Instr::Stp)),
         _ => None,
     }
 }
 
-/// An instruction without an operand.
-#[inline(always)]
-pub(crate) fn plain(opcode: u8) -> Option<Instr>
-    ensures { result ≡ plain_of opcode }
-{
-    if let Some(instr) = short(opcode) {
-        return Some(instr);
-    }
-    if let Some(instr) = pointer(opcode) {
-        return Some(instr);
-    }
-    if let Some(instr) = arithmetic(opcode) {
-        return Some(instr);
-    }
-    comparison(opcode)
-}
-
-/// A comparison with a type byte.
-#[inline(always)]
-pub(crate) fn typed(opcode: u8) -> Option<Instr>
-    ensures { result ≡ in_table opcode typed_opcodes }
+/// Arithmetic and logic.
+fn arithmetic(opcode: u8, o: Operands) -> Option<Row>
+    ensures { result ≡ made_by o opcode (row_of opcode arithmetic_rows) }
 {
     match opcode {
-        175 => Some(Instr::Equ),
-        183 => Some(Instr::Neq),
-        180 => Some(Instr::Leq),
-        181 => Some(Instr::Les),
-        176 => Some(Instr::Geq),
-        177 => Some(Instr::Grt),
+        130 => Some(Row::Alone(Instr::Adi)),
+        149 => Some(Row::Alone(Instr::Sbi)),
+        143 => Some(Row::Alone(Instr::Mpi)),
+        134 => Some(Row::Alone(Instr::Dvi)),
+        142 => Some(Row::Alone(Instr::Modi)),
+        128 => Some(Row::Alone(Instr::Abi)),
+        145 => Some(Row::Alone(Instr::Ngi)),
+        152 => Some(Row::Alone(Instr::Sqi)),
+        136 => Some(Row::Alone(Instr::Chk)),
+        132 => Some(Row::Alone(Instr::Land)),
+        141 => Some(Row::Alone(Instr::Lor)),
+        147 => Some(Row::Alone(Instr::Lnot)),
         _ => None,
     }
 }
 
-/// Whether an opcode has an operand of one byte alone.
-#[inline(always)]
-pub(crate) fn takes_byte(opcode: u8) -> bool
-    ensures { result ≡ is_some (in_table opcode byte_opcodes) }
-{
-    matches!(opcode, 188 | 189 | 206 | 207 | 174 | 173 | 193)
-}
-
-/// The instruction of an opcode with an operand of one byte.
-#[inline(always)]
-pub(crate) fn with_byte(opcode: u8, n: u8) -> Option<Instr>
-    ensures { result ≡ option_map (λ make. make n) (in_table opcode byte_opcodes) }
+/// Comparisons of integers, and with a type byte of Booleans.
+fn comparison(opcode: u8, o: Operands) -> Option<Row>
+    ensures { result ≡ made_by o opcode (row_of opcode comparison_rows) }
 {
     match opcode {
-        188 => Some(Instr::Ldm(n)),
-        189 => Some(Instr::Stm(n)),
-        206 => Some(Instr::Clp(n)),
-        207 => Some(Instr::Cgp(n)),
-        174 => Some(Instr::Cip(n)),
-        173 => Some(Instr::Rnp(n)),
-        193 => Some(Instr::Rbp(n)),
+        195 => Some(Row::Alone(Instr::Equi)),
+        203 => Some(Row::Alone(Instr::Neqi)),
+        200 => Some(Row::Alone(Instr::Leqi)),
+        201 => Some(Row::Alone(Instr::Lesi)),
+        196 => Some(Row::Alone(Instr::Geqi)),
+        197 => Some(Row::Alone(Instr::Grti)),
+        175 => Some(Row::Typed(Instr::Equ)),
+        183 => Some(Row::Typed(Instr::Neq)),
+        180 => Some(Row::Typed(Instr::Leq)),
+        181 => Some(Row::Typed(Instr::Les)),
+        176 => Some(Row::Typed(Instr::Geq)),
+        177 => Some(Row::Typed(Instr::Grt)),
         _ => None,
     }
 }
 
-/// Whether an opcode has an operand of one or two bytes.
-#[inline(always)]
-pub(crate) fn takes_big(opcode: u8) -> bool
-    ensures { result ≡ is_some (in_table opcode big_opcodes) }
-{
-    matches!(
-        opcode,
-        202 | 204 | 198 | 169 | 171 | 165 | 163 | 162 | 164 | 168
-    )
-}
-
-/// The instruction of an opcode with an operand of one or two bytes.
-#[inline(always)]
-pub(crate) fn with_big(opcode: u8, n: u16) -> Option<Instr>
-    ensures { result ≡ option_map (λ make. make n) (in_table opcode big_opcodes) }
+/// Jumps, calls and returns, and what does nothing.
+fn flow(opcode: u8, o: Operands) -> Option<Row>
+    ensures { result ≡ made_by o opcode (row_of opcode flow_rows) }
 {
     match opcode {
-        202 => Some(Instr::Ldl(n)),
-        204 => Some(Instr::Stl(n)),
-        198 => Some(Instr::Lla(n)),
-        169 => Some(Instr::Ldo(n)),
-        171 => Some(Instr::Sro(n)),
-        165 => Some(Instr::Lao(n)),
-        163 => Some(Instr::Ind(n)),
-        162 => Some(Instr::Inc(n)),
-        164 => Some(Instr::Ixa(n)),
-        168 => Some(Instr::Mov(n)),
+        185 => Some(Row::Byte(Instr::Ujp(o.signed()))),
+        161 => Some(Row::Byte(Instr::Fjp(o.signed()))),
+        211 => Some(Row::Byte(Instr::Efj(o.signed()))),
+        212 => Some(Row::Byte(Instr::Nfj(o.signed()))),
+        172 => Some(Row::CaseJump),
+        206 => Some(Row::Byte(Instr::Clp(o.byte))),
+        207 => Some(Row::Byte(Instr::Cgp(o.byte))),
+        174 => Some(Row::Byte(Instr::Cip(o.byte))),
+        158 => Some(Row::Standard),
+        173 => Some(Row::Byte(Instr::Rnp(o.byte))),
+        193 => Some(Row::Byte(Instr::Rbp(o.byte))),
+        215 => Some(Row::Alone(Instr::Nop)),
         _ => None,
     }
 }
 
-/// Whether an opcode has an operand of levels and one of an offset.
-#[inline(always)]
-pub(crate) fn takes_levels(opcode: u8) -> bool
-    ensures { result ≡ is_some (in_table opcode levels_opcodes) }
+/// The row of an opcode, with its operands.
+pub(crate) fn make_row(opcode: u8, o: Operands) -> Option<Row>
+    ensures { result ≡ made_by o opcode (row_of opcode opcodes) }
 {
-    matches!(opcode, 182 | 184 | 178)
+    constant(opcode, o)
+        .or(frame(opcode, o))
+        .or(link(opcode, o))
+        .or(pointer(opcode, o))
+        .or(arithmetic(opcode, o))
+        .or(comparison(opcode, o))
+        .or(flow(opcode, o))
 }
 
-/// The instruction of an opcode with an operand of levels and one of an offset.
-#[inline(always)]
-pub(crate) fn with_levels(opcode: u8, levels: u8, n: u16) -> Option<Instr>
-    ensures { result ≡ option_map (λ make. make levels n) (in_table opcode levels_opcodes) }
-{
-    match opcode {
-        182 => Some(Instr::Lod(levels, n)),
-        184 => Some(Instr::Str(levels, n)),
-        178 => Some(Instr::Lda(levels, n)),
-        _ => None,
-    }
-}
-
-/// Whether an opcode is a jump with a signed byte.
-#[inline(always)]
-pub(crate) fn is_jump(opcode: u8) -> bool
-    ensures { result ≡ is_some (in_table opcode jump_opcodes) }
-{
-    matches!(opcode, 185 | 161 | 211 | 212)
-}
-
-/// The jump of an opcode with a signed byte, which is given as it stands.
-#[inline(always)]
-pub(crate) fn jump(opcode: u8, byte: u8) -> Option<Instr>
-    ensures { result ≡ option_map (λ make. make (cast_signed w8 byte)) (in_table opcode jump_opcodes) }
-{
-    let sb = byte.cast_signed();
-    match opcode {
-        185 => Some(Instr::Ujp(sb)),
-        161 => Some(Instr::Fjp(sb)),
-        211 => Some(Instr::Efj(sb)),
-        212 => Some(Instr::Nfj(sb)),
-        _ => None,
-    }
-}
-
-/// Why an opcode without an instruction is refused.
+/// Why an opcode without a row is refused.
 pub(crate) fn refusal(opcode: u8) -> OpFault
     ensures { result ≡ refusal_of opcode }
 {

@@ -4,7 +4,7 @@ ghost use Rattle.pcode_ops.specs.Loading.{IsEntry, LeadsTo};
 ghost use Rattle.pcode_ops.specs.Walks.{Marks, IsMarked, IsListing, IsWithin, Adds, IsStarted, IsExact};
 
 use crate::decoding::get_word;
-use crate::look::{Onward, examine, parts};
+use crate::loading::{Onward, look, parts};
 use pcode_file::CodeFile;
 use std::alloc::{AllocError, Global};
 use std::marker::Model;
@@ -132,7 +132,7 @@ fn search_on(file: &CodeFile, walk: &mut Walk)
     let mut done = 0;
     while done < walk.len() {
         let at = walk.get(done);
-        match examine(file, at) {
+        match look(file, at) {
             Ok(onward) => mark_onward(file, walk, onward),
             Err(_) => {}
         }

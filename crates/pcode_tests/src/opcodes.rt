@@ -8,7 +8,7 @@ use std::test::Fail;
 type Row = ([u8; 4], usize, Instr);
 
 /// What has no operand, or has it in its opcode.
-const SINGLE: [Row; 39] = [
+const SINGLE: [Row; 41] = [
     ([0x00, 0, 0, 0], 1, Instr::Sldc(0)),
     ([0x7f, 0, 0, 0], 1, Instr::Sldc(127)),
     ([0x9f, 0, 0, 0], 1, Instr::Ldcn),
@@ -21,6 +21,8 @@ const SINGLE: [Row; 39] = [
     ([0xff, 0, 0, 0], 1, Instr::Sind(7)),
     ([0xbe, 0, 0, 0], 1, Instr::Ldb),
     ([0xbf, 0, 0, 0], 1, Instr::Stb),
+    ([0xba, 0, 0, 0], 1, Instr::Ldp),
+    ([0xbb, 0, 0, 0], 1, Instr::Stp),
     ([0x82, 0, 0, 0], 1, Instr::Adi),
     ([0x95, 0, 0, 0], 1, Instr::Sbi),
     ([0x8f, 0, 0, 0], 1, Instr::Mpi),
@@ -50,8 +52,8 @@ const SINGLE: [Row; 39] = [
     ([0xc7, 0xff, 0xff, 0], 3, Instr::Ldci(65535)),
 ];
 
-/// Operands of one byte, or of two from 128 on.
-const WORDS: [Row; 21] = [
+/// Operands of one byte, or of two from 128 on, and of two bytes.
+const WORDS: [Row; 25] = [
     ([0xca, 0x00, 0, 0], 2, Instr::Ldl(0)),
     ([0xca, 0x7f, 0, 0], 2, Instr::Ldl(127)),
     ([0xca, 0x80, 0x80, 0], 3, Instr::Ldl(128)),
@@ -73,6 +75,10 @@ const WORDS: [Row; 21] = [
     ([0xbc, 0xff, 0, 0], 2, Instr::Ldm(255)),
     ([0xbd, 0x00, 0, 0], 2, Instr::Stm(0)),
     ([0xbd, 0xff, 0, 0], 2, Instr::Stm(255)),
+    ([0xc0, 4, 4, 0], 3, Instr::Ixp(4, 4)),
+    ([0xc0, 16, 1, 0], 3, Instr::Ixp(16, 1)),
+    ([0xc0, 1, 16, 0], 3, Instr::Ixp(1, 16)),
+    ([0xc0, 5, 3, 0], 3, Instr::Ixp(5, 3)),
 ];
 
 /// Jumps and calls.
@@ -156,11 +162,19 @@ fn opcodes_that_are_refused(rt: HostRuntime) {
             check_fault(&rt, &[*opcode], fault);
         }
     }
-    for opcode in [179, 186, 187, 192, 194, 208, 210, 213, 214] {
+    for opcode in [179, 194, 208, 210, 213, 214] {
         check_fault(&rt, &[opcode], OpFault::Unsupported(opcode));
     }
     for opcode in [175, 176, 177, 180, 181, 183] {
         check_fault(&rt, &[opcode, 2], OpFault::Unsupported(opcode));
+    }
+}
+
+#[test]
+fn packed_elements_that_do_not_fit(rt: HostRuntime) {
+    for [elements, width] in [[0, 1], [1, 0], [0, 0], [1, 17], [17, 1], [5, 4], [255, 255]] {
+        check_fault(&rt, &[192, elements, width], OpFault::Packing);
+        check_fault(&rt, &[192, elements], OpFault::Cut);
     }
 }
 

@@ -1,6 +1,6 @@
 //! A code file that is read, the program of it, and the turns of a machine on it.
 use pcode_file::CodeFile;
-use pcode_machine::{End, Machine, Turn};
+use pcode_machine::{End, Machine, Pause, Turn};
 use pcode_ops::Program;
 use std::alloc::{AllocError, Global};
 use std::test::Fail;
@@ -94,5 +94,36 @@ fn steps_through_a_program(rt: HostRuntime) -> Result<(), Fail> {
     for (offered, turn) in TURNS {
         assert!(rt; takes_turn(&mut machine, offered, turn), "{turn:?}");
     }
+    Ok(())
+}
+
+/// Reads a byte from unit 1 to word 3, and ends: UNITREAD of one byte.
+const READS_ONE: [u8; 26] = [
+    0x01, 0xa5, 0x03, 0x00, 0x01, 0x00, 0x00, 0x9e, 0x05, 0xd7, 0xc1, 0x00, 0x02, 0x00, 0x04, 0x00,
+    0x06, 0x00, 0x12, 0x00, 0x01, 0x00, 0x02, 0x00, 0x01, 0x01,
+];
+
+#[test]
+fn runs_and_takes_a_byte(rt: HostRuntime) -> Result<(), Fail> {
+    let bytes = code_file(rt.alloc(), b"READER  ", &READS_ONE)?;
+    let file = CodeFile::read(rt.alloc(), bytes.as_slice())
+        .ok()
+        .ok_or("a file")?;
+    let program = Program::check(rt.alloc(), file).ok().ok_or("a program")?;
+    let mut machine = Machine::new(rt.alloc(), &program).ok().ok_or("a machine")?;
+    assert_eq!(rt; machine.run(3), (3, Pause::Spent));
+    assert_eq!(rt; machine.run(100), (4, Pause::Wants));
+    assert_eq!(rt; machine.step(Some(0x48)), Turn::TookAndWrote(0x48));
+    assert_eq!(rt; machine.run(100), (1, Pause::Ended(End::Normal)));
+    Ok(())
+}
+
+#[test]
+fn pauses_at_a_byte(rt: HostRuntime) -> Result<(), Fail> {
+    let program = program(rt.alloc())?;
+    let mut machine = Machine::new(rt.alloc(), &program).ok().ok_or("a machine")?;
+    assert_eq!(rt; machine.run(100), (10, Pause::Wrote(0x41)));
+    assert_eq!(rt; machine.run(0), (0, Pause::Spent));
+    assert_eq!(rt; machine.run(1), (0, Pause::Ended(End::Normal)));
     Ok(())
 }

@@ -8,7 +8,7 @@ loop-done-preserved c =
     let s = c.loop-done.invariant in
     let l = c.len.ensures.listing in
     let g = c.get-at.ensures in
-    elim c.match-examine.branch [
+    elim c.match-look.branch [
       | in-Ok w ↦ rw w.walk-is (search_goes_on _ _ _ _ _ w.in-Ok.onward s l g (search rules) w.mark_onward.ensures)
       | in-Err w ↦ rw w.walk-is (search_passes _ _ _ _ _ s g (sym w.in-Err.ensures.value))
     ]

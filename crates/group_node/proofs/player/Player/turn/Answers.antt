@@ -1,49 +1,76 @@
-use Rattle.std.proofs.Common.{refl, sym, arith, append-nil}
-use Rattle.group_node.proofs.Exact.{Laws, makes-went, makes-wrote, waits-idle, exact_idle, exact_fed, halts_waiting, halts_ended}
+use Rattle.std.proofs.Common.{◌+◌, refl, sym, arith}
+use Rattle.group_node.specs.declared.player.Player.{Player}
+use Rattle.group_node.proofs.Exact.{Laws, advanced, advances, to_advanced, makes-wrote, exact_idle, exact_fed, halts_waiting, halts_ended}
 use Rattle.group_node.proofs.player.Player.turn.Goals as goal
 
-pub feed-requires-clause-waits : goal.feed-requires-clause-waits
-feed-requires-clause-waits c = rw (c.in-Waits.ensures.still tt) (waits-idle c.in-Waits.ensures.step)
+pub returns-in-Spent-clause-turns : goal.returns-in-Spent-clause-turns
+returns-in-Spent-clause-turns c =
+    let h = rw c.in-Spent.is at c.run-made.ensures.pauses in
+    (h.0, advances _ c.quiet_steps_lead_on.ensures c.requires.exact h.1 c.run-made.ensures.program refl (omega (arith, c.from.ensures)) refl refl)
 
-pub returns-in-Went-clause-exact : goal.returns-in-Went-clause-exact
-returns-in-Went-clause-exact c =
-    let laws : Laws = record { there = c.run_is_after.ensures; longer = c.same_step_on_longer_input.ensures; ends = c.step_is_outcome.ensures.end } in
-    exact_idle laws c.requires.exact c.requires.room (record {
-      program = c.in-Went.ensures.program;
-      made = makes-went c.in-Went.ensures.step;
-      waits = rw (append-nil c.args.self.now.unreleased.items) refl;
-      steps = refl;
-      read = omega arith;
-      released = refl;
-      short = omega arith;
-      one = omega arith;
-    })
+pub returns-in-Spent-clause-exact : goal.returns-in-Spent-clause-exact
+returns-in-Spent-clause-exact c =
+    let h = rw c.in-Spent.is at c.run-made.ensures.pauses in
+    let a = advances _ c.quiet_steps_lead_on.ensures c.requires.exact h.1 c.run-made.ensures.program refl (omega (arith, c.from.ensures)) refl refl in
+    a.exact
+
+pub returns-in-Ended-clause-turns : goal.returns-in-Ended-clause-turns
+returns-in-Ended-clause-turns c =
+    let laws : Laws = record { there = c.run_is_after.ensures; longer = c.same_step_on_longer_input.ensures } in
+    let h = rw c.in-Ended.is at c.run-made.ensures.pauses in
+    let a = advances _ c.quiet_steps_lead_on.ensures c.requires.exact h.1 c.run-made.ensures.program refl (omega (arith, c.from.ensures)) refl refl in
+    (h.0, a, halts_ended laws a.exact c.run-made.ensures.program h.2)
+
+pub returns-in-Ended-clause-exact : goal.returns-in-Ended-clause-exact
+returns-in-Ended-clause-exact c =
+    let h = rw c.in-Ended.is at c.run-made.ensures.pauses in
+    let a = advances _ c.quiet_steps_lead_on.ensures c.requires.exact h.1 c.run-made.ensures.program refl (omega (arith, c.from.ensures)) refl refl in
+    a.exact
+
+pub returns-in-Wrote-clause-turns : goal.returns-in-Wrote-clause-turns
+returns-in-Wrote-clause-turns c =
+    let h = rw c.in-Wrote.is at c.run-made.ensures.pauses in
+    (h.1, advanced c.args.self.now h.1 h.0, to_advanced h.1 h.0 c.quiet_steps_lead_on.ensures c.requires.exact h.4, h.3, h.2)
 
 pub returns-in-Wrote-clause-exact : goal.returns-in-Wrote-clause-exact
 returns-in-Wrote-clause-exact c =
-    let laws : Laws = record { there = c.run_is_after.ensures; longer = c.same_step_on_longer_input.ensures; ends = c.step_is_outcome.ensures.end } in
-    rw c.write.ensures (exact_idle laws c.requires.exact c.requires.room (record {
-      program = c.in-Wrote.ensures.program;
-      made = makes-wrote c.in-Wrote.ensures.step;
+    let laws : Laws = record { there = c.run_is_after.ensures; longer = c.same_step_on_longer_input.ensures } in
+    let h = rw c.in-Wrote.is at c.run-made.ensures.pauses in
+    let a = to_advanced h.1 h.0 c.quiet_steps_lead_on.ensures c.requires.exact h.4 in
+    rw c.write.ensures (exact_idle laws a.exact c.requires.room (record {
+      program = c.run-made.ensures.program;
+      made = makes-wrote h.5;
       waits = refl;
-      steps = refl;
+      steps = omega (arith, h.2, c.from.ensures);
       read = omega arith;
       released = refl;
       short = omega arith;
       one = omega arith;
     }))
 
-pub returns-in-Ended-clause-halts : goal.returns-in-Ended-clause-halts
-returns-in-Ended-clause-halts c =
-    let laws : Laws = record { there = c.run_is_after.ensures; longer = c.same_step_on_longer_input.ensures; ends = c.step_is_outcome.ensures.end } in
-    rw (c.in-Ended.ensures.still tt) (halts_ended laws c.requires.exact c.in-Ended.ensures.step)
+pub returns-in-Some-clause-turns : goal.returns-in-Some-clause-turns
+returns-in-Some-clause-turns c =
+    let h = rw c.in-Wants.is at c.run-made.ensures.pauses in
+    let mid : Player = record c.args.self.now { machine = c.run-made.new.self; steps = c.args.self.now.steps + c.from.result } in
+    let a = advances {new = mid} _ c.quiet_steps_lead_on.ensures c.requires.exact h.1 c.run-made.ensures.program refl (omega (arith, c.from.ensures)) refl refl in
+    (c.run-made.result.0, mid, a, h.0, refl)
 
 pub returns-in-Some-clause-exact : goal.returns-in-Some-clause-exact
 returns-in-Some-clause-exact c =
-    let laws : Laws = record { there = c.run_is_after.ensures; longer = c.same_step_on_longer_input.ensures; ends = c.step_is_outcome.ensures.end } in
-    exact_fed laws c.requires.exact c.requires.room (sym c.in-Some.ensures) (rw (c.in-Waits.ensures.still tt) at c.feed.ensures.1)
+    let laws : Laws = record { there = c.run_is_after.ensures; longer = c.same_step_on_longer_input.ensures } in
+    let h = rw c.in-Wants.is at c.run-made.ensures.pauses in
+    let a = advances _ c.quiet_steps_lead_on.ensures c.requires.exact h.1 c.run-made.ensures.program refl (omega (arith, c.from.ensures)) refl refl in
+    exact_fed laws a.exact c.requires.room (sym c.in-Some.ensures) c.feed.ensures.1
 
-pub returns-in-None-clause-halts : goal.returns-in-None-clause-halts
-returns-in-None-clause-halts c =
-    let laws : Laws = record { there = c.run_is_after.ensures; longer = c.same_step_on_longer_input.ensures; ends = c.step_is_outcome.ensures.end } in
-    rw (c.in-Waits.ensures.still tt) (halts_waiting laws c.requires.exact (waits-idle c.in-Waits.ensures.step) (sym c.in-None.ensures))
+pub returns-in-None-clause-turns : goal.returns-in-None-clause-turns
+returns-in-None-clause-turns c =
+    let laws : Laws = record { there = c.run_is_after.ensures; longer = c.same_step_on_longer_input.ensures } in
+    let h = rw c.in-Wants.is at c.run-made.ensures.pauses in
+    let a = advances _ c.quiet_steps_lead_on.ensures c.requires.exact h.1 c.run-made.ensures.program refl (omega (arith, c.from.ensures)) refl refl in
+    (h.0, a, halts_waiting laws a.exact c.run-made.ensures.program h.2 (sym c.in-None.ensures))
+
+pub returns-in-None-clause-exact : goal.returns-in-None-clause-exact
+returns-in-None-clause-exact c =
+    let h = rw c.in-Wants.is at c.run-made.ensures.pauses in
+    let a = advances _ c.quiet_steps_lead_on.ensures c.requires.exact h.1 c.run-made.ensures.program refl (omega (arith, c.from.ensures)) refl refl in
+    a.exact

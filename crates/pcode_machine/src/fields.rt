@@ -1,0 +1,166 @@
+//! Packed fields, which are some bits of a word: IXP, LDP, STP.
+ghost use Rattle.std.specs.Prelude.{◌≡◌, ◌≤◌, ◌^◌, IsTrue, OnErr};
+ghost use Rattle.pcode_machine.specs.Fields.{changed_at, field_at, field_indexed, field_loaded, field_of, field_stored, is_field, with_field};
+ghost use Rattle.pcode_machine.specs.Ready.{state_of, answered};
+
+use crate::errors::ExecutionError;
+use crate::parts::MachineParts;
+use crate::pointers::{behind, pointed};
+use crate::turn::Stop;
+use pcode_frames::{Memory, STACK_WORDS};
+
+/// Returns whether there is a bit at least, and all lie in one word: bits are counted from 0, the lowest.
+fn is_field(width: u16, right: u16) -> bool
+    ensures { result ≡ is_field width right }
+{
+    width >= 1 && u32::from(right) + u32::from(width) <= 16
+}
+
+/// Returns the power of two.
+#[tactic(auto, using(std::proofs::lemmas::Nat::one_shl))]
+fn power(exponent: u16) -> u32
+    requires { exponent ≤ 16 }
+    ensures value { result ≡ 2 ^ exponent }
+    ensures positive { 1 ≤ result }
+    ensures small { result ≤ 65536 }
+{
+    1u32 << exponent
+}
+
+/// Returns the field of a word.
+fn field(word: u16, width: u16, right: u16) -> u16
+    requires { IsTrue (is_field width right) }
+    ensures { result ≡ field_of word width right }
+{
+    (u32::from(word) / power(right) % power(width)) as u16
+}
+
+/// Returns the word with the low bits of `value` in the field, and all other bits as they were.
+#[tactic(auto, using(crate::proofs::Powers::replaced_fits))]
+fn with_field(word: u16, width: u16, right: u16, value: u16) -> u16
+    requires { IsTrue (is_field width right) }
+    ensures { result ≡ with_field word width right value }
+{
+    let low = power(right);
+    let above = power(right + width);
+    let word = u32::from(word);
+    let field = u32::from(value) % power(width);
+    (word % low + low * field + above * (word / above)) as u16
+}
+
+/// Returns the field of the word at a pointer. Refused where the bits are no field, or else the word is not
+/// live.
+fn field_at(memory: &Memory, pointer: u16, width: u16, right: u16) -> Result<u16, ExecutionError>
+    ensures { result ≡ field_at memory.now pointer width right }
+{
+    if !is_field(width, right) {
+        return Err(ExecutionError::OutOfRange);
+    }
+    match pointed(memory, pointer) {
+        Some(word) => Ok(field(word, width, right)),
+        None => Err(ExecutionError::BadAddress),
+    }
+}
+
+/// Returns the word at a pointer with `value` in the field. Refused where the bits are no field, or else the
+/// word is not live.
+fn changed_at(
+    memory: &Memory,
+    pointer: u16,
+    width: u16,
+    right: u16,
+    value: u16,
+) -> Result<u16, ExecutionError>
+    ensures { result ≡ changed_at memory.now pointer width right value }
+{
+    if !is_field(width, right) {
+        return Err(ExecutionError::OutOfRange);
+    }
+    match pointed(memory, pointer) {
+        Some(word) => Ok(with_field(word, width, right, value)),
+        None => Err(ExecutionError::BadAddress),
+    }
+}
+
+impl MachineParts {
+    /// Replaces an index and a pointer by the field at that index, three words: a pointer to the word, the
+    /// width, and the place of the lowest bit. Each word has `elements` fields of `width` bits.
+    pub fn index_field(&mut self, elements: u8, width: u8, next: u32) -> Result<(), Stop>
+        requires { 1 ≤ elements }
+        ensures value { field_indexed elements width next (state_of self.old) self.old.stack ≡ answered result (state_of self.new) }
+        ensures err { OnErr result (self.new ≡ self.old) }
+    {
+        if self.stack.len() < 2 {
+            return Err(Stop::Error(ExecutionError::StackUnderflow));
+        }
+        if self.stack.top() >= 32768 {
+            return Err(Stop::Error(ExecutionError::OutOfRange));
+        }
+        if self.stack.len() == STACK_WORDS {
+            return Err(Stop::Error(ExecutionError::NoRoom));
+        }
+        let elements = u16::from(elements);
+        let width = u16::from(width);
+        let index = self.stack.pop()?;
+        let pointer = self.stack.top();
+        self.stack.set_top(behind(pointer, index / elements));
+        self.stack.push(width).unwrap();
+        self.stack.push(index % elements * width).unwrap();
+        self.next = next;
+        Ok(())
+    }
+
+    /// Replaces the three words that name a field by its bits, and goes on at an offset.
+    pub fn load_field(&mut self, next: u32) -> Result<(), Stop>
+        ensures value { field_loaded next (state_of self.old) self.old.stack ≡ answered result (state_of self.new) }
+        ensures err { OnErr result (self.new ≡ self.old) }
+    {
+        if self.stack.len() < 3 {
+            return Err(Stop::Error(ExecutionError::StackUnderflow));
+        }
+        let right = self.stack.pop()?;
+        let width = self.stack.pop()?;
+        let pointer = self.stack.top();
+        match field_at(&self.memory, pointer, width, right) {
+            Ok(bits) => {
+                self.stack.set_top(bits);
+                self.next = next;
+                Ok(())
+            }
+            Err(error) => {
+                self.stack.push(width).unwrap();
+                self.stack.push(right).unwrap();
+                Err(Stop::Error(error))
+            }
+        }
+    }
+
+    /// Pops a word and the three words that name a field, stores the word's low bits there, and goes on at
+    /// an offset.
+    pub fn store_field(&mut self, next: u32) -> Result<(), Stop>
+        ensures value { field_stored next (state_of self.old) self.old.stack ≡ answered result (state_of self.new) }
+        ensures err { OnErr result (self.new ≡ self.old) }
+    {
+        if self.stack.len() < 4 {
+            return Err(Stop::Error(ExecutionError::StackUnderflow));
+        }
+        let value = self.stack.pop()?;
+        let right = self.stack.pop()?;
+        let width = self.stack.pop()?;
+        let pointer = self.stack.pop()?;
+        match changed_at(&self.memory, pointer, width, right, value) {
+            Ok(word) => {
+                self.memory.put(pointer / 2, word);
+                self.next = next;
+                Ok(())
+            }
+            Err(error) => {
+                self.stack.push(pointer).unwrap();
+                self.stack.push(width).unwrap();
+                self.stack.push(right).unwrap();
+                self.stack.push(value).unwrap();
+                Err(Stop::Error(error))
+            }
+        }
+    }
+}

@@ -1,5 +1,0 @@
-use Rattle.pcode_ops.proofs.Procedures.{are_parts}
-use Rattle.pcode_ops.proofs.look.parts.Goals as goal
-
-pub returns-clause-parts : goal.returns-clause-parts
-returns-clause-parts c = rw (c.procedures.ensures.value) (are_parts _ _ c.procedures.ensures.parts)

@@ -1,0 +1,300 @@
+//! Loading: whether what is at an offset may be there, and where it leads.
+ghost use Rattle.std.specs.Prelude.{◌≡◌, ◌+◌, ◌-◌, ◌*◌, ◌^◌, ◌<◌, ◌≤◌, if◌then◌else◌, IsTrue, length, Contains, Some, None, Ok, Err, IfOk};
+ghost use Rattle.pcode_file.specs.Parts.{procedure_of, end_of};
+ghost use Rattle.pcode_ops.specs.Loading.{is_in, owner, called, is_callable, linked, legal, leads_in, jump_to, entries_in, goes_on, ends_at, branch_to, cases_to, onward, look};
+ghost use Rattle.pcode_ops.specs.Walks.{IsPart, AreParts, IsWithin, IsTableIn};
+
+use crate::decoding::{cases, decode, get_word};
+use crate::fault::OpFault;
+use crate::instr::Instr;
+use pcode_file::{CodeFile, Proc};
+
+/// Where an offset without fault leads: to the next offset, to a jump's target, and to the `count`
+/// entries of the case table at `table`. Offsets are in bytes from the segment's start.
+#[derive(Clone, Copy, Debug, PartialEq, Eq)]
+pub(crate) struct Onward {
+    pub next: Option<u32>,
+    pub target: Option<u32>,
+    pub table: u32,
+    pub count: u32,
+}
+
+/// The procedures of a file, whose parts lie in the segment.
+pub(crate) fn parts(file: &CodeFile) -> &[Proc]
+    ensures value { result.now ≡ file.now.procs }
+    ensures parts { AreParts (length file.now.segment) result.now }
+{
+    file.procedures()
+}
+
+/// The offset at which a procedure's part ends.
+pub(crate) fn end(part: Proc) -> u32
+    ensures { result ≡ end_of part }
+{
+    part.jtab.saturating_sub(8)
+}
+
+/// Whether an offset lies in a procedure's part.
+fn is_in(part: Proc, at: u32) -> bool
+    ensures { result ≡ is_in part at }
+{
+    part.low <= at && at < end(part)
+}
+
+/// The procedure in whose part an offset lies.
+fn owner(procs: &[Proc], at: u32) -> Result<Proc, OpFault>
+    ensures value { result ≡ owner procs.now at }
+    ensures one { IfOk result (λ q. Contains procs.now q × IsTrue (is_in q at)) }
+{
+    for part in procs {
+        if is_in(*part, at) {
+            return Ok(*part);
+        }
+    }
+    Err(OpFault::Cut)
+}
+
+/// The procedure with a number from 1 on.
+fn procedure_of(procs: &[Proc], n: u8) -> Option<Proc>
+    ensures { result ≡ procedure_of procs.now n }
+{
+    if n == 0 {
+        return None;
+    }
+    procs.get(usize::from(n) - 1).copied()
+}
+
+/// Which lex levels a call may lead to.
+#[derive(Clone, Copy, Debug, PartialEq, Eq)]
+enum Levels {
+    /// One more than the caller's.
+    Below,
+    /// Level 1.
+    First,
+    /// From level 1 to one more than the caller's.
+    Reachable,
+}
+
+/// Whether a procedure may call one at a lex level.
+fn is_callable(levels: Levels, part: Proc, level: u8) -> bool
+    ensures { result ≡ is_callable levels part level }
+{
+    match levels {
+        Levels::Below => u16::from(level) == u16::from(part.level) + 1,
+        Levels::First => level == 1,
+        Levels::Reachable => level >= 1 && u16::from(level) <= u16::from(part.level) + 1,
+    }
+}
+
+/// Whether a procedure may call procedure `n`.
+fn called(procs: &[Proc], part: Proc, n: u8, levels: Levels) -> Result<(), OpFault>
+    ensures { result ≡ called procs.now n (is_callable levels part) }
+{
+    match procedure_of(procs, n) {
+        None => Err(OpFault::NoProcedure),
+        Some(found) => {
+            if is_callable(levels, part, found.level) {
+                Ok(())
+            } else {
+                Err(OpFault::CallLevel)
+            }
+        }
+    }
+}
+
+/// Whether a procedure has this number of static links.
+fn linked(part: Proc, levels: u8) -> Result<(), OpFault>
+    ensures { result ≡ linked part levels }
+{
+    if part.level < levels {
+        return Err(OpFault::LinkDepth);
+    }
+    Ok(())
+}
+
+/// Whether a procedure may hold an instruction.
+fn legal(procs: &[Proc], part: Proc, instr: Instr) -> Result<(), OpFault>
+    ensures { result ≡ legal procs.now part instr }
+{
+    match instr {
+        Instr::Clp(n) => called(procs, part, n, Levels::Below),
+        Instr::Cgp(n) => called(procs, part, n, Levels::First),
+        Instr::Cip(n) => called(procs, part, n, Levels::Reachable),
+        Instr::Lod(levels, _) => linked(part, levels),
+        Instr::Str(levels, _) => linked(part, levels),
+        Instr::Lda(levels, _) => linked(part, levels),
+        Instr::Rnp(n) => {
+            if part.number == 1 || n > 2 {
+                return Err(OpFault::ReturnForm);
+            }
+            Ok(())
+        }
+        Instr::Rbp(_) => {
+            if part.number == 1 {
+                Ok(())
+            } else {
+                Err(OpFault::ReturnForm)
+            }
+        }
+        _ => Ok(()),
+    }
+}
+
+/// Whether the self-relative pointer at a place leads into a part.
+fn leads_in(segment: &[u8], part: Proc, place: u32) -> bool
+    requires place { place + 1 < length segment.now }
+    ensures { result ≡ leads_in segment.now part place }
+{
+    let word = u32::from(get_word(segment, place as usize));
+    word <= place && is_in(part, place - word)
+}
+
+/// The target of a jump that ends at `next`.
+fn jump_to(segment: &[u8], part: Proc, sb: i8, next: u32) -> Result<u32, OpFault>
+    requires part { IsPart (length segment.now) part }
+    requires next { next ≤ length segment.now }
+    requires size { length segment.now < 2 ^ 16 }
+    ensures value { result ≡ jump_to segment.now part sb next }
+    ensures within { IfOk result (λ t. IsTrue (is_in part t)) }
+{
+    let by = u32::from(sb.unsigned_abs());
+    if sb >= 0 {
+        let target = next + by;
+        if !is_in(part, target) {
+            return Err(OpFault::JumpRange);
+        }
+        return Ok(target);
+    }
+    if by % 2 != 0 {
+        return Err(OpFault::JumpRange);
+    }
+    if by < 10 {
+        return Err(OpFault::JumpRange);
+    }
+    if part.jtab < part.low + by {
+        return Err(OpFault::JumpRange);
+    }
+    let place = part.jtab - by;
+    let word = u32::from(get_word(segment, place as usize));
+    if place < word {
+        return Err(OpFault::JumpRange);
+    }
+    if !is_in(part, place - word) {
+        return Err(OpFault::JumpRange);
+    }
+    Ok(place - word)
+}
+
+/// Whether each pointer of a case table leads into a part.
+fn entries_in(segment: &[u8], part: Proc, table: u32, count: u32) -> bool
+    requires table { table + 2 * count ≤ length segment.now }
+    requires size { length segment.now < 2 ^ 16 }
+    ensures { result ≡ entries_in segment.now part table count }
+{
+    for k in 0..count {
+        if !leads_in(segment, part, table + 2 * k) {
+            return false;
+        }
+    }
+    true
+}
+
+/// The next offset, which has to lie in the part, beside a jump's target.
+fn goes_on(part: Proc, next: u32, target: Option<u32>) -> Result<Onward, OpFault>
+    ensures value { result ≡ goes_on part next target }
+    ensures shape { IfOk result (λ o. (o.next ≡ Some next) × (o.target ≡ target) × (o.table ≡ 0)
+        × (o.count ≡ 0) × IsTrue (is_in part next)) }
+{
+    if !is_in(part, next) {
+        return Err(OpFault::Cut);
+    }
+    Ok(Onward {
+        next: Some(next),
+        target,
+        table: 0,
+        count: 0,
+    })
+}
+
+/// No offset is reached after the instruction but a jump's target.
+fn ends_at(target: Option<u32>) -> Onward
+    ensures { result ≡ ends_at target }
+{
+    Onward {
+        next: None,
+        target,
+        table: 0,
+        count: 0,
+    }
+}
+
+/// Where a jump leads that may also go on after itself.
+fn branch_to(segment: &[u8], part: Proc, sb: i8, next: u32) -> Result<Onward, OpFault>
+    requires part { IsPart (length segment.now) part }
+    requires next { next ≤ length segment.now }
+    requires size { length segment.now < 2 ^ 16 }
+    ensures value { result ≡ branch_to segment.now part sb next }
+    ensures within { IfOk result (IsWithin (length segment.now)) }
+{
+    let target = jump_to(segment, part, sb, next)?;
+    goes_on(part, next, Some(target))
+}
+
+/// Where a case jump leads: to its UJP, and to the entries of its table.
+fn cases_to(segment: &[u8], part: Proc, table: u32, count: u32) -> Result<Onward, OpFault>
+    requires table { table + 2 * count ≤ length segment.now }
+    requires after { 2 ≤ table }
+    requires size { length segment.now < 2 ^ 16 }
+    ensures value { result ≡ cases_to segment.now part table count }
+    ensures within { IfOk result (IsWithin (length segment.now)) }
+{
+    if !entries_in(segment, part, table, count) {
+        return Err(OpFault::JumpRange);
+    }
+    Ok(Onward {
+        next: Some(table - 2),
+        target: None,
+        table,
+        count,
+    })
+}
+
+/// Where an instruction of a procedure leads that ends at `next`: targets first, then the next
+/// offset.
+fn onward_of(segment: &[u8], part: Proc, instr: Instr, next: u32) -> Result<Onward, OpFault>
+    requires part { IsPart (length segment.now) part }
+    requires next { next ≤ length segment.now }
+    requires size { length segment.now < 2 ^ 16 }
+    requires table { IsTableIn (length segment.now) instr }
+    ensures value { result ≡ onward segment.now part instr next }
+    ensures within { IfOk result (IsWithin (length segment.now)) }
+{
+    match instr {
+        Instr::Ujp(sb) => Ok(ends_at(Some(jump_to(segment, part, sb, next)?))),
+        Instr::Fjp(sb) => branch_to(segment, part, sb, next),
+        Instr::Efj(sb) => branch_to(segment, part, sb, next),
+        Instr::Nfj(sb) => branch_to(segment, part, sb, next),
+        Instr::Xjp {
+            low,
+            high,
+            sb: _,
+            table,
+        } => cases_to(segment, part, table as u32, cases(low, high)),
+        Instr::Rnp(_) | Instr::Rbp(_) => Ok(ends_at(None)),
+        _ => goes_on(part, next, None),
+    }
+}
+
+/// All checks of an offset in their order: the first fault, or where the offset leads.
+#[tactic(auto, unfolding(crate::specs::Loading::look))]
+pub(crate) fn look(file: &CodeFile, at: u32) -> Result<Onward, OpFault>
+    ensures value { result ≡ look file.now at }
+    ensures within { IfOk result (IsWithin (length file.now.segment)) }
+{
+    let segment = file.segment();
+    let procs = parts(file);
+    let part = owner(procs, at)?;
+    let (instr, next) = decode(&segment[..end(part) as usize], at as usize)?;
+    legal(procs, part, instr)?;
+    onward_of(segment, part, instr, next as u32)
+}
