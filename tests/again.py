@@ -1,9 +1,11 @@
-"""Runs the built program many times, each run in a process of its own: for tests/memory, tests/damage and tests/limits.
+"""Runs the built program many times, each run in a process of its own: for tests/memory and tests/damage. tests/limits shares its helpers.
 
 Where there is a C compiler, the program is loaded once and forks for each run, by tests/again.c, which takes half the time and can refuse
 requests for memory. Else each run is started anew."""
 
 import collections
+import importlib.machinery
+import importlib.util
 import os
 import shutil
 import subprocess
@@ -39,6 +41,19 @@ def program_of(name):
         print(f"{name}: there is no program {program}", file=sys.stderr)
         sys.exit(2)
     return os.path.realpath(program)
+
+
+def cases_module():
+    """tests/cases/run, which reads the files of cases."""
+    loader = importlib.machinery.SourceFileLoader("cases", os.path.join(TESTS, "cases", "run"))
+    module = importlib.util.module_from_spec(importlib.util.spec_from_loader("cases", loader))
+    loader.exec_module(module)
+    return module
+
+
+def named_bytes(cases):
+    """The bytes that tests/cases/named_bytes names."""
+    return cases.read_cases(os.path.join(TESTS, "cases", "named_bytes"), {})[2]
 
 
 def folder():
@@ -126,7 +141,8 @@ class Again:
             back, answers = os.pipe()
             more = [(os.POSIX_SPAWN_DUP2, runs, RUNS), (os.POSIX_SPAWN_DUP2, answers, ANSWERS)]
             child = os.posix_spawn(
-                self.program, [self.program] + [""] * count, {**os.environ, "LD_PRELOAD": self.library}, file_actions=files.actions() + more,
+                self.program, [self.program] + [""] * count, {**os.environ, "LD_PRELOAD": self.library},
+                file_actions=files.actions() + more,
             )
             os.close(runs)
             os.close(answers)
@@ -149,12 +165,6 @@ class Again:
                 os.close(handle)
             os.waitpid(child, 0)
         self.servers = {}
-
-
-def runner_of(program, room):
-    """What runs the program quickest here."""
-    library = compiled(room)
-    return Again(program, room, library) if library else Plain(program, room)
 
 
 def finish(name, test):
