@@ -8,6 +8,7 @@ import importlib.machinery
 import importlib.util
 import os
 import shutil
+import signal
 import subprocess
 import sys
 import tempfile
@@ -57,7 +58,10 @@ def named_bytes(cases):
 
 
 def folder():
-    """A folder for files that are written many times: in memory where there is such a place, since each save of a record is synced."""
+    """A folder for files that are written many times: in memory where there is such a place, since each save of a record is synced. It goes
+    away with the script, also where a signal ends it."""
+    for number in (signal.SIGTERM, signal.SIGHUP):
+        signal.signal(number, lambda *_: sys.exit(1))
     shared = "/dev/shm"
     place = shared if os.access(shared, os.W_OK) else None
     return tempfile.TemporaryDirectory(prefix="pgroup-", dir=place)
