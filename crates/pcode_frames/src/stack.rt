@@ -100,6 +100,15 @@ impl Stack {
         Ok(())
     }
 
+    /// Drops this many words from the top.
+    #[inline(always)]
+    pub fn discard(&mut self, words: usize)
+        requires { words ≤ length self.old }
+        ensures { self.new ≡ drop words self.old }
+    {
+        self.free += words;
+    }
+
     /// Takes the top word off. Where there is none it refuses by `Halt::Empty`, and changes nothing.
     #[inline(always)]
     pub fn pop(&mut self) -> Result<u16, Halt>

@@ -22,3 +22,5 @@ pub mod Alone
 pub mod Numbered
 pub mod Pausing
 pub mod Quiet
+pub mod QuietStaying
+pub mod Fusing

@@ -22,4 +22,5 @@ pub mod Turns
 pub mod InCode
 pub mod Loaded
 pub mod Ready
+pub mod Fused
 pub mod Fields

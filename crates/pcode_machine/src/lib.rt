@@ -9,6 +9,7 @@ mod comparisons;
 mod errors;
 mod execute;
 mod fields;
+mod fused;
 mod jumps;
 pub mod laws;
 mod loads;

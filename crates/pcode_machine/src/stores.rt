@@ -10,7 +10,8 @@ use crate::turn::Stop;
 use pcode_frames::Memory;
 
 /// The address of the word at an offset from a base, if it is live.
-fn live_word(memory: &Memory, base: u16, offset: u16) -> Option<u16>
+#[inline(always)]
+pub fn live_word(memory: &Memory, base: u16, offset: u16) -> Option<u16>
     ensures { result ≡ (if is_some (word_at memory.now (base + offset)) then Some (base + offset) else None) }
 {
     // No live word has a greater address than the top.

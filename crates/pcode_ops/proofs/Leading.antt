@@ -14,7 +14,7 @@ use Rattle.pcode_ops.specs.declared.loading.Onward.{Onward}
 use Rattle.pcode_ops.specs.At.{Cases, cases, At}
 use Rattle.pcode_ops.specs.Loading.{is_in, leads_in, jump_to, entries_in, goes_on, Flow, On, Jumps, Branches, Switches, Ends, flow_of, flows_to, cases_to, ends_at, onward, LeadsTo}
 use Rattle.pcode_ops.proofs.Looking.{IsLooked, owner_is}
-use Rattle.pcode_ops.proofs.Operands.{step_has}
+use Rattle.pcode_ops.proofs.OperandBytes.{step_has}
 use Rattle.pcode_ops.proofs.Operating.{case_jump_at_is}
 use Rattle.pcode_ops.proofs.Procedures.{is_inside}
 use Rattle.pcode_ops.proofs.Standing.{decoded_at}

@@ -11,7 +11,7 @@ pub mod Looking
 pub mod Rows
 pub mod Reading
 pub mod Operating
-pub mod Operands
+pub mod OperandBytes
 pub mod Leading
 pub mod Staying
 pub mod Apart
@@ -19,4 +19,5 @@ pub mod Allowed
 pub mod Targets
 pub mod Landing
 pub mod Ruling
-pub mod Cells
+pub mod Keeping
+pub mod Covering

@@ -11,7 +11,7 @@ use Rattle.pcode_ops.specs.Opcodes.{Form, Alone, Numbered, WithByte, WithBig, Wi
 use Rattle.pcode_ops.specs.At.{HasByte, Word, Stands, At}
 use Rattle.pcode_ops.specs.Decoding.{byte_at, word_at, big_at, standard_of, packed_of, case_jump_at, read_at, by_row, instr_of, instr_at}
 use Rattle.pcode_ops.proofs.CaseJumps.{IsRead, case_jump_read}
-use Rattle.pcode_ops.proofs.Operands.{IsBig, step_has, byte_read, word_read, big_read}
+use Rattle.pcode_ops.proofs.OperandBytes.{IsBig, step_has, byte_read, word_read, big_read}
 use Rattle.pcode_ops.proofs.Rows.{IsFound, row_found}
 
 -- what is found stands at i in a row's form

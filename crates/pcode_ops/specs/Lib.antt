@@ -1,9 +1,10 @@
 pub mod Opcodes
 pub mod At
 pub mod Decoding
-pub mod Decoded
+pub mod Cells
 pub mod Loading
 pub mod Rules
+pub mod Superinstructions
 pub mod Reach
 pub mod Walks
 pub mod Staying

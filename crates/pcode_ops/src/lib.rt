@@ -2,9 +2,10 @@
 //! of them holds an instruction that may stand there.
 #![tactic(auto)]
 
-mod decoded;
+mod cells;
 mod decoding;
 mod fault;
+mod fusing;
 mod instr;
 mod jumps;
 pub mod laws;
@@ -12,6 +13,7 @@ mod listing;
 mod loading;
 mod opcodes;
 mod program;
+mod superinstruction;
 mod text;
 mod walk;
 
@@ -19,4 +21,5 @@ pub use decoding::decode;
 pub use fault::{LoadFault, LoadRefused, OpFault};
 pub use instr::{Instr, StandardProcedure};
 pub use program::Program;
+pub use superinstruction::{Operands, Operator, Sink, Source, Superinstruction};
 pub use text::{TextWriter, UpToFault};

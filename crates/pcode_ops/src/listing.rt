@@ -74,7 +74,7 @@ fn write_line<W: TextWriter>(writer: &mut W, program: &Program, at: u32) -> io::
     requires reached { Reach program.now at }
     ensures { W.has_failed writer.new ≡ is_err result }
 {
-    let (&instr, _) = program.instruction(at);
+    let (instr, _) = program.instruction(at);
     write!(writer, "{at:05} {instr}")?;
     write_targets(writer, program.file().segment(), onward(program, at))?;
     write!(writer, "\n")

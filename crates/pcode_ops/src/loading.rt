@@ -42,7 +42,7 @@ fn is_in(part: Proc, at: u32) -> bool
 }
 
 /// The procedure in whose part an offset lies.
-fn owner(procs: &[Proc], at: u32) -> Result<Proc, OpFault>
+pub(crate) fn owner(procs: &[Proc], at: u32) -> Result<Proc, OpFault>
     ensures value { result ≡ owner procs.now at }
     ensures one { IfOk result (λ q. Contains procs.now q × IsTrue (is_in q at)) }
 {
@@ -150,7 +150,7 @@ fn leads_in(segment: &[u8], part: Proc, place: u32) -> bool
 }
 
 /// The target of a jump that ends at `next`.
-fn jump_to(segment: &[u8], part: Proc, sb: i8, next: u32) -> Result<u32, OpFault>
+pub(crate) fn jump_to(segment: &[u8], part: Proc, sb: i8, next: u32) -> Result<u32, OpFault>
     requires part { IsPart (length segment.now) part }
     requires next { next ≤ length segment.now }
     requires size { length segment.now < 2 ^ 16 }
