@@ -24,3 +24,4 @@ pub mod Pausing
 pub mod Quiet
 pub mod QuietStaying
 pub mod Fusing
+pub mod BlockWords

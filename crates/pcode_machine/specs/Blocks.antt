@@ -1,6 +1,7 @@
 -- Blocks of words at pointers: MOV, LDM, STM.
-use Rattle.std.specs.Prelude.{ℕ, ◌+◌, ◌/◌, ◌%◌, nat_lt, ◌==◌, ◌&&◌, ◌||◌, if◌then◌else◌, Bool, List, [], ◌∷◌, ◌++◌, length, take, drop, Option, Some, None, slice_get, Result, Ok, Err}
+use Rattle.std.specs.Prelude.{◌≡◌, ◌<◌, ◌≤◌, ℕ, ◌+◌, ◌/◌, ◌%◌, nat_lt, ◌==◌, ◌&&◌, ◌||◌, if◌then◌else◌, Bool, List, [], ◌∷◌, ◌++◌, length, take, drop, Option, Some, None, slice_get, Result, Ok, Err}
 use Rattle.pcode_frames.specs.Blocks.{is_live, block_of, with_block}
+use Rattle.pcode_frames.specs.Words.{word_at}
 use Rattle.pcode_machine.specs.declared.turn.Stop.{Stop}
 use Rattle.pcode_machine.specs.declared.turn.Stop.TheVariants.{Error}
 use Rattle.pcode_machine.specs.Configuration.{State}
@@ -37,3 +38,9 @@ block_stored_at (Some pointer) n j s =
 -- the pointer stands below the words
 abbrev pub block_stored : ℕ → ℕ → State → Result State Stop
 block_stored n j s = block_stored_at (slice_get s.stack n) n j s
+
+-- of the live words those from a word address on are these n, by their index, and all others are as before
+pub record HasBlock (old new : List ℕ) (word n : ℕ) (block : ℕ → Option ℕ) : Type 0 where
+  pub inside : (k : ℕ) → k < n → word_at new (word + k) ≡ block k
+  pub below : (w : ℕ) → w < word → word_at new w ≡ word_at old w
+  pub above : (w : ℕ) → word + n ≤ w → word_at new w ≡ word_at old w
