@@ -1,9 +1,9 @@
 //! The calls that take an outbox.
-ghost use Rattle.std.specs.Prelude.{◌≡◌, ◌≢◌, ◌↔◌, ◌⊎◌, ◌<◌, [], false, IfErr, IsErrOf, OnOk};
+ghost use Rattle.std.specs.Prelude.{◌≡◌, ◌≢◌, ◌↔◌, ◌⊎◌, ◌<◌, [], false, IfErr, IsErrOf, IsSome, OnOk};
 ghost use Rattle.paxos_msg.specs.Fits.{Fits};
 ghost use Rattle.paxos_proposer.specs.Proposer.{greatest_round};
 ghost use Rattle.group_node.specs.Calls.{Does, IsLet, IsLetIn, Saves};
-ghost use Rattle.group_node.specs.Delivered.{on_message, row};
+ghost use Rattle.group_node.specs.Delivered.{NeedsMemory, on_message, row};
 ghost use Rattle.group_node.specs.Leading.{at_tick};
 ghost use Rattle.group_node.specs.Node.{at_campaign, front, without_read};
 
@@ -36,6 +36,7 @@ impl<S: Store> Protocol<S> {
         requires empty { outbox.old.packets ≡ [] }
         ensures does { Does self.old self.new outbox.old.packets outbox.new.packets (row self.old.rules view.now.sender view.now.body) result }
         ensures saves { Saves S.honest S.fails_at_will S.state self.old self.new (row self.old.rules view.now.sender view.now.body) result }
+        ensures needs { IsErrOf result NodeFault.Memory → NeedsMemory self.old.rules view.now.sender view.now.body }
         ensures others { IfErr result (λ e. (e ≡ NodeFault.Memory) ⊎ (e ≡ NodeFault.Store)) }
     {
         let sender = view.sender;
@@ -73,6 +74,7 @@ impl<S: Store> Protocol<S> {
         requires fits { Fits self.old.rules.me.group view.now }
         ensures does { Does self.old self.new outbox.old.packets outbox.new.packets (on_message self.old.rules view.now.sender view.now.body) result }
         ensures saves { Saves S.honest S.fails_at_will S.state self.old self.new (on_message self.old.rules view.now.sender view.now.body) result }
+        ensures needs { IsErrOf result NodeFault.Memory → NeedsMemory self.old.rules view.now.sender view.now.body }
         ensures let_in { IsLetIn self.old outbox.old.packets result }
         ensures others { IfErr result (λ e. (e ≡ NodeFault.Stopped) ⊎ (e ≡ NodeFault.OutboxFull) ⊎ (e ≡ NodeFault.Memory) ⊎ (e ≡ NodeFault.Store)) }
     {
@@ -111,6 +113,7 @@ impl<S: Store> Protocol<S> {
     /// Asks on, proposes again, submits and asks.
     pub(crate) fn tick(&mut self, outbox: &mut Outbox) -> Result<(), NodeFault>
         ensures does { Does self.old self.new outbox.old.packets outbox.new.packets (at_tick self.old.rules) result }
+        ensures needs { IsErrOf result NodeFault.Memory → (outbox.old.ready < 43) ⊎ IsSome self.old.rules.proposer }
         ensures store { self.new.store ≡ self.old.store }
         ensures let_in { IsLetIn self.old outbox.old.packets result }
         ensures others { IfErr result (λ e. (e ≡ NodeFault.Stopped) ⊎ (e ≡ NodeFault.OutboxFull) ⊎ (e ≡ NodeFault.Memory)) }

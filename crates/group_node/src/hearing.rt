@@ -1,8 +1,9 @@
 //! What a node makes of an Accepted, a Tell, a Refused and an Ask.
-ghost use Rattle.std.specs.Prelude.{◌≡◌, ◌+◌, ◌<◌, ◌≤◌, ◌++◌, [], Err, OnErr, Some, length, option_map};
+ghost use Rattle.std.specs.Prelude.{◌≡◌, ℕ, ◌+◌, ◌<◌, ◌≤◌, ◌++◌, [], Err, OnErr, Some, length, option_map};
 ghost use Rattle.std.specs.FinMap.{get};
 ghost use Rattle.std.specs.Option.{option_to_list};
-ghost use Rattle.paxos_msg.specs.declared.message.Body.TheVariants.{Tell};
+ghost use Rattle.paxos_msg.specs.declared.message.Body.TheVariants.{Accepted, Ask, Tell};
+ghost use Rattle.group_node.specs.Delivered.{NeedsMemory};
 ghost use Rattle.paxos_msg.specs.declared.value.Value.{Value};
 ghost use Rattle.paxos_msg.specs.Fits.{IsBallot, IsBody, IsNode, IsPlace, IsValue};
 ghost use Rattle.group_node.specs.Calls.{Does};
@@ -73,6 +74,7 @@ impl<S: Store> Protocol<S> {
         requires place { IsPlace place }
         requires value { IsValue self.old.rules.me.group.size value }
         ensures does { Does self.old self.new [] [] (at_accepted self.old.rules sender ballot place value) result }
+        ensures needs { OnErr result (NeedsMemory self.old.rules sender (Accepted ballot place value)) }
         ensures store { self.new.store ≡ self.old.store }
         ensures others { OnErr result (result ≡ Err NodeFault.Memory) }
     {
@@ -86,6 +88,7 @@ impl<S: Store> Protocol<S> {
         requires place { IsPlace place }
         requires value { IsValue self.old.rules.me.group.size value }
         ensures does { Does self.old self.new [] [] (at_tell self.old.rules place value) result }
+        ensures needs { (j : ℕ) → OnErr result (NeedsMemory self.old.rules j (Tell place value)) }
         ensures store { self.new.store ≡ self.old.store }
         ensures others { OnErr result (result ≡ Err NodeFault.Memory) }
     {
@@ -115,6 +118,7 @@ impl<S: Store> Protocol<S> {
         requires from { from ≤ 65536 }
         requires empty { outbox.old.packets ≡ [] }
         ensures does { Does self.old self.new outbox.old.packets outbox.new.packets (at_ask self.old.rules sender from) result }
+        ensures needs { OnErr result (NeedsMemory self.old.rules sender (Ask from)) }
         ensures store { self.new.store ≡ self.old.store }
         ensures others { OnErr result (result ≡ Err NodeFault.Memory) }
     {

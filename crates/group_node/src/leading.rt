@@ -1,5 +1,5 @@
 //! What a node makes of a campaign, of a Promise and of a Submit.
-ghost use Rattle.std.specs.Prelude.{◌≡◌, ◌≢◌, ◌↔◌, ◌+◌, ◌<◌, ◌≤◌, ◌++◌, ◌⊎◌, [], Err, IfErr, IsErrOf, IfSome, OnErr, OnOk, Some, false, length};
+ghost use Rattle.std.specs.Prelude.{◌≡◌, ◌≢◌, ◌↔◌, ℕ, ◌+◌, ◌<◌, ◌≤◌, ◌++◌, ◌⊎◌, [], Err, IfErr, IsErrOf, IfSome, OnErr, OnOk, Some, false, length};
 ghost use Rattle.paxos_msg.specs.Fits.{Fits, IsBallot, IsPlace, IsValue};
 ghost use Rattle.paxos_proposer.specs.Proposer.{IsPart, asks_after, greatest_round, is_covered, next_of, on_promise};
 ghost use Rattle.paxos_msg.specs.declared.record.Change.TheVariants.{Promise};
@@ -8,7 +8,8 @@ ghost use Rattle.paxos_msg.specs.Keys.{keys_from};
 ghost use Rattle.paxos_acceptor.specs.Follows.{Follows};
 ghost use Rattle.paxos_learner.specs.Entered.{key_of};
 ghost use Rattle.group_node.specs.Calls.{Does, Saves};
-ghost use Rattle.group_node.specs.Delivered.{row};
+ghost use Rattle.group_node.specs.Delivered.{NeedsMemory, row};
+ghost use Rattle.paxos_msg.specs.declared.message.Body.TheVariants.{Submit};
 ghost use Rattle.group_node.specs.Leading.{are_known, at_submit, is_known, is_known_key, offer_after, offered_with, prepare_from};
 ghost use Rattle.group_node.specs.Node.{at_campaign, beginning, front};
 ghost use Rattle.group_node.specs.Packets.{datagrams_of};
@@ -197,6 +198,7 @@ impl<S: Store> Protocol<S> {
         requires fits { Fits self.old.rules.me.group view.now }
         requires empty { outbox.old.packets ≡ [] }
         ensures does { Does self.old self.new outbox.old.packets outbox.new.packets (row self.old.rules view.now.sender view.now.body) result }
+        ensures needs { OnErr result (NeedsMemory self.old.rules view.now.sender view.now.body) }
         ensures store { self.new.store ≡ self.old.store }
         ensures others { OnErr result (result ≡ Err NodeFault.Memory) }
     {
@@ -260,6 +262,7 @@ impl<S: Store> Protocol<S> {
         requires value { IsValue self.old.rules.me.group.size value.now }
         requires empty { outbox.old.packets ≡ [] }
         ensures does { Does self.old self.new outbox.old.packets outbox.new.packets (at_submit self.old.rules value.now) result }
+        ensures needs { (j : ℕ) → OnErr result (NeedsMemory self.old.rules j (Submit value.now)) }
         ensures store { self.new.store ≡ self.old.store }
         ensures others { OnErr result (result ≡ Err NodeFault.Memory) }
     {

@@ -1,5 +1,5 @@
 //! A node.
-ghost use Rattle.std.specs.Prelude.{◌≡◌, ◌≢◌, ◌↔◌, ◌+◌, ◌⊎◌, ◌<◌, ◌≤◌, ℕ, List, [], false, true, length, option_map, slice_get, None, Result, IfErr, IfNone, IfOk, IsErrOf, OnErr, OnOk, OnSome};
+ghost use Rattle.std.specs.Prelude.{◌≡◌, ◌≢◌, ◌↔◌, ◌+◌, ◌⊎◌, ◌<◌, ◌≤◌, ℕ, List, [], false, true, length, option_map, slice_get, IsSome, None, Result, IfErr, IfNone, IfOk, IsErrOf, OnErr, OnOk, OnSome};
 ghost use Rattle.std.specs.FinMap.{get};
 ghost use Rattle.paxos_msg.specs.declared.record.Change.TheVariants.{Start};
 ghost use Rattle.paxos_msg.specs.Batches.{Record as Kept};
@@ -11,7 +11,7 @@ ghost use Rattle.paxos_acceptor.specs.declared.store.StoreFault.{StoreFault};
 ghost use Rattle.paxos_learner.specs.Learner.{IsFront};
 ghost use Rattle.paxos_proposer.specs.Proposer.{greatest_round};
 ghost use Rattle.group_node.specs.Calls.{Does, IsLet, IsLetIn, Saves};
-ghost use Rattle.group_node.specs.Delivered.{on_message};
+ghost use Rattle.group_node.specs.Delivered.{NeedsMemory, on_message};
 ghost use Rattle.group_node.specs.Leading.{at_tick, is_leading, own_ballot};
 ghost use Rattle.group_node.specs.Node.{at_campaign, at_typed, front, new_key, next_serial, started};
 ghost use Rattle.group_node.specs.Output.{IsReplay, no_progress, RunsOn, unreleased_of};
@@ -155,6 +155,7 @@ impl<'a, S: Store> Node<'a, S> {
         requires fits { Fits self.old.protocol.rules.me.group view.now }
         ensures does { Does self.old.protocol self.new.protocol outbox.old.packets outbox.new.packets (on_message self.old.protocol.rules view.now.sender view.now.body) result }
         ensures saves { Saves S.honest S.fails_at_will S.state self.old.protocol self.new.protocol (on_message self.old.protocol.rules view.now.sender view.now.body) result }
+        ensures needs { IsErrOf result NodeFault.Memory → NeedsMemory self.old.protocol.rules view.now.sender view.now.body }
         ensures progress { self.new.progress ≡ self.old.progress }
         ensures let_in { IsLetIn self.old.protocol outbox.old.packets result }
         ensures others { IfErr result (λ e. (e ≡ NodeFault.Stopped) ⊎ (e ≡ NodeFault.OutboxFull) ⊎ (e ≡ NodeFault.Memory) ⊎ (e ≡ NodeFault.Store)) }
@@ -186,6 +187,7 @@ impl<'a, S: Store> Node<'a, S> {
     /// first keys that wait, and asks for what was learned. It saves nothing.
     pub fn tick(&mut self, outbox: &mut Outbox) -> Result<(), NodeFault>
         ensures does { Does self.old.protocol self.new.protocol outbox.old.packets outbox.new.packets (at_tick self.old.protocol.rules) result }
+        ensures needs { IsErrOf result NodeFault.Memory → (outbox.old.ready < 43) ⊎ IsSome self.old.protocol.rules.proposer }
         ensures store { self.new.protocol.store ≡ self.old.protocol.store }
         ensures progress { self.new.progress ≡ self.old.progress }
         ensures let_in { IsLetIn self.old.protocol outbox.old.packets result }

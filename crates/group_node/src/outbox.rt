@@ -1,5 +1,5 @@
 //! The packets that wait to be sent.
-ghost use Rattle.std.specs.Prelude.{◌≡◌, ◌+◌, ◌-◌, ◌<◌, ◌≤◌, [], ◌∷◌, ◌++◌, drop, length, slice_get, vec_len, IfOk, OnOk};
+ghost use Rattle.std.specs.Prelude.{◌≡◌, ◌+◌, ◌-◌, ◌<◌, ◌≤◌, [], ◌∷◌, ◌++◌, drop, length, slice_get, vec_len, IfOk, OnErr, OnOk};
 ghost use Rattle.paxos_msg.specs.Fits.{Fits, IsBody, IsNode};
 ghost use Rattle.paxos_msg.specs.Spelling.{spelling};
 ghost use Rattle.group_node.specs.Packets.{datagram_of};
@@ -111,6 +111,7 @@ impl Outbox {
     pub(crate) fn make_ready(&mut self, count: usize) -> Result<(), AllocError>
         ensures packets { self.new.packets ≡ self.old.packets }
         ensures ok { OnOk result (count ≤ self.new.ready) }
+        ensures needs { OnErr result (self.old.ready < count) }
     {
         while self.spares.len() < count {
             self.spares.push(Spare::new(self.alloc)?)?;

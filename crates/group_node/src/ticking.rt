@@ -1,5 +1,5 @@
 //! What a node does at a tick.
-ghost use Rattle.std.specs.Prelude.{◌≡◌, ◌+◌, ◌<◌, ◌≤◌, [], ◌∷◌, ◌++◌, Err, IsTrue, OnErr, OnOk, Some, is_some, length};
+ghost use Rattle.std.specs.Prelude.{◌≡◌, ◌⊎◌, ◌+◌, ◌<◌, ◌≤◌, [], ◌∷◌, ◌++◌, Err, IsSome, IsTrue, OnErr, OnOk, Some, is_some, length};
 ghost use Rattle.std.specs.Option.{option_to_list};
 ghost use Rattle.paxos_msg.specs.declared.message.Body.TheVariants.{Ask, Submit};
 ghost use Rattle.paxos_msg.specs.declared.value.Value.{Value};
@@ -200,6 +200,7 @@ impl<S: Store> Protocol<S> {
     pub(crate) fn on_tick(&mut self, outbox: &mut Outbox) -> Result<(), NodeFault>
         requires empty { outbox.old.packets ≡ [] }
         ensures does { Does self.old self.new outbox.old.packets outbox.new.packets (at_tick self.old.rules) result }
+        ensures needs { OnErr result ((outbox.old.ready < 43) ⊎ IsSome self.old.rules.proposer) }
         ensures store { self.new.store ≡ self.old.store }
         ensures others { OnErr result (result ≡ Err NodeFault.Memory) }
     {

@@ -1,10 +1,11 @@
 //! A learner.
-ghost use Rattle.std.specs.Prelude.{◌≡◌, ◌↔◌, ◌+◌, ◌<◌, ◌≤◌, ◌++◌, IsSome, IsTrue, IfOk, None, OnOk, OnErr, Contains, length, min, slice_get};
+ghost use Rattle.std.specs.Prelude.{◌≡◌, ◌≢◌, ◌↔◌, ◌+◌, ◌<◌, ◌≤◌, ◌++◌, IsSome, IsTrue, IfOk, None, OnOk, OnErr, Contains, length, min, slice_get};
 ghost use Rattle.std.specs.FinMap.{get};
 ghost use Rattle.paxos_learner.specs.Entered.{key_of};
 ghost use Rattle.paxos_learner.specs.Growth.{AreInWindow};
 ghost use Rattle.paxos_learner.specs.Input.{StandsIn, front_values, input_of, keys_in_order, learned_input, values_below};
 ghost use Rattle.paxos_learner.specs.Kept.{IsInputOf};
+ghost use Rattle.paxos_learner.specs.declared.heard.Heard.TheVariants.{Passed};
 ghost use Rattle.paxos_learner.specs.Learner.{IsFront, front_of, is_open, learn, new_learner, on_accepted, on_tell};
 
 use crate::heard::{Heard, LearnerFault};
@@ -133,6 +134,7 @@ impl Learner {
         requires place { place ≤ 65535 }
         ensures ok { OnOk result (self.new ≡ (on_accepted self.old sender ballot place value).learner) }
         ensures answer { IfOk result (λ heard. heard ≡ (on_accepted self.old sender ballot place value).answer) }
+        ensures needs { OnErr result ((on_accepted self.old sender ballot place value).answer ≢ Passed) }
         ensures err { OnErr result (self.new ≡ self.old) }
     {
         if !self.is_open(place) {
@@ -161,6 +163,7 @@ impl Learner {
         requires { place ≤ 65535 }
         ensures ok { OnOk result (self.new ≡ (on_tell self.old place value).learner) }
         ensures answer { IfOk result (λ heard. heard ≡ (on_tell self.old place value).answer) }
+        ensures needs { OnErr result ((on_tell self.old place value).answer ≢ Passed) }
         ensures err { OnErr result (self.new ≡ self.old) }
     {
         if self.is_open(place) {

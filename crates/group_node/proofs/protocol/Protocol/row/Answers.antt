@@ -1,5 +1,8 @@
-use Rattle.std.proofs.Common.{◌≡◌, ◌∙◌, Ok, sym, ap}
-use Rattle.paxos_msg.specs.Batches.{Msg}
+use Rattle.std.proofs.Common.{◌≡◌, ◌∙◌, Result, Ok, Err, IsErrOf, OnErr, sym, ap, subst}
+use Rattle.paxos_msg.specs.Batches.{Body, Msg}
+use Rattle.group_node.specs.declared.fault.NodeFault.{NodeFault}
+use Rattle.group_node.specs.declared.fault.NodeFault.TheVariants.{Memory}
+use Rattle.group_node.specs.Delivered.{NeedsMemory}
 use Rattle.paxos_msg.specs.Views.{said}
 use Rattle.group_node.proofs.IdleSaves.{idle_row, only_memory}
 use Rattle.group_node.proofs.protocol.Protocol.row.Goals as goal
@@ -39,3 +42,21 @@ returns-in-Tell-clause-saves g c =
     let is : c.args.view.now.body ≡ said c.view.inside.body = sym (ap (λ (m : Msg). m.body) c.view.view_is) in
     let kind = ap said c.in-Tell.is in
     idle_row c.args.self.now c.on_tell.new.self c.args.view.now.sender c.args.view.now.body _ c.on_tell.result (is ∙ kind) (λ none. none) c.on_tell.ensures.store (only_memory c.on_tell.result c.on_tell.ensures.others) (λ honest. c.record-record.ensures.stored honest c.requires.open)
+
+by_error : (r : Result Unit NodeFault) (P : Type 0) → IsErrOf r Memory → OnErr r P → P
+by_error (Ok u) P e h = absurd cc
+by_error (Err fault) P e h = h
+
+pub returns-in-Submit-clause-needs : goal.returns-in-Submit-clause-needs
+returns-in-Submit-clause-needs g c = λ e.
+    let is : c.args.view.now.body ≡ said c.view.inside.body = sym (ap (λ (m : Msg). m.body) c.view.view_is) in
+    let kind = ap said c.in-Submit.is in
+    let P : Body → Type 0 = λ b. NeedsMemory c.args.self.now.rules c.args.view.now.sender b in
+    subst P (sym (is ∙ kind)) (by_error c.on_submit.result _ e (c.on_submit.ensures.needs c.args.view.now.sender))
+
+pub returns-in-Tell-clause-needs : goal.returns-in-Tell-clause-needs
+returns-in-Tell-clause-needs g c = λ e.
+    let is : c.args.view.now.body ≡ said c.view.inside.body = sym (ap (λ (m : Msg). m.body) c.view.view_is) in
+    let kind = ap said c.in-Tell.is in
+    let P : Body → Type 0 = λ b. NeedsMemory c.args.self.now.rules c.args.view.now.sender b in
+    subst P (sym (is ∙ kind)) (by_error c.on_tell.result _ e (c.on_tell.ensures.needs c.args.view.now.sender))
