@@ -1,3 +1,4 @@
 pub mod Streams
 pub mod Run
 pub mod Loading
+pub mod Hex

@@ -1,6 +1,8 @@
 //! Files that are read whole.
-ghost use Rattle.std.specs.Prelude.{◌≡◌, ◌≤◌, IfOk, vec_len};
+ghost use Rattle.std.specs.Prelude.{◌≡◌, ◌≢◌, ◌<◌, ◌≤◌, ℕ, List, IfErr, IfOk, length, vec_len};
 ghost use Rattle.std.specs.Io.KnownBytes.{Consumes, IsAtEnd};
+ghost use Rattle.machine_run.specs.declared.files.FileError.TheVariants.{Memory};
+ghost use Rattle.machine_run.specs.declared.run.RunIo.TheVariants as RunIo;
 
 use crate::run::RunIo;
 use std::alloc::Global;
@@ -16,14 +18,19 @@ pub const LONGEST: usize = 67_108_864;
 pub enum FileError {
     /// It can't be opened or read, or is longer than `LONGEST`.
     Unreadable,
+    /// Memory ran out for bytes that were read.
     Memory,
 }
 
-/// All bytes that a reader has left, at most `LONGEST`.
+/// Reads all bytes that a reader has left, at most `LONGEST`. After a refusal what was read until then is
+/// gone from the reader; memory runs out only once there is a byte to hold.
 pub fn read_whole<R: Read>(alloc: Global, reader: &mut R) -> Result<Vec<u8>, FileError>
     ensures whole { IfOk result (λ bytes. Consumes (R.remaining reader.old) (R.remaining reader.new) bytes.items) }
     ensures end { IfOk result (λ _. IsAtEnd (R.remaining reader.new)) }
     ensures short { IfOk result (λ bytes. vec_len bytes ≤ 67108864) }
+    ensures front { IfErr result (λ e. (read : List ℕ)
+        × Consumes (R.remaining reader.old) (R.remaining reader.new) read
+        × (e ≡ Memory → 0 < length read)) }
 {
     let mut bytes = Vec::new(alloc);
     let mut buffer = [0u8; 4096];
@@ -52,8 +59,17 @@ pub fn read_file<H: Files + AllocGlobal>(rt: &H, path: &str) -> Result<Vec<u8>, 
     }
 }
 
-/// All of an input, which is no file: a read that fails is `Read`.
-pub fn read_input<R: Read>(alloc: Global, reader: &mut R) -> Result<Vec<u8>, RunIo> {
+/// Reads all of an input that is not a file, as `read_whole` does. A failed read, and an input of more than
+/// `LONGEST` bytes, is `RunIo::Read`.
+pub fn read_input<R: Read>(alloc: Global, reader: &mut R) -> Result<Vec<u8>, RunIo>
+    ensures whole { IfOk result (λ bytes. Consumes (R.remaining reader.old) (R.remaining reader.new) bytes.items) }
+    ensures end { IfOk result (λ _. IsAtEnd (R.remaining reader.new)) }
+    ensures short { IfOk result (λ bytes. vec_len bytes ≤ 67108864) }
+    ensures front { IfErr result (λ e. (read : List ℕ)
+        × Consumes (R.remaining reader.old) (R.remaining reader.new) read
+        × (e ≡ RunIo.Memory → 0 < length read)) }
+    ensures reads { IfErr result (λ e. e ≢ RunIo.Write) }
+{
     match read_whole(alloc, reader) {
         Ok(bytes) => Ok(bytes),
         Err(FileError::Memory) => Err(RunIo::Memory),

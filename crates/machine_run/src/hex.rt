@@ -1,4 +1,9 @@
 //! Bytes in hexadecimal digits of either case.
+ghost use Rattle.std.specs.Prelude.{◌≡◌, IsSome, IfErr, IfOk, None, Some, take};
+ghost use Rattle.digits.specs.Hex.{hex_byte_of};
+ghost use Rattle.machine_run.specs.declared.hex.HexError.TheVariants.{Bad, Memory};
+ghost use Rattle.machine_run.specs.Hex.{hex_bytes_of};
+
 use digits::hex_byte;
 use std::alloc::Global;
 
@@ -7,11 +12,16 @@ use std::alloc::Global;
 pub enum HexError {
     /// Their number is odd, or a character is no digit.
     Bad,
+    /// Memory ran out before a bad digit was found.
     Memory,
 }
 
-/// The bytes that the digits of a text stand for.
-pub fn bytes_of(alloc: Global, text: &str) -> Result<Vec<u8>, HexError> {
+/// Returns the bytes that the digits of a text spell, two for each, the high one first.
+pub fn bytes_of(alloc: Global, text: &str) -> Result<Vec<u8>, HexError>
+    ensures bytes { IfOk result (λ bytes. hex_bytes_of text.now ≡ Some bytes.items) }
+    ensures bad { result ≡ Err Bad → hex_bytes_of text.now ≡ None }
+    ensures memory { result ≡ Err Memory → IsSome (hex_byte_of (take 2 text.now)) }
+{
     let mut bytes = Vec::new(alloc);
     for pair in text.as_bytes().chunks(2) {
         match hex_byte(pair) {

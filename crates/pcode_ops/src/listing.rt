@@ -56,27 +56,28 @@ fn write_targets<W: TextWriter>(writer: &mut W, segment: &[u8], onward: Onward) 
     write_entries(writer, segment, onward.table, onward.count)
 }
 
-/// Where a reached offset leads.
-fn onward(program: &Program, at: u32) -> Onward
+/// Where a reached offset leads. `near` is the number of the procedure in whose part it should lie.
+fn onward(program: &Program, mut near: u8, at: u32) -> Onward
     requires { Reach program.now at }
     ensures value { look program.now at ≡ Ok result }
     ensures within { IsWithin (length (program.now).segment) result }
 {
-    match look(program.file(), at) {
+    match look(program.file(), &mut near, at) {
         Ok(onward) => onward,
         Err(_) => unreachable!(),
     }
 }
 
-/// Writes the line of a reached offset: the instruction, and where it leads if it is a jump.
-fn write_line<W: TextWriter>(writer: &mut W, program: &Program, at: u32) -> io::Result<()>
+/// Writes the line of a reached offset: the instruction, and where it leads if it is a jump. `near` is
+/// the number of the procedure in whose part the offset lies.
+fn write_line<W: TextWriter>(writer: &mut W, program: &Program, near: u8, at: u32) -> io::Result<()>
     requires open { W.has_failed writer.old ≡ false }
     requires reached { Reach program.now at }
     ensures { W.has_failed writer.new ≡ is_err result }
 {
     let (instr, _) = program.instruction(at);
     write!(writer, "{at:05} {instr}")?;
-    write_targets(writer, program.file().segment(), onward(program, at))?;
+    write_targets(writer, program.file().segment(), onward(program, near, at))?;
     write!(writer, "\n")
 }
 
@@ -100,7 +101,7 @@ fn write_procedure<W: TextWriter>(writer: &mut W, program: &Program, part: Proc)
     )?;
     for at in part.low..end(part) {
         if program.is_start(at) {
-            write_line(writer, program, at)?;
+            write_line(writer, program, number, at)?;
         }
     }
     Ok(())

@@ -1,5 +1,6 @@
 //! Loading: whether what is at an offset may be there, and where it leads.
 ghost use Rattle.std.specs.Prelude.{◌≡◌, ◌+◌, ◌-◌, ◌*◌, ◌^◌, ◌<◌, ◌≤◌, if◌then◌else◌, IsTrue, length, Contains, Some, None, Ok, Err, IfOk};
+ghost use Rattle.pcode_file.specs.InFile.{AreProcs};
 ghost use Rattle.pcode_file.specs.Parts.{procedure_of, end_of};
 ghost use Rattle.pcode_ops.specs.Loading.{is_in, owner, called, is_callable, linked, legal, leads_in, jump_to, entries_in, goes_on, ends_at, branch_to, cases_to, onward, look};
 ghost use Rattle.pcode_ops.specs.Walks.{IsPart, AreParts, IsWithin, IsTableIn};
@@ -7,6 +8,7 @@ ghost use Rattle.pcode_ops.specs.Walks.{IsPart, AreParts, IsWithin, IsTableIn};
 use crate::decoding::{cases, decode, get_word};
 use crate::fault::OpFault;
 use crate::instr::Instr;
+use crate::laws::parts_are_apart;
 use pcode_file::{CodeFile, Proc};
 
 /// Where an offset without fault leads: to the next offset, to a jump's target, and to the `count`
@@ -23,6 +25,7 @@ pub(crate) struct Onward {
 pub(crate) fn parts(file: &CodeFile) -> &[Proc]
     ensures value { result.now ≡ file.now.procs }
     ensures parts { AreParts (length file.now.segment) result.now }
+    ensures procs { AreProcs file.now.segment file.now.procs }
 {
     file.procedures()
 }
@@ -42,7 +45,7 @@ fn is_in(part: Proc, at: u32) -> bool
 }
 
 /// The procedure in whose part an offset lies.
-pub(crate) fn owner(procs: &[Proc], at: u32) -> Result<Proc, OpFault>
+fn owner(procs: &[Proc], at: u32) -> Result<Proc, OpFault>
     ensures value { result ≡ owner procs.now at }
     ensures one { IfOk result (λ q. Contains procs.now q × IsTrue (is_in q at)) }
 {
@@ -52,6 +55,25 @@ pub(crate) fn owner(procs: &[Proc], at: u32) -> Result<Proc, OpFault>
         }
     }
     Err(OpFault::Cut)
+}
+
+/// The procedure in whose part an offset lies. `near` is the number of the procedure that is asked
+/// first, and becomes that of the one found: offsets one after another then cost the same in a file of
+/// one procedure and of 255. The result does not depend on it.
+pub(crate) fn owner_near(file: &CodeFile, near: &mut u8, at: u32) -> Result<Proc, OpFault>
+    ensures value { result ≡ owner file.now.procs at }
+    ensures part { IfOk result (IsPart (length file.now.segment)) }
+{
+    parts_are_apart();
+    let procs = parts(file);
+    if let Some(part) = procedure_of(procs, *near) {
+        if is_in(part, at) {
+            return Ok(part);
+        }
+    }
+    let part = owner(procs, at)?;
+    *near = part.number;
+    Ok(part)
 }
 
 /// The procedure with a number from 1 on.
@@ -285,15 +307,16 @@ fn onward_of(segment: &[u8], part: Proc, instr: Instr, next: u32) -> Result<Onwa
     }
 }
 
-/// All checks of an offset in their order: the first fault, or where the offset leads.
+/// All checks of an offset in their order: the first fault, or where the offset leads. `near` is as
+/// `owner_near` has it.
 #[tactic(auto, unfolding(crate::specs::Loading::look))]
-pub(crate) fn look(file: &CodeFile, at: u32) -> Result<Onward, OpFault>
+pub(crate) fn look(file: &CodeFile, near: &mut u8, at: u32) -> Result<Onward, OpFault>
     ensures value { result ≡ look file.now at }
     ensures within { IfOk result (IsWithin (length file.now.segment)) }
 {
     let segment = file.segment();
     let procs = parts(file);
-    let part = owner(procs, at)?;
+    let part = owner_near(file, near, at)?;
     let (instr, next) = decode(&segment[..end(part) as usize], at as usize)?;
     legal(procs, part, instr)?;
     onward_of(segment, part, instr, next as u32)

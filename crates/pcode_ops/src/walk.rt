@@ -129,10 +129,11 @@ fn search_on(file: &CodeFile, walk: &mut Walk)
     ensures exact { IsExact file.now walk.new }
     ensures size { length walk.new.flags ≡ length file.now.segment }
 {
+    let mut near = 1;
     let mut done = 0;
     while done < walk.len() {
         let at = walk.get(done);
-        match look(file, at) {
+        match look(file, &mut near, at) {
             Ok(onward) => mark_onward(file, walk, onward),
             Err(_) => {}
         }
