@@ -12,7 +12,8 @@ get_longer (a ∷ xs) ys zero x e = e
 get_longer (a ∷ xs) ys (suc i) x e = get_longer xs ys i x e
 
 -- what is there with one more is there without it, or is the last
-pub get_added : {A : Type 0} (xs : List A) (y : A) (i : ℕ) (x : A) → slice_get (xs ++ y ∷ []) i ≡ Some x → (slice_get xs i ≡ Some x) ⊎ ((i ≡ length xs) × (x ≡ y))
+pub get_added : {A : Type 0} (xs : List A) (y : A) (i : ℕ) (x : A) → slice_get (xs ++ y ∷ []) i ≡ Some x
+    → (slice_get xs i ≡ Some x) ⊎ ((i ≡ length xs) × (x ≡ y))
 get_added [] y zero x e = inr (refl, cc)
 get_added [] y (suc i) x e = absurd cc
 get_added (a ∷ xs) y zero x e = inl e

@@ -8,7 +8,8 @@ bind_ok (Ok x) f y h = (x, refl, h)
 bind_ok (Err e) f y h = absurd cc
 
 -- a test that did not fail
-pub unless_ok : {A B E : Type 0} (e : E) (b : Bool) (x : A) (f : A → Result B E) (y : B) → (unless e b x >>= f) ≡ Ok y → (b ≡ false) × (f x ≡ Ok y)
+pub unless_ok : {A B E : Type 0} (e : E) (b : Bool) (x : A) (f : A → Result B E) (y : B) → (unless e b x >>= f) ≡ Ok y
+    → (b ≡ false) × (f x ≡ Ok y)
 unless_ok e true x f y h = absurd cc
 unless_ok e false x f y h = (refl, h)
 

@@ -1,5 +1,5 @@
-//! What both halves stand on: how the faults of a device are counted, and, in `specs/` and `proofs/`,
-//! steps that may fail and lemmas on them and on lists.
+//! What both halves stand on: how the faults of a device are counted, and, in `specs/` and
+//! `proofs/`, steps that may fail and lemmas on them and on lists.
 #![tactic(auto)]
 
 mod faults;

@@ -1,227 +1,121 @@
-//! The commands and their words, as clap reads them and as help shows them.
-use crate::help;
-use crate::value::Word;
-use clap::{Arg, ArgAction, Command};
+//! The commands. Each is a module, with its words, its help, and what it asks for.
+mod check;
+mod list;
+mod net;
+mod node;
+mod run;
+mod show;
+mod sim;
+
+use crate::value::WordFault;
+use crate::words::Asked;
+use clap::{ArgMatches, Command};
+pub use net::NetWords;
+pub use node::NodeWords;
 use std::alloc::{AllocError, Global};
 
-pub const FILE: Word = Word {
-    name: "FILE",
-    shown: "<FILE>",
-};
+/// What help says after the list of commands. No line of help has more than 80 columns.
+const HELP: &str = "Examples:
+  pgroup run examples/echo.code
+  pgroup help node
 
-pub const STEPS: Word = Word {
-    name: "steps",
-    shown: "--steps <N>",
-};
+Exit status:
+  0  done; or the program that runs waits, and its input has ended: `waits`
+  1  refused: `refused` and a code such as F3, O5, E1 or D2
+  2  a fault of the command line
+  3  an execution error of the program
+  4  the steps are spent, and the program has not ended: `steps`
+docs/FORMATS.md explains the codes, and what is printed.";
 
-pub const SCRIPT: Word = Word {
-    name: "SCRIPT",
-    shown: "<SCRIPT>",
-};
-
-pub const SIZE: Word = Word {
-    name: "SIZE",
-    shown: "<SIZE>",
-};
-
-pub const SESSION: Word = Word {
-    name: "SESSION",
-    shown: "<SESSION>",
-};
-
-pub const HEX: Word = Word {
-    name: "HEX",
-    shown: "<HEX>",
-};
-
-pub const ID: Word = Word {
-    name: "ID",
-    shown: "<ID>",
-};
-
-pub const RECORD: Word = Word {
-    name: "RECORD",
-    shown: "<RECORD>",
-};
-
-pub const TURNS: Word = Word {
-    name: "TURNS",
-    shown: "<TURNS>",
-};
-
-pub const ADDR: Word = Word {
-    name: "ADDR",
-    shown: "<ADDR>...",
-};
-
-pub const SEEN: Word = Word {
-    name: "seen",
-    shown: "--seen <N>",
-};
-
-pub const KEYS: Word = Word {
-    name: "keys",
-    shown: "--keys <ADDR>",
-};
+/// A command by its name.
+#[derive(Clone, Copy, Debug, PartialEq, Eq)]
+pub enum Name {
+    Check,
+    List,
+    Run,
+    Show,
+    Sim,
+    Net,
+    Node,
+}
 
 /// All commands, in the order of help.
-static NAMES: [&str; 7] = ["check", "list", "run", "show", "sim", "net", "node"];
+static ALL: [Name; 7] = [
+    Name::Check,
+    Name::List,
+    Name::Run,
+    Name::Show,
+    Name::Sim,
+    Name::Net,
+    Name::Node,
+];
 
-/// The usage of `node`, in two lines: it is too long for one.
-const NODE_USAGE: &str = "pgroup node [OPTIONS] <FILE> <ID> <SIZE> <SESSION> <RECORD> <TURNS>
-                   <ADDR>...";
+impl Name {
+    /// Returns the word that names the command.
+    pub fn word(self) -> &'static str {
+        match self {
+            Name::Check => "check",
+            Name::List => "list",
+            Name::Run => "run",
+            Name::Show => "show",
+            Name::Sim => "sim",
+            Name::Net => "net",
+            Name::Node => "node",
+        }
+    }
 
-/// A word that has to be there, the path of a file or digits of bytes. One that begins with a hyphen stands
-/// behind `--`.
-fn text_arg<'a>(alloc: Global, word: Word, help: &'static str) -> Arg<'a> {
-    Arg::new(alloc, word.name).required(true).help(help)
-}
+    /// Returns the command that a word names, if it names one.
+    pub fn of(word: &str) -> Option<Name> {
+        for name in ALL {
+            if name.word() == word {
+                return Some(name);
+            }
+        }
+        None
+    }
 
-/// A word that has to be there. A number below 0 is taken too, so that it is refused as its value.
-fn value_arg<'a>(alloc: Global, word: Word, help: &'static str) -> Arg<'a> {
-    text_arg(alloc, word, help).allow_negative_numbers(true)
-}
+    /// Returns the command's words, as clap reads them.
+    fn words<'a>(self, alloc: Global) -> Result<Command<'a>, AllocError> {
+        let word = self.word();
+        match self {
+            Name::Check => check::words(alloc, word),
+            Name::List => list::words(alloc, word),
+            Name::Run => run::words(alloc, word),
+            Name::Show => show::words(alloc, word),
+            Name::Sim => sim::words(alloc, word),
+            Name::Net => net::words(alloc, word),
+            Name::Node => node::words(alloc, word),
+        }
+    }
 
-/// An option with a value. A number below 0 is taken too, so that it is refused as its value.
-fn option_arg<'a>(
-    alloc: Global,
-    word: Word,
-    value_name: &'static str,
-    help: &'static str,
-) -> Arg<'a> {
-    Arg::new(alloc, word.name)
-        .long(word.name)
-        .value_name(value_name)
-        .allow_negative_numbers(true)
-        .help(help)
-}
+    /// Returns what the command's words ask for, or what is wrong with them.
+    pub fn read<'a>(
+        self,
+        alloc: Global,
+        matches: &ArgMatches<'a>,
+    ) -> Result<Asked<'a>, WordFault<'a>> {
+        match self {
+            Name::Check => check::read(matches),
+            Name::List => list::read(matches),
+            Name::Run => run::read(matches),
+            Name::Show => show::read(matches),
+            Name::Sim => sim::read(matches),
+            Name::Net => net::read(matches),
+            Name::Node => node::read(alloc, matches),
+        }
+    }
 
-/// A command whose first word is FILE.
-fn on_file<'a>(
-    alloc: Global,
-    name: &'static str,
-    about: &'static str,
-    after: &'static str,
-) -> Result<Command<'a>, AllocError> {
-    let file = text_arg(alloc, FILE, "A UCSD II.0 code file with one linked segment");
-    Command::new(alloc, name)
-        .about(about)
-        .after_help(after)
-        .arg(file)
-}
-
-/// The word SIZE of `net` and `node`.
-fn size_arg<'a>(alloc: Global) -> Arg<'a> {
-    value_arg(
-        alloc,
-        SIZE,
-        "The number of the group's nodes: 1, 3, 5, 7 or 9",
-    )
-}
-
-/// `check FILE`.
-fn check<'a>(alloc: Global) -> Result<Command<'a>, AllocError> {
-    let about = "Checks a code file, and counts its reached offsets";
-    on_file(alloc, "check", about, help::CHECK)
-}
-
-/// `list FILE`.
-fn list<'a>(alloc: Global) -> Result<Command<'a>, AllocError> {
-    let about = "Lists the reached instructions of a code file";
-    on_file(alloc, "list", about, help::LIST)
-}
-
-/// `run FILE [--steps N]`.
-fn run<'a>(alloc: Global) -> Result<Command<'a>, AllocError> {
-    let about = "Runs a code file on standard input and output";
-    let steps = "How many steps at most, in decimal digits [default: 1000000]";
-    on_file(alloc, "run", about, help::RUN)?.arg(option_arg(alloc, STEPS, "N", steps))
-}
-
-/// `show SIZE SESSION HEX`.
-fn show<'a>(alloc: Global) -> Result<Command<'a>, AllocError> {
-    let size = "The number of the group's nodes, 0 to 255";
-    let session = "The group's session, 0 to 4294967295";
-    let hex = "The bytes in hexadecimal digits, two for each byte";
-    Command::new(alloc, "show")
-        .about("Prints a datagram")
-        .after_help(help::SHOW)
-        .arg(value_arg(alloc, SIZE, size))?
-        .arg(value_arg(alloc, SESSION, session))?
-        .arg(value_arg(alloc, HEX, hex))
-}
-
-/// `sim FILE SCRIPT`.
-fn sim<'a>(alloc: Global) -> Result<Command<'a>, AllocError> {
-    let about = "Runs a code file in a group, by a script";
-    let script = "What happens to the group, line by line";
-    on_file(alloc, "sim", about, help::SIM)?.arg(text_arg(alloc, SCRIPT, script))
-}
-
-/// `net FILE SIZE TURNS`.
-fn net<'a>(alloc: Global) -> Result<Command<'a>, AllocError> {
-    let about = "Runs a code file in a group in one process, on loopback UDP";
-    on_file(alloc, "net", about, help::NET)?
-        .arg(size_arg(alloc))?
-        .arg(value_arg(alloc, TURNS, "How many turns each node has"))
-}
-
-/// The options of `node`.
-fn with_options<'a>(alloc: Global, node: Command<'a>) -> Result<Command<'a>, AllocError> {
-    let seen = "How many bytes of the output were seen before, and are not
-written again [default: 0]";
-    let campaign = "Asks to lead before the first turn";
-    let keys = "Where typed bytes come, as datagrams of at most 64 bytes;
-an empty one has the node ask to lead
-[default: standard input, read whole]";
-    let campaign = Arg::new(alloc, "campaign")
-        .long("campaign")
-        .action(ArgAction::SetTrue)
-        .help(campaign);
-    node.arg(option_arg(alloc, SEEN, "N", seen))?
-        .arg(campaign)?
-        .arg(option_arg(alloc, KEYS, "ADDR", keys))
-}
-
-/// `node FILE ID SIZE SESSION RECORD TURNS ADDR.. [--seen N] [--campaign] [--keys ADDR]`.
-fn node<'a>(alloc: Global) -> Result<Command<'a>, AllocError> {
-    let about = "Runs a code file at one node of a group, on UDP";
-    let session = "The group's session, 0 to 4294967295";
-    let addresses = "The address of each node in order, as 127.0.0.1:7001";
-    let addresses = value_arg(alloc, ADDR, addresses)
-        .num_args(1..)
-        .action(ArgAction::Append);
-    let node = on_file(alloc, "node", about, help::NODE)?
-        .override_usage(NODE_USAGE)
-        .arg(value_arg(alloc, ID, "The node's number, from 1 on"))?
-        .arg(size_arg(alloc))?
-        .arg(value_arg(alloc, SESSION, session))?
-        .arg(text_arg(alloc, RECORD, "The file of the node's record"))?
-        .arg(value_arg(alloc, TURNS, "How many turns the node has"))?
-        .arg(addresses)?;
-    with_options(alloc, node)
-}
-
-/// The command of a name, which is one of `NAMES`.
-fn command<'a>(alloc: Global, name: &str) -> Result<Command<'a>, AllocError> {
-    match name {
-        "check" => check(alloc),
-        "list" => list(alloc),
-        "run" => run(alloc),
-        "show" => show(alloc),
-        "sim" => sim(alloc),
-        "net" => net(alloc),
-        _ => node(alloc),
+    /// Returns the command by itself, for the texts of its faults: its usage begins with `pgroup`
+    /// too.
+    pub fn alone<'a>(self, alloc: Global) -> Result<Command<'a>, AllocError> {
+        let word = self.word();
+        let full_name = format!(in alloc; "pgroup {word}")?;
+        self.words(alloc)?.bin_name(full_name.as_str())
     }
 }
 
-/// A command by itself, for the texts of its faults: its usage begins with `pgroup` too.
-pub fn lone_command<'a>(alloc: Global, name: &str) -> Result<Command<'a>, AllocError> {
-    let full_name = format!(in alloc; "pgroup {name}")?;
-    command(alloc, name)?.bin_name(full_name.as_str())
-}
-
-/// All commands. Without one of them the built-in program runs, so that usage shows the command as optional.
+/// Returns all commands. Without one of them the built-in program runs, so that usage shows the
+/// command as optional.
 pub fn commands<'a>(alloc: Global) -> Result<Command<'a>, AllocError> {
     let about = "Runs UCSD Pascal II.0 p-code programs, alone or in a group of nodes.
 Without words it runs a built-in program, which prints A.";
@@ -229,9 +123,9 @@ Without words it runs a built-in program, which prints A.";
         .bin_name("pgroup")?
         .no_binary_name(true)
         .about(about)
-        .after_help(help::PGROUP);
-    for name in NAMES {
-        all = all.subcommand(command(alloc, name)?)?;
+        .after_help(HELP);
+    for name in ALL {
+        all = all.subcommand(name.words(alloc)?)?;
     }
     Ok(all)
 }

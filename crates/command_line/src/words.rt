@@ -1,9 +1,8 @@
 //! What the words of the command line ask for.
-use crate::commands::{FILE, HEX, SCRIPT, SESSION, SIZE, STEPS, commands, lone_command};
-use crate::group::{NetWords, NodeWords, read_net, read_node};
-use crate::value::{WordFault, byte_of, count_in, count_of, text_of};
+use crate::commands::{Name, NetWords, NodeWords, commands};
+use crate::value::WordFault;
+use clap::Error;
 use clap::error::ErrorKind;
-use clap::{ArgMatches, Error};
 use std::alloc::{AllocError, Global};
 use std::rt::Env;
 use std::string::String;
@@ -30,7 +29,8 @@ pub enum Asked<'a> {
         file: &'a str,
         steps: u32,
     },
-    /// To print the datagram of these hexadecimal digits, which was sent in a group of this size and session.
+    /// To print the datagram of these hexadecimal digits, which was sent in a group of this size
+    /// and session.
     Show {
         size: u8,
         session: u32,
@@ -69,80 +69,9 @@ impl From<AllocError> for NotAsked {
     }
 }
 
-/// What `check` asks for, or what is wrong with its words.
-fn read_check<'a>(matches: &ArgMatches<'a>) -> Result<Asked<'a>, WordFault<'a>> {
-    let file = text_of(matches, FILE)?;
-    Ok(Asked::Check { file })
-}
-
-/// What `list` asks for, or what is wrong with its words.
-fn read_list<'a>(matches: &ArgMatches<'a>) -> Result<Asked<'a>, WordFault<'a>> {
-    let file = text_of(matches, FILE)?;
-    Ok(Asked::List { file })
-}
-
-/// What `run` asks for, or what is wrong with its words.
-fn read_run<'a>(matches: &ArgMatches<'a>) -> Result<Asked<'a>, WordFault<'a>> {
-    let file = text_of(matches, FILE)?;
-    let steps = match matches.get_str(STEPS.name) {
-        None => DEFAULT_STEPS,
-        Some(text) => count_in(STEPS, text)?,
-    };
-    Ok(Asked::Run { file, steps })
-}
-
-/// What `show` asks for, or what is wrong with its words.
-fn read_show<'a>(matches: &ArgMatches<'a>) -> Result<Asked<'a>, WordFault<'a>> {
-    let size = byte_of(matches, SIZE)?;
-    let session = count_of(matches, SESSION)?;
-    let digits = text_of(matches, HEX)?;
-    Ok(Asked::Show {
-        size,
-        session,
-        digits,
-    })
-}
-
-/// What `sim` asks for, or what is wrong with its words.
-fn read_sim<'a>(matches: &ArgMatches<'a>) -> Result<Asked<'a>, WordFault<'a>> {
-    let file = text_of(matches, FILE)?;
-    let script = text_of(matches, SCRIPT)?;
-    Ok(Asked::Sim { file, script })
-}
-
-/// What `net` and `node` ask for, or what is wrong with their words.
-fn read_group<'a>(
-    alloc: Global,
-    name: &str,
-    matches: &ArgMatches<'a>,
-) -> Result<Asked<'a>, WordFault<'a>> {
-    let file = text_of(matches, FILE)?;
-    if name == "net" {
-        let net = read_net(matches)?;
-        return Ok(Asked::Net { file, net });
-    }
-    let node = read_node(alloc, matches)?;
-    Ok(Asked::Node { file, node })
-}
-
-/// What a command asks for, or what is wrong with its words.
-fn read_command<'a>(
-    alloc: Global,
-    name: &str,
-    matches: &ArgMatches<'a>,
-) -> Result<Asked<'a>, WordFault<'a>> {
-    match name {
-        "check" => read_check(matches),
-        "list" => read_list(matches),
-        "run" => read_run(matches),
-        "show" => read_show(matches),
-        "sim" => read_sim(matches),
-        _ => read_group(alloc, name, matches),
-    }
-}
-
-/// What stands before and behind the advice to put a word that begins with a hyphen behind `--`, in clap's
-/// text of an unknown option. The advice helps only where the word is a path, and clap gives it for every word.
+/// What stands before and behind the advice to put a word that begins with a hyphen behind `--`, in
+/// clap's text of an unknown option. The advice helps only where the word is a path, and clap gives
+/// it for every word.
 fn around_advice(text: &str) -> Option<(&str, &str)> {
     let (fault, others) = text.split_once("\n\n  tip: to pass '")?;
     let (_, usage) = others.rsplit_once("\n\nUsage: ")?;
@@ -173,19 +102,21 @@ fn unread(alloc: Global, error: Error) -> NotAsked {
     }
 }
 
-/// The text of a fault in the words of the command of this name.
+/// The text of a fault in the words of this command.
 fn text_of_word_fault(
     alloc: Global,
-    name: &str,
+    name: Name,
     fault: WordFault<'_>,
 ) -> Result<String, AllocError> {
     let what = format!(in alloc; "{fault}")?;
-    let error = lone_command(alloc, name)?.error(ErrorKind::ValueValidation, what.as_str())?;
+    let error = name
+        .alone(alloc)?
+        .error(ErrorKind::ValueValidation, what.as_str())?;
     format!(in alloc; "{error}")
 }
 
-/// The refusal of a fault in the words of the command of this name.
-fn refused(alloc: Global, name: &str, fault: WordFault<'_>) -> NotAsked {
+/// The refusal of a fault in the words of this command.
+fn refused(alloc: Global, name: Name, fault: WordFault<'_>) -> NotAsked {
     if fault == WordFault::Memory {
         return NotAsked::Memory;
     }
@@ -210,8 +141,9 @@ pub fn read_words<'a>(alloc: Global, words: &'a [String]) -> Result<Asked<'a>, N
         Ok(matches) => matches,
         Err(error) => return Err(unread(alloc, error)),
     };
-    match matches.subcommand() {
-        Some((name, words)) => match read_command(alloc, name, words) {
+    let found = matches.subcommand();
+    match found.and_then(|(word, words)| Some((Name::of(word)?, words))) {
+        Some((name, words)) => match name.read(alloc, words) {
             Ok(asked) => Ok(asked),
             Err(fault) => Err(refused(alloc, name, fault)),
         },
@@ -219,8 +151,8 @@ pub fn read_words<'a>(alloc: Global, words: &'a [String]) -> Result<Asked<'a>, N
     }
 }
 
-/// The words of the command line without the program's own name. What can't be had is refused: there is no
-/// memory, or a word is not UTF-8.
+/// The words of the command line without the program's own name. What can't be had is refused:
+/// there is no memory, or a word is not UTF-8.
 pub fn words_of<H: Env + AllocGlobal>(rt: &H) -> Result<Vec<String>, NotAsked> {
     match env::args(rt) {
         Ok(words) => Ok(words.skip(1).collect(rt.alloc())?),

@@ -1,4 +1,5 @@
-//! Tests of the crates of the command with a reader, a writer or an environment that fails. This crate has nothing else.
+//! Tests of the crates of the command with a reader, a writer or an environment that fails. This
+//! crate has nothing else.
 #![tactic(auto)]
 
 #[cfg(test)]

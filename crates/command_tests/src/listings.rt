@@ -7,7 +7,8 @@ use std::fs;
 use std::io::{self, ErrorKind, Write};
 use std::test::Fail;
 
-/// A writer that takes some bytes of a write at most, and fails at one of its writes or at each flush.
+/// A writer that takes some bytes of a write at most, and fails at one of its writes or at each
+/// flush.
 #[derive(Drop)]
 struct Meter {
     bytes: Vec<u8>,
@@ -91,16 +92,16 @@ fn a_listing_that_fails(rt: HostRuntime) -> Result<(), Fail> {
     Ok(())
 }
 
-/// Procedure 1 calls procedure 255 and writes A. Its attribute table follows at 16, and the parts of the
-/// others at 26.
+/// Procedure 1 calls procedure 255 and writes A. Its attribute table follows at 16, and the parts
+/// of the others at 26.
 const CALLS_THE_LAST: [u8; 26] = [
     0xcf, 0xff, 0x41, 0xab, 0x03, 0x01, 0xa5, 0x03, 0x00, 0x01, 0x00, 0x00, 0x9e, 0x06, 0xc1, 0x00,
     0x02, 0x00, 0x04, 0x00, 0x06, 0x00, 0x16, 0x00, 0x01, 0x00,
 ];
 
-/// A segment of 255 procedures, as many as there can be: each but the first has 12 bytes, an RNP and its
-/// attribute table at lex level 1. So the table of procedure i ends at 12 i + 13, and its pointer, which
-/// stands at 3,584 - 2 i, is 3,572 - 14 i.
+/// A segment of 255 procedures, as many as there can be: each but the first has 12 bytes, an RNP
+/// and its attribute table at lex level 1. So the table of procedure i ends at 12 i + 13, and its
+/// pointer, which stands at 3,584 - 2 i, is 3,572 - 14 i.
 fn many_procedures(alloc: Global) -> Result<Vec<u8>, AllocError> {
     let mut segment = Vec::from_slice(alloc, &CALLS_THE_LAST)?;
     for number in 2..=255u8 {
@@ -130,7 +131,8 @@ const LISTING_OF_THE_FIRST: &str = "proc 1 level 0 params 2 data 1 enter 0 exit 
 00014 RBP 0
 ";
 
-/// The listing of `many_procedures`: the RNP of procedure i stands at 12 i + 2, its ENTER and its EXIT.
+/// The listing of `many_procedures`: the RNP of procedure i stands at 12 i + 2, its ENTER and its
+/// EXIT.
 fn listing_of_many(alloc: Global) -> Result<String, AllocError> {
     let mut listing = String::from_str(alloc, LISTING_OF_THE_FIRST)?;
     for number in 2..=255u16 {

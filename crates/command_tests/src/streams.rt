@@ -1,4 +1,5 @@
-//! Runs and scripts over a reader or a writer that fails, and help that is printed to such a writer.
+//! Runs and scripts over a reader or a writer that fails, and help that is printed to such a
+//! writer.
 use super::files::{PRINTS_A, READS, write_file, write_program};
 use super::refusals::{is_code, is_refused};
 use command_line::{DEFAULT_STEPS, NotAsked, read_words};

@@ -33,6 +33,7 @@ left : (test : Bool) (n : ℕ) → (test ≡ true → ⊥) → None ≡ (if test
 left false n h = refl
 left true n h = absurd (h refl)
 
-pub decimal_from : (bits : ℕ) (ds : List ℕ) (r : Option ℕ) → SomeIff r (IsNumeral 10 ds × (digits_value 10 ds < 2 ^ bits)) (digits_value 10 ds) → r ≡ decimal_of bits ds
+pub decimal_from : (bits : ℕ) (ds : List ℕ) (r : Option ℕ)
+    → SomeIff r (IsNumeral 10 ds × (digits_value 10 ds < 2 ^ bits)) (digits_value 10 ds) → r ≡ decimal_of bits ds
 decimal_from bits ds None h = left (is_number bits ds) (digits_value 10 ds) (λ e. h (reads bits ds e))
 decimal_from bits ds (Some n) h = rw h.1 (chosen (is_number bits ds) (digits_value 10 ds) (tests bits ds h.0))

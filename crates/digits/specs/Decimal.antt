@@ -3,6 +3,9 @@ use Rattle.std.specs.Prelude.{ℕ, ◌^◌, List, length, Option, Some, None, �
 use Rattle.std.specs.Str.{all_ascii_digits}
 use Rattle.std.specs.Str.Parse.{digits_value}
 
--- the number of decimal digits alone, of which there is one at least, if so many bits are enough for it; it may begin with zeros
+-- the number of decimal digits alone, of which there is one at least, if so many bits are enough
+-- for it; it may begin with zeros
 abbrev pub decimal_of : ℕ → List ℕ → Option ℕ
-decimal_of bits ds = if nat_lt 0 (length ds) && all_ascii_digits ds && nat_lt (digits_value 10 ds) (2 ^ bits) then Some (digits_value 10 ds) else None
+decimal_of bits ds =
+    if nat_lt 0 (length ds) && all_ascii_digits ds && nat_lt (digits_value 10 ds) (2 ^ bits)
+    then Some (digits_value 10 ds) else None

@@ -1,4 +1,5 @@
-//! Numbers in decimal digits and bytes in hexadecimal ones, as the words of a command and of a script have them.
+//! Numbers in decimal digits and bytes in hexadecimal ones, as the words of a command and of a
+//! script have them.
 #![tactic(auto)]
 
 ghost use Rattle.std.specs.Prelude.{◌≡◌, ◌<◌, ◌^◌};
@@ -7,8 +8,8 @@ ghost use Rattle.std.specs.Option.{SomeIff};
 ghost use Rattle.digits.specs.Decimal.{decimal_of};
 ghost use Rattle.digits.specs.Hex.{hex_byte_of};
 
-/// The number of decimal digits alone, which may begin with zeros. There is none where a sign or another character stands, where
-/// nothing stands, and above `u64::MAX`.
+/// The number of decimal digits alone, which may begin with zeros. There is none where a sign or
+/// another character stands, where nothing stands, and above `u64::MAX`.
 pub fn decimal(text: &str) -> Option<u64>
     ensures { result ≡ decimal_of 64 text.now }
 {

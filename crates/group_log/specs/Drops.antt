@@ -38,9 +38,9 @@ abbrev pub one_more : ℕ → ℕ
 one_more n = min (n + 1) 4294967295
 
 -- the counts after one more drop
-abbrev pub counted : Drops → DropReason → Drops
-counted d Source = record d { source = one_more d.source }
-counted d Version = record d { version = one_more d.version }
-counted d Size = record d { size = one_more d.size }
-counted d Session = record d { session = one_more d.session }
-counted d Damaged = record d { damaged = one_more d.damaged }
+abbrev pub drops_with : Drops → DropReason → Drops
+drops_with d Source = record d { source = one_more d.source }
+drops_with d Version = record d { version = one_more d.version }
+drops_with d Size = record d { size = one_more d.size }
+drops_with d Session = record d { session = one_more d.session }
+drops_with d Damaged = record d { damaged = one_more d.damaged }

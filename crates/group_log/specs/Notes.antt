@@ -11,18 +11,18 @@ use Rattle.group_log.specs.declared.note.Note.{Note}
 use Rattle.group_log.specs.declared.note.Note.TheVariants.{NoFile, NoSocket, StartedNew, Started, Campaigns, CampaignRefused, Leads, BallotRefused, Dropped, Full, Ended}
 
 -- a text, a number in decimal digits, and what follows
-abbrev pub numbered : List ℕ → ℕ → List ℕ → List ℕ
-numbered text n rest = text ++ (decimal n ++ rest)
+abbrev pub numbered_note : List ℕ → ℕ → List ℕ → List ℕ
+numbered_note text n rest = text ++ (decimal n ++ rest)
 
 -- a ballot is written `ROUND.NODE`, and `-` where there is none
-abbrev pub ballot_text : Option Ballot → List ℕ
-ballot_text None = codes "-"
-ballot_text (Some b) = decimal b.round ++ (codes "." ++ decimal b.node)
+abbrev pub ballot_or_dash : Option Ballot → List ℕ
+ballot_or_dash None = codes "-"
+ballot_or_dash (Some b) = decimal b.round ++ (codes "." ++ decimal b.node)
 
 -- the group of a node that started
-abbrev pub group_text : Group → List ℕ → List ℕ
-group_text g rest =
-    numbered (codes "started size ") g.size (numbered (codes " session ") g.session rest)
+abbrev pub group_note : Group → List ℕ → List ℕ
+group_note g rest =
+    numbered_note (codes "started size ") g.size (numbered_note (codes " session ") g.session rest)
 
 -- how a run was over
 abbrev pub end_text : End → List ℕ
@@ -32,34 +32,34 @@ end_text Other = codes "ended refused"
 
 -- dropped datagrams, for each reason
 abbrev pub drops_text : Drops → List ℕ
-drops_text d = numbered (codes "dropped source ") d.source
-    (numbered (codes " version ") d.version
-    (numbered (codes " size ") d.size
-    (numbered (codes " session ") d.session
+drops_text d = numbered_note (codes "dropped source ") d.source
+    (numbered_note (codes " version ") d.version
+    (numbered_note (codes " size ") d.size
+    (numbered_note (codes " session ") d.session
     (codes " damaged " ++ decimal d.damaged))))
 
 -- the text of a note
 abbrev pub note_text : Note → List ℕ
 note_text (NoFile path) = codes "file " ++ (path.now ++ codes " cannot be read")
 note_text (NoSocket address) = codes "socket " ++ (socket_text address ++ codes " cannot be made")
-note_text (StartedNew group) = group_text group (codes " record new")
+note_text (StartedNew group) = group_note group (codes " record new")
 note_text (Started group starts promised places) =
-    group_text group (numbered (codes " starts ") starts
-    (codes " promised " ++ (ballot_text promised ++ (codes " places " ++ decimal places))))
-note_text (Campaigns ballot) = codes "campaigns ballot " ++ ballot_text (Some ballot)
+    group_note group (numbered_note (codes " starts ") starts
+    (codes " promised " ++ (ballot_or_dash promised ++ (codes " places " ++ decimal places))))
+note_text (Campaigns ballot) = codes "campaigns ballot " ++ ballot_or_dash (Some ballot)
 note_text (CampaignRefused fault) = codes "campaign refused " ++ code_of fault
-note_text (Leads ballot) = codes "leads ballot " ++ ballot_text (Some ballot)
+note_text (Leads ballot) = codes "leads ballot " ++ ballot_or_dash (Some ballot)
 note_text (BallotRefused ballot by) =
-    codes "refused by " ++ (ballot_text by ++ (codes " ballot " ++ ballot_text (Some ballot)))
+    codes "refused by " ++ (ballot_or_dash by ++ (codes " ballot " ++ ballot_or_dash (Some ballot)))
 note_text (Dropped drops) = drops_text drops
-note_text (Full waiting) = numbered (codes "full waiting ") waiting (codes " bytes left")
+note_text (Full waiting) = numbered_note (codes "full waiting ") waiting (codes " bytes left")
 note_text (Ended end) = end_text end
 
 -- the line of a note: the time in seconds with three decimals, the node, and the note
 abbrev pub line_text : ℕ → ℕ → Note → List ℕ
 line_text millis node note =
-    numbered (codes "") (millis / 1000)
-    (numbered (codes ".") (millis / 100 % 10)
-    (numbered (codes "") (millis / 10 % 10)
-    (numbered (codes "") (millis % 10)
-    (numbered (codes " node ") node (codes " " ++ (note_text note ++ codes "\n"))))))
+    numbered_note (codes "") (millis / 1000)
+    (numbered_note (codes ".") (millis / 100 % 10)
+    (numbered_note (codes "") (millis / 10 % 10)
+    (numbered_note (codes "") (millis % 10)
+    (numbered_note (codes " node ") node (codes " " ++ (note_text note ++ codes "\n"))))))

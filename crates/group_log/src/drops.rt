@@ -1,6 +1,6 @@
 //! Datagrams that a node drops.
 ghost use Rattle.std.specs.Prelude.{◌≡◌, slice_get};
-ghost use Rattle.group_log.specs.Drops.{counted, group_reason, one_more, reason_of, size_index};
+ghost use Rattle.group_log.specs.Drops.{drops_with, group_reason, one_more, reason_of, size_index};
 
 use paxos_msg::{Group, WireFault, decode};
 
@@ -65,7 +65,7 @@ fn one_more(count: u32) -> u32
 impl Drops {
     /// Counts one more dropped datagram.
     pub fn count(&mut self, reason: DropReason)
-        ensures { self.new ≡ counted self.old reason }
+        ensures { self.new ≡ drops_with self.old reason }
     {
         match reason {
             DropReason::Source => self.source = one_more(self.source),

@@ -61,9 +61,9 @@ struct Shown(Option<Ballot>);
 
 impl fmt::Display for Shown {
     ghost use Rattle.std.specs.Prelude.{Some};
-    ghost use Rattle.group_log.specs.Notes.{ballot_text};
+    ghost use Rattle.group_log.specs.Notes.{ballot_or_dash};
 
-    ghost output = { λ shown. Some (ballot_text shown.0) };
+    ghost output = { λ shown. Some (ballot_or_dash shown.0) };
 
     fn fmt<W: fmt::Write>(&self, f: &mut fmt::Formatter<W>) -> fmt::Result {
         match self.0 {

@@ -17,7 +17,7 @@ use Rattle.paxos_acceptor.specs.Stores.{IsOneOf}
 use Rattle.paxos_acceptor.specs.declared.me.Me.{Me}
 use Rattle.paxos_learner.specs.Backed.{MayLearn}
 use Rattle.paxos_learner.specs.Input.{front_values, keys_in_order}
-use Rattle.group_node.specs.Node.{Done, Node, started, waiting_keys}
+use Rattle.group_node.specs.Known.{Response, Known, on_start, waiting_keys}
 use Rattle.group_node.specs.Packets.{bodies_of}
 use Rattle.group_node.specs.Ranges.{IsInRange}
 use Rattle.group_node.specs.Steps.{IsLawfulCall, IsSavedBy}
@@ -27,7 +27,12 @@ use Rattle.group_node.proofs.Staying.{IsOf}
 
 -- keys of which none leaves
 pub all_stay : (learned : FinMap nat_cmp Value) (keys stay : List Key) → stay ≡ keys → AreParted learned keys stay
-all_stay learned keys stay e = record { gone = []; parts = sym e; below = All-nil (λ (k : Key). Contains (keys_in_order (front_values learned)) k) }
+all_stay learned keys stay e =
+    record {
+      gone = [];
+      parts = sym e;
+      below = All-nil (λ (k : Key). Contains (keys_in_order (front_values learned)) k);
+    }
 
 -- a message by its number was sent
 pub sent_at : (sent : Sent) (m j : ℕ) (body : Body) → slice_get sent m ≡ Some (record { sender = j; body = body }) → IsSent sent j body
@@ -45,7 +50,7 @@ saved_may : (sent : Sent) (old new : Record) (saves : Option Change) → IsSaved
 saved_may sent old new None e = tt
 saved_may sent old new (Some c) (may, e) = may
 
-module _ (w : WorldState) (n : Node) (k : ℕ) (c : Configuration) (console : List ℕ) (sits : Sits w n c k console) where
+module _ (w : WorldState) (n : Known) (k : ℕ) (c : Configuration) (console : List ℕ) (sits : Sits w n c k console) where
   -- the group has the node's record
   kept_same : (w.seats n.me.node).kept ≡ n.kept
   kept_same = ap (λ (s : Seat). s.kept) sits.seat
@@ -55,20 +60,34 @@ module _ (w : WorldState) (n : Node) (k : ℕ) (c : Configuration) (console : Li
   console_same = ap (λ (s : Seat). s.console) sits.seat
 
   -- a lawful call
-  pub call_made : (done : Done) (keys : List Key) → IsInRange n → IsLawfulCall w.sent (w.typed ++ keys) n done → IsOf n done → AreParted done.node.learner.learned (waiting_keys n ++ keys) (waiting_keys done.node)
+  pub call_made : (done : Response) (keys : List Key) → IsInRange n → IsLawfulCall w.sent (w.typed ++ keys) n done
+      → IsOf n done → AreParted done.node.learner.learned (waiting_keys n ++ keys) (waiting_keys done.node)
       → MakesCall w (after_call w n.me.node done keys c k console) n.me.node done.saves keys
   call_made done keys ranges lawful stays parted =
       let now : Up = record { learned = done.node.learner.learned; configuration = c; released = k; waiting = waiting_keys done.node } in
-      let kept : done.node.kept ≡ after (w.seats n.me.node).kept done.saves = saved_after w.sent n.kept done.node.kept done.saves lawful.saves ∙ ap (λ (r : Record). after r done.saves) (sym kept_same) in
+      let kept : done.node.kept ≡ after (w.seats n.me.node).kept done.saves =
+      saved_after w.sent n.kept done.node.kept done.saves lawful.saves
+      ∙ ap (λ (r : Record). after r done.saves) (sym kept_same) in
       let size : done.node.learner.size ≡ w.size = stays.size ∙ ranges.learner.size ∙ sym sits.size in
       record {
         bodies = bodies_of done.sends;
         was = record { learned = n.learner.learned; configuration = c; released = k; waiting = waiting_keys n };
         now = now;
         from = ap (λ (s : Seat). s.up) sits.seat;
-        left = seat_here w n.me.node (seat_of done.node c k console) ∙ (λ t. record { kept = kept t; console = sym console_same t; up = Some now });
-        rest = record { program = refl; size = refl; others = seat_elsewhere w n.me.node (seat_of done.node c k console); sent = refl; typed = refl };
-        saves = subst (λ (r : Record). IfSome done.saves (MaySave w.sent r)) (sym kept_same) (saved_may w.sent n.kept done.node.kept done.saves lawful.saves);
+        left =
+            seat_here w n.me.node (seat_of done.node c k console)
+            ∙ (λ t. record { kept = kept t; console = sym console_same t; up = Some now });
+        rest =
+            record {
+              program = refl;
+              size = refl;
+              others = seat_elsewhere w n.me.node (seat_of done.node c k console);
+              sent = refl;
+              typed = refl;
+            };
+        saves =
+            subst (λ (r : Record). IfSome done.saves (MaySave w.sent r)) (sym kept_same)
+            (saved_may w.sent n.kept done.node.kept done.saves lawful.saves);
         sends = sends_here done keys (after (w.seats n.me.node).kept done.saves) stays.me kept lawful.sends;
         learns = record {
           keeps = lawful.keeps;
@@ -79,23 +98,35 @@ module _ (w : WorldState) (n : Node) (k : ℕ) (c : Configuration) (console : Li
         };
       }
     where
-      sends_here : (done : Done) (keys : List Key) (r : Record) → done.node.me ≡ n.me → done.node.kept ≡ r
-          → MaySendAll done.node.me.group.size (w.typed ++ keys) (get done.node.learner.learned) w.sent done.node.me.node done.node.kept (bodies_of done.sends)
+      sends_here : (done : Response) (keys : List Key) (r : Record) → done.node.me ≡ n.me → done.node.kept ≡ r
+          → MaySendAll done.node.me.group.size (w.typed ++ keys)
+          (get done.node.learner.learned) w.sent done.node.me.node done.node.kept (bodies_of done.sends)
           → MaySendAll w.size (w.typed ++ keys) (get done.node.learner.learned) w.sent n.me.node r (bodies_of done.sends)
       sends_here done keys r me kept may =
-          let of_node = subst (λ (x : Me). MaySendAll x.group.size (w.typed ++ keys) (get done.node.learner.learned) w.sent x.node done.node.kept (bodies_of done.sends)) me may in
-          let of_group = subst (λ (size : ℕ). MaySendAll size (w.typed ++ keys) (get done.node.learner.learned) w.sent n.me.node done.node.kept (bodies_of done.sends)) (sym sits.size) of_node in
-          subst (λ (x : Record). MaySendAll w.size (w.typed ++ keys) (get done.node.learner.learned) w.sent n.me.node x (bodies_of done.sends)) kept of_group
+          let of_node =
+          subst (λ (x : Me). MaySendAll x.group.size (w.typed ++ keys)
+          (get done.node.learner.learned) w.sent x.node done.node.kept (bodies_of done.sends)) me may in
+          let of_group =
+          subst (λ (size : ℕ).
+          MaySendAll size (w.typed ++ keys) (get done.node.learner.learned) w.sent n.me.node done.node.kept
+          (bodies_of done.sends)) (sym sits.size) of_node in
+          subst (λ (x : Record).
+          MaySendAll w.size (w.typed ++ keys) (get done.node.learner.learned) w.sent n.me.node x
+          (bodies_of done.sends)) kept of_group
 
   -- a lawful call at which nothing is typed
-  pub call_alone : (done : Done) → IsInRange n → IsLawfulCall w.sent w.typed n done → IsOf n done → AreParted done.node.learner.learned (waiting_keys n) (waiting_keys done.node)
+  pub call_alone : (done : Response) → IsInRange n → IsLawfulCall w.sent w.typed n done → IsOf n done
+      → AreParted done.node.learner.learned (waiting_keys n) (waiting_keys done.node)
       → MakesCall w (after_call w n.me.node done [] c k console) n.me.node done.saves []
   call_alone done ranges lawful stays parted =
       call_made done [] ranges (subst (λ (typed : List Key). IsLawfulCall w.sent typed n done) (sym (append-nil w.typed)) lawful) stays
-      (subst (λ (keys : List Key). AreParted done.node.learner.learned keys (waiting_keys done.node)) (sym (append-nil (waiting_keys n))) parted)
+      (subst (λ (keys : List Key). AreParted done.node.learner.learned keys (waiting_keys done.node))
+      (sym (append-nil (waiting_keys n))) parted)
 
   -- a call of which the save failed
-  pub call_fell : (left new : Record) (saves : Option Change) → saves ≢ None → IsSavedBy w.sent n.kept saves new → IsOneOf left n.kept new → CallOrFall w (with_seat w n.me.node (record { kept = left; console = console; up = None })) n.me.node saves
+  pub call_fell : (left new : Record) (saves : Option Change) → saves ≢ None → IsSavedBy w.sent n.kept saves new
+      → IsOneOf left n.kept new
+      → CallOrFall w (with_seat w n.me.node (record { kept = left; console = console; up = None })) n.me.node saves
   call_fell left new None some by one = absurd (some refl)
   call_fell left new (Some change) some (may, e) one = inr (
     ap (λ (s : Seat). is_some s.up) sits.seat,
@@ -114,7 +145,9 @@ module _ (w : WorldState) (n : Node) (k : ℕ) (c : Configuration) (console : Li
       here : (with_seat w n.me.node seat).seats n.me.node ≡ seat
       here = seat_here w n.me.node seat
 
-      one_left : IsOneOf left n.kept new → IsOneOf ((with_seat w n.me.node seat).seats n.me.node).kept (w.seats n.me.node).kept (changed (w.seats n.me.node).kept change)
+      one_left : IsOneOf left n.kept new
+          → IsOneOf ((with_seat w n.me.node seat).seats n.me.node).kept (w.seats n.me.node).kept
+          (changed (w.seats n.me.node).kept change)
       one_left (inl f) = inl (ap (λ (s : Seat). s.kept) here ∙ f ∙ sym kept_same)
       one_left (inr f) = inr (ap (λ (s : Seat). s.kept) here ∙ f ∙ e ∙ ap (λ (r : Record). changed r change) (sym kept_same))
 
@@ -123,18 +156,23 @@ pub call_or_fall : (w v : WorldState) (i : ℕ) (saves : Option Change) → Make
 call_or_fall w v i None h = h
 call_or_fall w v i (Some c) h = inl h
 
-module _ (w : WorldState) (me : Me) (r : Record) (console : List ℕ) (down : w.seats me.node ≡ record { kept = r; console = console; up = None }) where
+module _ (w : WorldState) (me : Me) (r : Record) (console : List ℕ)
+    (down : w.seats me.node ≡ record { kept = r; console = console; up = None }) where
   -- a start
-  pub start_made : StartsUp w (after_call w me.node (started me r) [] (begin w.program) 0 console) me.node
+  pub start_made : StartsUp w (after_call w me.node (on_start me r) [] (begin w.program) 0 console) me.node
   start_made =
-      let seat : Seat = seat_of (started me r).node (begin w.program) 0 console in
+      let seat : Seat = seat_of (on_start me r).node (begin w.program) 0 console in
       record {
-        left = seat_here w me.node seat ∙ ap (λ (s : Seat). record { kept = changed s.kept change.Start; console = s.console; up = seat.up }) (sym down);
+        left =
+            seat_here w me.node seat
+            ∙ ap (λ (s : Seat). record { kept = changed s.kept change.Start; console = s.console; up = seat.up })
+            (sym down);
         rest = record { program = refl; size = refl; others = seat_elsewhere w me.node seat; sent = refl; typed = refl };
       }
 
   -- a start of which the save failed
-  pub start_fell : (left : Record) → IsOneOf left r (changed r change.Start) → Falls w (with_seat w me.node (record { kept = left; console = console; up = None })) me.node change.Start
+  pub start_fell : (left : Record) → IsOneOf left r (changed r change.Start)
+      → Falls w (with_seat w me.node (record { kept = left; console = console; up = None })) me.node change.Start
   start_fell left one = record {
     saves = tt;
     kept = one_left one;
@@ -152,6 +190,8 @@ module _ (w : WorldState) (me : Me) (r : Record) (console : List ℕ) (down : w.
       same : record (w.seats me.node) { kept = left } ≡ seat
       same = ap (λ (s : Seat). record s { kept = left }) down
 
-      one_left : IsOneOf left r (changed r change.Start) → IsOneOf ((with_seat w me.node seat).seats me.node).kept (w.seats me.node).kept (changed (w.seats me.node).kept change.Start)
+      one_left : IsOneOf left r (changed r change.Start)
+          → IsOneOf ((with_seat w me.node seat).seats me.node).kept (w.seats me.node).kept
+          (changed (w.seats me.node).kept change.Start)
       one_left (inl f) = inl (ap (λ (s : Seat). s.kept) here ∙ f ∙ ap (λ (s : Seat). s.kept) (sym down))
       one_left (inr f) = inr (ap (λ (s : Seat). s.kept) here ∙ f ∙ ap (λ (s : Seat). changed s.kept change.Start) (sym down))

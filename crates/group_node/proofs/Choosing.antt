@@ -17,7 +17,8 @@ pub record Laws (size : ℕ) (sent : Sent) : Type 0 where
 
 module _ (size : ℕ) (sent : Sent) (laws : Laws size sent) where
   -- there are at most as many chosen values as there are up to the first place without one
-  few_chosen : (values all : List Value) → AreChosen size sent values → ((v : Value) → IsChosen size sent (length all) v → ⊥) → length values ≤ length all
+  few_chosen : (values all : List Value) → AreChosen size sent values
+      → ((v : Value) → IsChosen size sent (length all) v → ⊥) → length values ≤ length all
   few_chosen values all h over = elim (cases_lt (length all) (length values)) [
     | inl less ↦
         let there = some_at values (length all) less in
@@ -51,4 +52,5 @@ module _ (size : ℕ) (sent : Sent) (laws : Laws size sent) where
   pub input_later : (less : Sent) → ((s : ℕ) (v : Value) → IsChosen size less s v → IsChosen size sent s v)
       → (x y : List ℕ) → IsInput size less x → IsInput size sent y → IsPrefix x y
   input_later less stays x y h k =
-      subst (λ (z : List ℕ). IsPrefix z y) (sym h.bytes) (chosen_begins h.values y (record { chosen = λ s v e. stays s v (h.chosen.chosen s v e) }) k)
+      subst (λ (z : List ℕ). IsPrefix z y) (sym h.bytes)
+      (chosen_begins h.values y (record { chosen = λ s v e. stays s v (h.chosen.chosen s v e) }) k)

@@ -13,7 +13,8 @@ use Rattle.paxos_msg.specs.Tests.{same_ballot, same_value}
 pub record Laws : Type 0 where
   pub ballots : (a b : Ballot) → (same_ballot a b ≡ true) ↔ (a ≡ b)
   pub values : (v w : Value) → (same_value v w ≡ true) ↔ (v ≡ w)
-  pub meet : (size : ℕ) (p q : ℕ → Bool) → IsMajority size p → IsMajority size q → (i : ℕ) × (0 < i) × (i ≤ size) × IsTrue (p i) × IsTrue (q i)
+  pub meet : (size : ℕ) (p q : ℕ → Bool) → IsMajority size p → IsMajority size q
+      → (i : ℕ) × (0 < i) × (i ≤ size) × IsTrue (p i) × IsTrue (q i)
 
 -- a thing holds, or it does not
 abbrev pub Decided : Type 0 → Type 0
@@ -128,11 +129,19 @@ pub chosen_decided : Laws → (size : ℕ) (sent : Sent) (b : Ballot) (s : ℕ) 
 unfolding acceptors
 chosen_decided laws size sent b s v = elim (cases_lt size (2 * count_of (acceptors laws sent b s v) size)) [
   | inl majority ↦ inl (acceptors laws sent b s v, majority, λ i member. test_sound (sent_decided laws sent i b s v) member)
-  | inr few ↦ inr (λ h. omega (arith, few, h.1, count_more h.0 (acceptors laws sent b s v) size (λ i member. test_whole (sent_decided laws sent i b s v) (h.2 i member))))
+  | inr few ↦ inr (λ h.
+      omega (
+        arith,
+        few,
+        h.1,
+        count_more h.0 (acceptors laws sent b s v) size
+            (λ i member. test_whole (sent_decided laws sent i b s v) (h.2 i member)),
+      ))
 ]
 
 -- what is chosen was accepted in a message
-pub chosen_was_accepted : Laws → (size : ℕ) (sent : Sent) (b : Ballot) (s : ℕ) (v : Value) → IsChosenBy size sent b s v → (i : ℕ) × Contains sent (accepted i b s v)
+pub chosen_was_accepted : Laws → (size : ℕ) (sent : Sent) (b : Ballot) (s : ℕ) (v : Value) → IsChosenBy size sent b s v
+    → (i : ℕ) × Contains sent (accepted i b s v)
 chosen_was_accepted laws size sent b s v h =
     let one = laws.meet size h.0 h.0 h.1 h.1 in
     (one.0, h.2 one.0 one.3)

@@ -5,16 +5,16 @@ use Rattle.std.proofs.lemmas.Option.{slice_get_within}
 use Rattle.circular_buffer.specs.Buffer.{buffer, Buffer}
 use Rattle.pcode_file.specs.Parts.{Parts}
 use Rattle.pcode_machine.specs.declared.turn.End.{End}
-use Rattle.pcode_machine.specs.Configuration.{State, Configuration, joined, start}
+use Rattle.pcode_machine.specs.Configuration.{State, Configuration, configuration_of, start}
 use Rattle.pcode_machine.specs.Outcome.{outcome, Goes, Stops, Waiting}
-use Rattle.pcode_machine.specs.Runs.{after, Leads}
+use Rattle.pcode_machine.specs.Runs.{after_steps, LeadsIn}
 use Rattle.pcode_machine.specs.Turns.{AreQuiet, IsLast, Makes, WaitsOn, Writes}
 use Rattle.group_node.specs.declared.player.Player.{Player}
-use Rattle.group_node.specs.Player.{Advances, IsExact, Moves}
+use Rattle.group_node.specs.Player.{Advances, IsPlayed, PlaysStep}
 
 -- the laws of runs that a step stands on
 pub record Laws : Type 0 where
-  pub there : (p : Parts) (x : List ℕ) (n : ℕ) (c : Configuration) → Leads p x n c → after p x n ≡ c
+  pub there : (p : Parts) (x : List ℕ) (n : ℕ) (c : Configuration) → LeadsIn p x n c → after_steps p x n ≡ c
   pub longer : (p : Parts) (x y : List ℕ) (c d : Configuration) → outcome p x c ≡ Goes d → outcome p (x ++ y) c ≡ Goes d
 
 -- ---- steps that write or take a byte
@@ -30,22 +30,34 @@ taken_length : (x : List ℕ) (n : ℕ) → n ≤ length x → length (take n x)
 taken_length x n le = omega (arith, length-take n x)
 
 -- a step that takes what the input has next
-pub exact_more : {x : List ℕ} {old new : Player} {took wrote : List ℕ} → Laws → IsExact x old → length old.unreleased.items < 256 → Moves old new took wrote
-    → (rest : List ℕ) → (take old.read x ++ took) ++ rest ≡ x → IsExact x new
-unfolding Leads
+pub exact_more : {x : List ℕ} {old new : Player} {took wrote : List ℕ} → Laws → IsPlayed x old
+    → length old.unreleased.items < 256 → PlaysStep old new took wrote
+    → (rest : List ℕ) → (take old.read x ++ took) ++ rest ≡ x → IsPlayed x new
+unfolding LeadsIn
 exact_more {x} {old} {new} {took} {wrote} laws h room m rest split =
     let len = taken_length x old.read h.read in
-    let goes = laws.longer old.machine.program (take old.read x ++ took) rest (joined old.machine.state (length (take old.read x)) h.output) (joined new.machine.state (length (take old.read x) + length took) (h.output ++ wrote)) (m.made.steps (take old.read x) h.output) in
-    let P : List ℕ → Type 0 = λ y. outcome old.machine.program y (joined old.machine.state (length (take old.read x)) h.output) ≡ Goes (joined new.machine.state (length (take old.read x) + length took) (h.output ++ wrote)) in
-    let Q : ℕ → Type 0 = λ k. outcome old.machine.program x (joined old.machine.state k h.output) ≡ Goes (joined new.machine.state (k + length took) (h.output ++ wrote)) in
+    let goes =
+    laws.longer old.machine.program (take old.read x ++ took) rest
+    (configuration_of old.machine.state (length (take old.read x)) h.output)
+    (configuration_of new.machine.state (length (take old.read x) + length took) (h.output ++ wrote))
+    (m.made.steps (take old.read x) h.output) in
+    let P : List ℕ → Type 0 =
+    λ y. outcome old.machine.program y (configuration_of old.machine.state (length (take old.read x)) h.output)
+    ≡ Goes (configuration_of new.machine.state (length (take old.read x) + length took) (h.output ++ wrote)) in
+    let Q : ℕ → Type 0 =
+    λ k. outcome old.machine.program x (configuration_of old.machine.state k h.output)
+    ≡ Goes (configuration_of new.machine.state (k + length took) (h.output ++ wrote)) in
     let all : length ((take old.read x ++ took) ++ rest) ≡ length x = ap length split in
-    let within : old.read + length took ≤ length x = omega (arith, length-append (take old.read x ++ took) rest, length-append (take old.read x) took) in
+    let within : old.read + length took ≤ length x =
+    omega (arith, length-append (take old.read x ++ took) rest, length-append (take old.read x) took) in
     let waits = ap (λ (b : Buffer ℕ). b.items) m.waits in
     let capacity = ap (λ (b : Buffer ℕ). b.capacity) m.waits in
     let tail = drop-append-le old.released h.output wrote h.released in
     record {
       output = h.output ++ wrote;
-      made = rw (m.program, m.steps, add-one, m.read) (joined old.machine.state old.read h.output, h.made, subst Q len (subst P split goes));
+      made =
+          rw (m.program, m.steps, add-one, m.read)
+          (configuration_of old.machine.state old.read h.output, h.made, subst Q len (subst P split goes));
       read = rw m.read within;
       waits = rw (waits, m.released, tail, h.waits) refl;
       released = rw m.released (omega (arith, length-append h.output wrote, h.released));
@@ -56,7 +68,8 @@ exact_more {x} {old} {new} {took} {wrote} laws h room m rest split =
     }
 
 -- a step that takes nothing
-pub exact_idle : {x : List ℕ} {old new : Player} {wrote : List ℕ} → Laws → IsExact x old → length old.unreleased.items < 256 → Moves old new [] wrote → IsExact x new
+pub exact_idle : {x : List ℕ} {old new : Player} {wrote : List ℕ} → Laws → IsPlayed x old
+    → length old.unreleased.items < 256 → PlaysStep old new [] wrote → IsPlayed x new
 exact_idle {x} {old} {new} {wrote} laws h room m =
     exact_more laws h room m (drop old.read x) (rw (append-nil (take old.read x)) (take-append-drop old.read x))
 
@@ -67,8 +80,9 @@ drop_at (y ∷ ys) zero b e = let same : y ≡ b = cc in rw same refl
 drop_at (y ∷ ys) (suc n) b e = drop_at ys n b e
 
 -- a step that takes the next byte of the input
-pub exact_fed : {x : List ℕ} {old new : Player} {b : ℕ} {wrote : List ℕ} → Laws → IsExact x old → length old.unreleased.items < 256 → slice_get x old.read ≡ Some b
-    → Moves old new (b ∷ []) wrote → IsExact x new
+pub exact_fed : {x : List ℕ} {old new : Player} {b : ℕ} {wrote : List ℕ} → Laws → IsPlayed x old
+    → length old.unreleased.items < 256 → slice_get x old.read ≡ Some b
+    → PlaysStep old new (b ∷ []) wrote → IsPlayed x new
 exact_fed {x} {old} {new} {b} {wrote} laws h room e m =
     let whole : take old.read x ++ (b ∷ drop (suc old.read) x) ≡ x = rw (← drop_at x old.read b e) (take-append-drop old.read x) in
     exact_more laws h room m (drop (suc old.read) x) (rw append_assoc whole)
@@ -76,8 +90,8 @@ exact_fed {x} {old} {new} {b} {wrote} laws h room e m =
 -- ---- why no step is made
 
 -- the configuration that a replay comes to
-pub replayed : {x : List ℕ} {q : Player} → ((p : Parts) (x : List ℕ) (n : ℕ) (c : Configuration) → Leads p x n c → after p x n ≡ c)
-    → (h : IsExact x q) → after q.machine.program x q.steps ≡ joined q.machine.state q.read h.output
+pub replayed : {x : List ℕ} {q : Player} → ((p : Parts) (x : List ℕ) (n : ℕ) (c : Configuration) → LeadsIn p x n c → after_steps p x n ≡ c)
+    → (h : IsPlayed x q) → after_steps q.machine.program x q.steps ≡ configuration_of q.machine.state q.read h.output
 replayed {x} {q} there h = there q.machine.program x q.steps _ h.made
 
 -- where there is no next byte, all were read
@@ -88,24 +102,28 @@ all_read (y ∷ ys) zero e le = absurd cc
 all_read (y ∷ ys) (suc n) e le = let r = all_read ys n e (omega arith) in (ap suc r.0, ap (λ (zs : List ℕ). y ∷ zs) r.1)
 
 -- the machine waits, and all of the input is read
-pub halts_waiting : {x : List ℕ} {q : Player} {p : Parts} → Laws → IsExact x q → q.machine.program ≡ p → WaitsOn p q.machine.state → slice_get x q.read ≡ None
-    → outcome q.machine.program x (after q.machine.program x q.steps) ≡ Waiting
+pub halts_waiting : {x : List ℕ} {q : Player} {p : Parts} → Laws → IsPlayed x q → q.machine.program ≡ p
+    → WaitsOn p q.machine.state → slice_get x q.read ≡ None
+    → outcome q.machine.program x (after_steps q.machine.program x q.steps) ≡ Waiting
 halts_waiting {x} {q} {p} laws h same w e =
     let r = all_read x q.read e h.read in
-    let Q : ℕ → Type 0 = λ k. outcome p x (joined q.machine.state k h.output) ≡ Waiting in
+    let Q : ℕ → Type 0 = λ k. outcome p x (configuration_of q.machine.state k h.output) ≡ Waiting in
     rw (replayed laws.there h, same) (subst Q (sym r.0) (w.waits x h.output))
 
 -- the program has ended
-pub halts_ended : {x : List ℕ} {q : Player} {p : Parts} {e : End} → Laws → IsExact x q → q.machine.program ≡ p → IsLast p q.machine.state e
-    → outcome q.machine.program x (after q.machine.program x q.steps) ≡ Stops e
+pub halts_ended : {x : List ℕ} {q : Player} {p : Parts} {e : End} → Laws → IsPlayed x q → q.machine.program ≡ p → IsLast p q.machine.state e
+    → outcome q.machine.program x (after_steps q.machine.program x q.steps) ≡ Stops e
 halts_ended {x} {q} {p} {e} laws h same last = rw (replayed laws.there h, same) (last.stops x q.read h.output)
 
 -- ---- other calls
 
 -- steps that read and write nothing
 pub exact_quiet : {x : List ℕ} {old new : Player} (k : ℕ)
-    → ((p : Parts) (x : List ℕ) (n m r : ℕ) (o : List ℕ) (s t : State) → Leads p x n (joined s r o) → AreQuiet p m s t → Leads p x (n + m) (joined t r o)) → IsExact x old → AreQuiet old.machine.program k old.machine.state new.machine.state
-    → new.machine.program ≡ old.machine.program → new.unreleased ≡ old.unreleased → new.steps ≡ old.steps + k → new.read ≡ old.read → new.released ≡ old.released → IsExact x new
+    → ((p : Parts) (x : List ℕ) (n m r : ℕ) (o : List ℕ) (s t : State) → LeadsIn p x n (configuration_of s r o)
+    → AreQuiet p m s t → LeadsIn p x (n + m) (configuration_of t r o)) → IsPlayed x old
+    → AreQuiet old.machine.program k old.machine.state new.machine.state
+    → new.machine.program ≡ old.machine.program → new.unreleased ≡ old.unreleased → new.steps ≡ old.steps + k
+    → new.read ≡ old.read → new.released ≡ old.released → IsPlayed x new
 exact_quiet {x} {old} {new} k quiet h a program waits steps read released = record {
   output = h.output;
   made = rw (program, steps, read) (quiet old.machine.program x old.steps k old.read h.output old.machine.state new.machine.state h.made a);
@@ -122,23 +140,35 @@ exact_quiet {x} {old} {new} k quiet h a program waits steps read released = reco
 
 -- the same as it is seen after them
 pub advances : {x : List ℕ} {old new : Player} (k : ℕ)
-    → ((p : Parts) (x : List ℕ) (n m r : ℕ) (o : List ℕ) (s t : State) → Leads p x n (joined s r o) → AreQuiet p m s t → Leads p x (n + m) (joined t r o)) → IsExact x old → AreQuiet old.machine.program k old.machine.state new.machine.state
-    → new.machine.program ≡ old.machine.program → new.unreleased ≡ old.unreleased → new.steps ≡ old.steps + k → new.read ≡ old.read → new.released ≡ old.released → Advances x k old new
+    → ((p : Parts) (x : List ℕ) (n m r : ℕ) (o : List ℕ) (s t : State) → LeadsIn p x n (configuration_of s r o)
+    → AreQuiet p m s t → LeadsIn p x (n + m) (configuration_of t r o)) → IsPlayed x old
+    → AreQuiet old.machine.program k old.machine.state new.machine.state
+    → new.machine.program ≡ old.machine.program → new.unreleased ≡ old.unreleased → new.steps ≡ old.steps + k
+    → new.read ≡ old.read → new.released ≡ old.released → Advances x k old new
 advances {x} {old} {new} k quiet h a program waits steps read released =
-    record { exact = exact_quiet k quiet h a program waits steps read released; unreleased = waits; program = program; released = released; steps = steps }
+    record {
+      exact = exact_quiet k quiet h a program waits steps read released;
+      unreleased = waits;
+      program = program;
+      released = released;
+      steps = steps;
+    }
 
 -- the steps before the one that wrote a byte
 abbrev pub advanced : Player → ℕ → State → Player
 advanced old k u = record old { machine = record old.machine { state = u }; steps = old.steps + k }
 
 pub to_advanced : {x : List ℕ} {old : Player} (k : ℕ) (u : State)
-    → ((p : Parts) (x : List ℕ) (n m r : ℕ) (o : List ℕ) (s t : State) → Leads p x n (joined s r o) → AreQuiet p m s t → Leads p x (n + m) (joined t r o)) → IsExact x old → AreQuiet old.machine.program k old.machine.state u
+    → ((p : Parts) (x : List ℕ) (n m r : ℕ) (o : List ℕ) (s t : State) → LeadsIn p x n (configuration_of s r o)
+    → AreQuiet p m s t → LeadsIn p x (n + m) (configuration_of t r o)) → IsPlayed x old
+    → AreQuiet old.machine.program k old.machine.state u
     → Advances x k old (advanced old k u)
 to_advanced k u quiet h a = advances k quiet h a refl refl refl refl refl
 
 -- before the first step
-pub exact_start : (x : List ℕ) (q : Player) → q.machine.state ≡ start q.machine.program → q.steps ≡ 0 → q.read ≡ 0 → q.released ≡ 0 → q.unreleased ≡ buffer [] 256 → IsExact x q
-unfolding Leads
+pub exact_start : (x : List ℕ) (q : Player) → q.machine.state ≡ start q.machine.program → q.steps ≡ 0 → q.read ≡ 0
+    → q.released ≡ 0 → q.unreleased ≡ buffer [] 256 → IsPlayed x q
+unfolding LeadsIn
 exact_start x q state steps read released waits = record {
   output = [];
   made = rw (state, steps, read) refl;
@@ -152,15 +182,15 @@ exact_start x q state steps read released waits = record {
 }
 
 -- where a byte waits, not all output is released
-pub more_released : {x : List ℕ} {q : Player} {b : ℕ} → IsExact x q → slice_get q.unreleased.items 0 ≡ Some b → q.released < q.steps
+pub more_released : {x : List ℕ} {q : Player} {b : ℕ} → IsPlayed x q → slice_get q.unreleased.items 0 ≡ Some b → q.released < q.steps
 more_released {x} {q} {b} h e =
     let e' : slice_get (drop q.released h.output) 0 ≡ Some b = rw h.waits at e in
     let more : 0 < length (drop q.released h.output) = slice_get_within (drop q.released h.output) 0 b e' in
     omega (arith, length-drop q.released h.output, h.few)
 
 -- the first byte that waits is released
-pub exact_released : {x : List ℕ} {q : Player} {b : ℕ} → IsExact x q → slice_get q.unreleased.items 0 ≡ Some b
-    → IsExact x (record q { unreleased = buffer (drop 1 q.unreleased.items) q.unreleased.capacity; released = q.released + 1 })
+pub exact_released : {x : List ℕ} {q : Player} {b : ℕ} → IsPlayed x q → slice_get q.unreleased.items 0 ≡ Some b
+    → IsPlayed x (record q { unreleased = buffer (drop 1 q.unreleased.items) q.unreleased.capacity; released = q.released + 1 })
 exact_released {x} {q} {b} h e =
     let e' : slice_get (drop q.released h.output) 0 ≡ Some b = rw h.waits at e in
     let more : 0 < length (drop q.released h.output) = slice_get_within (drop q.released h.output) 0 b e' in

@@ -3,13 +3,13 @@ use Rattle.std.proofs.Common.{◌≡◌, Some, Err, IsErrOf, refl}
 use Rattle.paxos_msg.specs.Batches.{Change}
 use Rattle.paxos_msg.specs.Records.{changed}
 use Rattle.paxos_acceptor.specs.Follows.{Follows}
-use Rattle.paxos_acceptor.specs.States.{State}
+use Rattle.paxos_acceptor.specs.States.{AcceptorState}
 use Rattle.paxos_acceptor.specs.Stores.{StoreState}
 use Rattle.paxos_acceptor.specs.declared.fault.AcceptorFault.{AcceptorFault}
 use Rattle.paxos_acceptor.specs.declared.fault.AcceptorFault.TheVariants as acceptor
 use Rattle.group_node.specs.declared.fault.NodeFault.TheVariants.{Store}
 use Rattle.group_node.specs.Calls.{node_fault, Saves}
-use Rattle.group_node.specs.Node.{Done, Node}
+use Rattle.group_node.specs.Known.{Response, Known}
 
 -- a node's fault is the device's just where the acceptor's is
 is_device : {T U : Type 0} (e : AcceptorFault) → IsErrOf {T = T} (Err (node_fault e)) Store → IsErrOf {T = U} (Err e) acceptor.Store
@@ -27,9 +27,12 @@ device_is acceptor.BadRecord h = absurd cc
 device_is acceptor.StartsSpent h = absurd cc
 
 -- the store of a call that saves this change, where the save is refused
-pub refused_saves : {S T U : Type 0} {honest at_will : Type 0} {state : S → StoreState} {old new : State S} {c : Change} {e : AcceptorFault} (n m : Node) (done : Done)
-    → Follows {S = S} {T = T} honest at_will state old new (Some c) (Err e) → n.kept ≡ old.kept → done.saves ≡ Some c → done.node.kept ≡ changed old.kept c
-    → Saves {S = S} {T = U} honest at_will state (record { rules = n; is_stopped = old.is_closed; store = old.store }) (record { rules = m; is_stopped = new.is_closed; store = new.store }) done (Err (node_fault e))
+pub refused_saves : {S T U : Type 0} {honest at_will : Type 0} {state : S
+    → StoreState} {old new : AcceptorState S} {c : Change} {e : AcceptorFault} (n m : Known) (done : Response)
+    → Follows {S = S} {T = T} honest at_will state old new (Some c) (Err e) → n.kept ≡ old.kept → done.saves ≡ Some c
+    → done.node.kept ≡ changed old.kept c
+    → Saves {S = S} {T = U} honest at_will state (record { known = n; is_stopped = old.is_closed; store = old.store })
+    (record { known = m; is_stopped = new.is_closed; store = new.store }) done (Err (node_fault e))
 refused_saves {S} {T} {U} {honest} {at_will} {state} {old} {new} {c} {e} n m done h kept saves next = record {
   saved = λ hon. tt;
   device = λ hon s. rw (kept, next) (h.device hon (is_device {T = U} {U = T} e s));

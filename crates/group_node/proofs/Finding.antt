@@ -32,7 +32,8 @@ module _ (laws : Laws) (size : ℕ) (sent : Sent) (s : ℕ) where
     | inr none ↦ inr (λ b v e chosen.
         let eb : c ≡ b = cc in
         let ev : u ≡ v = cc in
-        none (subst (λ (w : Value). IsChosenBy size sent c s w) (sym ev) (subst (λ (d : Ballot). IsChosenBy size sent d s v) (sym eb) chosen)))
+        none (subst (λ (w : Value). IsChosenBy size sent c s w) (sym ev)
+        (subst (λ (d : Ballot). IsChosenBy size sent d s v) (sym eb) chosen)))
   ]
   find_by (Prepare c from) = inr (λ b v e. absurd cc)
   find_by (Promise c first upto votes) = inr (λ b v e. absurd cc)
@@ -152,8 +153,13 @@ module _ (laws : Laws) (size : ℕ) (sent : Sent) where
         input_of from.values,
         record {
           values = from.values;
-          chosen = record { chosen = λ s v e. let place : 0 + s ≡ s = omega arith in subst (λ (n : ℕ). IsChosen size sent n v) place (from.chosen s v e) };
-          over = λ v h. let place : length from.values ≡ 0 + length from.values = omega arith in from.over v (subst (λ (n : ℕ). IsChosen size sent n v) place h);
+          chosen =
+              record {
+                chosen = λ s v e. let place : 0 + s
+                    ≡ s = omega arith in subst (λ (n : ℕ). IsChosen size sent n v) place (from.chosen s v e);
+              };
+          over = λ v h. let place : length from.values ≡ 0 + length from.values =
+              omega arith in from.over v (subst (λ (n : ℕ). IsChosen size sent n v) place h);
           bytes = refl;
         },
       )

@@ -2,7 +2,7 @@
 use Rattle.std.proofs.Common.{◌≡◌, ℕ, suc, ◌+◌, List, [], ◌∷◌, drop, slice_get, Some, Bool, true, false, IsTrue, if◌then◌else◌, refl, arith}
 use Rattle.paxos_msg.specs.Keys.{Key, keys_from}
 use Rattle.paxos_learner.specs.Input.{has_key}
-use Rattle.group_node.specs.Node.{count_read}
+use Rattle.group_node.specs.WaitingKeys.{count_read}
 use Rattle.group_node.specs.Ranges.{IsWaiting}
 
 -- some have left, all of them read: those that are to leave of these are those that were to leave of all
@@ -11,14 +11,18 @@ pub record IsLeaving (read : List Key) (node start was : ℕ) (all : List ℕ) (
   pub serial : first + count_read read (keys_from node start first bytes) ≡ was + count_read read (keys_from node start was all)
 
 -- how many are read, by whether the first is
-count_by : (read : List Key) (t : Bool) (k : Key) (ks : List Key) → has_key read k ≡ t → count_read read (k ∷ ks) ≡ (if t then suc (count_read read ks) else 0)
+count_by : (read : List Key) (t : Bool) (k : Key) (ks : List Key) → has_key read k ≡ t
+    → count_read read (k ∷ ks) ≡ (if t then suc (count_read read ks) else 0)
 count_by read t k ks e = rw e refl
 
 -- the first is read, and leaves
 pub leaves : {read : List Key} {node start was first byte : ℕ} {all bytes : List ℕ} → IsLeaving read node start was all first (byte ∷ bytes)
-    → has_key read (record { node = node; start = start; serial = first; byte = byte }) ≡ true → IsLeaving read node start was all (first + 1) bytes
+    → has_key read (record { node = node; start = start; serial = first; byte = byte }) ≡ true
+    → IsLeaving read node start was all (first + 1) bytes
 leaves {read} {node} {start} {was} {first} {byte} {all} {bytes} h e =
-    let count = count_by read true (record { node = node; start = start; serial = first; byte = byte }) (keys_from node start (first + 1) bytes) e in
+    let count =
+    count_by read true (record { node = node; start = start; serial = first; byte = byte })
+    (keys_from node start (first + 1) bytes) e in
     record {
       rest = rw count at h.rest;
       serial =
@@ -29,9 +33,12 @@ leaves {read} {node} {start} {was} {first} {byte} {all} {bytes} h e =
 -- the first isn't read, and all that are left stay
 pub stay : {read : List Key} {node start was first byte : ℕ} {all bytes : List ℕ} → IsLeaving read node start was all first (byte ∷ bytes)
     → has_key read (record { node = node; start = start; serial = first; byte = byte }) ≡ false
-    → (byte ∷ bytes ≡ drop (count_read read (keys_from node start was all)) all) × (first ≡ was + count_read read (keys_from node start was all))
+    → (byte ∷ bytes ≡ drop (count_read read (keys_from node start was all)) all)
+    × (first ≡ was + count_read read (keys_from node start was all))
 stay {read} {node} {start} {was} {first} {byte} {all} {bytes} h e =
-    let count = count_by read false (record { node = node; start = start; serial = first; byte = byte }) (keys_from node start (first + 1) bytes) e in
+    let count =
+    count_by read false (record { node = node; start = start; serial = first; byte = byte })
+    (keys_from node start (first + 1) bytes) e in
     let s = rw count at h.serial in
     (rw count at h.rest, omega (arith, s))
 

@@ -19,10 +19,10 @@ mod Growing
 mod Sending
 mod Proposing
 mod Saving
-mod LawfulAnswering
+mod LawfulAcceptorRows
 mod WaitingKeys
-mod LawfulLeading
-mod LawfulHearing
+mod LawfulProposerRows
+mod LawfulLearnerRows
 mod Others
 mod Going
 mod Staying

@@ -8,31 +8,46 @@ use Rattle.paxos_msg.specs.Batches.{Body, MaySend, Msg, Record, Sent}
 use Rattle.paxos_msg.specs.Keys.{Key}
 use Rattle.paxos_msg.specs.Messages.{IsSaid}
 use Rattle.group_node.specs.Backs.{Backs, HasPromised}
-use Rattle.group_node.specs.Node.{Node}
+use Rattle.group_node.specs.Known.{Known}
 use Rattle.group_node.proofs.Growing.{IsQuiet}
 
 -- what another node may send proposes nothing under a ballot of this one
-pub other_quiet : (size : ℕ) (known : List Key) (learned : ℕ → Option Value) (sent : Sent) (me j : ℕ) (r : Record) (body : Body) → j ≢ me → MaySend size known learned sent j r body → (own : Record) → IsQuiet me own sent (record { sender = j; body = body } ∷ [])
+pub other_quiet : (size : ℕ) (known : List Key) (learned : ℕ → Option Value) (sent : Sent) (me j : ℕ) (r : Record)
+    (body : Body) → j ≢ me → MaySend size known learned sent j r body → (own : Record)
+    → IsQuiet me own sent (record { sender = j; body = body } ∷ [])
 other_quiet size known learned sent me j r body ne may own = record { asked = asked; old = old }
   where
-    asked : (b : Ballot) (from : ℕ) → b.node ≡ me → IsSaid (sent ++ record { sender = j; body = body } ∷ []) (Prepare b from) → IsSaid sent (Prepare b from) ⊎ HasPromised own b
-    asked b from mine (i, h) = elim (Contains-push_cases sent (record { sender = j; body = body }) (record { sender = i; body = Prepare b from }) h) [
-      | inl before ↦ inl (i, before)
-      | inr e ↦
-          let said : body ≡ Prepare b from = ap (λ (m : Msg). m.body) e in
-          let rule : MaySend size known learned sent j r (Prepare b from) = subst (MaySend size known learned sent j r) said may in
-          absurd (ne (sym rule.0 ∙ mine))
-    ]
+    asked : (b : Ballot) (from : ℕ) → b.node ≡ me
+        → IsSaid (sent ++ record { sender = j; body = body } ∷ []) (Prepare b from)
+        → IsSaid sent (Prepare b from) ⊎ HasPromised own b
+    asked b from mine (i, h) =
+        elim (Contains-push_cases sent (record { sender = j; body = body })
+        (record { sender = i; body = Prepare b from }) h) [
+          | inl before ↦ inl (i, before)
+          | inr e ↦
+              let said : body ≡ Prepare b from = ap (λ (m : Msg). m.body) e in
+              let rule : MaySend size known learned sent j r (Prepare b from) = subst (MaySend size known learned sent j r) said may in
+              absurd (ne (sym rule.0 ∙ mine))
+        ]
 
-    old : (b : Ballot) (s : ℕ) (v : Value) → b.node ≡ me → IsSaid (sent ++ record { sender = j; body = body } ∷ []) (Accept b s v) → IsSaid sent (Accept b s v)
-    old b s v mine (i, h) = elim (Contains-push_cases sent (record { sender = j; body = body }) (record { sender = i; body = Accept b s v }) h) [
-      | inl before ↦ (i, before)
-      | inr e ↦
-          let said : body ≡ Accept b s v = ap (λ (m : Msg). m.body) e in
-          let rule : MaySend size known learned sent j r (Accept b s v) = subst (MaySend size known learned sent j r) said may in
-          absurd (ne (sym rule.0 ∙ mine))
-    ]
+    old : (b : Ballot) (s : ℕ) (v : Value) → b.node ≡ me
+        → IsSaid (sent ++ record { sender = j; body = body } ∷ []) (Accept b s v) → IsSaid sent (Accept b s v)
+    old b s v mine (i, h) =
+        elim (Contains-push_cases sent (record { sender = j; body = body })
+        (record { sender = i; body = Accept b s v }) h) [
+          | inl before ↦ (i, before)
+          | inr e ↦
+              let said : body ≡ Accept b s v = ap (λ (m : Msg). m.body) e in
+              let rule : MaySend size known learned sent j r (Accept b s v) = subst (MaySend size known learned sent j r) said may in
+              absurd (ne (sym rule.0 ∙ mine))
+        ]
 
 -- a node stays backed when more is typed
-pub typed_later : (sent : Sent) (typed more : List Key) (n : Node) → Backs sent typed n → Backs sent (typed ++ more) n
-typed_later sent typed more n h = record { kept = h.kept; proposer = h.proposer; learner = h.learner; waiting = λ k has. Contains-append_left typed more k (h.waiting k has) }
+pub typed_later : (sent : Sent) (typed more : List Key) (n : Known) → Backs sent typed n → Backs sent (typed ++ more) n
+typed_later sent typed more n h =
+    record {
+      kept = h.kept;
+      proposer = h.proposer;
+      learner = h.learner;
+      waiting = λ k has. Contains-append_left typed more k (h.waiting k has);
+    }

@@ -11,11 +11,13 @@ use Rattle.paxos_msg.specs.declared.message.Body.TheVariants.{Prepare, Promise, 
 use Rattle.paxos_msg.specs.Batches.{Body, Vote}
 use Rattle.paxos_msg.specs.Keys.{keys_of}
 use Rattle.paxos_msg.specs.Tests.{same_ballot}
-use Rattle.paxos_proposer.specs.Proposer.{after_part, asks_on, is_covered, next_of, next_value, Proposer, proposing}
+use Rattle.paxos_proposer.specs.Proposer.{proposer_after_part, asks_on, is_covered, next_of, next_value, Proposer, proposing}
 use Rattle.paxos_learner.specs.Learner.{front_of}
-use Rattle.group_node.specs.Delivered.{on_message}
-use Rattle.group_node.specs.Leading.{accept_again, accepts_again, asks, asks_again, at_tick, are_known, batch_of, leaves_room, offer_after, offering, prepare_from, prepares_again, proposing_on, submits, submitted, taking_part, ticked}
-use Rattle.group_node.specs.Node.{at_ask, front, Node, quiet, tell_at}
+use Rattle.group_node.specs.Protocol.{on_message}
+use Rattle.group_node.specs.Known.{front, Known, quiet}
+use Rattle.group_node.specs.LearnerRows.{on_ask, tell_packet}
+use Rattle.group_node.specs.ProposerRows.{are_known, leaves_room, offer_after, offering, prepare_from, proposing_on, submitted, taking_part}
+use Rattle.group_node.specs.Tick.{accept_again, accepts_again, asks, asks_again, on_tick, batch_of, prepares_again, submits, ticked}
 use Rattle.group_node.specs.Packets.{Packet, to_all}
 use Rattle.group_node.specs.Pump.{accepts_of, offer, Proposals, propose, pump, stop}
 use Rattle.group_node.specs.Ranges.{IsInRange, IsOwnProposer}
@@ -47,7 +49,8 @@ both_few a b xs ys h k = omega (arith, length-append xs ys)
 -- ---- proposals
 
 -- a proposal, if there is one, and what goes on behind it
-propose_few : (p : Proposer) (o : Option Value) (go_on : Proposer → Proposals) (most : ℕ) → ((q : Proposer) → length (go_on q).made ≤ most) → length (propose p o go_on).made ≤ suc most
+propose_few : (p : Proposer) (o : Option Value) (go_on : Proposer → Proposals) (most : ℕ)
+    → ((q : Proposer) → length (go_on q).made ≤ most) → length (propose p o go_on).made ≤ suc most
 propose_few p None go_on most few = omega arith
 propose_few p (Some v) go_on most few = omega (arith, few (proposing p (Some v)))
 
@@ -69,8 +72,8 @@ offer_few pumped v = offer_if (leaves_room pumped) pumped.proposer v
 -- ---- messages
 
 -- an Ask: a packet for each place that is told at most
-pub ask_few : (n : Node) (j from : ℕ) → length (at_ask n j from).sends ≤ min 16 (front n - from)
-ask_few n j from = places_few (tell_at n.learner.learned j) from (min 16 (front n - from))
+pub ask_few : (n : Known) (j from : ℕ) → length (on_ask n j from).sends ≤ min 16 (front n - from)
+ask_few n j from = places_few (tell_packet n.learner.learned j) from (min 16 (front n - from))
 
 -- at most one Prepare asks on
 prepare_few : (b : Ballot) (j : ℕ) (o : Option ℕ) → length (prepare_from b j o) ≤ 1
@@ -78,30 +81,35 @@ prepare_few b j None = omega arith
 prepare_few b j (Some s) = omega arith
 
 -- by whether the part is for the proposer's own ballot
-promise_if : (n : Node) (t : Bool) (before : List Packet) (p : Proposer) → length before ≤ 1 → length (if t then proposing_on n before (pump 16 p) else quiet n).sends ≤ 17
+promise_if : (n : Known) (t : Bool) (before : List Packet) (p : Proposer) → length before ≤ 1
+    → length (if t then proposing_on n before (pump 16 p) else quiet n).sends ≤ 17
 promise_if n false before p few = omega arith
 promise_if n true before p few = both_few 1 16 before (accepts_of (pump 16 p).made) few (accepts_few 16 (pump 16 p).made (pump_few 16 p))
 
 -- a Promise, by the proposer, if there is one
-promise_few : (n : Node) (o : Option Proposer) (j : ℕ) (b : Ballot) (first upto : ℕ) (votes : List Vote) → length (taking_part n o j b first upto votes).sends ≤ 17
+promise_few : (n : Known) (o : Option Proposer) (j : ℕ) (b : Ballot) (first upto : ℕ) (votes : List Vote)
+    → length (taking_part n o j b first upto votes).sends ≤ 17
 promise_few n None j b first upto votes = omega arith
 promise_few n (Some p) j b first upto votes =
-    promise_if n (same_ballot p.ballot b) (prepare_from b j (asks_on p j first upto)) (after_part p j first upto votes) (prepare_few b j (asks_on p j first upto))
+    promise_if n (same_ballot p.ballot b) (prepare_from b j (asks_on p j first upto))
+    (proposer_after_part p j first upto votes) (prepare_few b j (asks_on p j first upto))
 
 -- by whether it leads and there is a key that isn't known
-submit_if : (n : Node) (t : Bool) (p : Proposer) (v : Value) → length (if t then offering n v (pump 16 p) (offer_after (pump 16 p) v) else quiet n).sends ≤ 17
+submit_if : (n : Known) (t : Bool) (p : Proposer) (v : Value)
+    → length (if t then offering n v (pump 16 p) (offer_after (pump 16 p) v) else quiet n).sends ≤ 17
 submit_if n false p v = omega arith
 submit_if n true p v =
     let made : List Vote = (offer_after (pump 16 p) v).made in
-    both_few 16 1 (accepts_of (pump 16 p).made) (accepts_of made) (accepts_few 16 (pump 16 p).made (pump_few 16 p)) (accepts_few 1 made (offer_few (pump 16 p) v))
+    both_few 16 1 (accepts_of (pump 16 p).made) (accepts_of made) (accepts_few 16 (pump 16 p).made (pump_few 16 p))
+    (accepts_few 1 made (offer_few (pump 16 p) v))
 
 -- a Submit, by the proposer, if there is one
-submit_few : (n : Node) (o : Option Proposer) (v : Value) → length (submitted n o v).sends ≤ 17
+submit_few : (n : Known) (o : Option Proposer) (v : Value) → length (submitted n o v).sends ≤ 17
 submit_few n None v = omega arith
 submit_few n (Some p) v = submit_if n (is_covered p (next_of p) && not (are_known n (keys_of v))) p v
 
 -- a message of any kind
-pub message_few : (n : Node) (j : ℕ) (body : Body) → length (on_message n j body).sends ≤ 17
+pub message_few : (n : Known) (j : ℕ) (body : Body) → length (on_message n j body).sends ≤ 17
 message_few n j (Prepare b from) = omega arith
 message_few n j (Promise b first upto votes) = promise_few n n.proposer j b first upto votes
 message_few n j (Accept b s v) = omega arith
@@ -126,7 +134,12 @@ prepares_few p small =
 
 -- the Accepts that are sent again
 again_few : (learned : FinMap nat_cmp Value) (p : Proposer) → length (accepts_again learned p) ≤ 16
-again_few learned p = omega (arith, length-take 16 (filter_map (accept_again learned p) (range_with_len (front_of learned) (next_of p - front_of learned))))
+again_few learned p =
+    omega (
+      arith,
+      length-take 16
+          (filter_map (accept_again learned p) (range_with_len (front_of learned) (next_of p - front_of learned))),
+    )
 
 -- one Submit at most
 submits_few : (o : Option Value) → length (submits o) ≤ 1
@@ -134,11 +147,11 @@ submits_few None = omega arith
 submits_few (Some v) = omega arith
 
 -- it, and the Ask
-asks_few : (n : Node) → length (asks n) ≤ 2
+asks_few : (n : Known) → length (asks n) ≤ 2
 asks_few n = both_few 1 1 (submits (batch_of n n.waiting)) (to_all (Ask (front n)) ∷ []) (submits_few (batch_of n n.waiting)) (omega arith)
 
 -- a tick, by the proposer, if there is one
-tick_at : (n : Node) (o : Option Proposer) → IfSome o (λ p. p.size ≤ 9) → length (ticked n o).sends ≤ 43
+tick_at : (n : Known) (o : Option Proposer) → IfSome o (λ p. p.size ≤ 9) → length (ticked n o).sends ≤ 43
 tick_at n None small = omega (arith, asks_few n)
 tick_at n (Some p) small =
     both_few 25 18 (prepares_again p ++ accepts_again n.learner.learned p) (accepts_of (pump 16 p).made ++ asks n)
@@ -146,10 +159,10 @@ tick_at n (Some p) small =
     (both_few 16 2 (accepts_of (pump 16 p).made) (asks n) (accepts_few 16 (pump 16 p).made (pump_few 16 p)) (asks_few n))
 
 -- a group has at most nine nodes
-small_all : (n : Node) (o : Option Proposer) → n.me.group.size ≤ 9 → IfSome o (IsOwnProposer n.me) → IfSome o (λ p. p.size ≤ 9)
+small_all : (n : Known) (o : Option Proposer) → n.me.group.size ≤ 9 → IfSome o (IsOwnProposer n.me) → IfSome o (λ p. p.size ≤ 9)
 small_all n None few own = tt
 small_all n (Some p) few own = omega (arith, own.size)
 
 -- a tick
-pub tick_few : (n : Node) → IsInRange n → length (at_tick n).sends ≤ 43
+pub tick_few : (n : Known) → IsInRange n → length (on_tick n).sends ≤ 43
 tick_few n h = tick_at n n.proposer (small_all n n.proposer h.me.few h.proposer)

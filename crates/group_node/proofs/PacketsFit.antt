@@ -12,8 +12,8 @@ use Rattle.paxos_msg.specs.Grammar.{AreBytes}
 use Rattle.paxos_msg.specs.Keys.{AreOwnKeys, batches, keys_from}
 use Rattle.paxos_learner.specs.Growth.{AreInWindow}
 use Rattle.paxos_learner.specs.Learner.{front_of}
-use Rattle.group_node.specs.Leading.{batch_of}
-use Rattle.group_node.specs.Node.{front, Node, own_batch}
+use Rattle.group_node.specs.Known.{front, Known, own_batch}
+use Rattle.group_node.specs.Tick.{batch_of}
 use Rattle.group_node.specs.Ranges.{IsInRange}
 use Rattle.group_node.proofs.WaitingKeys.{batch_typed}
 
@@ -29,11 +29,16 @@ take_bytes n bytes h i =
 own_keys : (node start serial x : ℕ) (xs : List ℕ) → AreOwnKeys batches node (Keys node start serial (x ∷ xs))
 own_keys node start serial x xs = (batch_typed (keys_from node start serial (x ∷ xs)) node start serial x xs (λ key has. has)).own
 
-module _ (n : Node) (h : IsInRange n) where
+module _ (n : Known) (h : IsInRange n) where
   -- some of the characters that wait, the first ones, as a batch
-  first_fits : (bytes : List ℕ) → 0 < length bytes → length bytes ≤ 32 → n.first + length bytes ≤ 4294967296 → AreBytes bytes → IsBody n.me.group.size n.me.node (Submit (own_batch n n.first bytes))
+  first_fits : (bytes : List ℕ) → 0 < length bytes → length bytes ≤ 32 → n.first + length bytes ≤ 4294967296
+      → AreBytes bytes → IsBody n.me.group.size n.me.node (Submit (own_batch n n.first bytes))
   first_fits [] some few fits are = absurd (omega arith)
-  first_fits (x ∷ xs) some few fits are = ((h.me.node, (h.counted, h.kept.starts), (h.waiting.some, some, few, fits, are)), own_keys n.me.node n.kept.starts n.first x xs)
+  first_fits (x ∷ xs) some few fits are = (
+    (h.me.node, (h.counted, h.kept.starts), (h.waiting.some, some, few, fits, are)),
+    own_keys n.me.node n.kept.starts
+        n.first x xs,
+  )
 
   -- the batch of the characters that wait, if there is one
   batch_fits : (bytes : List ℕ) → bytes ≡ n.waiting → (v : Value) → batch_of n bytes ≡ Some v → IsBody n.me.group.size n.me.node (Submit v)
@@ -44,7 +49,8 @@ module _ (n : Node) (h : IsInRange n) where
       let fits = h.waiting.fits in
       let are : AreBytes (x ∷ xs) = subst AreBytes (sym all) h.waiting.characters in
       let is : own_batch n n.first (take 32 (x ∷ xs)) ≡ v = cc in
-      subst (λ (w : Value). IsBody n.me.group.size n.me.node (Submit w)) is (first_fits (take 32 (x ∷ xs)) (omega arith) (omega arith) (omega arith) (take_bytes 32 (x ∷ xs) are))
+      subst (λ (w : Value). IsBody n.me.group.size n.me.node (Submit w)) is
+      (first_fits (take 32 (x ∷ xs)) (omega arith) (omega arith) (omega arith) (take_bytes 32 (x ∷ xs) are))
 
   -- its Submit
   pub submit_fits : (v : Value) → batch_of n n.waiting ≡ Some v → IsBody n.me.group.size n.me.node (Submit v)
@@ -55,5 +61,6 @@ module _ (n : Node) (h : IsInRange n) where
   tell_fits s v e = (h.learner.window.place s v e, subst (λ (size : ℕ). IsValue size v) h.learner.size (h.learner.ranges.learned s v e))
 
   -- the Ask from the front
-  pub ask_fits : ((learned : FinMap nat_cmp Value) → AreInWindow learned → front_of learned ≤ 65536) → IsBody n.me.group.size n.me.node (Ask (front n))
+  pub ask_fits : ((learned : FinMap nat_cmp Value) → AreInWindow learned → front_of learned ≤ 65536)
+      → IsBody n.me.group.size n.me.node (Ask (front n))
   ask_fits few = few n.learner.learned h.learner.window

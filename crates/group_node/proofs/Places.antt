@@ -18,7 +18,8 @@ cons_nil None = refl
 cons_nil (Some x) = refl
 
 -- what one place more gives
-one_more : {X : Type 0} (f : ℕ → Option X) (a n : ℕ) → filter_map f (range_with_len a (suc n)) ≡ filter_map f (range_with_len a n) ++ option_to_list (f (a + n))
+one_more : {X : Type 0} (f : ℕ → Option X) (a n : ℕ)
+    → filter_map f (range_with_len a (suc n)) ≡ filter_map f (range_with_len a n) ++ option_to_list (f (a + n))
 one_more f a zero = rw add-zero (cons_nil (f a))
 one_more {X} f a (suc n) =
     let at : a + 1 + n ≡ a + suc n = omega arith in
@@ -62,12 +63,15 @@ pub record ArePut (me : Me) (f : ℕ → Option Packet) (first : ℕ) (before no
   pub packets : now ≡ before ++ datagrams_of me (filter_map f (range_with_len first count))
 
 -- of none yet
-pub none_put : (me : Me) (f : ℕ → Option Packet) (first : ℕ) (before : List Datagram) (count : ℕ) → count ≡ 0 → ArePut me f first before before count
+pub none_put : (me : Me) (f : ℕ → Option Packet) (first : ℕ) (before : List Datagram) (count : ℕ) → count ≡ 0
+    → ArePut me f first before before count
 none_put me f first before count none = record { packets = rw none (sym (append-nil before)) }
 
 -- of one more
-pub more_put : {me : Me} {f : ℕ → Option Packet} {first : ℕ} {before now then : List Datagram} {count : ℕ} (place next : ℕ) → ArePut me f first before now count
-    → first + count ≡ place → next ≡ suc count → then ≡ now ++ datagrams_of me (option_to_list (f place)) → ArePut me f first before then next
+pub more_put : {me : Me} {f : ℕ → Option Packet} {first : ℕ} {before now then : List Datagram} {count : ℕ}
+    (place next : ℕ) → ArePut me f first before now count
+    → first + count ≡ place → next ≡ suc count → then ≡ now ++ datagrams_of me (option_to_list (f place))
+    → ArePut me f first before then next
 more_put {me} {f} {first} {before} {now} {then} {count} place next h here is packets =
     let more = option_to_list (f place) in
     record {
@@ -80,16 +84,22 @@ more_put {me} {f} {first} {before} {now} {then} {count} place next h here is pac
     }
 
 -- of all, as the code counts them
-pub all_put : {me : Me} {f : ℕ → Option Packet} {first : ℕ} {start before now : List Datagram} {count many : ℕ} → ArePut me f first before now count → before ≡ start → count ≡ many
+pub all_put : {me : Me} {f : ℕ → Option Packet} {first : ℕ} {start before now : List Datagram} {count many : ℕ}
+    → ArePut me f first before now count → before ≡ start → count ≡ many
     → now ≡ start ++ datagrams_of me (filter_map f (range_with_len first many))
 all_put h same all = rw (← same, ← all) h.packets
 
 -- of so many places that most of what is to be put in is
-pub most_put : {me : Me} {f : ℕ → Option Packet} {first : ℕ} {before now : List Datagram} {count : ℕ} (many most : ℕ) → ArePut me f first before now count
-    → count ≤ many → length (filter_map f (range_with_len first count)) ≡ most → now ≡ before ++ datagrams_of me (take most (filter_map f (range_with_len first many)))
+pub most_put : {me : Me} {f : ℕ → Option Packet} {first : ℕ} {before now : List Datagram} {count : ℕ} (many most : ℕ)
+    → ArePut me f first before now count
+    → count ≤ many → length (filter_map f (range_with_len first count)) ≡ most
+    → now ≡ before ++ datagrams_of me (take most (filter_map f (range_with_len first many)))
 most_put {f = f} {first = first} {count = count} many most h few full = rw (first_give f first count many most few full) h.packets
 
 -- of all, which are no more than that
-pub few_put : {me : Me} {f : ℕ → Option Packet} {first : ℕ} {before now : List Datagram} {count : ℕ} (many most : ℕ) → ArePut me f first before now count
-    → count ≡ many → length (filter_map f (range_with_len first count)) ≤ most → now ≡ before ++ datagrams_of me (take most (filter_map f (range_with_len first many)))
-few_put {f = f} {first = first} {count = count} many most h all few = rw (← all, take_all most (filter_map f (range_with_len first count)) few) h.packets
+pub few_put : {me : Me} {f : ℕ → Option Packet} {first : ℕ} {before now : List Datagram} {count : ℕ} (many most : ℕ)
+    → ArePut me f first before now count
+    → count ≡ many → length (filter_map f (range_with_len first count)) ≤ most
+    → now ≡ before ++ datagrams_of me (take most (filter_map f (range_with_len first many)))
+few_put {f = f} {first = first} {count = count} many most h all few =
+    rw (← all, take_all most (filter_map f (range_with_len first count)) few) h.packets

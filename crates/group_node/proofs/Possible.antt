@@ -12,17 +12,17 @@ use Rattle.paxos_msg.specs.Fits.{IsBallot, IsBody, IsValue}
 use Rattle.paxos_msg.specs.Grammar.{AreBytes}
 use Rattle.paxos_msg.specs.Keys.{Key}
 use Rattle.paxos_msg.specs.Messages.{IsSaid, IsSent}
-use Rattle.paxos_proposer.specs.Backed.{IsBacked as IsProposerBacked, IsQuiet}
-use Rattle.paxos_proposer.specs.Proposer.{after_part, begun, is_covered, next_of, next_value, Proposer, proposing}
-use Rattle.paxos_proposer.specs.Ranges.{IsInRange as IsProposerInRange}
-use Rattle.paxos_learner.specs.Backed.{IsBacked as IsLearnerBacked}
-use Rattle.paxos_learner.specs.Growth.{AreInWindow, IsInRange as IsLearnerInRange}
-use Rattle.paxos_learner.specs.Learner.{Hearing, Learner, new_learner, on_accepted}
-use Rattle.paxos_learner.specs.Tallies.{Tally, begun as heard_of}
+use Rattle.paxos_proposer.specs.Backed.{IsProposerBacked as IsProposerBacked, IsQuietUnder}
+use Rattle.paxos_proposer.specs.Proposer.{proposer_after_part, new_proposer, is_covered, next_of, next_value, Proposer, proposing}
+use Rattle.paxos_proposer.specs.Ranges.{IsProposerInRange as IsProposerInRange}
+use Rattle.paxos_learner.specs.Backed.{IsLearnerBacked as IsLearnerBacked}
+use Rattle.paxos_learner.specs.Growth.{AreInWindow, IsLearnerInRange as IsLearnerInRange}
+use Rattle.paxos_learner.specs.Learner.{Hearing, Learner, new_learner, heard_accepted}
+use Rattle.paxos_learner.specs.Tallies.{Tally, begun_tally as heard_of}
 use Rattle.paxos_learner.specs.declared.heard.Heard.TheVariants.{Counted}
 use Rattle.paxos_learner.proofs.OnePlace.{get_here}
 use Rattle.group_node.specs.Backs.{Backs, HasPromised}
-use Rattle.group_node.specs.Node.{Node}
+use Rattle.group_node.specs.Known.{Known}
 use Rattle.group_node.specs.Ranges.{IsInRange}
 
 -- ---- the group, and what was sent in it
@@ -64,16 +64,16 @@ sent = proposed ++ record { sender = 2; body = Accepted b 0 batch } ∷ []
 
 -- its proposer: as it begins, after the promises of nodes 1 and 2, after its proposal, and after the promise of node 3
 abbrev p_1 : Proposer
-p_1 = after_part (begun b 0 3) 1 0 65536 []
+p_1 = proposer_after_part (new_proposer b 0 3) 1 0 65536 []
 
 abbrev p_2 : Proposer
-p_2 = after_part p_1 2 0 65536 []
+p_2 = proposer_after_part p_1 2 0 65536 []
 
 abbrev p_3 : Proposer
 p_3 = proposing p_2 (Some batch)
 
 abbrev p : Proposer
-p = after_part p_3 3 0 65536 (vote ∷ [])
+p = proposer_after_part p_3 3 0 65536 (vote ∷ [])
 
 -- what it has heard of place 0
 abbrev tally : Tally
@@ -83,8 +83,9 @@ tally = heard_of 2 b batch
 abbrev l : Learner
 l = record { size = 3; learned = empty; tallies = insert empty 0 tally }
 
--- what it knows: it leads, has offered the key that waits, keeps the vote at place 1, and has heard one node accept the key
-abbrev n : Node
+-- what it knows: it leads, has offered the key that waits, keeps the vote at place 1, and has heard one node accept the
+-- key
+abbrev n : Known
 n = record {
   me = record { node = 1; group = record { size = 3; session = 0 } };
   kept = record { starts = 1; promised = Some b; votes = [] };
@@ -100,17 +101,28 @@ n = record {
 
 -- how a proposer and a learner begin, and what they make of what they hear and propose
 pub record FirstLaws : Type 0 where
-  pub begins : (sent : Sent) (b : Ballot) (from size : ℕ) → ((s : ℕ) (v : Value) → ¬ IsSaid sent (Accept b s v)) → IsProposerBacked sent b.node (begun b from size)
-  pub hears : (sent : Sent) (me j first upto : ℕ) (p : Proposer) (votes : List Vote) → IsProposerBacked sent me p → j ≤ 9 → IsBody p.size j (Promise p.ballot first upto votes) → IsSent sent j (Promise p.ballot first upto votes) → IsProposerBacked sent me (after_part p j first upto votes)
-  pub proposes : (sent : Sent) (me : ℕ) (p : Proposer) (v : Value) → IsProposerBacked sent me p → IsProposerBacked (sent ++ record { sender = me; body = Accept p.ballot (next_of p) v } ∷ []) me (proposing p (Some v))
-  pub later : (sent next : Sent) (me : ℕ) (p : Proposer) → IsQuiet p.ballot sent next → IsProposerBacked sent me p → IsProposerBacked next me p
-  pub begins_fit : (b : Ballot) (from size : ℕ) → IsBallot size b → from ≤ 65536 → IsProposerInRange (begun b from size)
-  pub part_fits : (j first upto : ℕ) (p : Proposer) (votes : List Vote) → IsProposerInRange p → IsBody p.size j (Promise p.ballot first upto votes) → IsProposerInRange (after_part p j first upto votes)
-  pub proposal_fits : (p : Proposer) (offered : Option Value) → IsProposerInRange p → IfSome offered (IsValue p.size) → IsProposerInRange (proposing p (next_value p offered))
+  pub begins : (sent : Sent) (b : Ballot) (from size : ℕ) → ((s : ℕ) (v : Value) → ¬ IsSaid sent (Accept b s v))
+      → IsProposerBacked sent b.node (new_proposer b from size)
+  pub hears : (sent : Sent) (me j first upto : ℕ) (p : Proposer) (votes : List Vote) → IsProposerBacked sent me p
+      → j ≤ 9 → IsBody p.size j (Promise p.ballot first upto votes) → IsSent sent j (Promise p.ballot first upto votes)
+      → IsProposerBacked sent me (proposer_after_part p j first upto votes)
+  pub proposes : (sent : Sent) (me : ℕ) (p : Proposer) (v : Value) → IsProposerBacked sent me p
+      → IsProposerBacked (sent ++ record { sender = me; body = Accept p.ballot (next_of p) v } ∷ []) me
+      (proposing p (Some v))
+  pub later : (sent next : Sent) (me : ℕ) (p : Proposer) → IsQuietUnder p.ballot sent next → IsProposerBacked sent me p
+      → IsProposerBacked next me p
+  pub begins_fit : (b : Ballot) (from size : ℕ) → IsBallot size b → from ≤ 65536 → IsProposerInRange (new_proposer b from size)
+  pub part_fits : (j first upto : ℕ) (p : Proposer) (votes : List Vote) → IsProposerInRange p
+      → IsBody p.size j (Promise p.ballot first upto votes)
+      → IsProposerInRange (proposer_after_part p j first upto votes)
+  pub proposal_fits : (p : Proposer) (offered : Option Value) → IsProposerInRange p → IfSome offered (IsValue p.size)
+      → IsProposerInRange (proposing p (next_value p offered))
   pub learner : (sent : Sent) (size : ℕ) → IsLearnerBacked sent (new_learner size)
-  pub learner_hears : (sent : Sent) (l : Learner) (i s : ℕ) (b : Ballot) (v : Value) → IsLearnerBacked sent l → IsSent sent i (Accepted b s v) → IsLearnerBacked sent (on_accepted l i b s v).learner
+  pub learner_hears : (sent : Sent) (l : Learner) (i s : ℕ) (b : Ballot) (v : Value) → IsLearnerBacked sent l
+      → IsSent sent i (Accepted b s v) → IsLearnerBacked sent (heard_accepted l i b s v).learner
   pub learner_fits : (size : ℕ) → IsLearnerInRange (new_learner size)
-  pub heard_fits : (l : Learner) (i s : ℕ) (b : Ballot) (v : Value) → IsValue l.size v → IsLearnerInRange l → IsLearnerInRange (on_accepted l i b s v).learner
+  pub heard_fits : (l : Learner) (i s : ℕ) (b : Ballot) (v : Value) → IsValue l.size v → IsLearnerInRange l
+      → IsLearnerInRange (heard_accepted l i b s v).learner
   pub learner_window : (size : ℕ) → AreInWindow (new_learner size).learned
 
 -- ---- what was sent
@@ -168,17 +180,21 @@ is_promised : (c : Ballot) → c ≡ b → HasPromised n.kept c
 is_promised c e = rw e (inr (refl, omega arith))
 
 -- what came after the proposal proposes nothing
-quiet : IsQuiet b proposed sent
+quiet : IsQuietUnder b proposed sent
 quiet = record {
-  stays = λ i body h. Contains-append_left proposed (record { sender = 2; body = Accepted b 0 batch } ∷ []) (record { sender = i; body = body }) h;
+  stays =
+      λ i body h. Contains-append_left proposed (record { sender = 2; body = Accepted b 0 batch } ∷ [])
+      (record { sender = i; body = body }) h;
   quiet = λ s v said. before s v said;
 }
   where
     before : (s : ℕ) (v : Value) → IsSaid sent (Accept b s v) → IsSaid proposed (Accept b s v)
-    before s v (i, h) = elim (Contains-push_cases proposed (record { sender = 2; body = Accepted b 0 batch }) (record { sender = i; body = Accept b s v }) h) [
-      | inl old ↦ (i, old)
-      | inr e ↦ let f : Accepted b 0 batch ≡ Accept b s v = ap (λ (m : Msg). m.body) e in absurd cc
-    ]
+    before s v (i, h) =
+        elim (Contains-push_cases proposed (record { sender = 2; body = Accepted b 0 batch })
+        (record { sender = i; body = Accept b s v }) h) [
+          | inl old ↦ (i, old)
+          | inr e ↦ let f : Accepted b 0 batch ≡ Accept b s v = ap (λ (m : Msg). m.body) e in absurd cc
+        ]
 
 -- ---- what its learner hears
 
@@ -195,7 +211,7 @@ value_none = get-empty nat_cmp 0
 tally_none : get (empty {X = Tally} {R = nat_cmp}) 0 ≡ None
 tally_none = get-empty nat_cmp 0
 
-heard_one : on_accepted (new_learner 3) 2 b 0 batch ≡ record { learner = l; answer = Counted }
+heard_one : heard_accepted (new_learner 3) 2 b 0 batch ≡ record { learner = l; answer = Counted }
 heard_one = rw (value_none, entries_none, tally_none) refl
 
 -- ---- ranges
@@ -236,16 +252,26 @@ module _ (laws : FirstLaws) where
   -- ---- the proposer
 
   p_1_backed : IsProposerBacked asked 1 p_1
-  p_1_backed = laws.hears asked 1 1 0 65536 (begun b 0 3) [] (laws.begins asked b 0 3 unsaid) (omega arith) (part_body 1) (1, omega arith, refl)
+  p_1_backed =
+      laws.hears asked 1 1 0 65536 (new_proposer b 0 3) [] (laws.begins asked b 0 3 unsaid) (omega arith) (part_body 1)
+      (1, omega arith, refl)
 
   p_3_backed : IsProposerBacked proposed 1 p_3
-  p_3_backed = laws.proposes asked 1 p_2 batch (laws.hears asked 1 2 0 65536 p_1 [] p_1_backed (omega arith) (part_body 2) (2, omega arith, refl))
+  p_3_backed =
+      laws.proposes asked 1 p_2 batch
+      (laws.hears asked 1 2 0 65536 p_1 [] p_1_backed (omega arith) (part_body 2) (2, omega arith, refl))
 
   p_backed : IsProposerBacked sent 1 p
-  p_backed = laws.later proposed sent 1 p quiet (laws.hears proposed 1 3 0 65536 p_3 (vote ∷ []) p_3_backed (omega arith) vote_body (3, omega arith, refl))
+  p_backed =
+      laws.later proposed sent 1 p quiet
+      (laws.hears proposed 1 3 0 65536 p_3 (vote ∷ []) p_3_backed (omega arith) vote_body (3, omega arith, refl))
 
   p_3_fits : IsProposerInRange p_3
-  p_3_fits = laws.proposal_fits p_2 (Some batch) (laws.part_fits 2 0 65536 p_1 [] (laws.part_fits 1 0 65536 (begun b 0 3) [] (laws.begins_fit b 0 3 ballot_fits (omega arith)) (part_body 1)) (part_body 2)) batch_fits
+  p_3_fits =
+      laws.proposal_fits p_2 (Some batch)
+      (laws.part_fits 2 0 65536 p_1 []
+      (laws.part_fits 1 0 65536 (new_proposer b 0 3) [] (laws.begins_fit b 0 3 ballot_fits (omega arith)) (part_body 1))
+      (part_body 2)) batch_fits
 
   -- ---- the node
 
@@ -257,7 +283,9 @@ module _ (laws : FirstLaws) where
     proposer = record { size = refl; own = refl; ranges = laws.part_fits 3 0 65536 p_3 (vote ∷ []) p_3_fits vote_body };
     learner = record {
       size = refl;
-      ranges = subst (λ (h : Hearing). IsLearnerInRange h.learner) heard_one (laws.heard_fits (new_learner 3) 2 0 b batch batch_fits (laws.learner_fits 3));
+      ranges =
+          subst (λ (h : Hearing). IsLearnerInRange h.learner) heard_one
+          (laws.heard_fits (new_learner 3) 2 0 b batch batch_fits (laws.learner_fits 3));
       window = laws.learner_window 3;
     };
     waiting = record { some = omega arith; fits = omega arith; few = omega arith; characters = one_byte };
@@ -271,11 +299,25 @@ module _ (laws : FirstLaws) where
       own = λ c s v mine said. is_promised c (proposed_under c s v said);
     };
     proposer = record { backed = p_backed; promised = refl };
-    learner = subst (λ (h : Hearing). IsLearnerBacked sent h.learner) heard_one (laws.learner_hears sent (new_learner 3) 2 0 b batch (laws.learner sent 3) (5, omega arith, refl));
+    learner =
+        subst (λ (h : Hearing). IsLearnerBacked sent h.learner) heard_one
+        (laws.learner_hears sent (new_learner 3) 2 0 b batch (laws.learner sent 3) (5, omega arith, refl));
     waiting = λ k has. has;
   }
 
   -- it leads, with all that a node may know
-  pub a_node_leads : (n : Node) × (sent : Sent) × (typed : List Key) × IsInRange n × Backs sent typed n × IsSomeAnd n.proposer (λ p. IsTrue (is_covered p (next_of p)) × (0 < length p.kept))
+  pub a_node_leads : (n : Known) × (sent : Sent) × (typed : List Key) × IsInRange n × Backs sent typed n
+      × IsSomeAnd n.proposer (λ p. IsTrue (is_covered p (next_of p)) × (0 < length p.kept))
       × IsSome (get n.learner.tallies 0) × (0 < length n.offered) × (0 < length n.waiting)
-  a_node_leads = (n, sent, typed_key ∷ [], n_fits, n_backed, (refl, omega arith), rw (get_here {X = Tally} empty 0 tally) refl, omega arith, omega arith)
+  a_node_leads = (
+    n,
+    sent,
+    typed_key ∷ [],
+    n_fits,
+    n_backed,
+    (refl, omega arith),
+    rw
+        (get_here {X = Tally} empty 0 tally) refl,
+    omega arith,
+    omega arith,
+  )

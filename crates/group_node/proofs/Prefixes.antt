@@ -7,7 +7,8 @@ pub prefix_length : {X : Type 0} (a b : List X) → IsPrefix a b → length a �
 prefix_length a b h = omega (arith, ap length h.whole, length-append a h.rest)
 
 -- of two lists that agree wherever both have something the shorter begins the longer
-pub agree_prefix : {X : Type 0} (a b : List X) → ((s : ℕ) (v w : X) → slice_get a s ≡ Some v → slice_get b s ≡ Some w → v ≡ w) → length a ≤ length b → IsPrefix a b
+pub agree_prefix : {X : Type 0} (a b : List X)
+    → ((s : ℕ) (v w : X) → slice_get a s ≡ Some v → slice_get b s ≡ Some w → v ≡ w) → length a ≤ length b → IsPrefix a b
 agree_prefix [] b same low = record { rest = b; whole = refl }
 agree_prefix (x ∷ xs) [] same low = absurd (omega arith)
 agree_prefix (x ∷ xs) (y ∷ ys) same low =

@@ -8,18 +8,22 @@ use Rattle.paxos_msg.specs.declared.message.Body.TheVariants.{Prepare, Promise, 
 use Rattle.paxos_msg.specs.Batches.{Body, Vote}
 use Rattle.paxos_msg.specs.Fits.{IsBallot, IsBody, IsValue}
 use Rattle.paxos_acceptor.specs.declared.me.Me.{Me}
-use Rattle.paxos_proposer.specs.Proposer.{after_part, asks_after, asks_on, IsPart, next_of, next_value, on_promise, proposed_at, Proposer, proposing, rises}
-use Rattle.paxos_proposer.specs.Ranges.{IsInRange as IsProposerInRange}
-use Rattle.group_node.specs.Leading.{leaves_room, offer_after}
+use Rattle.paxos_proposer.specs.Proposer.{proposer_after_part, asks_after, asks_on, IsPromisePart, next_of, next_value, heard_promise, proposed_at, Proposer, proposing, rises}
+use Rattle.paxos_proposer.specs.Ranges.{IsProposerInRange as IsProposerInRange}
+use Rattle.group_node.specs.ProposerRows.{leaves_room, offer_after}
 use Rattle.group_node.specs.Packets.{Packet, to_all}
 use Rattle.group_node.specs.Pump.{accepts_of, offer, Proposals, propose, pump, stop}
 use Rattle.group_node.specs.Ranges.{AreFit, IsHeardFit, IsOwnProposer}
 
 -- The laws of proposers: what they propose, and propose again, has a spelling, and they stay in their ranges.
 pub record AcceptLaws : Type 0 where
-  pub proposes : (p : Proposer) (offered : Option Value) → IsProposerInRange p → IfSome offered (IsValue p.size) → IsProposerInRange (proposing p (next_value p offered))
-  pub sends : (p : Proposer) (offered : Option Value) (v : Value) → IsProposerInRange p → IfSome offered (IsValue p.size) → next_value p offered ≡ Some v → IsBody p.size p.ballot.node (Accept p.ballot (next_of p) v)
-  pub again : (p : Proposer) (s : ℕ) (v : Value) → IsProposerInRange p → proposed_at p s ≡ Some v → IsBody p.size p.ballot.node (Accept p.ballot s v)
+  pub proposes : (p : Proposer) (offered : Option Value) → IsProposerInRange p → IfSome offered (IsValue p.size)
+      → IsProposerInRange (proposing p (next_value p offered))
+  pub sends : (p : Proposer) (offered : Option Value) (v : Value) → IsProposerInRange p
+      → IfSome offered (IsValue p.size) → next_value p offered ≡ Some v
+      → IsBody p.size p.ballot.node (Accept p.ballot (next_of p) v)
+  pub again : (p : Proposer) (s : ℕ) (v : Value) → IsProposerInRange p → proposed_at p s ≡ Some v
+      → IsBody p.size p.ballot.node (Accept p.ballot s v)
 
 -- a proposal, if there is one, keeps ballot and size
 kept_by : (p : Proposer) (o : Option Value) (P : Ballot → ℕ → Type 0) → P p.ballot p.size → P (proposing p o).ballot (proposing p o).size
@@ -28,8 +32,10 @@ kept_by p (Some v) P h = h
 
 -- The laws of proposers that hear a part of a promise: they stay in their ranges, and keep ballot and size.
 pub record PartLaws : Type 0 where
-  pub parts : (j first upto : ℕ) (p : Proposer) (votes : List Vote) → IsProposerInRange p → IsBody p.size j (Promise p.ballot first upto votes) → IsProposerInRange (after_part p j first upto votes)
-  pub stays : (p : Proposer) (j : ℕ) (body : Body) → ((on_promise p j body).ballot ≡ p.ballot) × ((on_promise p j body).size ≡ p.size)
+  pub parts : (j first upto : ℕ) (p : Proposer) (votes : List Vote) → IsProposerInRange p
+      → IsBody p.size j (Promise p.ballot first upto votes)
+      → IsProposerInRange (proposer_after_part p j first upto votes)
+  pub stays : (p : Proposer) (j : ℕ) (body : Body) → ((heard_promise p j body).ballot ≡ p.ballot) × ((heard_promise p j body).size ≡ p.size)
 
 module _ (me : Me) (p : Proposer) (h : IsOwnProposer me p) where
   -- its messages are the node's
@@ -45,13 +51,16 @@ module _ (me : Me) (p : Proposer) (h : IsOwnProposer me p) where
   own_prepare s low = (own_ballot, h.own, omega arith)
 
   -- where it asks on, it is from a place that there is
-  asks_if : (upto s : ℕ) (t : Bool) → (t ≡ true → upto < 65536) → (if t then Some upto else None) ≡ Some s → IsBody me.group.size me.node (Prepare p.ballot s)
+  asks_if : (upto s : ℕ) (t : Bool) → (t ≡ true → upto < 65536) → (if t then Some upto else None) ≡ Some s
+      → IsBody me.group.size me.node (Prepare p.ballot s)
   asks_if upto s true low e = let is : upto ≡ s = cc in own_prepare s (rw (← is) (low refl))
   asks_if upto s false low e = absurd cc
 
   -- the Prepare behind a part
   pub asks_on_fits : (j first upto s : ℕ) → asks_on p j first upto ≡ Some s → IsBody me.group.size me.node (Prepare p.ballot s)
-  asks_on_fits j first upto s e = asks_if upto s (rises p j first upto && nat_lt upto 65536) (λ t. ltb-true upto 65536 (and_parts (rises p j first upto) (nat_lt upto 65536) t).1) e
+  asks_on_fits j first upto s e =
+      asks_if upto s (rises p j first upto && nat_lt upto 65536)
+      (λ t. ltb-true upto 65536 (and_parts (rises p j first upto) (nat_lt upto 65536) t).1) e
 
   -- the same of any body, of which only a part asks on
   pub asks_after_fits : (j s : ℕ) (body : Body) → asks_after p j body ≡ Some s → IsBody me.group.size me.node (Prepare p.ballot s)
@@ -65,19 +74,26 @@ module _ (me : Me) (p : Proposer) (h : IsOwnProposer me p) where
   asks_after_fits j s (Tell place v) e = absurd cc
 
   -- it is the node's own still after a part of a promise
-  pub part_own : PartLaws → (j first upto : ℕ) (votes : List Vote) → IsBody me.group.size j (Promise p.ballot first upto votes) → IsOwnProposer me (after_part p j first upto votes)
+  pub part_own : PartLaws → (j first upto : ℕ) (votes : List Vote)
+      → IsBody me.group.size j (Promise p.ballot first upto votes)
+      → IsOwnProposer me (proposer_after_part p j first upto votes)
   part_own laws j first upto votes fits =
       let (ballot, size) = laws.stays p j (Promise p.ballot first upto votes) in
       record {
         size = size ∙ h.size;
         own = subst (λ (b : Ballot). b.node ≡ me.node) (sym ballot) h.own;
-        ranges = laws.parts j first upto p votes h.ranges (subst (λ (size : ℕ). IsBody size j (Promise p.ballot first upto votes)) (sym h.size) fits);
+        ranges =
+            laws.parts j first upto p votes h.ranges
+            (subst (λ (size : ℕ). IsBody size j (Promise p.ballot first upto votes)) (sym h.size) fits);
       }
 
   -- the same of any body, of which only a part changes it
-  pub heard_own : PartLaws → (j : ℕ) (body : Body) → IsPart p.ballot body → IsHeardFit me j body → IsOwnProposer me (on_promise p j body)
+  pub heard_own : PartLaws → (j : ℕ) (body : Body) → IsPromisePart p.ballot body → IsHeardFit me j body
+      → IsOwnProposer me (heard_promise p j body)
   heard_own laws j (Prepare b from) part heard = h
-  heard_own laws j (Promise b first upto votes) part heard = part_own laws j first upto votes (subst (λ (c : Ballot). IsBody me.group.size j (Promise c first upto votes)) part heard.1)
+  heard_own laws j (Promise b first upto votes) part heard =
+      part_own laws j first upto votes
+      (subst (λ (c : Ballot). IsBody me.group.size j (Promise c first upto votes)) part heard.1)
   heard_own laws j (Accept b place v) part heard = h
   heard_own laws j (Accepted b place v) part heard = h
   heard_own laws j (Refused b promised) part heard = h
@@ -91,7 +107,8 @@ module _ (me : Me) (p : Proposer) (h : IsOwnProposer me p) where
 
   module _ (laws : AcceptLaws) where
     -- the Accept of its next proposal
-    pub next_fits : (offered : Option Value) (v : Value) → IfSome offered (IsValue me.group.size) → next_value p offered ≡ Some v → IsBody me.group.size me.node (Accept p.ballot (next_of p) v)
+    pub next_fits : (offered : Option Value) (v : Value) → IfSome offered (IsValue me.group.size)
+        → next_value p offered ≡ Some v → IsBody me.group.size me.node (Accept p.ballot (next_of p) v)
     next_fits offered v free e = own_body (Accept p.ballot (next_of p) v) (laws.sends p offered v h.ranges (offered_fits offered free) e)
 
     -- that of what it has proposed
@@ -116,7 +133,8 @@ module _ (laws : AcceptLaws) (me : Me) where
   stop_fits p h = record { own = h; ballot = refl; sends = All-nil IsPacketFit }
 
   -- a proposal, if there is one, and what goes on behind it
-  propose_fits : (p : Proposer) → IsOwnProposer me p → (offered o : Option Value) (go_on : Proposer → Proposals) → IfSome offered (IsValue me.group.size) → next_value p offered ≡ o
+  propose_fits : (p : Proposer) → IsOwnProposer me p → (offered o : Option Value) (go_on : Proposer → Proposals)
+      → IfSome offered (IsValue me.group.size) → next_value p offered ≡ o
       → ((q : Proposer) → IsOwnProposer me q → AreFit me q (go_on q)) → AreFit me p (propose p o go_on)
   propose_fits p h offered None go_on free e goes = stop_fits p h
   propose_fits p h offered (Some v) go_on free e goes =
@@ -126,7 +144,9 @@ module _ (laws : AcceptLaws) (me : Me) where
       record {
         own = rest.own;
         ballot = rest.ballot;
-        sends = All-cons IsPacketFit (to_all (Accept p.ballot (next_of p) v)) (accepts_of (go_on q).made) (next_fits me p h laws offered v free e) rest.sends;
+        sends =
+            All-cons IsPacketFit (to_all (Accept p.ballot (next_of p) v)) (accepts_of (go_on q).made)
+            (next_fits me p h laws offered v free e) rest.sends;
       }
 
   -- a pump
@@ -140,10 +160,12 @@ module _ (laws : AcceptLaws) (me : Me) where
   offer_fits p v h fits = propose_fits p h (Some v) (next_value p (Some v)) stop fits refl stop_fits
 
   -- an offer, or none
-  offer_if : (t : Bool) (p : Proposer) (v : Value) → IsOwnProposer me p → IsValue me.group.size v → AreFit me p (if t then offer p v else stop p)
+  offer_if : (t : Bool) (p : Proposer) (v : Value) → IsOwnProposer me p → IsValue me.group.size v
+      → AreFit me p (if t then offer p v else stop p)
   offer_if true p v h fits = offer_fits p v h fits
   offer_if false p v h fits = stop_fits p h
 
   -- an offer behind a pump
-  pub offer_after_fits : (pumped : Proposals) (v : Value) → IsOwnProposer me pumped.proposer → IsValue me.group.size v → AreFit me pumped.proposer (offer_after pumped v)
+  pub offer_after_fits : (pumped : Proposals) (v : Value) → IsOwnProposer me pumped.proposer → IsValue me.group.size v
+      → AreFit me pumped.proposer (offer_after pumped v)
   offer_after_fits pumped v h fits = offer_if (leaves_room pumped) pumped.proposer v h fits

@@ -9,23 +9,27 @@ use Rattle.paxos_msg.specs.Ballots.{IsAtMost}
 use Rattle.paxos_msg.specs.Batches.{IsFree, MaySend, Msg, Record, Sent}
 use Rattle.paxos_msg.specs.Keys.{Key}
 use Rattle.paxos_msg.specs.Messages.{IsSaid}
-use Rattle.paxos_proposer.specs.Backed.{IsBacked as IsProposerBacked}
+use Rattle.paxos_proposer.specs.Backed.{IsProposerBacked as IsProposerBacked}
 use Rattle.paxos_proposer.specs.Proposer.{Proposer, next_of, next_value, proposing}
 use Rattle.group_node.specs.Backs.{Backs, HasPromised, IsRecordBacked}
-use Rattle.group_node.specs.Node.{Node}
+use Rattle.group_node.specs.Known.{Known}
 use Rattle.group_node.specs.Pump.{accepts_of, offer, Proposals, propose, pump, stop}
-use Rattle.group_node.specs.Steps.{handed}
+use Rattle.group_node.specs.Steps.{messages_handed_out}
 use Rattle.group_node.proofs.Growing.{learner_later}
 use Rattle.group_node.proofs.Sending.{Goes, SendingLaws, sender_of}
 
 -- The laws of the crates below: also, what a proposer proposes may be sent, and then it is backed again.
 pub record ProposingLaws : Type 0 where
   pub sending : SendingLaws
-  pub proposes : (typed : List Key) (learned : ℕ → Option Value) (sent : Sent) (me : ℕ) (r : Record) (p : Proposer) (offered : Option Value) (v : Value) → IsProposerBacked sent me p → IfSome offered (IsFree sent) → next_value p offered ≡ Some v → MaySend p.size typed learned sent me r (Accept p.ballot (next_of p) v)
-  pub proposed : (sent : Sent) (me : ℕ) (p : Proposer) (v : Value) → IsProposerBacked sent me p → IsProposerBacked (sent ++ record { sender = me; body = Accept p.ballot (next_of p) v } ∷ []) me (proposing p (Some v))
+  pub proposes : (typed : List Key) (learned : ℕ → Option Value) (sent : Sent) (me : ℕ) (r : Record) (p : Proposer)
+      (offered : Option Value) (v : Value) → IsProposerBacked sent me p → IfSome offered (IsFree sent)
+      → next_value p offered ≡ Some v → MaySend p.size typed learned sent me r (Accept p.ballot (next_of p) v)
+  pub proposed : (sent : Sent) (me : ℕ) (p : Proposer) (v : Value) → IsProposerBacked sent me p
+      → IsProposerBacked (sent ++ record { sender = me; body = Accept p.ballot (next_of p) v } ∷ []) me
+      (proposing p (Some v))
 
 -- the node with this proposer
-abbrev pub leading : Node → Proposer → Node
+abbrev pub leading : Known → Proposer → Known
 leading n p = record n { proposer = Some p }
 
 -- a ballot is at most itself
@@ -37,25 +41,32 @@ pub promised_same : (r : Record) (b : Ballot) → r.promised ≡ Some b → HasP
 promised_same r b e = rw e (at_most_same b)
 
 -- what is new behind one Accept is that Accept
-accept_cases : (sent : Sent) (me : ℕ) (b c : Ballot) (s t : ℕ) (v w : Value) → IsSaid (sent ++ record { sender = me; body = Accept b s v } ∷ []) (Accept c t w) → IsSaid sent (Accept c t w) ⊎ (b ≡ c)
-accept_cases sent me b c s t v w (i, h) = elim (Contains-push_cases sent (record { sender = me; body = Accept b s v }) (record { sender = i; body = Accept c t w }) h) [
-  | inl old ↦ inl (i, old)
-  | inr e ↦ let f : Accept b s v ≡ Accept c t w = ap (λ (m : Msg). m.body) e in inr cc
-]
+accept_cases : (sent : Sent) (me : ℕ) (b c : Ballot) (s t : ℕ) (v w : Value)
+    → IsSaid (sent ++ record { sender = me; body = Accept b s v } ∷ []) (Accept c t w)
+    → IsSaid sent (Accept c t w) ⊎ (b ≡ c)
+accept_cases sent me b c s t v w (i, h) =
+    elim (Contains-push_cases sent (record { sender = me; body = Accept b s v })
+    (record { sender = i; body = Accept c t w }) h) [
+      | inl old ↦ inl (i, old)
+      | inr e ↦ let f : Accept b s v ≡ Accept c t w = ap (λ (m : Msg). m.body) e in inr cc
+    ]
 
 -- a Prepare that was sent by the end of an Accept was sent before it
-asked_before : (sent : Sent) (me : ℕ) (b c : Ballot) (s from : ℕ) (v : Value) → IsSaid (sent ++ record { sender = me; body = Accept b s v } ∷ []) (Prepare c from) → IsSaid sent (Prepare c from)
-asked_before sent me b c s from v (i, h) = elim (Contains-push_cases sent (record { sender = me; body = Accept b s v }) (record { sender = i; body = Prepare c from }) h) [
-  | inl old ↦ (i, old)
-  | inr e ↦ let f : Accept b s v ≡ Prepare c from = ap (λ (m : Msg). m.body) e in absurd cc
-]
+asked_before : (sent : Sent) (me : ℕ) (b c : Ballot) (s from : ℕ) (v : Value)
+    → IsSaid (sent ++ record { sender = me; body = Accept b s v } ∷ []) (Prepare c from) → IsSaid sent (Prepare c from)
+asked_before sent me b c s from v (i, h) =
+    elim (Contains-push_cases sent (record { sender = me; body = Accept b s v })
+    (record { sender = i; body = Prepare c from }) h) [
+      | inl old ↦ (i, old)
+      | inr e ↦ let f : Accept b s v ≡ Prepare c from = ap (λ (m : Msg). m.body) e in absurd cc
+    ]
 
 -- proposals that may be sent, after which the node is backed, and its proposer is of its group
-pub record Proposes (typed : List Key) (n : Node) (sent : Sent) (proposals : Proposals) : Type 0 where
+pub record Proposes (typed : List Key) (n : Known) (sent : Sent) (proposals : Proposals) : Type 0 where
   pub goes : Goes (sender_of typed n) sent (accepts_of proposals.made) (leading n proposals.proposer)
   pub size : proposals.proposer.size ≡ n.me.group.size
 
-module _ (laws : ProposingLaws) (typed : List Key) (n : Node) where
+module _ (laws : ProposingLaws) (typed : List Key) (n : Known) where
   -- one Accept more under the promised ballot keeps the stored record backed
   record_backed : (sent : Sent) (p : Proposer) (s : ℕ) (v : Value) → n.kept.promised ≡ Some p.ballot → IsRecordBacked sent n.me.node n.kept
       → IsRecordBacked (sent ++ record { sender = n.me.node; body = Accept p.ballot s v } ∷ []) n.me.node n.kept
@@ -74,7 +85,9 @@ module _ (laws : ProposingLaws) (typed : List Key) (n : Node) where
   proposing_backed sent p v h = record {
     kept = record_backed sent p (next_of p) v h.proposer.promised h.kept;
     proposer = record { backed = laws.proposed sent n.me.node p v h.proposer.backed; promised = h.proposer.promised };
-    learner = learner_later laws.sending.backing sent (record { sender = n.me.node; body = Accept p.ballot (next_of p) v } ∷ []) n.learner h.learner;
+    learner =
+        learner_later laws.sending.backing sent
+        (record { sender = n.me.node; body = Accept p.ballot (next_of p) v } ∷ []) n.learner h.learner;
     waiting = h.waiting;
   }
 
@@ -87,18 +100,23 @@ module _ (laws : ProposingLaws) (typed : List Key) (n : Node) where
   GoesOn go_on = (sent : Sent) (p : Proposer) → p.size ≡ n.me.group.size → Backs sent typed (leading n p) → Proposes typed n sent (go_on p)
 
   -- a proposal, if there is one, and what goes on behind it
-  propose_goes : (sent : Sent) (p : Proposer) (offered o : Option Value) (go_on : Proposer → Proposals) → IfSome offered (IsFree sent) → next_value p offered ≡ o → GoesOn go_on → p.size ≡ n.me.group.size → Backs sent typed (leading n p)
+  propose_goes : (sent : Sent) (p : Proposer) (offered o : Option Value) (go_on : Proposer → Proposals)
+      → IfSome offered (IsFree sent) → next_value p offered ≡ o → GoesOn go_on → p.size ≡ n.me.group.size
+      → Backs sent typed (leading n p)
       → Proposes typed n sent (propose p o go_on)
   propose_goes sent p offered None go_on free e goes size h = stop_goes sent p size h
   propose_goes sent p offered (Some v) go_on free e goes size h =
       let m : Msg = record { sender = n.me.node; body = Accept p.ballot (next_of p) v } in
       let rest = goes (sent ++ m ∷ []) (proposing p (Some v)) size (proposing_backed sent p v h) in
       let by = sender_of typed n in
-      let may : MaySend p.size typed by.learned sent n.me.node n.kept m.body = laws.proposes typed by.learned sent n.me.node n.kept p offered v h.proposer.backed free e in
+      let may : MaySend p.size typed by.learned sent n.me.node n.kept m.body =
+      laws.proposes typed by.learned sent n.me.node n.kept p offered v h.proposer.backed free e in
       record {
         goes = record {
           sends = (subst (λ (group : ℕ). MaySend group typed by.learned sent n.me.node n.kept m.body) size may, rest.goes.sends);
-          backs = rw (append_assoc sent (m ∷ []) (handed n.me.node (accepts_of (go_on (proposing p (Some v))).made))) at rest.goes.backs;
+          backs =
+              rw (append_assoc sent (m ∷ [])
+              (messages_handed_out n.me.node (accepts_of (go_on (proposing p (Some v))).made))) at rest.goes.backs;
         };
         size = rest.size;
       }
@@ -110,5 +128,6 @@ module _ (laws : ProposingLaws) (typed : List Key) (n : Node) where
   pump_goes (suc k) sent p size h = propose_goes sent p None (next_value p None) (pump k) tt refl (pump_goes k) size h
 
   -- an offer
-  pub offer_goes : (sent : Sent) (p : Proposer) (v : Value) → IsFree sent v → p.size ≡ n.me.group.size → Backs sent typed (leading n p) → Proposes typed n sent (offer p v)
+  pub offer_goes : (sent : Sent) (p : Proposer) (v : Value) → IsFree sent v → p.size ≡ n.me.group.size
+      → Backs sent typed (leading n p) → Proposes typed n sent (offer p v)
   offer_goes sent p v free size h = propose_goes sent p (Some v) (next_value p (Some v)) stop free refl stop_goes size h

@@ -11,7 +11,8 @@ use Rattle.group_node.specs.Packets.{Datagram, datagram_of, datagrams_of, to_all
 use Rattle.group_node.specs.Pump.{accepts_of, propose, pump, stop}
 
 -- the Accept of a proposal has a spelling, where that of each value that may be proposed has one
-pub proposal_fits : {size node : ℕ} (p : Proposer) (o : Option Value) (vote : Vote) → ((v : Value) → o ≡ Some v → IsBody size node (Accept p.ballot (next_of p) v))
+pub proposal_fits : {size node : ℕ} (p : Proposer) (o : Option Value) (vote : Vote)
+    → ((v : Value) → o ≡ Some v → IsBody size node (Accept p.ballot (next_of p) v))
     → Some vote ≡ option_map (proposal p) o → IsBody size node (Accept vote.ballot vote.place vote.value)
 proposal_fits p None vote fits e = absurd cc
 proposal_fits {size} {node} p (Some v) vote fits e =
@@ -19,12 +20,15 @@ proposal_fits {size} {node} p (Some v) vote fits e =
     rw is (fits v refl)
 
 -- the Accepts of some proposals and of more, as datagrams
-pub accepts_append : (me : Me) (made more : List Vote) → datagrams_of me (accepts_of (made ++ more)) ≡ datagrams_of me (accepts_of made) ++ datagrams_of me (accepts_of more)
+pub accepts_append : (me : Me) (made more : List Vote)
+    → datagrams_of me (accepts_of (made ++ more))
+    ≡ datagrams_of me (accepts_of made) ++ datagrams_of me (accepts_of more)
 accepts_append me made more =
     ap (datagrams_of me) (map-append (λ (vote : Vote). to_all (Accept vote.ballot vote.place vote.value)) made more)
     ∙ map-append (datagram_of me) (accepts_of made) (accepts_of more)
 
--- After so many proposals, which are in the outbox, the proposer has so many left, with which it comes to where the whole pump comes.
+-- After so many proposals, which are in the outbox, the proposer has so many left, with which it comes to where the
+-- whole pump comes.
 pub record IsPumping (me : Me) (began : Proposer) (before now : List Datagram) (count : ℕ) (p : Proposer) : Type 0 where
   pub made : List Vote
   pub left : ℕ
@@ -48,7 +52,8 @@ pumping_none me p before = record {
 
 -- a pump that has one proposal left and finds a value
 pump_some : (left : ℕ) (p : Proposer) (v : Value) → next_value p None ≡ Some v
-    → ((pump (suc left) p).proposer ≡ (pump left (proposing p (Some v))).proposer) × ((pump (suc left) p).made ≡ proposal p v ∷ (pump left (proposing p (Some v))).made)
+    → ((pump (suc left) p).proposer ≡ (pump left (proposing p (Some v))).proposer)
+    × ((pump (suc left) p).made ≡ proposal p v ∷ (pump left (proposing p (Some v))).made)
 unfolding pump
 pump_some left p v e = (rw e refl, rw e refl)
 
@@ -59,10 +64,12 @@ pump_none zero p e = (refl, refl)
 pump_none (suc left) p e = (rw e refl, rw e refl)
 
 -- one more
-more : {me : Me} {began p : Proposer} {before now : List Datagram} {count : ℕ} (v : Value) → IsPumping me began before now count p → count < 16 → next_value p None ≡ Some v
+more : {me : Me} {began p : Proposer} {before now : List Datagram} {count : ℕ} (v : Value)
+    → IsPumping me began before now count p → count < 16 → next_value p None ≡ Some v
     → IsPumping me began before (now ++ datagrams_of me (accepts_of (proposal p v ∷ []))) (count + 1) (proposing p (Some v))
 more {me} {began} {p} {before} {now} {count} v h few e = by_left h.left h.all h.proposer h.proposals where
-  by_left : (left : ℕ) → count + left ≡ 16 → (pump 16 began).proposer ≡ (pump left p).proposer → (pump 16 began).made ≡ h.made ++ (pump left p).made
+  by_left : (left : ℕ) → count + left ≡ 16 → (pump 16 began).proposer ≡ (pump left p).proposer
+      → (pump 16 began).made ≡ h.made ++ (pump left p).made
       → IsPumping me began before (now ++ datagrams_of me (accepts_of (proposal p v ∷ []))) (count + 1) (proposing p (Some v))
   by_left zero all proposer proposals = absurd (omega (arith, few))
   by_left (suc left) all proposer proposals =
@@ -73,7 +80,9 @@ more {me} {began} {p} {before} {now} {count} v h few e = by_left h.left h.all h.
         all = omega arith;
         counted = rw (length-append h.made (proposal p v ∷ [])) (omega (arith, h.counted));
         proposer = proposer ∙ next.0;
-        proposals = proposals ∙ ap (λ (votes : List Vote). h.made ++ votes) next.1 ∙ sym (append_assoc h.made (proposal p v ∷ []) (pump left (proposing p (Some v))).made);
+        proposals =
+            proposals ∙ ap (λ (votes : List Vote). h.made ++ votes) next.1
+            ∙ sym (append_assoc h.made (proposal p v ∷ []) (pump left (proposing p (Some v))).made);
         packets =
             ap (λ (l : List Datagram). l ++ datagrams_of me (accepts_of (proposal p v ∷ []))) h.packets
             ∙ append_assoc before (datagrams_of me (accepts_of h.made)) (datagrams_of me (accepts_of (proposal p v ∷ [])))
@@ -98,22 +107,27 @@ over {me} {began} {p} {before} {now} {count} h none =
     }
 
 -- where no value is found, as the code tells it
-pub over_none : {me : Me} {began p q : Proposer} {before now then : List Datagram} {count : ℕ} (o : Option Value) → IsPumping me began before now count p
-    → next_value p None ≡ o → o ≡ None → q ≡ (propose p o stop).proposer → then ≡ now ++ datagrams_of me (accepts_of (propose p o stop).made) → IsPumped me began before then count q
+pub over_none : {me : Me} {began p q : Proposer} {before now then : List Datagram} {count : ℕ} (o : Option Value)
+    → IsPumping me began before now count p
+    → next_value p None ≡ o → o ≡ None → q ≡ (propose p o stop).proposer
+    → then ≡ now ++ datagrams_of me (accepts_of (propose p o stop).made) → IsPumped me began before then count q
 over_none {me} {began} {p} {q} {before} {now} {then} {count} None h e none proposer packets =
     rw (proposer, packets ∙ append-nil now) (over h (pump_none h.left p e))
 over_none (Some v) h e none proposer packets = absurd cc
 
 -- where 16 were made
-pub over_all : {me : Me} {began p : Proposer} {before now : List Datagram} {count : ℕ} → IsPumping me began before now count p → 16 ≤ count → IsPumped me began before now count p
+pub over_all : {me : Me} {began p : Proposer} {before now : List Datagram} {count : ℕ}
+    → IsPumping me began before now count p → 16 ≤ count → IsPumped me began before now count p
 unfolding pump
 over_all {me} {began} {p} {before} {now} {count} h most =
     let none : h.left ≡ 0 = omega (arith, h.all, most) in
     over h (rw none (refl, refl))
 
 -- one more, as the code tells it
-pub pumping_more : {me : Me} {began p q : Proposer} {before now then : List Datagram} {count : ℕ} (o : Option Value) → IsPumping me began before now count p → count < 16
-    → next_value p None ≡ o → IsSome o → q ≡ (propose p o stop).proposer → then ≡ now ++ datagrams_of me (accepts_of (propose p o stop).made)
+pub pumping_more : {me : Me} {began p q : Proposer} {before now then : List Datagram} {count : ℕ} (o : Option Value)
+    → IsPumping me began before now count p → count < 16
+    → next_value p None ≡ o → IsSome o → q ≡ (propose p o stop).proposer
+    → then ≡ now ++ datagrams_of me (accepts_of (propose p o stop).made)
     → IsPumping me began before then (count + 1) q
 pumping_more None h few e some proposer packets = absurd cc
 pumping_more (Some v) h few e some proposer packets = rw (proposer, packets) (more v h few e)

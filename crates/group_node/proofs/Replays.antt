@@ -3,59 +3,61 @@ use Rattle.std.proofs.Common.{◌≡◌, ℕ, zero, suc, ◌+◌, ◌≤◌, ◌
 use Rattle.std.specs.Ordering.{nat_cmp}
 use Rattle.std.specs.FinMap.{FinMap}
 use Rattle.pcode_file.specs.Parts.{Parts}
-use Rattle.pcode_machine.specs.Configuration.{Configuration, joined}
+use Rattle.pcode_machine.specs.Configuration.{Configuration, configuration_of}
 use Rattle.pcode_machine.specs.Outcome.{outcome, Goes}
-use Rattle.pcode_machine.specs.Runs.{after, out, Leads}
+use Rattle.pcode_machine.specs.Runs.{after_steps, out, LeadsIn}
 use Rattle.pcode_machine.specs.Step.{Step}
 use Rattle.paxos_msg.specs.declared.value.Value.{Value}
 use Rattle.paxos_learner.specs.Growth.{HasLearnedMore}
 use Rattle.paxos_learner.specs.Input.{learned_input}
 use Rattle.group_node.specs.declared.player.Player.{Player}
 use Rattle.group_node.specs.Output.{IsReplay, no_progress, Progress, unreleased_of}
-use Rattle.group_node.specs.Player.{IsExact, progress_of}
+use Rattle.group_node.specs.Player.{IsPlayed, progress_of}
 use Rattle.group_node.specs.World.{MakesSteps}
 use Rattle.group_node.proofs.Exact.{replayed}
 
 -- the law that steps which exist lead to what is after so many of them
 abbrev pub There : Type 0
-There = (p : Parts) (x : List ℕ) (n : ℕ) (c : Configuration) → Leads p x n c → after p x n ≡ c
+There = (p : Parts) (x : List ℕ) (n : ℕ) (c : Configuration) → LeadsIn p x n c → after_steps p x n ≡ c
 
 -- the law that steps on an input are steps on each longer input
 abbrev pub Longer : Type 0
-Longer = (p : Parts) (x y : List ℕ) (n : ℕ) (c : Configuration) → Leads p x n c → Leads p (x ++ y) n c
+Longer = (p : Parts) (x y : List ℕ) (n : ℕ) (c : Configuration) → LeadsIn p x n c → LeadsIn p (x ++ y) n c
 
 -- what the machine wrote is the output after its steps
-pub output_is : {x : List ℕ} {q : Player} → There → (h : IsExact x q) → out q.machine.program x q.steps ≡ h.output
+pub output_is : {x : List ℕ} {q : Player} → There → (h : IsPlayed x q) → out q.machine.program x q.steps ≡ h.output
 unfolding out
 output_is there h = ap (λ (c : Configuration). c.output) (replayed there h)
 
 -- what the ring holds is what was not released of the output
-pub waits_unreleased : {x : List ℕ} {q : Player} → There → IsExact x q → unreleased_of x (progress_of q) ≡ q.unreleased.items
+pub waits_unreleased : {x : List ℕ} {q : Player} → There → IsPlayed x q → unreleased_of x (progress_of q) ≡ q.unreleased.items
 waits_unreleased {x} {q} there h = ap (drop q.released) (output_is there h) ∙ sym h.waits
 
 -- the machine is where a replay from the start is
-pub exact_replay : {x : List ℕ} {q : Player} → There → IsExact x q → IsReplay x (progress_of q)
+pub exact_replay : {x : List ℕ} {q : Player} → There → IsPlayed x q → IsReplay x (progress_of q)
 exact_replay {x} {q} there h = record {
-  made = subst (λ (c : Configuration). Leads q.machine.program x q.steps c) (sym (replayed there h)) h.made;
+  made = subst (λ (c : Configuration). LeadsIn q.machine.program x q.steps c) (sym (replayed there h)) h.made;
   released = rw (output_is there h) h.released;
   few = rw (waits_unreleased there h) h.room;
 }
 
 -- how many bytes wait
-pub exact_count : {x : List ℕ} {q : Player} (n : ℕ) → There → n ≡ length q.unreleased.items → IsExact x q → (n ≡ length (unreleased_of x (progress_of q))) × (n ≤ 256)
+pub exact_count : {x : List ℕ} {q : Player} (n : ℕ) → There → n ≡ length q.unreleased.items → IsPlayed x q
+    → (n ≡ length (unreleased_of x (progress_of q))) × (n ≤ 256)
 exact_count {x} {q} n there e h = (e ∙ ap length (sym (waits_unreleased there h)), rw e h.room)
 
 -- the first byte that waits, with its number
-pub exact_first : {x : List ℕ} {q : Player} (o : Option ℕ) → There → o ≡ slice_get q.unreleased.items 0 → IsExact x q → o ≡ slice_get (unreleased_of x (progress_of q)) 0
+pub exact_first : {x : List ℕ} {q : Player} (o : Option ℕ) → There → o ≡ slice_get q.unreleased.items 0 → IsPlayed x q
+    → o ≡ slice_get (unreleased_of x (progress_of q)) 0
 exact_first {x} {q} o there e h = e ∙ ap (λ (l : List ℕ). slice_get l 0) (sym (waits_unreleased there h))
 
 -- ---- a longer input
 
 -- on a longer input it is as exact
-pub exact_longer : {x : List ℕ} {q : Player} → Longer → (rest : List ℕ) → IsExact x q → IsExact (x ++ rest) q
+pub exact_longer : {x : List ℕ} {q : Player} → Longer → (rest : List ℕ) → IsPlayed x q → IsPlayed (x ++ rest) q
 exact_longer {x} {q} longer rest h = record {
   output = h.output;
-  made = longer q.machine.program x rest q.steps (joined q.machine.state q.read h.output) h.made;
+  made = longer q.machine.program x rest q.steps (configuration_of q.machine.state q.read h.output) h.made;
   read = omega (arith, h.read, length-append x rest);
   waits = h.waits;
   released = h.released;
@@ -68,26 +70,28 @@ exact_longer {x} {q} longer rest h = record {
 -- when more is learned it is as exact on the learned input
 pub exact_learned : {q : Player} → Longer
     → ((old new : FinMap nat_cmp Value) → HasLearnedMore old new → (rest : List ℕ) × (learned_input new ≡ learned_input old ++ rest))
-    → (old new : FinMap nat_cmp Value) → HasLearnedMore old new → IsExact (learned_input old) q → IsExact (learned_input new) q
+    → (old new : FinMap nat_cmp Value) → HasLearnedMore old new → IsPlayed (learned_input old) q → IsPlayed (learned_input new) q
 exact_learned {q} longer grows old new more h =
     let rest = grows old new more in
-    subst (λ (x : List ℕ). IsExact x q) (sym rest.1) (exact_longer longer rest.0 h)
+    subst (λ (x : List ℕ). IsPlayed x q) (sym rest.1) (exact_longer longer rest.0 h)
 
 -- ---- the same of a replay
 
 -- before the first step
 pub replay_begins : (p : Parts) (x : List ℕ) → IsReplay x (no_progress p)
-unfolding Leads after out
+unfolding LeadsIn after_steps out
 replay_begins p x = record { made = refl; released = omega arith; few = omega arith }
 
 module _ (there : There) (longer : Longer) (x y rest : List ℕ) (whole : y ≡ x ++ rest) (q : Progress) (h : IsReplay x q) where
   -- the steps are steps on the longer input
-  made_longer : Leads q.program y q.steps (after q.program x q.steps)
-  made_longer = subst (λ (z : List ℕ). Leads q.program z q.steps (after q.program x q.steps)) (sym whole) (longer q.program x rest q.steps (after q.program x q.steps) h.made)
+  made_longer : LeadsIn q.program y q.steps (after_steps q.program x q.steps)
+  made_longer =
+      subst (λ (z : List ℕ). LeadsIn q.program z q.steps (after_steps q.program x q.steps)) (sym whole)
+      (longer q.program x rest q.steps (after_steps q.program x q.steps) h.made)
 
   -- they lead to the same configuration
-  pub same_after : after q.program y q.steps ≡ after q.program x q.steps
-  same_after = there q.program y q.steps (after q.program x q.steps) made_longer
+  pub same_after : after_steps q.program y q.steps ≡ after_steps q.program x q.steps
+  same_after = there q.program y q.steps (after_steps q.program x q.steps) made_longer
 
   -- so the output is the same
   same_out : out q.program y q.steps ≡ out q.program x q.steps
@@ -101,7 +105,7 @@ module _ (there : There) (longer : Longer) (x y rest : List ℕ) (whole : y ≡ 
   -- it is a replay on the longer input
   pub replay_longer : IsReplay y q
   replay_longer = record {
-    made = subst (λ (c : Configuration). Leads q.program y q.steps c) (sym same_after) made_longer;
+    made = subst (λ (c : Configuration). LeadsIn q.program y q.steps c) (sym same_after) made_longer;
     released = rw same_out h.released;
     few = rw same_unreleased h.few;
   }
@@ -110,14 +114,14 @@ module _ (there : There) (longer : Longer) (x y rest : List ℕ) (whole : y ≡ 
 
 -- steps that exist lead on from what is after m of them
 pub steps_from : There → ((p : Parts) (x : List ℕ) (c d : Configuration) → Step p x c d ↔ (outcome p x c ≡ Goes d))
-    → (p : Parts) (x : List ℕ) (m n : ℕ) (c : Configuration) → Leads p x (m + n) c → MakesSteps p x n (after p x m) c
-unfolding Leads MakesSteps
+    → (p : Parts) (x : List ℕ) (m n : ℕ) (c : Configuration) → LeadsIn p x (m + n) c → MakesSteps p x n (after_steps p x m) c
+unfolding LeadsIn MakesSteps
 steps_from there step p x m zero c h =
     let none : m + 0 ≡ m = omega arith in
-    sym (there p x m c (subst (λ (k : ℕ). Leads p x k c) none h))
+    sym (there p x m c (subst (λ (k : ℕ). LeadsIn p x k c) none h))
 steps_from there step p x m (suc n) c h =
     let one : m + suc n ≡ suc (m + n) = omega arith in
-    let last : (b : Configuration) × Leads p x (m + n) b × (outcome p x b ≡ Goes c) = subst (λ (k : ℕ). Leads p x k c) one h in
+    let last : (b : Configuration) × LeadsIn p x (m + n) b × (outcome p x b ≡ Goes c) = subst (λ (k : ℕ). LeadsIn p x k c) one h in
     (last.0, steps_from there step p x m n last.0 last.1, (step p x last.0 c).1 last.2)
 
 -- the first of the bytes that wait is the one with the number of those that were released

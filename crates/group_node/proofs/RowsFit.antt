@@ -17,37 +17,46 @@ use Rattle.paxos_acceptor.specs.declared.me.Me.{Me}
 use Rattle.paxos_acceptor.specs.Answers.{Answer, accept_of, after, prepare_of}
 use Rattle.paxos_acceptor.specs.Cases.{greater_promise}
 use Rattle.paxos_acceptor.specs.Records.{IsRecord}
-use Rattle.paxos_proposer.specs.Proposer.{after_part, asks_on, is_covered, next_of, Proposer}
-use Rattle.paxos_learner.specs.Growth.{AreInWindow, IsInRange as IsLearnerInRange}
+use Rattle.paxos_proposer.specs.Proposer.{proposer_after_part, asks_on, is_covered, next_of, Proposer}
+use Rattle.paxos_learner.specs.Growth.{AreInWindow, IsLearnerInRange as IsLearnerInRange}
 use Rattle.paxos_learner.specs.Input.{front_values, has_key, keys_in_order}
-use Rattle.paxos_learner.specs.Learner.{Learner, on_accepted, on_tell}
+use Rattle.paxos_learner.specs.Learner.{Learner, heard_accepted, heard_tell}
 use Rattle.group_node.specs.declared.packet.To.{To}
-use Rattle.group_node.specs.Delivered.{settled}
-use Rattle.group_node.specs.Leading.{at_promise, at_submit, are_known, offer_after, offering, prepare_from, proposing_on, submitted, taking_part}
-use Rattle.group_node.specs.Node.{accept_answered_to, answering, at_accept, at_accepted, at_ask, at_prepare, at_refused, at_tell, count_read, Done, front, gone, Node, quiet, tell_at, unless_passed, unless_refused, waiting_keys, without_read}
+use Rattle.group_node.specs.Protocol.{without_read_keys}
+use Rattle.group_node.specs.AcceptorRows.{accept_answered_to, answering, on_accept, on_prepare, unless_passed}
+use Rattle.group_node.specs.Known.{Response, front, Known, quiet, waiting_keys}
+use Rattle.group_node.specs.LearnerRows.{on_accepted, on_ask, on_tell, tell_packet}
+use Rattle.group_node.specs.ProposerRows.{on_promise, on_submit, are_known, offer_after, offering, prepare_from, proposing_on, submitted, taking_part, on_refused, unless_refused}
+use Rattle.group_node.specs.WaitingKeys.{count_read, count_gone, without_read}
 use Rattle.group_node.specs.Packets.{Packet, to_one}
 use Rattle.group_node.specs.Pump.{accepts_of, Proposals, pump}
 use Rattle.group_node.specs.Ranges.{AllFit, AreFit, IsFit, IsHeardFit, IsInRange, IsOwnLearner, IsOwnProposer, IsWaiting}
-use Rattle.group_node.proofs.LawfulAnswering.{accept_reply, prepare_reply, starts_same}
-use Rattle.group_node.proofs.LawfulLeading.{filter_map_all, one_all}
+use Rattle.group_node.proofs.LawfulAcceptorRows.{accept_reply, prepare_reply, starts_same}
+use Rattle.group_node.proofs.LawfulProposerRows.{filter_map_all, one_all}
 use Rattle.group_node.proofs.PacketsFit.{tell_fits}
 use Rattle.group_node.proofs.ProposalsFit.{AcceptLaws, asks_on_fits, offer_after_fits, part_own, PartLaws, pump_fits}
 
 -- The laws of acceptors: an answer has a spelling, and the record after its save is in its ranges.
 pub record AnswerLaws : Type 0 where
-  pub promise_says : (size i from : ℕ) (r : Record) (b : Ballot) → IsRecord size r → IsBallot size b → IsPlace from → IsBody size i (prepare_of r b from).says
-  pub promise_kept : (size from : ℕ) (r : Record) (b : Ballot) → IsRecord size r → IsBallot size b → IsPlace from → IsRecord size (after r (prepare_of r b from).saves)
-  pub vote_says : (size i s : ℕ) (r : Record) (b : Ballot) (v : Value) → IsRecord size r → IsBallot size b → IsPlace s → IsValue size v → IsBody size i (accept_of r b s v).says
-  pub vote_kept : (size s : ℕ) (r : Record) (b : Ballot) (v : Value) → IsRecord size r → IsBallot size b → IsPlace s → IsValue size v → IsRecord size (after r (accept_of r b s v).saves)
+  pub promise_says : (size i from : ℕ) (r : Record) (b : Ballot) → IsRecord size r → IsBallot size b → IsPlace from
+      → IsBody size i (prepare_of r b from).says
+  pub promise_kept : (size from : ℕ) (r : Record) (b : Ballot) → IsRecord size r → IsBallot size b → IsPlace from
+      → IsRecord size (after r (prepare_of r b from).saves)
+  pub vote_says : (size i s : ℕ) (r : Record) (b : Ballot) (v : Value) → IsRecord size r → IsBallot size b → IsPlace s
+      → IsValue size v → IsBody size i (accept_of r b s v).says
+  pub vote_kept : (size s : ℕ) (r : Record) (b : Ballot) (v : Value) → IsRecord size r → IsBallot size b → IsPlace s
+      → IsValue size v → IsRecord size (after r (accept_of r b s v).saves)
 
 -- The laws of learners: what they learn is in its ranges and in the window, and their size stays.
 pub record HearingLaws : Type 0 where
-  pub accepted_size : (l : Learner) (i s : ℕ) (b : Ballot) (v : Value) → (on_accepted l i b s v).learner.size ≡ l.size
-  pub accepted_fits : (l : Learner) (i s : ℕ) (b : Ballot) (v : Value) → IsValue l.size v → IsLearnerInRange l → IsLearnerInRange (on_accepted l i b s v).learner
-  pub accepted_near : (l : Learner) (i s : ℕ) (b : Ballot) (v : Value) → s ≤ 65535 → AreInWindow l.learned → AreInWindow (on_accepted l i b s v).learner.learned
-  pub told_size : (l : Learner) (s : ℕ) (v : Value) → (on_tell l s v).learner.size ≡ l.size
-  pub told_fits : (l : Learner) (s : ℕ) (v : Value) → IsValue l.size v → IsLearnerInRange l → IsLearnerInRange (on_tell l s v).learner
-  pub told_near : (l : Learner) (s : ℕ) (v : Value) → s ≤ 65535 → AreInWindow l.learned → AreInWindow (on_tell l s v).learner.learned
+  pub accepted_size : (l : Learner) (i s : ℕ) (b : Ballot) (v : Value) → (heard_accepted l i b s v).learner.size ≡ l.size
+  pub accepted_fits : (l : Learner) (i s : ℕ) (b : Ballot) (v : Value) → IsValue l.size v → IsLearnerInRange l
+      → IsLearnerInRange (heard_accepted l i b s v).learner
+  pub accepted_near : (l : Learner) (i s : ℕ) (b : Ballot) (v : Value) → s ≤ 65535 → AreInWindow l.learned
+      → AreInWindow (heard_accepted l i b s v).learner.learned
+  pub told_size : (l : Learner) (s : ℕ) (v : Value) → (heard_tell l s v).learner.size ≡ l.size
+  pub told_fits : (l : Learner) (s : ℕ) (v : Value) → IsValue l.size v → IsLearnerInRange l → IsLearnerInRange (heard_tell l s v).learner
+  pub told_near : (l : Learner) (s : ℕ) (v : Value) → s ≤ 65535 → AreInWindow l.learned → AreInWindow (heard_tell l s v).learner.learned
 
 -- ---- a proposer that stays or is dropped
 
@@ -96,26 +105,34 @@ waiting_less first k bytes low h =
     let few = h.few in
     record { some = omega arith; fits = omega arith; few = omega arith; characters = drop_bytes k bytes h.characters }
 
-module _ (n : Node) (h : IsInRange n) where
+module _ (n : Known) (h : IsInRange n) where
   -- no more leave than wait
-  gone_few : gone n ≤ length n.waiting
+  gone_few : count_gone n ≤ length n.waiting
   gone_few =
-      let few : gone n ≤ length (waiting_keys n) = count_few (keys_in_order (front_values n.learner.learned)) (waiting_keys n) in
+      let few : count_gone n ≤ length (waiting_keys n) = count_few (keys_in_order (front_values n.learner.learned)) (waiting_keys n) in
       omega (arith, keys_many n.me.node n.kept.starts n.first n.waiting)
 
   -- keys that leave keep the node in its ranges
   pub gone_fits : IsInRange (without_read n)
-  gone_fits = record { me = h.me; kept = h.kept; counted = h.counted; proposer = h.proposer; learner = h.learner; waiting = waiting_less n.first (gone n) n.waiting gone_few h.waiting }
+  gone_fits =
+      record {
+        me = h.me;
+        kept = h.kept;
+        counted = h.counted;
+        proposer = h.proposer;
+        learner = h.learner;
+        waiting = waiting_less n.first (count_gone n) n.waiting gone_few h.waiting;
+      }
 
 -- a call that sends nothing
-pub quiet_fits : (n : Node) → IsInRange n → IsFit n.me (quiet n)
+pub quiet_fits : (n : Known) → IsInRange n → IsFit n.me (quiet n)
 quiet_fits n h = record { same = refl; ranges = h; sends = All-nil (λ (packet : Packet). IsBody n.me.group.size n.me.node packet.body) }
 
 -- and change nothing else
-pub settled_fits : (me : Me) (done : Done) → IsFit me done → IsFit me (settled done)
+pub settled_fits : (me : Me) (done : Response) → IsFit me done → IsFit me (without_read_keys done)
 settled_fits me done f = record { same = f.same; ranges = gone_fits done.node f.ranges; sends = f.sends }
 
-module _ (n : Node) (h : IsInRange n) where
+module _ (n : Known) (h : IsInRange n) where
   -- the packet of the node has a spelling
   abbrev IsPacketFit : Packet → Type 0
   IsPacketFit packet = IsBody n.me.group.size n.me.node packet.body
@@ -127,7 +144,8 @@ module _ (n : Node) (h : IsInRange n) where
   -- ---- Prepare and Accept
 
   -- an answer, by what it saves and says
-  answering_fits : (to : To) (answer : Answer) → IsRecord n.me.group.size (after n.kept answer.saves) → (after n.kept answer.saves).starts ≡ n.kept.starts → IsBody n.me.group.size n.me.node answer.says
+  answering_fits : (to : To) (answer : Answer) → IsRecord n.me.group.size (after n.kept answer.saves)
+      → (after n.kept answer.saves).starts ≡ n.kept.starts → IsBody n.me.group.size n.me.node answer.says
       → IsFit n.me (answering n to answer)
   answering_fits to answer kept starts says = record {
     same = refl;
@@ -143,50 +161,73 @@ module _ (n : Node) (h : IsInRange n) where
   }
 
   -- a Prepare
-  pub prepare_fits : AnswerLaws → (j from : ℕ) (b : Ballot) → IsHeardFit n.me j (Prepare b from) → IsFit n.me (at_prepare n b from)
+  pub prepare_fits : AnswerLaws → (j from : ℕ) (b : Ballot) → IsHeardFit n.me j (Prepare b from) → IsFit n.me (on_prepare n b from)
   prepare_fits laws j from b (some, (ballot, own, place)) =
       answering_fits _ (prepare_of n.kept b from) (laws.promise_kept n.me.group.size from n.kept b h.kept ballot place)
-      (starts_same n.kept (change.Promise b) (prepare_of n.kept b from).saves refl (prepare_reply [] n.me.node from n.kept b).saves) (laws.promise_says n.me.group.size n.me.node from n.kept b h.kept ballot place)
+      (starts_same n.kept (change.Promise b) (prepare_of n.kept b from).saves refl
+      (prepare_reply [] n.me.node from n.kept b).saves)
+      (laws.promise_says n.me.group.size n.me.node from n.kept b h.kept ballot place)
 
   -- an Accept
-  pub accept_fits : AnswerLaws → (j s : ℕ) (b : Ballot) (v : Value) → IsHeardFit n.me j (Accept b s v) → IsFit n.me (at_accept n b s v)
+  pub accept_fits : AnswerLaws → (j s : ℕ) (b : Ballot) (v : Value) → IsHeardFit n.me j (Accept b s v) → IsFit n.me (on_accept n b s v)
   accept_fits laws j s b v (some, (ballot, own, place, value)) =
-      answering_fits (accept_answered_to (greater_promise n.kept.promised b) b) (accept_of n.kept b s v) (laws.vote_kept n.me.group.size s n.kept b v h.kept ballot place value)
-      (starts_same n.kept (change.Ballotted s b v) (accept_of n.kept b s v).saves refl (accept_reply [] n.me.node s n.kept b v).saves) (laws.vote_says n.me.group.size n.me.node s n.kept b v h.kept ballot place value)
+      answering_fits (accept_answered_to (greater_promise n.kept.promised b) b) (accept_of n.kept b s v)
+      (laws.vote_kept n.me.group.size s n.kept b v h.kept ballot place value)
+      (starts_same n.kept (change.Ballotted s b v) (accept_of n.kept b s v).saves refl
+      (accept_reply [] n.me.node s n.kept b v).saves)
+      (laws.vote_says n.me.group.size n.me.node s n.kept b v h.kept ballot place value)
 
   -- ---- Accepted, Tell and Refused
 
   -- the node with another learner of its own
   learned_fits : (l : Learner) → IsOwnLearner n.me l → IsFit n.me (quiet (record n { learner = l }))
   learned_fits l own =
-      quiet_fits (record n { learner = l }) (record { me = h.me; kept = h.kept; counted = h.counted; proposer = h.proposer; learner = own; waiting = h.waiting })
+      quiet_fits (record n { learner = l })
+      (record {
+        me = h.me;
+        kept = h.kept;
+        counted = h.counted;
+        proposer = h.proposer;
+        learner = own;
+        waiting = h.waiting;
+      })
 
   -- a value of the group is one of the learner's
   heard_value : (v : Value) → IsValue n.me.group.size v → IsValue n.learner.size v
   heard_value v fits = subst (λ (size : ℕ). IsValue size v) (sym h.learner.size) fits
 
   -- an Accepted
-  pub accepted_fits : HearingLaws → (j s : ℕ) (b : Ballot) (v : Value) → IsHeardFit n.me j (Accepted b s v) → IsFit n.me (at_accepted n j b s v)
+  pub accepted_fits : HearingLaws → (j s : ℕ) (b : Ballot) (v : Value) → IsHeardFit n.me j (Accepted b s v)
+      → IsFit n.me (on_accepted n j b s v)
   accepted_fits laws j s b v (some, (ballot, place, value)) =
-      learned_fits (on_accepted n.learner j b s v).learner (record {
+      learned_fits (heard_accepted n.learner j b s v).learner (record {
         size = laws.accepted_size n.learner j s b v ∙ h.learner.size;
         ranges = laws.accepted_fits n.learner j s b v (heard_value v value) h.learner.ranges;
         window = laws.accepted_near n.learner j s b v place h.learner.window;
       })
 
   -- a Tell
-  pub told_fits : HearingLaws → (j s : ℕ) (v : Value) → IsHeardFit n.me j (Tell s v) → IsFit n.me (at_tell n s v)
+  pub told_fits : HearingLaws → (j s : ℕ) (v : Value) → IsHeardFit n.me j (Tell s v) → IsFit n.me (on_tell n s v)
   told_fits laws j s v (some, (place, value)) =
-      learned_fits (on_tell n.learner s v).learner (record {
+      learned_fits (heard_tell n.learner s v).learner (record {
         size = laws.told_size n.learner s v ∙ h.learner.size;
         ranges = laws.told_fits n.learner s v (heard_value v value) h.learner.ranges;
         window = laws.told_near n.learner s v place h.learner.window;
       })
 
   -- a Refused
-  pub refused_fits : (b promised : Ballot) → IsFit n.me (at_refused n b promised)
+  pub refused_fits : (b promised : Ballot) → IsFit n.me (on_refused n b promised)
   refused_fits b promised =
-      quiet_fits (at_refused n b promised).node (record { me = h.me; kept = h.kept; counted = h.counted; proposer = refused_own (IsOwnProposer n.me) b n.proposer h.proposer; learner = h.learner; waiting = h.waiting })
+      quiet_fits (on_refused n b promised).node
+      (record {
+        me = h.me;
+        kept = h.kept;
+        counted = h.counted;
+        proposer = refused_own (IsOwnProposer n.me) b n.proposer h.proposer;
+        learner = h.learner;
+        waiting =
+            h.waiting;
+      })
 
   -- ---- Ask
 
@@ -196,17 +237,20 @@ module _ (n : Node) (h : IsInRange n) where
   tell_if j s (Some v) e = tell_fits n h s v e
 
   -- an Ask
-  pub asked_fits : (j from : ℕ) → IsFit n.me (at_ask n j from)
+  pub asked_fits : (j from : ℕ) → IsFit n.me (on_ask n j from)
   asked_fits j from = record {
     same = refl;
     ranges = h;
-    sends = filter_map_all IsPacketFit (tell_at n.learner.learned j) (range_with_len from (min 16 (front n - from))) (λ s. tell_if j s (get n.learner.learned s) refl);
+    sends =
+        filter_map_all IsPacketFit (tell_packet n.learner.learned j) (range_with_len from (min 16 (front n - from)))
+        (λ s. tell_if j s (get n.learner.learned s) refl);
   }
 
   -- ---- Promise
 
   -- proposals behind other packets
-  pub proposing_fits : (p : Proposer) (before : List Packet) (proposals : Proposals) → AllFit n.me before → AreFit n.me p proposals → IsFit n.me (proposing_on n before proposals)
+  pub proposing_fits : (p : Proposer) (before : List Packet) (proposals : Proposals) → AllFit n.me before
+      → AreFit n.me p proposals → IsFit n.me (proposing_on n before proposals)
   proposing_fits p before proposals fit f = record {
     same = refl;
     ranges = led_range (Some proposals.proposer) f.own;
@@ -214,30 +258,43 @@ module _ (n : Node) (h : IsInRange n) where
   }
 
   -- the acceptor is asked on, if it is
-  asked_on : (p : Proposer) → IsOwnProposer n.me p → (j first upto : ℕ) (o : Option ℕ) → asks_on p j first upto ≡ o → AllFit n.me (prepare_from p.ballot j o)
+  asked_on : (p : Proposer) → IsOwnProposer n.me p → (j first upto : ℕ) (o : Option ℕ) → asks_on p j first upto ≡ o
+      → AllFit n.me (prepare_from p.ballot j o)
   asked_on p own j first upto None e = All-nil IsPacketFit
   asked_on p own j first upto (Some s) e = one_all IsPacketFit (to_one j (Prepare p.ballot s)) (asks_on_fits n.me p own j first upto s e)
 
   -- by whether the part is for the proposer's own ballot
-  promise_if : AcceptLaws → PartLaws → ((a b : Ballot) → (same_ballot a b ≡ true) ↔ (a ≡ b)) → (p : Proposer) → IsOwnProposer n.me p → (j first upto : ℕ) (b : Ballot) (votes : List Vote) → IsBody n.me.group.size j (Promise b first upto votes) → (t : Bool) → same_ballot p.ballot b ≡ t
-      → IsFit n.me (if t then proposing_on n (prepare_from b j (asks_on p j first upto)) (pump 16 (after_part p j first upto votes)) else quiet n)
+  promise_if : AcceptLaws → PartLaws → ((a b : Ballot) → (same_ballot a b ≡ true) ↔ (a ≡ b)) → (p : Proposer)
+      → IsOwnProposer n.me p → (j first upto : ℕ) (b : Ballot) (votes : List Vote)
+      → IsBody n.me.group.size j (Promise b first upto votes) → (t : Bool) → same_ballot p.ballot b ≡ t
+      → IsFit n.me (if t then proposing_on n (prepare_from b j (asks_on p j first upto))
+      (pump 16 (proposer_after_part p j first upto votes)) else quiet n)
   promise_if accepts laws same_is p own j first upto b votes fits false e = quiet_fits n h
   promise_if accepts laws same_is p own j first upto b votes fits true e =
       let same : p.ballot ≡ b = (same_is p.ballot b).0 e in
-      let next : Proposer = after_part p j first upto votes in
+      let next : Proposer = proposer_after_part p j first upto votes in
       let body = subst (λ (c : Ballot). IsBody n.me.group.size j (Promise c first upto votes)) (sym same) fits in
-      let before = subst (λ (c : Ballot). AllFit n.me (prepare_from c j (asks_on p j first upto))) same (asked_on p own j first upto (asks_on p j first upto) refl) in
-      proposing_fits next (prepare_from b j (asks_on p j first upto)) (pump 16 next) before (pump_fits accepts n.me 16 next (part_own n.me p own laws j first upto votes body))
+      let before =
+      subst (λ (c : Ballot). AllFit n.me (prepare_from c j (asks_on p j first upto))) same
+      (asked_on p own j first upto (asks_on p j first upto) refl) in
+      proposing_fits next (prepare_from b j (asks_on p j first upto)) (pump 16 next) before
+      (pump_fits accepts n.me 16 next (part_own n.me p own laws j first upto votes body))
 
   -- by the proposer, if there is one
-  promise_at : AcceptLaws → PartLaws → ((a b : Ballot) → (same_ballot a b ≡ true) ↔ (a ≡ b)) → (o : Option Proposer) → IfSome o (IsOwnProposer n.me) → (j first upto : ℕ) (b : Ballot) (votes : List Vote) → IsBody n.me.group.size j (Promise b first upto votes)
+  promise_at : AcceptLaws → PartLaws → ((a b : Ballot) → (same_ballot a b ≡ true) ↔ (a ≡ b)) → (o : Option Proposer)
+      → IfSome o (IsOwnProposer n.me) → (j first upto : ℕ) (b : Ballot) (votes : List Vote)
+      → IsBody n.me.group.size j (Promise b first upto votes)
       → IsFit n.me (taking_part n o j b first upto votes)
   promise_at accepts laws same_is None own j first upto b votes fits = quiet_fits n h
-  promise_at accepts laws same_is (Some p) own j first upto b votes fits = promise_if accepts laws same_is p own j first upto b votes fits (same_ballot p.ballot b) refl
+  promise_at accepts laws same_is (Some p) own j first upto b votes fits =
+      promise_if accepts laws same_is p own j first upto b votes fits (same_ballot p.ballot b) refl
 
   -- a Promise, or a part of one
-  pub promise_fits : AcceptLaws → PartLaws → ((a b : Ballot) → (same_ballot a b ≡ true) ↔ (a ≡ b)) → (j first upto : ℕ) (b : Ballot) (votes : List Vote) → IsHeardFit n.me j (Promise b first upto votes) → IsFit n.me (at_promise n j b first upto votes)
-  promise_fits accepts laws same_is j first upto b votes heard = promise_at accepts laws same_is n.proposer h.proposer j first upto b votes heard.1
+  pub promise_fits : AcceptLaws → PartLaws → ((a b : Ballot) → (same_ballot a b ≡ true) ↔ (a ≡ b))
+      → (j first upto : ℕ) (b : Ballot) (votes : List Vote) → IsHeardFit n.me j (Promise b first upto votes)
+      → IsFit n.me (on_promise n j b first upto votes)
+  promise_fits accepts laws same_is j first upto b votes heard =
+      promise_at accepts laws same_is n.proposer h.proposer j first upto b votes heard.1
 
   -- ---- Submit
 
@@ -256,10 +313,11 @@ module _ (n : Node) (h : IsInRange n) where
       }
 
   -- by the proposer, if there is one
-  submit_at : AcceptLaws → (o : Option Proposer) → IfSome o (IsOwnProposer n.me) → (v : Value) → IsValue n.me.group.size v → IsFit n.me (submitted n o v)
+  submit_at : AcceptLaws → (o : Option Proposer) → IfSome o (IsOwnProposer n.me) → (v : Value)
+      → IsValue n.me.group.size v → IsFit n.me (submitted n o v)
   submit_at accepts None own v fits = quiet_fits n h
   submit_at accepts (Some p) own v fits = submit_if accepts p own v fits (is_covered p (next_of p) && not (are_known n (keys_of v)))
 
   -- a Submit
-  pub submit_fits : AcceptLaws → (j : ℕ) (v : Value) → IsHeardFit n.me j (Submit v) → IsFit n.me (at_submit n v)
+  pub submit_fits : AcceptLaws → (j : ℕ) (v : Value) → IsHeardFit n.me j (Submit v) → IsFit n.me (on_submit n v)
   submit_fits accepts j v (some, (value, own)) = submit_at accepts n.proposer h.proposer v value

@@ -5,19 +5,21 @@ use Rattle.paxos_msg.specs.Ballots.{IsAtMost}
 use Rattle.paxos_msg.specs.Batches.{Change, Record, Sent}
 use Rattle.paxos_msg.specs.Records.{changed, MaySave}
 use Rattle.paxos_acceptor.specs.Answers.{after}
-use Rattle.paxos_acceptor.specs.Backed.{IsBacked as IsVotesBacked}
+use Rattle.paxos_acceptor.specs.Backed.{HasBackedVotes as IsVotesBacked}
 use Rattle.paxos_acceptor.specs.Stores.{IsOneOf}
 use Rattle.group_node.specs.Backs.{HasPromised, IsRecordBacked}
 use Rattle.group_node.specs.Steps.{IsSavedBy}
 
 -- The law of the crates below: a save never lowers a promise.
 pub record RaisingLaw : Type 0 where
-  pub raises : (sent : Sent) (r : Record) (change : Change) (p : Ballot) → MaySave sent r change → r.promised ≡ Some p → IsSomeAnd (changed r change).promised (λ q. IsAtMost p q)
+  pub raises : (sent : Sent) (r : Record) (change : Change) (p : Ballot) → MaySave sent r change → r.promised ≡ Some p
+      → IsSomeAnd (changed r change).promised (λ q. IsAtMost p q)
 
 -- The laws of the crates below: also, a save keeps votes backed.
 pub record RecordLaws : Type 0 where
   pub raising : RaisingLaw
-  pub saved : (sent : Sent) (r : Record) (change : Change) → IsVotesBacked sent r → MaySave sent r change → IsVotesBacked sent (changed r change)
+  pub saved : (sent : Sent) (r : Record) (change : Change) → IsVotesBacked sent r → MaySave sent r change
+      → IsVotesBacked sent (changed r change)
 
 -- what is at most a ballot is at most a greater one
 above_still : (o : Option Ballot) (b p : Ballot) → IsAtMost b p → IsSomeAnd o (λ q. IsAtMost p q) → IsSomeAnd o (λ q. IsAtMost b q)
@@ -26,17 +28,20 @@ above_still (Some q) b p low high = grind arith
 
 module _ (law : RaisingLaw) (sent : Sent) (r : Record) where
   -- a promised ballot is so after a save that may be made
-  promised_by : (change : Change) (b : Ballot) (o : Option Ballot) → MaySave sent r change → r.promised ≡ o → IsSomeAnd o (λ p. IsAtMost b p) → HasPromised (changed r change) b
+  promised_by : (change : Change) (b : Ballot) (o : Option Ballot) → MaySave sent r change → r.promised ≡ o
+      → IsSomeAnd o (λ p. IsAtMost b p) → HasPromised (changed r change) b
   promised_by change b None may e h = elim h [ ]
   promised_by change b (Some p) may e h = above_still (changed r change).promised b p h (law.raises sent r change p may e)
 
   -- and after one that may be made, if there is one
-  pub promised_still : (saves : Option Change) (b : Ballot) → IfSome saves (MaySave sent r) → HasPromised r b → HasPromised (after r saves) b
+  pub promised_still : (saves : Option Change) (b : Ballot) → IfSome saves (MaySave sent r) → HasPromised r b
+      → HasPromised (after r saves) b
   promised_still None b may h = h
   promised_still (Some change) b may h = promised_by change b r.promised may refl h
 
 -- a save keeps a stored record backed
-pub record_saved : RecordLaws → (sent : Sent) (me : ℕ) (r : Record) (change : Change) → IsRecordBacked sent me r → MaySave sent r change → IsRecordBacked sent me (changed r change)
+pub record_saved : RecordLaws → (sent : Sent) (me : ℕ) (r : Record) (change : Change) → IsRecordBacked sent me r
+    → MaySave sent r change → IsRecordBacked sent me (changed r change)
 record_saved laws sent me r change h may = record {
   votes = laws.saved sent r change h.votes may;
   asked = λ b from mine said. promised_still laws.raising sent r (Some change) b may (h.asked b from mine said);
@@ -44,11 +49,13 @@ record_saved laws sent me r change h may = record {
 }
 
 -- so does one that is made, if there is one
-saved_backed : RecordLaws → (sent : Sent) (me : ℕ) (old new : Record) (saves : Option Change) → IsRecordBacked sent me old → IsSavedBy sent old saves new → IsRecordBacked sent me new
+saved_backed : RecordLaws → (sent : Sent) (me : ℕ) (old new : Record) (saves : Option Change)
+    → IsRecordBacked sent me old → IsSavedBy sent old saves new → IsRecordBacked sent me new
 saved_backed laws sent me old new None h e = rw e h
 saved_backed laws sent me old new (Some change) h (may, e) = rw e (record_saved laws sent me old change h may)
 
 -- and one that fails, whichever record it leaves
-pub left_backed : RecordLaws → (sent : Sent) (me : ℕ) (old new left : Record) (saves : Option Change) → IsRecordBacked sent me old → IsSavedBy sent old saves new → IsOneOf left old new → IsRecordBacked sent me left
+pub left_backed : RecordLaws → (sent : Sent) (me : ℕ) (old new left : Record) (saves : Option Change)
+    → IsRecordBacked sent me old → IsSavedBy sent old saves new → IsOneOf left old new → IsRecordBacked sent me left
 left_backed laws sent me old new left saves h by (inl e) = rw e h
 left_backed laws sent me old new left saves h by (inr e) = rw e (saved_backed laws sent me old new saves h by)

@@ -11,17 +11,23 @@ use Rattle.paxos_msg.specs.Keys.{Key}
 use Rattle.paxos_msg.specs.Messages.{IsSaid, messages_of}
 use Rattle.paxos_msg.specs.Sending.{IsNoNewProposal, KnowsMore}
 use Rattle.group_node.specs.Backs.{Backs, HasPromised}
-use Rattle.group_node.specs.Node.{Node}
+use Rattle.group_node.specs.Known.{Known}
 use Rattle.group_node.specs.Packets.{Packet, bodies_of}
-use Rattle.group_node.specs.Steps.{handed}
+use Rattle.group_node.specs.Steps.{messages_handed_out}
 use Rattle.group_node.proofs.Growing.{backs_later, BackingLaws, IsQuiet}
 
--- The laws of the crates below: also, what may be sent and is no new proposal may be sent still as more is sent, and what may be sent in
--- two halves may be sent as one.
+-- The laws of the crates below: also, what may be sent and is no new proposal may be sent still as more is sent, and
+-- what may be sent in two halves may be sent as one.
 pub record SendingLaws : Type 0 where
   pub backing : BackingLaws
-  pub still : (size i : ℕ) (typed newer : List Key) (learned now : ℕ → Option Value) (sent more : Sent) (r : Record) (body : Body) → KnowsMore typed newer learned now → IsNoNewProposal sent i body → MaySend size typed learned sent i r body → MaySend size newer now (sent ++ more) i r body
-  pub halves : (size i : ℕ) (typed : List Key) (learned : ℕ → Option Value) (sent : Sent) (r : Record) (bodies more : List Body) → MaySendAll size typed learned sent i r (bodies ++ more) ↔ (MaySendAll size typed learned sent i r bodies × MaySendAll size typed learned (sent ++ messages_of i bodies) i r more)
+  pub still : (size i : ℕ) (typed newer : List Key) (learned now : ℕ → Option Value) (sent more : Sent) (r : Record)
+      (body : Body) → KnowsMore typed newer learned now → IsNoNewProposal sent i body
+      → MaySend size typed learned sent i r body → MaySend size newer now (sent ++ more) i r body
+  pub halves : (size i : ℕ) (typed : List Key) (learned : ℕ → Option Value) (sent : Sent) (r : Record)
+      (bodies more : List Body)
+      → MaySendAll size typed learned sent i r (bodies ++ more)
+      ↔ (MaySendAll size typed learned sent i r bodies
+      × MaySendAll size typed learned (sent ++ messages_of i bodies) i r more)
 
 -- what the rules ask of a node that sends
 pub record Sender : Type 0 where
@@ -32,7 +38,7 @@ pub record Sender : Type 0 where
   pub learned : ℕ → Option Value
 
 -- the node, where these keys were typed
-abbrev pub sender_of : List Key → Node → Sender
+abbrev pub sender_of : List Key → Known → Sender
 sender_of typed n = record { me = n.me.node; size = n.me.group.size; kept = n.kept; typed = typed; learned = get n.learner.learned }
 
 -- the packets may be sent, one after another
@@ -45,9 +51,9 @@ pub record IsStable (by : Sender) (sent : Sent) (packet : Packet) : Type 0 where
   pub old : IsNoNewProposal sent by.me packet.body
 
 -- what a node may send, after which it is backed
-pub record Goes (by : Sender) (sent : Sent) (packets : List Packet) (n : Node) : Type 0 where
+pub record Goes (by : Sender) (sent : Sent) (packets : List Packet) (n : Known) : Type 0 where
   pub sends : SendsAll by sent packets
-  pub backs : Backs (sent ++ handed by.me packets) by.typed n
+  pub backs : Backs (sent ++ messages_handed_out by.me packets) by.typed n
 
 -- who knows the same knows more
 knows_same : (typed : List Key) (learned : ℕ → Option Value) → KnowsMore typed typed learned learned
@@ -58,15 +64,18 @@ abbrev message_of : Sender → Packet → Msg
 message_of by packet = record { sender = by.me; body = packet.body }
 
 -- what is handed out in two parts
-handed_append : (i : ℕ) (xs ys : List Packet) → handed i (xs ++ ys) ≡ handed i xs ++ handed i ys
-handed_append i [] ys = λ k. handed i ys
+handed_append : (i : ℕ) (xs ys : List Packet) → messages_handed_out i (xs ++ ys) ≡ messages_handed_out i xs ++ messages_handed_out i ys
+handed_append i [] ys = λ k. messages_handed_out i ys
 handed_append i (x ∷ xs) ys = λ k. record { sender = i; body = x.body } ∷ handed_append i xs ys k
 
 -- packets in two parts may be sent as one
-pub goes_on : SendingLaws → (by : Sender) (sent : Sent) (xs ys : List Packet) (n : Node) → SendsAll by sent xs → Goes by (sent ++ handed by.me xs) ys n → Goes by sent (xs ++ ys) n
+pub goes_on : SendingLaws → (by : Sender) (sent : Sent) (xs ys : List Packet) (n : Known) → SendsAll by sent xs
+    → Goes by (sent ++ messages_handed_out by.me xs) ys n → Goes by sent (xs ++ ys) n
 goes_on laws by sent xs ys n h k = record {
-  sends = rw (map-append (λ (packet : Packet). packet.body) xs ys) ((laws.halves by.size by.me by.typed by.learned sent by.kept (bodies_of xs) (bodies_of ys)).1 (h, k.sends));
-  backs = rw (handed_append by.me xs ys, ← append_assoc sent (handed by.me xs) (handed by.me ys)) k.backs;
+  sends =
+      rw (map-append (λ (packet : Packet). packet.body) xs ys)
+      ((laws.halves by.size by.me by.typed by.learned sent by.kept (bodies_of xs) (bodies_of ys)).1 (h, k.sends));
+  backs = rw (handed_append by.me xs ys, ← append_assoc sent (messages_handed_out by.me xs) (messages_handed_out by.me ys)) k.backs;
 }
 
 -- a Prepare is of a promised ballot
@@ -81,7 +90,8 @@ IsAsked r (Ask from) = Unit {0}
 IsAsked r (Tell s v) = Unit {0}
 
 -- the rules ask that of what may be sent
-may_ask : (r : Record) (typed : List Key) (learned : ℕ → Option Value) (sent : Sent) (i size : ℕ) (body : Body) → MaySend size typed learned sent i r body → IsAsked r body
+may_ask : (r : Record) (typed : List Key) (learned : ℕ → Option Value) (sent : Sent) (i size : ℕ) (body : Body)
+    → MaySend size typed learned sent i r body → IsAsked r body
 may_ask r typed learned sent i size (Prepare b from) may = may.1
 may_ask r typed learned sent i size (Promise b first upto votes) may = tt
 may_ask r typed learned sent i size (Accept b s v) may = tt
@@ -98,7 +108,8 @@ module _ (laws : SendingLaws) (by : Sender) (sent : Sent) where
   stable_from more (x ∷ xs) all =
       let first : IsStable by sent x = All-head (IsStable by sent) x xs all in
       let rest = stable_from (more ++ message_of by x ∷ []) xs (All-tail (IsStable by sent) x xs all) in (
-        laws.still by.size by.me by.typed by.typed by.learned by.learned sent more by.kept x.body (knows_same by.typed by.learned) first.old first.may,
+        laws.still by.size by.me by.typed by.typed by.learned by.learned sent more by.kept x.body
+            (knows_same by.typed by.learned) first.old first.may,
         rw (append_assoc sent more (message_of by x ∷ [])) rest,
       )
 
@@ -107,32 +118,54 @@ module _ (laws : SendingLaws) (by : Sender) (sent : Sent) where
   stable_sends packets all = rw (append-nil sent) at (stable_from [] packets all)
 
   -- none of them is a new Accept, and their Prepares are of promised ballots
-  stable_quiet : (packets : List Packet) → All (IsStable by sent) packets → IsQuiet by.me by.kept sent (handed by.me packets)
+  stable_quiet : (packets : List Packet) → All (IsStable by sent) packets → IsQuiet by.me by.kept sent (messages_handed_out by.me packets)
   stable_quiet packets all = record { asked = λ b from mine said. asked b from said; old = λ b s v mine said. old b s v said }
     where
-      all_asked : All (λ (m : Msg). IsAsked by.kept m.body) (handed by.me packets)
-      all_asked = All-map (λ (m : Msg). IsAsked by.kept m.body) (λ (body : Body). record { sender = by.me; body = body }) (bodies_of packets)
-          (All-map (λ (body : Body). IsAsked by.kept body) (λ (packet : Packet). packet.body) packets (All-weaker (IsStable by sent) (λ (packet : Packet). IsAsked by.kept packet.body) (λ packet h. may_ask by.kept by.typed by.learned sent by.me by.size packet.body h.may) packets all))
+      all_asked : All (λ (m : Msg). IsAsked by.kept m.body) (messages_handed_out by.me packets)
+      all_asked =
+          All-map (λ (m : Msg). IsAsked by.kept m.body) (λ (body : Body). record { sender = by.me; body = body })
+          (bodies_of packets)
+          (All-map (λ (body : Body). IsAsked by.kept body) (λ (packet : Packet). packet.body) packets
+          (All-weaker (IsStable by sent) (λ (packet : Packet). IsAsked by.kept packet.body)
+          (λ packet h. may_ask by.kept by.typed by.learned sent by.me by.size packet.body h.may) packets all))
 
-      asked : (b : Ballot) (from : ℕ) → IsSaid (sent ++ handed by.me packets) (Prepare b from) → IsSaid sent (Prepare b from) ⊎ HasPromised by.kept b
-      asked b from (i, h) = elim (Contains-append_cases sent (handed by.me packets) (record { sender = i; body = Prepare b from }) h) [
-        | inl before ↦ inl (i, before)
-        | inr now ↦ inr (All-contains (λ (m : Msg). IsAsked by.kept m.body) (handed by.me packets) (record { sender = i; body = Prepare b from }) all_asked now)
-      ]
+      asked : (b : Ballot) (from : ℕ) → IsSaid (sent ++ messages_handed_out by.me packets) (Prepare b from)
+          → IsSaid sent (Prepare b from) ⊎ HasPromised by.kept b
+      asked b from (i, h) =
+          elim (Contains-append_cases sent (messages_handed_out by.me packets)
+          (record { sender = i; body = Prepare b from }) h) [
+            | inl before ↦ inl (i, before)
+            | inr now ↦ inr (All-contains (λ (m : Msg). IsAsked by.kept m.body) (messages_handed_out by.me packets)
+                (record { sender = i; body = Prepare b from }) all_asked now)
+          ]
 
-      none_new : All (λ (m : Msg). IsNoNewProposal sent by.me m.body) (handed by.me packets)
-      none_new = All-map (λ (m : Msg). IsNoNewProposal sent by.me m.body) (λ (body : Body). record { sender = by.me; body = body }) (bodies_of packets)
-          (All-map (λ (body : Body). IsNoNewProposal sent by.me body) (λ (packet : Packet). packet.body) packets (All-weaker (IsStable by sent) (λ (packet : Packet). IsNoNewProposal sent by.me packet.body) (λ packet h. h.old) packets all))
+      none_new : All (λ (m : Msg). IsNoNewProposal sent by.me m.body) (messages_handed_out by.me packets)
+      none_new =
+          All-map (λ (m : Msg). IsNoNewProposal sent by.me m.body)
+          (λ (body : Body). record { sender = by.me; body = body }) (bodies_of packets)
+          (All-map (λ (body : Body). IsNoNewProposal sent by.me body) (λ (packet : Packet). packet.body) packets
+          (All-weaker (IsStable by sent) (λ (packet : Packet). IsNoNewProposal sent by.me packet.body)
+          (λ packet h. h.old) packets all))
 
-      old : (b : Ballot) (s : ℕ) (v : Value) → IsSaid (sent ++ handed by.me packets) (Accept b s v) → IsSaid sent (Accept b s v)
-      old b s v (i, h) = elim (Contains-append_cases sent (handed by.me packets) (record { sender = i; body = Accept b s v }) h) [
-        | inl before ↦ (i, before)
-        | inr now ↦ (by.me, All-contains (λ (m : Msg). IsNoNewProposal sent by.me m.body) (handed by.me packets) (record { sender = i; body = Accept b s v }) none_new now)
-      ]
+      old : (b : Ballot) (s : ℕ) (v : Value) → IsSaid (sent ++ messages_handed_out by.me packets) (Accept b s v)
+          → IsSaid sent (Accept b s v)
+      old b s v (i, h) =
+          elim (Contains-append_cases sent (messages_handed_out by.me packets)
+          (record { sender = i; body = Accept b s v }) h) [
+            | inl before ↦ (i, before)
+            | inr now ↦ (
+              by.me,
+              All-contains (λ (m : Msg). IsNoNewProposal sent by.me m.body)
+                  (messages_handed_out by.me packets) (record { sender = i; body = Accept b s v }) none_new now,
+            )
+          ]
 
 -- a backed node may send them, and is backed then
-pub stable_goes : SendingLaws → (sent : Sent) (typed : List Key) (n : Node) (packets : List Packet) → Backs sent typed n → All (IsStable (sender_of typed n) sent) packets → Goes (sender_of typed n) sent packets n
+pub stable_goes : SendingLaws → (sent : Sent) (typed : List Key) (n : Known) (packets : List Packet)
+    → Backs sent typed n → All (IsStable (sender_of typed n) sent) packets → Goes (sender_of typed n) sent packets n
 stable_goes laws sent typed n packets h all = record {
   sends = stable_sends laws (sender_of typed n) sent packets all;
-  backs = backs_later laws.backing sent (handed n.me.node packets) typed n (stable_quiet laws (sender_of typed n) sent packets all) h;
+  backs =
+      backs_later laws.backing sent (messages_handed_out n.me.node packets) typed n
+      (stable_quiet laws (sender_of typed n) sent packets all) h;
 }

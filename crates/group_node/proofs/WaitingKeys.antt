@@ -7,12 +7,15 @@ use Rattle.paxos_msg.specs.declared.value.Value.TheVariants.{Keys}
 use Rattle.paxos_msg.specs.Batches.{IsTyped}
 use Rattle.paxos_msg.specs.Keys.{Key, keys_from, keys_of}
 use Rattle.paxos_learner.specs.Input.{front_values, has_key, keys_in_order}
-use Rattle.group_node.specs.Leading.{batch_of}
-use Rattle.group_node.specs.Node.{count_read, gone, Node, own_batch, waiting_keys, without_read}
+use Rattle.group_node.specs.Known.{Known, own_batch, waiting_keys}
+use Rattle.group_node.specs.Tick.{batch_of}
+use Rattle.group_node.specs.WaitingKeys.{count_read, count_gone, without_read}
 use Rattle.group_node.specs.World.{AreParted}
 
 -- the keys of characters in two parts
-pub keys_from-append : (node start serial : ℕ) (xs ys : List ℕ) → keys_from node start serial (xs ++ ys) ≡ keys_from node start serial xs ++ keys_from node start (serial + length xs) ys
+pub keys_from-append : (node start serial : ℕ) (xs ys : List ℕ)
+    → keys_from node start serial (xs ++ ys)
+    ≡ keys_from node start serial xs ++ keys_from node start (serial + length xs) ys
 keys_from-append node start serial [] ys = rw (add-zero serial) refl
 keys_from-append node start serial (x ∷ xs) ys =
     let rest = keys_from-append node start (serial + 1) xs ys in
@@ -23,17 +26,20 @@ keys_from-append node start serial (x ∷ xs) ys =
 keys_own : (node start serial : ℕ) (xs : List ℕ) → All (λ (key : Key). key.node ≡ node) (keys_from node start serial xs)
 keys_own node start serial [] = All-nil (λ (key : Key). key.node ≡ node)
 keys_own node start serial (x ∷ xs) =
-    All-cons (λ (key : Key). key.node ≡ node) (record { node = node; start = start; serial = serial; byte = x }) (keys_from node start (serial + 1) xs) refl (keys_own node start (serial + 1) xs)
+    All-cons (λ (key : Key). key.node ≡ node) (record { node = node; start = start; serial = serial; byte = x })
+    (keys_from node start (serial + 1) xs) refl (keys_own node start (serial + 1) xs)
 
 -- a key of the first characters is one of all
-pub first_keys : (node start serial n : ℕ) (xs : List ℕ) (key : Key) → Contains (keys_from node start serial (take n xs)) key → Contains (keys_from node start serial xs) key
+pub first_keys : (node start serial n : ℕ) (xs : List ℕ) (key : Key)
+    → Contains (keys_from node start serial (take n xs)) key → Contains (keys_from node start serial xs) key
 first_keys node start serial n xs key h =
     subst (λ (ys : List ℕ). Contains (keys_from node start serial ys) key) (take-append-drop n xs)
     (rw (keys_from-append node start serial (take n xs) (drop n xs))
     (Contains-append_left (keys_from node start serial (take n xs)) (keys_from node start (serial + length (take n xs)) (drop n xs)) key h))
 
 -- the keys of the characters behind some are those behind their keys
-keys_from-drop : (node start serial n : ℕ) (xs : List ℕ) → keys_from node start (serial + n) (drop n xs) ≡ drop n (keys_from node start serial xs)
+keys_from-drop : (node start serial n : ℕ) (xs : List ℕ)
+    → keys_from node start (serial + n) (drop n xs) ≡ drop n (keys_from node start serial xs)
 keys_from-drop node start serial zero xs = rw (add-zero serial) refl
 keys_from-drop node start serial (suc n) [] = refl
 keys_from-drop node start serial (suc n) (x ∷ xs) =
@@ -41,17 +47,23 @@ keys_from-drop node start serial (suc n) (x ∷ xs) =
     rw same (keys_from-drop node start (serial + 1) n xs)
 
 -- a key of those behind some is one of all
-pub last_keys : (node start serial n : ℕ) (xs : List ℕ) (key : Key) → Contains (keys_from node start (serial + n) (drop n xs)) key → Contains (keys_from node start serial xs) key
+pub last_keys : (node start serial n : ℕ) (xs : List ℕ) (key : Key)
+    → Contains (keys_from node start (serial + n) (drop n xs)) key → Contains (keys_from node start serial xs) key
 last_keys node start serial n xs key h =
     let keys : List Key = keys_from node start serial xs in
-    subst (λ (ks : List Key). Contains ks key) (take-append-drop n keys) (Contains-append_right (take n keys) (drop n keys) key (rw (keys_from-drop node start serial n xs) at h))
+    subst (λ (ks : List Key). Contains ks key) (take-append-drop n keys)
+    (Contains-append_right (take n keys) (drop n keys) key (rw (keys_from-drop node start serial n xs) at h))
 
 -- a batch of keys that were typed is typed at the node
-pub batch_typed : (typed : List Key) (node start serial x : ℕ) (xs : List ℕ) → ((key : Key) → Contains (keys_from node start serial (x ∷ xs)) key → Contains typed key) → IsTyped typed node (Keys node start serial (x ∷ xs))
+pub batch_typed : (typed : List Key) (node start serial x : ℕ) (xs : List ℕ)
+    → ((key : Key) → Contains (keys_from node start serial (x ∷ xs)) key → Contains typed key)
+    → IsTyped typed node (Keys node start serial (x ∷ xs))
 batch_typed typed node start serial x xs h = record {
   own = record {
     has_key = λ e. absurd (cc);
-    at_node = λ key has. All-contains (λ (k : Key). k.node ≡ node) (keys_from node start serial (x ∷ xs)) key (keys_own node start serial (x ∷ xs)) has;
+    at_node =
+        λ key has. All-contains (λ (k : Key). k.node ≡ node) (keys_from node start serial (x ∷ xs)) key
+        (keys_own node start serial (x ∷ xs)) has;
   };
   known = h;
 }
@@ -63,8 +75,11 @@ pub record KeyLaw : Type 0 where
   pub has : (keys : List Key) (k : Key) → IsTrue (has_key keys k) ↔ Contains keys k
 
 -- by whether the first key is read
-read_by : KeyLaw → (read keys : List Key) (k : Key) (t : Bool) → has_key read k ≡ t → All (λ key. Contains read key) (take (count_read read keys) keys) → All (λ key. Contains read key) (take (if t then suc (count_read read keys) else 0) (k ∷ keys))
-read_by law read keys k true e rest = All-cons (λ (key : Key). Contains read key) k (take (count_read read keys) keys) ((law.has read k).0 e) rest
+read_by : KeyLaw → (read keys : List Key) (k : Key) (t : Bool) → has_key read k ≡ t
+    → All (λ key. Contains read key) (take (count_read read keys) keys)
+    → All (λ key. Contains read key) (take (if t then suc (count_read read keys) else 0) (k ∷ keys))
+read_by law read keys k true e rest =
+    All-cons (λ (key : Key). Contains read key) k (take (count_read read keys) keys) ((law.has read k).0 e) rest
 read_by law read keys k false e rest = All-nil (λ (key : Key). Contains read key)
 
 -- of keys those up to the first that isn't read are read
@@ -73,28 +88,37 @@ read_first law read [] = All-nil (λ (key : Key). Contains read key)
 read_first law read (k ∷ keys) = read_by law read keys k (has_key read k) refl (read_first law read keys)
 
 -- of the waiting keys those leave that stand below the front
-without_parted : KeyLaw → (n : Node) → AreParted n.learner.learned (waiting_keys n) (waiting_keys (without_read n))
+without_parted : KeyLaw → (n : Known) → AreParted n.learner.learned (waiting_keys n) (waiting_keys (without_read n))
 without_parted law n = record {
-  gone = take (gone n) (waiting_keys n);
-  parts = rw (keys_from-drop n.me.node n.kept.starts n.first (gone n) n.waiting) (sym (take-append-drop (gone n) (waiting_keys n)));
+  gone = take (count_gone n) (waiting_keys n);
+  parts =
+      rw (keys_from-drop n.me.node n.kept.starts n.first (count_gone n) n.waiting)
+      (sym (take-append-drop (count_gone n) (waiting_keys n)));
   below = read_first law (keys_in_order (front_values n.learner.learned)) (waiting_keys n);
 }
 
 -- after a message too, which leaves those that wait as they are
-pub message_parted : KeyLaw → (n next : Node) → waiting_keys next ≡ waiting_keys n → AreParted next.learner.learned (waiting_keys n) (waiting_keys (without_read next))
-message_parted law n next same = subst (λ (keys : List Key). AreParted next.learner.learned keys (waiting_keys (without_read next))) same (without_parted law next)
+pub message_parted : KeyLaw → (n next : Known) → waiting_keys next ≡ waiting_keys n
+    → AreParted next.learner.learned (waiting_keys n) (waiting_keys (without_read next))
+message_parted law n next same =
+    subst (λ (keys : List Key). AreParted next.learner.learned keys (waiting_keys (without_read next))) same
+    (without_parted law next)
 
 -- the first keys are those of the first characters
-pub keys_from-take : (node start serial n : ℕ) (xs : List ℕ) → keys_from node start serial (take n xs) ≡ take n (keys_from node start serial xs)
+pub keys_from-take : (node start serial n : ℕ) (xs : List ℕ)
+    → keys_from node start serial (take n xs) ≡ take n (keys_from node start serial xs)
 keys_from-take node start serial zero xs = refl
 keys_from-take node start serial (suc n) [] = refl
-keys_from-take node start serial (suc n) (x ∷ xs) = λ i. record { node = node; start = start; serial = serial; byte = x } ∷ keys_from-take node start (serial + 1) n xs i
+keys_from-take node start serial (suc n) (x ∷ xs) =
+    λ i. record { node = node; start = start; serial = serial; byte = x }
+    ∷ keys_from-take node start (serial + 1) n xs i
 
 -- the first key that stays isn't read
 first_unread : KeyLaw → (read keys : List Key) (k : Key) (ks : List Key) → drop (count_read read keys) keys ≡ k ∷ ks → ¬ Contains read k
 first_unread law read [] k ks e = absurd cc
 first_unread law read (x ∷ keys) k ks e = by (has_key read x) refl e (first_unread law read keys k ks) where
-  by : (t : Bool) → has_key read x ≡ t → drop (if t then suc (count_read read keys) else 0) (x ∷ keys) ≡ k ∷ ks → (drop (count_read read keys) keys ≡ k ∷ ks → ¬ Contains read k) → ¬ Contains read k
+  by : (t : Bool) → has_key read x ≡ t → drop (if t then suc (count_read read keys) else 0) (x ∷ keys) ≡ k ∷ ks
+      → (drop (count_read read keys) keys ≡ k ∷ ks → ¬ Contains read k) → ¬ Contains read k
   by true is e behind = behind e
   by false is e behind = λ there.
       let same : x ≡ k = cc in
@@ -103,18 +127,21 @@ first_unread law read (x ∷ keys) k ks e = by (has_key read x) refl e (first_un
       absurd cc
 
 -- so after keys have left the first that waits doesn't stand below the front
-pub waiting_unread : KeyLaw → (n : Node) (k : Key) (ks : List Key) → waiting_keys (without_read n) ≡ k ∷ ks → ¬ Contains (keys_in_order (front_values n.learner.learned)) k
+pub waiting_unread : KeyLaw → (n : Known) (k : Key) (ks : List Key) → waiting_keys (without_read n) ≡ k ∷ ks
+    → ¬ Contains (keys_in_order (front_values n.learner.learned)) k
 waiting_unread law n k ks e =
-    first_unread law (keys_in_order (front_values n.learner.learned)) (waiting_keys n) k ks (sym (keys_from-drop n.me.node n.kept.starts n.first (gone n) n.waiting) ∙ e)
+    first_unread law (keys_in_order (front_values n.learner.learned)) (waiting_keys n) k ks
+    (sym (keys_from-drop n.me.node n.kept.starts n.first (count_gone n) n.waiting) ∙ e)
 
 -- where characters wait, the keys of a batch are the first ones
-pub batch_first : (n : Node) (bytes : List ℕ) (v : Value) → batch_of n bytes ≡ Some v → keys_of v ≡ take 32 (keys_from n.me.node n.kept.starts n.first bytes)
+pub batch_first : (n : Known) (bytes : List ℕ) (v : Value) → batch_of n bytes ≡ Some v
+    → keys_of v ≡ take 32 (keys_from n.me.node n.kept.starts n.first bytes)
 batch_first n [] v e = absurd cc
 batch_first n (x ∷ xs) v e =
     let is : own_batch n n.first (take 32 (x ∷ xs)) ≡ v = cc in
     rw (← is) (keys_from-take n.me.node n.kept.starts n.first 32 (x ∷ xs))
 
 -- and where there is no batch none waits
-pub no_batch : (n : Node) (bytes : List ℕ) → batch_of n bytes ≡ None → keys_from n.me.node n.kept.starts n.first bytes ≡ []
+pub no_batch : (n : Known) (bytes : List ℕ) → batch_of n bytes ≡ None → keys_from n.me.node n.kept.starts n.first bytes ≡ []
 no_batch n [] e = refl
 no_batch n (x ∷ xs) e = absurd cc

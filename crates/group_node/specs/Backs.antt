@@ -7,30 +7,33 @@ use Rattle.paxos_msg.specs.Ballots.{IsAtMost}
 use Rattle.paxos_msg.specs.Batches.{Record, Sent}
 use Rattle.paxos_msg.specs.Keys.{Key}
 use Rattle.paxos_msg.specs.Messages.{IsSaid}
-use Rattle.paxos_acceptor.specs.Backed.{IsBacked as IsVotesBacked}
-use Rattle.paxos_proposer.specs.Backed.{IsBacked as IsProposerBacked}
+use Rattle.paxos_acceptor.specs.Backed.{HasBackedVotes as IsVotesBacked}
+use Rattle.paxos_proposer.specs.Backed.{IsProposerBacked as IsProposerBacked}
 use Rattle.paxos_proposer.specs.Proposer.{Proposer}
-use Rattle.paxos_learner.specs.Backed.{IsBacked as IsLearnerBacked}
-use Rattle.group_node.specs.Node.{Node, waiting_keys}
+use Rattle.paxos_learner.specs.Backed.{IsLearnerBacked as IsLearnerBacked}
+use Rattle.group_node.specs.Known.{Known, waiting_keys}
 
 -- the record has promised this ballot or a greater one
 abbrev pub HasPromised : Record → Ballot → Type 0
 HasPromised r b = IsSomeAnd r.promised (λ p. IsAtMost b p)
 
--- Of node me's stored record: its votes were proposed and ascend by place, none above the promised ballot; and under ballots of the node's
--- own nothing was asked or proposed above that.
+-- Of node me's stored record: its votes were proposed and ascend by place, none above the promised
+-- ballot; and under ballots of the node's own nothing was asked or proposed above that.
 pub record IsRecordBacked (sent : Sent) (me : ℕ) (r : Record) : Type 0 where
   pub votes : IsVotesBacked sent r
   pub asked : (b : Ballot) (from : ℕ) → b.node ≡ me → IsSaid sent (Prepare b from) → HasPromised r b
-  pub own : (b : Ballot) (s : ℕ) (v : Value) → b.node ≡ me → IsSaid sent (Accept b s v) → HasPromised r b
+  pub own : (b : Ballot) (s : ℕ) (v : Value) → b.node ≡ me → IsSaid sent (Accept b s v)
+      → HasPromised r b
 
--- the proposer's ballot is the node's own and the promised one, and what it has heard and proposed is what was sent
+-- the proposer's ballot is the node's own and the promised one, and what it has heard and proposed
+-- is what was sent
 pub record IsLeadingBacked (sent : Sent) (me : ℕ) (r : Record) (p : Proposer) : Type 0 where
   pub backed : IsProposerBacked sent me p
   pub promised : r.promised ≡ Some p.ballot
 
--- What was sent backs the node's record, its proposer and its learner, and each key that waits was typed.
-pub record Backs (sent : Sent) (typed : List Key) (n : Node) : Type 0 where
+-- What was sent backs the node's record, its proposer and its learner, and each key that waits was
+-- typed.
+pub record Backs (sent : Sent) (typed : List Key) (n : Known) : Type 0 where
   pub kept : IsRecordBacked sent n.me.node n.kept
   pub proposer : IfSome n.proposer (IsLeadingBacked sent n.me.node n.kept)
   pub learner : IsLearnerBacked sent n.learner

@@ -9,7 +9,8 @@ use Rattle.paxos_learner.specs.Input.{input_of}
 pub record AreChosen (size : ℕ) (sent : Sent) (values : List Value) : Type 0 where
   pub chosen : (s : ℕ) (v : Value) → slice_get values s ≡ Some v → IsChosen size sent s v
 
--- x is the input: the bytes of the keys, each once, of the chosen values up to the first place at which nothing is chosen
+-- x is the input: the bytes of the keys, each once, of the chosen values up to the first place at
+-- which nothing is chosen
 pub record IsInput (size : ℕ) (sent : Sent) (x : List ℕ) : Type 0 where
   pub values : List Value
   pub chosen : AreChosen size sent values

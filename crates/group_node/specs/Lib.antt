@@ -1,8 +1,12 @@
 pub mod Packets
-pub mod Node
+pub mod Known
+pub mod AcceptorRows
+pub mod LearnerRows
+pub mod WaitingKeys
 pub mod Pump
-pub mod Leading
-pub mod Delivered
+pub mod ProposerRows
+pub mod Tick
+pub mod Protocol
 pub mod Backs
 pub mod Ranges
 pub mod Starting
@@ -11,7 +15,7 @@ pub mod World
 pub mod Inputs
 pub mod Output
 pub mod Player
-pub mod Consoles
+pub mod Console
 pub mod States
 pub mod Calls
 pub mod Fault

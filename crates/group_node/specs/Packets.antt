@@ -30,7 +30,11 @@ pub record Datagram : Type 0 where
 
 -- the packet of a node as a datagram
 abbrev pub datagram_of : Me → Packet → Datagram
-datagram_of me packet = record { to = packet.to; bytes = spelling me.group (record { sender = me.node; body = packet.body }) }
+datagram_of me packet =
+    record {
+      to = packet.to;
+      bytes = spelling me.group (record { sender = me.node; body = packet.body });
+    }
 
 -- the packets of a node as datagrams
 abbrev pub datagrams_of : Me → List Packet → List Datagram

@@ -1,9 +1,9 @@
 -- A node's machine as the code keeps it.
 use Rattle.std.specs.Prelude.{◌≡◌, ℕ, ◌+◌, ◌<◌, ◌≤◌, List, ◌++◌, drop, length, Option, Some, None}
 use Rattle.circular_buffer.specs.Buffer.{buffer}
-use Rattle.pcode_machine.specs.Configuration.{joined}
+use Rattle.pcode_machine.specs.Configuration.{configuration_of}
 use Rattle.pcode_machine.specs.Outcome.{outcome, Stops, Waiting}
-use Rattle.pcode_machine.specs.Runs.{after, Leads}
+use Rattle.pcode_machine.specs.Runs.{after_steps, LeadsIn}
 use Rattle.pcode_machine.specs.Turns.{Makes}
 use Rattle.group_node.specs.declared.player.Player.{Player}
 use Rattle.group_node.specs.declared.player.Ran.{Ran}
@@ -14,11 +14,12 @@ use Rattle.group_node.specs.Output.{Progress, unreleased_of}
 abbrev pub progress_of : Player → Progress
 progress_of q = record { program = q.machine.program; steps = q.steps; released = q.released }
 
--- The machine has made its steps on the input x, each of which exists, and has read so many bytes of it. Of what it wrote the ring holds
--- those bytes that were not released. No more bytes were read or written than steps were made.
-pub record IsExact (x : List ℕ) (q : Player) : Type 0 where
+-- The machine has made its steps on the input x, each of which exists, and has read so many bytes
+-- of it. Of what it wrote the ring holds those bytes that were not released. No more bytes were
+-- read or written than steps were made.
+pub record IsPlayed (x : List ℕ) (q : Player) : Type 0 where
   pub output : List ℕ
-  pub made : Leads q.machine.program x q.steps (joined q.machine.state q.read output)
+  pub made : LeadsIn q.machine.program x q.steps (configuration_of q.machine.state q.read output)
   pub read : q.read ≤ length x
   pub waits : q.unreleased.items ≡ drop q.released output
   pub released : q.released ≤ length output
@@ -28,7 +29,7 @@ pub record IsExact (x : List ℕ) (q : Player) : Type 0 where
   pub capacity : q.unreleased.capacity ≡ 256
 
 -- one step, with the ring and the counts
-pub record Moves (old new : Player) (took wrote : List ℕ) : Type 0 where
+pub record PlaysStep (old new : Player) (took wrote : List ℕ) : Type 0 where
   pub program : new.machine.program ≡ old.machine.program
   pub made : Makes old.machine.program old.machine.state new.machine.state took wrote
   pub waits : new.unreleased ≡ buffer (old.unreleased.items ++ wrote) old.unreleased.capacity
@@ -38,35 +39,43 @@ pub record Moves (old new : Player) (took wrote : List ℕ) : Type 0 where
   pub short : length wrote ≤ 1
   pub one : length took ≤ 1
 
--- why no step is made: the machine waits for a byte that the input has not, or the program has ended
-abbrev pub Halts : List ℕ → Player → Ran → Type 0
-Halts x q ran.More = ⊥
-Halts x q ran.Full = ⊥
-Halts x q ran.Waits = outcome q.machine.program x (after q.machine.program x q.steps) ≡ Waiting
-Halts x q (ran.Ended e) = outcome q.machine.program x (after q.machine.program x q.steps) ≡ Stops e
+-- why no step is made: the machine waits for a byte that the input has not, or the program has
+-- ended
+abbrev pub MakesNoStep : List ℕ → Player → Ran → Type 0
+MakesNoStep x q ran.More = ⊥
+MakesNoStep x q ran.Full = ⊥
+MakesNoStep x q ran.Waits =
+    outcome q.machine.program x (after_steps q.machine.program x q.steps) ≡ Waiting
+MakesNoStep x q (ran.Ended e) =
+    outcome q.machine.program x (after_steps q.machine.program x q.steps) ≡ Stops e
 
 -- k steps that read and wrote nothing
 pub record Advances (x : List ℕ) (k : ℕ) (old new : Player) : Type 0 where
-  pub exact : IsExact x new
+  pub exact : IsPlayed x new
   pub unreleased : new.unreleased ≡ old.unreleased
   pub program : new.machine.program ≡ old.machine.program
   pub released : new.released ≡ old.released
   pub steps : new.steps ≡ old.steps + k
 
--- A turn of at most so many steps made n of them: some that read and write nothing, and then one that takes or writes a byte; or the run
--- is over.
+-- A turn of at most so many steps made n of them: some that read and write nothing, and then one
+-- that takes or writes a byte; or the run is over.
 abbrev pub TurnsTo : List ℕ → ℕ → Player → Player → ℕ × Option Ran → Type 0
-TurnsTo x most old new (n, None) = (k : ℕ) × (mid : Player) × Advances x k old mid × (k < most) × (n ≡ k + 1)
+TurnsTo x most old new (n, None) =
+    (k : ℕ) × (mid : Player) × Advances x k old mid × (k < most) × (n ≡ k + 1)
 TurnsTo x most old new (n, Some ran.More) = (n ≡ most) × Advances x n old new
 TurnsTo x most old new (n, Some ran.Full) = ⊥
-TurnsTo x most old new (n, Some ran.Waits) = (n < most) × Advances x n old new × Halts x new ran.Waits
-TurnsTo x most old new (n, Some (ran.Ended e)) = (n < most) × Advances x n old new × Halts x new (ran.Ended e)
+TurnsTo x most old new (n, Some ran.Waits) =
+    (n < most) × Advances x n old new × MakesNoStep x new ran.Waits
+TurnsTo x most old new (n, Some (ran.Ended e)) =
+    (n < most) × Advances x n old new × MakesNoStep x new (ran.Ended e)
 
--- So many steps are left of a run that may come to `most` of them: it is exact, and before each step that it made there was room for a byte.
+-- So many steps are left of a run that may come to `most` of them: it is exact, and before each
+-- step that it made there was room for a byte.
 pub record RanSoFar (x : List ℕ) (most left : ℕ) (old now : Player) : Type 0 where
-  pub exact : IsExact x now
+  pub exact : IsPlayed x now
   pub program : now.machine.program ≡ old.machine.program
   pub released : now.released ≡ old.released
   pub more : old.steps ≤ now.steps
   pub budget : now.steps + left ≡ most
-  pub room : (n : ℕ) → old.steps ≤ n → n < now.steps → length (unreleased_of x (record (progress_of old) { steps = n })) < 256
+  pub room : (n : ℕ) → old.steps ≤ n → n < now.steps
+      → length (unreleased_of x (record (progress_of old) { steps = n })) < 256

@@ -6,10 +6,10 @@ use Rattle.paxos_msg.specs.Batches.{Body}
 use Rattle.paxos_acceptor.specs.declared.me.Me.{Me}
 use Rattle.paxos_acceptor.specs.Records.{IsRecord}
 use Rattle.paxos_proposer.specs.Proposer.{Proposer}
-use Rattle.paxos_proposer.specs.Ranges.{IsInRange as IsProposerInRange}
-use Rattle.paxos_learner.specs.Growth.{AreInWindow, IsInRange as IsLearnerInRange}
+use Rattle.paxos_proposer.specs.Ranges.{IsProposerInRange as IsProposerInRange}
+use Rattle.paxos_learner.specs.Growth.{AreInWindow, IsLearnerInRange as IsLearnerInRange}
 use Rattle.paxos_learner.specs.Learner.{Learner}
-use Rattle.group_node.specs.Node.{Done, Node}
+use Rattle.group_node.specs.Known.{Response, Known}
 use Rattle.group_node.specs.Packets.{Packet}
 use Rattle.group_node.specs.Pump.{accepts_of, Proposals}
 
@@ -30,7 +30,8 @@ pub record IsOwnLearner (me : Me) (l : Learner) : Type 0 where
   pub ranges : IsLearnerInRange l
   pub window : AreInWindow l.learned
 
--- at most 256 characters wait, and the serials of their keys, from this one on, are from 1 on and fit four bytes
+-- at most 256 characters wait, and the serials of their keys, from this one on, are from 1 on and
+-- fit four bytes
 pub record IsWaiting (first : ℕ) (bytes : List ℕ) : Type 0 where
   pub some : 0 < first
   pub fits : first + length bytes ≤ 2 ^ 32
@@ -38,7 +39,7 @@ pub record IsWaiting (first : ℕ) (bytes : List ℕ) : Type 0 where
   pub characters : AreBytes bytes
 
 -- the node is one of its group, was started, and all its parts are in their ranges and of its group
-pub record IsInRange (n : Node) : Type 0 where
+pub record IsInRange (n : Known) : Type 0 where
   pub me : IsMember n.me
   pub kept : IsRecord n.me.group.size n.kept
   pub counted : 0 < n.kept.starts
@@ -54,13 +55,15 @@ IsHeardFit me j body = Fits me.group (record { sender = j; body = body })
 abbrev pub AllFit : Me → List Packet → Type 0
 AllFit me packets = All (λ packet. IsBody me.group.size me.node packet.body) packets
 
--- what a call of this node leaves: the same node, which is in its ranges, and packets that have a spelling
-pub record IsFit (me : Me) (done : Done) : Type 0 where
+-- what a call of this node leaves: the same node, which is in its ranges, and packets that have a
+-- spelling
+pub record IsFit (me : Me) (done : Response) : Type 0 where
   pub same : done.node.me ≡ me
   pub ranges : IsInRange done.node
   pub sends : AllFit me done.sends
 
--- proposals of this node's proposer: it is one of the node's still, under the same ballot, and each has a spelling as an Accept
+-- proposals of this node's proposer: it is one of the node's still, under the same ballot, and each
+-- has a spelling as an Accept
 pub record AreFit (me : Me) (p : Proposer) (proposals : Proposals) : Type 0 where
   pub own : IsOwnProposer me proposals.proposer
   pub ballot : proposals.proposer.ballot ≡ p.ballot

@@ -7,28 +7,35 @@ use Rattle.paxos_acceptor.specs.Stores.{StoreState}
 use Rattle.paxos_acceptor.specs.declared.me.Me.{Me}
 use Rattle.paxos_acceptor.specs.declared.store.StoreFault.{StoreFault}
 use Rattle.group_node.specs.Calls.{node_fault}
-use Rattle.group_node.specs.Node.{started}
-use Rattle.group_node.specs.States.{State}
+use Rattle.group_node.specs.Known.{on_start}
+use Rattle.group_node.specs.States.{NodeState}
 use Rattle.group_node.specs.declared.fault.NodeFault.{NodeFault}
 use Rattle.group_node.specs.declared.fault.NodeFault.TheVariants.{BadRecord, StartsSpent, Store}
 use Rattle.group_node.specs.declared.protocol.StartRefused.{StartRefused}
 
 -- the start is refused with this fault
-abbrev pub IsRefused : {S : Type 0} → Result (State S) (StartRefused S) → NodeFault → Type 0
-IsRefused (Ok n) f = ⊥
-IsRefused (Err e) f = e.fault ≡ f
+abbrev pub IsStartRefused : {S : Type 0} → Result (NodeState S) (StartRefused S) → NodeFault
+    → Type 0
+IsStartRefused (Ok n) f = ⊥
+IsStartRefused (Err e) f = e.fault ≡ f
 
--- The result of a start over a record that was loaded: a node that has this record with one start more. `BadRecord` is refused exactly
--- where the record is out of its ranges, and `StartsSpent` exactly where a good one has counted the last start; then the store is as the load left it.
--- A save that failed has used up the plan.
-pub record StartsOver {S : Type 0} (state : S → StoreState) (me : Me) (kept : Record) (left : S) (result : Result (State S) (StartRefused S)) : Type 0 where
-  pub rules : IfOk result (λ n. n.protocol.rules ≡ (started me kept).node)
-  pub bad : IsRefused result BadRecord ↔ ¬ IsRecord me.group.size kept
-  pub spent : IsRefused result StartsSpent ↔ (IsRecord me.group.size kept × (kept.starts ≡ 4294967295))
+-- The result of a start over a record that was loaded: a node that has this record with one start
+-- more. `BadRecord` is refused exactly where the record is out of its ranges, and `StartsSpent`
+-- exactly where a good one has counted the last start; then the store is as the load left it. A
+-- save that failed has used up the plan.
+pub record StartsOver {S : Type 0} (state : S → StoreState) (me : Me) (kept : Record) (left : S)
+    (result : Result (NodeState S) (StartRefused S)) : Type 0 where
+  pub known : IfOk result (λ n. n.protocol.known ≡ (on_start me kept).node)
+  pub bad : IsStartRefused result BadRecord ↔ ¬ IsRecord me.group.size kept
+  pub spent : IsStartRefused result StartsSpent
+      ↔ (IsRecord me.group.size kept × (kept.starts ≡ 4294967295))
   pub unsaved : IfErr result (λ e. (e.fault ≡ BadRecord) ⊎ (e.fault ≡ StartsSpent) → e.store ≡ left)
   pub used_up : IfErr result (λ e. e.fault ≡ Store → (state e.store).plan ≡ None)
 
--- The result of a start, from the answer of the load and the store that the load left. A load that gives no record ends it.
-abbrev pub StartsAfter : {S : Type 0} → (S → StoreState) → Me → Result Record StoreFault → S → Result (State S) (StartRefused S) → Type 0
+-- The result of a start, from the answer of the load and the store that the load left. A load that
+-- gives no record ends it.
+abbrev pub StartsAfter : {S : Type 0} → (S → StoreState) → Me → Result Record StoreFault → S
+    → Result (NodeState S) (StartRefused S) → Type 0
 StartsAfter state me (Ok kept) left result = StartsOver state me kept left result
-StartsAfter state me (Err f) left result = result ≡ Err (record { fault = node_fault (fault_of_load f); store = left })
+StartsAfter state me (Err f) left result =
+    result ≡ Err (record { fault = node_fault (fault_of_load f); store = left })

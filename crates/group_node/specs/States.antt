@@ -4,18 +4,18 @@ use Rattle.paxos_msg.specs.Fits.{IsNode}
 use Rattle.paxos_acceptor.specs.declared.me.Me.{Me}
 use Rattle.paxos_acceptor.specs.Stores.{StoreState}
 use Rattle.paxos_learner.specs.Input.{learned_input}
-use Rattle.group_node.specs.Node.{Node}
+use Rattle.group_node.specs.Known.{Known}
 use Rattle.group_node.specs.Output.{Progress}
 use Rattle.group_node.specs.Ranges.{IsInRange}
 
 -- of a node's part in the protocol: what it knows, whether it gave its store up, and the store
 pub record Protocol (S : Type 0) : Type 0 where
-  pub rules : Node
+  pub known : Known
   pub is_stopped : Bool
   pub store : S
 
 -- of a node: its part in the protocol, and how far its machine has come
-pub record State (S : Type 0) : Type 0 where
+pub record NodeState (S : Type 0) : Type 0 where
   pub protocol : Protocol S
   pub progress : Progress
 
@@ -25,7 +25,7 @@ pub record Waiting : Type 0 where
   pub bytes : List ℕ
 
 -- its learned input
-abbrev pub input : Node → List ℕ
+abbrev pub input : Known → List ℕ
 input n = learned_input n.learner.learned
 
 -- a group has 1, 3, 5, 7 or 9 nodes
@@ -38,9 +38,10 @@ pub record IsConfig (me : Me) : Type 0 where
   pub size : IsSize me.group.size
   pub node : IsNode me.group.size me.node
 
--- What always holds of a node's part in the protocol: its size is one of a group's, all that it knows is in its ranges, and an honest store has
--- its record, unless the store was given up.
-pub record IsInStep {S : Type 0} (honest : Type 0) (state : S → StoreState) (p : Protocol S) : Type 0 where
-  pub size : IsSize p.rules.me.group.size
-  pub ranges : IsInRange p.rules
-  pub in_step : honest → p.is_stopped ≡ false → (state p.store).stored ≡ p.rules.kept
+-- What always holds of a node's part in the protocol: its size is one of a group's, all that it
+-- knows is in its ranges, and an honest store has its record, unless the store was given up.
+pub record IsInStep {S : Type 0} (honest : Type 0) (state : S → StoreState)
+    (p : Protocol S) : Type 0 where
+  pub size : IsSize p.known.me.group.size
+  pub ranges : IsInRange p.known
+  pub in_step : honest → p.is_stopped ≡ false → (state p.store).stored ≡ p.known.kept

@@ -9,9 +9,9 @@ use Rattle.paxos_msg.specs.Chosen.{IsChosen}
 use Rattle.paxos_msg.specs.Keys.{Key}
 use Rattle.paxos_msg.specs.Messages.{IsSaid, IsSent, messages_of}
 use Rattle.paxos_msg.specs.Records.{changed, MaySave}
-use Rattle.paxos_learner.specs.Backed.{IsBacked as IsLearnerBacked}
+use Rattle.paxos_learner.specs.Backed.{IsLearnerBacked as IsLearnerBacked}
 use Rattle.paxos_learner.specs.Growth.{HasLearnedMore}
-use Rattle.group_node.specs.Node.{Done, Node}
+use Rattle.group_node.specs.Known.{Response, Known}
 use Rattle.group_node.specs.Packets.{Packet, bodies_of}
 use Rattle.group_node.specs.Backs.{Backs}
 use Rattle.group_node.specs.Ranges.{IsHeardFit}
@@ -22,25 +22,27 @@ IsSavedBy sent old None new = new ≡ old
 IsSavedBy sent old (Some c) new = MaySave sent old c × (new ≡ changed old c)
 
 -- the messages by which a node hands these packets out
-abbrev pub handed : ℕ → List Packet → Sent
-handed i packets = messages_of i (bodies_of packets)
+abbrev pub messages_handed_out : ℕ → List Packet → Sent
+messages_handed_out i packets = messages_of i (bodies_of packets)
 
--- A call of a node, before which its record was old and it had learned these values: it saves what it may; what it has learned
--- is backed by what was sent before the call; what was learned stays; what it sends may be sent, one after another; and
--- then the node is backed.
-pub record IsLawful (sent : Sent) (typed : List Key) (old : Record) (before : FinMap nat_cmp Value) (done : Done) : Type 0 where
+-- A call of a node, before which its record was old and it had learned these values: it saves what
+-- it may; what it has learned is backed by what was sent before the call; what was learned stays;
+-- what it sends may be sent, one after another; and then the node is backed.
+pub record IsLawful (sent : Sent) (typed : List Key) (old : Record) (before : FinMap nat_cmp Value)
+    (done : Response) : Type 0 where
   pub saves : IsSavedBy sent old done.saves done.node.kept
   pub learns : IsLearnerBacked sent done.node.learner
   pub keeps : HasLearnedMore before done.node.learner.learned
-  pub sends : MaySendAll done.node.me.group.size typed (get done.node.learner.learned) sent done.node.me.node done.node.kept (bodies_of done.sends)
-  pub backs : Backs (sent ++ handed done.node.me.node done.sends) typed done.node
+  pub sends : MaySendAll done.node.me.group.size typed
+      (get done.node.learner.learned) sent done.node.me.node done.node.kept (bodies_of done.sends)
+  pub backs : Backs (sent ++ messages_handed_out done.node.me.node done.sends) typed done.node
 
 -- the same of a call of this node
-abbrev pub IsLawfulCall : Sent → List Key → Node → Done → Type 0
+abbrev pub IsLawfulCall : Sent → List Key → Known → Response → Type 0
 IsLawfulCall sent typed n done = IsLawful sent typed n.kept n.learner.learned done
 
 -- node j has sent this message, and it has a spelling in the group
-pub record IsDelivered (sent : Sent) (n : Node) (j : ℕ) (body : Body) : Type 0 where
+pub record IsDelivered (sent : Sent) (n : Known) (j : ℕ) (body : Body) : Type 0 where
   pub is_sent : IsSent sent j body
   pub fits : IsHeardFit n.me j body
 

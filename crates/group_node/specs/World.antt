@@ -18,12 +18,12 @@ use Rattle.paxos_acceptor.specs.Stores.{IsOneOf}
 use Rattle.paxos_learner.specs.Backed.{MayLearn}
 use Rattle.paxos_learner.specs.Growth.{HasLearnedMore}
 use Rattle.paxos_learner.specs.Input.{front_values, keys_in_order, learned_input}
-use Rattle.group_node.specs.Consoles.{offered}
-use Rattle.group_node.specs.Node.{Done, Node, waiting_keys}
-use Rattle.group_node.specs.Steps.{handed}
+use Rattle.group_node.specs.Console.{offered}
+use Rattle.group_node.specs.Known.{Response, Known, waiting_keys}
+use Rattle.group_node.specs.Steps.{messages_handed_out}
 
--- a node that is up: what it has learned, how far its machine has come, how many bytes of its output were released, and the keys
--- that wait
+-- a node that is up: what it has learned, how far its machine has come, how many bytes of its
+-- output were released, and the keys that wait
 pub record Up : Type 0 where
   pub learned : FinMap nat_cmp Value
   pub configuration : Configuration
@@ -36,7 +36,8 @@ pub record Seat : Type 0 where
   pub console : List ℕ
   pub up : Option Up
 
--- a group that runs a program: its nodes by number, all that was sent, and all keys that were typed, the oldest first
+-- a group that runs a program: its nodes by number, all that was sent, and all keys that were
+-- typed, the oldest first
 pub record WorldState : Type 0 where
   pub program : Parts
   pub size : ℕ
@@ -44,8 +45,8 @@ pub record WorldState : Type 0 where
   pub sent : Sent
   pub typed : List Key
 
--- what happens at a node: a byte is typed, the message of that number is delivered, it campaigns, it ticks, it runs for at most
--- so many steps, it releases a byte, it crashes, it starts
+-- what happens at a node: a byte is typed, the message of that number is delivered, it campaigns,
+-- it ticks, it runs for at most so many steps, it releases a byte, it crashes, it starts
 pub data Event : Type 0 where
   Press : (i byte : ℕ) → Event
   Deliver : (m i : ℕ) → Event
@@ -61,7 +62,8 @@ abbrev pub fresh : Parts → Up
 fresh p = record { learned = empty; configuration = begin p; released = 0; waiting = [] }
 
 -- nothing changes but at node i, which sends these messages, and at which these keys were typed
-pub record ChangesOnly (w v : WorldState) (i : ℕ) (bodies : List Body) (keys : List Key) : Type 0 where
+pub record ChangesOnly (w v : WorldState) (i : ℕ) (bodies : List Body)
+    (keys : List Key) : Type 0 where
   pub program : v.program ≡ w.program
   pub size : v.size ≡ w.size
   pub others : (j : ℕ) → j ≢ i → v.seats j ≡ w.seats j
@@ -76,28 +78,32 @@ pub record AreParted (learned : FinMap nat_cmp Value) (keys stay : List Key) : T
   pub parts : keys ≡ gone ++ stay
   pub below : All (λ k. Contains (keys_in_order (front_values learned)) k) gone
 
--- What a node that is up may make of itself: it learns only what was told, or accepted by a majority under one ballot; its machine and
--- what it has released stay.
+-- What a node that is up may make of itself: it learns only what was told, or accepted by a
+-- majority under one ballot; its machine and what it has released stay.
 pub record LearnsOnly (w : WorldState) (keys : List Key) (was now : Up) : Type 0 where
   pub keeps : HasLearnedMore was.learned now.learned
-  pub gains : (s : ℕ) (v : Value) → get now.learned s ≡ Some v → (get was.learned s ≡ Some v) ⊎ MayLearn w.size w.sent s v
+  pub gains : (s : ℕ) (v : Value) → get now.learned s ≡ Some v
+      → (get was.learned s ≡ Some v) ⊎ MayLearn w.size w.sent s v
   pub configuration : now.configuration ≡ was.configuration
   pub released : now.released ≡ was.released
   pub waiting : AreParted now.learned (was.waiting ++ keys) now.waiting
 
--- A call of node i, which is up: it saves this change, if any, which it may, and then sends what it may.
+-- A call of node i, which is up: it saves this change, if any, which it may, and then sends what it
+-- may.
 pub record MakesCall (w v : WorldState) (i : ℕ) (c : Option Change) (keys : List Key) : Type 0 where
   pub bodies : List Body
   pub was : Up
   pub now : Up
   pub from : (w.seats i).up ≡ Some was
-  pub left : v.seats i ≡ record { kept = after (w.seats i).kept c; console = (w.seats i).console; up = Some now }
+  pub left : v.seats i
+      ≡ record { kept = after (w.seats i).kept c; console = (w.seats i).console; up = Some now }
   pub rest : ChangesOnly w v i bodies keys
   pub saves : IfSome c (MaySave w.sent (w.seats i).kept)
   pub sends : MaySendAll w.size v.typed (get now.learned) w.sent i (after (w.seats i).kept c) bodies
   pub learns : LearnsOnly w keys was now
 
--- A save of this change has failed: the record is the old one or the changed one, nothing was sent, and the node is down.
+-- A save of this change has failed: the record is the old one or the changed one, nothing was sent,
+-- and the node is down.
 pub record Falls (w v : WorldState) (i : ℕ) (c : Change) : Type 0 where
   pub saves : MaySave w.sent (w.seats i).kept c
   pub kept : IsOneOf (v.seats i).kept (w.seats i).kept (changed (w.seats i).kept c)
@@ -114,7 +120,8 @@ CallOrFall w v i (Some c) = MakesCall w v i (Some c) [] ⊎ (IsSome (w.seats i).
 abbrev pub IsNoneOr : Change → Option Change → Type 0
 IsNoneOr c o = (o ≡ None) ⊎ (o ≡ Some c)
 
--- what a delivered message may make a node save: a Prepare the promise of its ballot, an Accept a vote for what it proposes
+-- what a delivered message may make a node save: a Prepare the promise of its ballot, an Accept a
+-- vote for what it proposes
 abbrev pub MayCause : Body → Option Change → Type 0
 MayCause (Prepare b from) o = IsNoneOr (change.Promise b) o
 MayCause (Promise b first upto votes) o = o ≡ None
@@ -148,7 +155,12 @@ pub record Presses (w v : WorldState) (i byte : ℕ) : Type 0 where
 
 -- a start is saved, and the node is up
 pub record StartsUp (w v : WorldState) (i : ℕ) : Type 0 where
-  pub left : v.seats i ≡ record { kept = changed (w.seats i).kept change.Start; console = (w.seats i).console; up = Some (fresh w.program) }
+  pub left : v.seats i
+      ≡ record {
+        kept = changed (w.seats i).kept change.Start;
+        console = (w.seats i).console;
+        up = Some (fresh w.program);
+      }
   pub rest : ChangesOnly w v i [] []
 
 -- ---- the machine, its output, and crashes
@@ -166,20 +178,26 @@ pub record MakesRun (w v : WorldState) (i steps : ℕ) : Type 0 where
   pub from : (w.seats i).up ≡ Some was
   pub few : made ≤ steps
   pub moves : MakesSteps w.program (learned_input was.learned) made was.configuration configuration
-  pub left : v.seats i ≡ record (w.seats i) { up = Some (record was { configuration = configuration }) }
+  pub left : v.seats i
+      ≡ record (w.seats i) { up = Some (record was { configuration = configuration }) }
   pub rest : ChangesOnly w v i [] []
 
 -- what is left by the release of a byte, if one waits: it is offered to the console by its number
 abbrev pub after_release : Seat → Up → Option ℕ → Seat
 after_release seat was None = seat
 after_release seat was (Some byte) =
-    record { kept = seat.kept; console = offered seat.console was.released byte; up = Some (record was { released = was.released + 1 }) }
+    record {
+      kept = seat.kept;
+      console = offered seat.console was.released byte;
+      up = Some (record was { released = was.released + 1 });
+    }
 
 -- the first byte of the output that wasn't released goes to the console
 pub record Releases (w v : WorldState) (i : ℕ) : Type 0 where
   pub was : Up
   pub from : (w.seats i).up ≡ Some was
-  pub left : v.seats i ≡ after_release (w.seats i) was (slice_get was.configuration.output was.released)
+  pub left : v.seats i
+      ≡ after_release (w.seats i) was (slice_get was.configuration.output was.released)
   pub rest : ChangesOnly w v i [] []
 
 -- the node is down; its record and its console stay
@@ -203,22 +221,34 @@ WorldStep w (Start i) v = ((w.seats i).up ≡ None) × (StartsUp w v i ⊎ Falls
 -- ---- a node's calls as events
 
 -- the seat of a node that is up, whose machine has come to c and has released k bytes
-abbrev pub seat_of : Node → Configuration → ℕ → List ℕ → Seat
+abbrev pub seat_of : Known → Configuration → ℕ → List ℕ → Seat
 seat_of n c k console =
-    record { kept = n.kept; console = console; up = Some (record { learned = n.learner.learned; configuration = c; released = k; waiting = waiting_keys n }) }
+    record {
+      kept = n.kept;
+      console = console;
+      up =
+          Some (record {
+            learned = n.learner.learned;
+            configuration = c;
+            released = k;
+            waiting = waiting_keys n;
+          });
+    }
 
 -- the group with this seat of node i
 abbrev pub with_seat : WorldState → ℕ → Seat → WorldState
 with_seat w i seat = record w { seats = λ j. if j == i then seat else w.seats j }
 
 -- the group after a call of node i, in which these keys were typed
-abbrev pub after_call : WorldState → ℕ → Done → List Key → Configuration → ℕ → List ℕ → WorldState
+abbrev pub after_call : WorldState → ℕ → Response → List Key → Configuration → ℕ → List ℕ
+    → WorldState
 after_call w i done keys c k console = record (with_seat w i (seat_of done.node c k console)) {
-  sent = w.sent ++ handed i done.sends;
+  sent = w.sent ++ messages_handed_out i done.sends;
   typed = w.typed ++ keys;
 }
 
 -- the node sits in its group, and its machine and its console are these
-pub record Sits (w : WorldState) (n : Node) (c : Configuration) (k : ℕ) (console : List ℕ) : Type 0 where
+pub record Sits (w : WorldState) (n : Known) (c : Configuration) (k : ℕ)
+    (console : List ℕ) : Type 0 where
   pub size : w.size ≡ n.me.group.size
   pub seat : w.seats n.me.node ≡ seat_of n c k console

@@ -25,10 +25,12 @@ impl Model for Config {
 }
 
 impl Config {
-    /// Node `node` of a group of `size` nodes; the session is a number that tells groups apart. `Size` where the
-    /// size is even or above 9, and else `Id` where the node is 0 or above the size.
+    /// Node `node` of a group of `size` nodes; the session is a number that tells groups apart.
+    /// `Size` where the size is even or above 9, and else `Id` where the node is 0 or above the
+    /// size.
     pub fn new(node: u8, size: u8, session: u32) -> Result<Config, NodeFault>
-        ensures ok { IfOk result (λ c. c ≡ record { node = node; group = record { size = size; session = session } }) }
+        ensures ok { IfOk result
+            (λ c. c ≡ record { node = node; group = record { size = size; session = session } }) }
         ensures size { IsErrOf result NodeFault.Size ↔ ¬ IsSize size }
         ensures id { IsErrOf result NodeFault.Id ↔ (IsSize size × ((node ≡ 0) ⊎ (size < node))) }
         ensures others { IfErr result (λ e. (e ≡ NodeFault.Size) ⊎ (e ≡ NodeFault.Id)) }

@@ -1,6 +1,6 @@
 //! A console: the bytes that it has shown.
 ghost use Rattle.std.specs.Prelude.{◌≡◌, ◌≢◌, ◌<◌, [], length, IfErr, OnOk};
-ghost use Rattle.group_node.specs.Consoles.{offer_answer, offered};
+ghost use Rattle.group_node.specs.Console.{offer_answer, offered};
 
 use crate::fault::NodeFault;
 use std::alloc::Global;
@@ -32,11 +32,14 @@ impl Drop for Console {
 
 impl Model for Console {
     ghost use Rattle.std.specs.Prelude.{◌-◌, vec_len, vec_capacity};
-    ghost use Rattle.group_node.specs.Consoles.{Shown};
+    ghost use Rattle.group_node.specs.Console.{Shown};
 
     ghost Value = { Shown };
 
-    ghost view = { λ c. record { bytes = c.bytes.items; room = vec_capacity c.bytes - vec_len c.bytes } };
+    ghost view = { λ c. record {
+      bytes = c.bytes.items;
+      room = vec_capacity c.bytes - vec_len c.bytes;
+    } };
 }
 
 impl Console {
@@ -49,8 +52,8 @@ impl Console {
         }
     }
 
-    /// Makes room for one byte, so that the next one is not refused for want of memory. It is refused only as
-    /// `Memory`, and what was shown stays.
+    /// Makes room for one byte, so that the next one is not refused for want of memory. It is
+    /// refused only as `Memory`, and what was shown stays.
     pub fn reserve(&mut self) -> Result<(), NodeFault>
         ensures bytes { self.new.bytes ≡ self.old.bytes }
         ensures room { OnOk result (0 < self.new.room) }
@@ -62,11 +65,13 @@ impl Console {
         }
     }
 
-    /// Offers the byte with this number, counted from 0. The next byte is shown; one that was shown before, or before
-    /// which others are missing, changes nothing. Without room the next byte may be refused as `Memory`.
+    /// Offers the byte with this number, counted from 0. The next byte is shown; one that was shown
+    /// before, or before which others are missing, changes nothing. Without room the next byte may
+    /// be refused as `Memory`.
     pub fn offer(&mut self, number: u64, byte: u8) -> Offer
         ensures answer { result ≢ Offer.Memory → result ≡ offer_answer self.old.bytes number }
-        ensures shown { result ≢ Offer.Memory → self.new.bytes ≡ offered self.old.bytes number byte }
+        ensures shown { result ≢ Offer.Memory
+            → self.new.bytes ≡ offered self.old.bytes number byte }
         ensures memory { result ≡ Offer.Memory → number ≡ length self.old.bytes }
         ensures room { 0 < self.old.room → result ≢ Offer.Memory }
         ensures only_fresh { result ≢ Offer.Fresh → self.new.bytes ≡ self.old.bytes }

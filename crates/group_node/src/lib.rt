@@ -1,22 +1,21 @@
 //! A node of the group, and a console.
 #![tactic(auto)]
 
-mod answering;
+mod acceptor_rows;
 mod config;
 mod console;
-mod delivered;
 mod fault;
-mod hearing;
 pub mod laws;
-mod leading;
+mod learner_rows;
 mod node;
 mod outbox;
 mod packet;
 mod player;
+mod proposer_rows;
 mod protocol;
 mod pump;
-mod ticking;
-mod waiting;
+mod tick;
+mod waiting_keys;
 
 pub use config::Config;
 pub use console::{Console, Offer};

@@ -11,11 +11,12 @@ ghost use Rattle.paxos_acceptor.specs.declared.store.StoreFault.{StoreFault};
 ghost use Rattle.paxos_learner.specs.Learner.{IsFront};
 ghost use Rattle.paxos_proposer.specs.Proposer.{greatest_round};
 ghost use Rattle.group_node.specs.Calls.{Does, IsLet, IsLetIn, Saves};
-ghost use Rattle.group_node.specs.Delivered.{NeedsMemory, on_message};
-ghost use Rattle.group_node.specs.Leading.{at_tick, is_leading, own_ballot};
-ghost use Rattle.group_node.specs.Node.{at_campaign, at_typed, front, new_key, next_serial, started};
+ghost use Rattle.group_node.specs.Protocol.{NeedsMemory, on_message};
+ghost use Rattle.group_node.specs.Known.{on_typed, front, new_key, next_serial, on_start};
+ghost use Rattle.group_node.specs.ProposerRows.{is_leading, own_ballot, on_campaign};
+ghost use Rattle.group_node.specs.Tick.{on_tick};
 ghost use Rattle.group_node.specs.Output.{IsReplay, no_progress, RunsOn, unreleased_of};
-ghost use Rattle.group_node.specs.Player.{IsExact, progress_of};
+ghost use Rattle.group_node.specs.Player.{IsPlayed, progress_of};
 ghost use Rattle.group_node.specs.Ranges.{IsInRange};
 ghost use Rattle.group_node.specs.Starting.{StartsAfter};
 ghost use Rattle.group_node.specs.States.{input};
@@ -25,7 +26,7 @@ use crate::fault::{NodeFault, fault_of};
 use crate::outbox::Outbox;
 use crate::player::{Player, Ran};
 use crate::protocol::{Protocol, StartRefused};
-use crate::waiting::Waiting;
+use crate::waiting_keys::Waiting;
 use paxos_acceptor::{Acceptor, OpenRefused, Store};
 use paxos_learner::laws::{input_grows, learned_stays};
 use paxos_msg::{Ballot, Record, Value, View};
@@ -34,12 +35,13 @@ use pcode_ops::Program;
 use std::alloc::{AllocError, Global};
 use std::marker::Model;
 
-/// One node of a group, over the store of its acceptor's record: its part in the protocol, and the machine that runs the program on
-/// the keys of the learned places below the known front.
+/// One node of a group, over the store of its acceptor's record: its part in the protocol, and the
+/// machine that runs the program on the keys of the learned places below the known front.
 ///
-/// A call of a node is one event. What the node has to send goes into an outbox. A call that saves does so before it sends, at most
-/// once, and makes all its room before that: after `Memory` nothing has changed. After `Store` nothing was sent, and every further call
-/// that can be refused is `Stopped`.
+/// A call of a node is one event. What the node has to send goes into an outbox. A call that saves
+/// does so before it sends, at most once, and makes all its room before that: after `Memory`
+/// nothing has changed. After `Store` nothing was sent, and every further call that can be refused
+/// is `Stopped`.
 pub struct Node<'a, S: Store> {
     protocol: Protocol<S>,
     player: Player<'a>,
@@ -57,59 +59,90 @@ impl<'a, S: Store + Drop> Drop for Node<'a, S> {
 impl<'a, S: Store> Model for Node<'a, S> {
     ghost use Rattle.std.specs.Coded.{codes};
     ghost use Rattle.paxos_learner.specs.Codes.{learner_code};
-    ghost use Rattle.group_node.specs.Player.{IsExact, progress_of};
-    ghost use Rattle.group_node.specs.States.{input, State};
+    ghost use Rattle.group_node.specs.Player.{IsPlayed, progress_of};
+    ghost use Rattle.group_node.specs.States.{input, NodeState};
 
-    ghost Value = { State S };
+    ghost Value = { NodeState S };
 
     ghost coded = { Prim.hlevel (codes, learner_code) };
 
     ghost view = { λ n. record { protocol = n.protocol; progress = progress_of n.player } };
 
-    ghost invariant = { λ n. IsExact (input n.protocol.rules) n.player };
+    ghost invariant = { λ n. IsPlayed (input n.protocol.known) n.player };
 }
 
-/// The room of a node beside its acceptor: for the machine and its output, and for the keys that wait.
+/// The room of a node beside its acceptor: for the machine and its output, and for the keys that
+/// wait.
 fn room<'a>(alloc: Global, program: &'a Program) -> Result<(Player<'a>, Waiting), AllocError>
     ensures player { IfOk result (λ x. progress_of x.0 ≡ no_progress program.now) }
-    ensures exact { (input : List ℕ) → IfOk result (λ x. IsExact input x.0) }
+    ensures exact { (input : List ℕ) → IfOk result (λ x. IsPlayed input x.0) }
     ensures waiting { IfOk result (λ x. x.1 ≡ record { first = 1; bytes = [] }) }
 {
     Ok((Player::begin(alloc, program)?, Waiting::new(alloc)?))
 }
 
 impl<'a, S: Store> Node<'a, S> {
-    /// Starts the node over what its store has. A start is counted and saved; then the node has learned, offered and typed nothing, and
-    /// its machine is before its first step. All room is made before the save.
+    /// Starts the node over what its store has. A start is counted and saved; then the node has
+    /// learned, offered and typed nothing, and its machine is before its first step. All room is
+    /// made before the save.
     ///
-    /// `Memory`, `Store` and `BadRecord` are what the load met, `BadRecord` also a record out of its ranges. `StartsSpent` after
-    /// 4,294,967,295 starts. Then `Memory` for want of room, and `Store` where the save failed. A refusal gives the store back; but for
-    /// a failed save it has the record that it had.
+    /// `Memory`, `Store` and `BadRecord` are what the load met, `BadRecord` also a record out of
+    /// its ranges. `StartsSpent` after 4,294,967,295 starts. Then `Memory` for want of room, and
+    /// `Store` where the save failed. A refusal gives the store back; but for a failed save it has
+    /// the record that it had.
     pub fn start(
         alloc: Global,
         program: &'a Program,
         config: Config,
         store: S,
     ) -> Result<Node<'a, S>, StartRefused<S>>
-        ensures loads { (answer : Result Kept StoreFault) × (left : S) × S.loads store answer left × StartsAfter S.state config answer left result }
-        ensures begins { IfOk result (λ n. (kept : Kept) × (n.protocol.rules ≡ (started config kept).node)) }
-        ensures rules { S.honest → IfOk result (λ n. n.protocol.rules ≡ (started config (S.state store).stored).node) }
-        ensures saved { S.honest → IfOk result (λ n. (S.state n.protocol.store).stored ≡ changed (S.state store).stored Start) }
+        ensures loads { (answer : Result Kept StoreFault) × (left : S) × S.loads store answer left
+            × StartsAfter S.state config answer left result }
+        ensures begins { IfOk result
+            (λ n. (kept : Kept) × (n.protocol.known ≡ (on_start config kept).node)) }
+        ensures known { S.honest
+            → IfOk result (λ n. n.protocol.known ≡ (on_start config (S.state store).stored).node) }
+        ensures saved { S.honest
+            → IfOk result (λ n. (S.state n.protocol.store).stored
+            ≡ changed (S.state store).stored Start) }
         ensures stops { IfOk result (λ n. n.protocol.is_stopped ≡ false) }
         ensures progress { IfOk result (λ n. n.progress ≡ no_progress program.now) }
-        ensures ranges { IfOk result (λ n. IsInRange n.protocol.rules) }
-        ensures bad { S.honest → IfErr result (λ e. e.fault ≡ NodeFault.BadRecord → ¬ IsRecord config.group.size (S.state store).stored) }
-        ensures spent { S.honest → IfErr result (λ e. e.fault ≡ NodeFault.StartsSpent → (S.state store).stored.starts ≡ 4294967295) }
-        ensures fit { S.honest → IfOk result (λ _. IsRecord config.group.size (S.state store).stored × ((S.state store).stored.starts < 4294967295)) }
-        ensures device { S.honest → IfErr result (λ e. e.fault ≡ NodeFault.Store → IsOneOf (S.state e.store).stored (S.state store).stored (changed (S.state store).stored Start)) }
-        ensures told { S.honest → S.fails_at_will → IfErr result (λ e. e.fault ≡ NodeFault.Store → FailsAsTold (S.state store).plan (S.state store).stored (changed (S.state store).stored Start) (S.state e.store).stored) }
-        ensures spare { S.fails_at_will → S.honest → IfErr result (λ e. e.fault ≡ NodeFault.Store → (S.state store).stored.starts < 4294967295) }
-        ensures same { S.honest → IfErr result (λ e. e.fault ≢ NodeFault.Store → (S.state e.store).stored ≡ (S.state store).stored) }
-        ensures plan { IfErr result (λ e. e.fault ≢ NodeFault.Store → (S.state e.store).plan ≡ (S.state store).plan) }
-        ensures unplanned { IfOk result (λ n. ((S.state store).plan ≡ None) × ((S.state n.protocol.store).plan ≡ None)) }
-        ensures quiet { IfOk result (λ n. (S.state n.protocol.store).faults ≡ (S.state store).faults) }
-        ensures cause { IfErr result (λ e. HasCause (e.fault ≡ NodeFault.Store) (S.state store).faults (S.state e.store).faults) }
-        ensures others { IfErr result (λ e. (e.fault ≡ NodeFault.Memory) ⊎ (e.fault ≡ NodeFault.Store) ⊎ (e.fault ≡ NodeFault.BadRecord) ⊎ (e.fault ≡ NodeFault.StartsSpent)) }
+        ensures ranges { IfOk result (λ n. IsInRange n.protocol.known) }
+        ensures bad { S.honest
+            → IfErr result (λ e. e.fault ≡ NodeFault.BadRecord
+            → ¬ IsRecord config.group.size (S.state store).stored) }
+        ensures spent { S.honest
+            → IfErr result (λ e. e.fault ≡ NodeFault.StartsSpent
+            → (S.state store).stored.starts ≡ 4294967295) }
+        ensures fit { S.honest
+            → IfOk result (λ _. IsRecord config.group.size (S.state store).stored
+            × ((S.state store).stored.starts < 4294967295)) }
+        ensures device { S.honest
+            → IfErr result (λ e. e.fault ≡ NodeFault.Store
+            → IsOneOf (S.state e.store).stored (S.state store).stored
+            (changed (S.state store).stored Start)) }
+        ensures told { S.honest → S.fails_at_will
+            → IfErr result (λ e. e.fault ≡ NodeFault.Store
+            → FailsAsTold (S.state store).plan (S.state store).stored
+            (changed (S.state store).stored Start) (S.state e.store).stored) }
+        ensures spare { S.fails_at_will → S.honest
+            → IfErr result (λ e. e.fault ≡ NodeFault.Store
+            → (S.state store).stored.starts < 4294967295) }
+        ensures same { S.honest
+            → IfErr result (λ e. e.fault ≢ NodeFault.Store
+            → (S.state e.store).stored ≡ (S.state store).stored) }
+        ensures plan { IfErr result
+            (λ e. e.fault ≢ NodeFault.Store → (S.state e.store).plan ≡ (S.state store).plan) }
+        ensures unplanned { IfOk result
+            (λ n. ((S.state store).plan ≡ None) × ((S.state n.protocol.store).plan ≡ None)) }
+        ensures quiet { IfOk result
+            (λ n. (S.state n.protocol.store).faults ≡ (S.state store).faults) }
+        ensures cause { IfErr result
+            (λ e. HasCause (e.fault ≡ NodeFault.Store) (S.state store).faults
+            (S.state e.store).faults) }
+        ensures others { IfErr result
+            (λ e. (e.fault ≡ NodeFault.Memory) ⊎ (e.fault ≡ NodeFault.Store)
+            ⊎ (e.fault ≡ NodeFault.BadRecord) ⊎ (e.fault ≡ NodeFault.StartsSpent)) }
     {
         let mut acceptor = match Acceptor::open(alloc, store, config.me()) {
             Ok(acceptor) => acceptor,
@@ -132,33 +165,50 @@ impl<'a, S: Store> Node<'a, S> {
         Ok(Node { protocol, player })
     }
 
-    /// A character is typed at the node, and waits until its key stands below the known front. The answer is its key: this node, this
-    /// start, the next serial, which is 1 at first. It takes no memory. `Stopped` after a failed save; `Busy` where 256 keys wait;
-    /// `SerialSpent` after the serial 4,294,967,295. After a refusal nothing has changed.
+    /// A character is typed at the node, and waits until its key stands below the known front. The
+    /// answer is its key: this node, this start, the next serial, which is 1 at first. It takes no
+    /// memory. `Stopped` after a failed save; `Busy` where 256 keys wait; `SerialSpent` after the
+    /// serial 4,294,967,295. After a refusal nothing has changed.
     pub fn typed(&mut self, byte: u8) -> Result<Value, NodeFault>
-        ensures ok { IfOk result (λ v. v ≡ new_key self.old.protocol.rules byte) }
-        ensures rules { IfOk result (λ _. self.new.protocol.rules ≡ (at_typed self.old.protocol.rules byte).node) }
-        ensures rest { (self.new.protocol.store ≡ self.old.protocol.store) × (self.new.protocol.is_stopped ≡ self.old.protocol.is_stopped) × (self.new.progress ≡ self.old.progress) }
+        ensures ok { IfOk result (λ v. v ≡ new_key self.old.protocol.known byte) }
+        ensures known { IfOk result
+            (λ _. self.new.protocol.known ≡ (on_typed self.old.protocol.known byte).node) }
+        ensures rest { (self.new.protocol.store ≡ self.old.protocol.store)
+            × (self.new.protocol.is_stopped ≡ self.old.protocol.is_stopped)
+            × (self.new.progress ≡ self.old.progress) }
         ensures err { IfErr result (λ _. self.new ≡ self.old) }
         ensures stopped { IsErrOf result NodeFault.Stopped ↔ (self.old.protocol.is_stopped ≡ true) }
-        ensures busy { IsErrOf result NodeFault.Busy ↔ ((self.old.protocol.is_stopped ≡ false) × (length self.old.protocol.rules.waiting ≡ 256)) }
-        ensures spent { IsErrOf result NodeFault.SerialSpent ↔ ((self.old.protocol.is_stopped ≡ false) × (length self.old.protocol.rules.waiting < 256) × (next_serial self.old.protocol.rules ≡ 4294967296)) }
-        ensures others { IfErr result (λ e. (e ≡ NodeFault.Stopped) ⊎ (e ≡ NodeFault.Busy) ⊎ (e ≡ NodeFault.SerialSpent)) }
+        ensures busy { IsErrOf result NodeFault.Busy
+            ↔ ((self.old.protocol.is_stopped ≡ false)
+            × (length self.old.protocol.known.waiting ≡ 256)) }
+        ensures spent { IsErrOf result NodeFault.SerialSpent
+            ↔ ((self.old.protocol.is_stopped ≡ false)
+            × (length self.old.protocol.known.waiting < 256)
+            × (next_serial self.old.protocol.known ≡ 4294967296)) }
+        ensures others { IfErr result
+            (λ e. (e ≡ NodeFault.Stopped) ⊎ (e ≡ NodeFault.Busy) ⊎ (e ≡ NodeFault.SerialSpent)) }
     {
         self.protocol.typed(byte)
     }
 
-    /// Takes a message of a node of the group, and puts what it makes the node send into the outbox: the row of the message's kind. Keys
-    /// that stand below the known front after it wait no more. `Stopped` after a failed save, `OutboxFull` where the outbox holds
-    /// packets, `Memory` and `Store` as the type says.
+    /// Takes a message of a node of the group, and puts what it makes the node send into the
+    /// outbox: the row of the message's kind. Keys that stand below the known front after it wait
+    /// no more. `Stopped` after a failed save, `OutboxFull` where the outbox holds packets,
+    /// `Memory` and `Store` as the type says.
     pub fn on_message(&mut self, view: &View<'_>, outbox: &mut Outbox) -> Result<(), NodeFault>
-        requires fits { Fits self.old.protocol.rules.me.group view.now }
-        ensures does { Does self.old.protocol self.new.protocol outbox.old.packets outbox.new.packets (on_message self.old.protocol.rules view.now.sender view.now.body) result }
-        ensures saves { Saves S.honest S.fails_at_will S.state self.old.protocol self.new.protocol (on_message self.old.protocol.rules view.now.sender view.now.body) result }
-        ensures needs { IsErrOf result NodeFault.Memory → NeedsMemory self.old.protocol.rules view.now.sender view.now.body }
+        requires fits { Fits self.old.protocol.known.me.group view.now }
+        ensures does { Does self.old.protocol self.new.protocol outbox.old.packets
+            outbox.new.packets (on_message self.old.protocol.known view.now.sender view.now.body)
+            result }
+        ensures saves { Saves S.honest S.fails_at_will S.state self.old.protocol self.new.protocol
+            (on_message self.old.protocol.known view.now.sender view.now.body) result }
+        ensures needs { IsErrOf result NodeFault.Memory
+            → NeedsMemory self.old.protocol.known view.now.sender view.now.body }
         ensures progress { self.new.progress ≡ self.old.progress }
         ensures let_in { IsLetIn self.old.protocol outbox.old.packets result }
-        ensures others { IfErr result (λ e. (e ≡ NodeFault.Stopped) ⊎ (e ≡ NodeFault.OutboxFull) ⊎ (e ≡ NodeFault.Memory) ⊎ (e ≡ NodeFault.Store)) }
+        ensures others { IfErr result
+            (λ e. (e ≡ NodeFault.Stopped) ⊎ (e ≡ NodeFault.OutboxFull) ⊎ (e ≡ NodeFault.Memory)
+            ⊎ (e ≡ NodeFault.Store)) }
     {
         learned_stays();
         input_grows();
@@ -166,41 +216,63 @@ impl<'a, S: Store> Node<'a, S> {
         self.protocol.on_message(view, outbox)
     }
 
-    /// Begins a ballot of the node's own, greater than any that it has promised or was told of: promises it, and asks all nodes for
-    /// their promises from the known front on. `RoundsSpent` where the greatest round is 4,294,967,295, and else `PlacesSpent` where
-    /// all 65,536 places are learned; the other refusals as `on_message`'s, `Stopped` and `OutboxFull` first.
+    /// Begins a ballot of the node's own, greater than any that it has promised or was told of:
+    /// promises it, and asks all nodes for their promises from the known front on. `RoundsSpent`
+    /// where the greatest round is 4,294,967,295, and else `PlacesSpent` where all 65,536 places
+    /// are learned; the other refusals as `on_message`'s, `Stopped` and `OutboxFull` first.
     pub fn campaign(&mut self, outbox: &mut Outbox) -> Result<(), NodeFault>
-        ensures does { Does self.old.protocol self.new.protocol outbox.old.packets outbox.new.packets (at_campaign self.old.protocol.rules) result }
-        ensures saves { Saves S.honest S.fails_at_will S.state self.old.protocol self.new.protocol (at_campaign self.old.protocol.rules) result }
+        ensures does { Does self.old.protocol self.new.protocol outbox.old.packets
+            outbox.new.packets (on_campaign self.old.protocol.known) result }
+        ensures saves { Saves S.honest S.fails_at_will S.state self.old.protocol self.new.protocol
+            (on_campaign self.old.protocol.known) result }
         ensures progress { self.new.progress ≡ self.old.progress }
         ensures let_in { IsLetIn self.old.protocol outbox.old.packets result }
-        ensures rounds { IsErrOf result NodeFault.RoundsSpent ↔ (IsLet self.old.protocol outbox.old.packets × (greatest_round self.old.protocol.rules.kept.promised self.old.protocol.rules.remembered ≡ 4294967295)) }
-        ensures places { IsErrOf result NodeFault.PlacesSpent ↔ (IsLet self.old.protocol outbox.old.packets × (greatest_round self.old.protocol.rules.kept.promised self.old.protocol.rules.remembered < 4294967295) × (front self.old.protocol.rules ≡ 65536)) }
-        ensures spare { OnOk result (greatest_round self.old.protocol.rules.kept.promised self.old.protocol.rules.remembered < 4294967295) }
-        ensures spare_saved { IsErrOf result NodeFault.Store → greatest_round self.old.protocol.rules.kept.promised self.old.protocol.rules.remembered < 4294967295 }
-        ensures others { IfErr result (λ e. (e ≡ NodeFault.Stopped) ⊎ (e ≡ NodeFault.OutboxFull) ⊎ (e ≡ NodeFault.RoundsSpent) ⊎ (e ≡ NodeFault.PlacesSpent) ⊎ (e ≡ NodeFault.Memory) ⊎ (e ≡ NodeFault.Store)) }
+        ensures rounds { IsErrOf result NodeFault.RoundsSpent
+            ↔ (IsLet self.old.protocol outbox.old.packets
+            × (greatest_round self.old.protocol.known.kept.promised
+            self.old.protocol.known.remembered ≡ 4294967295)) }
+        ensures places { IsErrOf result NodeFault.PlacesSpent
+            ↔ (IsLet self.old.protocol outbox.old.packets
+            × (greatest_round self.old.protocol.known.kept.promised
+            self.old.protocol.known.remembered < 4294967295)
+            × (front self.old.protocol.known ≡ 65536)) }
+        ensures spare { OnOk result
+            (greatest_round self.old.protocol.known.kept.promised self.old.protocol.known.remembered
+            < 4294967295) }
+        ensures spare_saved { IsErrOf result NodeFault.Store
+            → greatest_round self.old.protocol.known.kept.promised
+            self.old.protocol.known.remembered < 4294967295 }
+        ensures others { IfErr result
+            (λ e. (e ≡ NodeFault.Stopped) ⊎ (e ≡ NodeFault.OutboxFull) ⊎ (e ≡ NodeFault.RoundsSpent)
+            ⊎ (e ≡ NodeFault.PlacesSpent) ⊎ (e ≡ NodeFault.Memory) ⊎ (e ≡ NodeFault.Store)) }
     {
-        self.protocol.on_campaign(outbox)
+        self.protocol.campaign(outbox)
     }
 
-    /// What the node does from time to time, in this order: it asks acceptors on, sends its open Accepts again, proposes, submits the
-    /// first keys that wait, and asks for what was learned. It saves nothing.
+    /// What the node does from time to time, in this order: it asks acceptors on, sends its open
+    /// Accepts again, proposes, submits the first keys that wait, and asks for what was learned. It
+    /// saves nothing.
     pub fn tick(&mut self, outbox: &mut Outbox) -> Result<(), NodeFault>
-        ensures does { Does self.old.protocol self.new.protocol outbox.old.packets outbox.new.packets (at_tick self.old.protocol.rules) result }
-        ensures needs { IsErrOf result NodeFault.Memory → (outbox.old.ready < 43) ⊎ IsSome self.old.protocol.rules.proposer }
+        ensures does { Does self.old.protocol self.new.protocol outbox.old.packets
+            outbox.new.packets (on_tick self.old.protocol.known) result }
+        ensures needs { IsErrOf result NodeFault.Memory
+            → (outbox.old.ready < 43) ⊎ IsSome self.old.protocol.known.proposer }
         ensures store { self.new.protocol.store ≡ self.old.protocol.store }
         ensures progress { self.new.progress ≡ self.old.progress }
         ensures let_in { IsLetIn self.old.protocol outbox.old.packets result }
-        ensures others { IfErr result (λ e. (e ≡ NodeFault.Stopped) ⊎ (e ≡ NodeFault.OutboxFull) ⊎ (e ≡ NodeFault.Memory)) }
+        ensures others { IfErr result
+            (λ e. (e ≡ NodeFault.Stopped) ⊎ (e ≡ NodeFault.OutboxFull) ⊎ (e ≡ NodeFault.Memory)) }
     {
         self.protocol.tick(outbox)
     }
 
-    /// Lets the machine make so many steps at most, on the bytes of the keys below the known front. It takes no memory. Before each
-    /// step it looks whether the steps are spent (`More`), then whether 256 bytes of output wait (`Full`), and then whether the
-    /// machine waits or has ended.
+    /// Lets the machine make so many steps at most, on the bytes of the keys below the known front.
+    /// It takes no memory. Before each step it looks whether the steps are spent (`More`), then
+    /// whether 256 bytes of output wait (`Full`), and then whether the machine waits or has ended.
     pub fn run(&mut self, steps: u32) -> Result<Ran, NodeFault>
-        ensures runs { IfOk result (λ ran. RunsOn (input self.old.protocol.rules) steps self.old.progress self.new.progress ran) }
+        ensures runs { IfOk result
+            (λ ran. RunsOn (input self.old.protocol.known) steps self.old.progress self.new.progress
+            ran) }
         ensures protocol { self.new.protocol ≡ self.old.protocol }
         ensures err { OnErr result (self.new ≡ self.old) }
         ensures stopped { IsErrOf result NodeFault.Stopped ↔ (self.old.protocol.is_stopped ≡ true) }
@@ -212,10 +284,15 @@ impl<'a, S: Store> Node<'a, S> {
         Ok(self.player.run(&self.protocol.learner, steps))
     }
 
-    /// Releases the first byte of the output that waits, with its number, counted from 0 on from this start. It takes no memory.
+    /// Releases the first byte of the output that waits, with its number, counted from 0 on from
+    /// this start. It takes no memory.
     pub fn release(&mut self) -> Option<(u64, u8)>
-        ensures value { result ≡ option_map (λ b. (self.old.progress.released, b)) (slice_get (unreleased_of (input self.old.protocol.rules) self.old.progress) 0) }
-        ensures some { OnSome result (self.new.progress ≡ record self.old.progress { released = self.old.progress.released + 1 }) }
+        ensures value { result
+            ≡ option_map (λ b. (self.old.progress.released, b))
+            (slice_get (unreleased_of (input self.old.protocol.known) self.old.progress) 0) }
+        ensures some { OnSome result
+            (self.new.progress ≡ record self.old.progress
+            { released = self.old.progress.released + 1 }) }
         ensures none { IfNone result (self.new ≡ self.old) }
         ensures protocol { self.new.protocol ≡ self.old.protocol }
     {
@@ -223,11 +300,13 @@ impl<'a, S: Store> Node<'a, S> {
         self.player.release()
     }
 
-    /// How many bytes of output wait, at most 256: what the machine has written in its steps so far, but for the bytes that were
-    /// released. It is the same as after so many steps from the start on the input that is known now.
+    /// How many bytes of output wait, at most 256: what the machine has written in its steps so
+    /// far, but for the bytes that were released. It is the same as after so many steps from the
+    /// start on the input that is known now.
     pub fn unreleased(&self) -> usize
-        ensures count { result ≡ length (unreleased_of (input self.now.protocol.rules) self.now.progress) }
-        ensures replay { IsReplay (input self.now.protocol.rules) self.now.progress }
+        ensures count { result
+            ≡ length (unreleased_of (input self.now.protocol.known) self.now.progress) }
+        ensures replay { IsReplay (input self.now.protocol.known) self.now.progress }
     {
         run_is_after();
         self.player.unreleased_len()
@@ -235,8 +314,8 @@ impl<'a, S: Store> Node<'a, S> {
 
     /// The known front: the least place that is not learned, 0 to 65,536.
     pub fn known_front(&self) -> u32
-        ensures front { result ≡ front self.now.protocol.rules }
-        ensures least { IsFront self.now.protocol.rules.learner.learned result }
+        ensures front { result ≡ front self.now.protocol.known }
+        ensures least { IsFront self.now.protocol.known.learner.learned result }
         ensures few { result ≤ 65536 }
     {
         self.protocol.learner.known_front()
@@ -244,16 +323,18 @@ impl<'a, S: Store> Node<'a, S> {
 
     /// The value that is learned at the place, which may be any number.
     pub fn learned(&self, place: u32) -> Option<Value>
-        ensures { result ≡ get self.now.protocol.rules.learner.learned place }
+        ensures { result ≡ get self.now.protocol.known.learner.learned place }
     {
         self.protocol.learner.learned(place)
     }
 
-    /// The acceptor's record. An honest store has the same one, unless it has failed. All that the node knows is in its ranges.
+    /// The acceptor's record. An honest store has the same one, unless it has failed. All that the
+    /// node knows is in its ranges.
     pub fn record(&self) -> &Record
-        ensures same { result.now ≡ self.now.protocol.rules.kept }
-        ensures ranges { IsInRange self.now.protocol.rules }
-        ensures stored { S.honest → self.now.protocol.is_stopped ≡ false → (S.state self.now.protocol.store).stored ≡ self.now.protocol.rules.kept }
+        ensures same { result.now ≡ self.now.protocol.known.kept }
+        ensures ranges { IsInRange self.now.protocol.known }
+        ensures stored { S.honest → self.now.protocol.is_stopped ≡ false
+            → (S.state self.now.protocol.store).stored ≡ self.now.protocol.known.kept }
     {
         self.protocol.record()
     }
@@ -261,7 +342,7 @@ impl<'a, S: Store> Node<'a, S> {
     /// The ballot under which the node asks to lead, or leads: that of its last campaign of this
     /// start, until it hears that a greater one refused it.
     pub fn ballot(&self) -> Option<Ballot>
-        ensures { result ≡ own_ballot self.now.protocol.rules.proposer }
+        ensures { result ≡ own_ballot self.now.protocol.known.proposer }
     {
         let proposer = self.protocol.proposer.as_ref()?;
         Some(proposer.ballot())
@@ -270,7 +351,7 @@ impl<'a, S: Store> Node<'a, S> {
     /// Whether the node leads: under its ballot a majority has promised the place at which it
     /// proposes next.
     pub fn is_leading(&self) -> bool
-        ensures { result ≡ is_leading self.now.protocol.rules.proposer }
+        ensures { result ≡ is_leading self.now.protocol.known.proposer }
     {
         match &self.protocol.proposer {
             Some(proposer) => proposer.is_covered(proposer.next_place()),
@@ -280,14 +361,14 @@ impl<'a, S: Store> Node<'a, S> {
 
     /// The greatest ballot by which the node heard that it was refused, in this start.
     pub fn refusing_ballot(&self) -> Option<Ballot>
-        ensures { result ≡ self.now.protocol.rules.remembered }
+        ensures { result ≡ self.now.protocol.known.remembered }
     {
         self.protocol.remembered
     }
 
     /// How many typed keys wait, at most 256.
     pub fn waiting(&self) -> usize
-        ensures count { result ≡ length self.now.protocol.rules.waiting }
+        ensures count { result ≡ length self.now.protocol.known.waiting }
         ensures few { result ≤ 256 }
     {
         self.protocol.waiting.len()
@@ -302,10 +383,14 @@ impl<'a, S: Store> Node<'a, S> {
 
     /// Passed on to the store: how its next save is to fail, if at all.
     pub fn fail_next(&mut self, plan: Option<bool>)
-        ensures same { S.honest → (S.state self.new.protocol.store).stored ≡ (S.state self.old.protocol.store).stored }
+        ensures same { S.honest
+            → (S.state self.new.protocol.store).stored ≡ (S.state self.old.protocol.store).stored }
         ensures plan { S.fails_at_will → (S.state self.new.protocol.store).plan ≡ plan }
-        ensures faults { (S.state self.new.protocol.store).faults ≡ (S.state self.old.protocol.store).faults }
-        ensures rest { (self.new.protocol.rules ≡ self.old.protocol.rules) × (self.new.protocol.is_stopped ≡ self.old.protocol.is_stopped) × (self.new.progress ≡ self.old.progress) }
+        ensures faults { (S.state self.new.protocol.store).faults
+            ≡ (S.state self.old.protocol.store).faults }
+        ensures rest { (self.new.protocol.known ≡ self.old.protocol.known)
+            × (self.new.protocol.is_stopped ≡ self.old.protocol.is_stopped)
+            × (self.new.progress ≡ self.old.progress) }
     {
         self.protocol.fail_next(plan);
     }

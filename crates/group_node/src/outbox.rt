@@ -52,8 +52,8 @@ impl Spare {
 /// The packets that wait to be sent, the oldest first: at most 64.
 pub struct Outbox {
     packets: HeapCircularBuffer<Packet>,
-    // With a buffer ready a packet takes no memory. A node makes as many ready as it may need before it changes
-    // anything.
+    // With a buffer ready a packet takes no memory. A node makes as many ready as it may need
+    // before it changes anything.
     spares: Vec<Spare>,
     alloc: Global,
 }
@@ -125,7 +125,8 @@ impl Outbox {
         requires body { IsBody me.group.size me.node body }
         requires ready { 0 < self.old.ready }
         requires room { length self.old.packets < 64 }
-        ensures packets { self.new.packets ≡ self.old.packets ++ datagram_of me (record { to = to; body = body }) ∷ [] }
+        ensures packets { self.new.packets
+            ≡ self.old.packets ++ datagram_of me (record { to = to; body = body }) ∷ [] }
         ensures ready { self.new.ready + 1 ≡ self.old.ready }
     {
         let message = Msg {

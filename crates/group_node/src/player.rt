@@ -4,7 +4,7 @@ ghost use Rattle.circular_buffer.specs.Buffer.{buffer};
 ghost use Rattle.paxos_learner.specs.Input.{learned_input};
 ghost use Rattle.pcode_machine.specs.Turns.{WaitsOn};
 ghost use Rattle.group_node.specs.Output.{most_of, no_progress, RunsOn, unreleased_of};
-ghost use Rattle.group_node.specs.Player.{IsExact, Moves, TurnsTo, progress_of};
+ghost use Rattle.group_node.specs.Player.{IsPlayed, PlaysStep, TurnsTo, progress_of};
 
 use circular_buffer::HeapCircularBuffer;
 use paxos_learner::Learner;
@@ -16,7 +16,7 @@ use pcode_ops::Program;
 use std::alloc::{AllocError, Global};
 
 /// How many bytes of output wait at most.
-const WAITING: usize = 256;
+const RING_BYTES: usize = 256;
 
 /// How a run was over.
 #[derive(Clone, Copy, Debug, PartialEq, Eq)]
@@ -68,7 +68,7 @@ impl<'a> Player<'a> {
     /// A machine before its first step. All its room is made here.
     pub(crate) fn begin(alloc: Global, program: &'a Program) -> Result<Player<'a>, AllocError>
         ensures progress { IfOk result (λ q. progress_of q ≡ no_progress program.now) }
-        ensures exact { (x : List ℕ) → IfOk result (λ q. IsExact x q) }
+        ensures exact { (x : List ℕ) → IfOk result (λ q. IsPlayed x q) }
     {
         let machine = match Machine::new(alloc, program) {
             Ok(machine) => machine,
@@ -76,7 +76,7 @@ impl<'a> Player<'a> {
         };
         Ok(Player {
             machine,
-            unreleased: HeapCircularBuffer::with_capacity(alloc, WAITING)?,
+            unreleased: HeapCircularBuffer::with_capacity(alloc, RING_BYTES)?,
             steps: 0,
             read: 0,
             released: 0,
@@ -87,13 +87,16 @@ impl<'a> Player<'a> {
     fn has_room(&self) -> bool
         ensures { IsTrue result ↔ (length self.now.unreleased.items < 256) }
     {
-        self.unreleased.len() < WAITING
+        self.unreleased.len() < RING_BYTES
     }
 
     /// Puts a byte behind the output that waits, for which there is room.
     fn write(&mut self, byte: u8)
         requires { length self.old.unreleased.items < self.old.unreleased.capacity }
-        ensures { self.new ≡ record self.old { unreleased = buffer (self.old.unreleased.items ++ byte ∷ []) self.old.unreleased.capacity } }
+        ensures { self.new ≡ record self.old {
+          unreleased = buffer
+              (self.old.unreleased.items ++ byte ∷ []) self.old.unreleased.capacity;
+        } }
     {
         match self.unreleased.try_push_back(byte) {
             Ok(()) => (),
@@ -107,7 +110,7 @@ impl<'a> Player<'a> {
         requires room { length self.old.unreleased.items < self.old.unreleased.capacity }
         requires steps { self.old.steps < 18446744073709551615 }
         requires read { self.old.read < 18446744073709551615 }
-        ensures { (wrote : List ℕ) × Moves self.old self.new (byte ∷ []) wrote }
+        ensures { (wrote : List ℕ) × PlaysStep self.old self.new (byte ∷ []) wrote }
     {
         self.read += 1;
         self.steps += 1;
@@ -123,13 +126,13 @@ impl<'a> Player<'a> {
         learner.input_at(self.read)
     }
 
-    /// Makes steps, at most `most`, until one takes a byte of the learned input or writes one, or the run is
-    /// over. Returns how many it made, and how the run is over if it is.
+    /// Makes steps, at most `most`, until one takes a byte of the learned input or writes one, or
+    /// the run is over. Returns how many it made, and how the run is over if it is.
     fn turn(&mut self, learner: &Learner, most: u32) -> (u32, Option<Ran>)
-        requires exact { IsExact (learned_input learner.now.learned) self.old }
+        requires exact { IsPlayed (learned_input learner.now.learned) self.old }
         requires room { length self.old.unreleased.items < 256 }
         requires steps { self.old.steps + most ≤ 18446744073709551615 }
-        ensures exact { IsExact (learned_input learner.now.learned) self.new }
+        ensures exact { IsPlayed (learned_input learner.now.learned) self.new }
         ensures turns { TurnsTo (learned_input learner.now.learned) most self.old self.new result }
         ensures most { result.0 ≤ most }
         ensures steps { self.new.steps ≡ self.old.steps + result.0 }
@@ -158,12 +161,13 @@ impl<'a> Player<'a> {
         }
     }
 
-    /// Makes steps, at most so many, on the learned input. Before each step it looks first whether the steps are
-    /// spent, then whether 256 bytes wait, then at the machine. It takes no memory.
+    /// Makes steps, at most so many, on the learned input. Before each step it looks first whether
+    /// the steps are spent, then whether 256 bytes wait, then at the machine. It takes no memory.
     pub(crate) fn run(&mut self, learner: &Learner, steps: u32) -> Ran
-        requires { IsExact (learned_input learner.now.learned) self.old }
-        ensures exact { IsExact (learned_input learner.now.learned) self.new }
-        ensures runs { RunsOn (learned_input learner.now.learned) steps (progress_of self.old) (progress_of self.new) result }
+        requires { IsPlayed (learned_input learner.now.learned) self.old }
+        ensures exact { IsPlayed (learned_input learner.now.learned) self.new }
+        ensures runs { RunsOn (learned_input learner.now.learned) steps (progress_of self.old)
+            (progress_of self.new) result }
     {
         run_is_after();
         output_only_grows();
@@ -181,14 +185,17 @@ impl<'a> Player<'a> {
         Ran::More
     }
 
-    /// The first byte of the output that was not released, with its number, from 0 on. It is released by this. It
-    /// takes no memory.
+    /// The first byte of the output that was not released, with its number, from 0 on. It is
+    /// released by this. It takes no memory.
     pub(crate) fn release(&mut self) -> Option<(u64, u8)>
-        requires { (x : List ℕ) × IsExact x self.old }
-        ensures value { (x : List ℕ) → IsExact x self.old →
-            result ≡ option_map (λ b. (self.old.released, b)) (slice_get (unreleased_of x (progress_of self.old)) 0) }
-        ensures exact { (x : List ℕ) → IsExact x self.old → IsExact x self.new }
-        ensures some { OnSome result (progress_of self.new ≡ record (progress_of self.old) { released = self.old.released + 1 }) }
+        requires { (x : List ℕ) × IsPlayed x self.old }
+        ensures value { (x : List ℕ) → IsPlayed x self.old
+            → result ≡ option_map (λ b. (self.old.released, b))
+            (slice_get (unreleased_of x (progress_of self.old)) 0) }
+        ensures exact { (x : List ℕ) → IsPlayed x self.old → IsPlayed x self.new }
+        ensures some { OnSome result
+            (progress_of self.new
+            ≡ record (progress_of self.old) { released = self.old.released + 1 }) }
         ensures none { IfNone result (self.new ≡ self.old) }
     {
         run_is_after();
@@ -202,7 +209,8 @@ impl<'a> Player<'a> {
 
     /// How many bytes of the output were not released.
     pub(crate) fn unreleased_len(&self) -> usize
-        ensures { (x : List ℕ) → IsExact x self.now → (result ≡ length (unreleased_of x (progress_of self.now))) × (result ≤ 256) }
+        ensures { (x : List ℕ) → IsPlayed x self.now
+            → (result ≡ length (unreleased_of x (progress_of self.now))) × (result ≤ 256) }
     {
         run_is_after();
         self.unreleased.len()

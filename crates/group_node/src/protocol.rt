@@ -1,18 +1,27 @@
-//! A node's part in the protocol.
-ghost use Rattle.std.specs.Prelude.{◌≡◌, ◌≢◌, ◌↔◌, ◌⊎◌, ◌<◌, [], None, false, true, length, IfErr, IfOk, IsErrOf};
+//! A node's part in the protocol: its parts, a start, a typed key, and the calls that take an
+//! outbox.
+ghost use Rattle.std.specs.Prelude.{◌≡◌, ◌≢◌, ◌↔◌, ◌⊎◌, ◌<◌, [], None, false, true, length, IfErr, IfOk, IsErrOf, IsSome, OnOk};
 ghost use Rattle.paxos_msg.specs.declared.record.Change.TheVariants.{Start};
 ghost use Rattle.paxos_msg.specs.Records.{changed};
 ghost use Rattle.paxos_acceptor.specs.Stores.{FailsAsTold, HasCause, IsOneOf};
 ghost use Rattle.group_node.specs.Ranges.{IsInRange};
-ghost use Rattle.group_node.specs.Node.{at_typed, new_key, next_serial, started};
+ghost use Rattle.group_node.specs.Known.{on_typed, new_key, next_serial, on_start, front};
+ghost use Rattle.paxos_msg.specs.Fits.{Fits};
+ghost use Rattle.paxos_proposer.specs.Proposer.{greatest_round};
+ghost use Rattle.group_node.specs.Calls.{Does, IsLet, IsLetIn, Saves};
+ghost use Rattle.group_node.specs.Protocol.{NeedsMemory, on_message, row};
+ghost use Rattle.group_node.specs.ProposerRows.{on_campaign};
+ghost use Rattle.group_node.specs.Tick.{on_tick};
+ghost use Rattle.group_node.specs.WaitingKeys.{without_read};
 
 use crate::config::Config;
 use crate::fault::{NodeFault, fault_of};
-use crate::laws::what_goes_out_fits;
-use crate::waiting::{MOST_WAITING, Waiting};
+use crate::laws::{rows_fit, what_goes_out_fits};
+use crate::outbox::Outbox;
+use crate::waiting_keys::{MOST_WAITING, Waiting};
 use paxos_acceptor::{Acceptor, Me, Store};
 use paxos_learner::{KeySet, Learner};
-use paxos_msg::{Ballot, Characters, Record, Value};
+use paxos_msg::{Ballot, BodyView, Characters, Record, Value, View};
 use paxos_proposer::Proposer;
 use std::alloc::Global;
 use std::marker::Model;
@@ -57,11 +66,11 @@ impl<S: Store> Model for Protocol<S> {
     ghost coded = { Prim.hlevel (codes, learner_code) };
 
     ghost view = { λ p. record {
-      rules = record {
+      known = record {
         me = p.me;
         kept = p.acceptor.kept;
         learner = p.learner;
-        proposer = option_map (λ q. q.rules) p.proposer;
+        proposer = option_map (λ q. q.known) p.proposer;
         remembered = p.remembered;
         offered = p.offered.keys;
         waiting = p.waiting.bytes;
@@ -72,11 +81,11 @@ impl<S: Store> Model for Protocol<S> {
     } };
 
     ghost invariant = { λ p. (p.acceptor.me ≡ p.me) × IsInStep S.honest S.state (record {
-      rules = record {
+      known = record {
         me = p.me;
         kept = p.acceptor.kept;
         learner = p.learner;
-        proposer = option_map (λ q. q.rules) p.proposer;
+        proposer = option_map (λ q. q.known) p.proposer;
         remembered = p.remembered;
         offered = p.offered.keys;
         waiting = p.waiting.bytes;
@@ -95,7 +104,8 @@ pub struct StartRefused<S> {
 }
 
 impl<S: Store> Protocol<S> {
-    /// A start over what the store has, whose room is made: it is counted, and then nothing is heard yet.
+    /// A start over what the store has, whose room is made: it is counted, and then nothing is
+    /// heard yet.
     pub(crate) fn begin(
         alloc: Global,
         config: &Config,
@@ -106,18 +116,34 @@ impl<S: Store> Protocol<S> {
         requires open { acceptor.is_closed ≡ false }
         requires spare { acceptor.kept.starts < 4294967295 }
         requires waiting { waiting ≡ record { first = 1; bytes = [] } }
-        ensures rules { IfOk result (λ p. p.rules ≡ (started config.now acceptor.kept).node) }
-        ensures saved { S.honest → IfOk result (λ p. (S.state p.store).stored ≡ changed acceptor.kept Start) }
+        ensures known { IfOk result (λ p. p.known ≡ (on_start config.now acceptor.kept).node) }
+        ensures saved { S.honest
+            → IfOk result (λ p. (S.state p.store).stored ≡ changed acceptor.kept Start) }
         ensures stops { IfOk result (λ p. p.is_stopped ≡ false) }
-        ensures device { S.honest → IfErr result (λ e. e.fault ≡ NodeFault.Store → IsOneOf (S.state e.store).stored acceptor.kept (changed acceptor.kept Start)) }
-        ensures same { S.honest → IfErr result (λ e. e.fault ≢ NodeFault.Store → (S.state e.store).stored ≡ acceptor.kept) }
-        ensures plan { IfErr result (λ e. e.fault ≢ NodeFault.Store → (S.state e.store).plan ≡ (S.state acceptor.store).plan) }
-        ensures used_up { IfErr result (λ e. e.fault ≡ NodeFault.Store → (S.state e.store).plan ≡ None) }
-        ensures unplanned { IfOk result (λ p. ((S.state acceptor.store).plan ≡ None) × ((S.state p.store).plan ≡ None)) }
-        ensures told { S.honest → S.fails_at_will → IfErr result (λ e. e.fault ≡ NodeFault.Store → FailsAsTold (S.state acceptor.store).plan acceptor.kept (changed acceptor.kept Start) (S.state e.store).stored) }
-        ensures quiet { IfOk result (λ p. (S.state p.store).faults ≡ (S.state acceptor.store).faults) }
-        ensures cause { IfErr result (λ e. HasCause (e.fault ≡ NodeFault.Store) (S.state acceptor.store).faults (S.state e.store).faults) }
-        ensures others { IfErr result (λ e. (e.fault ≡ NodeFault.Memory) ⊎ (e.fault ≡ NodeFault.Store)) }
+        ensures device { S.honest
+            → IfErr result (λ e. e.fault ≡ NodeFault.Store
+            → IsOneOf (S.state e.store).stored acceptor.kept (changed acceptor.kept Start)) }
+        ensures same { S.honest
+            → IfErr result (λ e. e.fault ≢ NodeFault.Store
+            → (S.state e.store).stored ≡ acceptor.kept) }
+        ensures plan { IfErr result
+            (λ e. e.fault ≢ NodeFault.Store
+            → (S.state e.store).plan ≡ (S.state acceptor.store).plan) }
+        ensures used_up { IfErr result
+            (λ e. e.fault ≡ NodeFault.Store → (S.state e.store).plan ≡ None) }
+        ensures unplanned { IfOk result
+            (λ p. ((S.state acceptor.store).plan ≡ None) × ((S.state p.store).plan ≡ None)) }
+        ensures told { S.honest → S.fails_at_will
+            → IfErr result (λ e. e.fault ≡ NodeFault.Store
+            → FailsAsTold (S.state acceptor.store).plan acceptor.kept (changed acceptor.kept Start)
+            (S.state e.store).stored) }
+        ensures quiet { IfOk result
+            (λ p. (S.state p.store).faults ≡ (S.state acceptor.store).faults) }
+        ensures cause { IfErr result
+            (λ e. HasCause (e.fault ≡ NodeFault.Store) (S.state acceptor.store).faults
+            (S.state e.store).faults) }
+        ensures others { IfErr result
+            (λ e. (e.fault ≡ NodeFault.Memory) ⊎ (e.fault ≡ NodeFault.Store)) }
     {
         what_goes_out_fits();
         let me = config.me();
@@ -142,15 +168,19 @@ impl<S: Store> Protocol<S> {
 
     /// One more key was typed, and waits.
     pub(crate) fn typed(&mut self, byte: u8) -> Result<Value, NodeFault>
-        ensures ok { IfOk result (λ v. v ≡ new_key self.old.rules byte) }
-        ensures rules { IfOk result (λ _. self.new.rules ≡ (at_typed self.old.rules byte).node) }
-        ensures err { IfErr result (λ _. self.new.rules ≡ self.old.rules) }
+        ensures ok { IfOk result (λ v. v ≡ new_key self.old.known byte) }
+        ensures known { IfOk result (λ _. self.new.known ≡ (on_typed self.old.known byte).node) }
+        ensures err { IfErr result (λ _. self.new.known ≡ self.old.known) }
         ensures store { self.new.store ≡ self.old.store }
         ensures stops { self.new.is_stopped ≡ self.old.is_stopped }
         ensures stopped { IsErrOf result NodeFault.Stopped ↔ (self.old.is_stopped ≡ true) }
-        ensures busy { IsErrOf result NodeFault.Busy ↔ ((self.old.is_stopped ≡ false) × (length self.old.rules.waiting ≡ 256)) }
-        ensures spent { IsErrOf result NodeFault.SerialSpent ↔ ((self.old.is_stopped ≡ false) × (length self.old.rules.waiting < 256) × (next_serial self.old.rules ≡ 4294967296)) }
-        ensures others { IfErr result (λ e. (e ≡ NodeFault.Stopped) ⊎ (e ≡ NodeFault.Busy) ⊎ (e ≡ NodeFault.SerialSpent)) }
+        ensures busy { IsErrOf result NodeFault.Busy
+            ↔ ((self.old.is_stopped ≡ false) × (length self.old.known.waiting ≡ 256)) }
+        ensures spent { IsErrOf result NodeFault.SerialSpent
+            ↔ ((self.old.is_stopped ≡ false) × (length self.old.known.waiting < 256)
+            × (next_serial self.old.known ≡ 4294967296)) }
+        ensures others { IfErr result
+            (λ e. (e ≡ NodeFault.Stopped) ⊎ (e ≡ NodeFault.Busy) ⊎ (e ≡ NodeFault.SerialSpent)) }
     {
         what_goes_out_fits();
         if self.acceptor.is_closed() {
@@ -180,19 +210,22 @@ impl<S: Store> Protocol<S> {
 
     /// The acceptor's record, and that all is in its ranges.
     pub(crate) fn record(&self) -> &Record
-        ensures same { result.now ≡ self.now.rules.kept }
-        ensures ranges { IsInRange self.now.rules }
-        ensures stored { S.honest → self.now.is_stopped ≡ false → (S.state self.now.store).stored ≡ self.now.rules.kept }
+        ensures same { result.now ≡ self.now.known.kept }
+        ensures ranges { IsInRange self.now.known }
+        ensures stored { S.honest → self.now.is_stopped ≡ false
+            → (S.state self.now.store).stored ≡ self.now.known.kept }
     {
         self.acceptor.record()
     }
 
     /// Passed on to the store.
     pub(crate) fn fail_next(&mut self, plan: Option<bool>)
-        ensures same { S.honest → (S.state self.new.store).stored ≡ (S.state self.old.store).stored }
+        ensures same { S.honest
+            → (S.state self.new.store).stored ≡ (S.state self.old.store).stored }
         ensures plan { S.fails_at_will → (S.state self.new.store).plan ≡ plan }
         ensures faults { (S.state self.new.store).faults ≡ (S.state self.old.store).faults }
-        ensures rest { (self.new.rules ≡ self.old.rules) × (self.new.is_stopped ≡ self.old.is_stopped) }
+        ensures rest { (self.new.known ≡ self.old.known)
+            × (self.new.is_stopped ≡ self.old.is_stopped) }
     {
         self.acceptor.fail_next(plan);
     }
@@ -212,5 +245,138 @@ impl<S: Store> Protocol<S> {
             alloc: _alloc,
         } = self;
         acceptor.into_store()
+    }
+}
+
+impl<S: Store> Protocol<S> {
+    /// Whether the node takes a call that may send: not where its store failed, nor where the
+    /// outbox has too little room.
+    fn let_in(&self, outbox: &Outbox) -> Result<(), NodeFault>
+        ensures let_in { IsLetIn self.now outbox.now.packets result }
+        ensures others { IfErr result (λ e. (e ≡ NodeFault.Stopped) ⊎ (e ≡ NodeFault.OutboxFull)) }
+    {
+        if self.is_stopped() {
+            return Err(NodeFault::Stopped);
+        }
+        if outbox.free() < 64 {
+            return Err(NodeFault::OutboxFull);
+        }
+        Ok(())
+    }
+
+    /// The row of a message.
+    fn row(&mut self, view: &View<'_>, outbox: &mut Outbox) -> Result<(), NodeFault>
+        requires fits { Fits self.old.known.me.group view.now }
+        requires open { self.old.is_stopped ≡ false }
+        requires empty { outbox.old.packets ≡ [] }
+        ensures does { Does self.old self.new outbox.old.packets outbox.new.packets
+            (row self.old.known view.now.sender view.now.body) result }
+        ensures saves { Saves S.honest S.fails_at_will S.state self.old self.new
+            (row self.old.known view.now.sender view.now.body) result }
+        ensures needs { IsErrOf result NodeFault.Memory
+            → NeedsMemory self.old.known view.now.sender view.now.body }
+        ensures others { IfErr result (λ e. (e ≡ NodeFault.Memory) ⊎ (e ≡ NodeFault.Store)) }
+    {
+        let sender = view.sender;
+        // It tells that an honest store has the node's record.
+        let _record = self.record();
+        match &view.body {
+            BodyView::Prepare { ballot, from } => self.on_prepare(*ballot, *from, outbox),
+            BodyView::Promise { ballot, .. } => self.on_promise(*ballot, view, outbox),
+            BodyView::Accept {
+                ballot,
+                place,
+                value,
+            } => self.on_accept(*ballot, *place, *value, outbox),
+            BodyView::Accepted {
+                ballot,
+                place,
+                value,
+            } => self.on_accepted(sender, *ballot, *place, *value),
+            BodyView::Refused { ballot, promised } => {
+                self.on_refused(*ballot, *promised);
+                Ok(())
+            }
+            BodyView::Submit { key } => self.on_submit(key, outbox),
+            BodyView::Ask { from } => self.on_ask(sender, *from, outbox),
+            BodyView::Tell { place, value } => self.on_tell(*place, *value),
+        }
+    }
+
+    /// Takes a message. Keys that stand below the front after it wait no more.
+    pub(crate) fn on_message(
+        &mut self,
+        view: &View<'_>,
+        outbox: &mut Outbox,
+    ) -> Result<(), NodeFault>
+        requires fits { Fits self.old.known.me.group view.now }
+        ensures does { Does self.old self.new outbox.old.packets outbox.new.packets
+            (on_message self.old.known view.now.sender view.now.body) result }
+        ensures saves { Saves S.honest S.fails_at_will S.state self.old self.new
+            (on_message self.old.known view.now.sender view.now.body) result }
+        ensures needs { IsErrOf result NodeFault.Memory
+            → NeedsMemory self.old.known view.now.sender view.now.body }
+        ensures let_in { IsLetIn self.old outbox.old.packets result }
+        ensures others { IfErr result
+            (λ e. (e ≡ NodeFault.Stopped) ⊎ (e ≡ NodeFault.OutboxFull) ⊎ (e ≡ NodeFault.Memory)
+            ⊎ (e ≡ NodeFault.Store)) }
+    {
+        self.let_in(outbox)?;
+        self.row(view, outbox)?;
+        self.drop_read();
+        Ok(())
+    }
+
+    /// Keys that stand below the front wait no more.
+    fn drop_read(&mut self)
+        ensures known { self.new.known ≡ without_read self.old.known }
+        ensures store { self.new.store ≡ self.old.store }
+        ensures stops { self.new.is_stopped ≡ self.old.is_stopped }
+    {
+        rows_fit();
+        let start = self.acceptor.record().starts;
+        self.waiting.leave_read(&self.learner, self.me.node, start);
+    }
+
+    /// Begins a ballot of its own.
+    pub(crate) fn campaign(&mut self, outbox: &mut Outbox) -> Result<(), NodeFault>
+        ensures does { Does self.old self.new outbox.old.packets outbox.new.packets
+            (on_campaign self.old.known) result }
+        ensures saves { Saves S.honest S.fails_at_will S.state self.old self.new
+            (on_campaign self.old.known) result }
+        ensures let_in { IsLetIn self.old outbox.old.packets result }
+        ensures rounds { IsErrOf result NodeFault.RoundsSpent
+            ↔ (IsLet self.old outbox.old.packets
+            × (greatest_round self.old.known.kept.promised self.old.known.remembered
+            ≡ 4294967295)) }
+        ensures places { IsErrOf result NodeFault.PlacesSpent
+            ↔ (IsLet self.old outbox.old.packets
+            × (greatest_round self.old.known.kept.promised self.old.known.remembered < 4294967295)
+            × (front self.old.known ≡ 65536)) }
+        ensures spare { OnOk result
+            (greatest_round self.old.known.kept.promised self.old.known.remembered < 4294967295) }
+        ensures spare_saved { IsErrOf result NodeFault.Store
+            → greatest_round self.old.known.kept.promised self.old.known.remembered < 4294967295 }
+        ensures others { IfErr result
+            (λ e. (e ≡ NodeFault.Stopped) ⊎ (e ≡ NodeFault.OutboxFull) ⊎ (e ≡ NodeFault.RoundsSpent)
+            ⊎ (e ≡ NodeFault.PlacesSpent) ⊎ (e ≡ NodeFault.Memory) ⊎ (e ≡ NodeFault.Store)) }
+    {
+        self.let_in(outbox)?;
+        self.on_campaign(outbox)
+    }
+
+    /// Asks on, proposes again, submits and asks.
+    pub(crate) fn tick(&mut self, outbox: &mut Outbox) -> Result<(), NodeFault>
+        ensures does { Does self.old self.new outbox.old.packets outbox.new.packets
+            (on_tick self.old.known) result }
+        ensures needs { IsErrOf result NodeFault.Memory
+            → (outbox.old.ready < 43) ⊎ IsSome self.old.known.proposer }
+        ensures store { self.new.store ≡ self.old.store }
+        ensures let_in { IsLetIn self.old outbox.old.packets result }
+        ensures others { IfErr result
+            (λ e. (e ≡ NodeFault.Stopped) ⊎ (e ≡ NodeFault.OutboxFull) ⊎ (e ≡ NodeFault.Memory)) }
+    {
+        self.let_in(outbox)?;
+        self.on_tick(outbox)
     }
 }

@@ -24,17 +24,21 @@ pub(crate) fn propose(
     outbox: &mut Outbox,
 ) -> bool
     requires me { IsMember me }
-    requires own { IsOwnProposer me proposer.old.rules }
+    requires own { IsOwnProposer me proposer.old.known }
     requires value { IfSome offered (IsValue me.group.size) }
-    requires place { IsSome offered → next_of proposer.old.rules ≢ 65536 }
+    requires place { IsSome offered → next_of proposer.old.known ≢ 65536 }
     requires sure { 0 < proposer.old.room }
     requires ready { 0 < outbox.old.ready }
     requires room { length outbox.old.packets < 64 }
-    ensures rules { proposer.new.rules ≡ (propose proposer.old.rules (next_value proposer.old.rules offered) stop).proposer }
-    ensures packets { outbox.new.packets ≡ outbox.old.packets ++ datagrams_of me (accepts_of (propose proposer.old.rules (next_value proposer.old.rules offered) stop).made) }
-    ensures some { IsTrue result → IsSome (next_value proposer.old.rules offered) }
-    ensures none { ¬ IsTrue result → next_value proposer.old.rules offered ≡ None }
-    ensures own { IsOwnProposer me proposer.new.rules }
+    ensures known { proposer.new.known
+        ≡ (propose proposer.old.known (next_value proposer.old.known offered) stop).proposer }
+    ensures packets { outbox.new.packets
+        ≡ outbox.old.packets
+        ++ datagrams_of me (accepts_of
+        (propose proposer.old.known (next_value proposer.old.known offered) stop).made) }
+    ensures some { IsTrue result → IsSome (next_value proposer.old.known offered) }
+    ensures none { ¬ IsTrue result → next_value proposer.old.known offered ≡ None }
+    ensures own { IsOwnProposer me proposer.new.known }
     ensures sure { proposer.old.room ≤ proposer.new.room + 1 }
     ensures ready { outbox.old.ready ≤ outbox.new.ready + 1 }
     ensures few { length outbox.new.packets ≤ length outbox.old.packets + 1 }
@@ -55,18 +59,20 @@ pub(crate) fn propose(
     }
 }
 
-/// Proposes what the proposer gives with nothing offered, at one place after another, at most 16 times. How often it did.
+/// Proposes what the proposer gives with nothing offered, at one place after another, at most 16
+/// times. How often it did.
 pub(crate) fn pump(proposer: &mut Proposer, me: Me, outbox: &mut Outbox) -> u8
     requires me { IsMember me }
-    requires own { IsOwnProposer me proposer.old.rules }
+    requires own { IsOwnProposer me proposer.old.known }
     requires sure { 16 ≤ proposer.old.room }
     requires ready { 16 ≤ outbox.old.ready }
     requires room { length outbox.old.packets + 16 ≤ 64 }
-    ensures rules { proposer.new.rules ≡ (pump 16 proposer.old.rules).proposer }
-    ensures packets { outbox.new.packets ≡ outbox.old.packets ++ datagrams_of me (accepts_of (pump 16 proposer.old.rules).made) }
-    ensures made { result ≡ length (pump 16 proposer.old.rules).made }
+    ensures known { proposer.new.known ≡ (pump 16 proposer.old.known).proposer }
+    ensures packets { outbox.new.packets
+        ≡ outbox.old.packets ++ datagrams_of me (accepts_of (pump 16 proposer.old.known).made) }
+    ensures made { result ≡ length (pump 16 proposer.old.known).made }
     ensures few { result ≤ 16 }
-    ensures own { IsOwnProposer me proposer.new.rules }
+    ensures own { IsOwnProposer me proposer.new.known }
     ensures sure { proposer.old.room ≤ proposer.new.room + 16 }
     ensures ready { outbox.old.ready ≤ outbox.new.ready + 16 }
     ensures room { length outbox.new.packets ≤ length outbox.old.packets + 16 }

@@ -12,12 +12,12 @@ use Rattle.group_world.specs.declared.event.Done.{Done}
 use Rattle.group_world.specs.declared.event.Event.{Event}
 use Rattle.group_world.specs.declared.fault.WorldFault.{WorldFault}
 use Rattle.group_world.specs.declared.fault.WorldFault.TheVariants.{Memory}
-use Rattle.group_world.specs.Goes.{Acts}
+use Rattle.group_world.specs.Goes.{Performs}
 use Rattle.group_world.specs.Refusals.{IsRefused, refusal}
 use Rattle.group_world.specs.Worlds.{World, message_of}
 use Rattle.group_sim.specs.declared.simulation.Halt.{Halt}
 use Rattle.group_sim.specs.declared.simulation.Halt.TheVariants as halt
-use Rattle.group_sim.specs.Moments.{Delivers, Happens, Moment, Shows, Spends}
+use Rattle.group_sim.specs.Moments.{DeliversOne, HappensAt, Moment, Shows, Spends}
 
 -- one item more at most
 pub one_kept : {X Y : Type 0} (o : Option Y) (ys : List Y) (x : X) (xs : List X)
@@ -32,7 +32,7 @@ few_kept h [] = omega arith
 few_kept h (x ∷ xs) = one_kept (h x) (filter_map h xs) x xs (few_kept h xs)
 
 -- an act that leads somewhere is not refused by the world
-pub taken : (w : World) (plan : Option Bool) (a : Act) (d : Done) (v : World) → Acts w plan a d v
+pub taken : (w : World) (plan : Option Bool) (a : Act) (d : Done) (v : World) → Performs w plan a d v
     → refusal w a ≡ None
 taken w plan (Press i byte) d v h = rw (h.2.there, h.2.up) refl
 taken w plan (Deliver k i) d v h =
@@ -53,7 +53,7 @@ refused_for_memory w a f e (inl p) = cc
 refused_for_memory w a f e (inr p) = p.1
 
 pub refused : (number : ℕ) (e : Event) (a b c : Moment) (f : WorldFault)
-    → Happens number e a (Ok tt) b → Happens number e a (Err (halt.Refused f)) c → f ≡ Memory
+    → HappensAt number e a (Ok tt) b → HappensAt number e a (Err (halt.Refused f)) c → f ≡ Memory
 refused number e a b c f h q =
     refused_for_memory a.world e.act f (taken a.world _ e.act h.1 h.0 h.2) q.0
 
@@ -66,8 +66,8 @@ none_left number act a b c (inr p) = λ q. elim q as (λ _. ⊥) [
   | inr more ↦ more.1
 ]
 
-pub too_long : (number k i : ℕ) (to : To) (a b c : Moment) → Delivers number k to i a (Ok tt) b
-    → ¬ Delivers number k to i a (Err halt.TooLong) c
+pub too_long : (number k i : ℕ) (to : To) (a b c : Moment) → DeliversOne number k to i a (Ok tt) b
+    → ¬ DeliversOne number k to i a (Err halt.TooLong) c
 too_long number k i to a b c (inl p) = λ q. elim q as (λ _. ⊥) [
   | inl idle ↦ let e = idle.1.0 in let z : ⊥ = cc in z
   | inr spends ↦ let yes = spends.0 in let no = p.0 in let z : ⊥ = cc in z

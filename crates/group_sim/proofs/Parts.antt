@@ -10,7 +10,7 @@ use Rattle.std.proofs.lemmas.Grind.{flat_map-append}
 use Rattle.std.proofs.lemmas.List.{append-nil, take-append-drop, take_more}
 use Rattle.std.proofs.lemmas.List.Concat.{flat_map-cons}
 use Rattle.group_sim.specs.Groups.{console_text, hex_text, lines_below}
-use Rattle.group_sim.specs.Writing.{AppendsFront, Writes}
+use Rattle.group_sim.specs.Writing.{AppendsFront, WritesText}
 use Rattle.group_sim.proofs.Writing.{failed, front-first, front-second}
 
 -- a text, and then these
@@ -27,14 +27,14 @@ front-of old new a (p ∷ ps) h = front-of old new (a ++ p) ps (front-first old 
 -- an early return at the first part
 pub failed-first : {E : Type 0} (old new : Option (List ℕ)) (r : Result (Unit {0}) E)
     (a : List ℕ) (ps : List (List ℕ)) → IsErr r → AppendsFront old new a
-    → Writes old r new (followed a ps)
+    → WritesText old r new (followed a ps)
 failed-first old new r a ps e h =
     failed old new r (followed a ps) e (front-of old new a ps h)
 
 -- and at a later one, of which the parts before were written
 pub failed-at : {E : Type 0} (old mid new : Option (List ℕ)) (r : Result (Unit {0}) E)
     (a p : List ℕ) (ps : List (List ℕ)) → IsErr r → Appends old mid a → AppendsFront mid new p
-    → Writes old r new (followed (a ++ p) ps)
+    → WritesText old r new (followed (a ++ p) ps)
 failed-at old mid new r a p ps e q h =
     failed-first old new r (a ++ p) ps e (front-second old mid new a p q h)
 
@@ -69,7 +69,7 @@ item-appended f xs i d old mid new less p q =
 pub item-failed : {E : Type 0} (f : ℕ → List ℕ) (xs : List ℕ) (i d : ℕ)
     (old mid new : Option (List ℕ)) (r : Result (Unit {0}) E) → i < length xs → IsErr r
     → Appends old mid (flat_map f (take i xs)) → AppendsFront mid new (f (get_or xs i d))
-    → Writes old r new (flat_map f xs)
+    → WritesText old r new (flat_map f xs)
 item-failed f xs i d old mid new r less e p q =
     let before : List ℕ = flat_map f (take i xs) in
     let with_it : List ℕ = flat_map f (take (i + 1) xs) in
@@ -112,7 +112,7 @@ line-appended line n old mid new p q =
 -- an early return at a line
 pub line-failed : {E : Type 0} (line : ℕ → List ℕ) (i n : ℕ) (old mid new : Option (List ℕ))
     (r : Result (Unit {0}) E) → i < n → IsErr r → Appends old mid (lines_below line i)
-    → AppendsFront mid new (line i) → Writes old r new (lines_below line n)
+    → AppendsFront mid new (line i) → WritesText old r new (lines_below line n)
 line-failed line i n old mid new r less e p q =
     let all : i + 1 + (n - (i + 1)) ≡ n = omega arith in
     let front = lines_front line (i + 1) (n - (i + 1)) in

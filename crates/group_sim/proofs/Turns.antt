@@ -1,34 +1,41 @@
 -- Deeds that are done one after the other.
 use Rattle.std.proofs.Common.{◌≡◌, ℕ, suc, ◌+◌, ◌-◌, ◌<◌, ◌≤◌, Some, Ok, Err, slice_get, add-one, arith, sym, subst}
 use Rattle.group_sim.specs.declared.simulation.Halt.{Halt}
-use Rattle.group_sim.specs.Moments.{AreDone, Deed, Delivers, HaltsAt, InTurn, Moment, Passes}
+use Rattle.group_sim.specs.Moments.{AreDone, Deed, DeliversOne, HaltsAt, InTurn, Moment, PassesOn}
 use Rattle.group_node.specs.Packets.{Datagram}
 
 -- one more is done
-pub one_more : (deed : ℕ → Deed) (first n : ℕ) (a mid b : Moment) → AreDone deed first n a mid → deed (first + n) mid (Ok tt) b → AreDone deed first (n + 1) a b
+pub one_more : (deed : ℕ → Deed) (first n : ℕ) (a mid b : Moment) → AreDone deed first n a mid
+    → deed (first + n) mid (Ok tt) b → AreDone deed first (n + 1) a b
 one_more deed first n a mid b p q = rw (add-one n) (mid, p, q)
 
 -- the one behind them halts
-pub halts_at : (deed : ℕ → Deed) (first n : ℕ) (a mid : Moment) (h : Halt) (b : Moment) → AreDone deed first n a mid → deed (first + n) mid (Err h) b → HaltsAt deed first (first + n) a h b
+pub halts_at : (deed : ℕ → Deed) (first n : ℕ) (a mid : Moment) (h : Halt) (b : Moment) → AreDone deed first n a mid
+    → deed (first + n) mid (Err h) b → HaltsAt deed first (first + n) a h b
 halts_at deed first n a mid h b p q =
     let e : first + n - first ≡ n = omega arith in
     record { before = mid; done = rw e p; after_first = omega arith; halts = q }
 
 -- and it is one of so many
-pub halts_within : (deed : ℕ → Deed) (first n count : ℕ) (a mid : Moment) (h : Halt) (b : Moment) → n < count → AreDone deed first n a mid → deed (first + n) mid (Err h) b
+pub halts_within : (deed : ℕ → Deed) (first n count : ℕ) (a mid : Moment) (h : Halt) (b : Moment) → n < count
+    → AreDone deed first n a mid → deed (first + n) mid (Err h) b
     → (number : ℕ) × (number < first + count) × HaltsAt deed first number a h b
 halts_within deed first n count a mid h b less p q = (first + n, omega arith, halts_at deed first n a mid h b p q)
 
 -- one more message is passed
-pub one_passed : (number size first k : ℕ) (a mid b : Moment) (m : Datagram) → first ≤ k → AreDone (Passes number size) first (k - first) a mid
-    → slice_get mid.world.sent k ≡ Some m → InTurn (Delivers number k m.to) 1 size mid (Ok tt) b → AreDone (Passes number size) first (k + 1 - first) a b
+pub one_passed : (number size first k : ℕ) (a mid b : Moment) (m : Datagram) → first ≤ k
+    → AreDone (PassesOn number size) first (k - first) a mid
+    → slice_get mid.world.sent k ≡ Some m → InTurn (DeliversOne number k m.to) 1 size mid (Ok tt) b
+    → AreDone (PassesOn number size) first (k + 1 - first) a b
 one_passed number size first k a mid b m low p there q =
     let e : k + 1 - first ≡ suc (k - first) = omega arith in
     let at : first + (k - first) ≡ k = omega arith in
-    let P : ℕ → Type 0 = λ j. Passes number size j mid (Ok tt) b in
+    let P : ℕ → Type 0 = λ j. PassesOn number size j mid (Ok tt) b in
     rw e (mid, p, subst P (sym at) (m, there, q))
 
 -- a message at which the script halts
-pub passes_halt : (number size first k : ℕ) (a mid b : Moment) (h : Halt) (m : Datagram) → first ≤ k → AreDone (Passes number size) first (k - first) a mid
-    → slice_get mid.world.sent k ≡ Some m → InTurn (Delivers number k m.to) 1 size mid (Err h) b → HaltsAt (Passes number size) first k a h b
+pub passes_halt : (number size first k : ℕ) (a mid b : Moment) (h : Halt) (m : Datagram) → first ≤ k
+    → AreDone (PassesOn number size) first (k - first) a mid
+    → slice_get mid.world.sent k ≡ Some m → InTurn (DeliversOne number k m.to) 1 size mid (Err h) b
+    → HaltsAt (PassesOn number size) first k a h b
 passes_halt number size first k a mid b h m low p there q = record { before = mid; done = p; after_first = low; halts = (m, there, q) }

@@ -3,7 +3,7 @@ use Rattle.std.proofs.Common.{◌≡◌, ℕ, List, [], ◌++◌, take, drop, le
 use Rattle.std.proofs.lemmas.List.{append-nil, take-append-drop, take_all}
 use Rattle.std.specs.Io.KnownBytes.{Appends, Keeps}
 use Rattle.std.proofs.KnownBytes.{Appends-nil, Appends-trans, Appends-kept}
-use Rattle.group_sim.specs.Writing.{AppendsFront, Writes}
+use Rattle.group_sim.specs.Writing.{AppendsFront, WritesText}
 
 -- of a text all but this rest was appended
 pub record IsLeft (old new : Option (List ℕ)) (text rest : List ℕ) : Type 0 where
@@ -15,7 +15,8 @@ pub left-all : (known : Option (List ℕ)) (text : List ℕ) → IsLeft known kn
 left-all known text = record { front = []; whole = refl; appends = Appends-nil known }
 
 -- a write that took the front of what was left leaves less
-pub left-less : (old mid new : Option (List ℕ)) (text rest : List ℕ) (n : ℕ) → IsLeft old mid text rest → Appends mid new (take n rest) → IsLeft old new text (drop n rest)
+pub left-less : (old mid new : Option (List ℕ)) (text rest : List ℕ) (n : ℕ) → IsLeft old mid text rest
+    → Appends mid new (take n rest) → IsLeft old new text (drop n rest)
 left-less old mid new text rest n h p = record {
   front = h.front ++ take n rest;
   whole = h.whole ∙ ap (λ l. h.front ++ l) (sym (take-append-drop n rest)) ∙ sym (append_assoc h.front (take n rest) (drop n rest));
@@ -54,7 +55,8 @@ front-first old new a b h = record {
 }
 
 -- the first, and a front of the second
-pub front-second : (old mid new : Option (List ℕ)) (a b : List ℕ) → Appends old mid a → AppendsFront mid new b → AppendsFront old new (a ++ b)
+pub front-second : (old mid new : Option (List ℕ)) (a b : List ℕ) → Appends old mid a → AppendsFront mid new b
+    → AppendsFront old new (a ++ b)
 front-second old mid new a b p h = record {
   front = a ++ h.front;
   rest = h.rest;
@@ -63,11 +65,13 @@ front-second old mid new a b p h = record {
 }
 
 -- what an early return leaves
-pub failed : {E : Type 0} (old new : Option (List ℕ)) (r : Result (Unit {0}) E) (text : List ℕ) → IsErr r → AppendsFront old new text → Writes old r new text
+pub failed : {E : Type 0} (old new : Option (List ℕ)) (r : Result (Unit {0}) E) (text : List ℕ) → IsErr r
+    → AppendsFront old new text → WritesText old r new text
 failed old new (Ok x) text e h = absurd (let z : ⊥ = cc in z)
 failed old new (Err x) text e h = h
 
 -- a text that another follows
-pub appended : {E : Type 0} (old mid new : Option (List ℕ)) (r : Result (Unit {0}) E) (a b : List ℕ) → Appends old mid a → Writes mid r new b → Writes old r new (a ++ b)
+pub appended : {E : Type 0} (old mid new : Option (List ℕ)) (r : Result (Unit {0}) E) (a b : List ℕ) → Appends old mid a
+    → WritesText mid r new b → WritesText old r new (a ++ b)
 appended old mid new (Ok x) a b p h = Appends-trans old mid new a b p h
 appended old mid new (Err x) a b p h = front-second old mid new a b p h

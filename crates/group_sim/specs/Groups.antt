@@ -8,7 +8,7 @@ use Rattle.std.specs.Option.{option_or}
 use Rattle.paxos_msg.specs.declared.ballot.Ballot.{Ballot}
 use Rattle.paxos_msg.specs.declared.value.Value.{Value}
 use Rattle.paxos_msg.specs.declared.value.Value.TheVariants.{Noop, Keys}
-use Rattle.group_node.specs.Node.{front}
+use Rattle.group_node.specs.Known.{front}
 use Rattle.group_world.specs.Worlds.{Running, World, member_at}
 use Rattle.group_sim.specs.Texts.{node_at}
 
@@ -46,11 +46,11 @@ value_text (Keys node start first bytes) = keys_text node start first bytes
 -- whether a node is up, and its known front if it is
 abbrev pub known_text : Option Running → List ℕ
 known_text None = codes " down known -"
-known_text (Some q) = numbered (codes " up known ") (front q.rules)
+known_text (Some q) = numbered (codes " up known ") (front q.known)
 
 -- the ballot that the stored record of node i has promised
-abbrev pub promised_at : World → ℕ → Option Ballot
-promised_at w i = option_and_then (λ m. m.kept.promised) (member_at w.members i)
+abbrev pub known_promise : World → ℕ → Option Ballot
+known_promise w i = option_and_then (λ m. m.kept.promised) (member_at w.members i)
 
 abbrev pub promised_text : Option Ballot → List ℕ
 promised_text None = codes " promised -"
@@ -67,14 +67,14 @@ console_text (b ∷ bs) = codes " console " ++ hex_text (b ∷ bs)
 -- the line of node i
 abbrev pub node_line : World → ℕ → List ℕ
 node_line w i =
-    numbered (codes "node ") i ++ known_text (node_at w i) ++ promised_text (promised_at w i)
+    numbered (codes "node ") i ++ known_text (node_at w i) ++ promised_text (known_promise w i)
     ++ console_text (console_at w i) ++ codes "\n"
 
 -- ---- a place
 
 -- what node i has learned at a place, if it is up
 abbrev pub learned_by : World → ℕ → ℕ → Option Value
-learned_by w i place = option_and_then (λ q. get q.rules.learner.learned place) (node_at w i)
+learned_by w i place = option_and_then (λ q. get q.known.learner.learned place) (node_at w i)
 
 -- the same of the first of the nodes 1 to n that has learned a value there
 abbrev pub learned_at : World → ℕ → ℕ → Option Value

@@ -17,7 +17,7 @@ use Rattle.group_world.specs.declared.script.Line.{Line}
 use Rattle.group_world.specs.declared.script.Line.TheVariants as line
 use Rattle.group_world.specs.Goes.{Goes}
 use Rattle.group_world.specs.Refusals.{IsRefused}
-use Rattle.group_world.specs.Worlds.{Running, World}
+use Rattle.group_world.specs.Worlds.{Running, World, kept_event}
 use Rattle.machine_run.specs.declared.run.RunIo.{RunIo}
 use Rattle.machine_run.specs.declared.run.RunIo.TheVariants.{Write}
 use Rattle.group_sim.specs.declared.simulation.Halt.{Halt}
@@ -25,11 +25,11 @@ use Rattle.group_sim.specs.declared.simulation.Halt.TheVariants as halt
 use Rattle.group_sim.specs.declared.simulation.Simulation.{Simulation}
 use Rattle.group_sim.specs.declared.simulation.Stopped.{Stopped}
 use Rattle.group_sim.specs.Writing.{AppendsFront}
-use Rattle.group_sim.specs.Texts.{node_at, told}
+use Rattle.group_sim.specs.Texts.{node_at, event_text}
 use Rattle.group_sim.specs.Groups.{group_text}
 
--- a moment of a script: the group, how many messages its settles have passed, how many deliveries the settle may still make, and what the
--- writer holds, where that is known
+-- a moment of a script: the group, how many messages its settles have passed, how many deliveries
+-- the settle may still make, and what the writer holds, where that is known
 pub record Moment : Type 0 where
   pub world : World
   pub passed : ℕ
@@ -49,10 +49,12 @@ Deed = Moment → Result (Unit {0}) Halt → Moment → Type 0
 -- the first n of the deeds, of which the first has this number, are done
 abbrev pub AreDone : (ℕ → Deed) → ℕ → ℕ → Moment → Moment → Type 0
 AreDone deed first zero a b = b ≡ a
-AreDone deed first (suc n) a b = (mid : Moment) × AreDone deed first n a mid × deed (first + n) mid (Ok tt) b
+AreDone deed first (suc n) a b =
+    (mid : Moment) × AreDone deed first n a mid × deed (first + n) mid (Ok tt) b
 
 -- the deed of that number is the first that halts, and so
-pub record HaltsAt (deed : ℕ → Deed) (first number : ℕ) (a : Moment) (h : Halt) (b : Moment) : Type 0 where
+pub record HaltsAt (deed : ℕ → Deed) (first number : ℕ) (a : Moment) (h : Halt)
+    (b : Moment) : Type 0 where
   pub before : Moment
   pub done : AreDone deed first (number - first) a before
   pub after_first : first ≤ number
@@ -61,21 +63,23 @@ pub record HaltsAt (deed : ℕ → Deed) (first number : ℕ) (a : Moment) (h : 
 -- n deeds are done, one after the other, up to the first that halts
 abbrev pub InTurn : (ℕ → Deed) → ℕ → ℕ → Deed
 InTurn deed first n a (Ok x) b = AreDone deed first n a b
-InTurn deed first n a (Err h) b = (number : ℕ) × (number < first + n) × HaltsAt deed first number a h b
+InTurn deed first n a (Err h) b =
+    (number : ℕ) × (number < first + n) × HaltsAt deed first number a h b
 
 -- one deed, and then another, unless the first halts
 abbrev pub Then : Deed → Deed → Deed
 Then first second a (Ok x) b = (mid : Moment) × first a (Ok tt) mid × second mid (Ok tt) b
-Then first second a (Err h) b = first a (Err h) b ⊎ ((mid : Moment) × first a (Ok tt) mid × second mid (Err h) b)
+Then first second a (Err h) b =
+    first a (Err h) b ⊎ ((mid : Moment) × first a (Ok tt) mid × second mid (Err h) b)
 
 -- nothing is done
-abbrev pub IsIdle : Deed
-IsIdle a r b = (r ≡ Ok tt) × (b ≡ a)
+abbrev pub DoesNothing : Deed
+DoesNothing a r b = (r ≡ Ok tt) × (b ≡ a)
 
 -- ---- an event
 
 -- from a moment to another only this world came, and this text was written
-pub record Leaves (a : Moment) (world : World) (text : List ℕ) (b : Moment) : Type 0 where
+pub record LeavesWorld (a : Moment) (world : World) (text : List ℕ) (b : Moment) : Type 0 where
   pub world_is : b.world ≡ world
   pub passed : b.passed ≡ a.passed
   pub left : b.left ≡ a.left
@@ -88,16 +92,17 @@ pub record LeavesFront (a : Moment) (world : World) (text : List ℕ) (b : Momen
   pub left : b.left ≡ a.left
   pub written : AppendsFront a.written b.written text
 
--- An event of a line happens, and what its node refuses is written; or the world refuses it, and nothing has changed.
-abbrev pub Happens : ℕ → Event → Deed
-Happens number e a (Ok x) b = (world : World) × (done : Done) × Goes a.world e done world × Leaves a world (told number done) b
-Happens number e a (Err (halt.Refused f)) b = IsRefused a.world e.act f × (b ≡ a)
-Happens number e a (Err halt.TooLong) b = ⊥
-Happens number e a (Err halt.Unwritten) b = (world : World) × (done : Done) × Goes a.world e done world × LeavesFront a world (told number done) b
-
--- an act of a settle, whose save, if it makes one, is kept
-abbrev pub kept : Act → Event
-kept act = record { act = act; save = Kept }
+-- An event of a line happens, and what its node refuses is written; or the world refuses it, and
+-- nothing has changed.
+abbrev pub HappensAt : ℕ → Event → Deed
+HappensAt number e a (Ok x) b =
+    (world : World) × (done : Done) × Goes a.world e done world
+    × LeavesWorld a world (event_text number done) b
+HappensAt number e a (Err (halt.Refused f)) b = IsRefused a.world e.act f × (b ≡ a)
+HappensAt number e a (Err halt.TooLong) b = ⊥
+HappensAt number e a (Err halt.Unwritten) b =
+    (world : World) × (done : Done) × Goes a.world e done world
+    × LeavesFront a world (event_text number done) b
 
 -- ---- a settle
 
@@ -114,77 +119,90 @@ deliveries = 10000
 abbrev pub steps : ℕ
 steps = 1000
 
--- a delivery, which is one of those that the settle may still make; where none is left the settle is too long
+-- a delivery, which is one of those that the settle may still make; where none is left the settle
+-- is too long
 abbrev pub Spends : ℕ → Act → Deed
 Spends number act a r b =
-    ((a.left ≡ 0) × (r ≡ Err halt.TooLong) × (b ≡ a)) ⊎ ((0 < a.left) × Happens number (kept act) (record a { left = a.left - 1 }) r b)
+    ((a.left ≡ 0) × (r ≡ Err halt.TooLong) × (b ≡ a))
+    ⊎ ((0 < a.left) × HappensAt number (kept_event act) (record a { left = a.left - 1 }) r b)
 
 -- message k is delivered to node i, if it is meant for it and it is up
-abbrev pub Delivers : ℕ → ℕ → To → ℕ → Deed
-Delivers number k to i a r b =
-    ((is_meant to i && is_some (node_at a.world i) ≡ false) × IsIdle a r b)
+abbrev pub DeliversOne : ℕ → ℕ → To → ℕ → Deed
+DeliversOne number k to i a r b =
+    ((is_meant to i && is_some (node_at a.world i) ≡ false) × DoesNothing a r b)
     ⊎ ((is_meant to i && is_some (node_at a.world i) ≡ true) × Spends number (Deliver k i) a r b)
 
 -- message k is delivered to those whom it is meant for and who are up, in ascending order
-abbrev pub Passes : ℕ → ℕ → ℕ → Deed
-Passes number size k a r b = (message : Datagram) × (slice_get a.world.sent k ≡ Some message) × InTurn (Delivers number k message.to) 1 size a r b
+abbrev pub PassesOn : ℕ → ℕ → ℕ → Deed
+PassesOn number size k a r b =
+    (message : Datagram) × (slice_get a.world.sent k ≡ Some message)
+    × InTurn (DeliversOne number k message.to) 1 size a r b
 
--- the messages that no settle has passed, and those that they cause, in the order in which they were sent, until there are no more
+-- the messages that no settle has passed, and those that they cause, in the order in which they
+-- were sent, until there are no more
 abbrev pub DeliversAll : ℕ → ℕ → Deed
-DeliversAll number size a (Ok x) b = (n : ℕ) × (mid : Moment) × AreDone (Passes number size) a.passed n a mid
+DeliversAll number size a (Ok x) b =
+    (n : ℕ) × (mid : Moment) × AreDone (PassesOn number size) a.passed n a mid
     × (length mid.world.sent ≤ a.passed + n) × (b ≡ record mid { passed = a.passed + n })
-DeliversAll number size a (Err h) b = (k : ℕ) × HaltsAt (Passes number size) a.passed k a h b
+DeliversAll number size a (Err h) b = (k : ℕ) × HaltsAt (PassesOn number size) a.passed k a h b
 
 -- how many bytes wait at a node
 abbrev pub waiting : Option Running → ℕ
 waiting None = 0
-waiting (Some q) = length (unreleased_of (input q.rules) q.progress)
+waiting (Some q) = length (unreleased_of (input q.known) q.progress)
 
 -- node i releases all its output that waits
 abbrev pub ReleasesAll : ℕ → ℕ → Deed
-ReleasesAll number i a r b = InTurn (λ k. Happens number (kept (Release i))) 0 (waiting (node_at a.world i)) a r b
+ReleasesAll number i a r b =
+    InTurn (λ k. HappensAt number (kept_event (Release i))) 0 (waiting (node_at a.world i)) a r b
 
 -- node i, if it is up, makes its steps and releases all its output that waits
 abbrev pub Plays : ℕ → ℕ → Deed
 Plays number i a r b =
-    ((is_some (node_at a.world i) ≡ false) × IsIdle a r b)
-    ⊎ ((is_some (node_at a.world i) ≡ true) × Then (Happens number (kept (Run i steps))) (ReleasesAll number i) a r b)
+    ((is_some (node_at a.world i) ≡ false) × DoesNothing a r b)
+    ⊎ ((is_some (node_at a.world i) ≡ true)
+    × Then (HappensAt number (kept_event (Run i steps))) (ReleasesAll number i) a r b)
 
--- all messages are delivered, and then each node that is up makes its steps and releases all, in ascending order
+-- all messages are delivered, and then each node that is up makes its steps and releases all, in
+-- ascending order
 abbrev pub Settles : ℕ → ℕ → Deed
-Settles number size a r b = Then (DeliversAll number size) (InTurn (Plays number) 1 size) (record a { left = deliveries }) r b
+Settles number size a r b =
+    Then (DeliversAll number size) (InTurn (Plays number) 1 size)
+    (record a { left = deliveries }) r b
 
 -- ---- a script
 
 -- the text of a group of this size is written, and nothing else has changed
 abbrev pub Shows : ℕ → Deed
-Shows size a (Ok x) b = Leaves a a.world (group_text a.world size) b
+Shows size a (Ok x) b = LeavesWorld a a.world (group_text a.world size) b
 Shows size a (Err (halt.Refused f)) b = ⊥
 Shows size a (Err halt.TooLong) b = ⊥
 Shows size a (Err halt.Unwritten) b = LeavesFront a a.world (group_text a.world size) b
 
 -- what the line of this number says is done
 abbrev pub Says : ℕ → ℕ → Line → Deed
-Says size number (line.Act e) = Happens number e
+Says size number (line.Act e) = HappensAt number e
 Says size number line.Settle = Settles number size
 Says size number line.Show = Shows size
 
 -- the line of this number, which is the item `number - 2` of the lines, is done
 abbrev pub LineIsDone : ℕ → List Line → ℕ → Deed
-LineIsDone size lines number a r b = (said : Line) × (slice_get lines (number - 2) ≡ Some said) × Says size number said a r b
+LineIsDone size lines number a r b =
+    (said : Line) × (slice_get lines (number - 2) ≡ Some said) × Says size number said a r b
 
 -- before the first event of a script, with what the writer holds
 abbrev pub first_moment : World → Option (List ℕ) → Moment
 first_moment w written = record { world = w; passed = 0; left = 0; written = written }
 
 -- all lines of a script were done, one after the other, and the writer holds this
-pub record IsDone (w : World) (lines : List Line) (old new : Option (List ℕ)) : Type 0 where
+pub record IsScriptDone (w : World) (lines : List Line) (old new : Option (List ℕ)) : Type 0 where
   pub end : Moment
   pub done : AreDone (LineIsDone w.group.size lines) 2 (length lines) (first_moment w old) end
   pub written : end.written ≡ new
 
 -- a script was done up to the line of this number, which halts so, and the writer holds this
-pub record IsHalted (w : World) (lines : List Line) (number : ℕ) (h : Halt) (old new : Option (List ℕ)) : Type 0 where
+pub record IsHalted (w : World) (lines : List Line) (number : ℕ) (h : Halt)
+    (old new : Option (List ℕ)) : Type 0 where
   pub end : Moment
   pub halted : HaltsAt (LineIsDone w.group.size lines) 2 number (first_moment w old) h end
   pub few : number < 2 + length lines
@@ -196,11 +214,13 @@ halt_of (Some f) = halt.Refused f
 halt_of None = halt.TooLong
 
 -- what comes of a script that halts at a line
-abbrev pub answer_of : ℕ → Halt → Result (Option Stopped) RunIo
-answer_of number (halt.Refused f) = Ok (Some (record { line = number; fault = Some f }))
-answer_of number halt.TooLong = Ok (Some (record { line = number; fault = None }))
-answer_of number halt.Unwritten = Err Write
+abbrev pub halt_answer : ℕ → Halt → Result (Option Stopped) RunIo
+halt_answer number (halt.Refused f) = Ok (Some (record { line = number; fault = Some f }))
+halt_answer number halt.TooLong = Ok (Some (record { line = number; fault = None }))
+halt_answer number halt.Unwritten = Err Write
 
 -- there is no group at line 1: none of this size, or no memory for it
 abbrev pub IsNoGroup : ℕ → ℕ → Option WorldFault → Type 0
-IsNoGroup size number f = (number ≡ 1) × (((f ≡ Some fault.Size) × ¬ IsSize size) ⊎ ((f ≡ Some fault.Memory) × IsSize size))
+IsNoGroup size number f =
+    (number ≡ 1) × (((f ≡ Some fault.Size) × ¬ IsSize size)
+    ⊎ ((f ≡ Some fault.Memory) × IsSize size))

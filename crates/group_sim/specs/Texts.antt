@@ -13,10 +13,10 @@ abbrev pub refusal_text : ℕ → NodeFault → List ℕ
 refusal_text line f = codes "line " ++ decimal line ++ codes " node " ++ code_of f ++ codes "\n"
 
 -- what is written of an event of this line
-abbrev pub told : ℕ → Done → List ℕ
-told line (Refused f) = refusal_text line f
-told line Applied = []
-told line Fell = []
+abbrev pub event_text : ℕ → Done → List ℕ
+event_text line (Refused f) = refusal_text line f
+event_text line Applied = []
+event_text line Fell = []
 
 -- ---- nodes
 

@@ -10,5 +10,7 @@ pub record AppendsFront (old new : Option (List ℕ)) (text : List ℕ) : Type 0
   pub appends : Appends old new front
 
 -- the text was appended, or, where a write failed, a front of it
-abbrev pub Writes : {E : Type 0} → Option (List ℕ) → Result (Unit {0}) E → Option (List ℕ) → List ℕ → Type 0
-Writes old r new text = MatchResult r (λ _. Appends old new text) (λ _. AppendsFront old new text)
+abbrev pub WritesText : {E : Type 0} → Option (List ℕ) → Result (Unit {0}) E → Option (List ℕ)
+    → List ℕ → Type 0
+WritesText old r new text =
+    MatchResult r (λ _. Appends old new text) (λ _. AppendsFront old new text)

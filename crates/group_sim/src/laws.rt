@@ -6,16 +6,17 @@ ghost use Rattle.group_world.specs.declared.fault.WorldFault.{WorldFault};
 ghost use Rattle.group_world.specs.declared.fault.WorldFault.TheVariants.{Memory};
 ghost use Rattle.group_sim.specs.declared.simulation.Halt.{Halt};
 ghost use Rattle.group_sim.specs.declared.simulation.Halt.TheVariants as halt;
-ghost use Rattle.group_sim.specs.Moments.{Delivers, Happens, Moment, Shows};
+ghost use Rattle.group_sim.specs.Moments.{DeliversOne, HappensAt, Moment, Shows};
 
 /// What halts could not have been done. An event that can happen is refused only where memory runs
 /// out. A delivery for which a settle is too long can't be made. A `show` halts only where a write
 /// fails.
 pub fn halts_have_a_cause()
-    ensures refused { (number : ℕ) (e : Event) (a b c : Moment) (f : WorldFault) →
-        Happens number e a (Ok tt) b → Happens number e a (Err (halt.Refused f)) c → f ≡ Memory }
+    ensures refused { (number : ℕ) (e : Event) (a b c : Moment) (f : WorldFault)
+        → HappensAt number e a (Ok tt) b → HappensAt number e a (Err (halt.Refused f)) c
+        → f ≡ Memory }
     ensures too_long { (number k i : ℕ) (to : To) (a b c : Moment) →
-        Delivers number k to i a (Ok tt) b → ¬ Delivers number k to i a (Err halt.TooLong) c }
+        DeliversOne number k to i a (Ok tt) b → ¬ DeliversOne number k to i a (Err halt.TooLong) c }
     ensures shown { (size : ℕ) (a b : Moment) (h : Halt) → Shows size a (Err h) b →
         h ≡ halt.Unwritten }
 {}

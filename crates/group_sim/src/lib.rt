@@ -1,7 +1,7 @@
 //! Scripts that happen to a group in memory, and the group as text.
 //!
-//! `sim_file` does the work of the command `sim`: it reads a code file and a script, and `sim` lets the script happen to a group that runs
-//! the program.
+//! `sim_file` does the work of the command `sim`: it reads a code file and a script, and `sim` lets
+//! the script happen to a group that runs the program.
 #![tactic(auto)]
 
 pub mod laws;

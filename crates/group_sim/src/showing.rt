@@ -2,23 +2,21 @@
 ghost use Rattle.std.specs.Prelude.{◌≡◌, Some};
 ghost use Rattle.group_sim.specs.Groups.{ballot_text, console_at, console_text, group_text};
 ghost use Rattle.group_sim.specs.Groups.{keys_text, known_text, learned_at, learned_by, node_line};
-ghost use Rattle.group_sim.specs.Groups.{node_lines, place_line, place_lines, promised_at};
+ghost use Rattle.group_sim.specs.Groups.{node_lines, place_line, place_lines, known_promise};
 ghost use Rattle.group_sim.specs.Groups.{promised_text, value_text};
 ghost use Rattle.group_sim.specs.Texts.{node_at};
-ghost use Rattle.group_sim.specs.Writing.{Writes};
+ghost use Rattle.group_sim.specs.Writing.{WritesText};
 
 use crate::text::{put, put_decimal, put_hex, put_number};
 use group_world::World;
 use machine_run::WriteFault;
-use paxos_msg::{Ballot, Value};
+use paxos_msg::{Ballot, PLACES, Value};
 use std::io::Write;
-
-/// How many places there are.
-const PLACES: u32 = 65_536;
 
 /// Writes a ballot.
 fn write_ballot<W: Write>(writer: &mut W, ballot: Ballot) -> Result<(), WriteFault>
-    ensures { Writes (W.contents writer.old) result (W.contents writer.new) (ballot_text ballot) }
+    ensures { WritesText (W.contents writer.old) result (W.contents writer.new)
+        (ballot_text ballot) }
 {
     put_decimal(writer, ballot.round as u64)?;
     put_number(writer, b".", ballot.node as u64)
@@ -32,7 +30,7 @@ fn write_keys<W: Write>(
     first: u32,
     bytes: &[u8],
 ) -> Result<(), WriteFault>
-    ensures { Writes (W.contents writer.old) result (W.contents writer.new)
+    ensures { WritesText (W.contents writer.old) result (W.contents writer.new)
         (keys_text node start first bytes.now) }
 {
     put_number(writer, b"key ", node as u64)?;
@@ -44,7 +42,7 @@ fn write_keys<W: Write>(
 
 /// Writes a value.
 fn write_value<W: Write>(writer: &mut W, value: Value) -> Result<(), WriteFault>
-    ensures { Writes (W.contents writer.old) result (W.contents writer.new) (value_text value) }
+    ensures { WritesText (W.contents writer.old) result (W.contents writer.new) (value_text value) }
 {
     match value {
         Value::Noop => put(writer, b"noop"),
@@ -59,7 +57,7 @@ fn write_value<W: Write>(writer: &mut W, value: Value) -> Result<(), WriteFault>
 
 /// Writes whether a node is up, and its known front if it is.
 fn write_known<W: Write>(writer: &mut W, world: &World<'_>, node: u8) -> Result<(), WriteFault>
-    ensures { Writes (W.contents writer.old) result (W.contents writer.new)
+    ensures { WritesText (W.contents writer.old) result (W.contents writer.new)
         (known_text (node_at world.now node)) }
 {
     match world.node(node) {
@@ -70,7 +68,7 @@ fn write_known<W: Write>(writer: &mut W, world: &World<'_>, node: u8) -> Result<
 
 /// The ballot that a node's stored record has promised.
 fn promised(world: &World<'_>, node: u8) -> Option<Ballot>
-    ensures { result ≡ promised_at world.now node }
+    ensures { result ≡ known_promise world.now node }
 {
     match world.record(node) {
         None => None,
@@ -80,7 +78,7 @@ fn promised(world: &World<'_>, node: u8) -> Option<Ballot>
 
 /// Writes what a node has promised.
 fn write_promised<W: Write>(writer: &mut W, promised: Option<Ballot>) -> Result<(), WriteFault>
-    ensures { Writes (W.contents writer.old) result (W.contents writer.new)
+    ensures { WritesText (W.contents writer.old) result (W.contents writer.new)
         (promised_text promised) }
 {
     match promised {
@@ -104,7 +102,7 @@ fn console<'w>(world: &'w World<'_>, node: u8) -> &'w [u8]
 
 /// Writes what a console has shown.
 fn write_console<W: Write>(writer: &mut W, console: &[u8]) -> Result<(), WriteFault>
-    ensures { Writes (W.contents writer.old) result (W.contents writer.new)
+    ensures { WritesText (W.contents writer.old) result (W.contents writer.new)
         (console_text console.now) }
 {
     if console.is_empty() {
@@ -116,7 +114,7 @@ fn write_console<W: Write>(writer: &mut W, console: &[u8]) -> Result<(), WriteFa
 
 /// Writes the line of a node.
 fn write_node<W: Write>(writer: &mut W, world: &World<'_>, node: u8) -> Result<(), WriteFault>
-    ensures { Writes (W.contents writer.old) result (W.contents writer.new)
+    ensures { WritesText (W.contents writer.old) result (W.contents writer.new)
         (node_line world.now node) }
 {
     put_number(writer, b"node ", node as u64)?;
@@ -128,7 +126,7 @@ fn write_node<W: Write>(writer: &mut W, world: &World<'_>, node: u8) -> Result<(
 
 /// Writes a line for each node.
 fn write_nodes<W: Write>(writer: &mut W, world: &World<'_>, size: u8) -> Result<(), WriteFault>
-    ensures { Writes (W.contents writer.old) result (W.contents writer.new)
+    ensures { WritesText (W.contents writer.old) result (W.contents writer.new)
         (node_lines world.now size) }
 {
     for before in 0..size {
@@ -160,7 +158,7 @@ fn learned(world: &World<'_>, size: u8, place: u32) -> Option<Value>
 
 /// Writes the line of a place at which this value is learned.
 fn write_learned<W: Write>(writer: &mut W, place: u32, value: Value) -> Result<(), WriteFault>
-    ensures { Writes (W.contents writer.old) result (W.contents writer.new)
+    ensures { WritesText (W.contents writer.old) result (W.contents writer.new)
         (place_line place (Some value)) }
 {
     put_number(writer, b"place ", place as u64)?;
@@ -175,7 +173,7 @@ fn write_place<W: Write>(
     place: u32,
     learned: Option<Value>,
 ) -> Result<(), WriteFault>
-    ensures { Writes (W.contents writer.old) result (W.contents writer.new)
+    ensures { WritesText (W.contents writer.old) result (W.contents writer.new)
         (place_line place learned) }
 {
     match learned {
@@ -186,7 +184,7 @@ fn write_place<W: Write>(
 
 /// Writes a line for each place at which some node that is up has learned a value.
 fn write_places<W: Write>(writer: &mut W, world: &World<'_>, size: u8) -> Result<(), WriteFault>
-    ensures { Writes (W.contents writer.old) result (W.contents writer.new)
+    ensures { WritesText (W.contents writer.old) result (W.contents writer.new)
         (place_lines world.now size) }
 {
     for place in 0..PLACES {
@@ -198,7 +196,7 @@ fn write_places<W: Write>(writer: &mut W, world: &World<'_>, size: u8) -> Result
 /// Writes a line for each node of a group of this size, one for each learned place, and how many
 /// messages were sent. Where a write fails a front of this text is written.
 pub fn write_group<W: Write>(writer: &mut W, world: &World<'_>, size: u8) -> Result<(), WriteFault>
-    ensures { Writes (W.contents writer.old) result (W.contents writer.new)
+    ensures { WritesText (W.contents writer.old) result (W.contents writer.new)
         (group_text world.now size) }
 {
     write_nodes(writer, world, size)?;

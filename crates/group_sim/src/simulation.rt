@@ -2,10 +2,10 @@
 ghost use Rattle.std.specs.Prelude.{◌≡◌, ◌↔◌, ◌⊎◌, ℕ, ◌+◌, ◌≤◌, is_some, length, IfErr, IfOk, IfSome, IsNone, OnErr};
 ghost use Rattle.group_node.specs.Fault.{code_of};
 ghost use Rattle.group_node.specs.States.{IsSize};
-ghost use Rattle.group_world.specs.Worlds.{begun};
-ghost use Rattle.group_sim.specs.Moments.{Delivers, DeliversAll, Happens, InTurn, IsDone, IsHalted, IsNoGroup, Plays, ReleasesAll, Says, Settles, Shows, answer_of, halt_of, is_meant, kept, moment, waiting};
-ghost use Rattle.group_sim.specs.Texts.{node_at, refusal_text, told};
-ghost use Rattle.group_sim.specs.Writing.{Writes};
+ghost use Rattle.group_world.specs.Worlds.{new_world, kept_event};
+ghost use Rattle.group_sim.specs.Moments.{DeliversOne, DeliversAll, HappensAt, InTurn, IsScriptDone, IsHalted, IsNoGroup, Plays, ReleasesAll, Says, Settles, Shows, halt_answer, halt_of, is_meant, moment, waiting};
+ghost use Rattle.group_sim.specs.Texts.{node_at, refusal_text, event_text};
+ghost use Rattle.group_sim.specs.Writing.{WritesText};
 
 use crate::showing::write_group;
 use crate::text::{put, put_number};
@@ -20,7 +20,7 @@ use std::io::Write;
 const DELIVERIES: u32 = 10_000;
 
 /// How many steps each machine makes at the end of a settle, at most.
-const STEPS: u32 = 1_000;
+const SETTLE_STEPS: u32 = 1_000;
 
 /// The line at which a script stopped, and why.
 #[derive(Clone, Copy, Debug, PartialEq, Eq)]
@@ -73,7 +73,8 @@ fn code(fault: NodeFault) -> &'static [u8]
 
 /// Writes what a node refused at a line.
 fn write_refusal<W: Write>(writer: &mut W, line: usize, fault: NodeFault) -> Result<(), WriteFault>
-    ensures { Writes (W.contents writer.old) result (W.contents writer.new) (refusal_text line fault) }
+    ensures { WritesText (W.contents writer.old) result (W.contents writer.new)
+        (refusal_text line fault) }
 {
     put_number(writer, b"line ", line as u64)?;
     put(writer, b" node ")?;
@@ -83,7 +84,8 @@ fn write_refusal<W: Write>(writer: &mut W, line: usize, fault: NodeFault) -> Res
 
 /// Writes what a node refused at a line, if it refused an event.
 fn tell<W: Write>(writer: &mut W, line: usize, done: Done) -> Result<(), WriteFault>
-    ensures { Writes (W.contents writer.old) result (W.contents writer.new) (told line done) }
+    ensures { WritesText (W.contents writer.old) result (W.contents writer.new)
+        (event_text line done) }
 {
     match done {
         Done::Refused(fault) => write_refusal(writer, line, fault),
@@ -126,7 +128,8 @@ impl Simulation<'_> {
     /// An event of the line happens. What its node refuses is written, and the script goes on.
     fn happen<W: Write>(&mut self, writer: &mut W, line: usize, event: &Event) -> Result<(), Halt>
         ensures size { self.new.size ≡ self.old.size }
-        ensures happens { Happens line event.now (moment self.old (W.contents writer.old)) result (moment self.new (W.contents writer.new)) }
+        ensures happens { HappensAt line event.now (moment self.old (W.contents writer.old)) result
+            (moment self.new (W.contents writer.new)) }
     {
         let done = match self.world.apply(event) {
             Ok(done) => done,
@@ -141,7 +144,9 @@ impl Simulation<'_> {
     /// An act of a settle, none of whose saves fails.
     fn go_on<W: Write>(&mut self, writer: &mut W, line: usize, act: Act) -> Result<(), Halt>
         ensures size { self.new.size ≡ self.old.size }
-        ensures happens { Happens line (kept act) (moment self.old (W.contents writer.old)) result (moment self.new (W.contents writer.new)) }
+        ensures happens { HappensAt line (kept_event act)
+            (moment self.old (W.contents writer.old)) result
+            (moment self.new (W.contents writer.new)) }
     {
         let save = Outcome::Kept;
         self.happen(writer, line, &Event { act, save })
@@ -163,7 +168,9 @@ impl Simulation<'_> {
         node: u8,
     ) -> Result<(), Halt>
         ensures size { self.new.size ≡ self.old.size }
-        ensures delivers { Delivers line message to node (moment self.old (W.contents writer.old)) result (moment self.new (W.contents writer.new)) }
+        ensures delivers { DeliversOne line message to node
+            (moment self.old (W.contents writer.old)) result
+            (moment self.new (W.contents writer.new)) }
     {
         if !is_meant_for(to, node) || !self.is_up(node) {
             return Ok(());
@@ -184,7 +191,9 @@ impl Simulation<'_> {
         to: To,
     ) -> Result<(), Halt>
         ensures size { self.new.size ≡ self.old.size }
-        ensures passes { InTurn (Delivers line message to) 1 self.old.size (moment self.old (W.contents writer.old)) result (moment self.new (W.contents writer.new)) }
+        ensures passes { InTurn (DeliversOne line message to) 1 self.old.size
+            (moment self.old (W.contents writer.old)) result
+            (moment self.new (W.contents writer.new)) }
     {
         let size = self.size;
         for before in 0..size {
@@ -195,10 +204,13 @@ impl Simulation<'_> {
         Ok(())
     }
 
-    /// Delivers the messages that no settle has passed, and those that they cause, in the order in which they were sent.
+    /// Delivers the messages that no settle has passed, and those that they cause, in the order in
+    /// which they were sent.
     fn deliver_all<W: Write>(&mut self, writer: &mut W, line: usize) -> Result<(), Halt>
         ensures size { self.new.size ≡ self.old.size }
-        ensures delivers { DeliversAll line self.old.size (moment self.old (W.contents writer.old)) result (moment self.new (W.contents writer.new)) }
+        ensures delivers { DeliversAll line self.old.size
+            (moment self.old (W.contents writer.old)) result
+            (moment self.new (W.contents writer.new)) }
     {
         // Each delivery may cause further messages.
         for message in self.passed..usize::MAX {
@@ -230,7 +242,8 @@ impl Simulation<'_> {
     /// The node releases all its output that waits.
     fn release_all<W: Write>(&mut self, writer: &mut W, line: usize, node: u8) -> Result<(), Halt>
         ensures size { self.new.size ≡ self.old.size }
-        ensures releases { ReleasesAll line node (moment self.old (W.contents writer.old)) result (moment self.new (W.contents writer.new)) }
+        ensures releases { ReleasesAll line node (moment self.old (W.contents writer.old)) result
+            (moment self.new (W.contents writer.new)) }
     {
         let waiting = self.waiting(node);
         for _ in 0..waiting {
@@ -244,12 +257,13 @@ impl Simulation<'_> {
     /// The node, if it is up, makes its steps and releases all its output that waits.
     fn play<W: Write>(&mut self, writer: &mut W, line: usize, node: u8) -> Result<(), Halt>
         ensures size { self.new.size ≡ self.old.size }
-        ensures plays { Plays line node (moment self.old (W.contents writer.old)) result (moment self.new (W.contents writer.new)) }
+        ensures plays { Plays line node (moment self.old (W.contents writer.old)) result
+            (moment self.new (W.contents writer.new)) }
     {
         if !self.is_up(node) {
             return Ok(());
         }
-        if let Err(halt) = self.go_on(writer, line, Act::Run(node, STEPS)) {
+        if let Err(halt) = self.go_on(writer, line, Act::Run(node, SETTLE_STEPS)) {
             return Err(halt);
         }
         self.release_all(writer, line, node)
@@ -258,7 +272,9 @@ impl Simulation<'_> {
     /// Each node that is up makes its steps and releases all, in ascending order.
     fn play_all<W: Write>(&mut self, writer: &mut W, line: usize) -> Result<(), Halt>
         ensures size { self.new.size ≡ self.old.size }
-        ensures plays { InTurn (Plays line) 1 self.old.size (moment self.old (W.contents writer.old)) result (moment self.new (W.contents writer.new)) }
+        ensures plays { InTurn (Plays line) 1 self.old.size
+            (moment self.old (W.contents writer.old)) result
+            (moment self.new (W.contents writer.new)) }
     {
         let size = self.size;
         for before in 0..size {
@@ -272,7 +288,9 @@ impl Simulation<'_> {
     /// Delivers all, and then each node that is up makes its steps and releases all.
     fn settle<W: Write>(&mut self, writer: &mut W, line: usize) -> Result<(), Halt>
         ensures size { self.new.size ≡ self.old.size }
-        ensures settles { Settles line self.old.size (moment self.old (W.contents writer.old)) result (moment self.new (W.contents writer.new)) }
+        ensures settles { Settles line self.old.size
+            (moment self.old (W.contents writer.old)) result
+            (moment self.new (W.contents writer.new)) }
     {
         self.left = DELIVERIES;
         if let Err(halt) = self.deliver_all(writer, line) {
@@ -283,7 +301,8 @@ impl Simulation<'_> {
 
     /// Writes the state of the group.
     fn show<W: Write>(&self, writer: &mut W) -> Result<(), Halt>
-        ensures { Shows self.now.size (moment self.now (W.contents writer.old)) result (moment self.now (W.contents writer.new)) }
+        ensures { Shows self.now.size (moment self.now (W.contents writer.old)) result
+            (moment self.now (W.contents writer.new)) }
     {
         match write_group(writer, &self.world, self.size) {
             Ok(()) => Ok(()),
@@ -294,7 +313,9 @@ impl Simulation<'_> {
     /// What a line says.
     fn perform<W: Write>(&mut self, writer: &mut W, number: usize, line: &Line) -> Result<(), Halt>
         ensures size { self.new.size ≡ self.old.size }
-        ensures says { Says self.old.size number line.now (moment self.old (W.contents writer.old)) result (moment self.new (W.contents writer.new)) }
+        ensures says { Says self.old.size number line.now
+            (moment self.old (W.contents writer.old)) result
+            (moment self.new (W.contents writer.new)) }
     {
         match line {
             Line::Act(event) => self.happen(writer, number, event),
@@ -306,7 +327,7 @@ impl Simulation<'_> {
 
 /// What comes of a script that doesn't go on behind a line.
 fn stopped_at(line: usize, halt: Halt) -> Result<Option<Stopped>, RunIo>
-    ensures { result ≡ answer_of line halt }
+    ensures { result ≡ halt_answer line halt }
 {
     let fault = match halt {
         Halt::Refused(fault) => Some(fault),
@@ -316,32 +337,47 @@ fn stopped_at(line: usize, halt: Halt) -> Result<Option<Stopped>, RunIo>
     Ok(Some(Stopped { line, fault }))
 }
 
-/// What a script says happens to a group of nodes that run the program, one line after the other. What a node refuses and what the script
-/// shows is written.
+/// What a script says happens to a group of nodes that run the program, one line after the other.
+/// What a node refuses and what the script shows is written.
 ///
-/// A `settle` goes through the messages that no earlier settle has passed, in the order in which they were sent, with those that it
-/// causes, and delivers each to those whom it is meant for and who are up, in ascending order. Then each node that is up, in ascending
-/// order, makes 1,000 steps at most and releases all its output that waits.
+/// A `settle` goes through the messages that no earlier settle has passed, in the order in which
+/// they were sent, with those that it causes, and delivers each to those whom it is meant for and
+/// who are up, in ascending order. Then each node that is up, in ascending order, makes 1,000 steps
+/// at most and releases all its output that waits.
 ///
-/// The answer is where it stopped, if it did: at line 1 where there is no such group, at a line that the world refused, and at a settle
-/// of more than 10,000 deliveries. `Write` where a write failed or took nothing. Want of memory is a refusal of the world, so
-/// that the answer is never `Memory`.
+/// The answer is where it stopped, if it did: at line 1 where there is no such group, at a line
+/// that the world refused, and at a settle of more than 10,000 deliveries. `Write` where a write
+/// failed or took nothing. Want of memory is a refusal of the world, so that the answer is never
+/// `Memory`.
 pub fn sim<W: Write>(
     alloc: Global,
     program: &Program,
     script: &Script,
     writer: &mut W,
 ) -> Result<Option<Stopped>, RunIo>
-    ensures line { IfOk result (λ answer. IfSome answer (λ stopped. (1 ≤ stopped.line) × (stopped.line ≤ length script.now.lines.items + 1))) }
+    ensures line { IfOk result
+        (λ answer. IfSome answer
+        (λ stopped. (1 ≤ stopped.line) × (stopped.line ≤ length script.now.lines.items + 1))) }
     ensures write { IfErr result (λ fault. fault ≡ RunIo.Write) }
-    ensures done { IfOk result (λ answer. IsNone answer →
-        IsDone (begun program.now (record { size = script.now.size; session = script.now.session })) script.now.lines.items (W.contents writer.old) (W.contents writer.new)) }
-    ensures stopped { IfOk result (λ answer. IfSome answer (λ stopped.
-        (IsNoGroup script.now.size stopped.line stopped.fault × (W.contents writer.new ≡ W.contents writer.old))
-        ⊎ IsHalted (begun program.now (record { size = script.now.size; session = script.now.session })) script.now.lines.items stopped.line (halt_of stopped.fault) (W.contents writer.old) (W.contents writer.new))) }
-    ensures unwritten { OnErr result ((number : ℕ) ×
-        IsHalted (begun program.now (record { size = script.now.size; session = script.now.session })) script.now.lines.items number Halt.Unwritten (W.contents writer.old) (W.contents writer.new)) }
-    ensures size { result ≡ Ok (Some (record { line = 1; fault = Some WorldFault.Size })) ↔ ¬ IsSize script.now.size }
+    ensures done { IfOk result
+        (λ answer. IsNone answer
+        → IsScriptDone (new_world program.now
+        (record { size = script.now.size; session = script.now.session })) script.now.lines.items
+        (W.contents writer.old) (W.contents writer.new)) }
+    ensures stopped { IfOk result
+        (λ answer. IfSome answer
+        (λ stopped. (IsNoGroup script.now.size stopped.line stopped.fault
+        × (W.contents writer.new ≡ W.contents writer.old))
+        ⊎ IsHalted (new_world program.now
+        (record { size = script.now.size; session = script.now.session })) script.now.lines.items
+        stopped.line (halt_of stopped.fault) (W.contents writer.old) (W.contents writer.new))) }
+    ensures unwritten { OnErr result
+        ((number : ℕ) × IsHalted
+        (new_world program.now (record { size = script.now.size; session = script.now.session }))
+        script.now.lines.items number Halt.Unwritten (W.contents writer.old)
+        (W.contents writer.new)) }
+    ensures size { result ≡ Ok (Some (record { line = 1; fault = Some WorldFault.Size }))
+        ↔ ¬ IsSize script.now.size }
 {
     let size = script.size;
     let mut simulation = match World::new(alloc, program, size, script.session) {

@@ -2,14 +2,14 @@
 ghost use Rattle.std.specs.Prelude.{◌≡◌, ◌<◌, true, decimal};
 ghost use Rattle.std.specs.Fmt.{digit_glyph};
 ghost use Rattle.group_sim.specs.Groups.{hex_digits, hex_text, numbered};
-ghost use Rattle.group_sim.specs.Writing.{Writes};
+ghost use Rattle.group_sim.specs.Writing.{WritesText};
 
 use machine_run::WriteFault;
 use std::io::{ErrorKind, Write};
 
 /// Writes a text. A write that was interrupted is tried again, as `write_all` does.
 pub fn put<W: Write>(writer: &mut W, text: &[u8]) -> Result<(), WriteFault>
-    ensures { Writes (W.contents writer.old) result (W.contents writer.new) text.now }
+    ensures { WritesText (W.contents writer.old) result (W.contents writer.new) text.now }
 {
     let mut rest = text;
     for _ in 0..usize::MAX {
@@ -31,7 +31,7 @@ pub fn put<W: Write>(writer: &mut W, text: &[u8]) -> Result<(), WriteFault>
 
 /// Writes a number in decimal digits.
 pub fn put_decimal<W: Write>(writer: &mut W, number: u64) -> Result<(), WriteFault>
-    ensures { Writes (W.contents writer.old) result (W.contents writer.new) (decimal number) }
+    ensures { WritesText (W.contents writer.old) result (W.contents writer.new) (decimal number) }
 {
     if number >= 10 {
         put_decimal(writer, number / 10)?;
@@ -41,7 +41,7 @@ pub fn put_decimal<W: Write>(writer: &mut W, number: u64) -> Result<(), WriteFau
 
 /// Writes a text and a number in decimal digits.
 pub fn put_number<W: Write>(writer: &mut W, text: &[u8], number: u64) -> Result<(), WriteFault>
-    ensures { Writes (W.contents writer.old) result (W.contents writer.new)
+    ensures { WritesText (W.contents writer.old) result (W.contents writer.new)
         (numbered text.now number) }
 {
     put(writer, text)?;
@@ -62,14 +62,15 @@ fn hex_digit(value: u8) -> u8
 
 /// Writes a byte in two hexadecimal digits, in capitals.
 fn put_byte<W: Write>(writer: &mut W, byte: u8) -> Result<(), WriteFault>
-    ensures { Writes (W.contents writer.old) result (W.contents writer.new) (hex_digits byte) }
+    ensures { WritesText (W.contents writer.old) result (W.contents writer.new) (hex_digits byte) }
 {
     put(writer, &[hex_digit(byte / 16), hex_digit(byte % 16)])
 }
 
 /// Writes bytes in two hexadecimal digits each, in capitals.
 pub fn put_hex<W: Write>(writer: &mut W, bytes: &[u8]) -> Result<(), WriteFault>
-    ensures { Writes (W.contents writer.old) result (W.contents writer.new) (hex_text bytes.now) }
+    ensures { WritesText (W.contents writer.old) result (W.contents writer.new)
+        (hex_text bytes.now) }
 {
     for &byte in bytes {
         put_byte(writer, byte)?;

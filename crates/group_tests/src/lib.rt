@@ -1,4 +1,5 @@
-//! Tests of the crates of the group: a node, its datagrams and turns, scripts, and whole groups. This crate has nothing else.
+//! Tests of the crates of the group: a node, its datagrams and turns, scripts, and whole groups.
+//! This crate has nothing else.
 #![tactic(auto)]
 
 #[cfg(test)]

@@ -1,5 +1,5 @@
-//! Which nodes there are, a console, and the texts of refusals. What a node of a group of three refuses, what it sends byte by byte, and
-//! what its machine writes, stand in the files below.
+//! Which nodes there are, a console, and the texts of refusals. What a node of a group of three
+//! refuses, what it sends byte by byte, and what its machine writes, stand in the files below.
 mod acts;
 mod by_hand;
 mod datagrams;

@@ -1,5 +1,6 @@
-//! A node of a group of three with its outbox. What contracts see of it is nothing, so that a test does not carry a node's state
-//! from one call to the next; each call of the node stands in a function of its own.
+//! A node of a group of three with its outbox. What contracts see of it is nothing, so that a test
+//! does not carry a node's state from one call to the next; each call of the node stands in a
+//! function of its own.
 ghost use Rattle.std.specs.Prelude.{◌≡◌};
 
 use group_node::{Config, Node, NodeFault, Outbox, Packet, Ran, StartRefused};
@@ -38,7 +39,7 @@ impl<'a> Model for Seat<'a> {
 
     ghost view = { λ _. tt };
 
-    ghost invariant = { λ s. s.node.protocol.rules.me.group ≡ record { size = 3; session = 7 } };
+    ghost invariant = { λ s. s.node.protocol.known.me.group ≡ record { size = 3; session = 7 } };
 }
 
 impl<'a> Seat<'a> {

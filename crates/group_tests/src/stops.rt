@@ -1,5 +1,5 @@
-//! A stop at each save: a script in which twelve saves are made, and each of them fails once with the old record and once with the
-//! changed one. The group goes on from there.
+//! A stop at each save: a script in which twelve saves are made, and each of them fails once with
+//! the old record and once with the changed one. The group goes on from there.
 use crate::program::reading_program;
 use group_node::To;
 use group_world::{Act, Done, Event, Outcome, World, WorldFault};
@@ -8,9 +8,10 @@ use std::alloc::Global;
 use std::marker::Model;
 use std::test::Fail;
 
-/// Node 1 leads, and two keys are typed at node 2, each of which all nodes learn. Messages are numbered in the order in which they are sent:
-/// 0 asks for promises, 1 to 3 are the promises, 4 and 10 submit a key, 5 and 11 ask what was learned, 6 and 12 propose, and the
-/// others report votes.
+/// Node 1 leads, and two keys are typed at node 2, each of which all nodes learn. Messages are
+/// numbered in the order in which they are sent: 0 asks for promises, 1 to 3 are the promises, 4
+/// and 10 submit a key, 5 and 11 ask what was learned, 6 and 12 propose, and the others report
+/// votes.
 const EVENTS: [Act; 62] = [
     Act::Start(1),
     Act::Start(2),
@@ -76,8 +77,9 @@ const EVENTS: [Act; 62] = [
     Act::Release(3),
 ];
 
-/// The events that save, by their numbers, and what each console shows in the end where the save fails: a start, a promise, a vote. The
-/// first key is typed after the promises; the second one is typed again.
+/// The events that save, by their numbers, and what each console shows in the end where the save
+/// fails: a start, a promise, a vote. The first key is typed after the promises; the second one is
+/// typed again.
 const SAVES: [(usize, &[u8]); 12] = [
     (0, b"\x51"),
     (1, b"\x51"),
@@ -102,8 +104,8 @@ const NODES: [u8; 3] = [1, 2, 3];
 /// Two nodes.
 const PAIRS: [(u8, u8); 3] = [(1, 2), (1, 3), (2, 3)];
 
-/// A group whose events are looked at one after the other. What contracts see of it is nothing, so that a test does not carry a
-/// world from one event to the next.
+/// A group whose events are looked at one after the other. What contracts see of it is nothing, so
+/// that a test does not carry a world from one event to the next.
 #[derive(Drop)]
 struct Watched<'a> {
     world: World<'a>,

@@ -15,7 +15,8 @@ const TURNS: u32 = 40;
 /// How many sends fail, and how many receives, each in a run of its own.
 const FAILURES: u32 = 200;
 
-/// What fails: the send of this number, and the receive of this number, counted from 1. Number 0 is none.
+/// What fails: the send of this number, and the receive of this number, counted from 1. Number 0 is
+/// none.
 #[derive(Clone, Copy, Debug)]
 struct Failure {
     send: u32,
@@ -178,7 +179,8 @@ fn play_all(players: &mut [Player<'_>], network: &mut Network) -> Result<(), Fai
     Ok(())
 }
 
-/// A group plays its turns while this fails, and no console shows what it must not. Whether all of them show all.
+/// A group plays its turns while this fails, and no console shows what it must not. Whether all of
+/// them show all.
 fn shows_all(alloc: Global, program: &Program, failure: Failure) -> Result<bool, Fail> {
     let mut network = Network::new(alloc, failure)?;
     let mut players = players(alloc, program)?;

@@ -52,7 +52,8 @@ const ENDS: [(u8, &str, usize, WorldFault); 6] = [
     (3, "deliver 0 1", 0, WorldFault::NoMessage),
     (3, "tick 1", 0, WorldFault::NodeDown),
     (3, "start 1, start 1", 1, WorldFault::NodeUp),
-    // A release where nothing waits is none; and a message that is not there is reported before a node that is down.
+    // A release where nothing waits is none; and a message that is not there is reported before a
+    // node that is down.
     (
         3,
         "start 1, release 1, run 1 0, deliver 0 2",
@@ -69,8 +70,9 @@ fn lists_that_end_early(rt: HostRuntime) -> Result<(), Fail> {
     Ok(())
 }
 
-/// A key is typed at node 1, and the saves of nodes 2 and 3 fail. They start again, and the key is learned and shown at node 1. Then node 2
-/// falls, a save of its start fails with the changed record, and it starts once more: four starts are counted.
+/// A key is typed at node 1, and the saves of nodes 2 and 3 fail. They start again, and the key is
+/// learned and shown at node 1. Then node 2 falls, a save of its start fails with the changed
+/// record, and it starts once more: four starts are counted.
 const STARTS: &str =
     "start 1, start 2, start 3, campaign 1, deliver 0 1, deliver 0 2, deliver 0 3, deliver 1 1, deliver 2 1, deliver 3 1, type 1 48, tick 1, deliver 4 1, deliver 6 2 failnew, deliver 6 3 failold, start 2, start 3, deliver 6 2, deliver 6 3, deliver 7 1, deliver 8 1, run 1 1000, release 1, crash 2, start 2 failnew, start 2";
 

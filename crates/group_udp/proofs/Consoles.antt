@@ -14,7 +14,13 @@ Compared = (p : Parts) (x y a b : List ℕ) → AreComparable x y → IsOutput p
 
 -- what was released is output
 pub released_is_output : (y : List ℕ) (q : Progress) → IsOutput q.program y (released_of y q)
-released_is_output y q = (q.steps, record { rest = drop q.released (out q.program y q.steps); whole = sym (take-append-drop q.released (out q.program y q.steps)) })
+released_is_output y q = (
+  q.steps,
+  record {
+    rest = drop q.released (out q.program y q.steps);
+    whole = sym (take-append-drop q.released (out q.program y q.steps));
+  },
+)
 
 pub many_released : (y : List ℕ) (q : Progress) → IsReplay y q → length (released_of y q) ≡ q.released
 many_released y q h = length-take-le q.released (out q.program y q.steps) h.released
@@ -39,7 +45,8 @@ later_by x y console q shows h (inl less) =
     let rest : drop (length console) b ≡ less.rest = ap (drop (length console)) less.whole ∙ drop-append_seam console less.rest in
     let all : console ++ drop (length console) b ≡ b = ap (λ (r : List ℕ). console ++ r) rest ∙ sym less.whole in
     let long : length b ≡ length console + length less.rest = ap length less.whole ∙ length-append console less.rest in
-    let count : length (console ++ drop (length console) b) ≡ max (length console) q.released = ap length all ∙ omega (arith, long, many_released y q h) in
+    let count : length (console ++ drop (length console) b) ≡ max (length console) q.released =
+    ap length all ∙ omega (arith, long, many_released y q h) in
     inr (first_of_output q.program y (max (length console) q.released) (console ++ drop (length console) b)
     (subst (λ (bs : List ℕ). IsOutput q.program y bs) (sym all) (released_is_output y q)) count)
 later_by x y console q shows h (inr more) =
@@ -47,7 +54,8 @@ later_by x y console q shows h (inr more) =
     let long : length console ≡ length b + length more.rest = ap length more.whole ∙ length-append b more.rest in
     let none : drop (length console) b ≡ [] = drop_all (length console) b (omega (arith, long)) in
     let all : console ++ drop (length console) b ≡ console = ap (λ (r : List ℕ). console ++ r) none ∙ append-nil console in
-    let count : length (console ++ drop (length console) b) ≡ max (length console) q.released = ap length all ∙ omega (arith, long, many_released y q h) in
+    let count : length (console ++ drop (length console) b) ≡ max (length console) q.released =
+    ap length all ∙ omega (arith, long, many_released y q h) in
     inl (first_of_output q.program x (max (length console) q.released) (console ++ drop (length console) b)
     (subst (λ (bs : List ℕ). IsOutput q.program x bs) (sym all) shows) count)
 
@@ -59,8 +67,15 @@ later_start compared x y console q same shows h =
 
 -- the first bytes of an output are output
 pub first_is_output : (p : Parts) (z : List ℕ) (k : ℕ) (bytes : List ℕ) → AreFirst p z k bytes → IsOutput p z bytes
-first_is_output p z k bytes h = (h.steps, record { rest = drop k (out p z h.steps); whole = sym (ap (λ (bs : List ℕ). bs ++ drop k (out p z h.steps)) h.first ∙ take-append-drop k (out p z h.steps)) })
+first_is_output p z k bytes h = (
+  h.steps,
+  record {
+    rest = drop k (out p z h.steps);
+    whole = sym (ap (λ (bs : List ℕ). bs ++ drop k (out p z h.steps)) h.first ∙ take-append-drop k (out p z h.steps));
+  },
+)
 
-pub later_output : (p : Parts) (x y : List ℕ) (k : ℕ) (bytes : List ℕ) → AreFirst p x k bytes ⊎ AreFirst p y k bytes → IsOutput p x bytes ⊎ IsOutput p y bytes
+pub later_output : (p : Parts) (x y : List ℕ) (k : ℕ) (bytes : List ℕ) → AreFirst p x k bytes ⊎ AreFirst p y k bytes
+    → IsOutput p x bytes ⊎ IsOutput p y bytes
 later_output p x y k bytes (inl h) = inl (first_is_output p x k bytes h)
 later_output p x y k bytes (inr h) = inr (first_is_output p y k bytes h)

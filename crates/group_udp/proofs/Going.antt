@@ -9,9 +9,9 @@ use Rattle.pcode_machine.specs.Runs.{out}
 use Rattle.paxos_msg.specs.declared.value.Value.{Value}
 use Rattle.paxos_learner.specs.Growth.{HasLearnedMore}
 use Rattle.paxos_learner.specs.Input.{learned_input}
-use Rattle.group_node.specs.Node.{Node}
+use Rattle.group_node.specs.Known.{Known}
 use Rattle.group_node.specs.Output.{IsReplay, Progress, RunsOn}
-use Rattle.group_node.specs.States.{State, input}
+use Rattle.group_node.specs.States.{NodeState, input}
 use Rattle.group_node.specs.declared.fault.NodeFault.{NodeFault}
 use Rattle.group_wire.specs.declared.answers.Turned.{Turned}
 use Rattle.group_wire.specs.Turns.{Arrival, after_heard, has_ticked, heard_of, ticked_if}
@@ -35,27 +35,30 @@ released_same laws x y old new longer low same more =
     let p : Parts = old.program in
     let here : IsPrefix (out p x old.steps) (out p y old.steps) = laws.longer p x y old.steps longer in
     let then : IsPrefix (out p y old.steps) (out p y new.steps) = laws.steps p y old.steps new.steps more in
-    let many : length (out p y old.steps) ≡ length (out p x old.steps) + length here.rest = ap length here.whole ∙ length-append (out p x old.steps) here.rest in
+    let many : length (out p y old.steps) ≡ length (out p x old.steps) + length here.rest =
+    ap length here.whole ∙ length-append (out p x old.steps) here.rest in
     ap (released_of y) same ∙ first_same old.released (out p y old.steps) (out p y new.steps) then (omega (arith, many, low))
     ∙ first_same old.released (out p x old.steps) (out p y old.steps) here low
 
 -- once more is learned, after more steps
-pub released_stays : Laws → (n m : Node) (old new : Progress) → LearnsMore n m → IsReplay (input n) old
+pub released_stays : Laws → (n m : Known) (old new : Progress) → LearnsMore n m → IsReplay (input n) old
     → new ≡ record old { steps = new.steps } → old.steps ≤ new.steps → released_of (input m) new ≡ released_of (input n) old
 released_stays laws n m old new h replay same more =
     let grows = laws.inputs n.learner.learned m.learner.learned h.more in
     released_same laws (input n) (input m) old new (record { rest = grows.0; whole = grows.1 }) replay.released same more
 
 -- after some messages, and a tick or none, with the machine further on
-pub call_stays : {S : Type 0} (laws : Laws) (heard : HeardLaws) (old new : State S) (came : List Arrival) (ticks : Bool)
-    → new.protocol.rules ≡ (ticked_if ticks (after_heard old.protocol.rules (heard_of came))).node → IsReplay (input old.protocol.rules) old.progress
-    → new.progress ≡ record old.progress { steps = new.progress.steps } → old.progress.steps ≤ new.progress.steps → released_by new ≡ released_by old
+pub call_stays : {S : Type 0} (laws : Laws) (heard : HeardLaws) (old new : NodeState S) (came : List Arrival) (ticks : Bool)
+    → new.protocol.known ≡ (ticked_if ticks (after_heard old.protocol.known (heard_of came))).node
+    → IsReplay (input old.protocol.known) old.progress
+    → new.progress ≡ record old.progress { steps = new.progress.steps } → old.progress.steps ≤ new.progress.steps
+    → released_by new ≡ released_by old
 call_stays laws heard old new came ticks is replay rest more =
-    let n : Node = old.protocol.rules in
-    let mid : Node = after_heard n (heard_of came) in
-    let learns : LearnsMore n new.protocol.rules = subst (λ (m : Node). LearnsMore n m) (sym is)
+    let n : Known = old.protocol.known in
+    let mid : Known = after_heard n (heard_of came) in
+    let learns : LearnsMore n new.protocol.known = subst (λ (m : Known). LearnsMore n m) (sym is)
     (learns_then n mid (ticked_if ticks mid).node (heard_learns heard n (heard_of came)) (tick_learns ticks mid)) in
-    released_stays laws n new.protocol.rules old.progress new.progress learns replay rest more
+    released_stays laws n new.protocol.known old.progress new.progress learns replay rest more
 
 -- a machine that made no step is as far as it was
 pub no_step : (old new : Progress) → new ≡ old → (new ≡ record old { steps = new.steps }) × (old.steps ≤ new.steps)
@@ -64,11 +67,13 @@ no_step old new same =
     (same ∙ ap (λ (n : ℕ). record old { steps = n }) (sym steps), omega (arith, steps))
 
 -- after a turn, by what it answers
-pub turn_stays : {S : Type 0} (laws : Laws) (heard : HeardLaws) (old new : State S) (came : List Arrival) (r : Result Turned NodeFault)
-    → new.protocol.rules ≡ (ticked_if (has_ticked r) (after_heard old.protocol.rules (heard_of came))).node → IsReplay (input old.protocol.rules) old.progress
-    → IfOk r (λ done. RunsOn (input new.protocol.rules) 1000 old.progress new.progress done.ran) → OnErr r (new.progress ≡ old.progress)
+pub turn_stays : {S : Type 0} (laws : Laws) (heard : HeardLaws) (old new : NodeState S) (came : List Arrival) (r : Result Turned NodeFault)
+    → new.protocol.known ≡ (ticked_if (has_ticked r) (after_heard old.protocol.known (heard_of came))).node
+    → IsReplay (input old.protocol.known) old.progress
+    → IfOk r (λ done. RunsOn (input new.protocol.known) 1000 old.progress new.progress done.ran) → OnErr r (new.progress ≡ old.progress)
     → released_by new ≡ released_by old
-turn_stays laws heard old new came (Ok done) is replay runs rest = call_stays laws heard old new came (has_ticked (Ok done)) is replay runs.rest runs.more
+turn_stays laws heard old new came (Ok done) is replay runs rest =
+    call_stays laws heard old new came (has_ticked (Ok done)) is replay runs.rest runs.more
 turn_stays laws heard old new came (Err e) is replay runs rest =
     let none = no_step old.progress new.progress rest in
     call_stays laws heard old new came (has_ticked (Err e)) is replay none.0 none.1

@@ -7,7 +7,7 @@ use Rattle.std.specs.Io.KnownBytes.{Appends, Keeps}
 use Rattle.std.proofs.KnownBytes.{Appends-kept, Appends-nil, Appends-trans}
 use Rattle.pcode_machine.specs.Runs.{out}
 use Rattle.group_node.specs.Output.{Progress, unreleased_of}
-use Rattle.group_udp.specs.Output.{Releases, all_released, released_of, unseen_of}
+use Rattle.group_udp.specs.Output.{ReleasesBytes, all_released, released_of, unseen_of}
 
 -- the first of some bytes with the number k
 abbrev pub numbered : ℕ → List ℕ → Option (ℕ × ℕ)
@@ -28,7 +28,7 @@ none_waits [] k e = refl
 none_waits (x ∷ xs) k e = absurd cc
 
 -- nothing was released yet
-pub releases_none : (x : List ℕ) (q : Progress) → Releases x q q []
+pub releases_none : (x : List ℕ) (q : Progress) → ReleasesBytes x q q []
 releases_none x q = record { waited = refl; progress = ap (λ (k : ℕ). record q { released = k }) (omega arith) }
 
 -- what waits once one byte more is released
@@ -38,14 +38,16 @@ waits_less x q = sym (drop-drop 1 q.released (out q.program x q.steps))
 -- one byte more is released
 pub releases_one : (x : List ℕ) (old q new : Progress) (gone : List ℕ) (p : ℕ × ℕ)
     → Some p ≡ numbered q.released (unreleased_of x q) → new ≡ record q { released = q.released + 1 }
-    → Releases x old q gone → Releases x old new (gone ++ p.1 ∷ []) × (p.0 ≡ old.released + length gone)
+    → ReleasesBytes x old q gone → ReleasesBytes x old new (gone ++ p.1 ∷ []) × (p.0 ≡ old.released + length gone)
 releases_one x old q new gone p first more h =
     let (waits, is) = first_of (unreleased_of x q) q.released p first in
     let rest : unreleased_of x new ≡ drop 1 (unreleased_of x q) = ap (unreleased_of x) more ∙ waits_less x q in
     let count : q.released ≡ old.released + length gone = ap (λ (r : Progress). r.released) h.progress in
     let longer : length (gone ++ p.1 ∷ []) ≡ length gone + 1 = length-append gone (p.1 ∷ []) in (
       record {
-        waited = h.waited ∙ ap (λ (ws : List ℕ). gone ++ ws) (waits ∙ ap (λ (ws : List ℕ). p.1 ∷ ws) (sym rest)) ∙ sym (append_assoc gone (p.1 ∷ []) (unreleased_of x new));
+        waited =
+            h.waited ∙ ap (λ (ws : List ℕ). gone ++ ws) (waits ∙ ap (λ (ws : List ℕ). p.1 ∷ ws) (sym rest))
+            ∙ sym (append_assoc gone (p.1 ∷ []) (unreleased_of x new));
         progress = more ∙ ap (λ (r : Progress). record r { released = r.released + 1 }) h.progress
             ∙ ap (λ (k : ℕ). record old { released = k }) (omega (arith, longer));
       },
@@ -53,7 +55,7 @@ releases_one x old q new gone p first more h =
     )
 
 -- what is released of what waited, once nothing waits
-pub releases_all : (x : List ℕ) (old new : Progress) (gone : List ℕ) → unreleased_of x new ≡ [] → Releases x old new gone
+pub releases_all : (x : List ℕ) (old new : Progress) (gone : List ℕ) → unreleased_of x new ≡ [] → ReleasesBytes x old new gone
     → (gone ≡ unreleased_of x old) × (new ≡ all_released x old)
 releases_all x old new gone none h =
     let all : gone ≡ unreleased_of x old = sym (h.waited ∙ ap (λ (ws : List ℕ). gone ++ ws) none ∙ append-nil gone) in
@@ -67,17 +69,20 @@ unseen_seen seen k b gone low =
     let longer : length (gone ++ b ∷ []) ≡ length gone + 1 = length-append gone (b ∷ []) in
     drop_all (seen - k) (gone ++ b ∷ []) (omega (arith, longer)) ∙ sym (drop_all (seen - k) gone (omega arith))
 
-pub unseen_more : (seen k b : ℕ) (gone : List ℕ) → seen ≤ k + length gone → drop (seen - k) (gone ++ b ∷ []) ≡ drop (seen - k) gone ++ b ∷ []
+pub unseen_more : (seen k b : ℕ) (gone : List ℕ) → seen ≤ k + length gone
+    → drop (seen - k) (gone ++ b ∷ []) ≡ drop (seen - k) gone ++ b ∷ []
 unseen_more seen k b gone high = drop-append-le (seen - k) gone (b ∷ []) (omega arith)
 
 -- one byte more is written, unless it was seen
-pub writes_one : (c d e : Option (List ℕ)) (seen k number b : ℕ) (gone : List ℕ) → number ≡ k + length gone → Appends c d (drop (seen - k) gone)
+pub writes_one : (c d e : Option (List ℕ)) (seen k number b : ℕ) (gone : List ℕ) → number ≡ k + length gone
+    → Appends c d (drop (seen - k) gone)
     → (seen ≤ number → Appends d e (b ∷ [])) → (number < seen → e ≡ d) → Appends c e (drop (seen - k) (gone ++ b ∷ []))
 writes_one c d e seen k number b gone is before more none =
     elim (cases_lt number seen) [
       | inl low ↦
           let same : drop (seen - k) (gone ++ b ∷ []) ≡ drop (seen - k) gone = unseen_seen seen k b gone (omega arith) in
-          subst (λ (o : Option (List ℕ)). Appends c o (drop (seen - k) (gone ++ b ∷ []))) (sym (none low)) (subst (Appends c d) (sym same) before)
+          subst (λ (o : Option (List ℕ)). Appends c o (drop (seen - k) (gone ++ b ∷ []))) (sym (none low))
+          (subst (Appends c d) (sym same) before)
       | inr high ↦
           let same : drop (seen - k) (gone ++ b ∷ []) ≡ drop (seen - k) gone ++ b ∷ [] = unseen_more seen k b gone (omega arith) in
           subst (Appends c e) (sym same) (Appends-trans c d e (drop (seen - k) gone) (b ∷ []) before (more high))
@@ -95,7 +100,8 @@ take_then : (k n : ℕ) (xs : List ℕ) → take (k + n) xs ≡ take k xs ++ tak
 take_then k n xs = take-add k n xs
 
 -- what was released, once more of what waits is
-pub released_on : (x : List ℕ) (old new : Progress) (gone : List ℕ) → Releases x old new gone → released_of x new ≡ released_of x old ++ gone
+pub released_on : (x : List ℕ) (old new : Progress) (gone : List ℕ) → ReleasesBytes x old new gone
+    → released_of x new ≡ released_of x old ++ gone
 released_on x old new gone h =
     let xs : List ℕ = out old.program x old.steps in
     let first : take (length gone) (drop old.released xs) ≡ gone =
@@ -114,7 +120,7 @@ some_wait x q h = omega (arith, length-drop q.released (out q.program x q.steps)
 
 -- some bytes were released, and of them those that were not seen are written
 abbrev pub Written : ℕ → List ℕ → Progress → Progress → Option (List ℕ) → Option (List ℕ) → Type 0
-Written seen x old q c d = (gone : List ℕ) × Releases x old q gone × Appends c d (drop (seen - old.released) gone)
+Written seen x old q c d = (gone : List ℕ) × ReleasesBytes x old q gone × Appends c d (drop (seen - old.released) gone)
 
 -- one byte more
 pub written_one : (seen : ℕ) (x y : List ℕ) (old q new : Progress) (c d e : Option (List ℕ)) (p : ℕ × ℕ)
@@ -128,24 +134,28 @@ written_one seen x y old q new c d e p same first more writes none (gone, h, bef
 pub lost_one : (seen : ℕ) (x y : List ℕ) (old q new : Progress) (c d e : Option (List ℕ)) (p : ℕ × ℕ)
     → y ≡ x → Some p ≡ numbered q.released (unreleased_of y q) → new ≡ record q { released = q.released + 1 }
     → (p.0 < seen → ⊥) → (seen ≤ p.0 → Keeps d e) → Written seen x old q c d
-    → (gone : List ℕ) × (byte : ℕ) × Releases x old new (gone ++ byte ∷ []) × (seen ≤ old.released + length gone) × Appends c e (drop (seen - old.released) gone)
+    → (gone : List ℕ) × (byte : ℕ) × ReleasesBytes x old new (gone ++ byte ∷ []) × (seen ≤ old.released + length gone)
+    × Appends c e (drop (seen - old.released) gone)
 lost_one seen x y old q new c d e p same first more writes keeps (gone, h, before) =
     let (now, is) = releases_one x old q new gone p (first ∙ ap (λ (z : List ℕ). numbered q.released (unreleased_of z q)) same) more h in
     let high : seen ≤ p.0 = elim (cases_lt p.0 seen) [ inl low ↦ absurd (writes low) | inr high ↦ high ] in
     (gone, p.1, now, omega (arith, is, high), Appends-kept c d e (drop (seen - old.released) gone) before (keeps high))
 
 -- once nothing waits
-pub written_all : (seen : ℕ) (x y : List ℕ) (old q new : Progress) (c d : Option (List ℕ)) → y ≡ x → None ≡ numbered q.released (unreleased_of y q) → new ≡ q → Written seen x old q c d
+pub written_all : (seen : ℕ) (x y : List ℕ) (old q new : Progress) (c d : Option (List ℕ)) → y ≡ x
+    → None ≡ numbered q.released (unreleased_of y q) → new ≡ q → Written seen x old q c d
     → Appends c d (unseen_of seen x old) × (new ≡ all_released x old)
 written_all seen x y old q new c d same none last (gone, h, before) =
-    let nothing : unreleased_of x q ≡ [] = ap (λ (z : List ℕ). unreleased_of z q) (sym same) ∙ none_waits (unreleased_of y q) q.released none in
+    let nothing : unreleased_of x q ≡ [] =
+    ap (λ (z : List ℕ). unreleased_of z q) (sym same) ∙ none_waits (unreleased_of y q) q.released none in
     let (all, is) = releases_all x old q gone nothing h in
     (subst (λ (ws : List ℕ). Appends c d (drop (seen - old.released) ws)) all before, last ∙ is)
 
 -- ---- one turn of the loop that shows
 
 -- bytes are released, and then others
-releases_then : (x : List ℕ) (old q new : Progress) (gone more : List ℕ) → Releases x old q gone → Releases x q new more → Releases x old new (gone ++ more)
+releases_then : (x : List ℕ) (old q new : Progress) (gone more : List ℕ) → ReleasesBytes x old q gone
+    → ReleasesBytes x q new more → ReleasesBytes x old new (gone ++ more)
 releases_then x old q new gone more h k =
     let count : q.released ≡ old.released + length gone = ap (λ (r : Progress). r.released) h.progress in
     let longer : length (gone ++ more) ≡ length gone + length more = length-append gone more in
@@ -157,23 +167,25 @@ releases_then x old q new gone more h k =
 
 -- one byte more is on a console that shows what was released
 pub shown_more : (x y : List ℕ) (old q new : Progress) (count : ℕ) (start before now : List ℕ) → y ≡ x → start ≡ released_of x old
-    → (gone : List ℕ) × Releases x old q gone × (length gone ≡ count) × (before ≡ start ++ gone)
-    → (byte : ℕ) × Releases y q new (byte ∷ []) → now ≡ released_of y new
-    → (gone : List ℕ) × Releases x old new gone × (length gone ≡ count + 1) × (now ≡ start ++ gone)
+    → (gone : List ℕ) × ReleasesBytes x old q gone × (length gone ≡ count) × (before ≡ start ++ gone)
+    → (byte : ℕ) × ReleasesBytes y q new (byte ∷ []) → now ≡ released_of y new
+    → (gone : List ℕ) × ReleasesBytes x old new gone × (length gone ≡ count + 1) × (now ≡ start ++ gone)
 shown_more x y old q new count start before now same shows (gone, h, many, _) (byte, k) is =
-    let one : Releases x q new (byte ∷ []) = subst (λ (z : List ℕ). Releases z q new (byte ∷ [])) same k in
-    let both : Releases x old new (gone ++ byte ∷ []) = releases_then x old q new gone (byte ∷ []) h one in
+    let one : ReleasesBytes x q new (byte ∷ []) = subst (λ (z : List ℕ). ReleasesBytes z q new (byte ∷ [])) same k in
+    let both : ReleasesBytes x old new (gone ++ byte ∷ []) = releases_then x old q new gone (byte ∷ []) h one in
     let longer : length (gone ++ byte ∷ []) ≡ length gone + 1 = length-append gone (byte ∷ []) in (
       gone ++ byte ∷ [],
       both,
       omega (arith, longer, many),
-      is ∙ ap (λ (z : List ℕ). released_of z new) same ∙ released_on x old new (gone ++ byte ∷ []) both ∙ ap (λ (bs : List ℕ). bs ++ (gone ++ byte ∷ [])) (sym shows),
+      is ∙ ap (λ (z : List ℕ). released_of z new) same ∙ released_on x old new (gone ++ byte ∷ []) both
+          ∙ ap (λ (bs : List ℕ). bs ++ (gone ++ byte ∷ [])) (sym shows),
     )
 
 -- a byte waits, where fewer were released than waited
 pub more_wait : (x y : List ℕ) (old q : Progress) (count all : ℕ) → y ≡ x → all ≡ length (unreleased_of x old) → count < all
-    → (gone : List ℕ) × Releases x old q gone × (length gone ≡ count) × Unit {0} → 0 < length (unreleased_of y q)
+    → (gone : List ℕ) × ReleasesBytes x old q gone × (length gone ≡ count) × Unit {0} → 0 < length (unreleased_of y q)
 more_wait x y old q count all same is low (gone, h, many, _) =
-    let sum : length (unreleased_of x old) ≡ length gone + length (unreleased_of x q) = ap length h.waited ∙ length-append gone (unreleased_of x q) in
+    let sum : length (unreleased_of x old) ≡ length gone + length (unreleased_of x q) =
+    ap length h.waited ∙ length-append gone (unreleased_of x q) in
     let there : length (unreleased_of y q) ≡ length (unreleased_of x q) = ap (λ (z : List ℕ). length (unreleased_of z q)) same in
     omega (arith, sum, is, low, many, there)

@@ -9,13 +9,13 @@ use Rattle.group_udp.specs.declared.ended.Ended.{Ended}
 use Rattle.group_udp.specs.declared.ended.Ended.TheVariants as ended
 use Rattle.group_udp.specs.declared.typed.Pressed.{Pressed}
 use Rattle.group_udp.specs.Members.{HasHeard, HasTurn, HasTyped, NodeAndOutbox}
-use Rattle.group_udp.specs.Output.{Releases, all_released, unseen_of}
+use Rattle.group_udp.specs.Output.{ReleasesBytes, all_released, unseen_of}
 use Rattle.group_udp.specs.Refusals.{write_failed}
-use Rattle.group_udp.specs.Rounds.{Call, HasPlayed, HasPressed, HasRested, HasRestedAndTurned, Hears, HearsMany, IsRound, Moment, RestsUnless, Rounds, Then, is_busy_after}
+use Rattle.group_udp.specs.Rounds.{Call, HasPlayed, HasPressed, HasRested, HasRestedAndTurned, Hears, HearsMany, IsRound, NodeMoment, RestsUnless, Rounds, ThenCalls, is_busy_after}
 
 -- a call, and then the last one
 pub then_last : {M T U : Type 0} (first : Call M T) (second : Call M U) (old mid new : M) (y : T)
-    (r : Result U Ended) → first old mid (Ok y) → second mid new r → Then first second old new r
+    (r : Result U Ended) → first old mid (Ok y) → second mid new r → ThenCalls first second old new r
 then_last first second old mid new y (Ok x) h k = (mid, y, h, k)
 then_last first second old mid new y (Err e) h k = inr (mid, y, h, k)
 
@@ -24,10 +24,10 @@ pub typed_none : {S : Type 0} (m : NodeAndOutbox S) → HasTyped m m [] [] (Ok t
 typed_none m = record {
   typed = [];
   bytes = refl;
-  rules = ap (λ (w : List ℕ). record m.node.protocol.rules {
+  known = ap (λ (w : List ℕ). record m.node.protocol.known {
     waiting =
         w;
-  }) (sym (append-nil m.node.protocol.rules.waiting));
+  }) (sym (append-nil m.node.protocol.known.waiting));
   full = inl refl;
   err = search rules;
   others = search rules;
@@ -113,8 +113,8 @@ module _ {S : Type 0} (honest at_will : Type 0) (state : S → StoreState) where
   pub round_done : (seen : ℕ) (busy then : Bool) (old mid new : NodeAndOutbox S) (c d : Option
       (List ℕ))
       → HasRestedAndTurned honest at_will state busy old mid (Ok then)
-      → new.node.progress ≡ all_released (input mid.node.protocol.rules) mid.node.progress
-      → Appends c d (unseen_of seen (input mid.node.protocol.rules) mid.node.progress)
+      → new.node.progress ≡ all_released (input mid.node.protocol.known) mid.node.progress
+      → Appends c d (unseen_of seen (input mid.node.protocol.known) mid.node.progress)
       → (new.node.protocol ≡ mid.node.protocol) × (new.packets ≡ mid.packets)
       → IsRound honest at_will state seen busy (record { member = old; written = c }) (record {
         member =
@@ -131,8 +131,8 @@ module _ {S : Type 0} (honest at_will : Type 0) (state : S → StoreState) where
       (c d : Option (List ℕ)) (e f : Ended) (r : Result Bool Ended)
       → r ≡ Err e → e ≡ f → f ≡ write_failed → HasRestedAndTurned honest at_will state busy old mid
       (Ok then)
-      → (gone : List ℕ) × (byte : ℕ) × Releases
-      (input mid.node.protocol.rules) mid.node.progress new.node.progress (gone ++ byte ∷ [])
+      → (gone : List ℕ) × (byte : ℕ) × ReleasesBytes
+      (input mid.node.protocol.known) mid.node.progress new.node.progress (gone ++ byte ∷ [])
       × (seen ≤ mid.node.progress.released + length gone)
       × Appends c d (drop (seen - mid.node.progress.released) gone)
       → (new.node.protocol ≡ mid.node.protocol) × (new.packets ≡ mid.packets)
@@ -164,13 +164,13 @@ module _ {S : Type 0} (honest at_will : Type 0) (state : S → StoreState) where
 
   -- ---- rounds, one after the other
 
-  pub plays_more : (seen n : ℕ) (first busy then : Bool) (old mid new : Moment S)
+  pub plays_more : (seen n : ℕ) (first busy then : Bool) (old mid new : NodeMoment S)
       → Rounds honest at_will state seen n first old busy mid
       → IsRound honest at_will state seen busy mid new (Ok then)
       → Rounds honest at_will state seen (n + 1) first old then new
   plays_more seen n first busy then old mid new p q = rw (add-one n) (mid, busy, p, q)
 
-  pub plays_refused : (seen turns n : ℕ) (busy : Bool) (old mid new : Moment S) (e f : Ended)
+  pub plays_refused : (seen turns n : ℕ) (busy : Bool) (old mid new : NodeMoment S) (e f : Ended)
       (r : Result (Unit {0}) Ended)
       → r ≡ Err e → e ≡ f → n < turns → Rounds honest at_will state seen n true old busy mid
       → IsRound honest at_will state seen busy mid new (Err f) → HasPlayed honest at_will state seen turns old new r

@@ -6,18 +6,18 @@ use Rattle.std.proofs.KnownBytes.{Appends-nil}
 use Rattle.paxos_acceptor.specs.declared.me.Me.{Me}
 use Rattle.paxos_acceptor.specs.Files.{Filed}
 use Rattle.pcode_file.specs.Parts.{Parts}
-use Rattle.pcode_machine.specs.Runs.{after, out, Leads}
+use Rattle.pcode_machine.specs.Runs.{after_steps, out, LeadsIn}
 use Rattle.group_node.specs.Output.{IsReplay, Progress, no_progress}
-use Rattle.group_node.specs.States.{State, input}
+use Rattle.group_node.specs.States.{NodeState, input}
 use Rattle.group_udp.specs.declared.ended.Ended.{Ended}
-use Rattle.group_udp.specs.Output.{Writes, released_by}
-use Rattle.group_udp.specs.Refusals.{IsCampaignRefusal, IsOpenRefusal, IsRefusal, no_memory, write_failed}
-use Rattle.group_udp.specs.Runs.{HasRun, HasRunOverFile, HasShown, filed_loads, filed_state}
+use Rattle.group_udp.specs.Output.{WritesOutput, released_by}
+use Rattle.group_udp.specs.Refusals.{IsCampaignRefusal, IsOpenRefusal, IsRoundRefusal, no_memory, write_failed}
+use Rattle.group_udp.specs.Runs.{HasRunNode, HasRunOverFile, HasShown, filed_loads, filed_state}
 use Rattle.group_udp.proofs.Writing.{no_write}
 
 -- no step was made, and nothing was released
 none_yet : (p : Parts) → IsReplay [] (no_progress p)
-unfolding after out Leads
+unfolding after_steps out LeadsIn
 none_yet p = record { made = refl; released = omega arith; few = omega arith }
 
 -- so nothing was written
@@ -37,19 +37,19 @@ shown_none p seen fails c not = record {
 }
 
 -- what was written from a start on
-pub shown_from : {S : Type 0} (p : Parts) (seen : ℕ) (first last : State S) (fails : Type 0)
+pub shown_from : {S : Type 0} (p : Parts) (seen : ℕ) (first last : NodeState S) (fails : Type 0)
     (c d : Option (List ℕ))
     → first.progress ≡ no_progress p → last.progress.program ≡ first.progress.program
-    → IsReplay (input last.protocol.rules) last.progress
-    → (wrote : List ℕ) × Writes seen first last fails wrote × Appends c d wrote
+    → IsReplay (input last.protocol.known) last.progress
+    → (wrote : List ℕ) × WritesOutput seen first last fails wrote × Appends c d wrote
     → HasShown p seen fails c d
 shown_from p seen first last fails c d start program replay (wrote, h, appends) =
     let few : released_by first ≡ [] = ap (λ (q : Progress). take q.released (out q.program
-    (input first.protocol.rules) q.steps)) start in
+    (input first.protocol.known) q.steps)) start in
     let none : drop seen (released_by first) ≡ [] = ap (drop seen) few
     ∙ drop_all seen [] (omega arith) in
     record {
-      input = input last.protocol.rules;
+      input = input last.protocol.known;
       progress = last.progress;
       runs = program ∙ ap (λ (q : Progress). q.program) start;
       replay = replay;
@@ -63,7 +63,7 @@ shown_from p seen first last fails c d start program replay (wrote, h, appends) 
 
 -- ---- refusals that are no failed write
 
-pub no_campaign_write : (e : Ended) → IsRefusal e ⊎ IsCampaignRefusal e → e ≢ write_failed
+pub no_campaign_write : (e : Ended) → IsRoundRefusal e ⊎ IsCampaignRefusal e → e ≢ write_failed
 no_campaign_write e (inl h) = no_write e h
 no_campaign_write e (inr (inl is)) = λ w. absurd cc
 no_campaign_write e (inr (inr (inl is))) = λ w. absurd cc
@@ -83,11 +83,11 @@ no_memory_write r e is same = λ f. absurd cc
 pub run_over_file : (me : Me) (program : Parts) (store : Filed) (campaigns : Bool)
     (seen turns : ℕ) (from to : Option (List ℕ))
     (r : Result (Unit {0}) Ended) → store ≡ record { me = me; found = None; faults = 0 }
-    → HasRun ⊥ ⊥ filed_state filed_loads me program store campaigns seen turns from to r
+    → HasRunNode ⊥ ⊥ filed_state filed_loads me program store campaigns seen turns from to r
     → HasRunOverFile me program campaigns seen turns from to r
 run_over_file me program store campaigns seen turns from to r is h =
     inr (subst (λ
-    (s : Filed). HasRun ⊥ ⊥ filed_state filed_loads me program s campaigns seen turns from to r) is h)
+    (s : Filed). HasRunNode ⊥ ⊥ filed_state filed_loads me program s campaigns seen turns from to r) is h)
 
 -- the same of a node of that number, and of what its writer held
 pub file_run : (me config : Me) (program : Parts) (campaigns : Bool) (seen turns : ℕ)

@@ -8,7 +8,7 @@ cut bytes [] = []
 cut bytes (n ∷ ns) = take n bytes ∷ cut (drop n bytes) ns
 
 -- the lengths are those of all bytes, and there is room for 65,536 bytes and 256 lengths
-pub record IsKept (bytes lengths : Buffer ℕ) : Type 0 where
+pub record IsBuffered (bytes lengths : Buffer ℕ) : Type 0 where
   pub whole : sum lengths.items ≡ length bytes.items
   pub bytes_room : bytes.capacity ≡ 65536
   pub lengths_room : lengths.capacity ≡ 256

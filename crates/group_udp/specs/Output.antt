@@ -3,7 +3,7 @@ use Rattle.std.specs.Prelude.{◌≡◌, ℕ, ◌+◌, ◌-◌, List, [], ◌++�
 use Rattle.pcode_file.specs.Parts.{Parts}
 use Rattle.pcode_machine.specs.Runs.{out}
 use Rattle.group_node.specs.Output.{Progress, unreleased_of}
-use Rattle.group_node.specs.States.{State, input}
+use Rattle.group_node.specs.States.{NodeState, input}
 
 -- the bytes that were released: the first ones of the output after that many steps on the input x
 abbrev pub released_of : List ℕ → Progress → List ℕ
@@ -22,7 +22,7 @@ abbrev pub all_released : List ℕ → Progress → Progress
 all_released x q = record q { released = q.released + length (unreleased_of x q) }
 
 -- these bytes were released, the first of those that waited
-pub record Releases (x : List ℕ) (old new : Progress) (gone : List ℕ) : Type 0 where
+pub record ReleasesBytes (x : List ℕ) (old new : Progress) (gone : List ℕ) : Type 0 where
   pub waited : unreleased_of x old ≡ gone ++ unreleased_of x new
   pub progress : new ≡ record old { released = old.released + length gone }
 
@@ -33,12 +33,13 @@ pub record AreFirst (p : Parts) (z : List ℕ) (k : ℕ) (bytes : List ℕ) : Ty
   pub many : length bytes ≡ k
 
 -- the bytes that a node has released
-abbrev pub released_by : {S : Type 0} → State S → List ℕ
-released_by n = released_of (input n.protocol.rules) n.progress
+abbrev pub released_by : {S : Type 0} → NodeState S → List ℕ
+released_by n = released_of (input n.protocol.known) n.progress
 
--- Between two moments of a node these bytes of its output were written: what it released, but for bytes with a number below `seen`. Where a
--- write failed, the last of them is lost.
-pub record Writes {S : Type 0} (seen : ℕ) (old new : State S) (fails : Type 0) (wrote : List ℕ) : Type 0 where
+-- Between two moments of a node these bytes of its output were written: what it released, but for
+-- bytes with a number below `seen`. Where a write failed, the last of them is lost.
+pub record WritesOutput {S : Type 0} (seen : ℕ) (old new : NodeState S) (fails : Type 0)
+    (wrote : List ℕ) : Type 0 where
   pub lost : List ℕ
   pub whole : drop seen (released_by new) ≡ (drop seen (released_by old) ++ wrote) ++ lost
   pub one : fails → length lost ≡ 1

@@ -17,8 +17,8 @@ abbrev pub no_memory : Ended
 no_memory = Machine (Run Memory)
 
 -- what a node may refuse in a round: it is stopped, a save failed, or its serials are spent
-abbrev pub IsRefusal : Ended → Type 0
-IsRefusal e = (e ≡ ended.Node Stopped) ⊎ (e ≡ ended.Node Store) ⊎ (e ≡ ended.Node SerialSpent)
+abbrev pub IsRoundRefusal : Ended → Type 0
+IsRoundRefusal e = (e ≡ ended.Node Stopped) ⊎ (e ≡ ended.Node Store) ⊎ (e ≡ ended.Node SerialSpent)
 
 -- what else a campaign may refuse
 abbrev pub IsCampaignRefusal : Ended → Type 0
@@ -31,7 +31,7 @@ IsStartRefusal e = (e ≡ ended.Node fault.BadRecord) ⊎ (e ≡ ended.Node faul
 
 -- what a node may refuse from its start on
 abbrev pub IsRunRefusal : Ended → Type 0
-IsRunRefusal e = IsRefusal e ⊎ (e ≡ write_failed) ⊎ IsCampaignRefusal e ⊎ IsStartRefusal e
+IsRunRefusal e = IsRoundRefusal e ⊎ (e ≡ write_failed) ⊎ IsCampaignRefusal e ⊎ IsStartRefusal e
 
 -- why sockets are not opened
 abbrev pub IsOpenRefusal : Ended → Type 0

@@ -14,7 +14,7 @@ use Rattle.group_udp.specs.declared.ended.Ended.TheVariants as ended
 use Rattle.group_udp.specs.declared.typed.Pressed.{Pressed}
 use Rattle.group_udp.specs.declared.typed.Pressed.TheVariants.{Typed, Campaigned, CampaignRefused}
 use Rattle.group_udp.specs.Members.{HasCampaigned, HasHeard, HasTurn, HasTyped, NodeAndOutbox}
-use Rattle.group_udp.specs.Output.{Releases, all_released, unseen_of}
+use Rattle.group_udp.specs.Output.{ReleasesBytes, all_released, unseen_of}
 use Rattle.group_udp.specs.Refusals.{no_memory, write_failed}
 
 -- what a call leaves of a value, and answers
@@ -22,10 +22,10 @@ abbrev pub Call : Type 0 → Type 0 → Type 1
 Call M T = M → M → Result T Ended → Type 0
 
 -- one call, and then another, unless the first is refused
-abbrev pub Then : {M T U : Type 0} → Call M T → Call M U → Call M U
-Then {M} {T} first second old new (Ok x) = (mid : M) × (y : T) × first old mid (Ok y)
+abbrev pub ThenCalls : {M T U : Type 0} → Call M T → Call M U → Call M U
+ThenCalls {M} {T} first second old new (Ok x) = (mid : M) × (y : T) × first old mid (Ok y)
     × second mid new (Ok x)
-Then {M} {T} first second old new (Err e) =
+ThenCalls {M} {T} first second old new (Err e) =
     first old new (Err e) ⊎ ((mid : M) × (y : T) × first old mid (Ok y) × second mid new (Err e))
 
 -- ---- up to a turn, and the turn
@@ -62,7 +62,8 @@ RestsUnless honest state false old new result = HasRested honest state old new r
 abbrev pub HasTypedSome : {S : Type 0} → Call (NodeAndOutbox S) (Unit {0})
 HasTypedSome old new (Ok x) = (before after : List ℕ) × HasTyped old new before after (Ok tt)
 HasTypedSome old new (Err e) =
-    (before after : List ℕ) × (fault : NodeFault) × HasTyped old new before after (Err fault) × (e ≡ ended.Node fault)
+    (before after : List ℕ) × (fault : NodeFault) × HasTyped old new before after (Err fault)
+    × (e ≡ ended.Node fault)
 
 -- A campaign that was asked for, and what is answered of it. Only a stopped node and a failed save
 -- end the node.
@@ -107,35 +108,36 @@ HasOwnTurn honest state old new (Err e) =
 abbrev pub HasRestedAndTurned : {S : Type 0} → Type 0 → Type 0 → (S → StoreState) → Bool
     → Call (NodeAndOutbox S) Bool
 HasRestedAndTurned honest at_will state busy =
-    Then (RestsUnless honest state busy) (Then (HasPressed honest at_will state) (HasOwnTurn honest state))
+    ThenCalls (RestsUnless honest state busy)
+    (ThenCalls (HasPressed honest at_will state) (HasOwnTurn honest state))
 
 -- ---- rounds
 
 -- a moment of a node: the node with its outbox, and what its writer holds, where that is known
-pub record Moment (S : Type 0) : Type 0 where
+pub record NodeMoment (S : Type 0) : Type 0 where
   pub member : NodeAndOutbox S
   pub written : Option (List ℕ)
 
 -- a call of the node alone: nothing is written
-abbrev pub Unwritten : {S T : Type 0} → Call (NodeAndOutbox S) T → Call (Moment S) T
+abbrev pub Unwritten : {S T : Type 0} → Call (NodeAndOutbox S) T → Call (NodeMoment S) T
 Unwritten call old new result = call old.member new.member result × (new.written ≡ old.written)
 
 -- all output that waits is released, and what of it was not seen is written
-pub record ReleasesAll {S : Type 0} (seen : ℕ) (old new : Moment S) : Type 0 where
+pub record WritesAll {S : Type 0} (seen : ℕ) (old new : NodeMoment S) : Type 0 where
   pub progress : new.member.node.progress ≡ all_released
-      (input old.member.node.protocol.rules) old.member.node.progress
+      (input old.member.node.protocol.known) old.member.node.progress
   pub appended : Appends old.written new.written (unseen_of seen
-      (input old.member.node.protocol.rules) old.member.node.progress)
+      (input old.member.node.protocol.known) old.member.node.progress)
   pub protocol : new.member.node.protocol ≡ old.member.node.protocol
   pub packets : new.member.packets ≡ old.member.packets
 
 -- a byte that was not seen is released and can't be written; those before it are released, and what
 -- of them was not seen is written
-pub record LosesByte {S : Type 0} (seen : ℕ) (old new : Moment S) : Type 0 where
+pub record LosesOutput {S : Type 0} (seen : ℕ) (old new : NodeMoment S) : Type 0 where
   pub gone : List ℕ
   pub byte : ℕ
-  pub released : Releases
-      (input old.member.node.protocol.rules) old.member.node.progress new.member.node.progress
+  pub released : ReleasesBytes
+      (input old.member.node.protocol.known) old.member.node.progress new.member.node.progress
       (gone ++ byte ∷ [])
   pub unseen : seen ≤ old.member.node.progress.released + length gone
   pub appended : Appends old.written new.written (drop
@@ -144,36 +146,41 @@ pub record LosesByte {S : Type 0} (seen : ℕ) (old new : Moment S) : Type 0 whe
   pub packets : new.member.packets ≡ old.member.packets
 
 -- a release of all output, which a failed write ends
-abbrev pub HasReleased : {S : Type 0} → ℕ → Call (Moment S) (Unit {0})
-HasReleased seen old new (Ok x) = ReleasesAll seen old new
-HasReleased seen old new (Err e) = LosesByte seen old new × (e ≡ write_failed)
+abbrev pub HasReleased : {S : Type 0} → ℕ → Call (NodeMoment S) (Unit {0})
+HasReleased seen old new (Ok x) = WritesAll seen old new
+HasReleased seen old new (Err e) = LosesOutput seen old new × (e ≡ write_failed)
 
 -- A round of a node that is busy or not, and whether it is busy then: a rest, typing, a turn, and
 -- the release. The first that is refused ends it.
-abbrev pub IsRound : {S : Type 0} → Type 0 → Type 0 → (S → StoreState) → ℕ → Bool → Call (Moment S) Bool
+abbrev pub IsRound : {S : Type 0} → Type 0 → Type 0 → (S → StoreState) → ℕ → Bool
+    → Call (NodeMoment S) Bool
 IsRound {S} honest at_will state seen busy old new (Ok then) =
-    (turned : Moment S) × Unwritten (HasRestedAndTurned honest at_will state busy) old turned (Ok then)
+    (turned : NodeMoment S)
+    × Unwritten (HasRestedAndTurned honest at_will state busy) old turned (Ok then)
     × HasReleased seen turned new (Ok tt)
 IsRound {S} honest at_will state seen busy old new (Err e) =
     Unwritten (HasRestedAndTurned honest at_will state busy) old new (Err e)
-    ⊎ ((turned : Moment S) × (then : Bool) × Unwritten
+    ⊎ ((turned : NodeMoment S) × (then : Bool) × Unwritten
     (HasRestedAndTurned honest at_will state busy) old turned (Ok then)
     × HasReleased seen turned new (Err e))
 
 -- n rounds, none of which was refused, of a node that is busy or not at first, and then
-abbrev pub Rounds : {S : Type 0} → Type 0 → Type 0 → (S → StoreState) → ℕ → ℕ → Bool → Moment S → Bool
-    → Moment S → Type 0
+abbrev pub Rounds : {S : Type 0} → Type 0 → Type 0 → (S → StoreState) → ℕ → ℕ → Bool → NodeMoment S
+    → Bool
+    → NodeMoment S → Type 0
 Rounds honest at_will state seen zero busy old then new = (new ≡ old) × (then ≡ busy)
 Rounds {S} honest at_will state seen (suc n) busy old then new =
-    (mid : Moment S) × (between : Bool) × Rounds honest at_will state seen n busy old between mid
+    (mid : NodeMoment S) × (between : Bool)
+    × Rounds honest at_will state seen n busy old between mid
     × IsRound honest at_will state seen between mid new (Ok then)
 
 -- n rounds, or fewer and then one that is refused. The node counts as busy before the first.
-abbrev pub HasPlayed : {S : Type 0} → Type 0 → Type 0 → (S → StoreState) → ℕ → ℕ → Call (Moment S) (Unit {0})
+abbrev pub HasPlayed : {S : Type 0} → Type 0 → Type 0 → (S → StoreState) → ℕ → ℕ
+    → Call (NodeMoment S) (Unit {0})
 HasPlayed honest at_will state seen turns old new (Ok x) = (busy : Bool)
     × Rounds honest at_will state seen turns true old busy new
 HasPlayed {S} honest at_will state seen turns old new (Err e) = (done : ℕ) × (done < turns)
-    × (mid : Moment S) × (busy : Bool)
+    × (mid : NodeMoment S) × (busy : Bool)
     × Rounds honest at_will state seen done true old busy mid
     × IsRound honest at_will state seen busy mid new (Err e)
 
@@ -189,9 +196,9 @@ CampaignsIf honest at_will state true old new (Err e) =
 
 -- a node campaigns, if it is to, and then has so many rounds
 abbrev pub HasCampaignedAndPlayed : {S : Type 0} → Type 0 → Type 0 → (S → StoreState) → Bool → ℕ
-    → ℕ → Call (Moment S) (Unit {0})
+    → ℕ → Call (NodeMoment S) (Unit {0})
 HasCampaignedAndPlayed honest at_will state campaigns seen turns =
-    Then (Unwritten (CampaignsIf honest at_will state campaigns))
+    ThenCalls (Unwritten (CampaignsIf honest at_will state campaigns))
     (HasPlayed honest at_will state seen turns)
 
 -- ---- a node of a group in one process, whose store is in memory
@@ -199,13 +206,13 @@ HasCampaignedAndPlayed honest at_will state campaigns seen turns =
 -- all output that waits is released, or the first of it, as far as there is memory to show it
 abbrev pub HasShownAll : {S : Type 0} → Call (NodeAndOutbox S) (Unit {0})
 HasShownAll old new (Ok x) =
-    (new.node.progress ≡ all_released (input old.node.protocol.rules) old.node.progress)
+    (new.node.progress ≡ all_released (input old.node.protocol.known) old.node.progress)
     × (new.node.protocol ≡ old.node.protocol) × (new.packets ≡ old.packets)
 HasShownAll old new (Err e) =
-    (gone : List ℕ) × Releases
-    (input old.node.protocol.rules) old.node.progress new.node.progress gone
+    (gone : List ℕ) × ReleasesBytes
+    (input old.node.protocol.known) old.node.progress new.node.progress gone
     × (new.node.protocol ≡ old.node.protocol) × (new.packets ≡ old.packets) × (e ≡ no_memory)
 
 -- a turn, and then the output is shown
 abbrev pub HasTurnedAndShown : Call (NodeAndOutbox StoreState) (Unit {0})
-HasTurnedAndShown = Then (HasOwnTurn (Unit {0}) (λ s. s)) HasShownAll
+HasTurnedAndShown = ThenCalls (HasOwnTurn (Unit {0}) (λ s. s)) HasShownAll

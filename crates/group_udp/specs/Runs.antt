@@ -19,10 +19,10 @@ use Rattle.group_udp.specs.Rounds.{HasCampaignedAndPlayed}
 
 -- A run of a node over a store, and what its writer held and holds: its start is refused, and
 -- nothing is written; or it starts, campaigns if it is to, and has its rounds.
-abbrev pub HasRun : {S : Type 0} → Type 0 → Type 0 → (S → StoreState)
+abbrev pub HasRunNode : {S : Type 0} → Type 0 → Type 0 → (S → StoreState)
     → (S → Result Record StoreFault → S → Type 0) → Me → Parts → S → Bool → ℕ → ℕ
     → Option (List ℕ) → Option (List ℕ) → Result (Unit {0}) Ended → Type 0
-HasRun {S} honest at_will state loads me program store campaigns seen turns from to result =
+HasRunNode {S} honest at_will state loads me program store campaigns seen turns from to result =
     ((refused : StartRefused S) × HasStarted honest state loads me program store (Err refused)
     × (to ≡ from) × (result ≡ Err (ended.Node refused.fault)))
     ⊎ ((first last : NodeAndOutbox S) × HasStarted honest state loads me program store (Ok first)
@@ -60,13 +60,16 @@ abbrev pub HasRunOverFile : Me → Parts → Bool → ℕ → ℕ → Option (Li
     → Result (Unit {0}) Ended → Type 0
 HasRunOverFile me program campaigns seen turns from to result =
     ((e : Ended) × IsOpenRefusal e × (to ≡ from) × (result ≡ Err e))
-    ⊎ HasRun ⊥ ⊥ filed_state filed_loads me program (record { me = me; found = None; faults = 0 })
+    ⊎ HasRunNode ⊥ ⊥ filed_state filed_loads me program
+    (record { me = me; found = None; faults = 0 })
     campaigns seen turns from to result
 
--- A run over the file of a record, of some program, and what a wrapper of the given writer holds then; or it is refused before it begins,
--- and the given writer is as it was.
-abbrev pub HasRunOrRefused : Me → Bool → ℕ → ℕ → Option (List ℕ) → Option (List ℕ) → Result (Unit {0}) Ended → Type 0
+-- A run over the file of a record, of some program, and what a wrapper of the given writer holds
+-- then; or it is refused before it begins, and the given writer is as it was.
+abbrev pub HasRunOrRefused : Me → Bool → ℕ → ℕ → Option (List ℕ) → Option (List ℕ)
+    → Result (Unit {0}) Ended → Type 0
 HasRunOrRefused me campaigns seen turns from to result =
-    ((program : Parts) × (now : Option (List ℕ)) × HasRunOverFile me program campaigns seen turns from now result
+    ((program : Parts) × (now : Option (List ℕ))
+    × HasRunOverFile me program campaigns seen turns from now result
     × HasShown program seen (IsErrOf result write_failed) from now)
     ⊎ (IsErr result × (to ≡ from))

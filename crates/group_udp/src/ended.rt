@@ -14,7 +14,8 @@ pub enum Ended {
     /// A node refuses to start, or a call.
     #[error(transparent)]
     Node(NodeFault),
-    /// The code file is refused, there is no memory, the input can't be read, or the output can't be written.
+    /// The code file is refused, there is no memory, the input can't be read, or the output can't
+    /// be written.
     #[error(transparent)]
     Machine(MachineRefusal),
 }

@@ -13,19 +13,26 @@ ghost use Rattle.group_udp.specs.Sources.{IsFromSender};
 
 use pcode_machine::laws::{output_only_grows, prefixes_are_ordered};
 
-/// A console of which the right number was told goes on as one. What a start writes, told that no byte was
-/// seen, is output on its learned input. To a console that shows output on an input x a later start, told
-/// how many bytes the console shows, writes what makes it show the first bytes of one output, as many as
-/// the console had or the start has released, whichever is more: where the learned input y of that start
-/// continues x or x continues y, as of two starts in one group.
+/// A console of which the right number was told goes on as one. What a start writes, told that no
+/// byte was seen, is output on its learned input. To a console that shows output on an input x a
+/// later start, told how many bytes the console shows, writes what makes it show the first bytes of
+/// one output, as many as the console had or the start has released, whichever is more: where the
+/// learned input y of that start continues x or x continues y, as of two starts in one group.
 pub fn consoles_go_on()
-    ensures first { (x : List ℕ) (q : Progress) → IsReplay x q → AreFirst q.program x q.released (shown_of 0 x q) }
-    ensures output { (x : List ℕ) (q : Progress) → IsReplay x q → IsOutput q.program x (shown_of 0 x q) }
-    ensures goes_on { (x y console : List ℕ) (q : Progress) → AreComparable x y → IsOutput q.program x console → IsReplay y q →
-        AreFirst q.program x (max (length console) q.released) (console ++ shown_of (length console) y q)
-        ⊎ AreFirst q.program y (max (length console) q.released) (console ++ shown_of (length console) y q) }
-    ensures output_again { (x y console : List ℕ) (q : Progress) → AreComparable x y → IsOutput q.program x console → IsReplay y q →
-        IsOutput q.program x (console ++ shown_of (length console) y q) ⊎ IsOutput q.program y (console ++ shown_of (length console) y q) }
+    ensures first { (x : List ℕ) (q : Progress) → IsReplay x q
+        → AreFirst q.program x q.released (shown_of 0 x q) }
+    ensures output { (x : List ℕ) (q : Progress) → IsReplay x q
+        → IsOutput q.program x (shown_of 0 x q) }
+    ensures goes_on { (x y console : List ℕ) (q : Progress) → AreComparable x y
+        → IsOutput q.program x console → IsReplay y q
+        → AreFirst q.program x (max (length console) q.released)
+        (console ++ shown_of (length console) y q)
+        ⊎ AreFirst q.program y (max (length console) q.released)
+        (console ++ shown_of (length console) y q) }
+    ensures output_again { (x y console : List ℕ) (q : Progress) → AreComparable x y
+        → IsOutput q.program x console → IsReplay y q
+        → IsOutput q.program x (console ++ shown_of (length console) y q)
+        ⊎ IsOutput q.program y (console ++ shown_of (length console) y q) }
 {
     output_only_grows();
     prefixes_are_ordered();
@@ -34,7 +41,7 @@ pub fn consoles_go_on()
 /// A datagram that spells a message of the group passes the check of its source exactly where it
 /// came from the address of the message's sender.
 pub fn sources_are_senders()
-    ensures { (g : Group) (m : Msg) (bytes : List ℕ) (at : List SocketAddr) (source : SocketAddr) (i : ℕ)
-        → Msgs g bytes m → m.sender ≡ suc i
+    ensures { (g : Group) (m : Msg) (bytes : List ℕ) (at : List SocketAddr) (source : SocketAddr)
+        (i : ℕ) → Msgs g bytes m → m.sender ≡ suc i
         → (IsFromSender at source bytes ↔ (slice_get at i ≡ Some source)) }
 {}

@@ -1,6 +1,7 @@
 //! Nodes on UDP: a group in one process, and one node of a group over a record in a file.
 //!
-//! `net_file` and `node_file` do the work of the commands `net` and `node`. A node waits for datagrams between its turns.
+//! `net_file` and `node_file` do the work of the commands `net` and `node`. A node waits for
+//! datagrams between its turns.
 #![tactic(auto)]
 
 mod ended;

@@ -1,7 +1,7 @@
 //! A node of a group with its outbox, on a wire that each call is handed.
 ghost use Rattle.std.specs.Prelude.{◌≡◌, ◌+◌, ◌≤◌, length, option_map, slice_get, IfNone, OnSome};
 ghost use Rattle.paxos_learner.specs.Learner.{IsFront};
-ghost use Rattle.group_node.specs.Node.{front};
+ghost use Rattle.group_node.specs.Known.{front};
 ghost use Rattle.group_node.specs.Output.{IsReplay, unreleased_of};
 ghost use Rattle.group_node.specs.States.{input};
 ghost use Rattle.group_udp.specs.Members.{HasCampaigned, HasHeard, HasStarted, HasTurn, HasTyped};
@@ -47,7 +47,7 @@ impl<'a, S: Store> Model for Member<'a, S> {
 
     ghost view = { λ m. record { node = m.node; packets = m.outbox.packets } };
 
-    ghost invariant = { λ m. m.node.protocol.rules.me.group ≡ m.group };
+    ghost invariant = { λ m. m.node.protocol.known.me.group ≡ m.group };
 }
 
 impl<'a, S: Store + Drop> Member<'a, S> {
@@ -94,7 +94,8 @@ impl<'a, S: Store + Drop> Member<'a, S> {
 
     /// The node begins a ballot. What it sends goes out in its next turn.
     pub fn campaign(&mut self) -> Result<(), NodeFault>
-        ensures campaigned { HasCampaigned S.honest S.fails_at_will S.state self.old self.new result }
+        ensures campaigned { HasCampaigned S.honest S.fails_at_will S.state self.old self.new
+            result }
         ensures stays { released_by self.new.node ≡ released_by self.old.node }
     {
         self.node.campaign(&mut self.outbox)
@@ -102,7 +103,8 @@ impl<'a, S: Store + Drop> Member<'a, S> {
 
     /// A turn of the node on this wire, and what it did. What was released before stays as it is.
     pub fn turn<T: Wire>(&mut self, wire: &mut T) -> Result<Turned, NodeFault>
-        ensures turn { HasTurn S.honest S.state self.old self.new (T.traffic wire.old) (T.traffic wire.new) result }
+        ensures turn { HasTurn S.honest S.state self.old self.new (T.traffic wire.old)
+            (T.traffic wire.new) result }
         ensures stays { released_by self.new.node ≡ released_by self.old.node }
     {
         learned_stays();
@@ -115,7 +117,8 @@ impl<'a, S: Store + Drop> Member<'a, S> {
 
     /// The node takes the next datagram from this wire, if one is there, without a turn.
     pub fn hear<T: Wire>(&mut self, wire: &mut T) -> Result<Heard, NodeFault>
-        ensures heard { HasHeard S.honest S.state self.old self.new (T.traffic wire.old) (T.traffic wire.new) result }
+        ensures heard { HasHeard S.honest S.state self.old self.new (T.traffic wire.old)
+            (T.traffic wire.new) result }
         ensures stays { released_by self.new.node ≡ released_by self.old.node }
     {
         learned_stays();
@@ -128,8 +131,13 @@ impl<'a, S: Store + Drop> Member<'a, S> {
 
     /// Releases the first byte of the output that waits, with its number from this start on.
     pub fn release(&mut self) -> Option<(u64, u8)>
-        ensures value { result ≡ option_map (λ b. (self.old.node.progress.released, b)) (slice_get (unreleased_of (input self.old.node.protocol.rules) self.old.node.progress) 0) }
-        ensures some { OnSome result (self.new.node.progress ≡ record self.old.node.progress { released = self.old.node.progress.released + 1 }) }
+        ensures value { result
+            ≡ option_map (λ b. (self.old.node.progress.released, b))
+            (slice_get (unreleased_of (input self.old.node.protocol.known) self.old.node.progress)
+            0) }
+        ensures some { OnSome result
+            (self.new.node.progress
+            ≡ record self.old.node.progress { released = self.old.node.progress.released + 1 }) }
         ensures none { IfNone result (self.new ≡ self.old) }
         ensures protocol { self.new.node.protocol ≡ self.old.node.protocol }
         ensures packets { self.new.packets ≡ self.old.packets }
@@ -139,16 +147,17 @@ impl<'a, S: Store + Drop> Member<'a, S> {
 
     /// How many bytes of output wait, at most 256.
     pub fn unreleased(&self) -> usize
-        ensures count { result ≡ length (unreleased_of (input self.now.node.protocol.rules) self.now.node.progress) }
-        ensures replay { IsReplay (input self.now.node.protocol.rules) self.now.node.progress }
+        ensures count { result
+            ≡ length (unreleased_of (input self.now.node.protocol.known) self.now.node.progress) }
+        ensures replay { IsReplay (input self.now.node.protocol.known) self.now.node.progress }
     {
         self.node.unreleased()
     }
 
     /// The least place that is not learned.
     pub fn known_front(&self) -> u32
-        ensures front { result ≡ front self.now.node.protocol.rules }
-        ensures least { IsFront self.now.node.protocol.rules.learner.learned result }
+        ensures front { result ≡ front self.now.node.protocol.known }
+        ensures least { IsFront self.now.node.protocol.known.learner.learned result }
         ensures few { result ≤ 65536 }
     {
         self.node.known_front()
@@ -156,7 +165,7 @@ impl<'a, S: Store + Drop> Member<'a, S> {
 
     /// How many typed keys wait.
     pub fn waiting(&self) -> usize
-        ensures count { result ≡ length self.now.node.protocol.rules.waiting }
+        ensures count { result ≡ length self.now.node.protocol.known.waiting }
         ensures few { result ≤ 256 }
     {
         self.node.waiting()

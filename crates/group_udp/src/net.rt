@@ -2,8 +2,8 @@
 ghost use Rattle.std.specs.Prelude.{◌≡◌, ◌<◌, ◌++◌, ◌∷◌, ◌⊎◌, ℕ, List, [], length, IfErr, IfOk, OnErr, OnOk};
 ghost use Rattle.group_node.specs.Output.{unreleased_of};
 ghost use Rattle.group_node.specs.States.{input};
-ghost use Rattle.group_udp.specs.Output.{Releases, all_released, released_of};
-ghost use Rattle.group_udp.specs.Refusals.{IsNetRefusal, IsOpenRefusal, IsRefusal, IsRunRefusal, no_memory};
+ghost use Rattle.group_udp.specs.Output.{ReleasesBytes, all_released, released_of};
+ghost use Rattle.group_udp.specs.Refusals.{IsNetRefusal, IsOpenRefusal, IsRoundRefusal, IsRunRefusal, no_memory};
 ghost use Rattle.group_udp.specs.Rounds.{HasShownAll, HasTurnedAndShown};
 ghost use Rattle.machine_run.specs.declared.refusal.MachineRefusal.{MachineRefusal};
 
@@ -31,7 +31,8 @@ struct Seat<'a, H> {
     member: Member<'a, MemoryStore>,
     wire: UdpWire<'a, H>,
     console: Console,
-    ghost shows: { console.bytes ≡ released_of (input member.node.protocol.rules) member.node.progress },
+    ghost shows: { console.bytes
+        ≡ released_of (input member.node.protocol.known) member.node.progress },
 }
 
 impl<'a, H> Drop for Seat<'a, H> {
@@ -50,13 +51,20 @@ fn show_next<S: Store + Drop>(
     member: &mut Member<'_, S>,
     console: &mut Console,
 ) -> Result<(), Ended>
-    requires waits { 0 < length (unreleased_of (input member.old.node.protocol.rules) member.old.node.progress) }
-    requires shows { console.old.bytes ≡ released_of (input member.old.node.protocol.rules) member.old.node.progress }
-    ensures shows { console.new.bytes ≡ released_of (input member.old.node.protocol.rules) member.new.node.progress }
-    ensures one { OnOk result ((byte : ℕ) × Releases (input member.old.node.protocol.rules) member.old.node.progress member.new.node.progress (byte ∷ [])) }
+    requires waits { 0 < length
+        (unreleased_of (input member.old.node.protocol.known) member.old.node.progress) }
+    requires shows { console.old.bytes
+        ≡ released_of (input member.old.node.protocol.known) member.old.node.progress }
+    ensures shows { console.new.bytes
+        ≡ released_of (input member.old.node.protocol.known) member.new.node.progress }
+    ensures one { OnOk result
+        ((byte : ℕ) × ReleasesBytes
+        (input member.old.node.protocol.known) member.old.node.progress member.new.node.progress
+        (byte ∷ [])) }
     ensures none { OnErr result (member.new.node.progress ≡ member.old.node.progress) }
     ensures others { IfErr result (λ e. e ≡ no_memory) }
-    ensures rest { (member.new.node.protocol ≡ member.old.node.protocol) × (member.new.packets ≡ member.old.packets) }
+    ensures rest { (member.new.node.protocol ≡ member.old.node.protocol)
+        × (member.new.packets ≡ member.old.packets) }
 {
     if console.reserve().is_err() {
         return Err(Ended::from(RunIo::Memory));
@@ -70,17 +78,25 @@ fn show_next<S: Store + Drop>(
     }
 }
 
-/// All output that waits goes to the console, which has shown what was released before: each byte once,
-/// in order. Where there is no memory for a byte, it and those behind it wait still.
+/// All output that waits goes to the console, which has shown what was released before: each byte
+/// once, in order. Where there is no memory for a byte, it and those behind it wait still.
 fn show_all<S: Store + Drop>(member: &mut Member<'_, S>, console: &mut Console) -> Result<(), Ended>
-    requires shows { console.old.bytes ≡ released_of (input member.old.node.protocol.rules) member.old.node.progress }
-    ensures shows { console.new.bytes ≡ released_of (input member.new.node.protocol.rules) member.new.node.progress }
-    ensures appended { OnOk result (console.new.bytes ≡ console.old.bytes ++ unreleased_of (input member.old.node.protocol.rules) member.old.node.progress) }
-    ensures released { OnOk result (member.new.node.progress ≡ all_released (input member.old.node.protocol.rules) member.old.node.progress) }
-    ensures front { (gone : List ℕ) × Releases (input member.old.node.protocol.rules) member.old.node.progress member.new.node.progress gone
-        × (console.new.bytes ≡ console.old.bytes ++ gone) }
+    requires shows { console.old.bytes
+        ≡ released_of (input member.old.node.protocol.known) member.old.node.progress }
+    ensures shows { console.new.bytes
+        ≡ released_of (input member.new.node.protocol.known) member.new.node.progress }
+    ensures appended { OnOk result
+        (console.new.bytes ≡ console.old.bytes
+        ++ unreleased_of (input member.old.node.protocol.known) member.old.node.progress) }
+    ensures released { OnOk result
+        (member.new.node.progress
+        ≡ all_released (input member.old.node.protocol.known) member.old.node.progress) }
+    ensures front { (gone : List ℕ)
+        × ReleasesBytes (input member.old.node.protocol.known) member.old.node.progress
+        member.new.node.progress gone × (console.new.bytes ≡ console.old.bytes ++ gone) }
     ensures others { IfErr result (λ e. e ≡ no_memory) }
-    ensures rest { (member.new.node.protocol ≡ member.old.node.protocol) × (member.new.packets ≡ member.old.packets) }
+    ensures rest { (member.new.node.protocol ≡ member.old.node.protocol)
+        × (member.new.packets ≡ member.old.packets) }
 {
     for _ in 0..member.unreleased() {
         show_next(member, console)?;
@@ -119,7 +135,7 @@ impl<'a, H: Clock> Seat<'a, H> {
     /// that waits is shown.
     fn play(&mut self) -> Result<(), Ended>
         ensures plays { HasTurnedAndShown self.old.member self.new.member result }
-        ensures others { IfErr result (λ e. IsRefusal e ⊎ (e ≡ no_memory)) }
+        ensures others { IfErr result (λ e. IsRoundRefusal e ⊎ (e ≡ no_memory)) }
     {
         self.wire.begin_rest();
         self.wire.wait(true);
@@ -213,7 +229,7 @@ fn campaign<H: Clock>(seats: &mut [Seat<'_, H>]) -> Result<(), Ended>
 
 /// Node 1 types as many of the bytes as it has room for, and takes them off the front.
 fn press_first<H: Clock>(seats: &mut [Seat<'_, H>], bytes: &mut &[u8]) -> Result<(), Ended>
-    ensures others { IfErr result (λ e. IsRefusal e) }
+    ensures others { IfErr result (λ e. IsRoundRefusal e) }
 {
     match seats.first_mut() {
         Some(seat) => Ok(seat.member.press_some(bytes)?),
@@ -223,7 +239,7 @@ fn press_first<H: Clock>(seats: &mut [Seat<'_, H>], bytes: &mut &[u8]) -> Result
 
 /// A turn of each node, in order.
 fn play_all<H: Clock>(seats: &mut [Seat<'_, H>]) -> Result<(), Ended>
-    ensures others { IfErr result (λ e. IsRefusal e ⊎ (e ≡ no_memory)) }
+    ensures others { IfErr result (λ e. IsRoundRefusal e ⊎ (e ≡ no_memory)) }
 {
     for seat in seats.iter_mut() {
         seat.play()?;
@@ -233,7 +249,7 @@ fn play_all<H: Clock>(seats: &mut [Seat<'_, H>]) -> Result<(), Ended>
 
 /// The turns of the group. Bytes are typed at node 1 before each, as room allows.
 fn play<H: Clock>(seats: &mut [Seat<'_, H>], turns: u32, input: &[u8]) -> Result<(), Ended>
-    ensures others { IfErr result (λ e. IsRefusal e ⊎ (e ≡ no_memory)) }
+    ensures others { IfErr result (λ e. IsRoundRefusal e ⊎ (e ≡ no_memory)) }
 {
     let mut rest = input;
     for _ in 0..turns {
@@ -251,8 +267,8 @@ fn write_all<H: Clock, W: Write>(writer: &mut W, seats: &[Seat<'_, H>]) -> io::R
     Ok(())
 }
 
-/// Runs a group of so many nodes in this process for so many turns, and writes a line for each node. Node 1 campaigns first, and the
-/// input is typed at it. It ends at a node's first refusal.
+/// Runs a group of so many nodes in this process for so many turns, and writes a line for each
+/// node. Node 1 campaigns first, and the input is typed at it. It ends at a node's first refusal.
 fn net<H: Net + Clock + AllocGlobal, W: Write>(
     rt: &H,
     program: &Program,
@@ -277,8 +293,8 @@ fn net<H: Net + Clock + AllocGlobal, W: Write>(
     write_all(writer, seats.as_slice()).or(Err(Ended::from(RunIo::Write)))
 }
 
-/// Runs the program of a code file in a group in this process, with the input typed at node 1. The code file is looked at first, then the
-/// size, then the input.
+/// Runs the program of a code file in a group in this process, with the input typed at node 1. The
+/// code file is looked at first, then the size, then the input.
 pub fn net_file<H: Files + Net + Clock + AllocGlobal, R: Read, W: Write>(
     rt: &H,
     file: &str,

@@ -4,10 +4,10 @@ ghost use Rattle.std.specs.Io.KnownBytes.{Appends, Keeps};
 ghost use Rattle.base.specs.Faults.{HasRisen};
 ghost use Rattle.group_node.specs.States.{input};
 ghost use Rattle.group_node.specs.Output.{unreleased_of};
-ghost use Rattle.group_udp.specs.Output.{Releases, Writes, all_released, released_by, unseen_of};
-ghost use Rattle.group_udp.specs.Refusals.{IsCampaignRefusal, IsOpenRefusal, IsRefusal, IsRunRefusal, write_failed};
+ghost use Rattle.group_udp.specs.Output.{ReleasesBytes, WritesOutput, all_released, released_by, unseen_of};
+ghost use Rattle.group_udp.specs.Refusals.{IsCampaignRefusal, IsOpenRefusal, IsRoundRefusal, IsRunRefusal, write_failed};
 ghost use Rattle.group_udp.specs.Rounds.{CampaignsIf, HasCampaignedAndPlayed, HasPlayed, HasRested, HasRestedAndTurned, IsRound, RestsUnless, is_busy_after};
-ghost use Rattle.group_udp.specs.Runs.{HasRun, HasRunOrRefused, HasRunOverFile, HasShown};
+ghost use Rattle.group_udp.specs.Runs.{HasRunNode, HasRunOrRefused, HasRunOverFile, HasShown};
 
 use crate::ended::{Ended, end_of};
 use crate::member::Member;
@@ -60,9 +60,13 @@ fn write_unseen<W: ByteWriter>(
     number: u64,
     byte: u8,
 ) -> Result<(), WriteFault>
-    ensures unseen { seen ≤ number → MatchResult result (λ _. Appends (W.contents writer.old) (W.contents writer.new) (byte ∷ [])) (λ _. Keeps (W.contents writer.old) (W.contents writer.new)) }
+    ensures unseen { seen ≤ number
+        → MatchResult result
+        (λ _. Appends (W.contents writer.old) (W.contents writer.new) (byte ∷ []))
+        (λ _. Keeps (W.contents writer.old) (W.contents writer.new)) }
     ensures seen { number < seen → IsOk result × (W.contents writer.new ≡ W.contents writer.old) }
-    ensures faults { MatchResult result (λ _. W.write_faults writer.new ≡ W.write_faults writer.old) (λ _. HasRisen (W.write_faults writer.old) (W.write_faults writer.new)) }
+    ensures faults { MatchResult result (λ _. W.write_faults writer.new ≡ W.write_faults writer.old)
+        (λ _. HasRisen (W.write_faults writer.old) (W.write_faults writer.new)) }
 {
     if number < seen {
         return Ok(());
@@ -70,23 +74,31 @@ fn write_unseen<W: ByteWriter>(
     writer.write_byte(byte)
 }
 
-/// Releases all output that waits, and writes the bytes of it whose number is not below `seen`, in order.
-/// Where a write fails, the bytes before that one were written; it and those before it were released.
+/// Releases all output that waits, and writes the bytes of it whose number is not below `seen`, in
+/// order. Where a write fails, the bytes before that one were written; it and those before it were
+/// released.
 fn release_all<S: Store + Drop, W: ByteWriter>(
     member: &mut Member<'_, S>,
     seen: u64,
     writer: &mut W,
 ) -> Result<(), Ended>
     ensures written { OnOk result (Appends (W.contents writer.old) (W.contents writer.new)
-        (unseen_of seen (input member.old.node.protocol.rules) member.old.node.progress)) }
-    ensures released { OnOk result (member.new.node.progress ≡ all_released (input member.old.node.protocol.rules) member.old.node.progress) }
-    ensures lost { OnErr result ((gone : List ℕ) × (byte : ℕ)
-        × Releases (input member.old.node.protocol.rules) member.old.node.progress member.new.node.progress (gone ++ byte ∷ [])
+        (unseen_of seen (input member.old.node.protocol.known) member.old.node.progress)) }
+    ensures released { OnOk result
+        (member.new.node.progress
+        ≡ all_released (input member.old.node.protocol.known) member.old.node.progress) }
+    ensures lost { OnErr result
+        ((gone : List ℕ) × (byte : ℕ)
+        × ReleasesBytes (input member.old.node.protocol.known) member.old.node.progress
+        member.new.node.progress (gone ++ byte ∷ [])
         × (seen ≤ member.old.node.progress.released + length gone)
-        × Appends (W.contents writer.old) (W.contents writer.new) (drop (seen - member.old.node.progress.released) gone)) }
+        × Appends (W.contents writer.old) (W.contents writer.new)
+        (drop (seen - member.old.node.progress.released) gone)) }
     ensures others { IfErr result (λ e. e ≡ write_failed) }
-    ensures faults { MatchResult result (λ _. W.write_faults writer.new ≡ W.write_faults writer.old) (λ _. HasRisen (W.write_faults writer.old) (W.write_faults writer.new)) }
-    ensures rest { (member.new.node.protocol ≡ member.old.node.protocol) × (member.new.packets ≡ member.old.packets) }
+    ensures faults { MatchResult result (λ _. W.write_faults writer.new ≡ W.write_faults writer.old)
+        (λ _. HasRisen (W.write_faults writer.old) (W.write_faults writer.new)) }
+    ensures rest { (member.new.node.protocol ≡ member.old.node.protocol)
+        × (member.new.packets ≡ member.old.packets) }
 {
     while let Some((number, byte)) = member.release() {
         match write_unseen(writer, seen, number, byte) {
@@ -122,7 +134,8 @@ impl<'a, H: Net + Clock + AllocGlobal> Sources<'a, H> {
 }
 
 impl<H: Clock> Sources<'_, H> {
-    /// Notes what came of a call that typed or campaigned, and that bytes are left for want of room.
+    /// Notes what came of a call that typed or campaigned, and that bytes are left for want of
+    /// room.
     fn note_pressed<S: Store + Drop, E: Write>(
         &self,
         member: &Member<'_, S>,
@@ -193,7 +206,8 @@ fn own_wire<'a, H: Net + Clock + AllocGlobal, E: Write>(
     UdpWire::new(rt, plan.node, socket, watch, plan.addresses, own, counted)
 }
 
-/// Returns whether the known front has moved since it was at this place, and notes on the wire that it has.
+/// Returns whether the known front has moved since it was at this place, and notes on the wire that
+/// it has.
 fn has_moved<H: Clock, S: Store + Drop>(
     member: &Member<'_, S>,
     front: u32,
@@ -206,12 +220,12 @@ fn has_moved<H: Clock, S: Store + Drop>(
     has_moved
 }
 
-/// A node that has nothing to do hears what comes, until a place has become known, bytes were typed, or the rest is over. What a
-/// message asks for is done when it is heard, so it needs no tick; and a tick after each would make the other nodes tick in turn, without
-/// end.
+/// A node that has nothing to do hears what comes, until a place has become known, bytes were
+/// typed, or the rest is over. What a message asks for is done when it is heard, so it needs no
+/// tick; and a tick after each would make the other nodes tick in turn, without end.
 ///
-/// While typed keys wait, their batch is under way, and further bytes do not end the rest: so the next tick submits all that
-/// came meanwhile.
+/// While typed keys wait, their batch is under way, and further bytes do not end the rest: so the
+/// next tick submits all that came meanwhile.
 fn rest<H: Clock, S: Store + Drop>(
     member: &mut Member<'_, S>,
     wire: &mut UdpWire<'_, H>,
@@ -219,7 +233,8 @@ fn rest<H: Clock, S: Store + Drop>(
     ensures rests { HasRested S.honest S.state member.old member.new result }
     ensures stays { released_by member.new.node ≡ released_by member.old.node }
     ensures progress { member.new.node.progress ≡ member.old.node.progress }
-    ensures others { IfErr result (λ e. (e ≡ Ended.Node NodeFault.Stopped) ⊎ (e ≡ Ended.Node NodeFault.Store)) }
+    ensures others { IfErr result
+        (λ e. (e ≡ Ended.Node NodeFault.Stopped) ⊎ (e ≡ Ended.Node NodeFault.Store)) }
 {
     let front = member.known_front();
     let is_ended_by_keys = member.waiting() == 0;
@@ -245,7 +260,8 @@ fn rest_unless_busy<H: Clock, S: Store + Drop>(
     ensures rests { RestsUnless S.honest S.state is_busy member.old member.new result }
     ensures stays { released_by member.new.node ≡ released_by member.old.node }
     ensures progress { member.new.node.progress ≡ member.old.node.progress }
-    ensures others { IfErr result (λ e. (e ≡ Ended.Node NodeFault.Stopped) ⊎ (e ≡ Ended.Node NodeFault.Store)) }
+    ensures others { IfErr result
+        (λ e. (e ≡ Ended.Node NodeFault.Stopped) ⊎ (e ≡ Ended.Node NodeFault.Store)) }
 {
     if is_busy {
         return Ok(());
@@ -275,10 +291,11 @@ fn rest_and_turn<H: Clock, S: Store + Drop, E: Write>(
     is_busy: bool,
     log: &mut Log<'_, H, E>,
 ) -> Result<bool, Ended>
-    ensures turns { HasRestedAndTurned S.honest S.fails_at_will S.state is_busy member.old member.new result }
+    ensures turns { HasRestedAndTurned S.honest S.fails_at_will S.state is_busy member.old
+        member.new result }
     ensures program { member.new.node.progress.program ≡ member.old.node.progress.program }
     ensures stays { released_by member.new.node ≡ released_by member.old.node }
-    ensures others { IfErr result (λ e. IsRefusal e) }
+    ensures others { IfErr result (λ e. IsRoundRefusal e) }
 {
     rest_unless_busy(member, sources, is_busy)?;
     log.look(member.node());
@@ -303,10 +320,12 @@ fn round<H: Clock, S: Store + Drop, W: ByteWriter, E: Write>(
         (record { member = member.old; written = W.contents writer.old })
         (record { member = member.new; written = W.contents writer.new }) result }
     ensures program { member.new.node.progress.program ≡ member.old.node.progress.program }
-    ensures writes { (wrote : List ℕ) × Writes seen member.old.node member.new.node (IsErrOf result write_failed) wrote
+    ensures writes { (wrote : List ℕ)
+        × WritesOutput seen member.old.node member.new.node (IsErrOf result write_failed) wrote
         × Appends (W.contents writer.old) (W.contents writer.new) wrote }
-    ensures none_waits { OnOk result (unreleased_of (input member.new.node.protocol.rules) member.new.node.progress ≡ []) }
-    ensures others { IfErr result (λ e. IsRefusal e ⊎ (e ≡ write_failed)) }
+    ensures none_waits { OnOk result
+        (unreleased_of (input member.new.node.protocol.known) member.new.node.progress ≡ []) }
+    ensures others { IfErr result (λ e. IsRoundRefusal e ⊎ (e ≡ write_failed)) }
 {
     let more = rest_and_turn(member, sources, is_busy, log)?;
     // The machine is where a replay from the start is.
@@ -329,9 +348,11 @@ fn play<H: Clock, S: Store + Drop, W: ByteWriter, E: Write>(
         (record { member = member.old; written = W.contents writer.old })
         (record { member = member.new; written = W.contents writer.new }) result }
     ensures program { member.new.node.progress.program ≡ member.old.node.progress.program }
-    ensures writes { (wrote : List ℕ) × Writes plan.now.seen member.old.node member.new.node (IsErrOf result write_failed) wrote
+    ensures writes { (wrote : List ℕ)
+        × WritesOutput plan.now.seen member.old.node member.new.node
+        (IsErrOf result write_failed) wrote
         × Appends (W.contents writer.old) (W.contents writer.new) wrote }
-    ensures others { IfErr result (λ e. IsRefusal e ⊎ (e ≡ write_failed)) }
+    ensures others { IfErr result (λ e. IsRoundRefusal e ⊎ (e ≡ write_failed)) }
 {
     let mut is_busy = true;
     for _ in 0..plan.turns {
@@ -342,10 +363,11 @@ fn play<H: Clock, S: Store + Drop, W: ByteWriter, E: Write>(
 
 /// The node campaigns, if it is to.
 fn campaign_if<S: Store + Drop>(member: &mut Member<'_, S>, is_asked: bool) -> Result<(), Ended>
-    ensures campaigns { CampaignsIf S.honest S.fails_at_will S.state is_asked member.old member.new result }
+    ensures campaigns { CampaignsIf S.honest S.fails_at_will S.state is_asked member.old member.new
+        result }
     ensures stays { released_by member.new.node ≡ released_by member.old.node }
     ensures progress { member.new.node.progress ≡ member.old.node.progress }
-    ensures others { IfErr result (λ e. IsRefusal e ⊎ IsCampaignRefusal e) }
+    ensures others { IfErr result (λ e. IsRoundRefusal e ⊎ IsCampaignRefusal e) }
 {
     if is_asked {
         member.campaign()?;
@@ -363,13 +385,17 @@ fn campaign_and_play<H: Clock, S: Store + Drop, W: ByteWriter, E: Write>(
     writer: &mut W,
     log: &mut Log<'_, H, E>,
 ) -> Result<(), Ended>
-    ensures plays { HasCampaignedAndPlayed S.honest S.fails_at_will S.state plan.now.campaigns plan.now.seen plan.now.turns
+    ensures plays { HasCampaignedAndPlayed S.honest S.fails_at_will S.state plan.now.campaigns
+        plan.now.seen plan.now.turns
         (record { member = member.old; written = W.contents writer.old })
         (record { member = member.new; written = W.contents writer.new }) result }
     ensures program { member.new.node.progress.program ≡ member.old.node.progress.program }
-    ensures writes { (wrote : List ℕ) × Writes plan.now.seen member.old.node member.new.node (IsErrOf result write_failed) wrote
+    ensures writes { (wrote : List ℕ)
+        × WritesOutput plan.now.seen member.old.node member.new.node
+        (IsErrOf result write_failed) wrote
         × Appends (W.contents writer.old) (W.contents writer.new) wrote }
-    ensures others { IfErr result (λ e. IsRefusal e ⊎ (e ≡ write_failed) ⊎ IsCampaignRefusal e) }
+    ensures others { IfErr result
+        (λ e. IsRoundRefusal e ⊎ (e ≡ write_failed) ⊎ IsCampaignRefusal e) }
 {
     campaign_if(member, plan.campaigns)?;
     play(member, plan, sources, writer, log)
@@ -388,8 +414,9 @@ fn run_over<H: Clock, S: Store + Drop, W: ByteWriter, E: Write>(
     writer: &mut W,
     log: &mut Log<'_, H, E>,
 ) -> Result<(), Ended>
-    ensures runs { HasRun S.honest S.fails_at_will S.state S.loads config program.now store plan.now.campaigns plan.now.seen plan.now.turns
-        (W.contents writer.old) (W.contents writer.new) result }
+    ensures runs { HasRunNode S.honest S.fails_at_will S.state S.loads config program.now store
+        plan.now.campaigns plan.now.seen plan.now.turns (W.contents writer.old)
+        (W.contents writer.new) result }
     ensures written { HasShown program.now plan.now.seen (IsErrOf result write_failed)
         (W.contents writer.old) (W.contents writer.new) }
     ensures others { IfErr result (λ e. IsRunRefusal e) }
@@ -455,8 +482,9 @@ fn node_noted<H: Files + Net + Clock + AllocGlobal + Copy + Drop, R: Read, W: Wr
     writer: &mut W,
     log: &mut Log<'_, H, E>,
 ) -> Result<(), Ended>
-    ensures runs { HasRunOrRefused (record { node = plan.now.node; group = plan.now.group }) plan.now.campaigns plan.now.seen plan.now.turns
-        (W.contents writer.old) (W.contents writer.new) result }
+    ensures runs { HasRunOrRefused
+        (record { node = plan.now.node; group = plan.now.group }) plan.now.campaigns plan.now.seen
+        plan.now.turns (W.contents writer.old) (W.contents writer.new) result }
 {
     let program = load_noted(rt, file, log)?;
     let config = Config::new(plan.node, plan.group.size, plan.group.session)?;
@@ -491,8 +519,9 @@ pub fn node_file<H: Files + Net + Clock + AllocGlobal + Copy + Drop, R: Read, W:
     writer: &mut W,
     errors: &mut E,
 ) -> Result<(), Ended>
-    ensures runs { HasRunOrRefused (record { node = plan.now.node; group = plan.now.group }) plan.now.campaigns plan.now.seen plan.now.turns
-        (W.contents writer.old) (W.contents writer.new) result }
+    ensures runs { HasRunOrRefused
+        (record { node = plan.now.node; group = plan.now.group }) plan.now.campaigns plan.now.seen
+        plan.now.turns (W.contents writer.old) (W.contents writer.new) result }
 {
     let mut log = Log::new(rt.alloc(), rt, errors, plan.node, plan.is_logged);
     let done = node_noted(rt, file, plan, reader, writer, &mut log);

@@ -1,7 +1,7 @@
 //! What a node types.
 ghost use Rattle.std.specs.Prelude.{◌≡◌, ◌⊎◌, ◌≤◌, IfErr};
 ghost use Rattle.group_udp.specs.Output.{released_by};
-ghost use Rattle.group_udp.specs.Refusals.{IsRefusal};
+ghost use Rattle.group_udp.specs.Refusals.{IsRoundRefusal};
 ghost use Rattle.group_udp.specs.Rounds.{HasCampaignedAsAsked, HasPressed};
 
 use crate::ended::Ended;
@@ -12,21 +12,22 @@ use mio::net::UdpSocket;
 use paxos_acceptor::Store;
 
 /// How many bytes a datagram of typed bytes has at most. A longer one is dropped.
-const KEYS: usize = 64;
+const LONGEST_TYPED: usize = 64;
 
 /// How many keys wait at a node at most.
-const WAITING: usize = 256;
+const MOST_WAITING: usize = 256;
 
-/// Returns whether a datagram is there that a node takes at which this many keys wait: an empty one,
-/// or one whose bytes have room for sure.
+/// Returns whether a datagram is there that a node takes at which this many keys wait: an empty
+/// one, or one whose bytes have room for sure.
 fn is_next_taken(socket: &UdpSocket, waiting: usize) -> bool {
     match socket.peek_from(&mut [0u8; 1]) {
-        Ok((count, _)) => count == 0 || waiting <= WAITING - KEYS,
+        Ok((count, _)) => count == 0 || waiting <= MOST_WAITING - LONGEST_TYPED,
         Err(_) => false,
     }
 }
 
-/// Takes the next datagram, if it is there and empty: it asks the node to campaign. Returns whether it did.
+/// Takes the next datagram, if it is there and empty: it asks the node to campaign. Returns whether
+/// it did.
 fn is_asked(socket: &UdpSocket) -> bool {
     match socket.peek_from(&mut [0u8; 1]) {
         Ok((0, _)) => receive_from(socket, &mut [0u8; 1]).is_some(),
@@ -64,15 +65,15 @@ impl Typed<'_> {
     /// wait.
     pub fn is_left(&self, waiting: usize) -> bool {
         match self {
-            Typed::Text(rest) => waiting >= WAITING && !rest.is_empty(),
-            Typed::Datagrams(socket) => waiting > WAITING - KEYS && has_bytes(socket),
+            Typed::Text(rest) => waiting >= MOST_WAITING && !rest.is_empty(),
+            Typed::Datagrams(socket) => waiting > MOST_WAITING - LONGEST_TYPED && has_bytes(socket),
         }
     }
 
     /// Returns whether there is something to be typed at a node at which this many keys wait.
     pub fn is_ready(&self, waiting: usize) -> bool {
         match self {
-            Typed::Text(rest) => waiting < WAITING && !rest.is_empty(),
+            Typed::Text(rest) => waiting < MOST_WAITING && !rest.is_empty(),
             Typed::Datagrams(socket) => is_next_taken(socket, waiting),
         }
     }
@@ -82,7 +83,7 @@ impl Typed<'_> {
         ensures pressed { HasPressed S.honest S.fails_at_will S.state member.old member.new result }
         ensures stays { released_by member.new.node ≡ released_by member.old.node }
         ensures progress { member.new.node.progress ≡ member.old.node.progress }
-        ensures others { IfErr result (λ e. IsRefusal e) }
+        ensures others { IfErr result (λ e. IsRoundRefusal e) }
     {
         match self {
             Typed::Text(rest) => {
@@ -94,13 +95,15 @@ impl Typed<'_> {
     }
 }
 
-/// The node campaigns, as it was asked to. A campaign that does not begin, as no ballot or no place is
-/// left, the outbox is full or memory ran out, ends nothing: the node goes on as it was.
+/// The node campaigns, as it was asked to. A campaign that does not begin, as no ballot or no place
+/// is left, the outbox is full or memory ran out, ends nothing: the node goes on as it was.
 fn campaign_when_asked<S: Store + Drop>(member: &mut Member<'_, S>) -> Result<Pressed, Ended>
-    ensures campaigned { HasCampaignedAsAsked S.honest S.fails_at_will S.state member.old member.new result }
+    ensures campaigned { HasCampaignedAsAsked S.honest S.fails_at_will S.state member.old member.new
+        result }
     ensures stays { released_by member.new.node ≡ released_by member.old.node }
     ensures progress { member.new.node.progress ≡ member.old.node.progress }
-    ensures others { IfErr result (λ e. (e ≡ Ended.Node NodeFault.Stopped) ⊎ (e ≡ Ended.Node NodeFault.Store)) }
+    ensures others { IfErr result
+        (λ e. (e ≡ Ended.Node NodeFault.Stopped) ⊎ (e ≡ Ended.Node NodeFault.Store)) }
 {
     match member.campaign() {
         Err(NodeFault::Stopped) => Err(Ended::Node(NodeFault::Stopped)),
@@ -110,27 +113,30 @@ fn campaign_when_asked<S: Store + Drop>(member: &mut Member<'_, S>) -> Result<Pr
     }
 }
 
-/// Receives the datagrams with bytes that are there to the front of the buffer, one behind the other, as long as another one has room
-/// for sure. A longer one than 64 bytes is dropped. Returns how many bytes they have.
-fn gather(socket: &UdpSocket, buffer: &mut [u8; WAITING + 1], waiting: usize) -> usize
+/// Receives the datagrams with bytes that are there to the front of the buffer, one behind the
+/// other, as long as another one has room for sure. A longer one than 64 bytes is dropped. Returns
+/// how many bytes they have.
+fn gather(socket: &UdpSocket, buffer: &mut [u8; MOST_WAITING + 1], waiting: usize) -> usize
     ensures { result ≤ 256 }
 {
     let mut length = 0;
-    for _ in 0..WAITING {
-        let is_next = has_bytes(socket) && waiting.saturating_add(length) <= WAITING - KEYS;
+    for _ in 0..MOST_WAITING {
+        let is_next = has_bytes(socket)
+            && waiting.saturating_add(length) <= MOST_WAITING - LONGEST_TYPED;
         if !is_next {
             return length;
         }
-        match receive_from(socket, &mut buffer[length..length + KEYS + 1]) {
-            Some((count, _)) if count <= KEYS => length += count,
+        match receive_from(socket, &mut buffer[length..length + LONGEST_TYPED + 1]) {
+            Some((count, _)) if count <= LONGEST_TYPED => length += count,
             _ => {}
         }
     }
     length
 }
 
-/// Takes what is there: the node campaigns if the first datagram is empty. Else the bytes of all up to the first empty one are typed. While
-/// fewer than 64 keys have room, one with bytes stays where it is.
+/// Takes what is there: the node campaigns if the first datagram is empty. Else the bytes of all up
+/// to the first empty one are typed. While fewer than 64 keys have room, one with bytes stays where
+/// it is.
 fn press_datagrams<S: Store + Drop>(
     member: &mut Member<'_, S>,
     socket: &UdpSocket,
@@ -138,12 +144,12 @@ fn press_datagrams<S: Store + Drop>(
     ensures pressed { HasPressed S.honest S.fails_at_will S.state member.old member.new result }
     ensures stays { released_by member.new.node ≡ released_by member.old.node }
     ensures progress { member.new.node.progress ≡ member.old.node.progress }
-    ensures others { IfErr result (λ e. IsRefusal e) }
+    ensures others { IfErr result (λ e. IsRoundRefusal e) }
 {
     if is_asked(socket) {
         return campaign_when_asked(member);
     }
-    let mut buffer = [0u8; WAITING + 1];
+    let mut buffer = [0u8; MOST_WAITING + 1];
     let length = gather(socket, &mut buffer, member.waiting());
     let mut bytes = &buffer[..length];
     member.press_some(&mut bytes)?;

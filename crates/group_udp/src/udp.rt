@@ -20,7 +20,8 @@ const SHORT_REST: u64 = 10;
 /// How long it rests at most, in milliseconds, where nothing has happened for long.
 const LONG_REST: u64 = 100;
 
-/// How many rests without an event are short: they take a second. Each further one is a millisecond longer than the one before.
+/// How many rests without an event are short: they take a second. Each further one is a millisecond
+/// longer than the one before.
 const SHORT_RESTS: u64 = 100;
 
 /// The byte of a datagram that tells its kind, and the kind of an Ask.
@@ -42,8 +43,8 @@ pub fn bind<H: Net>(rt: &H, address: SocketAddr) -> Result<UdpSocket, Ended>
     UdpSocket::bind(rt, address).or(Err(Ended::Socket))
 }
 
-/// Receives the next datagram of a socket to the front of the buffer, cut to its length. Returns its
-/// length and its source; nothing where none is there or the receive failed.
+/// Receives the next datagram of a socket to the front of the buffer, cut to its length. Returns
+/// its length and its source; nothing where none is there or the receive failed.
 pub fn receive_from(socket: &UdpSocket, buffer: &mut [u8]) -> Option<(usize, SocketAddr)>
     ensures within { IfSome result (λ r. r.0 ≤ length buffer.new) }
 {
@@ -103,7 +104,8 @@ impl Watch {
         self.add(socket, TYPED)
     }
 
-    /// Waits until a datagram has come, at most so long. Whether one has come to the socket of typed bytes: that is told only once.
+    /// Waits until a datagram has come, at most so long. Whether one has come to the socket of
+    /// typed bytes: that is told only once.
     fn wait(&mut self, most: Duration) -> bool {
         match self.poll.poll(&mut self.events, Some(most)) {
             Ok(()) => self.events.iter().any(|event| event.token() == TYPED),
@@ -112,8 +114,9 @@ impl Watch {
     }
 }
 
-/// A node's socket, and the addresses of all nodes in order. Its receives don't wait; the node waits between its turns. What the node sends
-/// to itself does not pass the socket, as long as there is room for it here.
+/// A node's socket, and the addresses of all nodes in order. Its receives don't wait; the node
+/// waits between its turns. What the node sends to itself does not pass the socket, as long as
+/// there is room for it here.
 pub struct UdpWire<'a, H> {
     clock: &'a H,
     /// The node's number.
@@ -122,8 +125,9 @@ pub struct UdpWire<'a, H> {
     watch: Watch,
     addresses: &'a [SocketAddr],
     own: OwnDatagrams,
-    /// Whether the next receive takes one of the node's own first. While both have some, they and the socket's come in turn, so that
-    /// neither many datagrams of others nor a long answer of the node to itself holds the rest back.
+    /// Whether the next receive takes one of the node's own first. While both have some, they and
+    /// the socket's come in turn, so that neither many datagrams of others nor a long answer of the
+    /// node to itself holds the rest back.
     is_own_next: bool,
     /// Until when it is waited for a datagram.
     until: Option<Instant>,
@@ -154,9 +158,9 @@ impl<'a, H> Drop for UdpWire<'a, H> {
 }
 
 impl<'a, H: Clock> UdpWire<'a, H> {
-    /// The wire of the node `node` with this socket. Typed bytes end its waiting too, where the watch has a
-    /// socket for them. `own` keeps what it sends to itself. It counts the datagrams that a node of the group
-    /// `counted` drops.
+    /// The wire of the node `node` with this socket. Typed bytes end its waiting too, where the
+    /// watch has a socket for them. `own` keeps what it sends to itself. It counts the datagrams
+    /// that a node of the group `counted` drops.
     pub fn new(
         clock: &'a H,
         node: u8,
@@ -199,7 +203,8 @@ impl<'a, H: Clock> UdpWire<'a, H> {
         self.quiet = 0;
     }
 
-    /// Begins a rest. It takes 10 milliseconds. Where the last 100 rests were without an event it takes longer, and 100 at most.
+    /// Begins a rest. It takes 10 milliseconds. Where the last 100 rests were without an event it
+    /// takes longer, and 100 at most.
     pub fn begin_rest(&mut self) {
         let length = Duration::from_millis(rest_after(self.quiet));
         self.quiet = self.quiet.saturating_add(1);
@@ -226,8 +231,8 @@ impl<'a, H: Clock> UdpWire<'a, H> {
         }
     }
 
-    /// Receives the next datagram of the socket, if one is there. One that another than its sender sent is handed on as an empty one,
-    /// which spells no message.
+    /// Receives the next datagram of the socket, if one is there. One that another than its sender
+    /// sent is handed on as an empty one, which spells no message.
     fn receive_in(&mut self, buffer: &mut [u8]) -> Option<usize>
         ensures within { IfSome result (λ count. count ≤ length buffer.new) }
     {
@@ -237,8 +242,9 @@ impl<'a, H: Clock> UdpWire<'a, H> {
         if is_taken { Some(count) } else { Some(0) }
     }
 
-    /// Waits for a datagram, unless one of the node's own is there. All that were in the socket have been received. Returns whether there
-    /// may be one: not where the rest is over, or where bytes were typed and `is_ended_by_keys`.
+    /// Waits for a datagram, unless one of the node's own is there. All that were in the socket
+    /// have been received. Returns whether there may be one: not where the rest is over, or where
+    /// bytes were typed and `is_ended_by_keys`.
     pub fn wait(&mut self, is_ended_by_keys: bool) -> bool {
         if !self.own.is_empty() {
             return true;

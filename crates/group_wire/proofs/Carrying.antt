@@ -15,7 +15,8 @@ grown_by_nothing (Some t) =
     ap (λ (xs : List Letter). known_as xs (t.given ++ [])) (append-nil t.handed) ∙ ap (known_as t.handed) (append-nil t.given)
 
 -- twice as at once
-pub grown_twice : (known : Option Traffic) (xs ys : List Letter) (came more : List (Option (List ℕ))) → grown (grown known xs came) ys more ≡ grown known (xs ++ ys) (came ++ more)
+pub grown_twice : (known : Option Traffic) (xs ys : List Letter) (came more : List (Option (List ℕ)))
+    → grown (grown known xs came) ys more ≡ grown known (xs ++ ys) (came ++ more)
 grown_twice None xs ys came more = refl
 grown_twice (Some t) xs ys came more =
     ap (λ (zs : List Letter). known_as zs (t.given ++ came ++ more)) (append_assoc t.handed xs ys)
@@ -33,7 +34,8 @@ abbrev pub letter : List ℕ → ℕ → Letter
 letter bytes i = record { to = i; bytes = bytes }
 
 -- one more node: with the datagrams for those behind it, it is all
-pub next_letter : (known new all : Option Traffic) (bytes : List ℕ) (size node : ℕ) → node ≤ size → new ≡ grown known (letter bytes node ∷ []) []
+pub next_letter : (known new all : Option Traffic) (bytes : List ℕ) (size node : ℕ) → node ≤ size
+    → new ≡ grown known (letter bytes node ∷ []) []
     → grown known (map (letter bytes) (range_with_len node (size + 1 - node))) [] ≡ all
     → grown new (map (letter bytes) (range_with_len (node + 1) (size + 1 - (node + 1)))) [] ≡ all
 next_letter known new all bytes size node within sent whole =

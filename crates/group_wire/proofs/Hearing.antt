@@ -9,26 +9,27 @@ use Rattle.paxos_acceptor.specs.Stores.{IsOneOf, StoreState}
 use Rattle.paxos_acceptor.specs.declared.me.Me.{Me}
 use Rattle.group_node.specs.declared.fault.NodeFault.{NodeFault}
 use Rattle.group_node.specs.declared.fault.NodeFault.TheVariants.{Stopped, Store}
-use Rattle.group_node.specs.Delivered.{on_message}
-use Rattle.group_node.specs.Node.{Node}
+use Rattle.group_node.specs.Protocol.{on_message}
+use Rattle.group_node.specs.Known.{Known}
 use Rattle.group_node.specs.Packets.{Datagram, Packet, datagram_of, datagrams_of}
-use Rattle.group_node.specs.States.{State}
+use Rattle.group_node.specs.States.{NodeState}
 use Rattle.group_wire.specs.declared.answers.Heard.{Heard}
 use Rattle.group_wire.specs.declared.answers.Heard.TheVariants as answer
 use Rattle.group_wire.specs.Traffic.{Letter, Traffic, grown, letters_of}
-use Rattle.group_wire.specs.Turns.{Arrival, Ending, FailsAtEnd, Fate, Hears, Loses, TooLong, NoMessage, GoesOn, Refuses, HearsSome, IsFateOf, IsOne, IsSpelledEnding, IsTurn, IsUnheard, Spells, TellsOfOne, after_heard, answer_of, heard_of, last_receive, loss_of, lost_of, message_of, posted, received, sent_at, ticked_if}
+use Rattle.group_wire.specs.Turns.{Arrival, Ending, FailsAtEnd, Fate, Hears, Loses, TooLong, NoMessage, GoesOn, Refuses, HearsSome, IsFateOf, IsOne, IsSpelledEnding, IsWireTurn, IsUnheard, Spells, TellsOfOne, after_heard, answer_of, heard_of, last_receive, loss_of, lost_of, heard_message, posted, received, sent_at, ticked_if}
 use Rattle.group_wire.proofs.Carrying.{grown_twice, letters_then}
 
 -- some messages, and then others
-heard_then : (n : Node) (ms more : List Msg) → after_heard n (ms ++ more) ≡ after_heard (after_heard n ms) more
+heard_then : (n : Known) (ms more : List Msg) → after_heard n (ms ++ more) ≡ after_heard (after_heard n ms) more
 heard_then n [] more = refl
 heard_then n (m ∷ ms) more = heard_then (on_message n m.sender m.body).node ms more
 
-sent_then : (n : Node) (ms more : List Msg) → sent_at n (ms ++ more) ≡ sent_at n ms ++ sent_at (after_heard n ms) more
+sent_then : (n : Known) (ms more : List Msg) → sent_at n (ms ++ more) ≡ sent_at n ms ++ sent_at (after_heard n ms) more
 sent_then n [] more = refl
 sent_then n (m ∷ ms) more =
     let done = on_message n m.sender m.body in
-    ap (λ (rest : List Packet). done.sends ++ rest) (sent_then done.node ms more) ∙ sym (append_assoc done.sends (sent_at done.node ms) (sent_at (after_heard done.node ms) more))
+    ap (λ (rest : List Packet). done.sends ++ rest) (sent_then done.node ms more)
+    ∙ sym (append_assoc done.sends (sent_at done.node ms) (sent_at (after_heard done.node ms) more))
 
 -- it holds of each of one
 pub all_of_one : {X : Type 0} (P : X → Type 0) → (x : X) → P x → All P (x ∷ [])
@@ -36,13 +37,14 @@ all_of_one P x p = All-cons P x [] p (All-nil P)
 
 -- the messages of some arrivals, and then of others
 heard_of_both : (came later : List Arrival) → heard_of (came ++ later) ≡ heard_of came ++ heard_of later
-heard_of_both came later = filter_map-append (λ (a : Arrival). message_of a.fate) came later
+heard_of_both came later = filter_map-append (λ (a : Arrival). heard_message a.fate) came later
 
 lost_of_both : (came later : List Arrival) → lost_of (came ++ later) ≡ lost_of came + lost_of later
 lost_of_both came later = sum_by-append (λ (a : Arrival). loss_of a.fate) came later
 
 -- hearing that goes on, and then more of it
-received_then : (came later : List Arrival) (ending : Ending) → received came GoesOn ++ received later ending ≡ received (came ++ later) ending
+received_then : (came later : List Arrival) (ending : Ending)
+    → received came GoesOn ++ received later ending ≡ received (came ++ later) ending
 received_then came later ending =
     let some = λ (a : Arrival). Some a.bytes in
     ap (λ (xs : List (Option (List ℕ))). xs ++ received later ending) (append-nil (map some came))
@@ -50,12 +52,13 @@ received_then came later ending =
     ∙ ap (λ (xs : List (Option (List ℕ))). xs ++ last_receive ending) (sym (map-append some came later))
 
 -- packets of a node, and then others
-pub posted_then : (n : Node) (xs ys : List Packet) → posted n (xs ++ ys) ≡ posted n xs ++ posted n ys
+pub posted_then : (n : Known) (xs ys : List Packet) → posted n (xs ++ ys) ≡ posted n xs ++ posted n ys
 posted_then n xs ys =
-    ap (letters_of n.me.group.size) (map-append (datagram_of n.me) xs ys) ∙ letters_then n.me.group.size (datagrams_of n.me xs) (datagrams_of n.me ys)
+    ap (letters_of n.me.group.size) (map-append (datagram_of n.me) xs ys)
+    ∙ letters_then n.me.group.size (datagrams_of n.me xs) (datagrams_of n.me ys)
 
 -- what the node that has heard them posts is what the node before posts
-pub posted_by_same : (n later : Node) (packets : List Packet) → later.me ≡ n.me → posted later packets ≡ posted n packets
+pub posted_by_same : (n later : Known) (packets : List Packet) → later.me ≡ n.me → posted later packets ≡ posted n packets
 posted_by_same n later packets same = ap (λ (me : Me). letters_of me.group.size (datagrams_of me packets)) same
 
 -- nothing was heard of either part
@@ -66,95 +69,117 @@ none_of_both came later (none, without) (nor, neither) = (
 )
 
 -- a node that has heard some, and then others
-pub hears_then : {S : Type 0} (g : Group) (came later : List Arrival) (ending : Ending) (old mid new : State S) (from via to : Option Traffic)
+pub hears_then : {S : Type 0} (g : Group) (came later : List Arrival) (ending : Ending) (old mid new : NodeState S)
+    (from via to : Option Traffic)
     → (old.protocol.is_stopped ≡ true → mid.protocol.is_stopped ≡ true)
-    → HearsSome g came GoesOn old mid from via → HearsSome g later ending mid new via to → HearsSome g (came ++ later) ending old new from to
+    → HearsSome g came GoesOn old mid from via → HearsSome g later ending mid new via to
+    → HearsSome g (came ++ later) ending old new from to
 hears_then g came later ending old mid new from via to stays first second =
-    let n : Node = old.protocol.rules in
+    let n : Known = old.protocol.known in
     let heard : List Msg = heard_of came in
     let more : List Msg = heard_of later in
     let here : List Packet = sent_at n heard in
     let then : List Packet = sent_at (after_heard n heard) more in
     let all : heard ++ more ≡ heard_of (came ++ later) = sym (heard_of_both came later) in
-    let both : posted n here ++ posted mid.protocol.rules (sent_at mid.protocol.rules more) ≡ posted n (sent_at n (heard_of (came ++ later))) =
+    let both : posted n here ++ posted mid.protocol.known (sent_at mid.protocol.known more)
+    ≡ posted n (sent_at n (heard_of (came ++ later))) =
     ap (λ (xs : List Letter). posted n here ++ xs)
-    (posted_by_same n mid.protocol.rules (sent_at mid.protocol.rules more) first.me
-    ∙ ap (λ (m : Node). posted n (sent_at m more)) first.rules)
+    (posted_by_same n mid.protocol.known (sent_at mid.protocol.known more) first.me
+    ∙ ap (λ (m : Known). posted n (sent_at m more)) first.known)
     ∙ sym (posted_then n here then) ∙ ap (posted n) (sym (sent_then n heard more)) ∙ ap (λ (ms : List Msg). posted n (sent_at n ms)) all in
     record {
       fates = All-append (λ (a : Arrival). IsFateOf g a.bytes a.fate) came later first.fates second.fates;
       last = second.last;
       deaf = λ stopped. none_of_both came later (first.deaf stopped) (second.deaf (stays stopped));
-      rules = second.rules ∙ ap (λ (m : Node). after_heard m more) first.rules ∙ sym (heard_then n heard more) ∙ ap (after_heard n) all;
+      known = second.known ∙ ap (λ (m : Known). after_heard m more) first.known ∙ sym (heard_then n heard more) ∙ ap (after_heard n) all;
       me = second.me ∙ first.me;
-      traffic = second.traffic ∙ ap (λ (t : Option Traffic). grown t (posted mid.protocol.rules (sent_at mid.protocol.rules more)) (received later ending)) first.traffic
-          ∙ grown_twice from (posted n here) (posted mid.protocol.rules (sent_at mid.protocol.rules more)) (received came GoesOn) (received later ending)
+      traffic =
+          second.traffic ∙ ap (λ (t : Option Traffic).
+          grown t (posted mid.protocol.known (sent_at mid.protocol.known more)) (received later ending)) first.traffic
+          ∙ grown_twice from (posted n here) (posted mid.protocol.known (sent_at mid.protocol.known more))
+          (received came GoesOn) (received later ending)
           ∙ ap (λ (xs : List Letter). grown from xs (received came GoesOn ++ received later ending)) both
           ∙ ap (grown from (posted n (sent_at n (heard_of (came ++ later))))) (received_then came later ending);
       progress = second.progress ∙ first.progress;
     }
 
 -- a node that hears no message
-pub hears_nothing : {S : Type 0} (g : Group) (came : List Arrival) (ending : Ending) (old new : State S) (from to : Option Traffic)
-    → All (λ a. IsFateOf g a.bytes a.fate) came → IsSpelledEnding g ending → heard_of came ≡ [] → (old.protocol.is_stopped ≡ true → lost_of came ≡ 0)
-    → new.protocol.rules ≡ old.protocol.rules → new.progress ≡ old.progress → to ≡ grown from [] (received came ending)
+pub hears_nothing : {S : Type 0} (g : Group) (came : List Arrival) (ending : Ending) (old new : NodeState S) (from to : Option Traffic)
+    → All (λ a. IsFateOf g a.bytes a.fate) came → IsSpelledEnding g ending → heard_of came ≡ []
+    → (old.protocol.is_stopped ≡ true → lost_of came ≡ 0)
+    → new.protocol.known ≡ old.protocol.known → new.progress ≡ old.progress → to ≡ grown from [] (received came ending)
     → HearsSome g came ending old new from to
 hears_nothing g came ending old new from to fates last none without rules progress traffic =
-    let n : Node = old.protocol.rules in
+    let n : Known = old.protocol.known in
     record {
       fates = fates;
       last = last;
       deaf = λ stopped. (none, without stopped);
-      rules = rules ∙ ap (after_heard n) (sym none);
-      me = ap (λ (later : Node). later.me) rules;
+      known = rules ∙ ap (after_heard n) (sym none);
+      me = ap (λ (later : Known). later.me) rules;
       traffic = traffic ∙ ap (λ (ms : List Msg). grown from (posted n (sent_at n ms)) (received came ending)) (sym none);
       progress = progress;
     }
 
 -- a datagram of more than 1,400 bytes comes
-pub drops_longer : {S : Type 0} (g : Group) (n : State S) (from to : Option Traffic) (bytes : List ℕ) → 1400 < length bytes
+pub drops_longer : {S : Type 0} (g : Group) (n : NodeState S) (from to : Option Traffic) (bytes : List ℕ) → 1400 < length bytes
     → to ≡ grown from [] (Some bytes ∷ []) → HearsSome g (record { bytes = bytes; fate = TooLong } ∷ []) GoesOn n n from to
 drops_longer g n from to bytes long given =
     let a : Arrival = record { bytes = bytes; fate = TooLong } in
-    hears_nothing g (a ∷ []) GoesOn n n from to (all_of_one (λ (a : Arrival). IsFateOf g a.bytes a.fate) a long) tt refl (λ _. refl) refl refl given
+    hears_nothing g (a ∷ []) GoesOn n n from to (all_of_one (λ (a : Arrival). IsFateOf g a.bytes a.fate) a long) tt refl
+    (λ _. refl) refl refl given
 
 -- a node that takes the message of one datagram
-pub hears_one : {S : Type 0} (g : Group) (old new : State S) (from via to : Option Traffic) (bytes : List ℕ) (m : Msg) (before waits : List Datagram)
-    → Spells g bytes m → ¬ (old.protocol.is_stopped ≡ true) → old.protocol.rules.me.group ≡ g
-    → new.protocol.rules ≡ (on_message old.protocol.rules m.sender m.body).node
-    → (on_message old.protocol.rules m.sender m.body).node.me ≡ old.protocol.rules.me → new.progress ≡ old.progress
-    → before ≡ [] → waits ≡ before ++ datagrams_of old.protocol.rules.me (on_message old.protocol.rules m.sender m.body).sends → to ≡ grown via (letters_of g.size waits) []
+pub hears_one : {S : Type 0} (g : Group) (old new : NodeState S) (from via to : Option Traffic) (bytes : List ℕ)
+    (m : Msg) (before waits : List Datagram)
+    → Spells g bytes m → ¬ (old.protocol.is_stopped ≡ true) → old.protocol.known.me.group ≡ g
+    → new.protocol.known ≡ (on_message old.protocol.known m.sender m.body).node
+    → (on_message old.protocol.known m.sender m.body).node.me ≡ old.protocol.known.me → new.progress ≡ old.progress
+    → before ≡ [] → waits
+    ≡ before ++ datagrams_of old.protocol.known.me (on_message old.protocol.known m.sender m.body).sends
+    → to ≡ grown via (letters_of g.size waits) []
     → via ≡ grown from [] (Some bytes ∷ []) → HearsSome g (record { bytes = bytes; fate = Hears m } ∷ []) GoesOn old new from to
 hears_one g old new from via to bytes m before waits spelled works group rules me progress empty sends traffic came =
-    let n : Node = old.protocol.rules in
+    let n : Known = old.protocol.known in
     let sent : List Packet = (on_message n m.sender m.body).sends in
     let all : letters_of g.size waits ≡ posted n (sent ++ []) =
-    ap (letters_of g.size) (sends ∙ ap (λ (first : List Datagram). first ++ datagrams_of n.me sent) empty) ∙ ap (λ (of : Group). letters_of of.size (datagrams_of n.me sent)) (sym group) ∙ ap (posted n) (sym (append-nil sent)) in
+    ap (letters_of g.size) (sends ∙ ap (λ (first : List Datagram). first ++ datagrams_of n.me sent) empty)
+    ∙ ap (λ (of : Group). letters_of of.size (datagrams_of n.me sent)) (sym group)
+    ∙ ap (posted n) (sym (append-nil sent)) in
     record {
       fates = all_of_one (λ (a : Arrival). IsFateOf g a.bytes a.fate) (record { bytes = bytes; fate = Hears m }) spelled;
       last = tt;
       deaf = λ stopped. absurd (works stopped);
-      rules = rules;
-      me = ap (λ (later : Node). later.me) rules ∙ me;
-      traffic = traffic ∙ ap (λ (t : Option Traffic). grown t (letters_of g.size waits) []) came ∙ grown_twice from [] (letters_of g.size waits) (Some bytes ∷ []) []
+      known = rules;
+      me = ap (λ (later : Known). later.me) rules ∙ me;
+      traffic =
+          traffic ∙ ap (λ (t : Option Traffic). grown t (letters_of g.size waits) []) came
+          ∙ grown_twice from [] (letters_of g.size waits) (Some bytes ∷ []) []
           ∙ ap (λ (xs : List Letter). grown from xs (Some bytes ∷ [])) all;
       progress = progress;
     }
 
 -- a node that refuses the message of one datagram
-pub refuses_one : {S : Type 0} (honest : Type 0) (state : S → StoreState) (g : Group) (old new : State S) (from to : Option Traffic) (bytes : List ℕ) (m : Msg) (fault : NodeFault) (result : Result Heard NodeFault)
-    → Spells g bytes m → new.protocol.rules ≡ old.protocol.rules → new.progress ≡ old.progress → to ≡ grown from [] (Some bytes ∷ []) → result ≡ Err fault
-    → (honest → fault ≡ Store → IsOneOf (state new.protocol.store).stored old.protocol.rules.kept (on_message old.protocol.rules m.sender m.body).node.kept)
-    → (came : List Arrival) × (ending : Ending) × HearsSome g came ending old new from to × TellsOfOne result came ending × FailsAtEnd honest state ending new result
+pub refuses_one : {S : Type 0} (honest : Type 0) (state : S → StoreState) (g : Group) (old new : NodeState S)
+    (from to : Option Traffic) (bytes : List ℕ) (m : Msg) (fault : NodeFault) (result : Result Heard NodeFault)
+    → Spells g bytes m → new.protocol.known ≡ old.protocol.known → new.progress ≡ old.progress
+    → to ≡ grown from [] (Some bytes ∷ []) → result ≡ Err fault
+    → (honest → fault ≡ Store
+    → IsOneOf (state new.protocol.store).stored old.protocol.known.kept
+    (on_message old.protocol.known m.sender m.body).node.kept)
+    → (came : List Arrival) × (ending : Ending) × HearsSome g came ending old new from to
+    × TellsOfOne result came ending × FailsAtEnd honest state ending new result
 refuses_one honest state g old new from to bytes m fault (Ok h) spelled rules progress traffic told device = absurd cc
 refuses_one honest state g old new from to bytes m fault (Err e) spelled rules progress traffic told device = (
   [],
   Refuses bytes m,
-  hears_nothing g [] (Refuses bytes m) old new from to (All-nil (λ (a : Arrival). IsFateOf g a.bytes a.fate)) spelled refl (λ _. refl) rules progress traffic,
+  hears_nothing g [] (Refuses bytes m) old new from to
+      (All-nil (λ (a : Arrival). IsFateOf g a.bytes a.fate)) spelled refl (λ _. refl) rules progress traffic,
   (refl, tt),
   λ is_store. λ is_honest.
       let now : fault ≡ Store = cc in
-      subst (λ (n : Node). IsOneOf (state new.protocol.store).stored n.kept (on_message n m.sender m.body).node.kept) (sym rules) (device is_honest now),
+      subst (λ (n : Known). IsOneOf (state new.protocol.store).stored n.kept (on_message n m.sender m.body).node.kept)
+      (sym rules) (device is_honest now),
 )
 
 -- what is taken is not refused
@@ -165,27 +190,29 @@ pub is_not_refused : {T : Type 0} (x : T) → ¬ IsErrOf (Ok x) Stopped
 is_not_refused x is = is_not_of x Stopped is
 
 -- what was to be sent before, the messages that are heard, and then a tick or none
-pub turn_is : {S : Type 0} (g : Group) (came : List Arrival) (ending : Ending) (ticks : Bool) (before : List Datagram) (old mid new : State S) (from begun via to : Option Traffic)
+pub turn_is : {S : Type 0} (g : Group) (came : List Arrival) (ending : Ending) (ticks : Bool) (before : List Datagram)
+    (old mid new : NodeState S) (from begun via to : Option Traffic)
     → begun ≡ grown from (letters_of g.size before) [] → HearsSome g came ending old mid begun via
-    → new.protocol.rules ≡ (ticked_if ticks mid.protocol.rules).node → to ≡ grown via (posted mid.protocol.rules (ticked_if ticks mid.protocol.rules).sends) []
-    → IsTurn g came ending before old new from to ticks
+    → new.protocol.known ≡ (ticked_if ticks mid.protocol.known).node
+    → to ≡ grown via (posted mid.protocol.known (ticked_if ticks mid.protocol.known).sends) []
+    → IsWireTurn g came ending before old new from to ticks
 turn_is g came ending ticks before old mid new from begun via to first h rules last =
-    let n : Node = old.protocol.rules in
+    let n : Known = old.protocol.known in
     let heard : List Msg = heard_of came in
     let waited : List Letter = letters_of g.size before in
     let here : List Letter = posted n (sent_at n heard) in
-    let then : List Letter = posted mid.protocol.rules (ticked_if ticks mid.protocol.rules).sends in
+    let then : List Letter = posted mid.protocol.known (ticked_if ticks mid.protocol.known).sends in
     let got : List (Option (List ℕ)) = received came ending in
     let both : here ++ then ≡ posted n (sent_at n heard ++ (ticked_if ticks (after_heard n heard)).sends) =
     ap (λ (xs : List Letter). here ++ xs)
-    (posted_by_same n mid.protocol.rules (ticked_if ticks mid.protocol.rules).sends h.me
-    ∙ ap (λ (m : Node). posted n (ticked_if ticks m).sends) h.rules)
+    (posted_by_same n mid.protocol.known (ticked_if ticks mid.protocol.known).sends h.me
+    ∙ ap (λ (m : Known). posted n (ticked_if ticks m).sends) h.known)
     ∙ sym (posted_then n (sent_at n heard) (ticked_if ticks (after_heard n heard)).sends) in
     record {
       fates = h.fates;
       last = h.last;
       deaf = h.deaf;
-      rules = rules ∙ ap (λ (m : Node). (ticked_if ticks m).node) h.rules;
+      known = rules ∙ ap (λ (m : Known). (ticked_if ticks m).node) h.known;
       traffic = last ∙ ap (λ (t : Option Traffic). grown t then []) (h.traffic ∙ ap (λ (t : Option Traffic). grown t here got) first)
           ∙ grown_twice (grown from waited []) here then got [] ∙ grown_twice from waited (here ++ then) [] (got ++ [])
           ∙ ap (grown from (waited ++ (here ++ then))) (append-nil got) ∙ ap (λ (xs : List Letter). grown from (waited ++ xs) got) both;
@@ -232,17 +259,20 @@ pub one_loss : (h : Heard) → h ≡ answer.Lost → (loss_in h ≡ 1) × (h ≢
 one_loss h lost = (ap loss_in lost, λ none. absurd cc)
 
 -- a datagram came at each receive, and then one more
-pub hears_one_more : {S : Type 0} {F : List Arrival → Ending → Type 0} (g : Group) (count lost loss now : ℕ) (old mid new : State S) (from via to : Option Traffic) (h : Heard)
+pub hears_one_more : {S : Type 0} {F : List Arrival → Ending → Type 0} (g : Group) (count lost loss now : ℕ)
+    (old mid new : NodeState S) (from via to : Option Traffic) (h : Heard)
     → (old.protocol.is_stopped ≡ true → mid.protocol.is_stopped ≡ true)
     → (came : List Arrival) × HearsSome g came GoesOn old mid from via × (length came ≡ count) × (lost_of came ≡ lost)
     → (later : List Arrival) × (ending : Ending) × HearsSome g later ending mid new via to × TellsOfOne (Ok h) later ending × F later ending
     → (loss_in h ≡ loss) × (h ≢ answer.Nothing) → now ≡ lost + loss
     → (all : List Arrival) × HearsSome g all GoesOn old new from to × (length all ≡ count + 1) × (lost_of all ≡ now)
-hears_one_more g count lost loss now old mid new from via to h stays (came, first, many, losses) (later, ending, second, told, _) (lossy, some) sum =
+hears_one_more g count lost loss now old mid new from via to h stays (came, first, many, losses)
+    (later, ending, second, told, _) (lossy, some) sum =
     let (a, one, goes_on, said) = one_came h later ending some told in
     let (longer, lossier) = one_more_of came later a count lost h one said many losses in (
       came ++ later,
-      subst (λ (e : Ending). HearsSome g (came ++ later) e old new from to) goes_on (hears_then g came later ending old mid new from via to stays first second),
+      subst (λ (e : Ending). HearsSome g (came ++ later) e old new from to) goes_on
+          (hears_then g came later ending old mid new from via to stays first second),
       longer,
       omega (arith, lossier, lossy, sum),
     )

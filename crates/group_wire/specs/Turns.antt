@@ -9,32 +9,33 @@ use Rattle.paxos_msg.specs.Spelling.{Msgs}
 use Rattle.paxos_acceptor.specs.Stores.{HasCause, IsOneOf, StoreState}
 use Rattle.group_node.specs.declared.fault.NodeFault.{NodeFault}
 use Rattle.group_node.specs.declared.fault.NodeFault.TheVariants.{Stopped, Store}
-use Rattle.group_node.specs.Delivered.{on_message}
-use Rattle.group_node.specs.Leading.{at_tick}
-use Rattle.group_node.specs.Node.{Done, Node, quiet}
+use Rattle.group_node.specs.Protocol.{on_message}
+use Rattle.group_node.specs.Known.{Response, Known, quiet}
+use Rattle.group_node.specs.Tick.{on_tick}
 use Rattle.group_node.specs.Packets.{Datagram, Packet, datagrams_of}
-use Rattle.group_node.specs.States.{State}
+use Rattle.group_node.specs.States.{NodeState}
 use Rattle.group_wire.specs.declared.answers.Heard.{Heard}
 use Rattle.group_wire.specs.declared.answers.Heard.TheVariants as answer
 use Rattle.group_wire.specs.declared.answers.Turned.{Turned}
 use Rattle.group_wire.specs.Traffic.{Letter, Traffic, grown, letters_of}
 
 -- the node after it has heard these messages, one after the other
-abbrev pub after_heard : Node → List Msg → Node
+abbrev pub after_heard : Known → List Msg → Known
 after_heard n [] = n
 after_heard n (m ∷ ms) = after_heard (on_message n m.sender m.body).node ms
 
 -- what it sends at them
-abbrev pub sent_at : Node → List Msg → List Packet
+abbrev pub sent_at : Known → List Msg → List Packet
 sent_at n [] = []
-sent_at n (m ∷ ms) = (on_message n m.sender m.body).sends ++ sent_at (on_message n m.sender m.body).node ms
+sent_at n (m ∷ ms) =
+    (on_message n m.sender m.body).sends ++ sent_at (on_message n m.sender m.body).node ms
 
 -- a tick, or none
-abbrev pub ticked_if : Bool → Node → Done
-ticked_if ticks n = if ticks then at_tick n else quiet n
+abbrev pub ticked_if : Bool → Known → Response
+ticked_if ticks n = if ticks then on_tick n else quiet n
 
 -- these packets of a node as datagrams, one for each node that they go to
-abbrev pub posted : Node → List Packet → List Letter
+abbrev pub posted : Known → List Packet → List Letter
 posted n packets = letters_of n.me.group.size (datagrams_of n.me packets)
 
 -- ---- what became of the datagrams that came
@@ -64,11 +65,11 @@ IsFateOf g bytes TooLong = 1400 < length bytes
 IsFateOf g bytes NoMessage = (m : Msg) → ¬ Msgs g bytes m
 
 -- the message that the node heard, if it heard one
-abbrev pub message_of : Fate → Option Msg
-message_of (Hears m) = Some m
-message_of (Loses m) = None
-message_of TooLong = None
-message_of NoMessage = None
+abbrev pub heard_message : Fate → Option Msg
+heard_message (Hears m) = Some m
+heard_message (Loses m) = None
+heard_message TooLong = None
+heard_message NoMessage = None
 
 -- one for a lost message
 abbrev pub loss_of : Fate → ℕ
@@ -79,7 +80,7 @@ loss_of NoMessage = 0
 
 -- the messages that the node heard, in the order of their datagrams
 abbrev pub heard_of : List Arrival → List Msg
-heard_of came = filter_map (λ a. message_of a.fate) came
+heard_of came = filter_map (λ a. heard_message a.fate) came
 
 -- how many messages were lost because memory ran out
 abbrev pub lost_of : List Arrival → ℕ
@@ -121,30 +122,30 @@ IsSpelledEnding g (Refuses bytes m) = Spells g bytes m
 
 -- what hearing leaves of a node and of its wire, once these datagrams came and it ended so
 pub record HearsSome {S : Type 0} (g : Group) (came : List Arrival) (ending : Ending)
-    (old new : State S) (from to : Option Traffic) : Type 0 where
+    (old new : NodeState S) (from to : Option Traffic) : Type 0 where
   pub fates : All (λ a. IsFateOf g a.bytes a.fate) came
   pub last : IsSpelledEnding g ending
   pub deaf : old.protocol.is_stopped ≡ true → IsUnheard came
-  pub rules : new.protocol.rules ≡ after_heard old.protocol.rules (heard_of came)
-  pub me : new.protocol.rules.me ≡ old.protocol.rules.me
+  pub known : new.protocol.known ≡ after_heard old.protocol.known (heard_of came)
+  pub me : new.protocol.known.me ≡ old.protocol.known.me
   pub traffic : to ≡ grown from
-      (posted old.protocol.rules (sent_at old.protocol.rules (heard_of came)))
+      (posted old.protocol.known (sent_at old.protocol.known (heard_of came)))
       (received came ending)
   pub progress : new.progress ≡ old.progress
 
 -- the same of a turn, which hands over what the outbox held first, and in which the node may tick
-pub record IsTurn {S : Type 0} (g : Group) (came : List Arrival) (ending : Ending)
-    (before : List Datagram) (old new : State S) (from to : Option Traffic) (ticks : Bool)
+pub record IsWireTurn {S : Type 0} (g : Group) (came : List Arrival) (ending : Ending)
+    (before : List Datagram) (old new : NodeState S) (from to : Option Traffic) (ticks : Bool)
     : Type 0 where
   pub fates : All (λ a. IsFateOf g a.bytes a.fate) came
   pub last : IsSpelledEnding g ending
   pub deaf : old.protocol.is_stopped ≡ true → IsUnheard came
-  pub rules :
-      new.protocol.rules ≡ (ticked_if ticks (after_heard old.protocol.rules (heard_of came))).node
+  pub known :
+      new.protocol.known ≡ (ticked_if ticks (after_heard old.protocol.known (heard_of came))).node
   pub traffic : to ≡ grown from
       (letters_of g.size before
-      ++ posted old.protocol.rules (sent_at old.protocol.rules (heard_of came)
-      ++ (ticked_if ticks (after_heard old.protocol.rules (heard_of came))).sends))
+      ++ posted old.protocol.known (sent_at old.protocol.known (heard_of came)
+      ++ (ticked_if ticks (after_heard old.protocol.known (heard_of came))).sends))
       (received came ending)
 
 -- ---- what the answers say
@@ -175,26 +176,26 @@ TellsOfOne (Ok answer.Message) came ending = IsOne came ending answer.Message
 TellsOfOne (Err e) came ending = (came ≡ []) × EndsAt ending (λ _. ⊤)
 
 -- after a device's fault at this message the store has the node's record, or the row's
-abbrev pub IsAfterFault : {S : Type 0} → (S → StoreState) → State S → Msg → Type 0
+abbrev pub IsAfterFault : {S : Type 0} → (S → StoreState) → NodeState S → Msg → Type 0
 IsAfterFault state n m =
-    IsOneOf (state n.protocol.store).stored n.protocol.rules.kept
-    (on_message n.protocol.rules m.sender m.body).node.kept
+    IsOneOf (state n.protocol.store).stored n.protocol.known.kept
+    (on_message n.protocol.known m.sender m.body).node.kept
 
 -- a device's fault came at the message at which hearing ended
-abbrev pub FailsAtEnd : {S T : Type 0} → Type 0 → (S → StoreState) → Ending → State S
+abbrev pub FailsAtEnd : {S T : Type 0} → Type 0 → (S → StoreState) → Ending → NodeState S
     → Result T NodeFault → Type 0
 FailsAtEnd honest state ending new result =
     IsErrOf result Store → EndsAt ending (λ m. honest → IsAfterFault state new m)
 
 -- a turn's receives: 64 at most; at Ok 64 datagrams came, or the last receive gave nothing
 pub record HearsOut {S T : Type 0} (honest : Type 0) (state : S → StoreState) (came : List Arrival)
-    (ending : Ending) (new : State S) (result : Result T NodeFault) : Type 0 where
+    (ending : Ending) (new : NodeState S) (result : Result T NodeFault) : Type 0 where
   pub few : length (received came ending) ≤ 64
   pub ended : OnOk result ((ending ≡ NoneCame) ⊎ ((ending ≡ GoesOn) × (length came ≡ 64)))
   pub fault : FailsAtEnd honest state ending new result
 
 -- hearing is refused as stopped, or since a save failed, which stops the node and is counted
-pub record IsHearingRefused {S T : Type 0} (state : S → StoreState) (old new : State S)
+pub record IsHearingRefused {S T : Type 0} (state : S → StoreState) (old new : NodeState S)
     (result : Result T NodeFault) : Type 0 where
   pub others : IfErr result (λ e. (e ≡ Stopped) ⊎ (e ≡ Store))
   pub stopped : IsErrOf result Stopped → old.protocol.is_stopped ≡ true

@@ -5,7 +5,7 @@ ghost use Rattle.group_node.specs.Output.{RunsOn};
 ghost use Rattle.group_node.specs.States.{input};
 ghost use Rattle.group_wire.specs.Traffic.{Traffic, grown, letters_of, letters_to};
 ghost use Rattle.group_wire.specs.Turns.{Arrival, Ending, FailsAtEnd, HearsOut, HearsSome};
-ghost use Rattle.group_wire.specs.Turns.{IsHearingRefused, IsTurn, TellsOfOne};
+ghost use Rattle.group_wire.specs.Turns.{IsHearingRefused, IsWireTurn, TellsOfOne};
 ghost use Rattle.group_wire.specs.Turns.{has_ticked, lost_of, posted, ticked_if};
 
 use crate::answers::{Heard, Turned};
@@ -16,17 +16,18 @@ use paxos_acceptor::Store;
 use paxos_msg::{Group, decode};
 
 /// How many bytes a datagram has at most. A longer one is dropped.
-const LONGEST: usize = 1_400;
+const LONGEST_DATAGRAM: usize = 1_400;
 
 /// How many datagrams a turn receives at most.
 const RECEIVES: u32 = 64;
 
 /// How many steps the machine makes in a turn at most.
-const STEPS: u32 = 1_000;
+const TURN_STEPS: u32 = 1_000;
 
 /// Hands a datagram to the wire for each node of a group of this size. A failed send is a loss.
 fn send_to_all<T: Wire>(wire: &mut T, bytes: &[u8], size: u8)
-    ensures traffic { T.traffic wire.new ≡ grown (T.traffic wire.old) (letters_to size To.All bytes.now) [] }
+    ensures traffic { T.traffic wire.new
+        ≡ grown (T.traffic wire.old) (letters_to size To.All bytes.now) [] }
 {
     for node in 1..=size {
         wire.send(node, bytes);
@@ -35,7 +36,8 @@ fn send_to_all<T: Wire>(wire: &mut T, bytes: &[u8], size: u8)
 
 /// Hands a packet to the wire, once for each node that it goes to. A failed send is a loss.
 fn send_packet<T: Wire>(wire: &mut T, packet: &Packet, size: u8)
-    ensures traffic { T.traffic wire.new ≡ grown (T.traffic wire.old) (letters_to size packet.now.to packet.now.bytes) [] }
+    ensures traffic { T.traffic wire.new
+        ≡ grown (T.traffic wire.old) (letters_to size packet.now.to packet.now.bytes) [] }
 {
     let bytes = packet.bytes.as_slice();
     match packet.to {
@@ -48,7 +50,8 @@ fn send_packet<T: Wire>(wire: &mut T, packet: &Packet, size: u8)
 
 /// Hands all packets of the outbox to the wire, the oldest first.
 fn send_all<T: Wire>(wire: &mut T, outbox: &mut Outbox, size: u8)
-    ensures traffic { T.traffic wire.new ≡ grown (T.traffic wire.old) (letters_of size outbox.old.packets) [] }
+    ensures traffic { T.traffic wire.new
+        ≡ grown (T.traffic wire.old) (letters_of size outbox.old.packets) [] }
     ensures empty { outbox.new.packets ≡ [] }
 {
     while let Some(packet) = outbox.pop() {
@@ -77,14 +80,14 @@ fn hear_bytes<S: Store, T: Wire>(
     group: Group,
     bytes: &[u8],
 ) -> Result<Heard, NodeFault>
-    requires group { node.old.protocol.rules.me.group ≡ group }
+    requires group { node.old.protocol.known.me.group ≡ group }
     requires empty { outbox.old.packets ≡ [] }
     requires short { length bytes.now ≤ 1400 }
-    ensures hears { (from : Option Traffic) → T.traffic wire.old ≡ grown from [] (Some bytes.now ∷ [])
+    ensures hears { (from : Option Traffic)
+        → T.traffic wire.old ≡ grown from [] (Some bytes.now ∷ [])
         → (came : List Arrival) × (ending : Ending)
         × HearsSome group came ending node.old node.new from (T.traffic wire.new)
-        × TellsOfOne result came ending
-        × FailsAtEnd S.honest S.state ending node.new result }
+        × TellsOfOne result came ending × FailsAtEnd S.honest S.state ending node.new result }
     ensures refused { IsHearingRefused S.state node.old node.new result }
     ensures empty { outbox.new.packets ≡ [] }
 {
@@ -110,7 +113,7 @@ fn hear_next<S: Store, T: Wire>(
     group: Group,
     buffer: &mut [u8],
 ) -> Result<Heard, NodeFault>
-    requires group { node.old.protocol.rules.me.group ≡ group }
+    requires group { node.old.protocol.known.me.group ≡ group }
     requires empty { outbox.old.packets ≡ [] }
     ensures hears { (came : List Arrival) × (ending : Ending)
         × HearsSome group came ending node.old node.new (T.traffic wire.old) (T.traffic wire.new)
@@ -122,7 +125,7 @@ fn hear_next<S: Store, T: Wire>(
     let Some(count) = wire.receive(buffer) else {
         return Ok(Heard::Nothing);
     };
-    if count > LONGEST {
+    if count > LONGEST_DATAGRAM {
         return Ok(Heard::Dropped);
     }
     hear_bytes(node, wire, outbox, group, &buffer[..count])
@@ -136,7 +139,7 @@ fn hear_all<S: Store, T: Wire>(
     outbox: &mut Outbox,
     group: Group,
 ) -> Result<u32, NodeFault>
-    requires group { node.old.protocol.rules.me.group ≡ group }
+    requires group { node.old.protocol.known.me.group ≡ group }
     requires empty { outbox.old.packets ≡ [] }
     ensures hears { (came : List Arrival) × (ending : Ending)
         × HearsSome group came ending node.old node.new (T.traffic wire.old) (T.traffic wire.new)
@@ -145,7 +148,7 @@ fn hear_all<S: Store, T: Wire>(
     ensures refused { IsHearingRefused S.state node.old node.new result }
     ensures empty { outbox.new.packets ≡ [] }
 {
-    let mut buffer = [0u8; LONGEST + 1];
+    let mut buffer = [0u8; LONGEST_DATAGRAM + 1];
     let mut lost = 0u32;
     for _ in 0..RECEIVES {
         match hear_next(node, wire, outbox, group, &mut buffer)? {
@@ -165,14 +168,20 @@ fn tick<S: Store, T: Wire>(
     outbox: &mut Outbox,
     size: u8,
 ) -> Result<bool, NodeFault>
-    requires size { node.old.protocol.rules.me.group.size ≡ size }
+    requires size { node.old.protocol.known.me.group.size ≡ size }
     requires empty { outbox.old.packets ≡ [] }
-    ensures rules { IfOk result (λ ticks. node.new.protocol.rules ≡ (ticked_if ticks node.old.protocol.rules).node) }
-    ensures traffic { IfOk result (λ ticks. T.traffic wire.new ≡ grown (T.traffic wire.old) (posted node.old.protocol.rules (ticked_if ticks node.old.protocol.rules).sends) []) }
-    ensures err { OnErr result ((node.new.protocol.rules ≡ node.old.protocol.rules) × (T.traffic wire.new ≡ T.traffic wire.old)) }
+    ensures known { IfOk result
+        (λ ticks. node.new.protocol.known ≡ (ticked_if ticks node.old.protocol.known).node) }
+    ensures traffic { IfOk result
+        (λ ticks. T.traffic wire.new
+        ≡ grown (T.traffic wire.old)
+        (posted node.old.protocol.known (ticked_if ticks node.old.protocol.known).sends) []) }
+    ensures err { OnErr result
+        ((node.new.protocol.known ≡ node.old.protocol.known)
+        × (T.traffic wire.new ≡ T.traffic wire.old)) }
     ensures others { IfErr result (λ e. e ≡ NodeFault.Stopped) }
     ensures stopped { IsErrOf result NodeFault.Stopped ↔ (node.old.protocol.is_stopped ≡ true) }
-    ensures me { node.new.protocol.rules.me ≡ node.old.protocol.rules.me }
+    ensures me { node.new.protocol.known.me ≡ node.old.protocol.known.me }
     ensures stays { node.new.protocol.is_stopped ≡ node.old.protocol.is_stopped }
     ensures store { node.new.protocol.store ≡ node.old.protocol.store }
     ensures progress { node.new.progress ≡ node.old.progress }
@@ -203,19 +212,19 @@ pub fn hear<S: Store, T: Wire>(
     outbox: &mut Outbox,
     group: Group,
 ) -> Result<Heard, NodeFault>
-    requires group { node.old.protocol.rules.me.group ≡ group }
+    requires group { node.old.protocol.known.me.group ≡ group }
     ensures hears { (came : List Arrival) × (ending : Ending)
-        × IsTurn group came ending outbox.old.packets node.old node.new
+        × IsWireTurn group came ending outbox.old.packets node.old node.new
         (T.traffic wire.old) (T.traffic wire.new) false
         × TellsOfOne result came ending
         × FailsAtEnd S.honest S.state ending node.new result }
-    ensures me { node.new.protocol.rules.me ≡ node.old.protocol.rules.me }
+    ensures me { node.new.protocol.known.me ≡ node.old.protocol.known.me }
     ensures progress { node.new.progress ≡ node.old.progress }
     ensures refused { IsHearingRefused S.state node.old node.new result }
     ensures empty { outbox.new.packets ≡ [] }
 {
     send_all(wire, outbox, group.size);
-    let mut buffer = [0u8; LONGEST + 1];
+    let mut buffer = [0u8; LONGEST_DATAGRAM + 1];
     hear_next(node, wire, outbox, group, &mut buffer)
 }
 
@@ -238,15 +247,15 @@ pub fn turn<S: Store, T: Wire>(
     outbox: &mut Outbox,
     group: Group,
 ) -> Result<Turned, NodeFault>
-    requires group { node.old.protocol.rules.me.group ≡ group }
+    requires group { node.old.protocol.known.me.group ≡ group }
     ensures plays { (came : List Arrival) × (ending : Ending)
-        × IsTurn group came ending outbox.old.packets node.old node.new
+        × IsWireTurn group came ending outbox.old.packets node.old node.new
         (T.traffic wire.old) (T.traffic wire.new) (has_ticked result)
         × HearsOut S.honest S.state came ending node.new result
         × IfOk result (λ done. done.lost ≡ lost_of came) }
-    ensures me { node.new.protocol.rules.me ≡ node.old.protocol.rules.me }
+    ensures me { node.new.protocol.known.me ≡ node.old.protocol.known.me }
     ensures runs { IfOk result (λ done.
-        RunsOn (input node.new.protocol.rules) 1000 node.old.progress node.new.progress done.ran) }
+        RunsOn (input node.new.protocol.known) 1000 node.old.progress node.new.progress done.ran) }
     ensures rest { OnErr result (node.new.progress ≡ node.old.progress) }
     ensures others { IfErr result (λ e. (e ≡ NodeFault.Stopped) ⊎ (e ≡ NodeFault.Store)) }
     ensures stopped { IsErrOf result NodeFault.Stopped ↔ (node.old.protocol.is_stopped ≡ true) }
@@ -258,6 +267,6 @@ pub fn turn<S: Store, T: Wire>(
     send_all(wire, outbox, group.size);
     let lost = hear_all(node, wire, outbox, group)?;
     let ticked = tick(node, wire, outbox, group.size)?;
-    let ran = node.run(STEPS)?;
+    let ran = node.run(TURN_STEPS)?;
     Ok(Turned { ran, ticked, lost })
 }

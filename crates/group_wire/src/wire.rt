@@ -10,7 +10,8 @@ pub trait Wire {
 
     /// Hands over a datagram for the node with this number. Whether it was taken: false is a loss.
     fn send(&mut self, to: u8, bytes: &[u8]) -> bool
-        ensures handed { traffic self.new ≡ grown (traffic self.old) (record { to = to; bytes = bytes.now } ∷ []) [] };
+        ensures handed { traffic self.new
+            ≡ grown (traffic self.old) (record { to = to; bytes = bytes.now } ∷ []) [] };
 
     /// Puts the next datagram at the front of the buffer, cut to the buffer's length, and answers
     /// how many bytes it has there. None where no datagram is there, which the traffic counts

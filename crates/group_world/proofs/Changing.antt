@@ -8,12 +8,12 @@ use Rattle.paxos_msg.specs.Records.{MaySave, Stored}
 use Rattle.paxos_acceptor.specs.declared.me.Me.{Me}
 use Rattle.paxos_acceptor.specs.Records.{IsRecord}
 use Rattle.group_node.specs.Backs.{IsRecordBacked}
-use Rattle.group_node.specs.Node.{Done as Made}
+use Rattle.group_node.specs.Known.{Response}
 use Rattle.group_node.specs.Output.{Progress}
 use Rattle.group_node.specs.Steps.{IsSavedBy}
-use Rattle.group_world.specs.Goes.{fallen, with_member}
+use Rattle.group_world.specs.Goes.{world_after_fall, with_member}
 use Rattle.group_world.specs.Sound.{IsMemberSound, IsSound}
-use Rattle.group_world.specs.Worlds.{Member, World, me_of, member_at, seat_of, state_of}
+use Rattle.group_world.specs.Worlds.{Member, World, me_of, member_at, seat_of_member, world_state}
 use Rattle.group_world.proofs.Calling.{CallLaws, MayMake}
 use Rattle.group_world.proofs.States.{changed_elsewhere, changed_here, each_changed}
 
@@ -25,21 +25,30 @@ pub record RestartLaw : Type 0 where
 
 module _ (laws : RestartLaw) (w : World) (h : IsSound w) (i : ℕ) (m : Member) (there : member_at w.members i ≡ Some m) where
   -- the node's own record
-  own_kept : ((state_of w).seats i).kept ≡ m.kept
-  own_kept = ap (λ (o : Option Member). (seat_of o).kept) there
+  own_kept : ((world_state w).seats i).kept ≡ m.kept
+  own_kept = ap (λ (o : Option Member). (seat_of_member o).kept) there
 
-  module _ (new : Member) (failed : List Change) (may : (change : Change) → Contains failed change → MaySave (state_of w).sent m.kept change)
-      (stored : Stored m.kept failed new.kept) (own : IsMemberSound w.program (me_of w i) (state_of w).sent (state_of w).typed new) where
-    grew : Grew w.group.size (state_of w).sent (λ j. ((state_of (with_member w i new)).seats j).kept)
+  module _ (new : Member) (failed : List Change)
+      (may : (change : Change) → Contains failed change → MaySave (world_state w).sent m.kept change)
+      (stored : Stored m.kept failed new.kept)
+      (own : IsMemberSound w.program (me_of w i) (world_state w).sent (world_state w).typed new) where
+    grew : Grew w.group.size (world_state w).sent (λ j. ((world_state (with_member w i new)).seats j).kept)
     grew =
-        let now : ((state_of (with_member w i new)).seats i).kept ≡ new.kept = ap (λ (o : Option Member). (seat_of o).kept) (changed_here w.members i m new there) in
-        laws.restarts w.group.size i (state_of w).sent (λ j. ((state_of w).seats j).kept) (λ j. ((state_of (with_member w i new)).seats j).kept) failed h.grew
-        (λ change among. subst (λ (r : Record). MaySave (state_of w).sent r change) (sym own_kept) (may change among))
-        (subst (λ (r : Record). Stored r failed ((state_of (with_member w i new)).seats i).kept) (sym own_kept) (subst (Stored m.kept failed) (sym now) stored))
-        (λ j ne. ap (λ (o : Option Member). (seat_of o).kept) (changed_elsewhere w.members i j m new there ne))
+        let now : ((world_state (with_member w i new)).seats i).kept ≡ new.kept =
+        ap (λ (o : Option Member). (seat_of_member o).kept) (changed_here w.members i m new there) in
+        laws.restarts w.group.size i (world_state w).sent (λ j. ((world_state w).seats j).kept)
+        (λ j. ((world_state (with_member w i new)).seats j).kept) failed h.grew
+        (λ change among. subst (λ (r : Record). MaySave (world_state w).sent r change) (sym own_kept) (may change among))
+        (subst (λ (r : Record). Stored r failed ((world_state (with_member w i new)).seats i).kept) (sym own_kept)
+        (subst (Stored m.kept failed) (sym now) stored))
+        (λ j ne. ap (λ (o : Option Member). (seat_of_member o).kept) (changed_elsewhere w.members i j m new there ne))
 
-    members : (j : ℕ) (x : Member) → member_at (slice_set w.members (i - 1) new) j ≡ Some x → IsMemberSound w.program (me_of w j) (state_of w).sent (state_of w).typed x
-    members = each_changed w.members i m new there (λ j x. IsMemberSound w.program (me_of w j) (state_of w).sent (state_of w).typed x) own (λ j x ne e. h.members j x e)
+    members : (j : ℕ) (x : Member) → member_at (slice_set w.members (i - 1) new) j ≡ Some x
+        → IsMemberSound w.program (me_of w j) (world_state w).sent (world_state w).typed x
+    members =
+        each_changed w.members i m new there
+        (λ j x. IsMemberSound w.program (me_of w j) (world_state w).sent (world_state w).typed x) own
+        (λ j x ne e. h.members j x e)
 
     -- the node is another, whose record is the same or one of a save that failed
     pub changed_sound : IsSound (with_member w i new)
@@ -55,14 +64,16 @@ module _ (laws : RestartLaw) (w : World) (h : IsSound w) (i : ℕ) (m : Member) 
     }
 
   -- the same where its record is the same
-  pub kept_sound : (new : Member) → new.kept ≡ m.kept → IsMemberSound w.program (me_of w i) (state_of w).sent (state_of w).typed new → IsSound (with_member w i new)
+  pub kept_sound : (new : Member) → new.kept ≡ m.kept
+      → IsMemberSound w.program (me_of w i) (world_state w).sent (world_state w).typed new
+      → IsSound (with_member w i new)
   kept_sound new e own = changed_sound new [] (λ change among. absurd (none change among)) (inl e) own
     where
       none : (change : Change) → Contains [] change → ⊥
       none change among = absurd (omega (arith, among.1))
 
   -- the node is down, with its record
-  pub crash_sound : IsSound (fallen w i m m.kept)
+  pub crash_sound : IsSound (world_after_fall w i m m.kept)
   crash_sound = kept_sound (record { kept = m.kept; console = m.console; node = None }) refl (record {
     ranges = (h.members i m there).ranges;
     backed = (h.members i m there).backed;
@@ -78,12 +89,14 @@ only_one c change among = elim (Contains-push_cases [] c change among) [
 ]
 
 module _ (laws : CallLaws) (restart : RestartLaw) (w : World) (h : IsSound w) (i : ℕ) (m : Member) (there : member_at w.members i ≡ Some m)
-    (progress : Progress) (keys : List Value) (made : Made) (me_is : made.node.me ≡ me_of w i) (may : MayMake w i m made progress keys) where
+    (progress : Progress) (keys : List Value) (made : Response) (me_is : made.node.me ≡ me_of w i)
+    (may : MayMake w i m made progress keys) where
   -- a record that the save may have left
-  left_sound : (left : Record) → (left ≡ m.kept) ⊎ (left ≡ made.node.kept) → (c : Change) → IsSavedBy (state_of w).sent m.kept (Some c) made.node.kept → IsSound (fallen w i m left)
+  left_sound : (left : Record) → (left ≡ m.kept) ⊎ (left ≡ made.node.kept) → (c : Change)
+      → IsSavedBy (world_state w).sent m.kept (Some c) made.node.kept → IsSound (world_after_fall w i m left)
   left_sound left one c (allowed, e) =
       changed_sound restart w h i m there (record { kept = left; console = m.console; node = None }) (c ∷ [])
-      (λ change among. subst (MaySave (state_of w).sent m.kept) (only_one c change among) allowed) (stored_of one)
+      (λ change among. subst (MaySave (world_state w).sent m.kept) (only_one c change among) allowed) (stored_of one)
       (record {
         ranges = ranges_of one;
         backed = backed;
@@ -97,20 +110,27 @@ module _ (laws : CallLaws) (restart : RestartLaw) (w : World) (h : IsSound w) (i
 
       ranges_of : (left ≡ m.kept) ⊎ (left ≡ made.node.kept) → IsRecord w.group.size left
       ranges_of (inl f) = subst (IsRecord w.group.size) (sym f) (h.members i m there).ranges
-      ranges_of (inr f) = subst (IsRecord w.group.size) (sym f) (subst (λ (me : Me). IsRecord me.group.size made.node.kept) me_is may.ranges.kept)
+      ranges_of (inr f) =
+          subst (IsRecord w.group.size) (sym f)
+          (subst (λ (me : Me). IsRecord me.group.size made.node.kept) me_is may.ranges.kept)
 
-      backed : IsRecordBacked (state_of w).sent i left
+      backed : IsRecordBacked (world_state w).sent i left
       backed =
-          let before : IsRecordBacked (state_of w).sent made.node.me.node m.kept = subst (λ (me : Me). IsRecordBacked (state_of w).sent me.node m.kept) (sym me_is) (h.members i m there).backed in
-          subst (λ (me : Me). IsRecordBacked (state_of w).sent me.node left) me_is
-          (laws.saved (state_of w).sent _ m.kept left may.before made before may.lawful one)
+          let before : IsRecordBacked (world_state w).sent made.node.me.node m.kept =
+          subst (λ (me : Me). IsRecordBacked (world_state w).sent me.node m.kept) (sym me_is)
+          (h.members i m there).backed in
+          subst (λ (me : Me). IsRecordBacked (world_state w).sent me.node left) me_is
+          (laws.saved (world_state w).sent _ m.kept left may.before made before may.lawful one)
 
-  one_of : (is_kept : Bool) → ((if is_kept then made.node.kept else m.kept) ≡ m.kept) ⊎ ((if is_kept then made.node.kept else m.kept) ≡ made.node.kept)
+  one_of : (is_kept : Bool)
+      → ((if is_kept then made.node.kept else m.kept) ≡ m.kept)
+      ⊎ ((if is_kept then made.node.kept else m.kept) ≡ made.node.kept)
   one_of true = inr refl
   one_of false = inl refl
 
   -- a save that fails keeps the world sound
-  pub fall_sound : (is_kept : Bool) (c : Change) → made.saves ≡ Some c → IsSound (fallen w i m (if is_kept then made.node.kept else m.kept))
+  pub fall_sound : (is_kept : Bool) (c : Change) → made.saves ≡ Some c
+      → IsSound (world_after_fall w i m (if is_kept then made.node.kept else m.kept))
   fall_sound is_kept c e =
       left_sound (if is_kept then made.node.kept else m.kept) (one_of is_kept) c
-      (subst (λ (o : Option Change). IsSavedBy (state_of w).sent m.kept o made.node.kept) e may.lawful.saves)
+      (subst (λ (o : Option Change). IsSavedBy (world_state w).sent m.kept o made.node.kept) e may.lawful.saves)

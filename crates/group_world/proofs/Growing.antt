@@ -6,7 +6,7 @@ use Rattle.paxos_msg.specs.declared.record.Change.TheVariants as change
 use Rattle.paxos_msg.specs.Batches.{Body, Change, Sent}
 use Rattle.paxos_msg.specs.Keys.{Key}
 use Rattle.paxos_msg.specs.Messages.{messages_of}
-use Rattle.group_node.specs.Consoles.{offered}
+use Rattle.group_node.specs.Console.{offered}
 use Rattle.group_node.specs.World.{CallOrFall, ChangesOnly, Falls, MakesCall, Seat, Up, WorldState, WorldStep, after_release}
 use Rattle.group_node.specs.World as group
 use Rattle.group_world.specs.declared.event.Act.{Act}

@@ -12,17 +12,17 @@ use Rattle.group_world.specs.declared.event.Done.{Done}
 use Rattle.group_world.specs.declared.event.Event.{Event}
 use Rattle.group_world.specs.declared.fault.WorldFault.{WorldFault}
 use Rattle.group_world.specs.Events.{plan_of}
-use Rattle.group_world.specs.Goes.{Acts, Happens, IsStep}
+use Rattle.group_world.specs.Goes.{Performs, LeadsBy, IsStep}
 use Rattle.group_world.specs.Headline.{LearnedChosen, LearnedStays}
 use Rattle.group_world.specs.Held.{Holds}
 use Rattle.group_world.specs.Sound.{IsSound}
-use Rattle.group_world.specs.Worlds.{begun, state_of, World}
+use Rattle.group_world.specs.Worlds.{new_world, world_state, World}
 use Rattle.group_world.proofs.Growing.{Grows, event_grows, grows_none, grows_through}
 use Rattle.group_world.proofs.Happening.{EventLaws, always_holds, happens_holds}
 
 -- the laws of agreement, and of what stays chosen
 pub record ChosenLaws : Type 0 where
-  pub learned : (w : World) → IsSound w → LearnedChosen (state_of w)
+  pub learned : (w : World) → IsSound w → LearnedChosen (world_state w)
   pub one : (size s : ℕ) (sent : Sent) (records : ℕ → Record) (v u : Value)
       → Grew size sent records → IsChosen size sent s v → IsChosen size sent s u → v ≡ u
   pub stays : (size s : ℕ) (sent more : Sent) (v : Value) → IsChosen size sent s v
@@ -32,55 +32,55 @@ pub record ChosenLaws : Type 0 where
 pub record LaterWorldLaws : Type 0 where
   pub events : EventLaws
   pub step : (w v : World) (plan : Option Bool) (act : Act) (d : Done) → IsSound w
-      → Acts w plan act d v → IsStep (state_of w) act d (state_of v)
+      → Performs w plan act d v → IsStep (world_state w) act d (world_state v)
   pub chosen : ChosenLaws
 
 -- a world grows by an event, whether that is refused or not
 pub answer_grows : (w v : World) (act : Act) (answer : Result Done WorldFault)
-    → IfOk answer (λ d. IsStep (state_of w) act d (state_of v)) → OnErr answer (v ≡ w)
-    → Grows (state_of w) (state_of v)
-answer_grows w v act (Ok d) step same = event_grows (state_of w) (state_of v) act d step
-answer_grows w v act (Err e) step same = grows_none (state_of w) (state_of v) (ap state_of same)
+    → IfOk answer (λ d. IsStep (world_state w) act d (world_state v)) → OnErr answer (v ≡ w)
+    → Grows (world_state w) (world_state v)
+answer_grows w v act (Ok d) step same = event_grows (world_state w) (world_state v) act d step
+answer_grows w v act (Err e) step same = grows_none (world_state w) (world_state v) (ap world_state same)
 
 -- chosen at the first moment, chosen at the second, and so the same
 pub grown_learned : ChosenLaws → (w v : World) → IsSound w → IsSound v
-    → Grows (state_of w) (state_of v) → LearnedStays (state_of w) (state_of v)
+    → Grows (world_state w) (world_state v) → LearnedStays (world_state w) (world_state v)
 grown_learned laws w v first second grown i j s a b has other =
-    let chosen : IsChosen w.group.size (state_of w).sent s a =
+    let chosen : IsChosen w.group.size (world_state w).sent s a =
     (laws.learned w first i s a has).0 in
-    let still : IsChosen w.group.size (state_of v).sent s a =
+    let still : IsChosen w.group.size (world_state v).sent s a =
     subst (λ (sent : Sent). IsChosen w.group.size sent s a) (sym grown.sent)
-    (laws.stays w.group.size s (state_of w).sent grown.more a chosen) in
-    let same : IsChosen v.group.size (state_of v).sent s a =
-    subst (λ (n : ℕ). IsChosen n (state_of v).sent s a) (sym grown.size) still in
-    laws.one v.group.size s (state_of v).sent (λ k. ((state_of v).seats k).kept) a b
+    (laws.stays w.group.size s (world_state w).sent grown.more a chosen) in
+    let same : IsChosen v.group.size (world_state v).sent s a =
+    subst (λ (n : ℕ). IsChosen n (world_state v).sent s a) (sym grown.size) still in
+    laws.one v.group.size s (world_state v).sent (λ k. ((world_state v).seats k).kept) a b
     second.grew same (laws.learned v second j s b other).0
 
 module _ (laws : LaterWorldLaws) where
-  happens_grows : (w : World) (events : List Event) (v : World) → Holds w → Happens w events v
-      → Grows (state_of w) (state_of v)
+  happens_grows : (w : World) (events : List Event) (v : World) → Holds w → LeadsBy w events v
+      → Grows (world_state w) (world_state v)
   happens_grows w [] v h e =
-      subst (λ (u : World). Grows (state_of w) (state_of u)) (sym e)
-      (grows_none (state_of w) (state_of w) refl)
+      subst (λ (u : World). Grows (world_state w) (world_state u)) (sym e)
+      (grows_none (world_state w) (world_state w) refl)
   happens_grows w (e ∷ events) v h (mid, d, goes, rest) =
-      let first = event_grows (state_of w) (state_of mid) e.act d
+      let first = event_grows (world_state w) (world_state mid) e.act d
       (laws.step w mid (plan_of e.save) e.act d h.sound goes) in
       let held : Holds mid = happens_holds laws.events w (e ∷ []) mid h (mid, d, goes, refl) in
-      grows_through (state_of w) (state_of mid) (state_of v) first
+      grows_through (world_state w) (world_state mid) (world_state v) first
       (happens_grows mid events v held rest)
 
   -- what has happened, and what more has
   pub later_grows : (p : Parts) (group : Group) (events more : List Event) (w v : World)
       → IsSize group.size → IsGroup group
-      → Happens (begun p group) events w → Happens w more v → Grows (state_of w) (state_of v)
+      → LeadsBy (new_world p group) events w → LeadsBy w more v → Grows (world_state w) (world_state v)
   later_grows p group events more w v size session before then =
       happens_grows w more v (always_holds laws.events p group events w size session before) then
 
   -- what is learned at the two moments is one value
   pub later_learned : (p : Parts) (group : Group) (events more : List Event) (w v : World)
       → IsSize group.size → IsGroup group
-      → Happens (begun p group) events w → Happens w more v
-      → LearnedStays (state_of w) (state_of v)
+      → LeadsBy (new_world p group) events w → LeadsBy w more v
+      → LearnedStays (world_state w) (world_state v)
   later_learned p group events more w v size session before then =
       let first = always_holds laws.events p group events w size session before in
       let second = happens_holds laws.events w more v first then in

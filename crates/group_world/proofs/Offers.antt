@@ -5,7 +5,7 @@ use Rattle.std.proofs.lemmas.List.{length_push}
 use Rattle.std.proofs.lemmas.Option.{slice_get_within}
 use Rattle.pcode_machine.specs.Prefixes.{AreComparable, IsPrefix}
 use Rattle.group_node.specs.declared.console.Offer.TheVariants.{Fresh, Gap, Repeat}
-use Rattle.group_node.specs.Consoles.{offer_answer, offered}
+use Rattle.group_node.specs.Console.{offer_answer, offered}
 
 -- ---- elements of lists that begin others
 

@@ -11,106 +11,142 @@ use Rattle.paxos_msg.specs.Batches.{Record}
 use Rattle.paxos_msg.specs.Records.{empty_record}
 use Rattle.paxos_proposer.specs.Proposer.{greatest_round}
 use Rattle.group_node.specs.declared.fault.NodeFault.TheVariants as fault
-use Rattle.group_node.specs.Delivered.{on_message}
-use Rattle.group_node.specs.Leading.{at_tick, batch_of}
-use Rattle.group_node.specs.Node.{Done as Made, at_campaign, at_typed, front, new_key, next_serial, started}
+use Rattle.group_node.specs.Protocol.{on_message}
+use Rattle.group_node.specs.Known.{Response, on_typed, front, new_key, next_serial, on_start}
+use Rattle.group_node.specs.ProposerRows.{on_campaign}
+use Rattle.group_node.specs.Tick.{on_tick, batch_of}
 use Rattle.group_node.specs.Output.{no_progress, Progress, unreleased_of}
 use Rattle.group_node.specs.States.{input}
 use Rattle.group_world.specs.declared.event.Act.{Act}
 use Rattle.group_world.specs.declared.event.Act.TheVariants.{Press, Deliver, Campaign, Tick, Run, Release, Crash, Start}
 use Rattle.group_world.specs.declared.event.Done.{Done}
-use Rattle.group_world.specs.Goes.{Acts, at_progress, called, failing, fallen, Leaves, Makes, Refuses, released, LeavesSaving, with_member}
+use Rattle.group_world.specs.Goes.{Performs, at_progress, world_after_call, failing, world_after_fall, Leaves, Makes, Refuses, released, LeavesSaving, with_member}
 use Rattle.group_world.specs.Ordered.{IsOrdered, IsRowOf}
 use Rattle.group_world.specs.Sound.{IsSound}
-use Rattle.group_world.specs.Worlds.{begun, me_of, Member, member_at, Running, World}
+use Rattle.group_world.specs.Worlds.{new_world, me_of, Member, member_at, Running, World}
 use Rattle.group_world.proofs.OrderEvents.{batch_due, batch_fits, fallen_world, goes_starts, goes_world, own, pressed_world, put_world, started_world}
 use Rattle.group_world.proofs.OrderLists.{none_in}
 use Rattle.group_world.proofs.OrderNodes.{campaign_goes, Goes, message_goes, tick_goes}
 use Rattle.group_world.proofs.OrderWorlds.{WorldLaws}
 
-module _ (laws : WorldLaws) (w v : World) (plan : Option Bool) (d : Done) (sound : IsSound w) (after : IsSound v) (h : IsOrdered w) (i : ℕ) (m : Member) (there : member_at w.members i ≡ Some m) where
+module _ (laws : WorldLaws) (w v : World) (plan : Option Bool) (d : Done) (sound : IsSound w) (after : IsSound v)
+    (h : IsOrdered w) (i : ℕ) (m : Member) (there : member_at w.members i ≡ Some m) where
   -- a failed save leaves the changed record or the old one
-  fell_by : (kept : Record) → m.kept.starts ≤ kept.starts → (is_kept : Bool) → v ≡ fallen w i m (if is_kept then kept else m.kept) → IsOrdered v
+  fell_by : (kept : Record) → m.kept.starts ≤ kept.starts → (is_kept : Bool)
+      → v ≡ world_after_fall w i m (if is_kept then kept else m.kept) → IsOrdered v
   fell_by kept more true e = subst IsOrdered (sym e) (fallen_world laws w sound h i m there kept more)
   fell_by kept more false e = subst IsOrdered (sym e) (fallen_world laws w sound h i m there m.kept (omega arith))
 
   -- by whether its save fails
-  saves_by : (made : Made) (progress : Progress) (keys : List Value) → m.kept.starts ≤ made.node.kept.starts → (v ≡ called w i made m.console progress keys → IsOrdered v) → (o : Option Bool) → LeavesSaving w i m progress made keys o d v → IsOrdered v
+  saves_by : (made : Response) (progress : Progress) (keys : List Value) → m.kept.starts ≤ made.node.kept.starts
+      → (v ≡ world_after_call w i made m.console progress keys → IsOrdered v) → (o : Option Bool)
+      → LeavesSaving w i m progress made keys o d v → IsOrdered v
   saves_by made progress keys more went None (answer, e) = went e
   saves_by made progress keys more went (Some is_kept) (answer, e) = fell_by made.node.kept more is_kept e
 
-  started_by : (t : Bool) → Leaves w i m (no_progress w.program) plan (if t then Refuses fault.StartsSpent else Makes (started (me_of w i) m.kept) []) d v → IsOrdered v
+  started_by : (t : Bool)
+      → Leaves w i m (no_progress w.program) plan
+      (if t then Refuses fault.StartsSpent else Makes (on_start (me_of w i) m.kept) []) d v → IsOrdered v
   started_by true (answer, e) = subst IsOrdered (sym e) h
   started_by false leaves =
-      saves_by (started (me_of w i) m.kept) (no_progress w.program) [] (omega arith)
+      saves_by (on_start (me_of w i) m.kept) (no_progress w.program) [] (omega arith)
       (λ e. subst IsOrdered (sym e) (started_world laws w sound h i m there m.console (no_progress w.program) (subst IsSound e after)))
-      (failing (started (me_of w i) m.kept).saves plan) leaves
+      (failing (on_start (me_of w i) m.kept).saves plan) leaves
 
   module _ (q : Running) (up : m.node ≡ Some q) where
     -- a call that submits nothing
-    silent_by : (made : Made) → Goes q.rules None made → Leaves w i m q.progress plan (Makes made []) d v → IsOrdered v
+    silent_by : (made : Response) → Goes q.known None made → Leaves w i m q.progress plan (Makes made []) d v → IsOrdered v
     silent_by made goes leaves =
         saves_by made q.progress [] (goes_starts laws w sound h i m there q up None made goes)
-        (λ e. subst IsOrdered (sym e) (goes_world laws w sound h i m there q up None made m.console q.progress goes (subst IsSound e after) (λ u f. absurd (cc)) (λ u f. absurd (cc))))
+        (λ e. subst IsOrdered (sym e)
+        (goes_world laws w sound h i m there q up None made m.console q.progress goes (subst IsSound e after)
+        (λ u f. absurd (cc)) (λ u f. absurd (cc))))
         (failing made.saves plan) leaves
 
-    ticked_by : Leaves w i m q.progress plan (Makes (at_tick q.rules) []) d v → IsOrdered v
+    ticked_by : Leaves w i m q.progress plan (Makes (on_tick q.known) []) d v → IsOrdered v
     ticked_by leaves =
-        let goes = tick_goes q.rules in
-        saves_by (at_tick q.rules) q.progress [] (goes_starts laws w sound h i m there q up (batch_of q.rules q.rules.waiting) (at_tick q.rules) goes)
-        (λ e. subst IsOrdered (sym e) (goes_world laws w sound h i m there q up (batch_of q.rules q.rules.waiting) (at_tick q.rules) m.console q.progress goes (subst IsSound e after)
+        let goes = tick_goes q.known in
+        saves_by (on_tick q.known) q.progress []
+        (goes_starts laws w sound h i m there q up (batch_of q.known q.known.waiting) (on_tick q.known) goes)
+        (λ e. subst IsOrdered (sym e)
+        (goes_world laws w sound h i m there q up (batch_of q.known q.known.waiting)
+        (on_tick q.known) m.console q.progress goes (subst IsSound e after)
         (batch_fits laws w sound h i m there q up) (batch_due laws w sound h i m there q up)))
-        (failing (at_tick q.rules).saves plan) leaves
+        (failing (on_tick q.known).saves plan) leaves
 
-    campaign_by : (t u : Bool) → Leaves w i m q.progress plan (if t then (if u then Refuses fault.PlacesSpent else Makes (at_campaign q.rules) []) else Refuses fault.RoundsSpent) d v → IsOrdered v
+    campaign_by : (t u : Bool)
+        → Leaves w i m q.progress plan
+        (if t then (if u then Refuses fault.PlacesSpent else Makes (on_campaign q.known) [])
+        else Refuses fault.RoundsSpent) d v → IsOrdered v
     campaign_by false u (answer, e) = subst IsOrdered (sym e) h
     campaign_by true true (answer, e) = subst IsOrdered (sym e) h
-    campaign_by true false leaves = silent_by (at_campaign q.rules) (campaign_goes q.rules) leaves
+    campaign_by true false leaves = silent_by (on_campaign q.known) (campaign_goes q.known) leaves
 
-    pressed_by : (byte : ℕ) (t u : Bool) → Leaves w i m q.progress plan (if t then Refuses fault.Busy else (if u then Refuses fault.SerialSpent else Makes (at_typed q.rules byte) (new_key q.rules byte ∷ []))) d v → IsOrdered v
+    pressed_by : (byte : ℕ) (t u : Bool)
+        → Leaves w i m q.progress plan
+        (if t then Refuses fault.Busy
+        else (if u then Refuses fault.SerialSpent else Makes (on_typed q.known byte) (new_key q.known byte ∷ []))) d v
+        → IsOrdered v
     pressed_by byte true u (answer, e) = subst IsOrdered (sym e) h
     pressed_by byte false true (answer, e) = subst IsOrdered (sym e) h
-    pressed_by byte false false (answer, e) = subst IsOrdered (sym e) (pressed_world laws w sound h i m there q up byte m.console q.progress)
+    pressed_by byte false false (answer, e) =
+        subst IsOrdered (sym e) (pressed_world laws w sound h i m there q up byte m.console q.progress)
 
     -- its machine runs
     ran_by : (progress : Progress) → v ≡ with_member w i (at_progress m q progress) → IsOrdered v
-    ran_by progress e = subst IsOrdered (sym e) (put_world laws w sound h i m there (at_progress m q progress) (omega arith) (own laws w sound h i m there q up))
+    ran_by progress e =
+        subst IsOrdered (sym e)
+        (put_world laws w sound h i m there (at_progress m q progress) (omega arith)
+        (own laws w sound h i m there q up))
 
     -- it releases a byte, if one waits
     released_by : (o : Option ℕ) → v ≡ with_member w i (released m q o) → IsOrdered v
     released_by None e = subst IsOrdered (sym e) (put_world laws w sound h i m there m (omega arith) (h.keys.nodes i m there))
-    released_by (Some byte) e = subst IsOrdered (sym e) (put_world laws w sound h i m there (released m q (Some byte)) (omega arith) (own laws w sound h i m there q up))
+    released_by (Some byte) e =
+        subst IsOrdered (sym e)
+        (put_world laws w sound h i m there (released m q (Some byte)) (omega arith)
+        (own laws w sound h i m there q up))
 
 -- any event
-pub acts_ordered : WorldLaws → (w v : World) (plan : Option Bool) (act : Act) (d : Done) → IsSound w → IsSound v → IsOrdered w → Acts w plan act d v → IsOrdered v
+pub acts_ordered : WorldLaws → (w v : World) (plan : Option Bool) (act : Act) (d : Done) → IsSound w → IsSound v
+    → IsOrdered w → Performs w plan act d v → IsOrdered v
 acts_ordered laws w v plan (Press i byte) d sound after h (m, q, is, low, leaves) =
-    pressed_by laws w v plan d sound after h i m is.there q is.up byte (length q.rules.waiting == 256) (next_serial q.rules == 4294967296) leaves
+    pressed_by laws w v plan d sound after h i m is.there q is.up byte (length q.known.waiting == 256)
+    (next_serial q.known == 4294967296) leaves
 acts_ordered laws w v plan (Deliver k i) d sound after h (m, q, message, is, read, leaves) =
-    silent_by laws w v plan d sound after h i m is.there q is.up (on_message q.rules message.sender message.body) (message_goes laws.node q.rules message.sender message.body) leaves
+    silent_by laws w v plan d sound after h i m is.there q is.up (on_message q.known message.sender message.body)
+    (message_goes laws.node q.known message.sender message.body) leaves
 acts_ordered laws w v plan (Campaign i) d sound after h (m, q, is, leaves) =
-    campaign_by laws w v plan d sound after h i m is.there q is.up (nat_lt (greatest_round q.rules.kept.promised q.rules.remembered) 4294967295) (front q.rules == 65536) leaves
+    campaign_by laws w v plan d sound after h i m is.there q is.up
+    (nat_lt (greatest_round q.known.kept.promised q.known.remembered) 4294967295) (front q.known == 65536) leaves
 acts_ordered laws w v plan (Tick i) d sound after h (m, q, is, leaves) = ticked_by laws w v plan d sound after h i m is.there q is.up leaves
-acts_ordered laws w v plan (Run i steps) d sound after h (m, q, progress, ran, is, runs, replay, answer, e) = ran_by laws w v plan d sound after h i m is.there q is.up progress e
-acts_ordered laws w v plan (Release i) d sound after h (m, q, is, answer, e) = released_by laws w v plan d sound after h i m is.there q is.up (slice_get (unreleased_of (input q.rules) q.progress) 0) e
-acts_ordered laws w v plan (Crash i) d sound after h (m, q, is, answer, e) = subst IsOrdered (sym e) (fallen_world laws w sound h i m is.there m.kept (omega arith))
-acts_ordered laws w v plan (Start i) d sound after h (m, is, leaves) = started_by laws w v plan d sound after h i m is.there (m.kept.starts == 4294967295) leaves
+acts_ordered laws w v plan (Run i steps) d sound after h (m, q, progress, ran, is, runs, replay, answer, e) =
+    ran_by laws w v plan d sound after h i m is.there q is.up progress e
+acts_ordered laws w v plan (Release i) d sound after h (m, q, is, answer, e) =
+    released_by laws w v plan d sound after h i m is.there q is.up
+    (slice_get (unreleased_of (input q.known) q.progress) 0) e
+acts_ordered laws w v plan (Crash i) d sound after h (m, q, is, answer, e) =
+    subst IsOrdered (sym e) (fallen_world laws w sound h i m is.there m.kept (omega arith))
+acts_ordered laws w v plan (Start i) d sound after h (m, is, leaves) =
+    started_by laws w v plan d sound after h i m is.there (m.kept.starts == 4294967295) leaves
 
 -- ---- before all events
 
 -- each node is as at first
-pub first_node : (p : Parts) (group : Group) (i : ℕ) (m : Member) → member_at (begun p group).members i ≡ Some m → record { kept = empty_record; console = []; node = None } ≡ m
+pub first_node : (p : Parts) (group : Group) (i : ℕ) (m : Member) → member_at (new_world p group).members i ≡ Some m
+    → record { kept = empty_record; console = []; node = None } ≡ m
 first_node p group zero m e = absurd (cc)
 first_node p group (suc k) m e =
     let first : Member = record { kept = empty_record; console = []; node = None } in
     let within : k < group.size = omega (arith, slice_get_within (replicate group.size first) k m e, length-replicate group.size first) in
     sym (get_or-replicate group.size k first first within) ∙ get_or_from_slice_get (replicate group.size first) k m first e
 
-pub begun_ordered : (p : Parts) (group : Group) → IsOrdered (begun p group)
+pub begun_ordered : (p : Parts) (group : Group) → IsOrdered (new_world p group)
 begun_ordered p group = record {
   keys = record {
     once = λ i j d less below. absurd (omega arith);
     past = λ k m among there. absurd (none_in k among);
-    nodes = λ i m there. subst (λ (x : Member). IfSome x.node (λ q. IsRowOf [] i x.kept q.rules)) (first_node p group i m there) tt;
+    nodes = λ i m there. subst (λ (x : Member). IfSome x.node (λ q. IsRowOf [] i x.kept q.known)) (first_node p group i m there) tt;
   };
   due = λ v said. absurd (none_in _ said.1);
 }

@@ -1,4 +1,5 @@
--- A group of one node, in which three keys were typed, and chosen as the batches 1..1, 1..2 and 3..3: what was sent, and how it grew.
+-- A group of one node, in which three keys were typed, and chosen as the batches 1..1, 1..2 and 3..3: what was sent,
+-- and how it grew.
 use Rattle.std.proofs.Common.{◌≡◌, ◌≢◌, ℕ, zero, suc, ◌==◌, ◌<◌, ◌≤◌, Bool, IsTrue, List, [], ◌∷◌, ◌++◌, Option, Some, None, refl, sym, ap, subst, inl, inr, ◌⊎◌, arith, lit<}
 use Rattle.std.proofs.lemmas.Bool.{eqb-true}
 use Rattle.std.proofs.lemmas.List.Elements.{Contains-push}
@@ -12,11 +13,11 @@ use Rattle.paxos_msg.specs.Batches.{Body, Change, Grew, IsSafe, IsTyped, Msg, Re
 use Rattle.paxos_msg.specs.Chosen.{IsChosen}
 use Rattle.paxos_msg.specs.Growth.{nothing, saves, sends}
 use Rattle.paxos_msg.specs.Keys.{Key, keys_of}
-use Rattle.paxos_msg.specs.Messages.{IsSaid, IsSent, vote_at}
+use Rattle.paxos_msg.specs.Messages.{IsSaid, IsSent, kept_vote_at}
 use Rattle.paxos_msg.specs.Records.{changed, empty_record, IsSaved}
 use Rattle.paxos_msg.specs.Sending.{IsReport, IsUnproposed}
 use Rattle.group_node.specs.Inputs.{AreChosen}
-use Rattle.group_world.specs.Worlds.{member_at, seat_of}
+use Rattle.group_world.specs.Worlds.{member_at, seat_of_member}
 use Rattle.group_world.proofs.OrderLists.{in_cases, none_in}
 
 -- each is so, as a tuple
@@ -82,7 +83,7 @@ sent_3 = with_batch sent_2 2 batch_c
 -- ---- the records
 
 abbrev pub records_of : Record → ℕ → Record
-records_of r i = (seat_of (member_at (record { kept = r; console = []; node = None } ∷ []) i)).kept
+records_of r i = (seat_of_member (member_at (record { kept = r; console = []; node = None } ∷ []) i)).kept
 
 records_saved : (r : Record) (c : Change) → IsSaved (records_of r) 1 c (records_of (changed r c))
 records_saved r c = record { own = refl; others = others }
@@ -131,8 +132,10 @@ only_one i = i == 1
 one_of : (P : ℕ → Type 0) → P 1 → (i : ℕ) → IsTrue (only_one i) → P i
 one_of P h i e = subst P (sym (eqb-true i 1 e)) h
 
-module _ (sent : Sent) (r : Record) (s : ℕ) (v : Value) (grew : Grew 1 sent (records_of r)) (promised : r.promised ≡ Some ballot) (place : s < 65536) (own : IsTyped typed 1 v)
-    (promises : (more : Sent) → IsSent (sent ++ more) 1 (Promise ballot 0 65536 [])) (lower : EachOf (λ (m : Msg). IsLower s m.body) (sent ++ message (Submit v) ∷ []))
+module _ (sent : Sent) (r : Record) (s : ℕ) (v : Value) (grew : Grew 1 sent (records_of r))
+    (promised : r.promised ≡ Some ballot) (place : s < 65536) (own : IsTyped typed 1 v)
+    (promises : (more : Sent) → IsSent (sent ++ more) 1 (Promise ballot 0 65536 []))
+    (lower : EachOf (λ (m : Msg). IsLower s m.body) (sent ++ message (Submit v) ∷ []))
     (last : (x : Sent) (m : Msg) → Contains (x ++ m ∷ []) m) where
   abbrev offered : Sent
   offered = sent ++ message (Submit v) ∷ []
@@ -154,7 +157,16 @@ module _ (sent : Sent) (r : Record) (s : ℕ) (v : Value) (grew : Grew 1 sent (r
     reported = λ i. None;
     best = None;
     majority = lit< tt;
-    promised = one_of _ (record { first = 0; upto = 65536; votes = []; is_sent = promises (message (Submit v) ∷ []); from_first = omega arith; below_upto = place; reports = refl });
+    promised =
+        one_of _ (record {
+          first = 0;
+          upto = 65536;
+          votes = [];
+          is_sent = promises (message (Submit v) ∷ []);
+          from_first = omega arith;
+          below_upto = place;
+          reports = refl;
+        });
     is_best = λ i member. refl;
     value = inr (1, last sent (message (Submit v)));
   }
@@ -162,13 +174,19 @@ module _ (sent : Sent) (r : Record) (s : ℕ) (v : Value) (grew : Grew 1 sent (r
   is_proposed : IsSaid proposed (Accept ballot s v)
   is_proposed = (1, last offered (message (Accept ballot s v)))
 
-  batch_grew : vote_at next.votes s ≡ Some (record { place = s; ballot = ballot; value = v }) → Grew 1 (with_batch sent s v) (records_of next)
+  batch_grew : kept_vote_at next.votes s ≡ Some (record { place = s; ballot = ballot; value = v })
+      → Grew 1 (with_batch sent s v) (records_of next)
   batch_grew vote =
       let learned : ℕ → Option Value = λ s. None in
       let g1 : Grew 1 offered (records_of r) = sends sent (records_of r) typed learned 1 (Submit v) grew own in
-      let g2 : Grew 1 proposed (records_of r) = sends offered (records_of r) typed learned 1 (Accept ballot s v) g1 (refl, inr (unproposed, safe)) in
-      let may : (p : Ballot) → p ≡ ballot → (ballot.round < p.round) ⊎ ((ballot.round ≡ p.round) × (ballot.node ≤ p.node)) = λ p e. inr (ap (λ (b : Ballot). b.round) (sym e), omega (arith, ap (λ (b : Ballot). b.node) e)) in
-      let g3 : Grew 1 proposed (records_of next) = saves proposed (records_of r) (records_of next) 1 (change.Ballotted s ballot v) g2 (is_proposed, rw promised (may ballot refl)) (records_saved r (change.Ballotted s ballot v)) in
+      let g2 : Grew 1 proposed (records_of r) =
+      sends offered (records_of r) typed learned 1 (Accept ballot s v) g1 (refl, inr (unproposed, safe)) in
+      let may : (p : Ballot) → p ≡ ballot
+      → (ballot.round < p.round) ⊎ ((ballot.round ≡ p.round) × (ballot.node ≤ p.node)) =
+      λ p e. inr (ap (λ (b : Ballot). b.round) (sym e), omega (arith, ap (λ (b : Ballot). b.node) e)) in
+      let g3 : Grew 1 proposed (records_of next) =
+      saves proposed (records_of r) (records_of next) 1 (change.Ballotted s ballot v) g2
+      (is_proposed, rw promised (may ballot refl)) (records_saved r (change.Ballotted s ballot v)) in
       sends proposed (records_of next) typed learned 1 (Accepted ballot s v) g3 (is_proposed, vote, refl)
 
 -- ---- the three
@@ -202,16 +220,29 @@ grew_0 : Grew 1 sent_0 (records_of kept_0)
 grew_0 =
     let learned : ℕ → Option Value = λ s. None in
     let g0 : Grew 1 [] (records_of empty_record) = nothing (records_of empty_record) records_empty in
-    let g1 : Grew 1 [] (records_of started_record) = saves [] (records_of empty_record) (records_of started_record) 1 change.Start g0 tt (records_saved empty_record change.Start) in
-    let g2 : Grew 1 [] (records_of kept_0) = saves [] (records_of started_record) (records_of kept_0) 1 (change.Promise ballot) g1 tt (records_saved started_record (change.Promise ballot)) in
-    let reports : IsReport kept_0 0 65536 [] = record { own = λ vote h. absurd (none_in vote h); within = λ vote h. absurd (none_in vote h); whole = λ s from below. refl } in
+    let g1 : Grew 1 [] (records_of started_record) =
+    saves [] (records_of empty_record) (records_of started_record) 1 change.Start g0 tt
+    (records_saved empty_record change.Start) in
+    let g2 : Grew 1 [] (records_of kept_0) =
+    saves [] (records_of started_record) (records_of kept_0) 1 (change.Promise ballot) g1 tt
+    (records_saved started_record (change.Promise ballot)) in
+    let reports : IsReport kept_0 0 65536 [] =
+    record {
+      own = λ vote h. absurd (none_in vote h);
+      within = λ vote h. absurd (none_in vote h);
+      whole = λ s from below. refl;
+    } in
     sends [] (records_of kept_0) typed learned 1 (Promise ballot 0 65536 []) g2 (refl, reports)
 
 grew_1 : Grew 1 sent_1 (records_of kept_1)
-grew_1 = batch_grew sent_0 kept_0 0 batch_a grew_0 refl (omega arith) typed_a (λ more. (0, omega arith, refl)) (tt, (tt, tt)) (λ x m. Contains-push x m) refl
+grew_1 =
+    batch_grew sent_0 kept_0 0 batch_a grew_0 refl (omega arith) typed_a (λ more. (0, omega arith, refl)) (tt, (tt, tt))
+    (λ x m. Contains-push x m) refl
 
 grew_2 : Grew 1 sent_2 (records_of kept_2)
-grew_2 = batch_grew sent_1 kept_1 1 batch_ab grew_1 refl (omega arith) typed_ab (λ more. (0, omega arith, refl)) (tt, (tt, (omega arith, (tt, (tt, tt))))) (λ x m. Contains-push x m) refl
+grew_2 =
+    batch_grew sent_1 kept_1 1 batch_ab grew_1 refl (omega arith) typed_ab (λ more. (0, omega arith, refl))
+    (tt, (tt, (omega arith, (tt, (tt, tt))))) (λ x m. Contains-push x m) refl
 
 pub grew_3 : Grew 1 sent_3 (records_of kept_3)
 grew_3 =

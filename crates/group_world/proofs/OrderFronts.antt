@@ -40,7 +40,8 @@ pub record AreOrderly (keys : List Key) : Type 0 where
 -- ---- the firsts of keys
 
 -- keys so far, with a key at the end if it isn't there yet: what is there already
-pub in_firsts_push : (keys : List Key) (k : Key) (there : Bool) → list_any (same_key k) keys ≡ there → Contains (if there then keys else keys ++ k ∷ []) k
+pub in_firsts_push : (keys : List Key) (k : Key) (there : Bool) → list_any (same_key k) keys ≡ there
+    → Contains (if there then keys else keys ++ k ∷ []) k
 in_firsts_push keys k true e = in_from_test keys k e
 in_firsts_push keys k false e = Contains-push keys k
 
@@ -48,7 +49,8 @@ stays_firsts_push : (keys : List Key) (k x : Key) (there : Bool) → Contains ke
 stays_firsts_push keys k x true h = h
 stays_firsts_push keys k x false h = Contains-append_left keys (k ∷ []) x h
 
-of_firsts_push : (keys : List Key) (k x : Key) (there : Bool) → Contains (if there then keys else keys ++ k ∷ []) x → Contains keys x ⊎ (k ≡ x)
+of_firsts_push : (keys : List Key) (k x : Key) (there : Bool) → Contains (if there then keys else keys ++ k ∷ []) x
+    → Contains keys x ⊎ (k ≡ x)
 of_firsts_push keys k x true h = inl h
 of_firsts_push keys k x false h = Contains-push_cases keys k x h
 
@@ -63,7 +65,8 @@ firsts_more keys k h =
     rw (firsts_push keys k) (record {
       all = λ x here. elim (Contains-push_cases keys k x here) [
         | inl before ↦ stays_firsts_push (firsts keys) k x there (h.all x before)
-        | inr e ↦ subst (λ (y : Key). Contains (if there then firsts keys else firsts keys ++ k ∷ []) y) e (in_firsts_push (firsts keys) k there refl)
+        | inr e ↦ subst (λ (y : Key). Contains (if there then firsts keys else firsts keys ++ k ∷ []) y) e
+            (in_firsts_push (firsts keys) k there refl)
       ];
       only = λ x here. elim (of_firsts_push (firsts keys) k x there here) [
         | inl before ↦ Contains-append_left keys (k ∷ []) x (h.only x before)
@@ -73,7 +76,9 @@ firsts_more keys k h =
 
 firsts_all : (keys more : List Key) → AreFirsts keys (firsts keys) → AreFirsts (keys ++ more) (firsts (keys ++ more))
 firsts_all keys [] h = rw (append-nil keys) h
-firsts_all keys (k ∷ more) h = subst (λ (l : List Key). AreFirsts l (firsts l)) (append_assoc keys (k ∷ []) more) (firsts_all (keys ++ k ∷ []) more (firsts_more keys k h))
+firsts_all keys (k ∷ more) h =
+    subst (λ (l : List Key). AreFirsts l (firsts l)) (append_assoc keys (k ∷ []) more)
+    (firsts_all (keys ++ k ∷ []) more (firsts_more keys k h))
 
 pub keys_are_firsts : (keys : List Key) → AreFirsts keys (firsts keys)
 keys_are_firsts keys = firsts_all [] keys (record { all = λ k h. h; only = λ k h. h })
@@ -86,7 +91,8 @@ pub data Follows (keys : List Key) (node start serial : ℕ) : Type 0 where
   goes_on : (before : ℕ) → before + 1 ≡ serial → HasSerial keys node start before → Follows keys node start serial
 
 -- the keys so far are in order, and a key with no equal one there follows them
-module _ (keys : List Key) (k : Key) (h : AreOrderly keys) (follows : Follows keys k.node k.start k.serial) (new : (x : Key) → Contains keys x → HaveOneName x k → ⊥) where
+module _ (keys : List Key) (k : Key) (h : AreOrderly keys) (follows : Follows keys k.node k.start k.serial)
+    (new : (x : Key) → Contains keys x → HaveOneName x k → ⊥) where
   -- its serial is the one after the last
   next_serial : (n : ℕ) → serials_of k.node k.start keys ≡ range_with_len 1 n → k.serial ≡ n + 1
   next_serial n e =
@@ -94,7 +100,9 @@ module _ (keys : List Key) (k : Key) (h : AreOrderly keys) (follows : Follows ke
       let low : 1 ≤ k.serial = least follows in
       elim (cases_lt n k.serial) [
         | inl above ↦ omega arith
-        | inr within ↦ absurd (found (serial_of keys k.node k.start k.serial (subst (λ (l : List ℕ). Contains l k.serial) (sym e) (in_range 1 n k.serial low (omega arith)))))
+        | inr within ↦ absurd
+            (found (serial_of keys k.node k.start k.serial
+            (subst (λ (l : List ℕ). Contains l k.serial) (sym e) (in_range 1 n k.serial low (omega arith)))))
       ]
     where
       most : Follows keys k.node k.start k.serial → k.serial ≤ n + 1
@@ -119,20 +127,31 @@ module _ (keys : List Key) (k : Key) (h : AreOrderly keys) (follows : Follows ke
             ∙ ap (λ (l : List ℕ). l ++ k.serial ∷ []) (h.order node start).1
             ∙ sym (range_more 1 (h.order node start).0 k.serial (here e f)),
       )
-      | inr ne ↦ ((h.order node start).0, ap (map (λ (x : Key). x.serial)) (other_more node start keys k (λ e f. ne f)) ∙ (h.order node start).1)
+      | inr ne ↦ (
+        (h.order node start).0,
+        ap (map (λ (x : Key). x.serial)) (other_more node start keys k (λ e f. ne f))
+            ∙ (h.order node start).1,
+      )
     ]
-    | inr ne ↦ ((h.order node start).0, ap (map (λ (x : Key). x.serial)) (other_more node start keys k (λ e f. ne e)) ∙ (h.order node start).1)
+    | inr ne ↦ (
+      (h.order node start).0,
+      ap (map (λ (x : Key). x.serial)) (other_more node start keys k (λ e f. ne e))
+          ∙ (h.order node start).1,
+    )
   ]
     where
       here : k.node ≡ node → k.start ≡ start → 1 + (h.order node start).0 ≡ k.serial
       here e f =
-          let own : serials_of k.node k.start keys ≡ range_with_len 1 (h.order node start).0 = (λ i. serials_of (e i) (f i) keys) ∙ (h.order node start).1 in
+          let own : serials_of k.node k.start keys ≡ range_with_len 1 (h.order node start).0 =
+          (λ i. serials_of (e i) (f i) keys) ∙ (h.order node start).1 in
           let is = next_serial (h.order node start).0 own in
           omega arith
 
   next_orderly : AreOrderly (keys ++ k ∷ [])
   next_orderly = record {
-    once = all_pairs_push (λ (x y : Key). ¬ HaveOneName x y) keys k h.once (λ i d below. new (get_or keys i d) (Contains-get_or keys i d below));
+    once =
+        all_pairs_push (λ (x y : Key). ¬ HaveOneName x y) keys k h.once
+        (λ i d below. new (get_or keys i d) (Contains-get_or keys i d below));
     order = next_order;
   }
 
@@ -148,32 +167,44 @@ pub record AreGood (keys : List Key) : Type 0 where
   pub firsts : AreFirsts keys (firsts keys)
 
 -- what follows keys follows more
-follows_in : (keys more : List Key) (node start serial : ℕ) → ((k : Key) → Contains keys k → Contains more k) → Follows keys node start serial → Follows more node start serial
+follows_in : (keys more : List Key) (node start serial : ℕ) → ((k : Key) → Contains keys k → Contains more k)
+    → Follows keys node start serial → Follows more node start serial
 follows_in keys more node start serial within (begins one) = begins one
-follows_in keys more node start serial within (goes_on before next has) = goes_on before next (has_in keys more node start before within has)
+follows_in keys more node start serial within (goes_on before next has) =
+    goes_on before next (has_in keys more node start before within has)
 
 push_orderly : (keys once : List Key) (k : Key) (there : Bool) → list_any (same_key k) once ≡ there → AreOrderly once → AreFirsts keys once
-    → Follows keys k.node k.start k.serial → ((x : Key) → Contains keys x → HaveOneName x k → x ≡ k) → AreOrderly (if there then once else once ++ k ∷ [])
+    → Follows keys k.node k.start k.serial → ((x : Key) → Contains keys x → HaveOneName x k → x ≡ k)
+    → AreOrderly (if there then once else once ++ k ∷ [])
 push_orderly keys once k true e h f follows same = h
 push_orderly keys once k false e h f follows same =
     next_orderly once k h (follows_in keys once k.node k.start k.serial f.all follows)
-    (λ x among name. both_ways (list_any (same_key k) once) e (test_from_in once k (subst (λ (y : Key). Contains once y) (same x (f.only x among) name) among)))
+    (λ x among name. both_ways (list_any (same_key k) once) e
+    (test_from_in once k (subst (λ (y : Key). Contains once y) (same x (f.only x among) name) among)))
 
-push_good : (keys : List Key) (k : Key) → AreGood keys → Follows keys k.node k.start k.serial → ((x : Key) → Contains keys x → HaveOneName x k → x ≡ k) → AreGood (keys ++ k ∷ [])
+push_good : (keys : List Key) (k : Key) → AreGood keys → Follows keys k.node k.start k.serial
+    → ((x : Key) → Contains keys x → HaveOneName x k → x ≡ k) → AreGood (keys ++ k ∷ [])
 push_good keys k h follows same = record {
-  orderly = rw (firsts_push keys k) (push_orderly keys (firsts keys) k (list_any (same_key k) (firsts keys)) refl h.orderly h.firsts follows same);
+  orderly =
+      rw (firsts_push keys k)
+      (push_orderly keys (firsts keys) k (list_any (same_key k) (firsts keys)) refl h.orderly h.firsts follows same);
   firsts = firsts_more keys k h.firsts;
 }
 
-batch_good : (keys : List Key) (node start serial : ℕ) (bytes : List ℕ) → AreGood keys → Follows keys node start serial → AreUniform (keys ++ keys_from node start serial bytes) → AreGood (keys ++ keys_from node start serial bytes)
+batch_good : (keys : List Key) (node start serial : ℕ) (bytes : List ℕ) → AreGood keys → Follows keys node start serial
+    → AreUniform (keys ++ keys_from node start serial bytes) → AreGood (keys ++ keys_from node start serial bytes)
 batch_good keys node start serial [] h follows uniform = rw (append-nil keys) h
 batch_good keys node start serial (byte ∷ bytes) h follows uniform =
     let k : Key = record { node = node; start = start; serial = serial; byte = byte } in
     let more : List Key = keys_from node start (serial + 1) bytes in
     let next : List Key = keys ++ k ∷ [] in
     let join : next ++ more ≡ keys ++ (k ∷ more) = append_assoc keys (k ∷ []) more in
-    let one : AreGood next = push_good keys k h follows (λ x among name. uniform.same x k (Contains-append_left keys (k ∷ more) x among) (Contains-append_right keys (k ∷ more) k (first_in k more)) name) in
-    let last : HasSerial next node start serial = record { key = k; among = Contains-push keys k; node_is = refl; start_is = refl; serial_is = refl } in
+    let one : AreGood next =
+    push_good keys k h follows
+    (λ x among name. uniform.same x k (Contains-append_left keys (k ∷ more) x among)
+    (Contains-append_right keys (k ∷ more) k (first_in k more)) name) in
+    let last : HasSerial next node start serial =
+    record { key = k; among = Contains-push keys k; node_is = refl; start_is = refl; serial_is = refl } in
     subst AreGood join (batch_good next node start (serial + 1) bytes one (goes_on serial refl last) (subst AreUniform (sym join) uniform))
 
 -- ---- the chosen values
@@ -187,7 +218,8 @@ here_place : {X : Type 0} (xs : List X) (y : X) (ys : List X) → slice_get (xs 
 here_place [] y ys = refl
 here_place (x ∷ xs) y ys = here_place xs y ys
 
-module _ (size : ℕ) (sent : Sent) (typed : List Key) (apart : AreApart typed) (submits : AreSubmits size sent typed) (agreed : IsAgreed size sent) where
+module _ (size : ℕ) (sent : Sent) (typed : List Key) (apart : AreApart typed) (submits : AreSubmits size sent typed)
+    (agreed : IsAgreed size sent) where
   pub front_left : (values more : List Value) → AreChosen size sent (values ++ more) → AreChosen size sent values
   front_left values more front = record { chosen = λ s v e. front.chosen s v (left_place values more s v e) }
 
@@ -203,26 +235,39 @@ module _ (size : ℕ) (sent : Sent) (typed : List Key) (apart : AreApart typed) 
       value_typed from.0 (agreed.free at.0 from.0 (front.chosen at.0 from.0 at.1)) k from.2
 
   front_uniform : (values : List Value) → AreChosen size sent values → AreUniform (all_keys values)
-  front_uniform values front = record { same = λ k other h g name. apart_same typed k other apart (front_typed values front k h) (front_typed values front other g) name }
+  front_uniform values front =
+      record {
+        same = λ k other h g name.
+            apart_same typed k other apart (front_typed values front k h) (front_typed values front other g) name;
+      }
 
   -- of two fronts the keys of the shorter one are among those of the longer one
-  shorter_in : (below values : List Value) → AreChosen size sent below → AreChosen size sent values → length below ≤ length values → (k : Key) → Contains (all_keys below) k → Contains (all_keys values) k
+  shorter_in : (below values : List Value) → AreChosen size sent below → AreChosen size sent values
+      → length below ≤ length values → (k : Key) → Contains (all_keys below) k → Contains (all_keys values) k
   shorter_in below values low front less k h =
       let from = of_flat_map keys_of below k h in
       let at = place_of below from.0 from.1 in
-      let there : slice_get values at.0 ≡ Some (get_or values at.0 from.0) = slice_get-get_or values at.0 from.0 (omega (arith, slice_get_within below at.0 from.0 at.1)) in
-      let same : get_or values at.0 from.0 ≡ from.0 = agreed.one at.0 (get_or values at.0 from.0) from.0 (front.chosen at.0 (get_or values at.0 from.0) there) (low.chosen at.0 from.0 at.1) in
+      let there : slice_get values at.0 ≡ Some (get_or values at.0 from.0) =
+      slice_get-get_or values at.0 from.0 (omega (arith, slice_get_within below at.0 from.0 at.1)) in
+      let same : get_or values at.0 from.0 ≡ from.0 =
+      agreed.one at.0 (get_or values at.0 from.0) from.0 (front.chosen at.0 (get_or values at.0 from.0) there)
+      (low.chosen at.0 from.0 at.1) in
       in_flat_map keys_of values from.0 k (in_from_place values at.0 from.0 (there ∙ ap (λ (u : Value). Some u) same)) from.2
 
   -- a front that has more places than these has the value of the next one
-  longer_has : (below values more : List Value) (v : Value) → AreChosen size sent below → AreChosen size sent (values ++ v ∷ more) → length values < length below → Contains below v
+  longer_has : (below values more : List Value) (v : Value) → AreChosen size sent below
+      → AreChosen size sent (values ++ v ∷ more) → length values < length below → Contains below v
   longer_has below values more v low front less =
       let s : ℕ = length values in
       let there : slice_get below s ≡ Some (get_or below s v) = slice_get-get_or below s v less in
-      let same : get_or below s v ≡ v = agreed.one s (get_or below s v) v (low.chosen s (get_or below s v) there) (front.chosen s v (here_place values v more)) in
+      let same : get_or below s v ≡ v =
+      agreed.one s (get_or below s v) v (low.chosen s (get_or below s v) there)
+      (front.chosen s v (here_place values v more)) in
       in_from_place below s v (there ∙ ap (λ (u : Value). Some u) same)
 
-  due_follows : (values more : List Value) (node start first byte : ℕ) (bytes : List ℕ) → AreChosen size sent (values ++ Keys node start first (byte ∷ bytes) ∷ more) → IsDue size sent (Keys node start first (byte ∷ bytes)) → Follows (all_keys values) node start first
+  due_follows : (values more : List Value) (node start first byte : ℕ) (bytes : List ℕ)
+      → AreChosen size sent (values ++ Keys node start first (byte ∷ bytes) ∷ more)
+      → IsDue size sent (Keys node start first (byte ∷ bytes)) → Follows (all_keys values) node start first
   due_follows values more node start first byte bytes front (inl one) = begins one
   due_follows values more node start first byte bytes front (inr p) =
       let v : Value = Keys node start first (byte ∷ bytes) in
@@ -230,13 +275,17 @@ module _ (size : ℕ) (sent : Sent) (typed : List Key) (apart : AreApart typed) 
       elim (cases_lt (length values) (length p.below)) [
         | inl less ↦ absurd (p.lacks (record {
           key = k;
-          among = (keys_are_firsts (all_keys p.below)).all k (in_flat_map keys_of p.below v k (longer_has p.below values more v p.chosen front less) (first_in k (keys_from node start (first + 1) bytes)));
+          among =
+              (keys_are_firsts (all_keys p.below)).all k
+              (in_flat_map keys_of p.below v k (longer_has p.below values more v p.chosen front less)
+              (first_in k (keys_from node start (first + 1) bytes)));
           node_is = refl;
           start_is = refl;
           serial_is = refl;
         }))
         | inr within ↦ goes_on p.before p.next (has_in (keys_in_order p.below) (all_keys values) node start p.before
-            (λ x among. shorter_in p.below values p.chosen (front_left values (v ∷ more) front) within x ((keys_are_firsts (all_keys p.below)).only x among)) p.has)
+            (λ x among. shorter_in p.below values p.chosen (front_left values (v ∷ more) front) within x
+            ((keys_are_firsts (all_keys p.below)).only x among)) p.has)
       ]
 
   submitted_due : (v : Value) → IsFree sent v → IsDue size sent v
@@ -244,22 +293,29 @@ module _ (size : ℕ) (sent : Sent) (typed : List Key) (apart : AreApart typed) 
   submitted_due v (inr said) = submits.due v said
 
   keys_one_more : (values : List Value) (v : Value) → all_keys (values ++ v ∷ []) ≡ all_keys values ++ keys_of v
-  keys_one_more values v = flat_map-append keys_of values (v ∷ []) ∙ ap (λ (rest : List Key). all_keys values ++ rest) (append-nil (keys_of v))
+  keys_one_more values v =
+      flat_map-append keys_of values (v ∷ [])
+      ∙ ap (λ (rest : List Key). all_keys values ++ rest) (append-nil (keys_of v))
 
-  value_good : (values more : List Value) (v : Value) → AreGood (all_keys values) → AreChosen size sent (values ++ v ∷ more) → IsDue size sent v → AreUniform (all_keys values ++ keys_of v) → AreGood (all_keys values ++ keys_of v)
+  value_good : (values more : List Value) (v : Value) → AreGood (all_keys values)
+      → AreChosen size sent (values ++ v ∷ more) → IsDue size sent v → AreUniform (all_keys values ++ keys_of v)
+      → AreGood (all_keys values ++ keys_of v)
   value_good values more Noop h front due uniform = rw (append-nil (all_keys values)) h
   value_good values more (Keys node start first []) h front due uniform = rw (append-nil (all_keys values)) h
   value_good values more (Keys node start first (byte ∷ bytes)) h front due uniform =
       batch_good (all_keys values) node start first (byte ∷ bytes) h (due_follows values more node start first byte bytes front due) uniform
 
-  values_good : (values more : List Value) → AreGood (all_keys values) → AreChosen size sent (values ++ more) → AreGood (all_keys (values ++ more))
+  values_good : (values more : List Value) → AreGood (all_keys values) → AreChosen size sent (values ++ more)
+      → AreGood (all_keys (values ++ more))
   values_good values [] h front = rw (append-nil values) h
   values_good values (v ∷ more) h front =
       let join : (values ++ v ∷ []) ++ more ≡ values ++ v ∷ more = append_assoc values (v ∷ []) more in
       let whole : AreChosen size sent ((values ++ v ∷ []) ++ more) = subst (AreChosen size sent) (sym join) front in
       let e : all_keys (values ++ v ∷ []) ≡ all_keys values ++ keys_of v = keys_one_more values v in
-      let due : IsDue size sent v = submitted_due v (agreed.free (length values) v (front.chosen (length values) v (here_place values v more))) in
-      let uniform : AreUniform (all_keys values ++ keys_of v) = subst AreUniform e (front_uniform (values ++ v ∷ []) (front_left (values ++ v ∷ []) more whole)) in
+      let due : IsDue size sent v =
+      submitted_due v (agreed.free (length values) v (front.chosen (length values) v (here_place values v more))) in
+      let uniform : AreUniform (all_keys values ++ keys_of v) =
+      subst AreUniform e (front_uniform (values ++ v ∷ []) (front_left (values ++ v ∷ []) more whole)) in
       let one : AreGood (all_keys (values ++ v ∷ [])) = subst AreGood (sym e) (value_good values more v h front due uniform) in
       subst (λ (l : List Value). AreGood (all_keys l)) join (values_good (values ++ v ∷ []) more one whole)
 

@@ -44,20 +44,27 @@ filter_one x k true e = rw e refl
 filter_one x k false e = rw e refl
 
 filter_more : (x k : Key) (same : Bool) (keys : List Key) (there : Bool) → same_key x k ≡ same
-    → filter (other_than x) (if there then keys else keys ++ k ∷ []) ≡ (if there then filter (other_than x) keys else filter (other_than x) keys ++ (if same then [] else k ∷ []))
+    → filter (other_than x) (if there then keys else keys ++ k ∷ [])
+    ≡ (if there then filter (other_than x) keys else filter (other_than x) keys ++ (if same then [] else k ∷ []))
 filter_more x k same keys true e = refl
-filter_more x k same keys false e = filter-append (other_than x) keys (k ∷ []) ∙ ap (λ (rest : List Key). filter (other_than x) keys ++ rest) (filter_one x k same e)
+filter_more x k same keys false e =
+    filter-append (other_than x) keys (k ∷ [])
+    ∙ ap (λ (rest : List Key). filter (other_than x) keys ++ rest) (filter_one x k same e)
 
 nothing_more : (there : Bool) (keys : List Key) → (if there then keys else keys ++ []) ≡ keys
 nothing_more true keys = refl
 nothing_more false keys = append-nil keys
 
-under_first : (there : Bool) (x : Key) (keys : List Key) (k : Key) → x ∷ (if there then keys else keys ++ k ∷ []) ≡ (if there then x ∷ keys else (x ∷ keys) ++ k ∷ [])
+under_first : (there : Bool) (x : Key) (keys : List Key) (k : Key)
+    → x ∷ (if there then keys else keys ++ k ∷ []) ≡ (if there then x ∷ keys else (x ∷ keys) ++ k ∷ [])
 under_first true x keys k = refl
 under_first false x keys k = refl
 
-other_kept : (x k : Key) (keys : List Key) → same_key x k ≡ false → list_any (same_key k) (filter (other_than x) keys) ≡ list_any (same_key k) keys
-other_kept x k keys e = any-filter_same (same_key k) (other_than x) true (λ y same. not_from_false _ (ap (same_key x) (sym (same_from_test k y same)) ∙ e)) keys
+other_kept : (x k : Key) (keys : List Key) → same_key x k ≡ false
+    → list_any (same_key k) (filter (other_than x) keys) ≡ list_any (same_key k) keys
+other_kept x k keys e =
+    any-filter_same (same_key k) (other_than x) true
+    (λ y same. not_from_false _ (ap (same_key x) (sym (same_from_test k y same)) ∙ e)) keys
 
 insert_under_first : (x k : Key) (same : Bool) (keys : List Key) → same_key x k ≡ same
     → x ∷ filter (other_than x) (insert_key same_key keys k) ≡ insert_key same_key (x ∷ filter (other_than x) keys) k
@@ -68,7 +75,9 @@ insert_under_first x k true keys e =
 insert_under_first x k false keys e =
     let there = list_any (same_key k) keys in
     let first : same_key k x ≡ false = same_back k x ∙ e in
-    rw (first, other_kept x k keys e) (ap (λ (rest : List Key). x ∷ rest) (filter_more x k false keys there e) ∙ under_first there x (filter (other_than x) keys) k)
+    rw (first, other_kept x k keys e)
+    (ap (λ (rest : List Key). x ∷ rest) (filter_more x k false keys there e)
+    ∙ under_first there x (filter (other_than x) keys) k)
 
 -- a key more comes last, or stands there already
 pub firsts_push : (keys : List Key) (k : Key) → firsts (keys ++ k ∷ []) ≡ insert_key same_key (firsts keys) k
@@ -109,6 +118,12 @@ name_back k other h = record { node = sym h.node; start = sym h.start; serial = 
 pub apart_same : (keys : List Key) (k other : Key) → AreApart keys → Contains keys k → Contains keys other → HaveOneName k other → k ≡ other
 apart_same keys k other apart (i, below, at) (j, within, is) name = elim (cases_order i j) [
   | inl e ↦ sym at ∙ ap (λ n. get_or keys n k) e ∙ get_or_default keys j k other within ∙ is
-  | inr (inl less) ↦ absurd (apart i j k less within (subst (λ x. HaveOneName x (get_or keys j k)) (sym at) (subst (HaveOneName k) (sym (get_or_default keys j k other within ∙ is)) name)))
-  | inr (inr more) ↦ absurd (apart j i k more below (subst (HaveOneName (get_or keys j k)) (sym at) (subst (λ x. HaveOneName x k) (sym (get_or_default keys j k other within ∙ is)) (name_back k other name))))
+  | inr (inl less) ↦ absurd
+      (apart i j k less within
+      (subst (λ x. HaveOneName x (get_or keys j k)) (sym at)
+      (subst (HaveOneName k) (sym (get_or_default keys j k other within ∙ is)) name)))
+  | inr (inr more) ↦ absurd
+      (apart j i k more below
+      (subst (HaveOneName (get_or keys j k)) (sym at)
+      (subst (λ x. HaveOneName x k) (sym (get_or_default keys j k other within ∙ is)) (name_back k other name))))
 ]

@@ -1,4 +1,5 @@
--- What the calls of a node make of its start, its serials, the keys that wait and what it has learned, and which Submits they send.
+-- What the calls of a node make of its start, its serials, the keys that wait and what it has learned, and which
+-- Submits they send.
 use Rattle.std.proofs.Common.{◌≡◌, ◌∙◌, ℕ, suc, ◌+◌, ◌≤◌, ◌&&◌, not, Bool, true, false, List, [], ◌∷◌, ◌++◌, length, Option, Some, None, All, Contains, if◌then◌else◌, refl, sym, ap, arith}
 use Rattle.std.proofs.lemmas.List.{length-drop}
 use Rattle.paxos_msg.specs.declared.ballot.Ballot.{Ballot}
@@ -10,15 +11,18 @@ use Rattle.paxos_msg.specs.Keys.{Key, keys_from, keys_of}
 use Rattle.paxos_msg.specs.Tests.{same_ballot}
 use Rattle.paxos_acceptor.specs.Answers.{accept_of, accepted, after, Answer, prepare_of, prepared, voted}
 use Rattle.paxos_acceptor.specs.Cases.{greater_promise, is_promised, value_under}
-use Rattle.paxos_proposer.specs.Proposer.{after_part, asks_on, is_covered, next_of, Proposer}
+use Rattle.paxos_proposer.specs.Proposer.{proposer_after_part, asks_on, is_covered, next_of, Proposer}
 use Rattle.paxos_learner.specs.Growth.{HasLearnedMore}
 use Rattle.paxos_learner.specs.Input.{front_values, has_key, keys_in_order}
-use Rattle.paxos_learner.specs.Learner.{Learner, on_accepted, on_tell}
-use Rattle.paxos_msg.specs.Messages.{vote_at}
+use Rattle.paxos_learner.specs.Learner.{Learner, heard_accepted, heard_tell}
+use Rattle.paxos_msg.specs.Messages.{kept_vote_at}
 use Rattle.group_node.specs.declared.packet.To.{To}
-use Rattle.group_node.specs.Delivered.{on_message, row}
-use Rattle.group_node.specs.Leading.{accepts_again, are_known, asks, at_tick, batch_of, offer_after, offering, prepare_from, prepares_again, proposing_on, submitted, taking_part, ticked}
-use Rattle.group_node.specs.Node.{answering, at_campaign, count_read, Done, gone, next_serial, Node, quiet, waiting_keys, without_read}
+use Rattle.group_node.specs.Protocol.{on_message, row}
+use Rattle.group_node.specs.AcceptorRows.{answering}
+use Rattle.group_node.specs.Known.{Response, next_serial, Known, quiet, waiting_keys}
+use Rattle.group_node.specs.ProposerRows.{are_known, offer_after, offering, prepare_from, proposing_on, submitted, taking_part, on_campaign}
+use Rattle.group_node.specs.Tick.{accepts_again, asks, on_tick, batch_of, prepares_again, ticked}
+use Rattle.group_node.specs.WaitingKeys.{count_read, count_gone, without_read}
 use Rattle.group_node.specs.Pump.{accepts_of, pump}
 use Rattle.group_world.specs.Ordered.{IsFirstUnread}
 use Rattle.group_world.proofs.OrderPackets.{accepts_asked, again_asked, AreAsked, asks_asked, both_asked, IsAsked, none_asked, one_asked, prepare_asked, prepares_asked, tells_asked}
@@ -26,17 +30,21 @@ use Rattle.group_world.proofs.OrderRows.{IsParted}
 
 -- The laws of the crates below: what was learned stays learned, and which keys leave after a message.
 pub record NodeLaws : Type 0 where
-  pub accepted : (l : Learner) (i s : ℕ) (b : Ballot) (v : Value) → HasLearnedMore l.learned (on_accepted l i b s v).learner.learned
-  pub told : (l : Learner) (s : ℕ) (v : Value) → HasLearnedMore l.learned (on_tell l s v).learner.learned
-  pub gone : (n : Node) → (gone : List Key) × (waiting_keys n ≡ gone ++ waiting_keys (without_read n)) × All (λ k. Contains (keys_in_order (front_values n.learner.learned)) k) gone
-  pub first : (n : Node) (k : Key) (ks : List Key) → waiting_keys (without_read n) ≡ k ∷ ks → ¬ Contains (keys_in_order (front_values n.learner.learned)) k
+  pub accepted : (l : Learner) (i s : ℕ) (b : Ballot) (v : Value) → HasLearnedMore l.learned (heard_accepted l i b s v).learner.learned
+  pub told : (l : Learner) (s : ℕ) (v : Value) → HasLearnedMore l.learned (heard_tell l s v).learner.learned
+  pub gone : (n : Known)
+      → (count_gone : List Key) × (waiting_keys n ≡ count_gone ++ waiting_keys (without_read n))
+      × All (λ k. Contains (keys_in_order (front_values n.learner.learned)) k) count_gone
+  pub first : (n : Known) (k : Key) (ks : List Key) → waiting_keys (without_read n) ≡ k ∷ ks
+      → ¬ Contains (keys_in_order (front_values n.learner.learned)) k
 
 -- the keys that stand below the front
-abbrev pub read_of : Node → List Key
+abbrev pub read_of : Known → List Key
 read_of n = keys_in_order (front_values n.learner.learned)
 
--- A call that counts no start and types no key: keys that wait stay, and what was learned; of Submits it sends that of this value at most.
-pub record Stays (n : Node) (o : Option Value) (done : Done) : Type 0 where
+-- A call that counts no start and types no key: keys that wait stay, and what was learned; of Submits it sends that of
+-- this value at most.
+pub record Stays (n : Known) (o : Option Value) (done : Response) : Type 0 where
   pub starts : done.node.kept.starts ≡ n.kept.starts
   pub next : next_serial done.node ≡ next_serial n
   pub waiting : waiting_keys done.node ≡ waiting_keys n
@@ -44,7 +52,7 @@ pub record Stays (n : Node) (o : Option Value) (done : Done) : Type 0 where
   pub asked : AreAsked o done.sends
 
 -- The same, but keys leave from the front that stand below the front.
-pub record Goes (n : Node) (o : Option Value) (done : Done) : Type 0 where
+pub record Goes (n : Known) (o : Option Value) (done : Response) : Type 0 where
   pub starts : done.node.kept.starts ≡ n.kept.starts
   pub next : next_serial done.node ≡ next_serial n
   pub learns : HasLearnedMore n.learner.learned done.node.learner.learned
@@ -52,11 +60,11 @@ pub record Goes (n : Node) (o : Option Value) (done : Done) : Type 0 where
   pub asked : AreAsked o done.sends
 
 -- nothing more is learned
-same_learned : (n : Node) → HasLearnedMore n.learner.learned n.learner.learned
+same_learned : (n : Known) → HasLearnedMore n.learner.learned n.learner.learned
 same_learned n = record { stays = λ s v e. e }
 
 -- a call that leaves all that is asked for as it is, but for the packets
-quiet_stays : (n : Node) (o : Option Value) → Stays n o (quiet n)
+quiet_stays : (n : Known) (o : Option Value) → Stays n o (quiet n)
 quiet_stays n o = record { starts = refl; next = refl; waiting = refl; learns = same_learned n; asked = none_asked o }
 
 -- ---- an acceptor's answers
@@ -80,9 +88,9 @@ voted_plain None r b s v = record { starts = refl; says = tt }
 
 accepted_plain : (o : Option Ballot) (r : Record) (b : Ballot) (s : ℕ) (v : Value) → IsPlain r (accepted o r b s v)
 accepted_plain (Some p) r b s v = record { starts = refl; says = tt }
-accepted_plain None r b s v = voted_plain (value_under (vote_at r.votes s) b) r b s v
+accepted_plain None r b s v = voted_plain (value_under (kept_vote_at r.votes s) b) r b s v
 
-answering_stays : (n : Node) (to : To) (answer : Answer) → IsPlain n.kept answer → Stays n None (answering n to answer)
+answering_stays : (n : Known) (to : To) (answer : Answer) → IsPlain n.kept answer → Stays n None (answering n to answer)
 answering_stays n to answer h = record {
   starts = h.starts;
   next = refl;
@@ -93,47 +101,71 @@ answering_stays n to answer h = record {
 
 -- ---- the calls that a proposer answers
 
-promise_if : (n : Node) (p : Proposer) (j first upto : ℕ) (b : Ballot) (votes : List Vote) (t : Bool)
-    → Stays n None (if t then proposing_on n (prepare_from b j (asks_on p j first upto)) (pump 16 (after_part p j first upto votes)) else quiet n)
+promise_if : (n : Known) (p : Proposer) (j first upto : ℕ) (b : Ballot) (votes : List Vote) (t : Bool)
+    → Stays n None (if t
+    then proposing_on n (prepare_from b j (asks_on p j first upto))
+    (pump 16 (proposer_after_part p j first upto votes)) else quiet n)
 promise_if n p j first upto b votes true = record {
   starts = refl;
   next = refl;
   waiting = refl;
   learns = same_learned n;
-  asked = both_asked None (prepare_from b j (asks_on p j first upto)) (accepts_of (pump 16 (after_part p j first upto votes)).made)
-      (prepare_asked None b j (asks_on p j first upto)) (accepts_asked None (pump 16 (after_part p j first upto votes)).made);
+  asked = both_asked None (prepare_from b j (asks_on p j first upto)) (accepts_of (pump 16 (proposer_after_part p j first upto votes)).made)
+      (prepare_asked None b j (asks_on p j first upto)) (accepts_asked None (pump 16 (proposer_after_part p j first upto votes)).made);
 }
 promise_if n p j first upto b votes false = quiet_stays n None
 
-promise_stays : (n : Node) (o : Option Proposer) (j first upto : ℕ) (b : Ballot) (votes : List Vote) → Stays n None (taking_part n o j b first upto votes)
+promise_stays : (n : Known) (o : Option Proposer) (j first upto : ℕ) (b : Ballot) (votes : List Vote)
+    → Stays n None (taking_part n o j b first upto votes)
 promise_stays n None j first upto b votes = quiet_stays n None
 promise_stays n (Some p) j first upto b votes = promise_if n p j first upto b votes (same_ballot p.ballot b)
 
-submit_if : (n : Node) (p : Proposer) (v : Value) (t : Bool) → Stays n None (if t then offering n v (pump 16 p) (offer_after (pump 16 p) v) else quiet n)
+submit_if : (n : Known) (p : Proposer) (v : Value) (t : Bool)
+    → Stays n None (if t then offering n v (pump 16 p) (offer_after (pump 16 p) v) else quiet n)
 submit_if n p v true = record {
   starts = refl;
   next = refl;
   waiting = refl;
   learns = same_learned n;
-  asked = both_asked None (accepts_of (pump 16 p).made) (accepts_of (offer_after (pump 16 p) v).made) (accepts_asked None (pump 16 p).made) (accepts_asked None (offer_after (pump 16 p) v).made);
+  asked =
+      both_asked None (accepts_of (pump 16 p).made) (accepts_of (offer_after (pump 16 p) v).made)
+      (accepts_asked None (pump 16 p).made) (accepts_asked None (offer_after (pump 16 p) v).made);
 }
 submit_if n p v false = quiet_stays n None
 
-submit_stays : (n : Node) (o : Option Proposer) (v : Value) → Stays n None (submitted n o v)
+submit_stays : (n : Known) (o : Option Proposer) (v : Value) → Stays n None (submitted n o v)
 submit_stays n None v = quiet_stays n None
 submit_stays n (Some p) v = submit_if n p v (is_covered p (next_of p) && not (are_known n (keys_of v)))
 
 -- ---- messages
 
-row_stays : NodeLaws → (n : Node) (j : ℕ) (body : Body) → Stays n None (row n j body)
-row_stays laws n j (Prepare b from) = answering_stays n _ (prepare_of n.kept b from) (prepared_plain (greater_promise n.kept.promised b) n.kept b from)
+row_stays : NodeLaws → (n : Known) (j : ℕ) (body : Body) → Stays n None (row n j body)
+row_stays laws n j (Prepare b from) =
+    answering_stays n _ (prepare_of n.kept b from) (prepared_plain (greater_promise n.kept.promised b) n.kept b from)
 row_stays laws n j (Promise b first upto votes) = promise_stays n n.proposer j first upto b votes
-row_stays laws n j (Accept b s v) = answering_stays n _ (accept_of n.kept b s v) (accepted_plain (greater_promise n.kept.promised b) n.kept b s v)
-row_stays laws n j (Accepted b s v) = record { starts = refl; next = refl; waiting = refl; learns = laws.accepted n.learner j s b v; asked = none_asked None }
-row_stays laws n j (Refused b promised) = record { starts = refl; next = refl; waiting = refl; learns = same_learned n; asked = none_asked None }
+row_stays laws n j (Accept b s v) =
+    answering_stays n _ (accept_of n.kept b s v) (accepted_plain (greater_promise n.kept.promised b) n.kept b s v)
+row_stays laws n j (Accepted b s v) =
+    record {
+      starts = refl;
+      next = refl;
+      waiting = refl;
+      learns = laws.accepted n.learner j s b v;
+      asked = none_asked None;
+    }
+row_stays laws n j (Refused b promised) =
+    record { starts = refl; next = refl; waiting = refl; learns = same_learned n; asked = none_asked None }
 row_stays laws n j (Submit v) = submit_stays n n.proposer v
-row_stays laws n j (Ask from) = record { starts = refl; next = refl; waiting = refl; learns = same_learned n; asked = tells_asked None n.learner.learned j _ }
-row_stays laws n j (Tell s v) = record { starts = refl; next = refl; waiting = refl; learns = laws.told n.learner s v; asked = none_asked None }
+row_stays laws n j (Ask from) =
+    record {
+      starts = refl;
+      next = refl;
+      waiting = refl;
+      learns = same_learned n;
+      asked = tells_asked None n.learner.learned j _;
+    }
+row_stays laws n j (Tell s v) =
+    record { starts = refl; next = refl; waiting = refl; learns = laws.told n.learner s v; asked = none_asked None }
 
 -- no more keys leave than wait
 count_by : (read ks : List Key) (t : Bool) → count_read read ks ≤ length ks → (if t then suc (count_read read ks) else 0) ≤ suc (length ks)
@@ -149,33 +181,46 @@ keys_many node start serial [] = refl
 keys_many node start serial (byte ∷ bytes) = ap suc (keys_many node start (serial + 1) bytes)
 
 -- so the next serial stays
-gone_next : (n : Node) → next_serial (without_read n) ≡ next_serial n
-gone_next n = omega (arith, count_few (read_of n) (waiting_keys n), keys_many n.me.node n.kept.starts n.first n.waiting, length-drop (gone n) n.waiting)
+gone_next : (n : Known) → next_serial (without_read n) ≡ next_serial n
+gone_next n =
+    omega (
+      arith,
+      count_few (read_of n)
+          (waiting_keys n),
+      keys_many n.me.node n.kept.starts n.first n.waiting,
+      length-drop (count_gone n) n.waiting,
+    )
 
 first_by : (read keys : List Key) → ((k : Key) (ks : List Key) → keys ≡ k ∷ ks → ¬ Contains read k) → IsFirstUnread read keys
 first_by read [] h = tt
 first_by read (k ∷ ks) h = h k ks refl
 
-pub message_goes : NodeLaws → (n : Node) (j : ℕ) (body : Body) → Goes n None (on_message n j body)
+pub message_goes : NodeLaws → (n : Known) (j : ℕ) (body : Body) → Goes n None (on_message n j body)
 message_goes laws n j body =
     let stays = row_stays laws n j body in
-    let at : Node = (row n j body).node in
+    let at : Known = (row n j body).node in
     let parts = laws.gone at in
     record {
       starts = stays.starts;
       next = gone_next at ∙ stays.next;
       learns = stays.learns;
-      parted = λ first. record { gone = parts.0; parts = sym stays.waiting ∙ parts.1; below = parts.2; first = first_by (read_of at) (waiting_keys (without_read at)) (laws.first at) };
+      parted =
+          λ first. record {
+            gone = parts.0;
+            parts = sym stays.waiting ∙ parts.1;
+            below = parts.2;
+            first = first_by (read_of at) (waiting_keys (without_read at)) (laws.first at);
+          };
       asked = stays.asked;
     }
 
 -- ---- calls after which all keys wait that waited
 
 -- all wait, and the same keys are read
-still_parted : (n : Node) → IsFirstUnread (read_of n) (waiting_keys n) → IsParted (read_of n) (waiting_keys n) (waiting_keys n)
+still_parted : (n : Known) → IsFirstUnread (read_of n) (waiting_keys n) → IsParted (read_of n) (waiting_keys n) (waiting_keys n)
 still_parted n first = record { gone = []; parts = refl; below = λ k d less. absurd (omega arith); first = first }
 
-ticked_goes : (n : Node) (o : Option Proposer) → Goes n (batch_of n n.waiting) (ticked n o)
+ticked_goes : (n : Known) (o : Option Proposer) → Goes n (batch_of n n.waiting) (ticked n o)
 ticked_goes n None = record { starts = refl; next = refl; learns = same_learned n; parted = still_parted n; asked = asks_asked n }
 ticked_goes n (Some p) = record {
   starts = refl;
@@ -189,8 +234,8 @@ ticked_goes n (Some p) = record {
       (both_asked o (accepts_of (pump 16 p).made) (asks n) (accepts_asked o (pump 16 p).made) (asks_asked n));
 }
 
-pub tick_goes : (n : Node) → Goes n (batch_of n n.waiting) (at_tick n)
+pub tick_goes : (n : Known) → Goes n (batch_of n n.waiting) (on_tick n)
 tick_goes n = ticked_goes n n.proposer
 
-pub campaign_goes : (n : Node) → Goes n None (at_campaign n)
+pub campaign_goes : (n : Known) → Goes n None (on_campaign n)
 campaign_goes n = record { starts = refl; next = refl; learns = same_learned n; parted = still_parted n; asked = one_asked None _ tt }

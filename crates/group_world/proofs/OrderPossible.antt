@@ -10,7 +10,7 @@ use Rattle.paxos_msg.specs.declared.value.Value.{Value}
 use Rattle.paxos_msg.specs.declared.value.Value.TheVariants.{Keys}
 use Rattle.paxos_msg.specs.Batches.{Body, Grew, IsTyped, Msg, Sent, Vote}
 use Rattle.paxos_msg.specs.Keys.{Key, keys_of}
-use Rattle.paxos_msg.specs.Messages.{IsSaid, vote_at}
+use Rattle.paxos_msg.specs.Messages.{IsSaid, kept_vote_at}
 use Rattle.paxos_acceptor.specs.Backed.{IsVoteBacked}
 use Rattle.paxos_learner.specs.Input.{input_of}
 use Rattle.group_node.specs.Backs.{HasPromised, IsRecordBacked}
@@ -20,7 +20,7 @@ use Rattle.group_node.specs.Steps.{AllChosen, AllTyped}
 use Rattle.group_world.specs.Order.{AreApart, HaveOneName}
 use Rattle.group_world.specs.Ordered.{IsDue, IsOrdered, IsRowOf}
 use Rattle.group_world.specs.Sound.{IsMemberSound, IsSound}
-use Rattle.group_world.specs.Worlds.{Member, me_of, member_at, state_of, World}
+use Rattle.group_world.specs.Worlds.{Member, me_of, member_at, world_state, World}
 use Rattle.group_world.proofs.OrderExample.{all_chosen, ballot, batch_a, batch_ab, batch_c, chosen_values, each_of, EachOf, grew_3, kept_3, key_a, key_b, key_c, records_of, sent_3, two_chosen, typed, typed_a, typed_ab, typed_c}
 use Rattle.group_world.proofs.OrderReadable.{all_spelled, ballot_fits, ExampleLaws, fits_a, fits_ab, fits_c, group, me, packets, sent_is}
 
@@ -34,7 +34,9 @@ due_c = inr (record {
   before = 2;
   next = refl;
   has = record { key = key_b; among = (1, lit< tt, refl); node_is = refl; start_is = refl; serial_is = refl };
-  lacks = λ has. each_of (λ (k : Key). k.serial ≢ 3) (key_a ∷ key_b ∷ []) has.key ((λ e. absurd (omega arith)), ((λ e. absurd (omega arith)), tt)) has.among has.serial_is;
+  lacks =
+      λ has. each_of (λ (k : Key). k.serial ≢ 3) (key_a ∷ key_b ∷ []) has.key
+      ((λ e. absurd (omega arith)), ((λ e. absurd (omega arith)), tt)) has.among has.serial_is;
 })
 
 -- its ballot is the one; what it submits was typed and is due; it tells nothing
@@ -74,16 +76,18 @@ votes_backed = (
   ),
 )
 
-vote_if : (o : Option Vote) (s : ℕ) → ((vote : Vote) → o ≡ Some vote → IsVoteBacked sent_3 kept_3 s vote) → IfSome o (IsVoteBacked sent_3 kept_3 s)
+vote_if : (o : Option Vote) (s : ℕ) → ((vote : Vote) → o ≡ Some vote → IsVoteBacked sent_3 kept_3 s vote)
+    → IfSome o (IsVoteBacked sent_3 kept_3 s)
 vote_if None s h = tt
 vote_if (Some vote) s h = h vote refl
 
 kept_backed : ExampleLaws → IsRecordBacked sent_3 1 kept_3
 kept_backed laws = record {
   votes = record {
-    votes = λ s. vote_if (vote_at kept_3.votes s) s (λ vote e.
+    votes = λ s. vote_if (kept_vote_at kept_3.votes s) s (λ vote e.
         let found = laws.found kept_3.votes s vote e in
-        subst (λ (t : ℕ). IsVoteBacked sent_3 kept_3 t vote) found.1 (each_of (λ (x : Vote). IsVoteBacked sent_3 kept_3 x.place x) kept_3.votes vote votes_backed found.0));
+        subst (λ (t : ℕ). IsVoteBacked sent_3 kept_3 t vote) found.1
+        (each_of (λ (x : Vote). IsVoteBacked sent_3 kept_3 x.place x) kept_3.votes vote votes_backed found.0));
     in_order = ((omega arith, (omega arith, tt)), ((omega arith, tt), (tt, tt)));
   };
   asked = λ b from mine said. subst (HasPromised kept_3) (sym (says said.0 (Prepare b from) said.1)) (inr (refl, omega arith));
@@ -109,22 +113,50 @@ node_sound laws p = record {
     kept = (
       ballot_fits,
       (
-        record { from_low = omega arith; below_upto = omega arith; ballot = ballot_fits; not_above = inr (refl, omega arith); value = fits_a },
+        record {
+          from_low = omega arith;
+          below_upto = omega arith;
+          ballot = ballot_fits;
+          not_above = inr (refl, omega arith);
+          value = fits_a;
+        },
         (
-          record { from_low = omega arith; below_upto = omega arith; ballot = ballot_fits; not_above = inr (refl, omega arith); value = fits_ab },
-          (record { from_low = omega arith; below_upto = omega arith; ballot = ballot_fits; not_above = inr (refl, omega arith); value = fits_c }, tt),
+          record {
+            from_low = omega arith;
+            below_upto = omega arith;
+            ballot = ballot_fits;
+            not_above = inr (refl, omega arith);
+            value = fits_ab;
+          },
+          (
+            record {
+              from_low = omega arith;
+              below_upto = omega arith;
+              ballot = ballot_fits;
+              not_above = inr (refl, omega arith);
+              value = fits_c;
+            },
+            tt,
+          ),
         ),
       ),
     );
   };
   backed = kept_backed laws;
-  shown = record { values = []; chosen = record { chosen = λ s v e. absurd (cc) }; output = (0, record { rest = out p (input_of []) 0; whole = refl }) };
+  shown =
+      record {
+        values = [];
+        chosen = record { chosen = λ s v e. absurd (cc) };
+        output = (0, record { rest = out p (input_of []) 0; whole = refl });
+      };
   running = tt;
 }
 
-members_sound : ExampleLaws → (p : Parts) (i : ℕ) (m : Member) → member_at (example p).members i ≡ Some m → IsMemberSound p (me_of (example p) i) sent_3 typed m
+members_sound : ExampleLaws → (p : Parts) (i : ℕ) (m : Member) → member_at (example p).members i ≡ Some m
+    → IsMemberSound p (me_of (example p) i) sent_3 typed m
 members_sound laws p zero m e = absurd (cc)
-members_sound laws p (suc zero) m e = let same : record { kept = kept_3; console = []; node = None } ≡ m = cc in subst (IsMemberSound p me sent_3 typed) same (node_sound laws p)
+members_sound laws p (suc zero) m e = let same : record { kept = kept_3; console = []; node = None } ≡ m =
+    cc in subst (IsMemberSound p me sent_3 typed) same (node_sound laws p)
 members_sound laws p (suc (suc i)) m e = absurd (cc)
 
 pub example_sound : ExampleLaws → (p : Parts) → IsSound (example p)
@@ -136,7 +168,9 @@ example_sound laws p = record {
   grew = subst (λ (sent : Sent). Grew 1 sent (records_of kept_3)) (sym (sent_is laws)) grew_3;
   told = subst (AllChosen 1) (sym (sent_is laws)) told;
   submitted = subst (λ (sent : Sent). AllTyped sent typed) (sym (sent_is laws)) submitted;
-  members = λ i m e. subst (λ (sent : Sent). IsMemberSound p (me_of (example p) i) sent typed m) (sym (sent_is laws)) (members_sound laws p i m e);
+  members =
+      λ i m e. subst (λ (sent : Sent). IsMemberSound p (me_of (example p) i) sent typed m) (sym (sent_is laws))
+      (members_sound laws p i m e);
 }
 
 -- ---- it is ordered
@@ -145,7 +179,8 @@ example_sound laws p = record {
 push_apart : (keys : List Key) (key : Key) → AreApart keys → EachOf (λ (k : Key). k.serial ≢ key.serial) keys → AreApart (keys ++ key ∷ [])
 push_apart keys key apart each =
     all_pairs_push (λ (x y : Key). ¬ HaveOneName x y) keys key apart
-    (λ k d below name. each_of (λ (x : Key). x.serial ≢ key.serial) keys (get_or keys k d) each (Contains-get_or keys k d below) name.serial)
+    (λ k d below name. each_of (λ (x : Key). x.serial ≢ key.serial) keys (get_or keys k d) each
+    (Contains-get_or keys k d below) name.serial)
 
 typed_apart : AreApart typed
 typed_apart =
@@ -153,12 +188,13 @@ typed_apart =
     (push_apart (key_a ∷ []) key_b (push_apart [] key_a (λ i j d less below. absurd (omega arith)) tt) ((λ e. absurd (omega arith)), tt))
     ((λ e. absurd (omega arith)), ((λ e. absurd (omega arith)), tt))
 
-nodes_ordered : (p : Parts) (i : ℕ) (m : Member) → member_at (example p).members i ≡ Some m → (m.kept.starts ≡ 1) × IfSome m.node (λ q. IsRowOf typed i m.kept q.rules)
+nodes_ordered : (p : Parts) (i : ℕ) (m : Member) → member_at (example p).members i ≡ Some m
+    → (m.kept.starts ≡ 1) × IfSome m.node (λ q. IsRowOf typed i m.kept q.known)
 nodes_ordered p zero m e = absurd (cc)
 nodes_ordered p (suc zero) m e =
     let first : Member = record { kept = kept_3; console = []; node = None } in
     let same : first ≡ m = cc in
-    subst (λ (x : Member). (x.kept.starts ≡ 1) × IfSome x.node (λ q. IsRowOf typed 1 x.kept q.rules)) same (refl, tt)
+    subst (λ (x : Member). (x.kept.starts ≡ 1) × IfSome x.node (λ q. IsRowOf typed 1 x.kept q.known)) same (refl, tt)
 nodes_ordered p (suc (suc i)) m e = absurd (cc)
 
 first_start : (k : Key) → Contains typed k → k.start ≡ 1
@@ -174,7 +210,9 @@ example_ordered laws p = record {
   due = subst (λ (sent : Sent). (v : Value) → IsSaid sent (Submit v) → IsDue 1 sent v) (sym (sent_is laws)) due;
 }
 
-pub possible : ExampleLaws → (p : Parts) → (w : World) × (values : List Value) × (w.program ≡ p) × IsSound w × IsOrdered w × AreChosen w.group.size (state_of w).sent values
+pub possible : ExampleLaws → (p : Parts)
+    → (w : World) × (values : List Value) × (w.program ≡ p) × IsSound w × IsOrdered w
+    × AreChosen w.group.size (world_state w).sent values
     × (map (λ k. k.byte) (flat_map keys_of values) ≡ 65 ∷ 65 ∷ 66 ∷ 67 ∷ []) × (input_of values ≡ 65 ∷ 66 ∷ 67 ∷ [])
 possible laws p = (
   example p,

@@ -12,20 +12,21 @@ use Rattle.paxos_msg.specs.Batches.{Msg, Vote}
 use Rattle.paxos_msg.specs.Fits.{Fits, IsBallot, IsNode, IsValue}
 use Rattle.paxos_msg.specs.Grammar.{AreBytes, IsGroup}
 use Rattle.paxos_msg.specs.Keys.{AreOwnKeys, batches}
-use Rattle.paxos_msg.specs.Messages.{vote_at}
+use Rattle.paxos_msg.specs.Messages.{kept_vote_at}
 use Rattle.paxos_msg.specs.Reading.{message_at}
 use Rattle.paxos_msg.specs.Spelling.{Msgs, spelling}
 use Rattle.paxos_acceptor.specs.declared.me.Me.{Me}
 use Rattle.group_node.specs.Packets.{datagram_of, datagrams_of, Packet, to_all}
-use Rattle.group_node.specs.Steps.{handed}
+use Rattle.group_node.specs.Steps.{messages_handed_out}
 use Rattle.group_world.specs.Sound.{IsSpelling}
 use Rattle.group_world.specs.Worlds.{message_of, messages_in}
 use Rattle.group_world.proofs.OrderExample.{ballot, batch_a, batch_ab, batch_c, EachOf, message, said_of, sent_3, typed_a, typed_ab, typed_c}
 
 -- The laws of the crates below: what is read is what was spelled, and a vote that is found is one of the votes.
 pub record ExampleLaws : Type 0 where
-  pub read : (group : Group) (bytes : List ℕ) (m : Msg) → IsGroup group → AreBytes bytes → (message_at group bytes ≡ Ok m) ↔ Msgs group bytes m
-  pub found : (votes : List Vote) (s : ℕ) (vote : Vote) → vote_at votes s ≡ Some vote → Contains votes vote × (vote.place ≡ s)
+  pub read : (group : Group) (bytes : List ℕ) (m : Msg) → IsGroup group → AreBytes bytes
+      → (message_at group bytes ≡ Ok m) ↔ Msgs group bytes m
+  pub found : (votes : List Vote) (s : ℕ) (vote : Vote) → kept_vote_at votes s ≡ Some vote → Contains votes vote × (vote.place ≡ s)
 
 abbrev pub group : Group
 group = record { size = 1; session = 0 }
@@ -55,8 +56,10 @@ node_fits = (omega arith, omega arith)
 pub ballot_fits : IsBallot 1 ballot
 ballot_fits = ((omega arith, omega arith), node_fits)
 
-value_fits : (first : ℕ) (bytes : List ℕ) → 0 < first → first ≤ 3 → 0 < length bytes → length bytes ≤ 2 → list_all (λ b. nat_lt b 256) bytes ≡ true → IsValue 1 (Keys 1 1 first bytes)
-value_fits first bytes low high some few e = (node_fits, (omega arith, omega arith), (low, some, omega arith, omega arith, are_bytes bytes e))
+value_fits : (first : ℕ) (bytes : List ℕ) → 0 < first → first ≤ 3 → 0 < length bytes → length bytes ≤ 2
+    → list_all (λ b. nat_lt b 256) bytes ≡ true → IsValue 1 (Keys 1 1 first bytes)
+value_fits first bytes low high some few e =
+    (node_fits, (omega arith, omega arith), (low, some, omega arith, omega arith, are_bytes bytes e))
 
 pub fits_a : IsValue 1 batch_a
 fits_a = value_fits 1 (65 ∷ []) (omega arith) (omega arith) (omega arith) (omega arith) refl
@@ -114,16 +117,19 @@ module _ (laws : ExampleLaws) where
   spelled_as packet h = record { fits = h.fits; spelled = refl }
 
   read_as : (packet : Packet) → IsReadable packet → message_of group (datagram_of me packet) ≡ Some (message packet.body)
-  read_as packet h = ap result_ok ((laws.read group (datagram_of me packet).bytes (message packet.body) (omega arith) (are_bytes (datagram_of me packet).bytes h.bytes)).1 (spelled_as packet h))
+  read_as packet h =
+      ap result_ok ((laws.read group (datagram_of me packet).bytes (message packet.body) (omega arith)
+      (are_bytes (datagram_of me packet).bytes h.bytes)).1 (spelled_as packet h))
 
-  pub all_read : (ps : List Packet) → EachOf IsReadable ps → messages_in group (datagrams_of me ps) ≡ handed 1 ps
+  pub all_read : (ps : List Packet) → EachOf IsReadable ps → messages_in group (datagrams_of me ps) ≡ messages_handed_out 1 ps
   all_read [] each = refl
   all_read (p ∷ ps) each = λ i. cons_option (read_as p each.0 i) (all_read ps each.1 i)
 
   spelled_in : (ps : List Packet) → EachOf IsReadable ps → All (IsSpelling group) (datagrams_of me ps)
   spelled_in [] each = All-nil (IsSpelling group)
   spelled_in (p ∷ ps) each =
-      All-cons (IsSpelling group) (datagram_of me p) (datagrams_of me ps) (record { message = message p.body; spells = spelled_as p each.0; read = read_as p each.0 })
+      All-cons (IsSpelling group) (datagram_of me p) (datagrams_of me ps)
+      (record { message = message p.body; spells = spelled_as p each.0; read = read_as p each.0 })
       (spelled_in ps each.1)
 
   pub all_spelled : All (IsSpelling group) (datagrams_of me packets)

@@ -9,7 +9,7 @@ use Rattle.paxos_msg.specs.Keys.{Key}
 use Rattle.paxos_learner.specs.Input.{keys_in_order}
 use Rattle.group_node.specs.Inputs.{AreChosen}
 use Rattle.group_world.specs.Order.{HaveOneName, AreApart}
-use Rattle.group_world.specs.Ordered.{HasSerial, IsFirstUnread, IsPrepared, IsRow, those_of}
+use Rattle.group_world.specs.Ordered.{HasSerial, IsFirstUnread, IsPrepared, AreTypedKeys, those_of}
 use Rattle.group_world.proofs.OrderLists.{first_in, filter_none, of_filter, of_map, of_range, in_range, range_more, row_parts}
 use Rattle.group_world.proofs.OrderKeys.{apart_same, one_name}
 use Rattle.group_world.proofs.OrderSerials.{not_of, of_test, other_more, own_more, own_serials, serial_in}
@@ -27,7 +27,8 @@ first_more read [] k first out = out
 first_more read (key ∷ keys) k first out = first
 
 -- in a start that no typed key is of
-pub fresh_row : (typed : List Key) (i start : ℕ) (read : List Key) → ((k : Key) → Contains typed k → k.node ≡ i → k.start ≡ start → ⊥) → IsRow typed i start 0 [] read
+pub fresh_row : (typed : List Key) (i start : ℕ) (read : List Key)
+    → ((k : Key) → Contains typed k → k.node ≡ i → k.start ≡ start → ⊥) → AreTypedKeys typed i start 0 [] read
 fresh_row typed i start read none =
     let none_yet : those_of i start typed ≡ [] = filter_none _ typed (λ k among. not_of i start k (λ e f. none k among e f)) in
     record {
@@ -38,9 +39,11 @@ fresh_row typed i start read none =
       first = tt;
     }
 
-module _ (typed : List Key) (i start last : ℕ) (waiting read : List Key) (h : IsRow typed i start last waiting read) where
+module _ (typed : List Key) (i start last : ℕ) (waiting read : List Key) (h : AreTypedKeys typed i start last waiting read) where
   -- its keys that don't wait, and those that wait, have serials in a row
-  row_rows : (map (λ (k : Key). k.serial) h.gone ≡ range_with_len 1 (length (map (λ (k : Key). k.serial) h.gone))) × (map (λ (k : Key). k.serial) waiting ≡ range_with_len (1 + length (map (λ (k : Key). k.serial) h.gone)) (length (map (λ (k : Key). k.serial) waiting)))
+  row_rows : (map (λ (k : Key). k.serial) h.gone ≡ range_with_len 1 (length (map (λ (k : Key). k.serial) h.gone)))
+      × (map (λ (k : Key). k.serial) waiting
+      ≡ range_with_len (1 + length (map (λ (k : Key). k.serial) h.gone)) (length (map (λ (k : Key). k.serial) waiting)))
   row_rows =
       row_parts (map (λ (k : Key). k.serial) h.gone) (map (λ (k : Key). k.serial) waiting) 1 last
       (sym (map-append (λ (k : Key). k.serial) h.gone waiting) ∙ ap (map (λ (k : Key). k.serial)) (sym h.newest) ∙ h.serials)
@@ -49,7 +52,9 @@ module _ (typed : List Key) (i start last : ℕ) (waiting read : List Key) (h : 
   gone_row = row_rows.0 ∙ ap (range_with_len 1) (length-map h.gone (λ (k : Key). k.serial))
 
   waiting_row : map (λ (k : Key). k.serial) waiting ≡ range_with_len (1 + length h.gone) (length waiting)
-  waiting_row = row_rows.1 ∙ (λ j. range_with_len (1 + length-map h.gone (λ (k : Key). k.serial) j) (length-map waiting (λ (k : Key). k.serial) j))
+  waiting_row =
+      row_rows.1 ∙ (λ j. range_with_len (1 + length-map h.gone (λ (k : Key). k.serial) j)
+      (length-map waiting (λ (k : Key). k.serial) j))
 
   own_key : (k : Key) → Contains (h.gone ++ waiting) k → Contains typed k × (k.node ≡ i) × (k.start ≡ start)
   own_key k among =
@@ -66,27 +71,49 @@ module _ (typed : List Key) (i start last : ℕ) (waiting read : List Key) (h : 
   -- the first that waits has the serial after those that don't
   first_serial : (key : Key) (keys : List Key) → waiting ≡ key ∷ keys → key.serial ≡ 1 + length h.gone
   first_serial key keys e =
-      let row : key.serial ∷ map (λ (k : Key). k.serial) keys ≡ range_with_len (1 + length h.gone) (suc (length keys)) = subst (λ (l : List Key). map (λ (k : Key). k.serial) l ≡ range_with_len (1 + length h.gone) (length l)) e waiting_row in
+      let row : key.serial ∷ map (λ (k : Key). k.serial) keys ≡ range_with_len (1 + length h.gone) (suc (length keys)) =
+      subst (λ (l : List Key). map (λ (k : Key). k.serial) l ≡ range_with_len (1 + length h.gone) (length l)) e
+      waiting_row in
       cc
 
   -- where one key doesn't wait any more, the last of these is read
   last_gone : (n : ℕ) → length h.gone ≡ n + 1 → HasSerial read i start (length h.gone)
   last_gone n e =
-      let at = of_map (λ (k : Key). k.serial) h.gone (length h.gone) (subst (λ (l : List ℕ). Contains l (length h.gone)) (sym gone_row) (in_range 1 (length h.gone) (length h.gone) (omega arith) (omega arith))) in
+      let at =
+      of_map (λ (k : Key). k.serial) h.gone (length h.gone)
+      (subst (λ (l : List ℕ). Contains l (length h.gone)) (sym gone_row)
+      (in_range 1 (length h.gone) (length h.gone) (omega arith) (omega arith))) in
       let is = gone_key at.0 at.1 in
-      record { key = at.0; among = All-contains (λ k. Contains read k) h.gone at.0 h.below at.1; node_is = is.1; start_is = is.2; serial_is = at.2 }
+      record {
+        key = at.0;
+        among = All-contains (λ k. Contains read k) h.gone at.0 h.below at.1;
+        node_is = is.1;
+        start_is = is.2;
+        serial_is = at.2;
+      }
 
   -- ---- a key is typed
 
   -- no typed key has the name of the next one
   pub new_name : (key : Key) → key.node ≡ i → key.start ≡ start → key.serial ≡ last + 1 → (k : Key) → Contains typed k → ¬ HaveOneName k key
   new_name key of_node of_start next k among name =
-      let has : HasSerial typed i start k.serial = record { key = k; among = among; node_is = name.node ∙ of_node; start_is = name.start ∙ of_start; serial_is = refl } in
-      let inside = of_range 1 last k.serial (subst (λ (l : List ℕ). Contains l k.serial) h.serials (serial_in typed i start k.serial has)) in
+      let has : HasSerial typed i start k.serial =
+      record {
+        key = k;
+        among = among;
+        node_is = name.node ∙ of_node;
+        start_is = name.start ∙ of_start;
+        serial_is = refl;
+      } in
+      let inside =
+      of_range 1 last k.serial
+      (subst (λ (l : List ℕ). Contains l k.serial) h.serials (serial_in typed i start k.serial has)) in
       let same : k.serial ≡ key.serial = name.serial in
       omega (arith, inside.1)
 
-  pub typed_row : (key : Key) → key.node ≡ i → key.start ≡ start → key.serial ≡ last + 1 → ((k : Key) → Contains read k → Contains typed k) → IsRow (typed ++ key ∷ []) i start (last + 1) (waiting ++ key ∷ []) read
+  pub typed_row : (key : Key) → key.node ≡ i → key.start ≡ start → key.serial ≡ last + 1
+      → ((k : Key) → Contains read k → Contains typed k)
+      → AreTypedKeys (typed ++ key ∷ []) i start (last + 1) (waiting ++ key ∷ []) read
   typed_row key of_node of_start next was = record {
     serials =
         own_serials i start typed key of_node of_start
@@ -102,7 +129,7 @@ module _ (typed : List Key) (i start last : ℕ) (waiting read : List Key) (h : 
   }
 
   -- another node's key
-  pub other_row : (key : Key) → (key.node ≡ i → ⊥) → IsRow (typed ++ key ∷ []) i start last waiting read
+  pub other_row : (key : Key) → (key.node ≡ i → ⊥) → AreTypedKeys (typed ++ key ∷ []) i start last waiting read
   other_row key ne = record {
     serials = ap (map (λ (x : Key). x.serial)) (other_more i start typed key (λ e f. ne e)) ∙ h.serials;
     gone = h.gone;
@@ -113,27 +140,35 @@ module _ (typed : List Key) (i start last : ℕ) (waiting read : List Key) (h : 
 
   -- ---- keys are read
 
-  pub parted_row : (later stay : List Key) → ((k : Key) → Contains read k → Contains later k) → IsParted later waiting stay → IsRow typed i start last stay later
+  pub parted_row : (later stay : List Key) → ((k : Key) → Contains read k → Contains later k)
+      → IsParted later waiting stay → AreTypedKeys typed i start last stay later
   parted_row later stay more parts = record {
     serials = h.serials;
     gone = h.gone ++ parts.gone;
     newest = h.newest ∙ ap (λ (l : List Key). h.gone ++ l) parts.parts ∙ sym (append_assoc h.gone parts.gone stay);
-    below = All-append (λ k. Contains later k) h.gone parts.gone (All-weaker (λ k. Contains read k) (λ k. Contains later k) more h.gone h.below) parts.below;
+    below =
+        All-append (λ k. Contains later k) h.gone parts.gone
+        (All-weaker (λ k. Contains read k) (λ k. Contains later k) more h.gone h.below) parts.below;
     first = parts.first;
   }
 
 -- ---- the first that waits is due
 
-module _ (size : ℕ) (sent : Sent) (typed : List Key) (i start last : ℕ) (waiting : List Key) (known : List Value) (h : IsRow typed i start last waiting (keys_in_order known))
+module _ (size : ℕ) (sent : Sent) (typed : List Key) (i start last : ℕ) (waiting : List Key) (known : List Value)
+    (h : AreTypedKeys typed i start last waiting (keys_in_order known))
     (apart : AreApart typed) (front : AreChosen size sent known) (was : (k : Key) → Contains (keys_in_order known) k → Contains typed k)
     (key : Key) (keys : List Key) (waits : waiting ≡ key ∷ keys) where
   first_waits : Contains typed key × (key.node ≡ i) × (key.start ≡ start)
-  first_waits = waiting_key typed i start last waiting (keys_in_order known) h key (subst (λ (l : List Key). Contains l key) (sym waits) (first_in key keys))
+  first_waits =
+      waiting_key typed i start last waiting (keys_in_order known) h key
+      (subst (λ (l : List Key). Contains l key) (sym waits) (first_in key keys))
 
   -- what is read lacks the first that waits, by its name
   first_lacks : ¬ HasSerial (keys_in_order known) key.node key.start key.serial
   first_lacks has =
-      let same : has.key ≡ key = apart_same typed has.key key apart (was has.key has.among) first_waits.0 (record { node = has.node_is; start = has.start_is; serial = has.serial_is }) in
+      let same : has.key ≡ key =
+      apart_same typed has.key key apart (was has.key has.among) first_waits.0
+      (record { node = has.node_is; start = has.start_is; serial = has.serial_is }) in
       subst (IsFirstUnread (keys_in_order known)) waits h.first (subst (λ (k : Key). Contains (keys_in_order known) k) same has.among)
 
   due_by : (many : ℕ) → length h.gone ≡ many → (key.serial ≡ 1) ⊎ IsPrepared size sent key.node key.start key.serial
@@ -144,7 +179,8 @@ module _ (size : ℕ) (sent : Sent) (typed : List Key) (i start last : ℕ) (wai
     before = length h.gone;
     next = omega (arith, first_serial typed i start last waiting (keys_in_order known) h key keys waits);
     has = subst (λ (m : ℕ). HasSerial (keys_in_order known) m key.start (length h.gone)) (sym first_waits.1)
-        (subst (λ (m : ℕ). HasSerial (keys_in_order known) i m (length h.gone)) (sym first_waits.2) (last_gone typed i start last waiting (keys_in_order known) h n (omega arith)));
+        (subst (λ (m : ℕ). HasSerial (keys_in_order known) i m (length h.gone)) (sym first_waits.2)
+        (last_gone typed i start last waiting (keys_in_order known) h n (omega arith)));
     lacks = first_lacks;
   })
 

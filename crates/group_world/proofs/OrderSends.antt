@@ -22,7 +22,9 @@ pub record SpellingLaw : Type 0 where
   pub one : (group : Group) (bytes : List ℕ) (m n : Msg) → IsGroup group → Msgs group bytes m → Msgs group bytes n → m ≡ n
 
 -- by what is made of the first item
-of_cons : {X Y : Type 0} (f : X → Option Y) (x : X) (xs : List X) (y : Y) (o : Option Y) → f x ≡ o → (Contains (filter_map f xs) y → (z : X) × Contains xs z × (f z ≡ Some y)) → Contains (cons_option o (filter_map f xs)) y
+of_cons : {X Y : Type 0} (f : X → Option Y) (x : X) (xs : List X) (y : Y) (o : Option Y) → f x ≡ o
+    → (Contains (filter_map f xs) y → (z : X) × Contains xs z × (f z ≡ Some y))
+    → Contains (cons_option o (filter_map f xs)) y
     → (z : X) × Contains (x ∷ xs) z × (f z ≡ Some y)
 of_cons f x xs y None e later h = let found = later h in (found.0, rest_in x xs found.0 found.1, found.2)
 of_cons f x xs y (Some made) e later h = elim (in_cases made (filter_map f xs) y h) [
@@ -31,7 +33,8 @@ of_cons f x xs y (Some made) e later h = elim (in_cases made (filter_map f xs) y
 ]
 
 -- what was made of some item
-of_filter_map : {X Y : Type 0} (f : X → Option Y) (xs : List X) (y : Y) → Contains (filter_map f xs) y → (x : X) × Contains xs x × (f x ≡ Some y)
+of_filter_map : {X Y : Type 0} (f : X → Option Y) (xs : List X) (y : Y) → Contains (filter_map f xs) y
+    → (x : X) × Contains xs x × (f x ≡ Some y)
 of_filter_map f [] y h = absurd (none_in y h)
 of_filter_map f (x ∷ xs) y h = of_cons f x xs y (f x) refl (of_filter_map f xs y) h
 
@@ -47,20 +50,24 @@ kind_asked o (Ask from) h e = absurd (omega arith)
 kind_asked o (Tell s v) h e = absurd (omega arith)
 
 -- a packet whose spelling is that of a Submit is one
-spelled_asked : (group : Group) (i j : ℕ) (o : Option Value) (body : Body) (v : Value) → IsAsked o body → spelling group (record { sender = i; body = body }) ≡ spelling group (record { sender = j; body = Submit v })
+spelled_asked : (group : Group) (i j : ℕ) (o : Option Value) (body : Body) (v : Value) → IsAsked o body
+    → spelling group (record { sender = i; body = body }) ≡ spelling group (record { sender = j; body = Submit v })
     → (u : Value) × (o ≡ Some u) × (body ≡ Submit u)
 spelled_asked group i j o body v h e = kind_asked o body h (ap (λ (l : List ℕ). get_or l 3 0) e)
 
 module _ (law : SpellingLaw) (me : Me) (packets : List Packet) (o : Option Value) (session : IsGroup me.group) (asked : AreAsked o packets)
-    (spelled : (d : Datagram) → Contains (datagrams_of me packets) d → IsSpelling me.group d) (fits : (u : Value) → o ≡ Some u → Fits me.group (record { sender = me.node; body = Submit u })) where
+    (spelled : (d : Datagram) → Contains (datagrams_of me packets) d → IsSpelling me.group d)
+    (fits : (u : Value) → o ≡ Some u → Fits me.group (record { sender = me.node; body = Submit u })) where
   -- a datagram of it
-  submit_at : (d : Datagram) → Contains (datagrams_of me packets) d → (j : ℕ) (v : Value) → message_of me.group d ≡ Some (record { sender = j; body = Submit v }) → o ≡ Some v
+  submit_at : (d : Datagram) → Contains (datagrams_of me packets) d → (j : ℕ) (v : Value)
+      → message_of me.group d ≡ Some (record { sender = j; body = Submit v }) → o ≡ Some v
   submit_at d among j v read =
       let group : Group = me.group in
       let told : Msg = record { sender = j; body = Submit v } in
       let from = of_map (datagram_of me) packets d among in
       let packet : Packet = from.0 in
-      let bytes : d.bytes ≡ spelling group (record { sender = me.node; body = packet.body }) = ap (λ (x : Datagram). x.bytes) (sym from.2) in
+      let bytes : d.bytes ≡ spelling group (record { sender = me.node; body = packet.body }) =
+      ap (λ (x : Datagram). x.bytes) (sym from.2) in
       let one : IsSpelling group d = spelled d among in
       let is : one.message ≡ told = opened (sym one.read ∙ read) in
       let theirs : Msgs group d.bytes told = subst (Msgs group d.bytes) is one.spells in
@@ -70,7 +77,9 @@ module _ (law : SpellingLaw) (me : Me) (packets : List Packet) (o : Option Value
         fits = fits made.0 made.1;
         spelled = bytes ∙ ap (λ (b : Body). spelling group (record { sender = me.node; body = b })) made.2;
       } in
-      let same : made.0 ≡ v = submitted (ap (λ (x : Msg). x.body) (law.one group d.bytes (record { sender = me.node; body = Submit made.0 }) told session mine theirs)) in
+      let same : made.0 ≡ v =
+      submitted (ap (λ (x : Msg). x.body)
+      (law.one group d.bytes (record { sender = me.node; body = Submit made.0 }) told session mine theirs)) in
       made.1 ∙ ap (λ (u : Value). Some u) same
     where
       opened : {a b : Msg} → Some a ≡ Some b → a ≡ b

@@ -26,7 +26,9 @@ not_of node start k ne = false_from_ne_true (is_of node start k) (λ h. ne (of_t
 
 pub serial_in : (keys : List Key) (node start serial : ℕ) → HasSerial keys node start serial → Contains (serials_of node start keys) serial
 serial_in keys node start serial h =
-    let there = in_map (λ (k : Key). k.serial) (those_of node start keys) h.key (in_filter (is_of node start) keys h.key h.among (test_of node start h.key h.node_is h.start_is)) in
+    let there =
+    in_map (λ (k : Key). k.serial) (those_of node start keys) h.key
+    (in_filter (is_of node start) keys h.key h.among (test_of node start h.key h.node_is h.start_is)) in
     subst (λ (n : ℕ). Contains (serials_of node start keys) n) h.serial_is there
 
 pub serial_of : (keys : List Key) (node start serial : ℕ) → Contains (serials_of node start keys) serial → HasSerial keys node start serial
@@ -38,20 +40,39 @@ serial_of keys node start serial h =
 
 -- ---- among more keys
 
-pub has_in : (keys more : List Key) (node start serial : ℕ) → ((k : Key) → Contains keys k → Contains more k) → HasSerial keys node start serial → HasSerial more node start serial
-has_in keys more node start serial within h = record { key = h.key; among = within h.key h.among; node_is = h.node_is; start_is = h.start_is; serial_is = h.serial_is }
+pub has_in : (keys more : List Key) (node start serial : ℕ) → ((k : Key) → Contains keys k → Contains more k)
+    → HasSerial keys node start serial → HasSerial more node start serial
+has_in keys more node start serial within h =
+    record {
+      key = h.key;
+      among = within h.key h.among;
+      node_is = h.node_is;
+      start_is = h.start_is;
+      serial_is = h.serial_is;
+    }
 
 -- ---- one key more
 
-one_more : (node start : ℕ) (keys : List Key) (k : Key) (own : Bool) → is_of node start k ≡ own → those_of node start (keys ++ k ∷ []) ≡ (if own then those_of node start keys ++ k ∷ [] else those_of node start keys)
-one_more node start keys k true e = filter-append (is_of node start) keys (k ∷ []) ∙ ap (λ (rest : List Key). those_of node start keys ++ rest) (rw e refl)
-one_more node start keys k false e = filter-append (is_of node start) keys (k ∷ []) ∙ ap (λ (rest : List Key). those_of node start keys ++ rest) (rw e refl) ∙ append-nil (those_of node start keys)
+one_more : (node start : ℕ) (keys : List Key) (k : Key) (own : Bool) → is_of node start k ≡ own
+    → those_of node start (keys ++ k ∷ [])
+    ≡ (if own then those_of node start keys ++ k ∷ [] else those_of node start keys)
+one_more node start keys k true e =
+    filter-append (is_of node start) keys (k ∷ [])
+    ∙ ap (λ (rest : List Key). those_of node start keys ++ rest) (rw e refl)
+one_more node start keys k false e =
+    filter-append (is_of node start) keys (k ∷ [])
+    ∙ ap (λ (rest : List Key). those_of node start keys ++ rest) (rw e refl) ∙ append-nil (those_of node start keys)
 
-pub own_more : (node start : ℕ) (keys : List Key) (k : Key) → k.node ≡ node → k.start ≡ start → those_of node start (keys ++ k ∷ []) ≡ those_of node start keys ++ k ∷ []
+pub own_more : (node start : ℕ) (keys : List Key) (k : Key) → k.node ≡ node → k.start ≡ start
+    → those_of node start (keys ++ k ∷ []) ≡ those_of node start keys ++ k ∷ []
 own_more node start keys k e f = one_more node start keys k true (test_of node start k e f)
 
-pub other_more : (node start : ℕ) (keys : List Key) (k : Key) → ((k.node ≡ node) → (k.start ≡ start) → ⊥) → those_of node start (keys ++ k ∷ []) ≡ those_of node start keys
+pub other_more : (node start : ℕ) (keys : List Key) (k : Key) → ((k.node ≡ node) → (k.start ≡ start) → ⊥)
+    → those_of node start (keys ++ k ∷ []) ≡ those_of node start keys
 other_more node start keys k ne = one_more node start keys k false (not_of node start k ne)
 
-pub own_serials : (node start : ℕ) (keys : List Key) (k : Key) → k.node ≡ node → k.start ≡ start → serials_of node start (keys ++ k ∷ []) ≡ serials_of node start keys ++ k.serial ∷ []
-own_serials node start keys k e f = ap (map (λ (x : Key). x.serial)) (own_more node start keys k e f) ∙ map-append (λ (x : Key). x.serial) (those_of node start keys) (k ∷ [])
+pub own_serials : (node start : ℕ) (keys : List Key) (k : Key) → k.node ≡ node → k.start ≡ start
+    → serials_of node start (keys ++ k ∷ []) ≡ serials_of node start keys ++ k.serial ∷ []
+own_serials node start keys k e f =
+    ap (map (λ (x : Key). x.serial)) (own_more node start keys k e f)
+    ∙ map-append (λ (x : Key). x.serial) (those_of node start keys) (k ∷ [])

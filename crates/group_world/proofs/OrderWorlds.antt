@@ -16,12 +16,12 @@ use Rattle.paxos_learner.specs.Growth.{HasLearnedMore}
 use Rattle.paxos_learner.specs.Input.{front_values, keys_in_order, values_below}
 use Rattle.paxos_learner.specs.Learner.{front_of}
 use Rattle.group_node.specs.Inputs.{AreChosen}
-use Rattle.group_node.specs.Leading.{batch_of}
-use Rattle.group_node.specs.Node.{Node, at_typed, new_key, waiting_keys}
+use Rattle.group_node.specs.Known.{Known, on_typed, new_key, waiting_keys}
+use Rattle.group_node.specs.Tick.{batch_of}
 use Rattle.group_node.specs.Ranges.{IsInRange}
 use Rattle.group_world.specs.Ordered.{IsDue, IsOrdered}
 use Rattle.group_world.specs.Sound.{IsLearnedChosen, IsSound}
-use Rattle.group_world.specs.Worlds.{World, state_of}
+use Rattle.group_world.specs.Worlds.{World, world_state}
 use Rattle.group_world.proofs.OrderFronts.{AreOrderly, AreSubmits, front_orderly, front_typed, IsAgreed, keys_are_firsts}
 use Rattle.group_world.proofs.OrderKeys.{all_keys}
 use Rattle.group_world.proofs.OrderNodes.{NodeLaws}
@@ -29,22 +29,25 @@ use Rattle.group_world.proofs.OrderSends.{SpellingLaw}
 
 -- The laws of the crates below: agreement; what is chosen stays chosen.
 pub record ChoiceLaws : Type 0 where
-  pub one : (size s : ℕ) (sent : Sent) (records : ℕ → Record) (v u : Value) → Grew size sent records → IsChosen size sent s v → IsChosen size sent s u → v ≡ u
+  pub one : (size s : ℕ) (sent : Sent) (records : ℕ → Record) (v u : Value) → Grew size sent records
+      → IsChosen size sent s v → IsChosen size sent s u → v ≡ u
   pub free : (size s : ℕ) (sent : Sent) (records : ℕ → Record) (v : Value) → Grew size sent records → IsChosen size sent s v → IsFree sent v
 
--- And what is chosen stays chosen; the values below a front are the learned ones, and grow at their end, as their keys do; a typed key waits
--- last, and a batch of a node in its ranges fits.
+-- And what is chosen stays chosen; the values below a front are the learned ones, and grow at their end, as their keys
+-- do; a typed key waits last, and a batch of a node in its ranges fits.
 pub record WorldLaws : Type 0 where
   pub choice : ChoiceLaws
   pub node : NodeLaws
   pub spelling : SpellingLaw
   pub stays : (size s : ℕ) (sent more : Sent) (v : Value) → IsChosen size sent s v → IsChosen size (sent ++ more) s v
   pub many : (learned : FinMap nat_cmp Value) (n : ℕ) → n ≤ front_of learned → length (values_below learned n) ≡ n
-  pub at_place : (learned : FinMap nat_cmp Value) (n s : ℕ) → n ≤ front_of learned → s < n → slice_get (values_below learned n) s ≡ get learned s
-  pub values : (old new : FinMap nat_cmp Value) → HasLearnedMore old new → (more : List Value) × (front_values new ≡ front_values old ++ more)
+  pub at_place : (learned : FinMap nat_cmp Value) (n s : ℕ) → n ≤ front_of learned → s < n
+      → slice_get (values_below learned n) s ≡ get learned s
+  pub values : (old new : FinMap nat_cmp Value) → HasLearnedMore old new
+      → (more : List Value) × (front_values new ≡ front_values old ++ more)
   pub keys : (values more : List Value) → (rest : List Key) × (keys_in_order (values ++ more) ≡ keys_in_order values ++ rest)
-  pub typed : (n : Node) (byte : ℕ) → waiting_keys (at_typed n byte).node ≡ waiting_keys n ++ keys_of (new_key n byte)
-  pub fits : (n : Node) (v : Value) → IsInRange n → batch_of n n.waiting ≡ Some v → IsBody n.me.group.size n.me.node (Submit v)
+  pub typed : (n : Known) (byte : ℕ) → waiting_keys (on_typed n byte).node ≡ waiting_keys n ++ keys_of (new_key n byte)
+  pub fits : (n : Known) (v : Value) → IsInRange n → batch_of n n.waiting ≡ Some v → IsBody n.me.group.size n.me.node (Submit v)
 
 pub known_if : {X : Type 0} (o : Option X) (x : X) (P : X → Type 0) → o ≡ Some x → IfSome o P → P x
 known_if {X = X} o x P e h = subst (λ (p : Option X). IfSome p P) e h
@@ -52,22 +55,27 @@ known_if {X = X} o x P e h = subst (λ (p : Option X). IfSome p P) e h
 -- ---- order and once
 
 module _ (laws : ChoiceLaws) (w : World) (sound : IsSound w) (h : IsOrdered w) where
-  pub world_agreed : IsAgreed w.group.size (state_of w).sent
+  pub world_agreed : IsAgreed w.group.size (world_state w).sent
   world_agreed = record {
-    one = λ s v u. laws.one w.group.size s (state_of w).sent _ v u sound.grew;
-    free = λ s v. laws.free w.group.size s (state_of w).sent _ v sound.grew;
+    one = λ s v u. laws.one w.group.size s (world_state w).sent _ v u sound.grew;
+    free = λ s v. laws.free w.group.size s (world_state w).sent _ v sound.grew;
   }
 
-  pub world_submits : AreSubmits w.group.size (state_of w).sent (state_of w).typed
+  pub world_submits : AreSubmits w.group.size (world_state w).sent (world_state w).typed
   world_submits = record { of_typed = λ v said k among. (sound.submitted said.0 v said.1).known k among; due = h.due }
 
-  pub world_orderly : (values : List Value) → AreChosen w.group.size (state_of w).sent values → AreOrderly (keys_in_order values)
-  world_orderly values front = front_orderly w.group.size (state_of w).sent (state_of w).typed h.keys.once world_submits world_agreed values front
+  pub world_orderly : (values : List Value) → AreChosen w.group.size (world_state w).sent values → AreOrderly (keys_in_order values)
+  world_orderly values front =
+      front_orderly w.group.size (world_state w).sent
+      (world_state w).typed h.keys.once world_submits world_agreed values front
 
   -- the keys of chosen values were typed
-  pub chosen_typed : (values : List Value) → AreChosen w.group.size (state_of w).sent values → (k : Key) → Contains (keys_in_order values) k → Contains (state_of w).typed k
+  pub chosen_typed : (values : List Value) → AreChosen w.group.size (world_state w).sent values → (k : Key)
+      → Contains (keys_in_order values) k → Contains (world_state w).typed k
   chosen_typed values front k among =
-      front_typed w.group.size (state_of w).sent (state_of w).typed h.keys.once world_submits world_agreed values front k ((keys_are_firsts (all_keys values)).only k among)
+      front_typed w.group.size (world_state w).sent
+      (world_state w).typed h.keys.once world_submits world_agreed values front k
+      ((keys_are_firsts (all_keys values)).only k among)
 
 -- ---- more is sent and learned
 
@@ -84,7 +92,8 @@ due_later laws size sent more (Keys node start first bytes) (inr p) = inr (recor
 })
 
 -- keys that were read are read
-pub read_more : WorldLaws → (old new : FinMap nat_cmp Value) → HasLearnedMore old new → (k : Key) → Contains (keys_in_order (front_values old)) k → Contains (keys_in_order (front_values new)) k
+pub read_more : WorldLaws → (old new : FinMap nat_cmp Value) → HasLearnedMore old new → (k : Key)
+    → Contains (keys_in_order (front_values old)) k → Contains (keys_in_order (front_values new)) k
 read_more laws old new more k among =
     let grown = laws.values old new more in
     let keys = laws.keys (front_values old) grown.0 in
@@ -92,9 +101,16 @@ read_more laws old new more k among =
     (subst (λ (l : List Key). Contains l k) (sym keys.1) (Contains-append_left (keys_in_order (front_values old)) keys.0 k among))
 
 -- the values below a front are chosen, where what is learned is
-pub front_chosen : WorldLaws → (size : ℕ) (sent : Sent) (learned : FinMap nat_cmp Value) → IsLearnedChosen size sent learned → AreChosen size sent (front_values learned)
+pub front_chosen : WorldLaws → (size : ℕ) (sent : Sent) (learned : FinMap nat_cmp Value)
+    → IsLearnedChosen size sent learned → AreChosen size sent (front_values learned)
 front_chosen laws size sent learned h = record {
   chosen = λ s v e.
-      let within : s < front_of learned = omega (arith, slice_get_within (front_values learned) s v e, laws.many learned (front_of learned) (omega arith)) in
+      let within : s < front_of learned =
+      omega (
+        arith,
+        slice_get_within (front_values learned) s v e,
+        laws.many learned (front_of learned)
+            (omega arith),
+      ) in
       h.chosen s v (sym (laws.at_place learned (front_of learned) s (omega arith) within) ∙ e);
 }

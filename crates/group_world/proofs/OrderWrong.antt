@@ -20,4 +20,6 @@ pub gap : ¬ AreInOrder (keys_in_order (Keys 2 1 1 (65 ∷ []) ∷ Keys 2 1 3 (6
 gap h = not_row 1 3 (h 2 1).0 (λ e f. omega arith) (h 2 1).1
 
 pub twice : ¬ AreApart (keys_in_order (Keys 2 1 1 (65 ∷ []) ∷ Keys 2 1 1 (66 ∷ []) ∷ []))
-twice h = h 0 1 (record { node = 2; start = 1; serial = 1; byte = 65 }) (omega arith) (omega arith) (record { node = refl; start = refl; serial = refl })
+twice h =
+    h 0 1 (record { node = 2; start = 1; serial = 1; byte = 65 }) (omega arith) (omega arith)
+    (record { node = refl; start = refl; serial = refl })

@@ -11,13 +11,13 @@ use Rattle.paxos_msg.specs.declared.value.Value.{Value}
 use Rattle.paxos_msg.specs.Batches.{Grew, Record, Sent}
 use Rattle.paxos_learner.specs.Input.{front_values, input_of, values_below}
 use Rattle.paxos_learner.specs.Learner.{front_of}
-use Rattle.group_node.specs.Consoles.{offered}
+use Rattle.group_node.specs.Console.{offered}
 use Rattle.group_node.specs.Inputs.{AreChosen, IsInput}
 use Rattle.group_node.specs.Output.{IsReplay, Progress, unreleased_of}
 use Rattle.group_node.specs.States.{input}
 use Rattle.group_world.specs.Goes.{at_progress, released, with_member}
 use Rattle.group_world.specs.Sound.{IsLearnedChosen, IsRunningSound, IsShown, IsSound}
-use Rattle.group_world.specs.Worlds.{Member, Running, World, me_of, member_at, state_of}
+use Rattle.group_world.specs.Worlds.{Member, Running, World, me_of, member_at, world_state}
 use Rattle.group_world.proofs.Changing.{RestartLaw, kept_sound}
 use Rattle.group_world.proofs.Offers.{IsOffer, ShorterLaw, first_dropped, same_or_prefix, shown_then}
 
@@ -30,7 +30,8 @@ pub record PlayLaws : Type 0 where
   pub itself : (a : List ℕ) → IsPrefix a a
   pub shorter : (a b : List ℕ) → AreComparable a b → length a ≤ length b → IsPrefix a b
   pub many : (learned : FinMap nat_cmp Value) (n : ℕ) → n ≤ front_of learned → length (values_below learned n) ≡ n
-  pub at_place : (learned : FinMap nat_cmp Value) (n s : ℕ) → n ≤ front_of learned → s < n → slice_get (values_below learned n) s ≡ get learned s
+  pub at_place : (learned : FinMap nat_cmp Value) (n s : ℕ) → n ≤ front_of learned → s < n
+      → slice_get (values_below learned n) s ≡ get learned s
 
 pub shorter_of : PlayLaws → ShorterLaw
 shorter_of laws = record { shorter = laws.shorter }
@@ -40,48 +41,65 @@ pub out_is_output : (p : Parts) (x : List ℕ) (n : ℕ) → IsOutput p x (out p
 out_is_output p x n = (n, record { rest = []; whole = sym (append-nil (out p x n)) })
 
 -- what is learned up to the front is chosen
-pub front_chosen : PlayLaws → (size : ℕ) (sent : Sent) (learned : FinMap nat_cmp Value) → IsLearnedChosen size sent learned → AreChosen size sent (front_values learned)
+pub front_chosen : PlayLaws → (size : ℕ) (sent : Sent) (learned : FinMap nat_cmp Value)
+    → IsLearnedChosen size sent learned → AreChosen size sent (front_values learned)
 front_chosen laws size sent learned h = record {
   chosen = λ s v e.
-      let low : s < front_of learned = omega (arith, laws.many learned (front_of learned) (omega arith), slice_get_within (front_values learned) s v e) in
+      let low : s < front_of learned =
+      omega (
+        arith,
+        laws.many learned (front_of learned) (omega arith),
+        slice_get_within
+            (front_values learned) s v e,
+      ) in
       h.chosen s v (sym (laws.at_place learned (front_of learned) s (omega arith) low) ∙ e);
 }
 
 module _ (laws : PlayLaws) (w : World) (h : IsSound w) where
   -- a console holds output on the chosen input
-  pub console_output : (i : ℕ) (m : Member) (x : List ℕ) → member_at w.members i ≡ Some m → IsInput w.group.size (state_of w).sent x → IsOutput w.program x m.console
+  pub console_output : (i : ℕ) (m : Member) (x : List ℕ) → member_at w.members i ≡ Some m
+      → IsInput w.group.size (world_state w).sent x → IsOutput w.program x m.console
   console_output i m x there chosen =
       let shown = (h.members i m there).shown in
       laws.longer w.program (input_of shown.values) x m.console
-      (laws.begins w.group.size (state_of w).sent (λ j. ((state_of w).seats j).kept) shown.values x h.grew shown.chosen chosen) shown.output
+      (laws.begins w.group.size (world_state w).sent
+      (λ j. ((world_state w).seats j).kept) shown.values x h.grew shown.chosen chosen) shown.output
 
   module _ (i : ℕ) (m : Member) (q : Running) (there : member_at w.members i ≡ Some m) (up : m.node ≡ Some q) where
-    running : IsRunningSound w.program (me_of w i) (state_of w).sent (state_of w).typed m.kept m.console q
+    running : IsRunningSound w.program (me_of w i) (world_state w).sent (world_state w).typed m.kept m.console q
     running =
-        let P : Option Running → Type 0 = λ o. IfSome o (IsRunningSound w.program (me_of w i) (state_of w).sent (state_of w).typed m.kept m.console) in
+        let P : Option Running → Type 0 =
+        λ o. IfSome o (IsRunningSound w.program (me_of w i) (world_state w).sent
+        (world_state w).typed m.kept m.console) in
         subst P up (h.members i m there).running
 
     -- what its machine has written is output on the chosen input
-    written_output : (x : List ℕ) → IsInput w.group.size (state_of w).sent x → IsOutput w.program x (out q.progress.program (input q.rules) q.progress.steps)
+    written_output : (x : List ℕ) → IsInput w.group.size (world_state w).sent x
+        → IsOutput w.program x (out q.progress.program (input q.known) q.progress.steps)
     written_output x chosen =
-        let learned = front_chosen laws w.group.size (state_of w).sent q.rules.learner.learned running.learned in
-        laws.longer w.program (input q.rules) x (out q.progress.program (input q.rules) q.progress.steps)
-        (laws.begins w.group.size (state_of w).sent (λ j. ((state_of w).seats j).kept) (front_values q.rules.learner.learned) x h.grew learned chosen)
-        (subst (λ (p : Parts). IsOutput p (input q.rules) (out q.progress.program (input q.rules) q.progress.steps)) running.program (out_is_output q.progress.program (input q.rules) q.progress.steps))
+        let learned = front_chosen laws w.group.size (world_state w).sent q.known.learner.learned running.learned in
+        laws.longer w.program (input q.known) x (out q.progress.program (input q.known) q.progress.steps)
+        (laws.begins w.group.size (world_state w).sent (λ j. ((world_state w).seats j).kept)
+        (front_values q.known.learner.learned) x h.grew learned chosen)
+        (subst (λ (p : Parts). IsOutput p (input q.known) (out q.progress.program (input q.known) q.progress.steps))
+        running.program (out_is_output q.progress.program (input q.known) q.progress.steps))
 
     -- the next byte that it releases is one of that output, and its console is comparable with it
-    pub offer_fits : (byte : ℕ) → slice_get (out q.progress.program (input q.rules) q.progress.steps) q.progress.released ≡ Some byte
-        → IsOffer m.console (out q.progress.program (input q.rules) q.progress.steps) q.progress.released byte
+    pub offer_fits : (byte : ℕ) → slice_get (out q.progress.program (input q.known) q.progress.steps) q.progress.released ≡ Some byte
+        → IsOffer m.console (out q.progress.program (input q.known) q.progress.steps) q.progress.released byte
     offer_fits byte e =
-        let (x, chosen) = laws.there w.group.size (state_of w).sent in
+        let (x, chosen) = laws.there w.group.size (world_state w).sent in
         record {
-          compare = laws.compared w.program x x m.console (out q.progress.program (input q.rules) q.progress.steps) (inl (laws.itself x)) (console_output i m x there chosen) (written_output x chosen);
+          compare =
+              laws.compared w.program x x m.console (out q.progress.program (input q.known) q.progress.steps)
+              (inl (laws.itself x)) (console_output i m x there chosen) (written_output x chosen);
           shown = running.shown;
           byte = e;
         }
 
     -- a run keeps the world sound
-    pub run_sound : RestartLaw → (progress : Progress) → progress.program ≡ q.progress.program → progress.released ≡ q.progress.released → IsReplay (input q.rules) progress
+    pub run_sound : RestartLaw → (progress : Progress) → progress.program ≡ q.progress.program
+        → progress.released ≡ q.progress.released → IsReplay (input q.known) progress
         → IsSound (with_member w i (at_progress m q progress))
     run_sound restart progress program same replay = kept_sound restart w h i m there (at_progress m q progress) refl (record {
       ranges = (h.members i m there).ranges;
@@ -100,31 +118,39 @@ module _ (laws : PlayLaws) (w : World) (h : IsSound w) where
     })
 
     -- the console has shown output on chosen values again
-    released_shown : (byte : ℕ) → slice_get (out q.progress.program (input q.rules) q.progress.steps) q.progress.released ≡ Some byte
-        → IsShown w.program w.group.size (state_of w).sent (offered m.console q.progress.released byte)
+    released_shown : (byte : ℕ) → slice_get (out q.progress.program (input q.known) q.progress.steps) q.progress.released ≡ Some byte
+        → IsShown w.program w.group.size (world_state w).sent (offered m.console q.progress.released byte)
     released_shown byte e =
-        let all : List ℕ = out q.progress.program (input q.rules) q.progress.steps in
-        elim (same_or_prefix (shorter_of laws) m.console (out q.progress.program (input q.rules) q.progress.steps) q.progress.released byte (offer_fits byte e)) [
-          | inl same ↦ subst (IsShown w.program w.group.size (state_of w).sent) (sym same) (h.members i m there).shown
+        let all : List ℕ = out q.progress.program (input q.known) q.progress.steps in
+        elim (same_or_prefix (shorter_of laws) m.console
+        (out q.progress.program (input q.known) q.progress.steps) q.progress.released byte (offer_fits byte e)) [
+          | inl same ↦ subst (IsShown w.program w.group.size (world_state w).sent) (sym same) (h.members i m there).shown
           | inr begins ↦ record {
-            values = front_values q.rules.learner.learned;
-            chosen = front_chosen laws w.group.size (state_of w).sent q.rules.learner.learned running.learned;
-            output = (q.progress.steps, subst (λ (p : Parts). IsPrefix (offered m.console q.progress.released byte) (out p (input q.rules) q.progress.steps)) running.program begins);
+            values = front_values q.known.learner.learned;
+            chosen = front_chosen laws w.group.size (world_state w).sent q.known.learner.learned running.learned;
+            output = (
+              q.progress.steps,
+              subst
+                  (λ (p : Parts). IsPrefix (offered m.console q.progress.released byte)
+                  (out p (input q.known) q.progress.steps)) running.program begins,
+            );
           }
         ]
 
     -- one byte more was released of what was written
-    released_replay : (byte : ℕ) → slice_get (out q.progress.program (input q.rules) q.progress.steps) q.progress.released ≡ Some byte
-        → IsReplay (input q.rules) (record q.progress { released = q.progress.released + 1 })
+    released_replay : (byte : ℕ) → slice_get (out q.progress.program (input q.known) q.progress.steps) q.progress.released ≡ Some byte
+        → IsReplay (input q.known) (record q.progress { released = q.progress.released + 1 })
     released_replay byte e =
-        let all : List ℕ = out q.progress.program (input q.rules) q.progress.steps in
+        let all : List ℕ = out q.progress.program (input q.known) q.progress.steps in
         record {
           made = running.replay.made;
-          released = omega (arith, slice_get_within (out q.progress.program (input q.rules) q.progress.steps) q.progress.released byte e);
+          released = omega (arith, slice_get_within (out q.progress.program (input q.known) q.progress.steps) q.progress.released byte e);
           few = omega (arith, running.replay.few, length-drop q.progress.released all, length-drop (q.progress.released + 1) all);
         }
 
-    released_sound : RestartLaw → (o : Option ℕ) → slice_get (out q.progress.program (input q.rules) q.progress.steps) q.progress.released ≡ o → IsSound (with_member w i (released m q o))
+    released_sound : RestartLaw → (o : Option ℕ)
+        → slice_get (out q.progress.program (input q.known) q.progress.steps) q.progress.released ≡ o
+        → IsSound (with_member w i (released m q o))
     released_sound restart None e = kept_sound restart w h i m there m refl (h.members i m there)
     released_sound restart (Some byte) e = kept_sound restart w h i m there (released m q (Some byte)) refl (record {
       ranges = (h.members i m there).ranges;
@@ -138,12 +164,14 @@ module _ (laws : PlayLaws) (w : World) (h : IsSound w) where
         learned = running.learned;
         program = running.program;
         replay = released_replay byte e;
-        shown = shown_then (shorter_of laws) m.console (out q.progress.program (input q.rules) q.progress.steps) q.progress.released byte (offer_fits byte e);
+        shown =
+            shown_then (shorter_of laws) m.console
+            (out q.progress.program (input q.known) q.progress.steps) q.progress.released byte (offer_fits byte e);
       };
     })
 
     -- a release keeps the world sound
-    pub release_sound : RestartLaw → IsSound (with_member w i (released m q (slice_get (unreleased_of (input q.rules) q.progress) 0)))
+    pub release_sound : RestartLaw → IsSound (with_member w i (released m q (slice_get (unreleased_of (input q.known) q.progress) 0)))
     release_sound restart =
-        let first = first_dropped q.progress.released (out q.progress.program (input q.rules) q.progress.steps) in
-        released_sound restart (slice_get (unreleased_of (input q.rules) q.progress) 0) (sym first)
+        let first = first_dropped q.progress.released (out q.progress.program (input q.known) q.progress.steps) in
+        released_sound restart (slice_get (unreleased_of (input q.known) q.progress) 0) (sym first)

@@ -15,7 +15,8 @@ abbrev pub rest_of : List ℕ → List ℕ
 rest_of text = after_first (λ b. b == 10) text
 
 -- a byte that is no line feed stands before the first
-position-cons : (b : ℕ) (bs : List ℕ) → (b == 10) ≡ false → position_or_len (λ c. c == 10) (b ∷ bs) ≡ suc (position_or_len (λ c. c == 10) bs)
+position-cons : (b : ℕ) (bs : List ℕ) → (b == 10) ≡ false
+    → position_or_len (λ c. c == 10) (b ∷ bs) ≡ suc (position_or_len (λ c. c == 10) bs)
 position-cons b bs e = rw e (omega arith)
 
 line_in-cons : (b : ℕ) (bs : List ℕ) → (b == 10) ≡ false → line_in (b ∷ bs) ≡ b ∷ line_in bs
@@ -31,13 +32,16 @@ lines_of-more : (b : ℕ) (bs : List ℕ) → (b == 10) ≡ false → lines_of (
 lines_of-more b bs e = rw e refl
 
 -- the first line of a text that is not empty, and those behind it
-lines_of-cons : (b : ℕ) (bs : List ℕ) (is_feed : Bool) → (b == 10) ≡ is_feed → lines_of (b ∷ bs) ≡ line_in (b ∷ bs) ∷ lines_of (rest_of (b ∷ bs))
+lines_of-cons : (b : ℕ) (bs : List ℕ) (is_feed : Bool) → (b == 10) ≡ is_feed
+    → lines_of (b ∷ bs) ≡ line_in (b ∷ bs) ∷ lines_of (rest_of (b ∷ bs))
 lines_of-cons b bs true e = rw e refl
 lines_of-cons b [] false e = rw e refl
 lines_of-cons b (c ∷ cs) false e =
     let xs : List ℕ = c ∷ cs in
-    let line : line_in (b ∷ xs) ∷ lines_of (rest_of (b ∷ xs)) ≡ (b ∷ line_in xs) ∷ lines_of (rest_of (b ∷ xs)) = ap (λ l. l ∷ lines_of (rest_of (b ∷ xs))) (line_in-cons b xs e) in
-    let rest : (b ∷ line_in xs) ∷ lines_of (rest_of (b ∷ xs)) ≡ (b ∷ line_in xs) ∷ lines_of (rest_of xs) = ap (λ r. (b ∷ line_in xs) ∷ lines_of r) (rest_of-cons b xs e) in
+    let line : line_in (b ∷ xs) ∷ lines_of (rest_of (b ∷ xs)) ≡ (b ∷ line_in xs) ∷ lines_of (rest_of (b ∷ xs)) =
+    ap (λ l. l ∷ lines_of (rest_of (b ∷ xs))) (line_in-cons b xs e) in
+    let rest : (b ∷ line_in xs) ∷ lines_of (rest_of (b ∷ xs)) ≡ (b ∷ line_in xs) ∷ lines_of (rest_of xs) =
+    ap (λ r. (b ∷ line_in xs) ∷ lines_of r) (rest_of-cons b xs e) in
     (lines_of-more b xs e ∙ ap (begins_with b) (lines_of-cons c cs (c == 10) refl)) ∙ sym (line ∙ rest)
 
 lines_of-first : (text : List ℕ) → 0 < length text → lines_of text ≡ line_in text ∷ lines_of (rest_of text)
@@ -58,13 +62,15 @@ after-nil (Ok ys) = refl
 after-nil (Err bad) = refl
 
 -- a line that was read stands behind those that were read before
-pub one_more : (xs : List Line) (n : ℕ) (rest : List ℕ) (l : Line) → 0 < length rest → line_of (line_in rest) ≡ Some l → after xs (lines_say n (lines_of rest)) ≡ after (xs ++ l ∷ []) (lines_say (n + 1) (lines_of (rest_of rest)))
+pub one_more : (xs : List Line) (n : ℕ) (rest : List ℕ) (l : Line) → 0 < length rest → line_of (line_in rest) ≡ Some l
+    → after xs (lines_say n (lines_of rest)) ≡ after (xs ++ l ∷ []) (lines_say (n + 1) (lines_of (rest_of rest)))
 one_more xs n rest l h e =
     let more : Result (List Line) ℕ = lines_say (n + 1) (lines_of (rest_of rest)) in
     (ap (λ ls. after xs (lines_say n ls)) (lines_of-first rest h) ∙ ap (λ o. after xs (in_front o n more)) e) ∙ after-in_front xs l n more
 
 -- the first line that says nothing
-pub bad_line : (xs : List Line) (n : ℕ) (rest : List ℕ) → 0 < length rest → line_of (line_in rest) ≡ None → after xs (lines_say n (lines_of rest)) ≡ Err n
+pub bad_line : (xs : List Line) (n : ℕ) (rest : List ℕ) → 0 < length rest → line_of (line_in rest) ≡ None
+    → after xs (lines_say n (lines_of rest)) ≡ Err n
 bad_line xs n rest h e =
     let more : Result (List Line) ℕ = lines_say (n + 1) (lines_of (rest_of rest)) in
     ap (λ ls. after xs (lines_say n ls)) (lines_of-first rest h) ∙ ap (λ o. after xs (in_front o n more)) e
@@ -83,14 +89,24 @@ script_of-first (b ∷ bs) = ap script_in (lines_of-cons b bs (b == 10) refl)
 pub no_group : (text : List ℕ) → header_of (line_in text) ≡ None → script_of text ≡ Err 1
 no_group text e = script_of-first text ∙ ap (λ o. script_behind o (lines_say 2 (lines_of (rest_of text)))) e
 
-pub group_and_lines : (text : List ℕ) (group : ℕ × ℕ) (r : Result (List Line) ℕ) → header_of (line_in text) ≡ Some group → lines_say 2 (lines_of (rest_of text)) ≡ r → script_of text ≡ script_behind (Some group) r
-group_and_lines text group r e f = (script_of-first text ∙ ap (λ o. script_behind o (lines_say 2 (lines_of (rest_of text)))) e) ∙ ap (script_behind (Some group)) f
+pub group_and_lines : (text : List ℕ) (group : ℕ × ℕ) (r : Result (List Line) ℕ) → header_of (line_in text) ≡ Some group
+    → lines_say 2 (lines_of (rest_of text)) ≡ r → script_of text ≡ script_behind (Some group) r
+group_and_lines text group r e f =
+    (script_of-first text ∙ ap (λ o. script_behind o (lines_say 2 (lines_of (rest_of text)))) e)
+    ∙ ap (script_behind (Some group)) f
 
-pub grown : (xs ys : List Line) (n m : ℕ) (rest more : List ℕ) (l : Line) → 0 < length rest → line_of (line_in rest) ≡ Some l → more ≡ rest_of rest → ys ≡ xs ++ l ∷ [] → m ≡ n + 1 → after xs (lines_say n (lines_of rest)) ≡ after ys (lines_say m (lines_of more))
+pub grown : (xs ys : List Line) (n m : ℕ) (rest more : List ℕ) (l : Line) → 0 < length rest
+    → line_of (line_in rest) ≡ Some l → more ≡ rest_of rest → ys ≡ xs ++ l ∷ [] → m ≡ n + 1
+    → after xs (lines_say n (lines_of rest)) ≡ after ys (lines_say m (lines_of more))
 grown xs ys n m rest more l h e behind items number =
-    let first : after ys (lines_say m (lines_of more)) ≡ after (xs ++ l ∷ []) (lines_say m (lines_of more)) = ap (λ zs. after zs (lines_say m (lines_of more))) items in
-    let second : after (xs ++ l ∷ []) (lines_say m (lines_of more)) ≡ after (xs ++ l ∷ []) (lines_say (n + 1) (lines_of more)) = ap (λ k. after (xs ++ l ∷ []) (lines_say k (lines_of more))) number in
-    let third : after (xs ++ l ∷ []) (lines_say (n + 1) (lines_of more)) ≡ after (xs ++ l ∷ []) (lines_say (n + 1) (lines_of (rest_of rest))) = ap (λ t. after (xs ++ l ∷ []) (lines_say (n + 1) (lines_of t))) behind in
+    let first : after ys (lines_say m (lines_of more)) ≡ after (xs ++ l ∷ []) (lines_say m (lines_of more)) =
+    ap (λ zs. after zs (lines_say m (lines_of more))) items in
+    let second : after (xs ++ l ∷ []) (lines_say m (lines_of more))
+    ≡ after (xs ++ l ∷ []) (lines_say (n + 1) (lines_of more)) =
+    ap (λ k. after (xs ++ l ∷ []) (lines_say k (lines_of more))) number in
+    let third : after (xs ++ l ∷ []) (lines_say (n + 1) (lines_of more))
+    ≡ after (xs ++ l ∷ []) (lines_say (n + 1) (lines_of (rest_of rest))) =
+    ap (λ t. after (xs ++ l ∷ []) (lines_say (n + 1) (lines_of t))) behind in
     one_more xs n rest l h e ∙ sym ((first ∙ second) ∙ third)
 
 -- ---- the lines that were read

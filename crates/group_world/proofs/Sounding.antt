@@ -8,15 +8,16 @@ use Rattle.paxos_learner.specs.Growth.{AreInWindow}
 use Rattle.paxos_proposer.specs.Proposer.{greatest_round}
 use Rattle.std.specs.FinMap.{FinMap}
 use Rattle.std.specs.Ordering.{nat_cmp}
-use Rattle.group_node.specs.Delivered.{on_message}
-use Rattle.group_node.specs.Leading.{at_tick}
-use Rattle.group_node.specs.Node.{Done as Made, at_campaign, at_typed, front, next_serial}
+use Rattle.group_node.specs.Protocol.{on_message}
+use Rattle.group_node.specs.Known.{Response, on_typed, front, next_serial}
+use Rattle.group_node.specs.ProposerRows.{on_campaign}
+use Rattle.group_node.specs.Tick.{on_tick}
 use Rattle.group_node.specs.Output.{Progress, no_progress}
 use Rattle.group_node.specs.Ranges.{IsFit}
 use Rattle.group_world.specs.declared.event.Act.{Act}
 use Rattle.group_world.specs.declared.event.Act.TheVariants.{Press, Deliver, Campaign, Tick, Run, Release, Crash, Start}
 use Rattle.group_world.specs.declared.event.Done.{Done}
-use Rattle.group_world.specs.Goes.{Acts, Call, IsDown, IsUp, Leaves, Makes, Refuses, LeavesSaving, campaign, failing, press, start}
+use Rattle.group_world.specs.Goes.{Performs, CallOutcome, IsDown, IsUp, Leaves, Makes, Refuses, LeavesSaving, campaign, failing, press, start_outcome}
 use Rattle.group_world.specs.Sound.{IsSound}
 use Rattle.group_world.specs.Worlds.{Member, Running, World, me_of, member_at, messages_in}
 use Rattle.group_world.proofs.Calling.{CallLaws, MayMake, call_sound}
@@ -33,88 +34,102 @@ pub record WorldLaws : Type 0 where
   pub front : (learned : FinMap nat_cmp Value) → AreInWindow learned → front_of learned ≤ 65536
 
 -- the call is refused, or may be made
-abbrev pub MayCall : World → ℕ → Member → Progress → Call → Type 0
+abbrev pub MayCall : World → ℕ → Member → Progress → CallOutcome → Type 0
 MayCall w i m progress (Refuses f) = Unit {0}
 MayCall w i m progress (Makes made keys) = (made.node.me ≡ me_of w i) × MayMake w i m made progress keys
 
 -- a save that fails is one that is made
-pub fails_some : (saves : Option Change) (plan : Option Bool) (is_kept : Bool) → failing saves plan ≡ Some is_kept → (c : Change) × (saves ≡ Some c)
+pub fails_some : (saves : Option Change) (plan : Option Bool) (is_kept : Bool) → failing saves plan ≡ Some is_kept
+    → (c : Change) × (saves ≡ Some c)
 fails_some None plan is_kept e = absurd cc
 fails_some (Some c) plan is_kept e = (c, refl)
 
-module _ (laws : WorldLaws) (w : World) (h : IsSound w) (i : ℕ) (m : Member) (there : member_at w.members i ≡ Some m) (progress : Progress) (plan : Option Bool) where
-  saves_sound : (made : Made) (keys : List Value) (d : Done) (v : World) (o : Option Bool) → failing made.saves plan ≡ o → made.node.me ≡ me_of w i
+module _ (laws : WorldLaws) (w : World) (h : IsSound w) (i : ℕ) (m : Member) (there : member_at w.members i ≡ Some m)
+    (progress : Progress) (plan : Option Bool) where
+  saves_sound : (made : Response) (keys : List Value) (d : Done) (v : World) (o : Option Bool)
+      → failing made.saves plan ≡ o → made.node.me ≡ me_of w i
       → MayMake w i m made progress keys → LeavesSaving w i m progress made keys o d v → IsSound v
-  saves_sound made keys d v None e me may (answer, leaves) = subst IsSound (sym leaves) (call_sound laws.call w h i m there progress keys made me may)
+  saves_sound made keys d v None e me may (answer, leaves) =
+      subst IsSound (sym leaves) (call_sound laws.call w h i m there progress keys made me may)
   saves_sound made keys d v (Some is_kept) e me may (answer, leaves) =
       let (c, some) = fails_some made.saves plan is_kept e in
       subst IsSound (sym leaves) (fall_sound laws.call laws.restart w h i m there progress keys made me may is_kept c some)
 
   -- what a call leaves is sound
-  pub leaves_sound : (call : Call) (d : Done) (v : World) → MayCall w i m progress call → Leaves w i m progress plan call d v → IsSound v
+  pub leaves_sound : (call : CallOutcome) (d : Done) (v : World) → MayCall w i m progress call
+      → Leaves w i m progress plan call d v → IsSound v
   leaves_sound (Refuses f) d v may (answer, same) = subst IsSound (sym same) h
   leaves_sound (Makes made keys) d v (me, may) leaves = saves_sound made keys d v (failing made.saves plan) refl me may leaves
 
 module _ (laws : WorldLaws) (w : World) (h : IsSound w) (i : ℕ) (m : Member) (q : Running) (up : IsUp w i m q) where
   -- a typed byte that is not refused
-  pub press_fits : (byte : ℕ) → byte < 256 → length q.rules.waiting ≢ 256 → next_serial q.rules ≢ 4294967296 → IsFit q.rules.me (at_typed q.rules byte)
+  pub press_fits : (byte : ℕ) → byte < 256 → length q.known.waiting ≢ 256 → next_serial q.known ≢ 4294967296
+      → IsFit q.known.me (on_typed q.known byte)
   press_fits byte low ne other =
       let ranges = (running w h i m q up).ranges in
-      laws.node.typed_fits q.rules byte ranges low (omega (arith, ranges.waiting.few, ne)) (omega (arith, ranges.waiting.fits, other))
+      laws.node.typed_fits q.known byte ranges low (omega (arith, ranges.waiting.few, ne)) (omega (arith, ranges.waiting.fits, other))
 
-  pub press_call : (byte : ℕ) → byte < 256 → MayCall w i m q.progress (press q.rules byte)
-  press_call byte low = elim (cases_eq (length q.rules.waiting) 256) [
-    | inl e ↦ rw (eq-eqb (length q.rules.waiting) 256 e) tt
-    | inr ne ↦ rw (ne_eqb (length q.rules.waiting) 256 ne) (elim (cases_eq (next_serial q.rules) 4294967296) [
-      | inl e ↦ rw (eq-eqb (next_serial q.rules) 4294967296 e) tt
+  pub press_call : (byte : ℕ) → byte < 256 → MayCall w i m q.progress (press q.known byte)
+  press_call byte low = elim (cases_eq (length q.known.waiting) 256) [
+    | inl e ↦ rw (eq-eqb (length q.known.waiting) 256 e) tt
+    | inr ne ↦ rw (ne_eqb (length q.known.waiting) 256 ne) (elim (cases_eq (next_serial q.known) 4294967296) [
+      | inl e ↦ rw (eq-eqb (next_serial q.known) 4294967296 e) tt
       | inr other ↦
           let fits = press_fits byte low ne other in
-          rw (ne_eqb (next_serial q.rules) 4294967296 other) (same_me w h i m q up (at_typed q.rules byte) fits, press_may w h i m q up laws.node byte fits)
+          rw (ne_eqb (next_serial q.known) 4294967296 other)
+          (same_me w h i m q up (on_typed q.known byte) fits, press_may w h i m q up laws.node byte fits)
     ])
   ]
 
   -- a campaign that is not refused
-  pub campaign_fits : greatest_round q.rules.kept.promised q.rules.remembered < 4294967295 → front q.rules ≢ 65536 → IsFit q.rules.me (at_campaign q.rules)
+  pub campaign_fits : greatest_round q.known.kept.promised q.known.remembered < 4294967295 → front q.known ≢ 65536
+      → IsFit q.known.me (on_campaign q.known)
   campaign_fits low other =
       let sound = running w h i m q up in
-      let within = laws.front q.rules.learner.learned sound.ranges.learner.window in
-      laws.node.campaign_fits q.rules sound.ranges (omega (arith, low)) (omega (arith, within, other))
+      let within = laws.front q.known.learner.learned sound.ranges.learner.window in
+      laws.node.campaign_fits q.known sound.ranges (omega (arith, low)) (omega (arith, within, other))
 
-  pub campaign_may : IsFit q.rules.me (at_campaign q.rules) → MayMake w i m (at_campaign q.rules) q.progress []
+  pub campaign_may : IsFit q.known.me (on_campaign q.known) → MayMake w i m (on_campaign q.known) q.progress []
   campaign_may fits =
       let sound = running w h i m q up in
-      may_make_alone w h i m q up laws.node (at_campaign q.rules) (laws.node.campaign _ _ q.rules sound.ranges sound.backs) fits
+      may_make_alone w h i m q up laws.node (on_campaign q.known) (laws.node.campaign _ _ q.known sound.ranges sound.backs) fits
 
-  pub campaign_call : MayCall w i m q.progress (campaign q.rules)
-  campaign_call = elim (cases_lt (greatest_round q.rules.kept.promised q.rules.remembered) 4294967295) [
-    | inr high ↦ rw (le-ltb (greatest_round q.rules.kept.promised q.rules.remembered) 4294967295 high) tt
-    | inl low ↦ rw (lt-ltb (greatest_round q.rules.kept.promised q.rules.remembered) 4294967295 low) (elim (cases_eq (front q.rules) 65536) [
-      | inl e ↦ rw (eq-eqb (front q.rules) 65536 e) tt
-      | inr other ↦
-          let fits = campaign_fits low other in
-          rw (ne_eqb (front q.rules) 65536 other) (same_me w h i m q up (at_campaign q.rules) fits, campaign_may fits)
-    ])
+  pub campaign_call : MayCall w i m q.progress (campaign q.known)
+  campaign_call = elim (cases_lt (greatest_round q.known.kept.promised q.known.remembered) 4294967295) [
+    | inr high ↦ rw (le-ltb (greatest_round q.known.kept.promised q.known.remembered) 4294967295 high) tt
+    | inl low ↦ rw (lt-ltb (greatest_round q.known.kept.promised q.known.remembered) 4294967295 low)
+        (elim (cases_eq (front q.known) 65536) [
+          | inl e ↦ rw (eq-eqb (front q.known) 65536 e) tt
+          | inr other ↦
+              let fits = campaign_fits low other in
+              rw (ne_eqb (front q.known) 65536 other) (same_me w h i m q up (on_campaign q.known) fits, campaign_may fits)
+        ])
   ]
 
   -- a tick
-  pub tick_call : MayCall w i m q.progress (Makes (at_tick q.rules) [])
+  pub tick_call : MayCall w i m q.progress (Makes (on_tick q.known) [])
   tick_call =
       let sound = running w h i m q up in
-      let fits = laws.node.tick_fits q.rules sound.ranges in
-      (same_me w h i m q up (at_tick q.rules) fits, may_make_alone w h i m q up laws.node (at_tick q.rules) (laws.node.tick _ _ q.rules sound.ranges sound.backs) fits)
+      let fits = laws.node.tick_fits q.known sound.ranges in (
+        same_me w h i m q up (on_tick q.known) fits,
+        may_make_alone w h i m q up laws.node (on_tick q.known)
+            (laws.node.tick _ _ q.known sound.ranges sound.backs) fits,
+      )
 
   -- a message
-  pub message_call : (k : ℕ) (message : Msg) → slice_get (messages_in w.group w.sent) k ≡ Some message → MayCall w i m q.progress (Makes (on_message q.rules message.sender message.body) [])
+  pub message_call : (k : ℕ) (message : Msg) → slice_get (messages_in w.group w.sent) k ≡ Some message
+      → MayCall w i m q.progress (Makes (on_message q.known message.sender message.body) [])
   message_call k message e =
       let sound = running w h i m q up in
-      let fits = laws.node.message_fits q.rules message.sender message.body sound.ranges (heard_fits w h i m q up k message e) in (
-        same_me w h i m q up (on_message q.rules message.sender message.body) fits,
-        may_make_alone w h i m q up laws.node (on_message q.rules message.sender message.body)
-            (laws.node.message _ _ q.rules message.sender message.body sound.ranges sound.backs (delivered w h i m q up k message e)) fits,
+      let fits = laws.node.message_fits q.known message.sender message.body sound.ranges (heard_fits w h i m q up k message e) in (
+        same_me w h i m q up (on_message q.known message.sender message.body) fits,
+        may_make_alone w h i m q up laws.node (on_message q.known message.sender message.body)
+            (laws.node.message _ _ q.known message.sender message.body sound.ranges sound.backs (delivered w h i m q up k message e)) fits,
       )
 
 -- a start
-pub start_call : (laws : WorldLaws) (w : World) (h : IsSound w) (i : ℕ) (m : Member) (down : IsDown w i m) → MayCall w i m (no_progress w.program) (start (me_of w i) m.kept)
+pub start_call : (laws : WorldLaws) (w : World) (h : IsSound w) (i : ℕ) (m : Member) (down : IsDown w i m)
+    → MayCall w i m (no_progress w.program) (start_outcome (me_of w i) m.kept)
 start_call laws w h i m down = elim (cases_eq m.kept.starts 4294967295) [
   | inl e ↦ rw (eq-eqb m.kept.starts 4294967295 e) tt
   | inr other ↦
@@ -123,15 +138,26 @@ start_call laws w h i m down = elim (cases_eq m.kept.starts 4294967295) [
 ]
 
 -- each event keeps the world sound
-pub acts_sound : (laws : WorldLaws) (w v : World) (plan : Option Bool) (act : Act) (d : Done) → IsSound w → Acts w plan act d v → IsSound v
-acts_sound laws w v plan (Press i byte) d h (m, q, up, low, leaves) = leaves_sound laws w h i m up.there q.progress plan (press q.rules byte) d v (press_call laws w h i m q up byte low) leaves
+pub acts_sound : (laws : WorldLaws) (w v : World) (plan : Option Bool) (act : Act) (d : Done) → IsSound w
+    → Performs w plan act d v → IsSound v
+acts_sound laws w v plan (Press i byte) d h (m, q, up, low, leaves) =
+    leaves_sound laws w h i m up.there q.progress plan (press q.known byte) d v
+    (press_call laws w h i m q up byte low) leaves
 acts_sound laws w v plan (Deliver k i) d h (m, q, message, up, e, leaves) =
-    leaves_sound laws w h i m up.there q.progress plan (Makes (on_message q.rules message.sender message.body) []) d v (message_call laws w h i m q up k message e) leaves
-acts_sound laws w v plan (Campaign i) d h (m, q, up, leaves) = leaves_sound laws w h i m up.there q.progress plan (campaign q.rules) d v (campaign_call laws w h i m q up) leaves
-acts_sound laws w v plan (Tick i) d h (m, q, up, leaves) = leaves_sound laws w h i m up.there q.progress plan (Makes (at_tick q.rules) []) d v (tick_call laws w h i m q up) leaves
+    leaves_sound laws w h i m up.there q.progress plan (Makes (on_message q.known message.sender message.body) []) d v
+    (message_call laws w h i m q up k message e) leaves
+acts_sound laws w v plan (Campaign i) d h (m, q, up, leaves) =
+    leaves_sound laws w h i m up.there q.progress plan (campaign q.known) d v (campaign_call laws w h i m q up) leaves
+acts_sound laws w v plan (Tick i) d h (m, q, up, leaves) =
+    leaves_sound laws w h i m up.there q.progress plan (Makes (on_tick q.known) []) d v
+    (tick_call laws w h i m q up) leaves
 acts_sound laws w v plan (Run i steps) d h (m, q, progress, ran, up, runs, replay, answer, leaves) =
     subst IsSound (sym leaves)
-    (run_sound laws.play w h i m q up.there up.up laws.restart progress (ap (λ (x : Progress). x.program) runs.rest) (ap (λ (x : Progress). x.released) runs.rest) replay)
-acts_sound laws w v plan (Release i) d h (m, q, up, answer, leaves) = subst IsSound (sym leaves) (release_sound laws.play w h i m q up.there up.up laws.restart)
+    (run_sound laws.play w h i m q up.there up.up laws.restart progress (ap (λ (x : Progress). x.program) runs.rest)
+    (ap (λ (x : Progress). x.released) runs.rest) replay)
+acts_sound laws w v plan (Release i) d h (m, q, up, answer, leaves) =
+    subst IsSound (sym leaves) (release_sound laws.play w h i m q up.there up.up laws.restart)
 acts_sound laws w v plan (Crash i) d h (m, q, up, answer, leaves) = subst IsSound (sym leaves) (crash_sound laws.restart w h i m up.there)
-acts_sound laws w v plan (Start i) d h (m, down, leaves) = leaves_sound laws w h i m down.there (no_progress w.program) plan (start (me_of w i) m.kept) d v (start_call laws w h i m down) leaves
+acts_sound laws w v plan (Start i) d h (m, down, leaves) =
+    leaves_sound laws w h i m down.there (no_progress w.program) plan (start_outcome (me_of w i) m.kept) d v
+    (start_call laws w h i m down) leaves

@@ -1,7 +1,7 @@
 -- Each event of a world is an event of its group.
 use Rattle.std.proofs.Common.{◌≡◌, ◌≢◌, ◌∙◌, ℕ, ◌+◌, ◌≤◌, Bool, true, false, if◌then◌else◌, List, [], flat_map, slice_get, Option, None, Some, option_map, inl, inr, refl, sym, ap, subst}
 use Rattle.pcode_machine.specs.Configuration.{Configuration}
-use Rattle.pcode_machine.specs.Runs.{Leads, after, begin}
+use Rattle.pcode_machine.specs.Runs.{LeadsIn, after_steps, begin}
 use Rattle.paxos_msg.specs.declared.value.Value.{Value}
 use Rattle.paxos_msg.specs.declared.record.Change.TheVariants as change
 use Rattle.paxos_msg.specs.Batches.{Body, Change, Record}
@@ -15,9 +15,10 @@ use Rattle.std.specs.FinMap.{FinMap}
 use Rattle.std.specs.Ordering.{nat_cmp}
 use Rattle.group_node.specs.declared.player.Ran.{Ran}
 use Rattle.group_node.specs.Backs.{Backs}
-use Rattle.group_node.specs.Delivered.{on_message}
-use Rattle.group_node.specs.Leading.{at_tick}
-use Rattle.group_node.specs.Node.{Done as Made, Node, at_campaign, at_typed, new_key, started}
+use Rattle.group_node.specs.Protocol.{on_message}
+use Rattle.group_node.specs.Known.{Response, Known, on_typed, new_key, on_start}
+use Rattle.group_node.specs.ProposerRows.{on_campaign}
+use Rattle.group_node.specs.Tick.{on_tick}
 use Rattle.group_node.specs.Output.{IsReplay, Progress, RunsOn}
 use Rattle.group_node.specs.Ranges.{IsHeardFit, IsInRange}
 use Rattle.group_node.specs.States.{input}
@@ -27,9 +28,9 @@ use Rattle.group_world.specs.declared.event.Act.{Act}
 use Rattle.group_world.specs.declared.event.Done.{Done}
 use Rattle.group_world.specs.declared.event.Done.TheVariants.{Applied}
 use Rattle.group_world.specs.Events.{event_of}
-use Rattle.group_world.specs.Goes.{Call, IsStep, IsUp, Leaves, Makes, Refuses, LeavesSaving, called, failing, fallen}
+use Rattle.group_world.specs.Goes.{CallOutcome, IsStep, IsUp, Leaves, Makes, Refuses, LeavesSaving, world_after_call, failing, world_after_fall}
 use Rattle.group_world.specs.Sound.{IsSound}
-use Rattle.group_world.specs.Worlds.{Member, Running, World, seat_of, state_of, up_of}
+use Rattle.group_world.specs.Worlds.{Member, Running, World, seat_of_member, world_state, up_of}
 use Rattle.group_world.proofs.Calling.{MayMake, is_node}
 use Rattle.group_world.proofs.Lawful.{running}
 use Rattle.group_world.proofs.Sounding.{fails_some}
@@ -37,101 +38,120 @@ use Rattle.group_world.proofs.States.{ReadLaw, called_state, member_state}
 
 -- each call of a node is an event of its group
 pub record StepLaws : Type 0 where
-  pub press : (w : WorldState) (n : Node) (byte k : ℕ) (c : Configuration) (console : List ℕ) → Sits w n c k console → IsInRange n → Backs w.sent w.typed n →
-      WorldStep w (group.Press n.me.node byte) (after_call w n.me.node (at_typed n byte) (keys_of (new_key n byte)) c k console)
-  pub deliver : (w : WorldState) (n : Node) (m j k : ℕ) (body : Body) (c : Configuration) (console : List ℕ) → Sits w n c k console →
+  pub press : (w : WorldState) (n : Known) (byte k : ℕ) (c : Configuration) (console : List ℕ) → Sits w n c k console
+      → IsInRange n → Backs w.sent w.typed n →
+      WorldStep w (group.Press n.me.node byte) (after_call w n.me.node (on_typed n byte) (keys_of (new_key n byte)) c k console)
+  pub deliver : (w : WorldState) (n : Known) (m j k : ℕ) (body : Body) (c : Configuration) (console : List ℕ) → Sits w n c k console →
       IsInRange n → Backs w.sent w.typed n → IsHeardFit n.me j body → slice_get w.sent m ≡ Some (record { sender = j; body = body }) →
       WorldStep w (group.Deliver m n.me.node) (after_call w n.me.node (on_message n j body) [] c k console)
-  pub campaign : (w : WorldState) (n : Node) (k : ℕ) (c : Configuration) (console : List ℕ) → Sits w n c k console → IsInRange n → Backs w.sent w.typed n →
-      WorldStep w (group.Campaign n.me.node) (after_call w n.me.node (at_campaign n) [] c k console)
-  pub tick : (w : WorldState) (n : Node) (k : ℕ) (c : Configuration) (console : List ℕ) → Sits w n c k console → IsInRange n → Backs w.sent w.typed n →
-      WorldStep w (group.Tick n.me.node) (after_call w n.me.node (at_tick n) [] c k console)
-  pub start : (w : WorldState) (me : Me) (r : Record) (console : List ℕ) → w.size ≡ me.group.size → w.seats me.node ≡ record { kept = r; console = console; up = None } →
-      WorldStep w (group.Start me.node) (after_call w me.node (started me r) [] (begin w.program) 0 console)
-  pub falls_delivered : (w : WorldState) (n : Node) (m j k : ℕ) (body : Body) (left : Record) (c : Configuration) (console : List ℕ) →
+  pub campaign : (w : WorldState) (n : Known) (k : ℕ) (c : Configuration) (console : List ℕ) → Sits w n c k console
+      → IsInRange n → Backs w.sent w.typed n →
+      WorldStep w (group.Campaign n.me.node) (after_call w n.me.node (on_campaign n) [] c k console)
+  pub tick : (w : WorldState) (n : Known) (k : ℕ) (c : Configuration) (console : List ℕ) → Sits w n c k console
+      → IsInRange n → Backs w.sent w.typed n →
+      WorldStep w (group.Tick n.me.node) (after_call w n.me.node (on_tick n) [] c k console)
+  pub start : (w : WorldState) (me : Me) (r : Record) (console : List ℕ) → w.size ≡ me.group.size
+      → w.seats me.node ≡ record { kept = r; console = console; up = None } →
+      WorldStep w (group.Start me.node) (after_call w me.node (on_start me r) [] (begin w.program) 0 console)
+  pub falls_delivered : (w : WorldState) (n : Known) (m j k : ℕ) (body : Body) (left : Record) (c : Configuration) (console : List ℕ) →
       Sits w n c k console → IsInRange n → Backs w.sent w.typed n → IsHeardFit n.me j body →
       slice_get w.sent m ≡ Some (record { sender = j; body = body }) → (on_message n j body).saves ≢ None →
       IsOneOf left n.kept (on_message n j body).node.kept →
       WorldStep w (group.Deliver m n.me.node) (with_seat w n.me.node (record { kept = left; console = console; up = None }))
-  pub falls_campaign : (w : WorldState) (n : Node) (k : ℕ) (left : Record) (c : Configuration) (console : List ℕ) → Sits w n c k console →
-      IsInRange n → Backs w.sent w.typed n → IsOneOf left n.kept (at_campaign n).node.kept →
+  pub falls_campaign : (w : WorldState) (n : Known) (k : ℕ) (left : Record) (c : Configuration) (console : List ℕ) → Sits w n c k console →
+      IsInRange n → Backs w.sent w.typed n → IsOneOf left n.kept (on_campaign n).node.kept →
       WorldStep w (group.Campaign n.me.node) (with_seat w n.me.node (record { kept = left; console = console; up = None }))
   pub falls_start : (w : WorldState) (me : Me) (r left : Record) (console : List ℕ) →
       w.seats me.node ≡ record { kept = r; console = console; up = None } → IsOneOf left r (changed r change.Start) →
       WorldStep w (group.Start me.node) (with_seat w me.node (record { kept = left; console = console; up = None }))
-  pub run : (w : WorldState) (n : Node) (steps m made k : ℕ) (console : List ℕ) →
-      Sits w n (after w.program (learned_input n.learner.learned) m) k console → made ≤ steps →
-      Leads w.program (learned_input n.learner.learned) (m + made) (after w.program (learned_input n.learner.learned) (m + made)) →
-      WorldStep w (group.Run n.me.node steps) (with_seat w n.me.node (group.seat_of n (after w.program (learned_input n.learner.learned) (m + made)) k console))
+  pub run : (w : WorldState) (n : Known) (steps m made k : ℕ) (console : List ℕ) →
+      Sits w n (after_steps w.program (learned_input n.learner.learned) m) k console → made ≤ steps →
+      LeadsIn w.program (learned_input n.learner.learned) (m + made) (after_steps w.program (learned_input n.learner.learned) (m + made)) →
+      WorldStep w (group.Run n.me.node steps)
+      (with_seat w n.me.node
+      (group.seat_of n (after_steps w.program (learned_input n.learner.learned) (m + made)) k console))
   pub few : (x : List ℕ) (steps : ℕ) (old new : Progress) (answer : Ran) → RunsOn x steps old new answer → new.steps ≤ old.steps + steps
   pub same_configuration : (old new : FinMap nat_cmp Value) (q : Progress) → HasLearnedMore old new → IsReplay (learned_input old) q →
-      after q.program (learned_input new) q.steps ≡ after q.program (learned_input old) q.steps
+      after_steps q.program (learned_input new) q.steps ≡ after_steps q.program (learned_input old) q.steps
 
 module _ (w : World) (h : IsSound w) (i : ℕ) (m : Member) (q : Running) (is_up : IsUp w i m q) where
   -- the configuration of its machine
   abbrev pub configuration : Configuration
-  configuration = after q.progress.program (input q.rules) q.progress.steps
+  configuration = after_steps q.progress.program (input q.known) q.progress.steps
 
   -- the node sits in its group
-  pub sits : Sits (state_of w) q.rules configuration q.progress.released m.console
+  pub sits : Sits (world_state w) q.known configuration q.progress.released m.console
   sits =
       let sound = running w h i m q is_up in
-      let here : (state_of w).seats i ≡ seat_of (Some m) = ap seat_of is_up.there in
-      let seen : seat_of (Some m) ≡ group.seat_of q.rules configuration q.progress.released m.console =
+      let here : (world_state w).seats i ≡ seat_of_member (Some m) = ap seat_of_member is_up.there in
+      let seen : seat_of_member (Some m) ≡ group.seat_of q.known configuration q.progress.released m.console =
       λ t. record { kept = sym sound.kept_is t; console = m.console; up = option_map up_of (is_up.up t) } in
       record {
         size = ap (λ (me : Me). me.group.size) (sym sound.me_is);
-        seat = ap (λ (me : Me). (state_of w).seats me.node) sound.me_is ∙ here ∙ seen;
+        seat = ap (λ (me : Me). (world_state w).seats me.node) sound.me_is ∙ here ∙ seen;
       }
 
   -- a call that was made
-  module _ (laws : StepLaws) (read : ReadLaw) (made : Made) (keys : List Value) (may : MayMake w i m made q.progress keys) where
-    pub made_state : HasLearnedMore q.rules.learner.learned made.node.learner.learned
-        → state_of (called w i made m.console q.progress keys) ≡ after_call (state_of w) i made (flat_map keys_of keys) configuration q.progress.released m.console
+  module _ (laws : StepLaws) (read : ReadLaw) (made : Response) (keys : List Value) (may : MayMake w i m made q.progress keys) where
+    pub made_state : HasLearnedMore q.known.learner.learned made.node.learner.learned
+        → world_state (world_after_call w i made m.console q.progress keys)
+        ≡ after_call (world_state w) i made (flat_map keys_of keys) configuration q.progress.released m.console
     made_state more =
-        let same : after q.progress.program (input made.node) q.progress.steps ≡ configuration =
-        laws.same_configuration q.rules.learner.learned made.node.learner.learned q.progress more (running w h i m q is_up).replay in
+        let same : after_steps q.progress.program (input made.node) q.progress.steps ≡ configuration =
+        laws.same_configuration q.known.learner.learned made.node.learner.learned q.progress more (running w h i m q is_up).replay in
         called_state read w i m made q.progress keys is_up.there h.session (is_node w i m h is_up.there) may.fits
-        ∙ ap (λ (c : Configuration). after_call (state_of w) i made (flat_map keys_of keys) c q.progress.released m.console) same
+        ∙ ap (λ (c : Configuration). after_call (world_state w) i made (flat_map keys_of keys) c q.progress.released m.console) same
 
   -- the same step, at the node's own number
-  pub at_number : (P : ℕ → Type 0) → P q.rules.me.node → P i
+  pub at_number : (P : ℕ → Type 0) → P q.known.me.node → P i
   at_number P = subst (λ (me : Me). P me.node) (running w h i m q is_up).me_is
 
   -- what a failed save leaves
-  pub fallen_state : (left : Record) → state_of (fallen w i m left) ≡ with_seat (state_of w) i (record { kept = left; console = m.console; up = None })
+  pub fallen_state : (left : Record)
+      → world_state (world_after_fall w i m left)
+      ≡ with_seat (world_state w) i (record { kept = left; console = m.console; up = None })
   fallen_state left = member_state w i m (record { kept = left; console = m.console; node = None }) is_up.there
 
   -- it is the old record or the new one
-  pub one_of : (made : Made) (is_kept : Bool) → IsOneOf (if is_kept then made.node.kept else m.kept) q.rules.kept made.node.kept
+  pub one_of : (made : Response) (is_kept : Bool) → IsOneOf (if is_kept then made.node.kept else m.kept) q.known.kept made.node.kept
   one_of made true = inr refl
   one_of made false = inl (sym (running w h i m q is_up).kept_is)
 
 -- what an event of this number makes of the group, if a call is made, and if its save fails
-abbrev pub StepsCall : World → Act → ℕ → Member → Progress → Call → Type 0
+abbrev pub StepsCall : World → Act → ℕ → Member → Progress → CallOutcome → Type 0
 StepsCall w act i m progress (Refuses f) = Unit {0}
 StepsCall w act i m progress (Makes made keys) =
-    WorldStep (state_of w) (event_of act) (state_of (called w i made m.console progress keys))
-    × ((is_kept : Bool) → made.saves ≢ None → WorldStep (state_of w) (event_of act) (state_of (fallen w i m (if is_kept then made.node.kept else m.kept))))
+    WorldStep (world_state w) (event_of act) (world_state (world_after_call w i made m.console progress keys))
+    × ((is_kept : Bool) → made.saves ≢ None
+    → WorldStep (world_state w) (event_of act)
+    (world_state (world_after_fall w i m (if is_kept then made.node.kept else m.kept))))
 
 module _ (w v : World) (act : Act) (i : ℕ) (m : Member) (progress : Progress) (plan : Option Bool) (d : Done) where
-  saves_step : (made : Made) (keys : List Value) (o : Option Bool) → failing made.saves plan ≡ o → StepsCall w act i m progress (Makes made keys)
-      → LeavesSaving w i m progress made keys o d v → IsStep (state_of w) act d (state_of v)
+  saves_step : (made : Response) (keys : List Value) (o : Option Bool) → failing made.saves plan ≡ o
+      → StepsCall w act i m progress (Makes made keys)
+      → LeavesSaving w i m progress made keys o d v → IsStep (world_state w) act d (world_state v)
   saves_step made keys None e steps (answer, leaves) =
-      subst (λ (x : Done). IsStep (state_of w) act x (state_of v)) (sym answer) (subst (λ (x : World). WorldStep (state_of w) (event_of act) (state_of x)) (sym leaves) steps.0)
+      subst (λ (x : Done). IsStep (world_state w) act x (world_state v)) (sym answer)
+      (subst (λ (x : World). WorldStep (world_state w) (event_of act) (world_state x)) (sym leaves) steps.0)
   saves_step made keys (Some is_kept) e steps (answer, leaves) =
       let (c, some) = fails_some made.saves plan is_kept e in
       let saves : made.saves ≢ None = λ none. some_is_not_none c (sym some ∙ none) in
-      subst (λ (x : Done). IsStep (state_of w) act x (state_of v)) (sym answer) (subst (λ (x : World). WorldStep (state_of w) (event_of act) (state_of x)) (sym leaves) (steps.1 is_kept saves))
+      subst (λ (x : Done). IsStep (world_state w) act x (world_state v)) (sym answer)
+      (subst (λ (x : World). WorldStep (world_state w) (event_of act) (world_state x)) (sym leaves)
+      (steps.1 is_kept saves))
     where
       some_is_not_none : (c : Change) → Some c ≡ None → ⊥
       some_is_not_none c e = absurd cc
 
-  pub leaves_step : (call : Call) → StepsCall w act i m progress call → Leaves w i m progress plan call d v → IsStep (state_of w) act d (state_of v)
-  leaves_step (Refuses f) steps (answer, same) = subst (λ (x : Done). IsStep (state_of w) act x (state_of v)) (sym answer) (ap state_of same)
+  pub leaves_step : (call : CallOutcome) → StepsCall w act i m progress call → Leaves w i m progress plan call d v
+      → IsStep (world_state w) act d (world_state v)
+  leaves_step (Refuses f) steps (answer, same) =
+      subst (λ (x : Done). IsStep (world_state w) act x (world_state v)) (sym answer) (ap world_state same)
   leaves_step (Makes made keys) steps leaves = saves_step made keys (failing made.saves plan) refl steps leaves
 
   -- an event that is always applied
-  pub applied_step : (new : World) → d ≡ Applied → v ≡ new → WorldStep (state_of w) (event_of act) (state_of new) → IsStep (state_of w) act d (state_of v)
+  pub applied_step : (new : World) → d ≡ Applied → v ≡ new → WorldStep (world_state w) (event_of act) (world_state new)
+      → IsStep (world_state w) act d (world_state v)
   applied_step new answer leaves step =
-      subst (λ (x : Done). IsStep (state_of w) act x (state_of v)) (sym answer) (subst (λ (x : World). WorldStep (state_of w) (event_of act) (state_of x)) (sym leaves) step)
+      subst (λ (x : Done). IsStep (world_state w) act x (world_state v)) (sym answer)
+      (subst (λ (x : World). WorldStep (world_state w) (event_of act) (world_state x)) (sym leaves) step)

@@ -2,7 +2,7 @@
 use Rattle.std.proofs.Common.{◌≡◌, ◌∙◌, ℕ, Bool, true, false, List, [], ◌∷◌, ◌++◌, drop, take, length, slice_get, Option, None, Some, refl, sym, ap, subst, arith}
 use Rattle.std.proofs.lemmas.List.{map-append}
 use Rattle.pcode_ops.specs.Decoding.{instr_of}
-use Rattle.pcode_machine.specs.Runs.{after, out}
+use Rattle.pcode_machine.specs.Runs.{after_steps, out}
 use Rattle.paxos_msg.specs.declared.message.Body.TheVariants.{Accept, Accepted, Ask, Prepare, Promise, Submit}
 use Rattle.paxos_msg.specs.declared.record.Change.TheVariants as change
 use Rattle.paxos_msg.specs.declared.value.Value.{Value}
@@ -15,19 +15,19 @@ use Rattle.paxos_msg.specs.Records.{empty_record}
 use Rattle.paxos_learner.proofs.OnePlace.{get_here}
 use Rattle.std.specs.FinMap.{empty}
 use Rattle.group_node.specs.declared.player.Ran.TheVariants as more
-use Rattle.group_node.specs.Delivered.{on_message}
-use Rattle.group_node.specs.Leading.{at_tick}
-use Rattle.group_node.specs.Node.{Done as Made, Node}
+use Rattle.group_node.specs.Protocol.{on_message}
+use Rattle.group_node.specs.Known.{Response, Known}
+use Rattle.group_node.specs.Tick.{on_tick}
 use Rattle.group_node.specs.Output.{IsReplay, Progress, RunsOn, no_progress, unreleased_of}
 use Rattle.group_node.specs.Packets.{Datagram, Packet, datagram_of, datagrams_of, to_all, to_one}
 use Rattle.group_node.specs.States.{input}
-use Rattle.group_node.specs.Steps.{handed}
+use Rattle.group_node.specs.Steps.{messages_handed_out}
 use Rattle.group_world.specs.declared.event.Act.TheVariants as act
 use Rattle.group_world.specs.declared.event.Done.TheVariants.{Applied, Fell}
-use Rattle.group_world.specs.Goes.{Acts, Call, Happens, IsUp, Leaves, LeavesSaving, Makes, campaign, failing, press, released, with_member}
+use Rattle.group_world.specs.Goes.{Performs, CallOutcome, LeadsBy, IsUp, Leaves, LeavesSaving, Makes, campaign, failing, press, released, with_member}
 use Rattle.group_world.specs.Headline.{HasLearned}
 use Rattle.group_world.specs.Witness.{echoes, letter, letter_batch, one, shown_events}
-use Rattle.group_world.specs.Worlds.{Member, Running, World, begun, messages_in, state_of, up_of}
+use Rattle.group_world.specs.Worlds.{Member, Running, World, new_world, messages_in, world_state, up_of}
 use Rattle.group_world.proofs.Example.{StepsLaw, all_go, is_step, leads_by, prefix_short}
 use Rattle.group_world.proofs.OrderExample.{EachOf, ballot, message}
 use Rattle.group_world.proofs.OrderReadable.{ExampleLaws, IsReadable, all_read, are_bytes, ballot_fits, me, node_fits}
@@ -38,10 +38,10 @@ use Rattle.group_world.proofs.WitnessCalls.{asking, campaigns, hears_accept, hea
 abbrev start : Progress
 start = no_progress echoes
 
-abbrev running : Node → Progress → Running
-running n progress = record { rules = n; progress = progress }
+abbrev running : Known → Progress → Running
+running n progress = record { known = n; progress = progress }
 
-abbrev member : Node → Progress → List ℕ → Member
+abbrev member : Known → Progress → List ℕ → Member
 member n progress console =
     record { kept = n.kept; console = console; node = Some (running n progress) }
 
@@ -65,24 +65,24 @@ not_failing : (saves : Option Change) → failing saves None ≡ None
 not_failing None = refl
 not_failing (Some c) = refl
 
-module _ (n : Node) (made : Made) (packets : List Packet) (typed keys : List Value) where
+module _ (n : Known) (made : Response) (packets : List Packet) (typed keys : List Value) where
   abbrev before : World
   before = world (member n start []) packets typed
 
   abbrev next : World
   next = world (member made.node start []) (packets ++ made.sends) (typed ++ keys)
 
-  leaves : (call : Call) → call ≡ Makes made keys
+  leaves : (call : CallOutcome) → call ≡ Makes made keys
       → Leaves before 1 (member n start []) start None call Applied next
   leaves call e =
       let sent = map-append (datagram_of me) packets made.sends in
-      subst (λ (c : Call). Leaves before 1 (member n start []) start None c Applied next) (sym e)
+      subst (λ (c : CallOutcome). Leaves before 1 (member n start []) start None c Applied next) (sym e)
       (subst (λ (o : Option Bool).
       LeavesSaving before 1 (member n start []) start made keys o Applied next)
       (sym (not_failing made.saves))
       (refl, ap (λ (all : List Datagram). record next { sent = all }) sent))
 
-up_here : (n : Node) (progress : Progress) (packets : List Packet) (typed : List Value)
+up_here : (n : Known) (progress : Progress) (packets : List Packet) (typed : List Value)
     → IsUp (world (member n progress []) packets typed) 1 (member n progress [])
     (running n progress)
 up_here n progress packets typed = record { there = refl; up = refl }
@@ -148,7 +148,7 @@ accepted_read = record
 
 module _ (laws : ExampleLaws) where
   read_at : (ps : List Packet) (k : ℕ) (m : Msg) → EachOf IsReadable ps
-      → slice_get (handed 1 ps) k ≡ Some m
+      → slice_get (messages_handed_out 1 ps) k ≡ Some m
       → slice_get (messages_in one (datagrams_of me ps)) k ≡ Some m
   read_at ps k m each e = ap (λ (sent : List Msg). slice_get sent k) (all_read laws ps each) ∙ e
 
@@ -158,11 +158,11 @@ abbrev line : List ℕ
 line = 65 ∷ []
 
 ten_steps : all_go echoes line 10 ≡ true
-unfolding all_go is_step after instr_of
+unfolding all_go is_step after_steps instr_of
 ten_steps = refl
 
 one_byte : out echoes line 10 ≡ 65 ∷ []
-unfolding out after instr_of
+unfolding out after_steps instr_of
 one_byte = refl
 
 abbrev ten : Progress
@@ -201,7 +201,7 @@ next_byte = ap (λ (x : List ℕ). slice_get (unreleased_of x ten) 0) input_is
 abbrev once : Record
 once = record { starts = 1; promised = None; votes = [] }
 
-abbrev first_up : Node
+abbrev first_up : Known
 first_up = record up { kept = once }
 
 abbrev all : List Packet
@@ -221,10 +221,10 @@ abbrev part : ℕ → List Packet
 part k = take k all
 
 module _ (laws : ExampleLaws) (steps : StepsLaw) where
-  delivers : (n : Node) (made : Made) (ps : List Packet) (typed : List Value) (k : ℕ)
+  delivers : (n : Known) (made : Response) (ps : List Packet) (typed : List Value) (k : ℕ)
       (body : Body) → EachOf IsReadable ps
-      → slice_get (handed 1 ps) k ≡ Some (message body) → on_message n 1 body ≡ made
-      → Acts (world (member n start []) ps typed) None (act.Deliver k 1) Applied
+      → slice_get (messages_handed_out 1 ps) k ≡ Some (message body) → on_message n 1 body ≡ made
+      → Performs (world (member n start []) ps typed) None (act.Deliver k 1) Applied
       (next n made ps typed [])
   delivers n made ps typed k body each at e = (
     member n start [],
@@ -232,7 +232,7 @@ module _ (laws : ExampleLaws) (steps : StepsLaw) where
     message body,
     up_here n start ps typed,
     read_at laws ps k (message body) each at,
-    leaves n made ps typed [] (Makes (on_message n 1 body) []) (ap (λ (x : Made). Makes x []) e),
+    leaves n made ps typed [] (Makes (on_message n 1 body) []) (ap (λ (x : Response). Makes x []) e),
   )
 
   two_read : EachOf IsReadable (part 2)
@@ -250,11 +250,11 @@ module _ (laws : ExampleLaws) (steps : StepsLaw) where
     (promise_read, (submit_read, (ask_read, (accept_read, (accepted_read, tt))))),
   )
 
-  abbrev at : Node → ℕ → List Value → World
+  abbrev at : Known → ℕ → List Value → World
   at n k typed = world (member n start []) (part k) typed
 
   -- the byte is released
-  e14 : Acts (world (member knowing ten []) all keys) None (act.Release 1) Applied last
+  e14 : Performs (world (member knowing ten []) all keys) None (act.Release 1) Applied last
   e14 = (
     member knowing ten [],
     running knowing ten,
@@ -266,7 +266,7 @@ module _ (laws : ExampleLaws) (steps : StepsLaw) where
   )
 
   -- the machine runs
-  e13 : Acts (at knowing 6 keys) None (act.Run 1 10) Applied
+  e13 : Performs (at knowing 6 keys) None (act.Run 1 10) Applied
       (world (member knowing ten []) all keys)
   e13 = (
     member knowing start [],
@@ -281,11 +281,11 @@ module _ (laws : ExampleLaws) (steps : StepsLaw) where
   )
 
   -- the key is learned, voted for, proposed and submitted
-  e12 : Acts (at voting 6 keys) None (act.Deliver 5 1) Applied (at knowing 6 keys)
+  e12 : Performs (at voting 6 keys) None (act.Deliver 5 1) Applied (at knowing 6 keys)
   e12 = delivers voting (record { node = knowing; saves = None; sends = [] }) (part 6) keys 5
       (Accepted ballot 0 letter_batch) all_six_read refl hears_accepted
 
-  e11 : Acts (at offering 5 keys) None (act.Deliver 4 1) Applied (at voting 6 keys)
+  e11 : Performs (at offering 5 keys) None (act.Deliver 4 1) Applied (at voting 6 keys)
   e11 = delivers offering
       (record {
         node = voting;
@@ -294,21 +294,21 @@ module _ (laws : ExampleLaws) (steps : StepsLaw) where
             accepted ∷ [];
       }) (part 5) keys 4 (Accept ballot 0 letter_batch) five_read refl hears_accept
 
-  e10 : Acts (at holding 4 keys) None (act.Deliver 2 1) Applied (at offering 5 keys)
+  e10 : Performs (at holding 4 keys) None (act.Deliver 2 1) Applied (at offering 5 keys)
   e10 = delivers holding (record { node = offering; saves = None; sends = accept ∷ [] }) (part 4)
       keys 2 (Submit letter_batch) four_read refl hears_submit
 
-  e9 : Acts (at holding 2 keys) None (act.Tick 1) Applied (at holding 4 keys)
+  e9 : Performs (at holding 2 keys) None (act.Tick 1) Applied (at holding 4 keys)
   e9 = (
     member holding start [],
     running holding start,
     up_here holding start (part 2) keys,
     leaves holding (record { node = holding; saves = None; sends = submit ∷ ask ∷ [] }) (part 2)
-        keys [] (Makes (at_tick holding) []) (ap (λ (x : Made). Makes x []) ticks),
+        keys [] (Makes (on_tick holding) []) (ap (λ (x : Response). Makes x []) ticks),
   )
 
   -- it is typed
-  e8 : Acts (at leading 2 []) None (act.Press 1 65) Applied (at holding 2 keys)
+  e8 : Performs (at leading 2 []) None (act.Press 1 65) Applied (at holding 2 keys)
   e8 = (
     member leading start [],
     running leading start,
@@ -319,15 +319,15 @@ module _ (laws : ExampleLaws) (steps : StepsLaw) where
   )
 
   -- the node leads
-  e7 : Acts (at asking 2 []) None (act.Deliver 1 1) Applied (at leading 2 [])
+  e7 : Performs (at asking 2 []) None (act.Deliver 1 1) Applied (at leading 2 [])
   e7 = delivers asking (record { node = leading; saves = None; sends = [] }) (part 2) [] 1
       (Promise ballot 0 65536 []) two_read refl hears_promise
 
-  e6 : Acts (at asking 1 []) None (act.Deliver 0 1) Applied (at asking 2 [])
+  e6 : Performs (at asking 1 []) None (act.Deliver 0 1) Applied (at asking 2 [])
   e6 = delivers asking (record { node = asking; saves = None; sends = promise ∷ [] }) (part 1) []
       0 (Prepare ballot 0) (prepare_read, tt) refl hears_prepare
 
-  e5 : Acts (at up 0 []) None (act.Campaign 1) Applied (at asking 1 [])
+  e5 : Performs (at up 0 []) None (act.Campaign 1) Applied (at asking 1 [])
   e5 = (
     member up start [],
     running up start,
@@ -341,19 +341,19 @@ module _ (laws : ExampleLaws) (steps : StepsLaw) where
   )
 
   -- it starts, with a failed save and a crash before
-  e4 : Acts (world (stopped once) [] []) None (act.Start 1) Applied (at up 0 [])
+  e4 : Performs (world (stopped once) [] []) None (act.Start 1) Applied (at up 0 [])
   e4 = (stopped once, record { there = refl; down = refl }, (refl, refl))
 
-  e3 : Acts (at first_up 0 []) None (act.Crash 1) Applied (world (stopped once) [] [])
+  e3 : Performs (at first_up 0 []) None (act.Crash 1) Applied (world (stopped once) [] [])
   e3 = (member first_up start [], running first_up start, up_here first_up start [] [], refl, refl)
 
-  e2 : Acts (begun echoes one) None (act.Start 1) Applied (at first_up 0 [])
+  e2 : Performs (new_world echoes one) None (act.Start 1) Applied (at first_up 0 [])
   e2 = (stopped empty_record, record { there = refl; down = refl }, (refl, refl))
 
-  e1 : Acts (begun echoes one) (Some false) (act.Start 1) Fell (begun echoes one)
+  e1 : Performs (new_world echoes one) (Some false) (act.Start 1) Fell (new_world echoes one)
   e1 = (stopped empty_record, record { there = refl; down = refl }, (refl, refl))
 
-  pub happens : Happens (begun echoes one) shown_events last
+  pub happens : LeadsBy (new_world echoes one) shown_events last
   happens = (
     _,
     _,
@@ -396,10 +396,10 @@ module _ (laws : ExampleLaws) (steps : StepsLaw) where
     ),
   )
 
-pub is_learned : HasLearned (state_of last) 1 0 letter_batch
+pub is_learned : HasLearned (world_state last) 1 0 letter_batch
 is_learned = record {
   node =
-      up_of (record { rules = knowing; progress = record ten { released = 1 } });
+      up_of (record { known = knowing; progress = record ten { released = 1 } });
   up =
       refl;
   learned = get_here empty 0 letter_batch;

@@ -8,14 +8,14 @@ use Rattle.paxos_msg.specs.declared.record.Change.TheVariants as change
 use Rattle.paxos_msg.specs.declared.value.Value.{Value}
 use Rattle.paxos_msg.specs.Batches.{Record}
 use Rattle.paxos_msg.specs.Keys.{Key}
-use Rattle.paxos_proposer.specs.Proposer.{Proposer, begun, proposing}
-use Rattle.paxos_learner.specs.Entered.{entered}
+use Rattle.paxos_proposer.specs.Proposer.{Proposer, new_proposer, proposing}
+use Rattle.paxos_learner.specs.Entered.{keys_with}
 use Rattle.paxos_learner.specs.Input.{learned_input}
 use Rattle.paxos_learner.specs.Tallies.{Tally}
 use Rattle.paxos_learner.proofs.OnePlace.{get_here}
-use Rattle.group_node.specs.Delivered.{on_message}
-use Rattle.group_node.specs.Leading.{at_tick}
-use Rattle.group_node.specs.Node.{Node}
+use Rattle.group_node.specs.Protocol.{on_message}
+use Rattle.group_node.specs.Known.{Known}
+use Rattle.group_node.specs.Tick.{on_tick}
 use Rattle.group_node.specs.Packets.{to_all, to_one}
 use Rattle.group_node.specs.Pump.{pump}
 use Rattle.group_world.specs.Goes.{Makes, campaign, press}
@@ -47,7 +47,7 @@ entries_one = entries-insert nat_cmp_total nothing 0 letter_batch ∙ rw entries
 -- ---- the node
 
 abbrev pub node : Record → FinMap nat_cmp Value → FinMap nat_cmp Tally → Option Proposer
-    → List Key → List ℕ → ℕ → Node
+    → List Key → List ℕ → ℕ → Known
 node kept learned tallies proposer offered waiting first = record {
   me = me;
   kept = kept;
@@ -74,32 +74,32 @@ voted = record {
 }
 
 abbrev leads : Proposer
-leads = record (begun ballot 0 1) { coverages = slice_set (replicate 10 0) 1 65536 }
+leads = record (new_proposer ballot 0 1) { coverages = slice_set (replicate 10 0) 1 65536 }
 
 abbrev proposes : Proposer
 proposes = proposing leads (Some letter_batch)
 
 -- it is up; it has campaigned; it leads; a key waits; it has proposed, voted for and learned it
-abbrev pub up : Node
+abbrev pub up : Known
 up = node twice nothing no_tallies None [] [] 1
 
-abbrev pub asking : Node
-asking = node promising nothing no_tallies (Some (begun ballot 0 1)) [] [] 1
+abbrev pub asking : Known
+asking = node promising nothing no_tallies (Some (new_proposer ballot 0 1)) [] [] 1
 
-abbrev pub leading : Node
+abbrev pub leading : Known
 leading = node promising nothing no_tallies (Some leads) [] [] 1
 
-abbrev pub holding : Node
+abbrev pub holding : Known
 holding = node promising nothing no_tallies (Some leads) [] (65 ∷ []) 1
 
-abbrev pub offering : Node
-offering = node promising nothing no_tallies (Some proposes) (entered [] letter_batch) (65 ∷ []) 1
+abbrev pub offering : Known
+offering = node promising nothing no_tallies (Some proposes) (keys_with [] letter_batch) (65 ∷ []) 1
 
-abbrev pub voting : Node
-voting = node voted nothing no_tallies (Some proposes) (entered [] letter_batch) (65 ∷ []) 1
+abbrev pub voting : Known
+voting = node voted nothing no_tallies (Some proposes) (keys_with [] letter_batch) (65 ∷ []) 1
 
-abbrev pub knowing : Node
-knowing = node voted one_value (remove no_tallies 0) (Some proposes) (entered [] letter_batch) [] 2
+abbrev pub knowing : Known
+knowing = node voted one_value (remove no_tallies 0) (Some proposes) (keys_with [] letter_batch) [] 2
 
 -- ---- its calls
 
@@ -125,7 +125,7 @@ pub presses : press leading 65 ≡ Makes (record { node = holding; saves = None;
     (letter_batch ∷ [])
 presses = refl
 
-pub ticks : at_tick holding ≡ record
+pub ticks : on_tick holding ≡ record
     { node = holding; saves = None; sends = to_all (Submit letter_batch) ∷ to_all (Ask 0) ∷ [] }
 unfolding pump
 ticks = rw entries_none refl

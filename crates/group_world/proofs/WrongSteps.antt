@@ -15,7 +15,7 @@ use Rattle.paxos_learner.specs.Backed.{MayLearn}
 use Rattle.paxos_learner.proofs.OnePlace.{get_here}
 use Rattle.group_node.specs.World.{CallOrFall, MakesCall, MayCause, Seat, Up, WorldState, WorldStep}
 use Rattle.group_node.specs.World as group
-use Rattle.group_world.specs.WrongWorlds.{accepted, first_node, knows, prepares, promised, runs_with, stopped_with}
+use Rattle.group_world.specs.WrongWorlds.{accepted_message, first_node, knows, prepares, promised, runs_with, stopped_with}
 use Rattle.group_world.proofs.OrderLists.{none_in}
 use Rattle.group_world.proofs.WrongWorlds.{few}
 
@@ -25,18 +25,18 @@ abbrev ballot : ℕ → Ballot
 ballot round = record { round = round; node = 1 }
 
 no_vote : (learned : ℕ → Option Value) (bodies : List Body)
-    → accepted 1 1 0 Noop ∷ [] ≡ messages_of 1 bodies
+    → accepted_message 1 1 0 Noop ∷ [] ≡ messages_of 1 bodies
     → MaySendAll 5 [] learned [] 1 empty_record bodies → ⊥
 no_vote learned [] e may = (cc)
 no_vote learned (body ∷ more) e may =
-    let first : accepted 1 1 0 Noop ≡ record { sender = 1; body = body } = cc in
+    let first : accepted_message 1 1 0 Noop ≡ record { sender = 1; body = body } = cc in
     let same : body ≡ Accepted (ballot 1) 0 Noop = sym (ap (λ (m : Msg). m.body) first) in
     let voted = subst (MaySend 5 [] learned [] 1 empty_record) same may.0 in
     let none = voted.1 in
     (cc)
 
 pub unproposed : ¬ WorldStep (first_node (runs_with empty_record empty) []) (group.Tick 1)
-    (first_node (runs_with empty_record empty) (accepted 1 1 0 Noop ∷ []))
+    (first_node (runs_with empty_record empty) (accepted_message 1 1 0 Noop ∷ []))
 unproposed h = no_vote (get h.now.learned) h.bodies h.rest.sent h.sends
 
 -- nothing is chosen where nothing was sent

@@ -3,7 +3,7 @@ use Rattle.std.proofs.Common.{◌≡◌, ◌≢◌, ◌∙◌, ℕ, zero, suc, �
 use Rattle.pcode_machine.specs.Prefixes.{AreComparable}
 use Rattle.pcode_machine.specs.Configuration.{Configuration}
 use Rattle.pcode_machine.specs.Outcome.{outcome}
-use Rattle.pcode_machine.specs.Runs.{after, begin, led, out}
+use Rattle.pcode_machine.specs.Runs.{after_steps, begin, led, out}
 use Rattle.paxos_msg.specs.declared.ballot.Ballot.{Ballot}
 use Rattle.paxos_msg.specs.declared.message.Body.TheVariants.{Accepted}
 use Rattle.paxos_msg.specs.declared.value.Value.{Value}
@@ -16,7 +16,7 @@ use Rattle.group_node.specs.Inputs.{AreChosen, IsInput}
 use Rattle.group_node.specs.World.{WorldState}
 use Rattle.group_world.specs.Headline.{ConsolesAgree, ConsolesGrow, ConsolesHoldOutput, HasLearned, HasNoGap, LearnedAgree, LearnedChosen, LearnedStays}
 use Rattle.group_world.specs.Order.{KeysOnce, SerialsInOrder}
-use Rattle.group_world.specs.WrongWorlds.{accepted, chosen, chosen_two, early_byte, key, knows, not_chosen, not_typed, other_byte, silent, two_consoles, two_values, writes, wrong_console}
+use Rattle.group_world.specs.WrongWorlds.{accepted_message, chosen, chosen_two, early_byte, key, knows, not_chosen, not_typed, other_byte, silent, two_consoles, two_values, writes, wrong_console}
 use Rattle.group_world.proofs.OrderExample.{each_of}
 use Rattle.group_world.proofs.OrderLists.{none_in}
 use Rattle.group_world.proofs.OrderWrong.{early, gap, twice}
@@ -38,8 +38,8 @@ abbrev ballot_1 : Ballot
 ballot_1 = record { round = 1; node = 1 }
 
 -- what the three have accepted is chosen
-by_three : (sent : Sent) (s : ℕ) (v : Value) → Contains sent (accepted 3 1 s v)
-    → Contains sent (accepted 4 1 s v) → Contains sent (accepted 5 1 s v) → IsChosen 5 sent s v
+by_three : (sent : Sent) (s : ℕ) (v : Value) → Contains sent (accepted_message 3 1 s v)
+    → Contains sent (accepted_message 4 1 s v) → Contains sent (accepted_message 5 1 s v) → IsChosen 5 sent s v
 by_three sent s v third fourth fifth = (ballot_1, (three, lit< tt, each))
   where
     each : (i : ℕ) → IsTrue (three i) → IsSent sent i (Accepted ballot_1 s v)
@@ -162,8 +162,8 @@ no_majority h =
 -- ---- consoles
 
 -- the program without code never writes
-stays : (x : List ℕ) (n : ℕ) → after silent x n ≡ begin silent
-unfolding after
+stays : (x : List ℕ) (n : ℕ) → after_steps silent x n ≡ begin silent
+unfolding after_steps
 stays x zero = refl
 stays x (suc n) = ap (λ (c : Configuration). led c (outcome silent x c)) (stays x n)
 

@@ -1,4 +1,5 @@
--- The order of the keys that a group has chosen: each typed key once, and those of one start of one node in the order in which they were typed.
+-- The order of the keys that a group has chosen: each typed key once, and those of one start of one
+-- node in the order in which they were typed.
 use Rattle.std.specs.Prelude.{◌≡◌, ℕ, ◌==◌, ◌&&◌, Bool, List, map, filter}
 use Rattle.std.specs.List.{AllPairs, range_with_len}
 use Rattle.paxos_msg.specs.declared.value.Value.{Value}
@@ -29,10 +30,13 @@ serials_of node start keys = map (λ key. key.serial) (filter (is_of node start)
 abbrev pub AreInOrder : List Key → Type 0
 AreInOrder keys = (node start : ℕ) → (k : ℕ) × (serials_of node start keys ≡ range_with_len 1 k)
 
--- Of the values that are chosen at the places 0, 1, 2 and so on, as far as one likes, each key is read once.
+-- Of the values that are chosen at the places 0, 1, 2 and so on, as far as one likes, each key is
+-- read once.
 abbrev pub KeysOnce : WorldState → Type 0
-KeysOnce w = (values : List Value) → AreChosen w.size w.sent values → AreApart (keys_in_order values)
+KeysOnce w =
+    (values : List Value) → AreChosen w.size w.sent values → AreApart (keys_in_order values)
 
 -- And they are read in the order of their serials, with none left out.
 abbrev pub SerialsInOrder : WorldState → Type 0
-SerialsInOrder w = (values : List Value) → AreChosen w.size w.sent values → AreInOrder (keys_in_order values)
+SerialsInOrder w =
+    (values : List Value) → AreChosen w.size w.sent values → AreInOrder (keys_in_order values)

@@ -12,7 +12,7 @@ use Rattle.group_world.specs.declared.fault.RunFault.{RunFault}
 use Rattle.group_world.specs.declared.fault.WorldFault.{WorldFault}
 use Rattle.group_world.specs.declared.fault.WorldFault.TheVariants.{Memory, NoNode, NoMessage, NodeDown, NodeUp, Size}
 use Rattle.group_world.specs.Events.{node_of}
-use Rattle.group_world.specs.Goes.{Happens}
+use Rattle.group_world.specs.Goes.{LeadsBy}
 use Rattle.group_world.specs.Worlds.{Member, World, member_at}
 
 -- of a node that has to be up
@@ -43,15 +43,16 @@ abbrev pub IsRefused : World → Act → WorldFault → Type 0
 IsRefused w act f = (refusal w act ≡ Some f) ⊎ ((refusal w act ≡ None) × (f ≡ Memory))
 
 -- The event of that number is the first of them that is refused, and so.
-pub record IsFirstRefused (w : World) (events : List Event) (number : ℕ) (f : WorldFault) : Type 0 where
+pub record IsFirstRefused (w : World) (events : List Event) (number : ℕ)
+    (f : WorldFault) : Type 0 where
   pub before : World
-  pub happens : Happens w (take number events) before
+  pub happens : LeadsBy w (take number events) before
   pub event : Event
   pub there : slice_get events number ≡ Some event
   pub refused : IsRefused before event.act f
 
--- A list of events ends early: no group has this size; or one has, and there was no memory for it, or
--- an event was refused.
+-- A list of events ends early: no group has this size; or one has, and there was no memory for it,
+-- or an event was refused.
 abbrev pub IsRunRefused : World → List Event → RunFault → Type 0
 IsRunRefused w events e =
     ((e.event ≡ 0) × (e.fault ≡ Size) × (¬ IsSize w.group.size))
@@ -61,4 +62,5 @@ IsRunRefused w events e =
 -- what a node's answer is in its world
 abbrev pub IsDone : Result (Unit {0}) NodeFault → Done → Type 0
 IsDone (Ok x) d = d ≡ Applied
-IsDone (Err f) d = ((f ≡ fault.Store) × (d ≡ Fell)) ⊎ ((f ≢ fault.Store) × (f ≢ fault.Memory) × (d ≡ Refused f))
+IsDone (Err f) d =
+    ((f ≡ fault.Store) × (d ≡ Fell)) ⊎ ((f ≢ fault.Store) × (f ≢ fault.Memory) × (d ≡ Refused f))

@@ -19,11 +19,13 @@ first_word text = before_first (λ b. b == 32) text
 
 -- what stands behind that space, if there is one
 abbrev pub words_behind : List ℕ → Option (List ℕ)
-words_behind text = if nat_lt (position_or_len (λ b. b == 32) text) (length text) then Some (after_first (λ b. b == 32) text) else None
+words_behind text =
+    if nat_lt (position_or_len (λ b. b == 32) text) (length text)
+    then Some (after_first (λ b. b == 32) text) else None
 
 -- what stands behind this word and a space, if they stand first
-abbrev pub behind : List ℕ → List ℕ → Option (List ℕ)
-behind word text = if bytes_eq (first_word text) word then words_behind text else None
+abbrev pub text_past : List ℕ → List ℕ → Option (List ℕ)
+text_past word text = if bytes_eq (first_word text) word then words_behind text else None
 
 -- two values made one, where both are there
 abbrev pub both : {A B C : Type 0} → (A → B → C) → Option A → Option B → Option C
@@ -33,11 +35,12 @@ both f (Some a) (Some b) = Some (f a b)
 
 -- the size and the session of the first line, `size N session K`
 abbrev pub header_of : List ℕ → Option (ℕ × ℕ)
-header_of line = option_and_then size_and_session (behind (codes "size") line)
+header_of line = option_and_then size_and_session (text_past (codes "size") line)
   where
     size_and_session : List ℕ → Option (ℕ × ℕ)
     size_and_session words = both (λ n k. (n, k)) (decimal_of 8 (first_word words))
-        (option_and_then (decimal_of 32) (option_and_then (behind (codes "session")) (words_behind words)))
+        (option_and_then (decimal_of 32)
+        (option_and_then (text_past (codes "session")) (words_behind words)))
 
 -- an act of a word and a node's number
 abbrev pub act_of_one : List ℕ → List ℕ → Option Act
@@ -58,17 +61,23 @@ act_of_two word a b =
 -- how the save of an event goes, by what stands behind its act
 abbrev pub outcome_of : Option (List ℕ) → Option Outcome
 outcome_of None = Some Kept
-outcome_of (Some word) = if bytes_eq word (codes "failold") then Some FailedOld else (if bytes_eq word (codes "failnew") then Some FailedNew else None)
+outcome_of (Some word) =
+    if bytes_eq word (codes "failold") then Some FailedOld
+    else (if bytes_eq word (codes "failnew") then Some FailedNew else None)
 
 -- the event of a word, two more words, and what stands behind them
 abbrev pub event_of_two : List ℕ → List ℕ → Option (List ℕ) → Option Event
 event_of_two word a None = None
-event_of_two word a (Some rest) = both (λ act save. record { act = act; save = save }) (act_of_two word a (first_word rest)) (outcome_of (words_behind rest))
+event_of_two word a (Some rest) =
+    both (λ act save. record { act = act; save = save }) (act_of_two word a (first_word rest))
+    (outcome_of (words_behind rest))
 
 -- the event of a word, one more, and what stands behind them
 abbrev pub event_of_one : List ℕ → List ℕ → Option (List ℕ) → Option Event
 event_of_one word a rest =
-    if is_some (act_of_one word a) then both (λ act save. record { act = act; save = save }) (act_of_one word a) (outcome_of rest) else event_of_two word a rest
+    if is_some (act_of_one word a)
+    then both (λ act save. record { act = act; save = save }) (act_of_one word a) (outcome_of rest)
+    else event_of_two word a rest
 
 -- the event of a line
 abbrev pub event_of_words : List ℕ → Option (List ℕ) → Option Event
@@ -79,7 +88,8 @@ event_of_words word (Some words) = event_of_one word (first_word words) (words_b
 abbrev pub line_of : List ℕ → Option Line
 line_of line =
     if bytes_eq line (codes "settle") then Some Settle else (
-    if bytes_eq line (codes "show") then Some Show else option_map Happens (event_of_words (first_word line) (words_behind line)))
+    if bytes_eq line (codes "show") then Some Show
+    else option_map Happens (event_of_words (first_word line) (words_behind line)))
 
 -- a byte in front of the first line
 abbrev pub begins_with : ℕ → List (List ℕ) → List (List ℕ)
@@ -111,7 +121,8 @@ pub record ScriptText : Type 0 where
 -- the script behind its first line
 abbrev pub script_behind : Option (ℕ × ℕ) → Result (List Line) ℕ → Result ScriptText ℕ
 script_behind None lines = Err 1
-script_behind (Some group) (Ok lines) = Ok (record { size = group.0; session = group.1; lines = lines })
+script_behind (Some group) (Ok lines) =
+    Ok (record { size = group.0; session = group.1; lines = lines })
 script_behind (Some group) (Err bad) = Err bad
 
 -- the script that a text spells, or the number of the first line that is none of a script

@@ -21,7 +21,7 @@ use Rattle.group_node.specs.Packets.{Datagram}
 use Rattle.group_node.specs.Ranges.{IsInRange}
 use Rattle.group_node.specs.States.{input, IsSize}
 use Rattle.group_node.specs.Steps.{AllChosen, AllTyped}
-use Rattle.group_world.specs.Worlds.{Member, Running, World, member_at, message_of, me_of, state_of}
+use Rattle.group_world.specs.Worlds.{Member, Running, World, member_at, message_of, me_of, world_state}
 
 -- a datagram that spells a message
 pub record IsSpelling (group : Group) (datagram : Datagram) : Type 0 where
@@ -39,35 +39,40 @@ pub record IsShown (p : Parts) (size : ℕ) (sent : Sent) (console : List ℕ) :
   pub chosen : AreChosen size sent values
   pub output : IsOutput p (input_of values) console
 
--- A node that is up, in a group in which that was sent and typed, with this stored record and this console: it is in its ranges and
--- backed, and has its record; what it has learned is chosen; its machine runs the group's program on its learned input, and
--- its console has shown all that it released.
-pub record IsRunningSound (p : Parts) (me : Me) (sent : Sent) (typed : List Key) (kept : Record) (console : List ℕ) (q : Running) : Type 0 where
-  pub me_is : q.rules.me ≡ me
-  pub kept_is : q.rules.kept ≡ kept
-  pub ranges : IsInRange q.rules
-  pub backs : Backs sent typed q.rules
-  pub learned : IsLearnedChosen me.group.size sent q.rules.learner.learned
+-- A node that is up, in a group in which that was sent and typed, with this stored record and this
+-- console: it is in its ranges and backed, and has its record; what it has learned is chosen; its
+-- machine runs the group's program on its learned input, and its console has shown all that it
+-- released.
+pub record IsRunningSound (p : Parts) (me : Me) (sent : Sent) (typed : List Key) (kept : Record)
+    (console : List ℕ) (q : Running) : Type 0 where
+  pub me_is : q.known.me ≡ me
+  pub kept_is : q.known.kept ≡ kept
+  pub ranges : IsInRange q.known
+  pub backs : Backs sent typed q.known
+  pub learned : IsLearnedChosen me.group.size sent q.known.learner.learned
   pub program : q.progress.program ≡ p
-  pub replay : IsReplay (input q.rules) q.progress
+  pub replay : IsReplay (input q.known) q.progress
   pub shown : q.progress.released ≤ length console
 
--- a node, up or down: its stored record is in its ranges and backed, and its console has shown output
-pub record IsMemberSound (p : Parts) (me : Me) (sent : Sent) (typed : List Key) (m : Member) : Type 0 where
+-- a node, up or down: its stored record is in its ranges and backed, and its console has shown
+-- output
+pub record IsMemberSound (p : Parts) (me : Me) (sent : Sent) (typed : List Key)
+    (m : Member) : Type 0 where
   pub ranges : IsRecord me.group.size m.kept
   pub backed : IsRecordBacked sent me.node m.kept
   pub shown : IsShown p me.group.size sent m.console
   pub running : IfSome m.node (IsRunningSound p me sent typed m.kept m.console)
 
--- A world: it has a node for each number up to its size; each datagram spells a message; what was sent and the stored records grew from
--- nothing; what was told is chosen, and what was submitted was typed; and each node is sound.
+-- A world: it has a node for each number up to its size; each datagram spells a message; what was
+-- sent and the stored records grew from nothing; what was told is chosen, and what was submitted
+-- was typed; and each node is sound.
 pub record IsSound (w : World) : Type 0 where
   pub size : IsSize w.group.size
   pub session : IsGroup w.group
   pub places : length w.members ≡ w.group.size
   pub spelled : All (IsSpelling w.group) w.sent
-  pub grew : Grew w.group.size (state_of w).sent (λ i. ((state_of w).seats i).kept)
-  pub told : AllChosen w.group.size (state_of w).sent
-  pub submitted : AllTyped (state_of w).sent (state_of w).typed
+  pub grew : Grew w.group.size (world_state w).sent (λ i. ((world_state w).seats i).kept)
+  pub told : AllChosen w.group.size (world_state w).sent
+  pub submitted : AllTyped (world_state w).sent (world_state w).typed
   pub members : (i : ℕ) (m : Member) → member_at w.members i ≡ Some m →
-      IsMemberSound w.program (me_of w i) (state_of w).sent (state_of w).typed m
+      IsMemberSound w.program (me_of w i) (world_state w).sent (world_state w).typed m

@@ -10,6 +10,7 @@ use Rattle.group_world.specs.declared.event.Act.{Act}
 use Rattle.group_world.specs.declared.event.Act.TheVariants.{Press, Deliver, Campaign, Tick, Run, Release, Crash, Start}
 use Rattle.group_world.specs.declared.event.Event.{Event}
 use Rattle.group_world.specs.declared.event.Outcome.TheVariants.{FailedOld, Kept}
+use Rattle.group_world.specs.Worlds.{kept_event}
 
 -- a program that reads one byte from unit 1, which writes it there too
 abbrev pub echoes : Parts
@@ -19,7 +20,16 @@ echoes = record {
       2 ∷ 0 ∷ 4 ∷ 0 ∷ 6 ∷ 0 ∷ 20 ∷ 0 ∷ 1 ∷ 0 ∷ 2 ∷ 0 ∷ 1 ∷ 1 ∷ [];
   number = 1;
   procs =
-      (record { number = 1; level = 0; enter = 0; exit = 12; jtab = 22; low = 0; params = 2; vars = 1 }) ∷ [];
+      (record {
+        number = 1;
+        level = 0;
+        enter = 0;
+        exit = 12;
+        jtab = 22;
+        low = 0;
+        params = 2;
+        vars = 1;
+      }) ∷ [];
 }
 
 -- a group of one node
@@ -33,15 +43,14 @@ letter = record { node = 1; start = 2; serial = 1; byte = 65 }
 abbrev pub letter_batch : Value
 letter_batch = Keys 1 2 1 (65 ∷ [])
 
--- an event whose save, if it makes one, is kept
-abbrev pub kept : Act → Event
-kept act = record { act = act; save = Kept }
-
 -- The save of the first start fails. The node starts, crashes and starts again; it campaigns and
 -- hears its own Prepare and Promise; a byte is typed; it submits, proposes, accepts and learns the
 -- key; its machine reads the key and echoes it, and the byte is released.
 abbrev pub shown_events : List Event
 shown_events =
-    (record { act = Start 1; save = FailedOld }) ∷ kept (Start 1) ∷ kept (Crash 1) ∷ kept (Start 1) ∷
-    kept (Campaign 1) ∷ kept (Deliver 0 1) ∷ kept (Deliver 1 1) ∷ kept (Press 1 65) ∷ kept (Tick 1) ∷
-    kept (Deliver 2 1) ∷ kept (Deliver 4 1) ∷ kept (Deliver 5 1) ∷ kept (Run 1 10) ∷ kept (Release 1) ∷ []
+    (record { act = Start 1; save = FailedOld }) ∷ kept_event (Start 1) ∷ kept_event (Crash 1)
+    ∷ kept_event (Start 1) ∷
+    kept_event (Campaign 1) ∷ kept_event (Deliver 0 1) ∷ kept_event (Deliver 1 1)
+    ∷ kept_event (Press 1 65) ∷ kept_event (Tick 1) ∷
+    kept_event (Deliver 2 1) ∷ kept_event (Deliver 4 1) ∷ kept_event (Deliver 5 1)
+    ∷ kept_event (Run 1 10) ∷ kept_event (Release 1) ∷ []

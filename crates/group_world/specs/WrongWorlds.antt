@@ -3,7 +3,7 @@ use Rattle.std.specs.Prelude.{ℕ, ◌==◌, if◌then◌else◌, List, [], ◌�
 use Rattle.std.specs.Ordering.{nat_cmp}
 use Rattle.std.specs.FinMap.{FinMap, empty, insert}
 use Rattle.pcode_file.specs.Parts.{Parts}
-use Rattle.pcode_machine.specs.Configuration.{joined, unframed}
+use Rattle.pcode_machine.specs.Configuration.{configuration_of, unframed}
 use Rattle.paxos_msg.specs.declared.message.Body.TheVariants.{Accepted, Prepare}
 use Rattle.paxos_msg.specs.declared.value.Value.{Value}
 use Rattle.paxos_msg.specs.declared.value.Value.TheVariants.{Keys, Noop}
@@ -20,7 +20,12 @@ shows console = record { kept = empty_record; console = console; up = None }
 -- a node that is up and has learned these values
 abbrev pub knows : FinMap nat_cmp Value → Up
 knows learned =
-    record { learned = learned; configuration = joined (unframed 0) 0 []; released = 0; waiting = [] }
+    record {
+      learned = learned;
+      configuration = configuration_of (unframed 0) 0 [];
+      released = 0;
+      waiting = [];
+    }
 
 -- a node that is up, has learned this value at place 0 and nothing else, and has shown nothing
 abbrev pub learned : Value → Seat
@@ -29,7 +34,12 @@ learned v = record { kept = empty_record; console = []; up = Some (knows (insert
 -- a node that is up and has written this output, of which it releases byte k next to its console
 abbrev pub writes : List ℕ → ℕ → Up
 writes output k =
-    record { learned = empty; configuration = joined (unframed 0) 0 output; released = k; waiting = [] }
+    record {
+      learned = empty;
+      configuration = configuration_of (unframed 0) 0 output;
+      released = k;
+      waiting = [];
+    }
 
 abbrev pub releases : List ℕ → ℕ → List ℕ → Seat
 releases output k console =
@@ -52,13 +62,13 @@ five i a j b sent = record {
 }
 
 -- the node says that it has accepted the value at the place, under node 1's ballot of this round
-abbrev pub accepted : ℕ → ℕ → ℕ → Value → Msg
-accepted node round s v =
+abbrev pub accepted_message : ℕ → ℕ → ℕ → Value → Msg
+accepted_message node round s v =
     record { sender = node; body = Accepted (record { round = round; node = 1 }) s v }
 
 -- nodes 3, 4 and 5, which are a majority, have accepted the value at the place under one ballot
 abbrev pub chosen : ℕ → Value → Sent
-chosen s v = accepted 3 1 s v ∷ accepted 4 1 s v ∷ accepted 5 1 s v ∷ []
+chosen s v = accepted_message 3 1 s v ∷ accepted_message 4 1 s v ∷ accepted_message 5 1 s v ∷ []
 
 -- a key of the first start of node 2
 abbrev pub key : ℕ → ℕ → Value
@@ -73,7 +83,7 @@ two_values = five 4 (learned (key 1 65)) 5 (learned Noop) []
 -- node 4 has learned a value that three nodes have accepted, but only two of them under one ballot
 abbrev pub not_chosen : WorldState
 not_chosen = five 4 (learned Noop) 5 (shows [])
-    (accepted 3 1 0 Noop ∷ accepted 4 2 0 Noop ∷ accepted 5 2 0 Noop ∷ [])
+    (accepted_message 3 1 0 Noop ∷ accepted_message 4 2 0 Noop ∷ accepted_message 5 2 0 Noop ∷ [])
 
 -- node 4 has learned a key that is chosen and that nobody typed
 abbrev pub not_typed : WorldState

@@ -1,6 +1,6 @@
 //! The calls of a node that may send.
 ghost use Rattle.std.specs.Prelude.{◌≡◌, []};
-ghost use Rattle.group_world.specs.Asks.{Answers, asked, IsHeard, IsOpen, running};
+ghost use Rattle.group_world.specs.Asks.{Answers, ask_outcome, IsOfMember, IsOpen, running};
 
 use group_node::{Node, NodeFault, Outbox};
 use paxos_acceptor::MemoryStore;
@@ -26,9 +26,10 @@ impl Ask<'_> {
         outbox: &mut Outbox,
     ) -> Result<(), NodeFault>
         requires is_open { IsOpen node.old }
-        requires heard { IsHeard node.old.protocol.rules self.now }
+        requires heard { IsOfMember node.old.protocol.known self.now }
         requires empty { outbox.old.packets ≡ [] }
-        ensures answers { Answers node.old.protocol.store.plan (running node.old) node.new (asked node.old.protocol.rules self.now) outbox.new.packets result }
+        ensures answers { Answers node.old.protocol.store.plan (running node.old) node.new
+            (ask_outcome node.old.protocol.known self.now) outbox.new.packets result }
     {
         match self {
             Ask::Hear(view) => node.on_message(view, outbox),
@@ -46,9 +47,10 @@ impl Ask<'_> {
         outbox: &mut Outbox,
     ) -> Result<(), NodeFault>
         requires is_open { IsOpen node.old }
-        requires heard { IsHeard node.old.protocol.rules self.now }
+        requires heard { IsOfMember node.old.protocol.known self.now }
         requires empty { outbox.old.packets ≡ [] }
-        ensures answers { Answers plan (running node.old) node.new (asked node.old.protocol.rules self.now) outbox.new.packets result }
+        ensures answers { Answers plan (running node.old) node.new
+            (ask_outcome node.old.protocol.known self.now) outbox.new.packets result }
     {
         node.fail_next(plan);
         self.answered(node, outbox)

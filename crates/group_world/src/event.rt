@@ -4,12 +4,14 @@ ghost use Rattle.group_world.specs.Events.{node_of, plan_of};
 
 use group_node::NodeFault;
 
-/// What happens at a node. Nodes are numbered from 1, messages from 0 in the order in which they were sent.
+/// What happens at a node. Nodes are numbered from 1, messages from 0 in the order in which they
+/// were sent.
 #[derive(Clone, Copy, Debug, PartialEq, Eq)]
 pub enum Act {
     /// A byte is typed: the node's number, and the byte.
     Press(u8, u8),
-    /// A message is delivered, whoever it was meant for, also once more: its number, and the node's.
+    /// A message is delivered, whoever it was meant for, also once more: its number, and the
+    /// node's.
     Deliver(usize, u8),
     /// The node begins a ballot of its own.
     Campaign(u8),
@@ -79,8 +81,10 @@ pub struct Event {
 pub enum Done {
     /// It happened; also a release where nothing waits.
     Applied,
-    /// The node refused it, and nothing has changed: `Busy`, `SerialSpent`, `RoundsSpent`, `PlacesSpent` or `StartsSpent`.
+    /// The node refused it, and nothing has changed: `Busy`, `SerialSpent`, `RoundsSpent`,
+    /// `PlacesSpent` or `StartsSpent`.
     Refused(NodeFault),
-    /// The save failed: the node is down with the old record or the changed one, and nothing was sent.
+    /// The save failed: the node is down with the old record or the changed one, and nothing was
+    /// sent.
     Fell,
 }

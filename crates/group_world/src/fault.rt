@@ -36,7 +36,8 @@ impl From<AllocError> for WorldFault {
     }
 }
 
-/// Why a list of events ends early: the number of the event, from 0 on, and its refusal. Where there is no such group it is event 0.
+/// Why a list of events ends early: the number of the event, from 0 on, and its refusal. Where
+/// there is no such group it is event 0.
 #[derive(Clone, Copy, Debug, PartialEq, Eq, Error)]
 #[error("event {event} refused {fault}")]
 pub struct RunFault {

@@ -1,4 +1,5 @@
-//! A group of nodes and what happens to it, event by event: its worlds, and the laws that say what holds of each.
+//! A group of nodes and what happens to it, event by event: its worlds, and the laws that say what
+//! holds of each.
 #![tactic(auto)]
 
 mod ask;

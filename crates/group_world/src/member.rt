@@ -4,9 +4,9 @@ ghost use Rattle.paxos_msg.specs.Records.{empty_record};
 ghost use Rattle.paxos_acceptor.specs.Records.{IsRecord};
 ghost use Rattle.group_node.specs.Output.{no_progress, unreleased_of};
 ghost use Rattle.group_node.specs.States.{input};
-ghost use Rattle.group_world.specs.Asks.{asked, IsHeard, running, Takes};
-ghost use Rattle.group_world.specs.Goes.{released, start};
-ghost use Rattle.group_world.specs.Seats.{Presses, RunsTo};
+ghost use Rattle.group_world.specs.Asks.{ask_outcome, IsOfMember, running, TakesUnlessMemory};
+ghost use Rattle.group_world.specs.Goes.{released, start_outcome};
+ghost use Rattle.group_world.specs.Seats.{PressesMember, RunsMember};
 ghost use Rattle.group_world.specs.Worlds.{Running};
 
 use crate::ask::Ask;
@@ -57,7 +57,8 @@ fn is_device(answer: &Result<(), NodeFault>) -> bool
 }
 
 impl<'a> Member<'a> {
-    /// A node that is down, with the empty record, and a console that has shown nothing. It takes no memory.
+    /// A node that is down, with the empty record, and a console that has shown nothing. It takes
+    /// no memory.
     pub(crate) fn new(alloc: Global) -> Member<'a>
         ensures { result ≡ record { kept = empty_record; console = []; node = None } }
     {
@@ -99,7 +100,8 @@ impl<'a> Member<'a> {
     ) -> Result<(), NodeFault>
         requires down { self.old.node ≡ None }
         requires ranges { IsRecord config.group.size self.old.kept }
-        ensures takes { Takes plan config (no_progress program.now) self.old self.new (start config self.old.kept) [] result }
+        ensures takes { TakesUnlessMemory plan config (no_progress program.now) self.old self.new
+            (start_outcome config self.old.kept) [] result }
     {
         self.seat.start(alloc, program, config, plan)
     }
@@ -116,7 +118,8 @@ impl<'a> Member<'a> {
     #[tactic(none)]
     pub(crate) fn press(&mut self, byte: u8) -> Result<Value, NodeFault>
         requires up { (q : Running) × (self.old.node ≡ Some q) }
-        ensures presses { (q : Running) → self.old.node ≡ Some q → Presses self.old q byte self.new result }
+        ensures presses { (q : Running) → self.old.node ≡ Some q
+            → PressesMember self.old q byte self.new result }
     {
         match &mut self.seat {
             Seat::Up(node) => {
@@ -128,7 +131,8 @@ impl<'a> Member<'a> {
         }
     }
 
-    /// The node, which is up, is asked, and its save, if it makes one, fails so, if at all. After a save that failed it is down.
+    /// The node, which is up, is asked, and its save, if it makes one, fails so, if at all. After a
+    /// save that failed it is down.
     #[tactic(none)]
     pub(crate) fn ask(
         &mut self,
@@ -137,9 +141,11 @@ impl<'a> Member<'a> {
         plan: Option<bool>,
         outbox: &mut Outbox,
     ) -> Result<(), NodeFault>
-        requires up { (q : Running) × (self.old.node ≡ Some q) × IsHeard q.rules ask.now }
+        requires up { (q : Running) × (self.old.node ≡ Some q) × IsOfMember q.known ask.now }
         requires empty { outbox.old.packets ≡ [] }
-        ensures takes { (q : Running) → self.old.node ≡ Some q → Takes plan q.rules.me q.progress self.old self.new (asked q.rules ask.now) outbox.new.packets result }
+        ensures takes { (q : Running) → self.old.node ≡ Some q
+            → TakesUnlessMemory plan q.known.me q.progress self.old self.new
+            (ask_outcome q.known ask.now) outbox.new.packets result }
     {
         let answer = match &mut self.seat {
             Seat::Up(node) => ask.planned(node, plan, outbox),
@@ -155,7 +161,8 @@ impl<'a> Member<'a> {
     #[tactic(none)]
     pub(crate) fn run(&mut self, steps: u32)
         requires up { (q : Running) × (self.old.node ≡ Some q) }
-        ensures runs { (q : Running) → self.old.node ≡ Some q → RunsTo self.old q steps self.new }
+        ensures runs { (q : Running) → self.old.node ≡ Some q
+            → RunsMember self.old q steps self.new }
     {
         match &mut self.seat {
             Seat::Up(node) => {
@@ -166,11 +173,14 @@ impl<'a> Member<'a> {
         }
     }
 
-    /// The node, which is up, releases a byte to its console, if one waits. For want of memory nothing changes.
+    /// The node, which is up, releases a byte to its console, if one waits. For want of memory
+    /// nothing changes.
     #[tactic(none)]
     pub(crate) fn release(&mut self) -> Result<(), NodeFault>
         requires up { (q : Running) × (self.old.node ≡ Some q) }
-        ensures ok { (q : Running) → self.old.node ≡ Some q → OnOk result (self.new ≡ released self.old q (slice_get (unreleased_of (input q.rules) q.progress) 0)) }
+        ensures ok { (q : Running) → self.old.node ≡ Some q
+            → OnOk result (self.new
+            ≡ released self.old q (slice_get (unreleased_of (input q.known) q.progress) 0)) }
         ensures err { OnErr result (self.new ≡ self.old) }
         ensures memory { IfErr result (λ e. e ≡ NodeFault.Memory) }
     {

@@ -1,11 +1,11 @@
 //! Lists of events.
 ghost use Rattle.std.specs.Prelude.{IfErr, IfOk};
 ghost use Rattle.group_node.specs.States.{IsSize};
-ghost use Rattle.group_world.specs.Goes.{Happens};
+ghost use Rattle.group_world.specs.Goes.{LeadsBy};
 ghost use Rattle.group_world.specs.Headline.{ConsolesAgree, ConsolesHoldOutput, HasNoGap, LearnedAgree, LearnedChosen};
 ghost use Rattle.group_world.specs.Order.{KeysOnce, SerialsInOrder};
 ghost use Rattle.group_world.specs.Refusals.{IsRunRefused};
-ghost use Rattle.group_world.specs.Worlds.{begun, state_of};
+ghost use Rattle.group_world.specs.Worlds.{new_world, world_state};
 
 use crate::event::Event;
 use crate::fault::RunFault;
@@ -14,13 +14,15 @@ use crate::world::World;
 use pcode_ops::Program;
 use std::alloc::Global;
 
-/// What comes of a list of events that happen, one after the other, to a group in which nothing has happened. The main theorem stands here:
-/// whatever the events, no two nodes have learned different values for one place; what is learned is chosen, and was typed or is a no-op; each
-/// console holds a prefix of the program's output on the chosen input; so of two consoles one holds a prefix of the other; no released byte
-/// comes too early; each typed key is read once, and the keys of a start in the order in which they were typed.
+/// What comes of a list of events that happen, one after the other, to a group in which nothing has
+/// happened. The main theorem stands here: whatever the events, no two nodes have learned different
+/// values for one place; what is learned is chosen, and was typed or is a no-op; each console holds
+/// a prefix of the program's output on the chosen input; so of two consoles one holds a prefix of
+/// the other; no released byte comes too early; each typed key is read once, and the keys of a
+/// start in the order in which they were typed.
 ///
-/// It ends at the first event that is refused, with its number and refusal. `Size` where the size is even or above 9, and `Memory` where
-/// there is none for the group; then the number is 0.
+/// It ends at the first event that is refused, with its number and refusal. `Size` where the size
+/// is even or above 9, and `Memory` where there is none for the group; then the number is 0.
 pub fn run<'a>(
     alloc: Global,
     program: &'a Program,
@@ -28,16 +30,20 @@ pub fn run<'a>(
     session: u32,
     events: &[Event],
 ) -> Result<World<'a>, RunFault>
-    ensures happens { IfOk result (λ w. Happens (begun program.now (record { size = size; session = session })) events.now w) }
-    ensures learned_agree { IfOk result (λ w. LearnedAgree (state_of w)) }
-    ensures learned_chosen { IfOk result (λ w. LearnedChosen (state_of w)) }
-    ensures consoles_hold_output { IfOk result (λ w. ConsolesHoldOutput (state_of w)) }
-    ensures consoles_agree { IfOk result (λ w. ConsolesAgree (state_of w)) }
-    ensures no_gap { IfOk result (λ w. HasNoGap (state_of w)) }
-    ensures key_once { IfOk result (λ w. KeysOnce (state_of w)) }
-    ensures serials_in_order { IfOk result (λ w. SerialsInOrder (state_of w)) }
+    ensures happens { IfOk result
+        (λ w. LeadsBy (new_world program.now (record { size = size; session = session })) events.now
+        w) }
+    ensures learned_agree { IfOk result (λ w. LearnedAgree (world_state w)) }
+    ensures learned_chosen { IfOk result (λ w. LearnedChosen (world_state w)) }
+    ensures consoles_hold_output { IfOk result (λ w. ConsolesHoldOutput (world_state w)) }
+    ensures consoles_agree { IfOk result (λ w. ConsolesAgree (world_state w)) }
+    ensures no_gap { IfOk result (λ w. HasNoGap (world_state w)) }
+    ensures key_once { IfOk result (λ w. KeysOnce (world_state w)) }
+    ensures serials_in_order { IfOk result (λ w. SerialsInOrder (world_state w)) }
     ensures size { IfOk result (λ w. IsSize size) }
-    ensures refused { IfErr result (λ e. IsRunRefused (begun program.now (record { size = size; session = session })) events.now e) }
+    ensures refused { IfErr result
+        (λ e. IsRunRefused (new_world program.now (record { size = size; session = session }))
+        events.now e) }
 {
     headline();
     let mut world = match World::new(alloc, program, size, session) {

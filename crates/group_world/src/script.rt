@@ -14,8 +14,8 @@ use thiserror::Error;
 pub enum Line {
     /// An event of the group.
     Act(Event),
-    /// All messages that no earlier `settle` passed are delivered, with those that they cause; then all nodes that are up run and
-    /// release.
+    /// All messages that no earlier `settle` passed are delivered, with those that they cause; then
+    /// all nodes that are up run and release.
     Settle,
     /// The state of the group is printed.
     Show,
@@ -45,7 +45,8 @@ impl Drop for Script {
 #[derive(Clone, Copy, Debug, PartialEq, Eq, Error)]
 #[error("line {line}")]
 pub struct ScriptFault {
-    /// The first line that is none of a script, or that there was no memory for. Lines are counted from 1.
+    /// The first line that is none of a script, or that there was no memory for. Lines are counted
+    /// from 1.
     pub line: usize,
     /// Whether there was no memory for the line.
     pub memory: bool,
@@ -53,16 +54,21 @@ pub struct ScriptFault {
 
 /// The script that a text spells.
 ///
-/// Line 1 is `size N session K`. Each further line is `start N`, `crash N`, `campaign N`, `tick N`, `type N HH`, `deliver M N`,
-/// `run N STEPS` or `release N`, each with ` failold` or ` failnew` behind it where its save is to fail; `settle`; or `show`. One space
-/// stands between two words. Numbers are decimal digits, which may begin with zeros: N up to 255, K and STEPS up to 4,294,967,295, M
-/// up to `usize::MAX`. HH is a byte in two hexadecimal digits of either case. Each line ends in a line feed, which the last may lack.
-/// Whether there is such a node or message is for the world to say.
+/// Line 1 is `size N session K`. Each further line is `start N`, `crash N`, `campaign N`, `tick N`,
+/// `type N HH`, `deliver M N`, `run N STEPS` or `release N`, each with ` failold` or ` failnew`
+/// behind it where its save is to fail; `settle`; or `show`. One space stands between two words.
+/// Numbers are decimal digits, which may begin with zeros: N up to 255, K and STEPS up to
+/// 4,294,967,295, M up to `usize::MAX`. HH is a byte in two hexadecimal digits of either case. Each
+/// line ends in a line feed, which the last may lack. Whether there is such a node or message is
+/// for the world to say.
 ///
-/// The fault is of the first line that is none of these, which is line 1 of an empty text, or of a line
-/// that there was no memory for: then the text has this line, and the lines before it are a script.
+/// The fault is of the first line that is none of these, which is line 1 of an empty text, or of a
+/// line that there was no memory for: then the text has this line, and the lines before it are a
+/// script.
 pub fn read_script(alloc: Global, text: &str) -> Result<Script, ScriptFault>
-    ensures read { IfOk result (λ s. script_of text.now ≡ Ok (record { size = s.size; session = s.session; lines = s.lines.items })) }
+    ensures read { IfOk result
+        (λ s. script_of text.now
+        ≡ Ok (record { size = s.size; session = s.session; lines = s.lines.items })) }
     ensures refused { IfErr result (λ f. f.memory ≡ false → script_of text.now ≡ Err f.line) }
     ensures no_memory { IfErr result (λ f. f.memory ≡ true → IsReached text.now f.line) }
 {

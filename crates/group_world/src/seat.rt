@@ -4,8 +4,8 @@ ghost use Rattle.std.specs.Prelude.{◌≡◌, [], ℕ, List, None, option_map};
 ghost use Rattle.paxos_acceptor.specs.Records.{IsRecord};
 ghost use Rattle.group_node.specs.Output.{no_progress};
 ghost use Rattle.group_world.specs.declared.seat.Seat.TheVariants.{Down};
-ghost use Rattle.group_world.specs.Asks.{running, Takes};
-ghost use Rattle.group_world.specs.Goes.{start};
+ghost use Rattle.group_world.specs.Asks.{running, TakesUnlessMemory};
+ghost use Rattle.group_world.specs.Goes.{start_outcome};
 ghost use Rattle.group_world.specs.Seats.{IsSettled, kept_of, member_of, running_of, store_of};
 
 use group_node::{Config, Node, NodeFault, StartRefused};
@@ -51,7 +51,8 @@ impl<'a> Seat<'a> {
         }
     }
 
-    /// Takes what is there, and leaves an empty store in its place for a moment. It takes no memory.
+    /// Takes what is there, and leaves an empty store in its place for a moment. It takes no
+    /// memory.
     fn taken(&mut self, alloc: Global) -> Seat<'a>
         ensures { result ≡ self.old }
     {
@@ -83,7 +84,8 @@ impl<'a> Seat<'a> {
         self.put(Seat::Down(store));
     }
 
-    /// Starts the node over its store, whose save is to fail so, if at all. After a refusal it is down still.
+    /// Starts the node over its store, whose save is to fail so, if at all. After a refusal it is
+    /// down still.
     #[tactic(none)]
     pub(crate) fn start(
         &mut self,
@@ -93,7 +95,10 @@ impl<'a> Seat<'a> {
         plan: Option<bool>,
     ) -> Result<(), NodeFault>
         requires ranges { IsRecord config.group.size (store_of self.old).stored }
-        ensures takes { (console : List ℕ) → Takes plan config (no_progress program.now) (member_of (Down (store_of self.old)) console) (member_of self.new console) (start config (store_of self.old).stored) [] result }
+        ensures takes { (console : List ℕ)
+            → TakesUnlessMemory plan config (no_progress program.now)
+            (member_of (Down (store_of self.old)) console) (member_of self.new console)
+            (start_outcome config (store_of self.old).stored) [] result }
         ensures settled { IsSettled self.new }
     {
         let store = self.taken(alloc).into_store();
@@ -103,7 +108,8 @@ impl<'a> Seat<'a> {
     }
 }
 
-/// A node's start over its store, whose save is to fail so, if at all: the place that it leaves, and its answer.
+/// A node's start over its store, whose save is to fail so, if at all: the place that it leaves,
+/// and its answer.
 #[tactic(none)]
 pub(crate) fn started<'a>(
     alloc: Global,
@@ -113,7 +119,9 @@ pub(crate) fn started<'a>(
     plan: Option<bool>,
 ) -> (Seat<'a>, Result<(), NodeFault>)
     requires ranges { IsRecord config.group.size store.stored }
-    ensures takes { (console : List ℕ) → Takes plan config (no_progress program.now) (member_of (Down store) console) (member_of result.0 console) (start config store.stored) [] result.1 }
+    ensures takes { (console : List ℕ)
+        → TakesUnlessMemory plan config (no_progress program.now) (member_of (Down store) console)
+        (member_of result.0 console) (start_outcome config store.stored) [] result.1 }
     ensures settled { IsSettled result.0 }
 {
     let mut store = store;

@@ -2,11 +2,11 @@
 ghost use Rattle.std.specs.Prelude.{◌≡◌, ◌≢◌, ◌+◌, ◌-◌, ◌∷◌, ◌++◌, ◌<◌, ◌≤◌, [], Option, List, ℕ, None, Some, length, vec_len, vec_capacity, option_map, replicate, IfErr, IfOk, IfSome, Bool, Err, OnErr, OnOk};
 ghost use Rattle.paxos_msg.specs.Records.{empty_record};
 ghost use Rattle.group_world.specs.declared.event.Done.TheVariants.{Applied};
-ghost use Rattle.group_world.specs.Asks.{asked, IsHeard};
-ghost use Rattle.group_world.specs.Goes.{Acts, Goes, IsDown, IsUp, Leaves};
+ghost use Rattle.group_world.specs.Asks.{ask_outcome, IsOfMember};
+ghost use Rattle.group_world.specs.Goes.{Performs, Goes, IsDown, IsUp, Leaves};
 ghost use Rattle.group_world.specs.Refusals.{IsDone, IsRefused, refusal};
 ghost use Rattle.group_world.specs.Sound.{IsSound};
-ghost use Rattle.group_world.specs.Worlds.{begun, member_at, Running};
+ghost use Rattle.group_world.specs.Worlds.{new_world, member_at, Running};
 ghost use Rattle.group_world.specs.Worlds as worlds;
 
 use crate::ask::Ask;
@@ -20,7 +20,7 @@ use std::alloc::{AllocError, Global};
 use std::marker::Model;
 
 /// How many packets a call of a node sends at most.
-const PACKETS: usize = 64;
+const MOST_PACKETS: usize = 64;
 
 /// What happened to a group so far, with no promise but what each event does.
 pub(crate) struct Table<'a> {
@@ -58,12 +58,19 @@ impl<'a> Model for Table<'a> {
 
     ghost coded = { Prim.hlevel (codes, learner_code) };
 
-    ghost view = { λ t. record { program = t.program.now; group = t.group; members = t.members.items; sent = t.sent.items; typed = t.typed.items } };
+    ghost view = { λ t. record {
+      program = t.program.now;
+      group = t.group;
+      members = t.members.items;
+      sent = t.sent.items;
+      typed = t.typed.items;
+    } };
 
     ghost invariant = { λ t. t.outbox.packets ≡ [] };
 }
 
-/// Moves what was sent behind all that was sent before. There is room for as much as an outbox holds.
+/// Moves what was sent behind all that was sent before. There is room for as much as an outbox
+/// holds.
 fn collect(outbox: &mut Outbox, sent: &mut Vec<Packet>)
     requires room { vec_len sent.old + 64 ≤ vec_capacity sent.old }
     ensures sent { sent.new.items ≡ sent.old.items ++ outbox.old.packets }
@@ -117,7 +124,9 @@ fn done(answer: Result<(), NodeFault>) -> Result<Done, AllocError>
 
 /// So many nodes, all of them down, with empty records.
 fn members<'a>(alloc: Global, size: u8) -> Result<Vec<Member<'a>>, AllocError>
-    ensures { IfOk result (λ nodes. nodes.items ≡ replicate size (record { kept = empty_record; console = []; node = None })) }
+    ensures { IfOk result
+        (λ nodes. nodes.items
+        ≡ replicate size (record { kept = empty_record; console = []; node = None })) }
 {
     let mut nodes = Vec::new(alloc);
     for _ in 0..size {
@@ -141,7 +150,7 @@ impl<'a> Table<'a> {
         program: &'a Program,
         group: Group,
     ) -> Result<Table<'a>, AllocError>
-        ensures { IfOk result (λ t. t ≡ begun program.now group) }
+        ensures { IfOk result (λ t. t ≡ new_world program.now group) }
     {
         Ok(Table {
             program,
@@ -164,7 +173,8 @@ impl<'a> Table<'a> {
         self.members.get(place(node))
     }
 
-    /// Why the event is refused, if it is: there is no such node, or else no such message, or else the node is down, or at a start up.
+    /// Why the event is refused, if it is: there is no such node, or else no such message, or else
+    /// the node is down, or at a start up.
     pub(crate) fn refusal(&self, act: &Act) -> Option<WorldFault>
         ensures { result ≡ refusal self.now act.now }
     {
@@ -193,7 +203,8 @@ impl<'a> Table<'a> {
     /// A byte is typed at the node, which is up.
     fn press(&mut self, node: u8, byte: u8) -> Result<Done, AllocError>
         requires up { (m : worlds.Member) × (q : Running) × IsUp self.old node m q }
-        ensures acts { (plan : Option Bool) → IfOk result (λ d. Acts self.old plan (Act.Press node byte) d self.new) }
+        ensures acts { (plan : Option Bool)
+            → IfOk result (λ d. Performs self.old plan (Act.Press node byte) d self.new) }
         ensures err { OnErr result (self.new ≡ self.old) }
     {
         if self.typed.reserve(1).is_err() {
@@ -211,11 +222,14 @@ impl<'a> Table<'a> {
     /// The node, which is up, is asked to do what may send.
     fn ask(&mut self, node: u8, ask: &Ask<'_>, plan: Option<bool>) -> Result<Done, AllocError>
         requires sound { IsSound self.old }
-        requires up { (m : worlds.Member) × (q : Running) × IsUp self.old node m q × IsHeard q.rules ask.now }
-        ensures leaves { (m : worlds.Member) (q : Running) → IsUp self.old node m q → IfOk result (λ d. Leaves self.old node m q.progress plan (asked q.rules ask.now) d self.new) }
+        requires up { (m : worlds.Member) × (q : Running) × IsUp self.old node m q
+            × IsOfMember q.known ask.now }
+        ensures leaves { (m : worlds.Member) (q : Running) → IsUp self.old node m q
+            → IfOk result (λ d. Leaves self.old node m q.progress plan
+            (ask_outcome q.known ask.now) d self.new) }
         ensures err { OnErr result (self.new ≡ self.old) }
     {
-        if self.sent.reserve(PACKETS).is_err() {
+        if self.sent.reserve(MOST_PACKETS).is_err() {
             return Err(AllocError);
         }
         let answer = self.members[place(node)].ask(self.alloc, ask, plan, &mut self.outbox);
@@ -228,10 +242,11 @@ impl<'a> Table<'a> {
         requires sound { IsSound self.old }
         requires sent { message < length self.old.sent }
         requires up { (m : worlds.Member) × (q : Running) × IsUp self.old node m q }
-        ensures acts { IfOk result (λ d. Acts self.old plan (Act.Deliver message node) d self.new) }
+        ensures acts { IfOk result
+            (λ d. Performs self.old plan (Act.Deliver message node) d self.new) }
         ensures err { OnErr result (self.new ≡ self.old) }
     {
-        if self.sent.reserve(PACKETS).is_err() {
+        if self.sent.reserve(MOST_PACKETS).is_err() {
             return Err(AllocError);
         }
         let Ok(view) = decode(self.sent[message].bytes.as_slice(), self.group) else {
@@ -250,7 +265,8 @@ impl<'a> Table<'a> {
     /// The machine of the node, which is up, makes so many steps at most.
     fn run(&mut self, node: u8, steps: u32)
         requires up { (m : worlds.Member) × (q : Running) × IsUp self.old node m q }
-        ensures acts { (plan : Option Bool) → Acts self.old plan (Act.Run node steps) Applied self.new }
+        ensures acts { (plan : Option Bool)
+            → Performs self.old plan (Act.Run node steps) Applied self.new }
     {
         self.members[place(node)].run(steps);
     }
@@ -258,7 +274,8 @@ impl<'a> Table<'a> {
     /// The node, which is up, releases a byte to its console, if one waits.
     fn release(&mut self, node: u8) -> Result<(), NodeFault>
         requires up { (m : worlds.Member) × (q : Running) × IsUp self.old node m q }
-        ensures acts { (plan : Option Bool) → OnOk result (Acts self.old plan (Act.Release node) Applied self.new) }
+        ensures acts { (plan : Option Bool)
+            → OnOk result (Performs self.old plan (Act.Release node) Applied self.new) }
         ensures err { OnErr result (self.new ≡ self.old) }
     {
         self.members[place(node)].release()
@@ -267,7 +284,8 @@ impl<'a> Table<'a> {
     /// The node, which is up, falls.
     fn crash(&mut self, node: u8)
         requires up { (m : worlds.Member) × (q : Running) × IsUp self.old node m q }
-        ensures acts { (plan : Option Bool) → Acts self.old plan (Act.Crash node) Applied self.new }
+        ensures acts { (plan : Option Bool)
+            → Performs self.old plan (Act.Crash node) Applied self.new }
     {
         self.members[place(node)].crash(self.alloc);
     }
@@ -276,7 +294,7 @@ impl<'a> Table<'a> {
     fn start(&mut self, node: u8, plan: Option<bool>) -> Result<Done, AllocError>
         requires sound { IsSound self.old }
         requires down { (m : worlds.Member) × IsDown self.old node m }
-        ensures acts { IfOk result (λ d. Acts self.old plan (Act.Start node) d self.new) }
+        ensures acts { IfOk result (λ d. Performs self.old plan (Act.Start node) d self.new) }
         ensures err { OnErr result (self.new ≡ self.old) }
     {
         let Ok(config) = Config::new(node, self.group.size, self.group.session) else {
@@ -285,11 +303,12 @@ impl<'a> Table<'a> {
         done(self.members[place(node)].start(self.alloc, self.program, config, plan))
     }
 
-    /// What the event does, which is not refused. Its save, if it makes one, fails so, if at all. For want of memory nothing changes.
+    /// What the event does, which is not refused. Its save, if it makes one, fails so, if at all.
+    /// For want of memory nothing changes.
     fn act(&mut self, act: &Act, plan: Option<bool>) -> Result<Done, AllocError>
         requires sound { IsSound self.old }
         requires taken { refusal self.old act.now ≡ None }
-        ensures acts { IfOk result (λ d. Acts self.old plan act.now d self.new) }
+        ensures acts { IfOk result (λ d. Performs self.old plan act.now d self.new) }
         ensures err { OnErr result (self.new ≡ self.old) }
     {
         match *act {

@@ -22,13 +22,15 @@ bytes_none (Some bytes) = refl
 pub unread : (text : List ℕ) → IsReadUpTo text text []
 unread text = record { spelled = sym (bytes_none (hex_bytes_of text)); begun = inl refl }
 
-first_pair : (pair left : List ℕ) (byte : ℕ) → hex_byte_of pair ≡ Some byte → hex_bytes_of (pair ++ left) ≡ byte_before (Some byte) (hex_bytes_of left)
+first_pair : (pair left : List ℕ) (byte : ℕ) → hex_byte_of pair ≡ Some byte
+    → hex_bytes_of (pair ++ left) ≡ byte_before (Some byte) (hex_bytes_of left)
 first_pair [] left byte e = absurd cc
 first_pair (h ∷ []) left byte e = absurd cc
 first_pair (h ∷ l ∷ []) left byte e = ap (λ o. byte_before o (hex_bytes_of left)) e
 first_pair (h ∷ l ∷ x ∷ more) left byte e = absurd cc
 
-one_behind : (done : List ℕ) (byte : ℕ) (o : Option (List ℕ)) → bytes_before done (byte_before (Some byte) o) ≡ bytes_before (done ++ byte ∷ []) o
+one_behind : (done : List ℕ) (byte : ℕ) (o : Option (List ℕ))
+    → bytes_before done (byte_before (Some byte) o) ≡ bytes_before (done ++ byte ∷ []) o
 one_behind done byte None = refl
 one_behind done byte (Some bytes) = ap (λ it. Some it) (sym (append_assoc done (byte ∷ []) bytes))
 
@@ -43,15 +45,19 @@ some_byte None byte e = absurd cc
 some_byte (Some b) byte e = refl
 
 -- where a pair of digits is next, the text begins with one
-pub is_begun : (text rest done pair left : List ℕ) (byte : ℕ) → IsReadUpTo text rest done → rest ≡ pair ++ left → hex_byte_of pair ≡ Some byte → IsSome (hex_byte_of (take 2 text))
+pub is_begun : (text rest done pair left : List ℕ) (byte : ℕ) → IsReadUpTo text rest done → rest ≡ pair ++ left
+    → hex_byte_of pair ≡ Some byte → IsSome (hex_byte_of (take 2 text))
 is_begun text rest done pair left byte h split e = elim (h.begun) [
   | inl same ↦ some_byte _ byte (ap (λ (t : List ℕ). hex_byte_of (take 2 t)) (same ∙ split) ∙ begins pair left byte e)
   | inr is ↦ is
 ]
 
 -- the next pair is read
-pub read_pair : (text rest done pair left : List ℕ) (byte : ℕ) → IsReadUpTo text rest done → rest ≡ pair ++ left → hex_byte_of pair ≡ Some byte → IsReadUpTo text left (done ++ byte ∷ [])
+pub read_pair : (text rest done pair left : List ℕ) (byte : ℕ) → IsReadUpTo text rest done → rest ≡ pair ++ left
+    → hex_byte_of pair ≡ Some byte → IsReadUpTo text left (done ++ byte ∷ [])
 read_pair text rest done pair left byte h split e = record {
-  spelled = h.spelled ∙ (ap (λ (r : List ℕ). bytes_before done (hex_bytes_of r)) split ∙ (ap (bytes_before done) (first_pair pair left byte e) ∙ one_behind done byte (hex_bytes_of left)));
+  spelled =
+      h.spelled ∙ (ap (λ (r : List ℕ). bytes_before done (hex_bytes_of r)) split
+      ∙ (ap (bytes_before done) (first_pair pair left byte e) ∙ one_behind done byte (hex_bytes_of left)));
   begun = inr (is_begun text rest done pair left byte h split e);
 }

@@ -15,6 +15,7 @@ ends_by : {p : Parts} {s : State} {e : End} → IsLast p s e → EndsBy p s e
 ends_by last = record { stops = λ before output. last.stops before (length before) output }
 
 -- a program that has ended is over with the finish of its end
-pub rests-ended : {p : Parts} {most n : ℕ} {s : State} (e : End) (r : Option (List ℕ)) → n < most → IsLast p s e → Rests p most n s r (finish_of e)
+pub rests-ended : {p : Parts} {most n : ℕ} {s : State} (e : End) (r : Option (List ℕ)) → n < most → IsLast p s e
+    → Rests p most n s r (finish_of e)
 rests-ended Normal r few last = (few, ends_by last)
 rests-ended (Error number procedure at) r few last = (few, (ends_by last, λ same. cc))

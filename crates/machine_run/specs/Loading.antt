@@ -2,13 +2,13 @@
 use Rattle.std.specs.Prelude.{ℕ, List, Err}
 use Rattle.pcode_file.specs.Parts.{Parts}
 use Rattle.pcode_file.specs.InFile.{InFile}
-use Rattle.pcode_file.specs.Checks.{Gives, read_from}
+use Rattle.pcode_file.specs.Checks.{GivesUnlessMemory, read_from}
 use Rattle.pcode_ops.specs.Reach.{IsRefusal}
 use Rattle.machine_run.specs.declared.refusal.MachineRefusal.{MachineRefusal}
 use Rattle.machine_run.specs.declared.refusal.MachineRefusal.TheVariants.{CodeFile, Load}
 
 -- why these bytes are no program: they are no code file, or one that is not loaded
 abbrev pub IsNoProgram : List ℕ → MachineRefusal → Type 0
-IsNoProgram bytes (CodeFile fault) = Gives {X = Parts} (Err fault) (read_from bytes)
+IsNoProgram bytes (CodeFile fault) = GivesUnlessMemory {X = Parts} (Err fault) (read_from bytes)
 IsNoProgram bytes (Load fault) = (p : Parts) × InFile bytes p × IsRefusal p fault
 IsNoProgram bytes _ = ⊥

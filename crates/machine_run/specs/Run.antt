@@ -5,9 +5,9 @@ use Rattle.std.specs.Io.KnownBytes.{IsAtEnd}
 use Rattle.pcode_file.specs.Parts.{Parts}
 use Rattle.pcode_machine.specs.declared.turn.End.{End}
 use Rattle.pcode_machine.specs.declared.turn.End.TheVariants as ends
-use Rattle.pcode_machine.specs.Configuration.{State, joined}
+use Rattle.pcode_machine.specs.Configuration.{State, configuration_of}
 use Rattle.pcode_machine.specs.Outcome.{outcome, Goes, Stops, Waiting}
-use Rattle.pcode_machine.specs.Runs.{after, out, Leads}
+use Rattle.pcode_machine.specs.Runs.{after_steps, out, LeadsIn}
 use Rattle.pcode_machine.specs.Turns.{AreQuiet, EndsBy, Makes, WaitsOn}
 use Rattle.machine_run.specs.declared.run.Finish.{Finish}
 use Rattle.machine_run.specs.declared.run.Finish.TheVariants as finish
@@ -16,73 +16,80 @@ use Rattle.machine_run.specs.declared.run.RunIo.TheVariants as io
 use Rattle.machine_run.specs.Streams.{Streams, HasMoved, HasNoFault, HasReadFault, HasWriteFault}
 
 -- n steps on an input, each of which exists, have taken all of it
-pub record HasRun (p : Parts) (input : List ℕ) (n : ℕ) : Type 0 where
-  pub made : Leads p input n (after p input n)
-  pub taken : (after p input n).read ≡ length input
+pub record HasRunOn (p : Parts) (input : List ℕ) (n : ℕ) : Type 0 where
+  pub made : LeadsIn p input n (after_steps p input n)
+  pub taken : (after_steps p input n).read ≡ length input
 
 -- why a run of at most so many steps was over after n of them
-abbrev pub IsOver : Parts → Option (List ℕ) → List ℕ → ℕ → ℕ → Finish → Type 0
-IsOver p r input n steps finish.Steps = n ≡ steps
-IsOver p r input n steps finish.Normal = (n < steps) × (outcome p input (after p input n) ≡ Stops ends.Normal)
-IsOver p r input n steps (finish.Error e) = (n < steps) × (e ≢ ends.Normal) × (outcome p input (after p input n) ≡ Stops e)
-IsOver p r input n steps finish.Waits = (n < steps) × (outcome p input (after p input n) ≡ Waiting) × IsAtEnd r
+abbrev pub IsRunOver : Parts → Option (List ℕ) → List ℕ → ℕ → ℕ → Finish → Type 0
+IsRunOver p r input n steps finish.Steps = n ≡ steps
+IsRunOver p r input n steps finish.Normal =
+    (n < steps) × (outcome p input (after_steps p input n) ≡ Stops ends.Normal)
+IsRunOver p r input n steps (finish.Error e) =
+    (n < steps) × (e ≢ ends.Normal) × (outcome p input (after_steps p input n) ≡ Stops e)
+IsRunOver p r input n steps finish.Waits =
+    (n < steps) × (outcome p input (after_steps p input n) ≡ Waiting) × IsAtEnd r
 
--- The run is over: n steps took all bytes that were read, their output was written, and nothing failed.
+-- The run is over: n steps took all bytes that were read, their output was written, and nothing
+-- failed.
 pub record Finishes (p : Parts) (from to : Streams) (steps : ℕ) (f : Finish) : Type 0 where
   pub input : List ℕ
   pub n : ℕ
-  pub run : HasRun p input n
+  pub run : HasRunOn p input n
   pub moved : HasMoved from to input (out p input n)
   pub faultless : HasNoFault from to
-  pub over : IsOver p to.reader input n steps f
+  pub over : IsRunOver p to.reader input n steps f
 
--- A read failed: fewer steps than were allowed took all bytes that were read, their output was written, and the machine waits.
+-- A read failed: fewer steps than were allowed took all bytes that were read, their output was
+-- written, and the machine waits.
 pub record FailsToRead (p : Parts) (from to : Streams) (steps : ℕ) : Type 0 where
   pub input : List ℕ
   pub n : ℕ
   pub few : n < steps
-  pub run : HasRun p input n
+  pub run : HasRunOn p input n
   pub moved : HasMoved from to input (out p input n)
-  pub waits : outcome p input (after p input n) ≡ Waiting
+  pub waits : outcome p input (after_steps p input n) ≡ Waiting
   pub fault : HasReadFault from to
 
--- A write failed: of fewer steps than were allowed the output was written, and not the byte that the next step writes. All bytes
--- that were read were taken by these steps, or are the one that the next step takes.
+-- A write failed: of fewer steps than were allowed the output was written, and not the byte that
+-- the next step writes. All bytes that were read were taken by these steps, or are the one that the
+-- next step takes.
 pub record FailsToWrite (p : Parts) (from to : Streams) (steps : ℕ) : Type 0 where
   pub input : List ℕ
   pub n : ℕ
   pub few : n < steps
-  pub run : HasRun p input n
+  pub run : HasRunOn p input n
   pub took : Option ℕ
   pub byte : ℕ
   pub state : State
-  pub next : outcome p (input ++ option_to_list took) (after p input n)
-      ≡ Goes (joined state (length input + length (option_to_list took)) (out p input n ++ byte ∷ []))
+  pub next : outcome p (input ++ option_to_list took) (after_steps p input n)
+      ≡ Goes (configuration_of state (length input + length (option_to_list took))
+      (out p input n ++ byte ∷ []))
   pub moved : HasMoved from to (input ++ option_to_list took) (out p input n)
   pub fault : HasWriteFault from to
 
 -- what a run of at most so many steps does; without memory it does nothing
-abbrev pub RunsTo : Parts → Streams → Streams → ℕ → Result Finish RunIo → Type 0
-RunsTo p from to steps (Ok f) = Finishes p from to steps f
-RunsTo p from to steps (Err io.Memory) = to ≡ from
-RunsTo p from to steps (Err io.Read) = FailsToRead p from to steps
-RunsTo p from to steps (Err io.Write) = FailsToWrite p from to steps
+abbrev pub RunsProgram : Parts → Streams → Streams → ℕ → Result Finish RunIo → Type 0
+RunsProgram p from to steps (Ok f) = Finishes p from to steps f
+RunsProgram p from to steps (Err io.Memory) = to ≡ from
+RunsProgram p from to steps (Err io.Read) = FailsToRead p from to steps
+RunsProgram p from to steps (Err io.Write) = FailsToWrite p from to steps
 
 -- ---- one turn of the run, as the machine's state sees it
 
 -- no step is made, for this reason of the machine's
-abbrev pub Halts : Parts → State → Option (List ℕ) → Finish → Type 0
-Halts p s r finish.Normal = EndsBy p s ends.Normal
-Halts p s r (finish.Error e) = EndsBy p s e × (e ≢ ends.Normal)
-Halts p s r finish.Waits = WaitsOn p s × IsAtEnd r
-Halts p s r finish.Steps = ⊥
+abbrev pub HaltsFor : Parts → State → Option (List ℕ) → Finish → Type 0
+HaltsFor p s r finish.Normal = EndsBy p s ends.Normal
+HaltsFor p s r (finish.Error e) = EndsBy p s e × (e ≢ ends.Normal)
+HaltsFor p s r finish.Waits = WaitsOn p s × IsAtEnd r
+HaltsFor p s r finish.Steps = ⊥
 
 -- a turn of at most so many steps is over after n of them: all were made, or the machine makes none
 abbrev pub Rests : Parts → ℕ → ℕ → State → Option (List ℕ) → Finish → Type 0
 Rests p most n s r finish.Steps = n ≡ most
-Rests p most n s r finish.Normal = (n < most) × Halts p s r finish.Normal
-Rests p most n s r (finish.Error e) = (n < most) × Halts p s r (finish.Error e)
-Rests p most n s r finish.Waits = (n < most) × Halts p s r finish.Waits
+Rests p most n s r finish.Normal = (n < most) × HaltsFor p s r finish.Normal
+Rests p most n s r (finish.Error e) = (n < most) × HaltsFor p s r (finish.Error e)
+Rests p most n s r finish.Waits = (n < most) × HaltsFor p s r finish.Waits
 
 -- a byte could not be written: that of a step which takes the byte that was read, if one was
 pub record LosesByte (p : Parts) (old new : State) (from to : Streams) : Type 0 where
@@ -92,22 +99,29 @@ pub record LosesByte (p : Parts) (old new : State) (from to : Streams) : Type 0 
   pub moved : HasMoved from to (option_to_list took) []
   pub fault : HasWriteFault from to
 
--- One turn of the run, of at most so many steps: some that read and write nothing, and then one that takes or writes a byte, a finish, or
--- a fault.
-abbrev pub Turns : Parts → ℕ → State → State → Streams → Streams → Result (ℕ × Option Finish) RunIo → Type 0
+-- One turn of the run, of at most so many steps: some that read and write nothing, and then one
+-- that takes or writes a byte, a finish, or a fault.
+abbrev pub Turns : Parts → ℕ → State → State → Streams → Streams → Result (ℕ × Option Finish) RunIo
+    → Type 0
 Turns p most old new from to (Ok (n, None)) =
-    (k : ℕ) × (mid : State) × (took : List ℕ) × (wrote : List ℕ) × (n ≡ k + 1) × (k < most) × AreQuiet p k old mid × Makes p mid new took wrote
+    (k : ℕ) × (mid : State) × (took : List ℕ) × (wrote : List ℕ) × (n ≡ k + 1) × (k < most)
+    × AreQuiet p k old mid × Makes p mid new took wrote
     × HasMoved from to took wrote × HasNoFault from to
-Turns p most old new from to (Ok (n, Some f)) = AreQuiet p n old new × Rests p most n new to.reader f × HasMoved from to [] [] × HasNoFault from to
+Turns p most old new from to (Ok (n, Some f)) =
+    AreQuiet p n old new × Rests p most n new to.reader f × HasMoved from to [] []
+    × HasNoFault from to
 Turns p most old new from to (Err io.Memory) = ⊥
-Turns p most old new from to (Err io.Read) = (k : ℕ) × (k < most) × AreQuiet p k old new × WaitsOn p new × HasMoved from to [] [] × HasReadFault from to
-Turns p most old new from to (Err io.Write) = (k : ℕ) × (mid : State) × (k < most) × AreQuiet p k old mid × LosesByte p mid new from to
+Turns p most old new from to (Err io.Read) =
+    (k : ℕ) × (k < most) × AreQuiet p k old new × WaitsOn p new × HasMoved from to [] []
+    × HasReadFault from to
+Turns p most old new from to (Err io.Write) =
+    (k : ℕ) × (mid : State) × (k < most) × AreQuiet p k old mid × LosesByte p mid new from to
 
 -- n steps were made, on some input, up to this state of the machine, and nothing has failed
 pub record Reached (p : Parts) (from to : Streams) (n : ℕ) (s : State) : Type 0 where
   pub input : List ℕ
   pub output : List ℕ
-  pub made : Leads p input n (joined s (length input) output)
+  pub made : LeadsIn p input n (configuration_of s (length input) output)
   pub moved : HasMoved from to input output
   pub faultless : HasNoFault from to
 

@@ -3,7 +3,8 @@ use Rattle.std.specs.Prelude.{◌≡◌, ℕ, List, Option}
 use Rattle.std.specs.Io.KnownBytes.{Appends, Consumes}
 use Rattle.base.specs.Faults.{HasRisen}
 
--- the bytes that a reader has left and a writer holds, where they are known, and how often each has failed
+-- the bytes that a reader has left and a writer holds, where they are known, and how often each has
+-- failed
 pub record Streams : Type 0 where
   pub reader : Option (List ℕ)
   pub writer : Option (List ℕ)

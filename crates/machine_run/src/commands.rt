@@ -52,7 +52,8 @@ fn write_checked<W: Write>(writer: &mut W, program: &Program) -> io::Result<()> 
     )
 }
 
-/// Checks a code file, and writes the segment's number and how many procedures and reached offsets it has.
+/// Checks a code file, and writes the segment's number and how many procedures and reached offsets
+/// it has.
 pub fn check_file<H: Files + AllocGlobal, W: Write>(
     rt: &H,
     file: &str,

@@ -11,21 +11,22 @@ use std::io::Read;
 use std::rt::Files;
 
 /// How many bytes a file has at most.
-pub const LONGEST: usize = 67_108_864;
+pub const LONGEST_FILE: usize = 67_108_864;
 
 /// Why a file is not read.
 #[derive(Clone, Copy, Debug, PartialEq, Eq)]
 pub enum FileError {
-    /// It can't be opened or read, or is longer than `LONGEST`.
+    /// It can't be opened or read, or is longer than `LONGEST_FILE`.
     Unreadable,
     /// Memory ran out for bytes that were read.
     Memory,
 }
 
-/// Reads all bytes that a reader has left, at most `LONGEST`. After a refusal what was read until then is
-/// gone from the reader; memory runs out only once there is a byte to hold.
+/// Reads all bytes that a reader has left, at most `LONGEST_FILE`. After a refusal what was read
+/// until then is gone from the reader; memory runs out only once there is a byte to hold.
 pub fn read_whole<R: Read>(alloc: Global, reader: &mut R) -> Result<Vec<u8>, FileError>
-    ensures whole { IfOk result (λ bytes. Consumes (R.remaining reader.old) (R.remaining reader.new) bytes.items) }
+    ensures whole { IfOk result
+        (λ bytes. Consumes (R.remaining reader.old) (R.remaining reader.new) bytes.items) }
     ensures end { IfOk result (λ _. IsAtEnd (R.remaining reader.new)) }
     ensures short { IfOk result (λ bytes. vec_len bytes ≤ 67108864) }
     ensures front { IfErr result (λ e. (read : List ℕ)
@@ -38,7 +39,7 @@ pub fn read_whole<R: Read>(alloc: Global, reader: &mut R) -> Result<Vec<u8>, Fil
         match reader.read(&mut buffer) {
             Ok(0) => return Ok(bytes),
             Ok(n) => {
-                if n > LONGEST - bytes.len() {
+                if n > LONGEST_FILE - bytes.len() {
                     return Err(FileError::Unreadable);
                 }
                 if bytes.extend_from_slice(&buffer[..n]).is_err() {
@@ -59,10 +60,11 @@ pub fn read_file<H: Files + AllocGlobal>(rt: &H, path: &str) -> Result<Vec<u8>, 
     }
 }
 
-/// Reads all of an input that is not a file, as `read_whole` does. A failed read, and an input of more than
-/// `LONGEST` bytes, is `RunIo::Read`.
+/// Reads all of an input that is not a file, as `read_whole` does. A failed read, and an input of
+/// more than `LONGEST_FILE` bytes, is `RunIo::Read`.
 pub fn read_input<R: Read>(alloc: Global, reader: &mut R) -> Result<Vec<u8>, RunIo>
-    ensures whole { IfOk result (λ bytes. Consumes (R.remaining reader.old) (R.remaining reader.new) bytes.items) }
+    ensures whole { IfOk result
+        (λ bytes. Consumes (R.remaining reader.old) (R.remaining reader.new) bytes.items) }
     ensures end { IfOk result (λ _. IsAtEnd (R.remaining reader.new)) }
     ensures short { IfOk result (λ bytes. vec_len bytes ≤ 67108864) }
     ensures front { IfErr result (λ e. (read : List ℕ)

@@ -1,8 +1,10 @@
-//! One machine, from files, readers and writers: a code file is checked, listed and run, and a datagram is printed as text.
+//! One machine, from files, readers and writers: a code file is checked, listed and run, and a
+//! datagram is printed as text.
 //!
-//! `check_file`, `list_file` and `run_file` do the work of the commands `check`, `list` and `run`. They stand on `load`, which makes a
-//! program of a code file's bytes, and on `run_program`, which runs a program over a `ByteReader` and a `ByteWriter` and says exactly what
-//! was read and written. `show` prints a datagram.
+//! `check_file`, `list_file` and `run_file` do the work of the commands `check`, `list` and `run`.
+//! They stand on `load`, which makes a program of a code file's bytes, and on `run_program`, which
+//! runs a program over a `ByteReader` and a `ByteWriter` and says exactly what was read and
+//! written. `show` prints a datagram.
 #![tactic(auto)]
 
 mod built_in;
@@ -17,7 +19,7 @@ mod text;
 
 pub use built_in::run_built_in;
 pub use commands::{check_file, list_file, load_file, run_file};
-pub use files::{FileError, LONGEST, read_file, read_input, read_whole};
+pub use files::{FileError, LONGEST_FILE, read_file, read_input, read_whole};
 pub use hex::{HexError, bytes_of};
 pub use loading::load;
 pub use refusal::{MachineRefusal, ShowFault};

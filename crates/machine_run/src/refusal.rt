@@ -32,7 +32,8 @@ impl From<FileError> for MachineRefusal {
     ghost use Rattle.machine_run.specs.declared.files.FileError.TheVariants as file;
     ghost use Rattle.machine_run.specs.declared.run.RunIo.TheVariants as run;
 
-    ghost from_gives = { λ error r. (error ≡ file.Unreadable → r ≡ File) × (error ≡ file.Memory → r ≡ Run run.Memory) };
+    ghost from_gives = { λ error r. (error ≡ file.Unreadable → r ≡ File)
+        × (error ≡ file.Memory → r ≡ Run run.Memory) };
 
     fn from(error: FileError) -> MachineRefusal {
         match error {

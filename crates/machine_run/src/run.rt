@@ -3,7 +3,7 @@ ghost use Rattle.std.specs.Prelude.{◌≡◌, ◌≤◌, ℕ, List, [], ◌∷�
 ghost use Rattle.std.specs.Io.KnownBytes.{Keeps, Appends};
 ghost use Rattle.base.specs.Faults.{HasRisen};
 ghost use Rattle.pcode_machine.specs.Turns.{Makes, WaitsOn};
-ghost use Rattle.machine_run.specs.Run.{Turns, RunsTo, finish_of};
+ghost use Rattle.machine_run.specs.Run.{Turns, RunsProgram, finish_of};
 
 use crate::streams::{ByteReader, ByteWriter, ReadFault, WriteFault};
 use pcode_machine::laws::{quiet_steps_lead_on, run_is_after, same_run_on_longer_input};
@@ -58,11 +58,12 @@ fn feed<W: ByteWriter>(
     requires { WaitsOn machine.old.program machine.old.state }
     ensures program { machine.new.program ≡ machine.old.program }
     ensures made { MatchResult result
-        (λ _. (wrote : List ℕ) × Makes machine.old.program machine.old.state machine.new.state (byte ∷ []) wrote
+        (λ _. (wrote : List ℕ)
+        × Makes machine.old.program machine.old.state machine.new.state (byte ∷ []) wrote
         × Appends (W.contents writer.old) (W.contents writer.new) wrote
         × (W.write_faults writer.new ≡ W.write_faults writer.old))
-        (λ _. (echo : ℕ) × Makes machine.old.program machine.old.state machine.new.state (byte ∷ []) (echo ∷ [])
-        × Keeps (W.contents writer.old) (W.contents writer.new)
+        (λ _. (echo : ℕ) × Makes machine.old.program machine.old.state machine.new.state (byte ∷ [])
+        (echo ∷ []) × Keeps (W.contents writer.old) (W.contents writer.new)
         × HasRisen (W.write_faults writer.old) (W.write_faults writer.new)) }
 {
     match machine.take(byte) {
@@ -71,8 +72,8 @@ fn feed<W: ByteWriter>(
     }
 }
 
-/// Makes steps, at most `most`, until one takes or writes a byte, or the run is over. Returns how many steps it
-/// made, and how the run was over if it is.
+/// Makes steps, at most `most`, until one takes or writes a byte, or the run is over. Returns how
+/// many steps it made, and how the run was over if it is.
 fn turn<R: ByteReader, W: ByteWriter>(
     reader: &mut R,
     writer: &mut W,
@@ -81,8 +82,18 @@ fn turn<R: ByteReader, W: ByteWriter>(
 ) -> Result<(u32, Option<Finish>), RunIo>
     ensures program { machine.new.program ≡ machine.old.program }
     ensures turn { Turns machine.old.program most machine.old.state machine.new.state
-        (record { reader = R.remaining reader.old; writer = W.contents writer.old; read_faults = R.read_faults reader.old; write_faults = W.write_faults writer.old })
-        (record { reader = R.remaining reader.new; writer = W.contents writer.new; read_faults = R.read_faults reader.new; write_faults = W.write_faults writer.new }) result }
+        (record {
+          reader = R.remaining reader.old;
+          writer = W.contents writer.old;
+          read_faults = R.read_faults reader.old;
+          write_faults = W.write_faults writer.old;
+        })
+        (record {
+          reader = R.remaining reader.new;
+          writer = W.contents writer.new;
+          read_faults = R.read_faults reader.new;
+          write_faults = W.write_faults writer.new;
+        }) result }
     ensures most { IfOk result (λ r. r.0 ≤ most) }
 {
     let (made, pause) = machine.run(most);
@@ -104,8 +115,8 @@ fn turn<R: ByteReader, W: ByteWriter>(
     }
 }
 
-/// Runs a program for at most this many steps. Before each step it looks first whether the steps are
-/// spent. It reads a byte only where the machine waits for it, and writes each byte by itself.
+/// Runs a program for at most this many steps. Before each step it looks first whether the steps
+/// are spent. It reads a byte only where the machine waits for it, and writes each byte by itself.
 pub fn run_program<R: ByteReader, W: ByteWriter>(
     alloc: Global,
     reader: &mut R,
@@ -113,11 +124,23 @@ pub fn run_program<R: ByteReader, W: ByteWriter>(
     program: &Program,
     steps: u32,
 ) -> Result<Finish, RunIo>
-    ensures { RunsTo program.now
-        (record { reader = R.remaining reader.old; writer = W.contents writer.old; read_faults = R.read_faults reader.old; write_faults = W.write_faults writer.old })
-        (record { reader = R.remaining reader.new; writer = W.contents writer.new; read_faults = R.read_faults reader.new; write_faults = W.write_faults writer.new }) steps result }
+    ensures { RunsProgram program.now
+        (record {
+          reader = R.remaining reader.old;
+          writer = W.contents writer.old;
+          read_faults = R.read_faults reader.old;
+          write_faults = W.write_faults writer.old;
+        })
+        (record {
+          reader = R.remaining reader.new;
+          writer = W.contents writer.new;
+          read_faults = R.read_faults reader.new;
+          write_faults = W.write_faults writer.new;
+        }) steps
+        result }
 {
-    // Steps on an input are steps on each longer input, and lead to what is after so many; quiet ones go on from there.
+    // Steps on an input are steps on each longer input, and lead to what is after so many; quiet
+    // ones go on from there.
     same_run_on_longer_input();
     run_is_after();
     quiet_steps_lead_on();

@@ -57,9 +57,11 @@ not_promised None b h = refl
 not_promised (Some p) b h = not_same p b h
 
 -- a value under this ballot is that of the vote, which is under it
-pub under_is : (o : Option Vote) (b : Ballot) (w : Value) → value_under o b ≡ Some w → (vote : Vote) × (o ≡ Some vote) × (vote.ballot ≡ b) × (vote.value ≡ w)
+pub under_is : (o : Option Vote) (b : Ballot) (w : Value) → value_under o b ≡ Some w
+    → (vote : Vote) × (o ≡ Some vote) × (vote.ballot ≡ b) × (vote.value ≡ w)
 under_is None b w e = absurd cc
 under_is (Some vote) b w e = by (same_ballot vote.ballot b) refl e where
-  by : (t : Bool) → same_ballot vote.ballot b ≡ t → (if t then Some vote.value else None) ≡ Some w → (x : Vote) × (Some vote ≡ Some x) × (x.ballot ≡ b) × (x.value ≡ w)
+  by : (t : Bool) → same_ballot vote.ballot b ≡ t → (if t then Some vote.value else None) ≡ Some w
+      → (x : Vote) × (Some vote ≡ Some x) × (x.ballot ≡ b) × (x.value ≡ w)
   by true f k = (vote, refl, same_is vote.ballot b f, cc)
   by false f k = absurd cc

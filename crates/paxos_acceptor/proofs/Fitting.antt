@@ -10,16 +10,18 @@ use Rattle.paxos_msg.specs.declared.record.Change.TheVariants as change
 use Rattle.paxos_msg.specs.declared.message.Body.TheVariants.{Refused}
 use Rattle.paxos_msg.specs.Ballots.{IsAtMost, IsBelow}
 use Rattle.paxos_msg.specs.Fits.{IsBallot, IsPlace, IsValue, IsVote, AreVotes, IsBody}
-use Rattle.paxos_msg.specs.Messages.{vote_at}
+use Rattle.paxos_msg.specs.Messages.{kept_vote_at}
 use Rattle.paxos_msg.specs.Records.{changed}
-use Rattle.paxos_acceptor.specs.Answers.{Answer, accept_of, accepted, after, behind_last, part_of, prepare_of, prepared, voted, votes_from}
+use Rattle.paxos_acceptor.specs.Answers.{Answer, accept_of, accepted, after, behind_last, part_of, prepare_of, prepared, voted}
+use Rattle.paxos_msg.specs.Places.{votes_from}
 use Rattle.paxos_acceptor.specs.Cases.{greater_promise, is_promised, value_under}
 use Rattle.paxos_acceptor.specs.Records.{AreKept, IsRecord}
 use Rattle.paxos_acceptor.proofs.ByCases.{greater_is, no_greater, under_is}
 use Rattle.paxos_acceptor.proofs.Ranges.{all_raised, at_most_itself, promise_in_ranges, raised, vote_in_ranges}
 
 module _ (size upto : ℕ) (b : Ballot) where
-  step_if : (t : Bool) (x : Vote) (ys : List Vote) (low : ℕ) → IsVote size b low upto x → AreVotes size b (x.place + 1) upto ys → AreVotes size b low upto (if t then x ∷ ys else ys)
+  step_if : (t : Bool) (x : Vote) (ys : List Vote) (low : ℕ) → IsVote size b low upto x
+      → AreVotes size b (x.place + 1) upto ys → AreVotes size b low upto (if t then x ∷ ys else ys)
   step_if true x ys low h k = (h, k)
   step_if false x ys low h k = all_raised size upto b b (at_most_itself b) ys (x.place + 1) low (omega (arith, h.from_low)) k
 
@@ -28,7 +30,8 @@ module _ (size upto : ℕ) (b : Ballot) where
   some_of [] from low h = tt
   some_of (x ∷ xs) from low h = step_if (nat_le from x.place) x (votes_from from xs) low h.0 (some_of xs from (x.place + 1) h.1)
 
-  from_if : (t : Bool) (x : Vote) (ys : List Vote) (from low : ℕ) → nat_le from x.place ≡ t → IsVote size b low upto x → AreVotes size b (x.place + 1) upto ys → AreVotes size b from upto ys
+  from_if : (t : Bool) (x : Vote) (ys : List Vote) (from low : ℕ) → nat_le from x.place ≡ t → IsVote size b low upto x
+      → AreVotes size b (x.place + 1) upto ys → AreVotes size b from upto ys
       → AreVotes size b from upto (if t then x ∷ ys else ys)
   from_if true x ys from low e h k j =
       let le : from ≤ x.place = grind (arith, nat_tests) in
@@ -38,19 +41,24 @@ module _ (size upto : ℕ) (b : Ballot) where
   -- those from a place on are from it on
   from_on : (votes : List Vote) (from low : ℕ) → AreVotes size b low upto votes → AreVotes size b from upto (votes_from from votes)
   from_on [] from low h = tt
-  from_on (x ∷ xs) from low h = from_if (nat_le from x.place) x (votes_from from xs) from low refl h.0 (some_of xs from (x.place + 1) h.1) (from_on xs from (x.place + 1) h.1)
+  from_on (x ∷ xs) from low h =
+      from_if (nat_le from x.place) x (votes_from from xs) from low refl h.0 (some_of xs from (x.place + 1) h.1)
+      (from_on xs from (x.place + 1) h.1)
 
   first_ones : (n : ℕ) (votes : List Vote) (low : ℕ) → AreVotes size b low upto votes → AreVotes size b low upto (take n votes)
   first_ones zero votes low h = tt
   first_ones (suc n) [] low h = tt
   first_ones (suc n) (x ∷ xs) low h = (h.0, first_ones n xs (x.place + 1) h.1)
 
-  found_fits : (x : Vote) (xs : List Vote) (s low : ℕ) (vote : Vote) → IsVote size b low upto x → (t : Bool) → (if t then Some x else vote_at xs s) ≡ Some vote → (vote_at xs s ≡ Some vote → IsValue size vote.value) → IsValue size vote.value
+  found_fits : (x : Vote) (xs : List Vote) (s low : ℕ) (vote : Vote) → IsVote size b low upto x → (t : Bool)
+      → (if t then Some x else kept_vote_at xs s) ≡ Some vote
+      → (kept_vote_at xs s ≡ Some vote → IsValue size vote.value) → IsValue size vote.value
   found_fits x xs s low vote h true e later = let same : x ≡ vote = cc in subst (λ (y : Vote). IsValue size y.value) same h.value
   found_fits x xs s low vote h false e later = later e
 
   -- a vote that is found has a value in its ranges
-  value_fits : (votes : List Vote) (s low : ℕ) (vote : Vote) → AreVotes size b low upto votes → vote_at votes s ≡ Some vote → IsValue size vote.value
+  value_fits : (votes : List Vote) (s low : ℕ) (vote : Vote) → AreVotes size b low upto votes
+      → kept_vote_at votes s ≡ Some vote → IsValue size vote.value
   value_fits [] s low vote h e = absurd cc
   value_fits (x ∷ xs) s low vote h e = found_fits x xs s low vote h.0 (x.place == s) e (λ k. value_fits xs s (x.place + 1) vote h.1 k)
 
@@ -86,20 +94,33 @@ module _ (size upto : ℕ) (b : Ballot) where
   unfolding behind
   tight x [] low h = (below_too x low (x.place + 1) (omega arith) h.0, tt) where
     below_too : (x : Vote) (low over : ℕ) → x.place < over → IsVote size b low upto x → IsVote size b low over x
-    below_too x low over lt h = record { from_low = h.from_low; below_upto = lt; ballot = h.ballot; not_above = h.not_above; value = h.value }
+    below_too x low over lt h =
+        record { from_low = h.from_low; below_upto = lt; ballot = h.ballot; not_above = h.not_above; value = h.value }
   tight x (y ∷ ys) low h =
-      let above : x.place + 1 < behind y ys = behind_above y ys (x.place + 1) h.1 in
-      (record { from_low = h.0.from_low; below_upto = omega arith; ballot = h.0.ballot; not_above = h.0.not_above; value = h.0.value }, tight y ys (x.place + 1) h.1)
+      let above : x.place + 1 < behind y ys = behind_above y ys (x.place + 1) h.1 in (
+        record {
+          from_low = h.0.from_low;
+          below_upto = omega arith;
+          ballot = h.0.ballot;
+          not_above = h.0.not_above;
+          value = h.0.value;
+        },
+        tight y ys (x.place + 1) h.1,
+      )
 
-  first_part : (votes : List Vote) (low : ℕ) → 0 < length votes → upto ≤ 65536 → AreVotes size b low upto votes → (behind_last votes ≤ 65536) × (low < behind_last votes) × AreVotes size b low (behind_last votes) votes
+  first_part : (votes : List Vote) (low : ℕ) → 0 < length votes → upto ≤ 65536 → AreVotes size b low upto votes
+      → (behind_last votes ≤ 65536) × (low < behind_last votes) × AreVotes size b low (behind_last votes) votes
   first_part [] low more few h = absurd (omega arith)
   first_part (x ∷ xs) low more few h =
       let within : behind x xs ≤ upto = behind_within x xs low h in
       rw (behind_is x xs) (omega arith, behind_above x xs low h, tight x xs low h)
 
 -- the bounds of a part, by whether it has all votes
-part_if : (size : ℕ) (b : Ballot) (from : ℕ) (votes : List Vote) (t : Bool) → nat_lt 8 (length votes) ≡ t → IsPlace from → AreVotes size b from 65536 votes
-    → ((if t then behind_last (take 8 votes) else 65536) ≤ 65536) × (from < (if t then behind_last (take 8 votes) else 65536)) × AreVotes size b from (if t then behind_last (take 8 votes) else 65536) (take 8 votes)
+part_if : (size : ℕ) (b : Ballot) (from : ℕ) (votes : List Vote) (t : Bool) → nat_lt 8 (length votes) ≡ t → IsPlace from
+    → AreVotes size b from 65536 votes
+    → ((if t then behind_last (take 8 votes) else 65536) ≤ 65536)
+    × (from < (if t then behind_last (take 8 votes) else 65536))
+    × AreVotes size b from (if t then behind_last (take 8 votes) else 65536) (take 8 votes)
 part_if size b from votes true e place h =
     let more : 0 < length (take 8 votes) = few (length votes) (length-take 8 votes) (grind (arith, nat_tests)) in
     first_part size 65536 b (take 8 votes) from more (omega arith) (first_ones size 65536 b 8 votes from h)
@@ -108,24 +129,31 @@ part_if size b from votes true e place h =
     few n e h = omega arith
 part_if size b from votes false e place h = (omega arith, omega arith, first_ones size 65536 b 8 votes from h)
 
-part_fits : (size i : ℕ) (r : Record) (b : Ballot) (from : ℕ) → IsBallot size b → IsPlace from → AreVotes size b 0 65536 r.votes → IsBody size i (part_of r b from)
+part_fits : (size i : ℕ) (r : Record) (b : Ballot) (from : ℕ) → IsBallot size b → IsPlace from
+    → AreVotes size b 0 65536 r.votes → IsBody size i (part_of r b from)
 part_fits size i r b from ballot place h =
-    let p = part_if size b from (votes_from from r.votes) (nat_lt 8 (length (votes_from from r.votes))) refl place (from_on size 65536 b r.votes from 0 h) in
+    let p =
+    part_if size b from (votes_from from r.votes) (nat_lt 8 (length (votes_from from r.votes))) refl place
+    (from_on size 65536 b r.votes from 0 h) in
     let short : length (take 8 (votes_from from r.votes)) ≤ 8 = omega (arith, length-take 8 (votes_from from r.votes)) in
     (ballot, place, p.0, p.1, short, p.2)
 
 -- the promised ballot is in its ranges
-promised_fits : (size : ℕ) (promised : Option Ballot) (votes : List Vote) (p : Ballot) → AreKept size promised votes → promised ≡ Some p → IsBallot size p
+promised_fits : (size : ℕ) (promised : Option Ballot) (votes : List Vote) (p : Ballot) → AreKept size promised votes
+    → promised ≡ Some p → IsBallot size p
 promised_fits size None votes p h e = absurd cc
 promised_fits size (Some q) votes p h e = let same : q ≡ p = cc in rw (← same) h.0
 
 -- so is the value of a vote
-voted_fits : (size : ℕ) (promised : Option Ballot) (votes : List Vote) (s : ℕ) (vote : Vote) → AreKept size promised votes → vote_at votes s ≡ Some vote → IsValue size vote.value
-voted_fits size None votes s vote h e = let none : vote_at [] s ≡ Some vote = rw h at e in absurd cc
+voted_fits : (size : ℕ) (promised : Option Ballot) (votes : List Vote) (s : ℕ) (vote : Vote)
+    → AreKept size promised votes → kept_vote_at votes s ≡ Some vote → IsValue size vote.value
+voted_fits size None votes s vote h e = let none : kept_vote_at [] s ≡ Some vote = rw h at e in absurd cc
 voted_fits size (Some p) votes s vote h e = value_fits size 65536 p votes s 0 vote h.1 e
 
 -- so is the record, whether the ballot had to be saved or not
-kept_by : (size : ℕ) (r : Record) (b : Ballot) (t : Bool) → IsRecord size r → IsRecord size (changed r (change.Promise b)) → IsRecord size (after r (if t then None else Some (change.Promise b)))
+kept_by : (size : ℕ) (r : Record) (b : Ballot) (t : Bool) → IsRecord size r
+    → IsRecord size (changed r (change.Promise b))
+    → IsRecord size (after r (if t then None else Some (change.Promise b)))
 kept_by size r b true h next = h
 kept_by size r b false h next = next
 
@@ -139,7 +167,8 @@ module _ (size i : ℕ) (r : Record) (h : IsRecord size r) (b : Ballot) (ballot 
   refused p greater = record { says = (ballot, promised_fits size r.promised r.votes p h.kept greater.0, greater.1); kept = h }
 
   module _ (from : ℕ) (place : IsPlace from) where
-    promised_by : IfSome r.promised (λ p. IsAtMost p b) → (t : Bool) → IsFit size i r (record { saves = if t then None else Some (change.Promise b); says = part_of r b from })
+    promised_by : IfSome r.promised (λ p. IsAtMost p b) → (t : Bool)
+        → IsFit size i r (record { saves = if t then None else Some (change.Promise b); says = part_of r b from })
     promised_by rises t =
         let next : IsRecord size (changed r (change.Promise b)) = promise_in_ranges size r b rises ballot h in
         record { says = part_fits size i r b from ballot place next.kept.1; kept = kept_by size r b t h next }
@@ -152,15 +181,16 @@ module _ (size i : ℕ) (r : Record) (h : IsRecord size r) (b : Ballot) (ballot 
     prepare_fits = prepare_by (greater_promise r.promised b) refl
 
   module _ (s : ℕ) (v : Value) (place : IsPlace s) (value : IsValue size v) where
-    vote_by : IfSome r.promised (λ p. IsAtMost p b) → (under : Option Value) → value_under (vote_at r.votes s) b ≡ under → IsFit size i r (voted under b s v)
+    vote_by : IfSome r.promised (λ p. IsAtMost p b) → (under : Option Value)
+        → value_under (kept_vote_at r.votes s) b ≡ under → IsFit size i r (voted under b s v)
     vote_by rises None e = record { says = (ballot, place, value); kept = vote_in_ranges size r b s v rises ballot place value h }
     vote_by rises (Some w) e =
-        let (vote, there, same, is) = under_is (vote_at r.votes s) b w e in
+        let (vote, there, same, is) = under_is (kept_vote_at r.votes s) b w e in
         record { says = (ballot, place, subst (IsValue size) is (voted_fits size r.promised r.votes s vote h.kept there)); kept = h }
 
     accept_by : (greater : Option Ballot) → greater_promise r.promised b ≡ greater → IsFit size i r (accepted greater r b s v)
     accept_by (Some p) e = refused p (greater_is r.promised b p e)
-    accept_by None e = vote_by (no_greater r.promised b e) (value_under (vote_at r.votes s) b) refl
+    accept_by None e = vote_by (no_greater r.promised b e) (value_under (kept_vote_at r.votes s) b) refl
 
     pub accept_fits : IsFit size i r (accept_of r b s v)
     accept_fits = accept_by (greater_promise r.promised b) refl

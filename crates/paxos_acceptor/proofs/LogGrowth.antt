@@ -21,17 +21,21 @@ none_left (x ∷ xs) e = absurd (omega (arith, e))
 
 -- ---- what a cut leaves of an entry
 
-cut_batch : (node start first : ℕ) (bytes xs ys : List ℕ) → IsBatch first bytes → node ∷ (number_bytes start ++ (number_bytes first ++ length bytes ∷ bytes)) ≡ xs ++ ys → 0 < length ys → IsCutBatch Two xs
+cut_batch : (node start first : ℕ) (bytes xs ys : List ℕ) → IsBatch first bytes
+    → node ∷ (number_bytes start ++ (number_bytes first ++ length bytes ∷ bytes)) ≡ xs ++ ys → 0 < length ys
+    → IsCutBatch Two xs
 cut_batch node start first bytes xs ys fits e more = by (nat_lt (length xs) 10) refl where
   by : (t : Bool) → nat_lt (length xs) 10 ≡ t → IsCutBatch Two xs
   by true t = inl (grind (arith, nat_tests, t))
   by false t =
       let long : 10 ≤ length xs = grind (arith, nat_tests, t) in
       let total = ap (λ (zs : List ℕ). length zs) e ∙ length-append xs ys in
-      let count : slice_index xs 9 ≡ length bytes = sym (ap (λ (zs : List ℕ). slice_index zs 9) e ∙ get_or_append_left xs ys 0 9 (omega (arith, long))) in
+      let count : slice_index xs 9 ≡ length bytes =
+      sym (ap (λ (zs : List ℕ). slice_index zs 9) e ∙ get_or_append_left xs ys 0 9 (omega (arith, long))) in
       inr (omega (arith, count, fits.1), omega (arith, count, fits.2), omega (arith, count, total, more))
 
-cut_vote : (s : ℕ) (b : Ballot) (size : ℕ) (v : Value) (xs ys : List ℕ) → IsValue size v → number_bytes s ++ (ballot_bytes b ++ value_bytes v) ≡ xs ++ ys → 0 < length ys → IsCutVote Two xs
+cut_vote : (s : ℕ) (b : Ballot) (size : ℕ) (v : Value) (xs ys : List ℕ) → IsValue size v
+    → number_bytes s ++ (ballot_bytes b ++ value_bytes v) ≡ xs ++ ys → 0 < length ys → IsCutVote Two xs
 cut_vote s b size Noop xs ys fits e more =
     let total : 10 ≡ length xs + length ys = ap (λ (zs : List ℕ). length zs) e ∙ length-append xs ys in
     inl (omega (arith, total, more))
@@ -40,8 +44,10 @@ cut_vote s b size (Keys node start first bytes) xs ys fits e more = by (nat_lt (
   by true t = inl (grind (arith, nat_tests, t))
   by false t =
       let long : 10 ≤ length xs = grind (arith, nat_tests, t) in
-      let tag : slice_index xs 9 ≡ 1 = sym (ap (λ (zs : List ℕ). slice_index zs 9) e ∙ get_or_append_left xs ys 0 9 (omega (arith, long))) in
-      let rest : node ∷ (number_bytes start ++ (number_bytes first ++ length bytes ∷ bytes)) ≡ drop 10 xs ++ ys = ap (λ (zs : List ℕ). drop 10 zs) e ∙ drop-append-le 10 xs ys long in
+      let tag : slice_index xs 9 ≡ 1 =
+      sym (ap (λ (zs : List ℕ). slice_index zs 9) e ∙ get_or_append_left xs ys 0 9 (omega (arith, long))) in
+      let rest : node ∷ (number_bytes start ++ (number_bytes first ++ length bytes ∷ bytes)) ≡ drop 10 xs ++ ys =
+      ap (λ (zs : List ℕ). drop 10 zs) e ∙ drop-append-le 10 xs ys long in
       inr (tag, cut_batch node start first bytes (drop 10 xs) ys fits.2 rest more)
 
 cut_entry : (size : ℕ) (c : Change) (xs ys : List ℕ) → IsInRanges size c → entry_bytes Two c ≡ xs ++ ys → 0 < length ys → IsEnd Two xs
@@ -69,13 +75,16 @@ short_entry size (Ballotted s b v) fits = omega (arith, short_value size v fits.
 -- ---- one entry more
 
 module _ (version : Version) (size : ℕ) where
-  one_more : (r : Record) (cs : List Change) (c : Change) → AreEntries version size r cs → IsEntry size (folded r cs) c → IsFor version c → AreEntries version size r (cs ++ c ∷ [])
+  one_more : (r : Record) (cs : List Change) (c : Change) → AreEntries version size r cs → IsEntry size (folded r cs) c
+      → IsFor version c → AreEntries version size r (cs ++ c ∷ [])
   one_more r [] c are entry is_for = (entry, is_for, tt)
   one_more r (d ∷ cs) c are entry is_for = (are.0, are.1, one_more (changed r d) cs c are.2 entry is_for)
 
   spelled_more : (cs : List Change) (c : Change) → entries_bytes version (cs ++ c ∷ []) ≡ entries_bytes version cs ++ entry_bytes version c
   spelled_more [] c = append-nil (entry_bytes version c)
-  spelled_more (d ∷ cs) c = ap (λ (xs : List ℕ). entry_bytes version d ++ xs) (spelled_more cs c) ∙ sym (append_assoc (entry_bytes version d) (entries_bytes version cs) (entry_bytes version c))
+  spelled_more (d ∷ cs) c =
+      ap (λ (xs : List ℕ). entry_bytes version d ++ xs) (spelled_more cs c)
+      ∙ sym (append_assoc (entry_bytes version d) (entries_bytes version cs) (entry_bytes version c))
 
 folded_more : (r : Record) (cs : List Change) (c : Change) → folded r (cs ++ c ∷ []) ≡ changed (folded r cs) c
 folded_more r [] c = refl
@@ -92,7 +101,9 @@ whole_of : (me : Me) (bytes : List ℕ) (r : Record) → IsUncut me bytes r → 
 whole_of me bytes r h =
     let fold = h.3.1 in
     let none : h.1 ≡ [] = none_left h.1 (omega (arith, h.4)) in
-    let entries : h.0 ≡ entries_bytes Two h.3.0 = fold.spelled ∙ ap (λ (xs : List ℕ). entries_bytes Two h.3.0 ++ xs) none ∙ append-nil (entries_bytes Two h.3.0) in
+    let entries : h.0 ≡ entries_bytes Two h.3.0 =
+    fold.spelled ∙ ap (λ (xs : List ℕ). entries_bytes Two h.3.0 ++ xs) none
+    ∙ append-nil (entries_bytes Two h.3.0) in
     record { changes = h.3.0; are = fold.entries; spelled = h.2 ∙ ap (λ (xs : List ℕ). log_header Two me ++ xs) entries; all = fold.all }
 
 uncut_of : (me : Me) (bytes : List ℕ) (r : Record) → Whole me bytes r → IsUncut me bytes r
@@ -110,19 +121,24 @@ new_log me = uncut_of me (log_header Two me) empty_record (record { changes = []
 for_two : (c : Change) → IsFor Two c
 for_two c = tt
 
-pub grown_log : (me : Me) (bytes : List ℕ) (r : Record) (c : Change) → IsUncut me bytes r → IsEntry me.group.size r c → IsUncut me (bytes ++ entry_bytes Two c) (changed r c)
+pub grown_log : (me : Me) (bytes : List ℕ) (r : Record) (c : Change) → IsUncut me bytes r → IsEntry me.group.size r c
+    → IsUncut me (bytes ++ entry_bytes Two c) (changed r c)
 grown_log me bytes r c h entry =
     let w = whole_of me bytes r h in
     let cs = w.changes in
     uncut_of me (bytes ++ entry_bytes Two c) (changed r c) (record {
       changes = cs ++ c ∷ [];
       are = one_more Two me.group.size empty_record cs c w.are (subst (λ (s : Record). IsEntry me.group.size s c) w.all entry) (for_two c);
-      spelled = ap (λ (xs : List ℕ). xs ++ entry_bytes Two c) w.spelled ∙ append_assoc (log_header Two me) (entries_bytes Two cs) (entry_bytes Two c)
+      spelled =
+          ap (λ (xs : List ℕ). xs ++ entry_bytes Two c) w.spelled
+          ∙ append_assoc (log_header Two me) (entries_bytes Two cs) (entry_bytes Two c)
           ∙ ap (λ (xs : List ℕ). log_header Two me ++ xs) (sym (spelled_more Two me.group.size cs c));
       all = ap (λ (s : Record). changed s c) w.all ∙ sym (folded_more empty_record cs c);
     })
 
-pub cut_log : (me : Me) (bytes : List ℕ) (r : Record) (c : Change) (xs ys : List ℕ) → IsUncut me bytes r → IsEntry me.group.size r c → entry_bytes Two c ≡ xs ++ ys → 0 < length ys → LogIn Two me (bytes ++ xs) r (length bytes)
+pub cut_log : (me : Me) (bytes : List ℕ) (r : Record) (c : Change) (xs ys : List ℕ) → IsUncut me bytes r
+    → IsEntry me.group.size r c → entry_bytes Two c ≡ xs ++ ys → 0 < length ys
+    → LogIn Two me (bytes ++ xs) r (length bytes)
 cut_log me bytes r c xs ys h entry e more =
     let w = whole_of me bytes r h in
     let cs = w.changes in (
@@ -138,7 +154,9 @@ kept_log me bytes r n h =
     let fold = h.3.1 in
     let cs = h.3.0 in
     let front : List ℕ = log_header Two me ++ entries_bytes Two cs in
-    let parts : bytes ≡ front ++ h.1 = h.2 ∙ ap (λ (xs : List ℕ). log_header Two me ++ xs) fold.spelled ∙ sym (append_assoc (log_header Two me) (entries_bytes Two cs) h.1) in
+    let parts : bytes ≡ front ++ h.1 =
+    h.2 ∙ ap (λ (xs : List ℕ). log_header Two me ++ xs) fold.spelled
+    ∙ sym (append_assoc (log_header Two me) (entries_bytes Two cs) h.1) in
     let long : length bytes ≡ length front + length h.1 = ap (λ (xs : List ℕ). length xs) parts ∙ length-append front h.1 in
     let there : take n bytes ≡ front = ap (λ (xs : List ℕ). take n xs) parts ∙ take_at front h.1 n (omega (arith, long, h.4)) in
     uncut_of me (take n bytes) r (record { changes = cs; are = fold.entries; spelled = there; all = fold.all })

@@ -21,30 +21,36 @@ behind_none (Ok x) = refl
 behind_none (Err e) = refl
 
 -- the loop begins with the whole
-pub at_start : (size : ℕ) (b : Ballot) (count left : ℕ) (bytes : List ℕ) (votes : List Vote) → votes ≡ [] → left ≡ count → LeadsTo size b count bytes votes 0 left bytes
+pub at_start : (size : ℕ) (b : Ballot) (count left : ℕ) (bytes : List ℕ) (votes : List Vote) → votes ≡ [] → left ≡ count
+    → LeadsTo size b count bytes votes 0 left bytes
 at_start size b count left bytes votes none e = rw (none, e) (behind_none (votes_at_v1 size b 0 count bytes))
 
 -- the first vote that is read joins them
-joins : (votes : List Vote) (v : Vote) (read : Result (List Vote × List ℕ) WireFault) → behind votes (read >>= λ x. Ok (v ∷ x.0, x.1)) ≡ behind (votes ++ v ∷ []) read
+joins : (votes : List Vote) (v : Vote) (read : Result (List Vote × List ℕ) WireFault)
+    → behind votes (read >>= λ x. Ok (v ∷ x.0, x.1)) ≡ behind (votes ++ v ∷ []) read
 joins votes v (Ok x) = ap (λ (xs : List Vote). Ok (xs, x.1)) (sym (append_assoc votes (v ∷ []) x.0))
 joins votes v (Err e) = refl
 
 -- a vote more is read
-pub one_more : (size : ℕ) (b : Ballot) (low left less : ℕ) (votes : List Vote) (bytes rest : List ℕ) (v : Vote) → less + 1 ≡ left → vote_at_v1 size b low bytes ≡ Ok (v, rest)
+pub one_more : (size : ℕ) (b : Ballot) (low left less : ℕ) (votes : List Vote) (bytes rest : List ℕ) (v : Vote)
+    → less + 1 ≡ left → vote_at_v1 size b low bytes ≡ Ok (v, rest)
     → behind votes (votes_at_v1 size b low left bytes) ≡ behind (votes ++ v ∷ []) (votes_at_v1 size b (v.place + 1) less rest)
 unfolding votes_at_v1
 one_more size b low zero less votes bytes rest v e h = absurd (omega (arith, e))
-one_more size b low (suc n) less votes bytes rest v e h = let same : less ≡ n = omega (arith, e) in rw (h, same) (joins votes v (votes_at_v1 size b (v.place + 1) n rest))
+one_more size b low (suc n) less votes bytes rest v e h = let same : less ≡ n =
+    omega (arith, e) in rw (h, same) (joins votes v (votes_at_v1 size b (v.place + 1) n rest))
 
 -- the next vote has a fault
-pub fault_next : (size : ℕ) (b : Ballot) (low left : ℕ) (votes : List Vote) (bytes : List ℕ) (e : WireFault) → 0 < left → vote_at_v1 size b low bytes ≡ Err e
+pub fault_next : (size : ℕ) (b : Ballot) (low left : ℕ) (votes : List Vote) (bytes : List ℕ) (e : WireFault) → 0 < left
+    → vote_at_v1 size b low bytes ≡ Err e
     → behind votes (votes_at_v1 size b low left bytes) ≡ Err e
 unfolding votes_at_v1
 fault_next size b low zero votes bytes e lt h = absurd (omega (arith, lt))
 fault_next size b low (suc n) votes bytes e lt h = rw h refl
 
 -- no vote is left to be read
-pub none_left : (size : ℕ) (b : Ballot) (low left : ℕ) (votes : List Vote) (bytes : List ℕ) → left ≡ 0 → behind votes (votes_at_v1 size b low left bytes) ≡ Ok (votes, bytes)
+pub none_left : (size : ℕ) (b : Ballot) (low left : ℕ) (votes : List Vote) (bytes : List ℕ) → left ≡ 0
+    → behind votes (votes_at_v1 size b low left bytes) ≡ Ok (votes, bytes)
 unfolding votes_at_v1
 none_left size b low zero votes bytes e = ap (λ (xs : List Vote). Ok (xs, bytes)) (append-nil votes)
 none_left size b low (suc n) votes bytes e = absurd (omega (arith, e))

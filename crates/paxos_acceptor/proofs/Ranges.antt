@@ -47,10 +47,17 @@ module _ (size upto : ℕ) (p b : Ballot) (rises : IsAtMost p b) where
 
   pub all_raised : (votes : List Vote) (low under : ℕ) → under ≤ low → AreVotes size p low upto votes → AreVotes size b under upto votes
   all_raised [] low under le h = tt
-  all_raised (x ∷ xs) low under le h = (raised low under x (omega (arith, h.0.from_low)) h.0, all_raised xs (x.place + 1) (x.place + 1) (omega arith) h.1)
+  all_raised (x ∷ xs) low under le h = (
+    raised low under x (omega (arith, h.0.from_low)) h.0,
+    all_raised xs (x.place + 1) (x.place + 1)
+        (omega arith) h.1,
+  )
 
   -- so may all of them, with one more
-  with_by : (x vote : Vote) (xs : List Vote) (low : ℕ) → AreVotes size p low upto (x ∷ xs) → IsVote size b low upto vote → (x.place < vote.place → AreVotes size b (x.place + 1) upto (with_vote xs vote)) → (t u : Bool) → nat_lt vote.place x.place ≡ t → (x.place == vote.place) ≡ u → AreVotes size b low upto (if t then vote ∷ (x ∷ xs) else (if u then vote ∷ xs else x ∷ with_vote xs vote))
+  with_by : (x vote : Vote) (xs : List Vote) (low : ℕ) → AreVotes size p low upto (x ∷ xs) → IsVote size b low upto vote
+      → (x.place < vote.place → AreVotes size b (x.place + 1) upto (with_vote xs vote)) → (t u : Bool)
+      → nat_lt vote.place x.place ≡ t → (x.place == vote.place) ≡ u
+      → AreVotes size b low upto (if t then vote ∷ (x ∷ xs) else (if u then vote ∷ xs else x ∷ with_vote xs vote))
   with_by x vote xs low h k rest true u e f =
       let below : vote.place < x.place = ltb-true vote.place x.place e in
       (k, (raised low (vote.place + 1) x (omega arith) h.0, all_raised xs (x.place + 1) (x.place + 1) (omega arith) h.1))
@@ -60,13 +67,22 @@ module _ (size upto : ℕ) (p b : Ballot) (rises : IsAtMost p b) where
   with_by x vote xs low h k rest false false e f =
       (raised low low x h.0.from_low h.0, rest (grind (arith, nat_tests)))
 
-  with_one : (votes : List Vote) (vote : Vote) (low : ℕ) → AreVotes size p low upto votes → IsVote size b low upto vote → AreVotes size b low upto (with_vote votes vote)
+  with_one : (votes : List Vote) (vote : Vote) (low : ℕ) → AreVotes size p low upto votes → IsVote size b low upto vote
+      → AreVotes size b low upto (with_vote votes vote)
   with_one [] vote low h k = (k, tt)
   with_one (x ∷ xs) vote low h k =
-      with_by x vote xs low h k (λ later. with_one xs vote (x.place + 1) h.1 (from_above x.place vote later k)) (nat_lt vote.place x.place) (x.place == vote.place) refl refl
+      with_by x vote xs low h k (λ later. with_one xs vote (x.place + 1) h.1 (from_above x.place vote later k))
+      (nat_lt vote.place x.place) (x.place == vote.place) refl refl
     where
       from_above : (s : ℕ) (vote : Vote) → s < vote.place → IsVote size b low upto vote → IsVote size b (s + 1) upto vote
-      from_above s vote later k = record { from_low = omega arith; below_upto = k.below_upto; ballot = k.ballot; not_above = k.not_above; value = k.value }
+      from_above s vote later k =
+          record {
+            from_low = omega arith;
+            below_upto = k.below_upto;
+            ballot = k.ballot;
+            not_above = k.not_above;
+            value = k.value;
+          }
 
 -- a record in its ranges has its votes in order
 in_order : (size : ℕ) (promised : Option Ballot) (votes : List Vote) → AreKept size promised votes → IsAscending votes
@@ -83,24 +99,37 @@ record_in_order size r h = in_order size r.promised r.votes h.kept
 -- ---- what a change leaves
 
 -- a ballot that is promised leaves each vote where it may stand
-kept_promised : (size : ℕ) (b : Ballot) (promised : Option Ballot) (votes : List Vote) → IfSome promised (λ p. IsAtMost p b) → IsBallot size b → AreKept size promised votes → AreKept size (Some b) votes
+kept_promised : (size : ℕ) (b : Ballot) (promised : Option Ballot) (votes : List Vote)
+    → IfSome promised (λ p. IsAtMost p b) → IsBallot size b → AreKept size promised votes → AreKept size (Some b) votes
 kept_promised size b None votes rises ballot h = (ballot, subst (AreVotes size b 0 65536) (sym h) tt)
 kept_promised size b (Some p) votes rises ballot h = (ballot, all_raised size 65536 p b rises votes 0 0 (omega arith) h.1)
 
 -- a vote under it joins them
-kept_voted : (size : ℕ) (promised : Option Ballot) (votes : List Vote) (vote : Vote) → IfSome promised (λ p. IsAtMost p vote.ballot) → IsVote size vote.ballot 0 65536 vote → AreKept size promised votes → AreKept size (Some vote.ballot) (with_vote votes vote)
-kept_voted size None votes vote rises k h = (k.ballot, subst (λ (xs : List Vote). AreVotes size vote.ballot 0 65536 (with_vote xs vote)) (sym h) (k, tt))
+kept_voted : (size : ℕ) (promised : Option Ballot) (votes : List Vote) (vote : Vote)
+    → IfSome promised (λ p. IsAtMost p vote.ballot) → IsVote size vote.ballot 0 65536 vote → AreKept size promised votes
+    → AreKept size (Some vote.ballot) (with_vote votes vote)
+kept_voted size None votes vote rises k h =
+    (k.ballot, subst (λ (xs : List Vote). AreVotes size vote.ballot 0 65536 (with_vote xs vote)) (sym h) (k, tt))
 kept_voted size (Some p) votes vote rises k h = (k.ballot, with_one size 65536 p vote.ballot rises votes vote 0 h.1 k)
 
 -- a promise of no smaller ballot than the promised one keeps a record in its ranges
-pub promise_in_ranges : (size : ℕ) (r : Record) (b : Ballot) → IfSome r.promised (λ p. IsAtMost p b) → IsBallot size b → IsRecord size r → IsRecord size (changed r (Promise b))
+pub promise_in_ranges : (size : ℕ) (r : Record) (b : Ballot) → IfSome r.promised (λ p. IsAtMost p b) → IsBallot size b
+    → IsRecord size r → IsRecord size (changed r (Promise b))
 promise_in_ranges size r b rises ballot h = record { starts = h.starts; kept = kept_promised size b r.promised r.votes rises ballot h.kept }
 
 -- so does a vote under such a ballot
-pub vote_in_ranges : (size : ℕ) (r : Record) (b : Ballot) (s : ℕ) (v : Value) → IfSome r.promised (λ p. IsAtMost p b) → IsBallot size b → IsPlace s → IsValue size v → IsRecord size r → IsRecord size (changed r (Ballotted s b v))
+pub vote_in_ranges : (size : ℕ) (r : Record) (b : Ballot) (s : ℕ) (v : Value) → IfSome r.promised (λ p. IsAtMost p b)
+    → IsBallot size b → IsPlace s → IsValue size v → IsRecord size r → IsRecord size (changed r (Ballotted s b v))
 vote_in_ranges size r b s v rises ballot place value h =
     let vote : Vote = record { place = s; ballot = b; value = v } in
-    let may : IsVote size b 0 65536 vote = record { from_low = omega arith; below_upto = omega arith; ballot = ballot; not_above = at_most_itself b; value = value } in
+    let may : IsVote size b 0 65536 vote =
+    record {
+      from_low = omega arith;
+      below_upto = omega arith;
+      ballot = ballot;
+      not_above = at_most_itself b;
+      value = value;
+    } in
     record { starts = h.starts; kept = kept_voted size r.promised r.votes vote rises may h.kept }
 
 -- so does each change that can be made
@@ -118,11 +147,15 @@ start_to_spare size r c entry e = subst (IsNext r) e entry.next
 -- ---- what an acceptor knows of its record
 
 -- its votes are at places that there are
-places_within : (size : ℕ) (b : Ballot) (votes : List Vote) (low : ℕ) → AreVotes size b low 65536 votes → All (λ vote. vote.place ≤ 65535) votes
+places_within : (size : ℕ) (b : Ballot) (votes : List Vote) (low : ℕ) → AreVotes size b low 65536 votes
+    → All (λ vote. vote.place ≤ 65535) votes
 places_within size b [] low h = λ k d lt. absurd (omega arith)
-places_within size b (x ∷ xs) low h = All-cons (λ vote. vote.place ≤ 65535) x xs (omega (arith, h.0.below_upto)) (places_within size b xs (x.place + 1) h.1)
+places_within size b (x ∷ xs) low h =
+    All-cons (λ vote. vote.place ≤ 65535) x xs (omega (arith, h.0.below_upto))
+    (places_within size b xs (x.place + 1) h.1)
 
-kept_within : (size : ℕ) (promised : Option Ballot) (votes : List Vote) → AreKept size promised votes → All (λ vote. vote.place ≤ 65535) votes
+kept_within : (size : ℕ) (promised : Option Ballot) (votes : List Vote) → AreKept size promised votes
+    → All (λ vote. vote.place ≤ 65535) votes
 kept_within size None votes h = subst (λ (xs : List Vote). All (λ vote. vote.place ≤ 65535) xs) (sym h) (λ k d lt. absurd (omega arith))
 kept_within size (Some b) votes h = places_within size b votes 0 h.1
 

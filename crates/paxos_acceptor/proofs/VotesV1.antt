@@ -40,7 +40,8 @@ record IsRead (size : ℕ) (b : Ballot) (low : ℕ) (bytes : List ℕ) (p : Vote
   parts : bytes ≡ vote_bytes_v1 p.0 ++ p.1
 
 module _ (F : Fields) (size : ℕ) (b : Ballot) where
-  vote_found : (low : ℕ) (bytes : List ℕ) (p : Vote × List ℕ) → AreBytes bytes → vote_at_v1 size b low bytes ≡ Ok p → IsRead size b low bytes p
+  vote_found : (low : ℕ) (bytes : List ℕ) (p : Vote × List ℕ) → AreBytes bytes → vote_at_v1 size b low bytes ≡ Ok p
+      → IsRead size b low bytes p
   unfolding vote_at_v1
   vote_found low bytes p are e =
       let a = bind_ok (number_at bytes) _ p e in
@@ -59,12 +60,20 @@ module _ (F : Fields) (size : ℕ) (b : Ballot) where
       place.1 ∙ ap (λ (xs : List ℕ). number_bytes a.0.0 ++ xs) (ballot.1 ∙ ap (λ (xs : List ℕ). ballot_bytes f.0.0 ++ xs) value.2) in
       let last : a.0.0 ≤ 65535 = not_below 65535 a.0.0 d.0 in
       subst (IsRead size b low bytes) (ok_is (vote, k.0.1) p k.2) (record {
-        fits = record { from_low = not_below a.0.0 low c.0; below_upto = omega arith; ballot = ballot.0; not_above = false_most f.0.0 b g.0; value = value.0 };
+        fits =
+            record {
+              from_low = not_below a.0.0 low c.0;
+              below_upto = omega arith;
+              ballot = ballot.0;
+              not_above = false_most f.0.0 b g.0;
+              value = value.0;
+            };
         single = value.1;
         parts = parts;
       })
 
-  vote_again : (low : ℕ) (v : Vote) (rest : List ℕ) → AreBytes (vote_bytes_v1 v ++ rest) → IsVote size b low 65536 v → IsSingle v.value → vote_at_v1 size b low (vote_bytes_v1 v ++ rest) ≡ Ok (v, rest)
+  vote_again : (low : ℕ) (v : Vote) (rest : List ℕ) → AreBytes (vote_bytes_v1 v ++ rest) → IsVote size b low 65536 v
+      → IsSingle v.value → vote_at_v1 size b low (vote_bytes_v1 v ++ rest) ≡ Ok (v, rest)
   unfolding vote_at_v1
   vote_again low v rest are h single =
       let behind_place : List ℕ = ballot_bytes v.ballot ++ (value_bytes_v1 v.value ++ rest) in
@@ -87,33 +96,43 @@ module _ (F : Fields) (size : ℕ) (b : Ballot) where
       → AreVotes size b low 65536 p.0 × AreSingle p.0 × (length p.0 ≡ n) × (bytes ≡ votes_bytes_v1 p.0 ++ p.1)
   unfolding votes_at_v1
   votes_found low zero bytes p are e =
-      subst (λ (q : List Vote × List ℕ). AreVotes size b low 65536 q.0 × AreSingle q.0 × (length q.0 ≡ zero) × (bytes ≡ votes_bytes_v1 q.0 ++ q.1)) (ok_is ([], bytes) p e)
+      subst (λ (q : List Vote × List ℕ). AreVotes size b low 65536 q.0 × AreSingle q.0 × (length q.0 ≡ zero)
+      × (bytes ≡ votes_bytes_v1 q.0 ++ q.1)) (ok_is ([], bytes) p e)
       (tt, λ k d lt. absurd (omega arith), refl, refl)
   votes_found low (suc n) bytes p are e =
       let a = bind_ok (vote_at_v1 size b low bytes) _ p e in
       let c = bind_ok (votes_at_v1 size b (a.0.0.place + 1) n a.0.1) _ p a.2 in
       let one = vote_found low bytes a.0 are a.1 in
       let more = votes_found (a.0.0.place + 1) n a.0.1 c.0 (others_of bytes (vote_bytes_v1 a.0.0) a.0.1 are one.parts) c.1 in
-      subst (λ (q : List Vote × List ℕ). AreVotes size b low 65536 q.0 × AreSingle q.0 × (length q.0 ≡ suc n) × (bytes ≡ votes_bytes_v1 q.0 ++ q.1)) (ok_is (a.0.0 ∷ c.0.0, c.0.1) p c.2) (
+      subst (λ (q : List Vote × List ℕ). AreVotes size b low 65536 q.0 × AreSingle q.0 × (length q.0 ≡ suc n)
+      × (bytes ≡ votes_bytes_v1 q.0 ++ q.1)) (ok_is (a.0.0 ∷ c.0.0, c.0.1) p c.2) (
         (one.fits, more.0),
         All-cons (λ vote. IsSingle vote.value) a.0.0 c.0.0 one.single more.1,
         ap suc more.2,
-        one.parts ∙ ap (λ (xs : List ℕ). vote_bytes_v1 a.0.0 ++ xs) more.3 ∙ sym (append_assoc (vote_bytes_v1 a.0.0) (votes_bytes_v1 c.0.0) c.0.1),
+        one.parts ∙ ap (λ (xs : List ℕ). vote_bytes_v1 a.0.0 ++ xs) more.3
+            ∙ sym (append_assoc (vote_bytes_v1 a.0.0) (votes_bytes_v1 c.0.0) c.0.1),
       )
 
-  votes_again : (low : ℕ) (votes : List Vote) (rest : List ℕ) → AreBytes (votes_bytes_v1 votes ++ rest) → AreVotes size b low 65536 votes → AreSingle votes
+  votes_again : (low : ℕ) (votes : List Vote) (rest : List ℕ) → AreBytes (votes_bytes_v1 votes ++ rest)
+      → AreVotes size b low 65536 votes → AreSingle votes
       → votes_at_v1 size b low (length votes) (votes_bytes_v1 votes ++ rest) ≡ Ok (votes, rest)
   unfolding votes_at_v1
   votes_again low [] rest are h single = refl
   votes_again low (v ∷ votes) rest are h single =
-      let parts : (vote_bytes_v1 v ++ votes_bytes_v1 votes) ++ rest ≡ vote_bytes_v1 v ++ (votes_bytes_v1 votes ++ rest) = append_assoc (vote_bytes_v1 v) (votes_bytes_v1 votes) rest in
+      let parts : (vote_bytes_v1 v ++ votes_bytes_v1 votes) ++ rest
+      ≡ vote_bytes_v1 v ++ (votes_bytes_v1 votes ++ rest) =
+      append_assoc (vote_bytes_v1 v) (votes_bytes_v1 votes) rest in
       let now : AreBytes (vote_bytes_v1 v ++ (votes_bytes_v1 votes ++ rest)) = subst AreBytes parts are in
       let one = vote_again low v (votes_bytes_v1 votes ++ rest) now h.0 (single 0 v (omega arith)) in
-      let more = votes_again (v.place + 1) votes rest (others (vote_bytes_v1 v) (votes_bytes_v1 votes ++ rest) now) h.1 (λ k d lt. single (suc k) d (omega arith)) in
+      let more =
+      votes_again (v.place + 1) votes rest (others (vote_bytes_v1 v) (votes_bytes_v1 votes ++ rest) now) h.1
+      (λ k d lt. single (suc k) d (omega arith)) in
       rw (parts, one, more) refl
 
 pub votes_v1_are_spelling : Fields → (size n : ℕ) (b : Ballot) (bytes : List ℕ) (votes : List Vote) (rest : List ℕ) → AreBytes bytes →
-    (votes_at_v1 size b 0 n bytes ≡ Ok (votes, rest)) ↔ (AreVotes size b 0 65536 votes × AreSingle votes × (length votes ≡ n) × (bytes ≡ votes_bytes_v1 votes ++ rest))
+    (votes_at_v1 size b 0 n bytes ≡ Ok (votes, rest))
+    ↔ (AreVotes size b 0 65536 votes × AreSingle votes × (length votes ≡ n)
+    × (bytes ≡ votes_bytes_v1 votes ++ rest))
 votes_v1_are_spelling F size n b bytes votes rest are = (
   votes_found F size b 0 n bytes (votes, rest) are,
   λ h. rw (h.3, ← h.2) (votes_again F size b 0 votes rest (subst AreBytes h.3 are) h.0 h.1),

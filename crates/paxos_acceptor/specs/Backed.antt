@@ -3,7 +3,7 @@ use Rattle.std.specs.Prelude.{ℕ, IfSome, IsSomeAnd}
 use Rattle.paxos_msg.specs.Batches.{Record, Sent, Vote}
 use Rattle.paxos_msg.specs.declared.message.Body.TheVariants.{Accept}
 use Rattle.paxos_msg.specs.Ballots.{IsAtMost}
-use Rattle.paxos_msg.specs.Messages.{IsSaid, IsAscending, vote_at}
+use Rattle.paxos_msg.specs.Messages.{IsSaid, IsAscending, kept_vote_at}
 
 -- a vote at place s was proposed, under no greater ballot than the promised one
 pub record IsVoteBacked (sent : Sent) (r : Record) (s : ℕ) (vote : Vote) : Type 0 where
@@ -11,6 +11,6 @@ pub record IsVoteBacked (sent : Sent) (r : Record) (s : ℕ) (vote : Vote) : Typ
   pub in_promise : IsSomeAnd r.promised (λ p. IsAtMost vote.ballot p)
 
 -- each vote of the record was proposed, and they ascend by place
-pub record IsBacked (sent : Sent) (r : Record) : Type 0 where
-  pub votes : (s : ℕ) → IfSome (vote_at r.votes s) (IsVoteBacked sent r s)
+pub record HasBackedVotes (sent : Sent) (r : Record) : Type 0 where
+  pub votes : (s : ℕ) → IfSome (kept_vote_at r.votes s) (IsVoteBacked sent r s)
   pub in_order : IsAscending r.votes

@@ -14,20 +14,23 @@ use Rattle.paxos_acceptor.specs.Records.{Rec, record_bytes}
 use Rattle.paxos_acceptor.specs.Stores.{HasCause}
 use Rattle.paxos_acceptor.specs.Version1.{Rec1}
 
--- the bytes are of a file whose next save writes a whole record: they are its spelling, in version 2 or in version 1, or a log of version 1
-abbrev pub IsWhole : Me → List ℕ → Record → Type 0
-IsWhole me bytes r = Rec me bytes r ⊎ Rec1 me bytes r ⊎ (n : ℕ) × LogIn One me bytes r n
+-- the bytes are of a file whose next save writes a whole record: they are its spelling, in version
+-- 2 or in version 1, or a log of version 1
+abbrev pub IsWholeForm : Me → List ℕ → Record → Type 0
+IsWholeForm me bytes r = Rec me bytes r ⊎ Rec1 me bytes r ⊎ (n : ℕ) × LogIn One me bytes r n
 
 -- the bytes of a file are the record's, in one of the four forms
 abbrev pub IsWritten : Me → List ℕ → Record → Type 0
-IsWritten me bytes r = IsWhole me bytes r ⊎ (n : ℕ) × LogIn Two me bytes r n
+IsWritten me bytes r = IsWholeForm me bytes r ⊎ (n : ℕ) × LogIn Two me bytes r n
 
--- a file with these bytes has the record, in that form; a log whose last entry was cut has it without that entry
+-- a file with these bytes has the record, in that form; a log whose last entry was cut has it
+-- without that entry
 abbrev pub IsFormIn : Me → List ℕ → Record → Form → Type 0
 IsFormIn me bytes r Missing = ⊥
-IsFormIn me bytes r (Cut kept) = (n : ℕ) × LogIn Two me bytes r n × (n < length bytes) × (kept.items ≡ take n bytes)
+IsFormIn me bytes r (Cut kept) =
+    (n : ℕ) × LogIn Two me bytes r n × (n < length bytes) × (kept.items ≡ take n bytes)
 IsFormIn me bytes r (Log n) = LogIn Two me bytes r n × (n ≡ length bytes)
-IsFormIn me bytes r Whole = IsWhole me bytes r
+IsFormIn me bytes r Whole = IsWholeForm me bytes r
 
 -- a file of that form can have the record
 abbrev pub IsFormOf : Me → Record → Form → Type 0
@@ -36,11 +39,13 @@ IsFormOf me r (Cut bytes) = IsUncut me bytes.items r
 IsFormOf me r (Log n) = Unit {0}
 IsFormOf me r Whole = Unit {0}
 
--- What a save of the change writes: behind a log its entry; where an entry was cut, or no file is, the log with its entry; and in whole form the
--- changed record.
+-- What a save of the change writes: behind a log its entry; where an entry was cut, or no file is,
+-- the log with its entry; and in whole form the changed record.
 abbrev pub IsPatch : Me → Record → Change → Form → Patch → Type 0
-IsPatch me r c Missing patch = (patch.at ≡ None) × (patch.bytes.items ≡ log_header Two me ++ entry_bytes Two c)
-IsPatch me r c (Cut bytes) patch = (patch.at ≡ None) × (patch.bytes.items ≡ bytes.items ++ entry_bytes Two c)
+IsPatch me r c Missing patch =
+    (patch.at ≡ None) × (patch.bytes.items ≡ log_header Two me ++ entry_bytes Two c)
+IsPatch me r c (Cut bytes) patch =
+    (patch.at ≡ None) × (patch.bytes.items ≡ bytes.items ++ entry_bytes Two c)
 IsPatch me r c (Log n) patch = (patch.at ≡ Some n) × (patch.bytes.items ≡ entry_bytes Two c)
 IsPatch me r c Whole patch = (patch.at ≡ None) × (patch.bytes.items ≡ record_bytes me (changed r c))
 
@@ -51,29 +56,34 @@ patched bytes patch = by patch.at where
   by None = patch.bytes.items
   by (Some n) = bytes ++ patch.bytes.items
 
--- the form of a file that had the first form and got the patch; a length stops at the greatest that there is
+-- the form of a file that had the first form and got the patch; a length stops at the greatest that
+-- there is
 abbrev pub IsFormAfter : Form → Patch → Form → Type 0
 IsFormAfter Missing patch after = after ≡ Log (length patch.bytes.items)
 IsFormAfter (Cut bytes) patch after = after ≡ Log (length patch.bytes.items)
-IsFormAfter (Log n) patch after = after ≡ Log (min (n + length patch.bytes.items) 18446744073709551615)
+IsFormAfter (Log n) patch after =
+    after ≡ Log (min (n + length patch.bytes.items) 18446744073709551615)
 IsFormAfter Whole patch after = after ≡ Whole
 
--- whose record it is, the record that the file is known to have, if any, and how often the device failed
+-- whose record it is, the record that the file is known to have, if any, and how often the device
+-- failed
 pub record Filed : Type 0 where
   pub me : Me
   pub found : Option Record
   pub faults : ℕ
 
--- After a load the record that it gave is known, and after a load that failed none is. A fault of the device is counted.
+-- After a load the record that it gave is known, and after a load that failed none is. A fault of
+-- the device is counted.
 pub record Finds (old new : Filed) (answer : Result Record StoreFault) : Type 0 where
   pub me : new.me ≡ old.me
   pub found : IfOk answer (λ r. new.found ≡ Some r)
   pub lost : OnErr answer (new.found ≡ None)
   pub cause : HasCause (IsErrOf answer fault.Device) old.faults new.faults
 
--- A save is built on what is known, and is known then itself. After a fault of the device nothing is known; where memory is wanted
--- all is as it was.
-pub record Notes {T : Type 0} (old new : Filed) (change : Change) (result : Result T StoreFault) : Type 0 where
+-- A save is built on what is known, and is known then itself. After a fault of the device nothing
+-- is known; where memory is wanted all is as it was.
+pub record Notes {T : Type 0} (old new : Filed) (change : Change)
+    (result : Result T StoreFault) : Type 0 where
   pub made : OnOk result (IsSomeAnd old.found (λ r. new.found ≡ Some (changed r change)))
   pub lost : IsErrOf result fault.Device → new.found ≡ None
   pub memory : IsErrOf result fault.Memory → new ≡ old

@@ -1,5 +1,6 @@
--- A log: a header, and behind it the changes of a record as entries, each spelled behind the one before. The record is what they make
--- of the empty one. An entry that was cut at the end is left out.
+-- A log: a header, and behind it the changes of a record as entries, each spelled behind the one
+-- before. The record is what they make of the empty one. An entry that was cut at the end is left
+-- out.
 use Rattle.std.specs.Prelude.{◌≡◌, ℕ, ◌+◌, ◌<◌, ◌≤◌, ◌⊎◌, List, [], ◌∷◌, ◌++◌, length, drop, slice_index, IfSome}
 use Rattle.paxos_msg.specs.Batches.{Change, Record}
 use Rattle.paxos_msg.specs.declared.record.Change.TheVariants.{Start, Promise, Ballotted}
@@ -22,7 +23,8 @@ IsInRanges size Start = Unit {0}
 IsInRanges size (Promise b) = IsBallot size b
 IsInRanges size (Ballotted s b v) = IsPlace s × IsBallot size b × IsValue size v
 
--- the change can be made to the record: there is a start to spare, and no ballot is below the promised one
+-- the change can be made to the record: there is a start to spare, and no ballot is below the
+-- promised one
 abbrev pub IsNext : Record → Change → Type 0
 IsNext r Start = r.starts < 4294967295
 IsNext r (Promise b) = IfSome r.promised (λ p. IsAtMost p b)
@@ -36,15 +38,16 @@ pub record IsEntry (size : ℕ) (r : Record) (c : Change) : Type 0 where
 -- ---- how they are spelled
 
 -- a value in that version
-abbrev pub value_text : Version → Value → List ℕ
-value_text One v = value_bytes_v1 v
-value_text Two v = value_bytes v
+abbrev pub value_spelling : Version → Value → List ℕ
+value_spelling One v = value_bytes_v1 v
+value_spelling Two v = value_bytes v
 
 -- a start is 1; a promise is 2 and the ballot; a vote is 3, the place, the ballot and the value
 abbrev pub entry_bytes : Version → Change → List ℕ
 entry_bytes version Start = 1 ∷ []
 entry_bytes version (Promise b) = 2 ∷ ballot_bytes b
-entry_bytes version (Ballotted s b v) = 3 ∷ (number_bytes s ++ (ballot_bytes b ++ value_text version v))
+entry_bytes version (Ballotted s b v) =
+    3 ∷ (number_bytes s ++ (ballot_bytes b ++ value_spelling version v))
 
 abbrev pub entries_bytes : Version → List Change → List ℕ
 entries_bytes version [] = []
@@ -61,7 +64,8 @@ IsFor Two c = Unit {0}
 
 -- `PL`, the version, and whose record it is
 abbrev pub log_header : Version → Me → List ℕ
-log_header version me = 80 ∷ 76 ∷ version_byte version ∷ me.node ∷ me.group.size ∷ number_bytes me.group.session
+log_header version me =
+    80 ∷ 76 ∷ version_byte version ∷ me.node ∷ me.group.size ∷ number_bytes me.group.session
 
 -- the record that the changes make of this one
 abbrev pub folded : Record → List Change → Record
@@ -71,25 +75,34 @@ folded r (c ∷ cs) = folded (changed r c) cs
 -- each of them can be the next entry, in that version
 abbrev pub AreEntries : Version → ℕ → Record → List Change → Type 0
 AreEntries version size r [] = Unit {0}
-AreEntries version size r (c ∷ cs) = IsEntry size r c × IsFor version c × AreEntries version size (changed r c) cs
+AreEntries version size r (c ∷ cs) =
+    IsEntry size r c × IsFor version c × AreEntries version size (changed r c) cs
 
--- Behind the tag of a batch: its node, start and first serial, nine bytes, and then a key's byte or, from version 2 on, a count from
--- 1 to 32 and so many bytes. Here some are missing.
+-- Behind the tag of a batch: its node, start and first serial, nine bytes, and then a key's byte
+-- or, from version 2 on, a count from 1 to 32 and so many bytes. Here some are missing.
 abbrev pub IsCutBatch : Version → List ℕ → Type 0
 IsCutBatch One bytes = length bytes < 10
-IsCutBatch Two bytes = (length bytes < 10) ⊎ ((0 < slice_index bytes 9) × (slice_index bytes 9 ≤ 32) × (length bytes < 10 + slice_index bytes 9))
+IsCutBatch Two bytes =
+    (length bytes < 10) ⊎ ((0 < slice_index bytes 9) × (slice_index bytes 9 ≤ 32)
+    × (length bytes < 10 + slice_index bytes 9))
 
--- behind the tag of a vote: its place and ballot, nine bytes, and a value, which is 0, or 1 and a batch
+-- behind the tag of a vote: its place and ballot, nine bytes, and a value, which is 0, or 1 and a
+-- batch
 abbrev pub IsCutVote : Version → List ℕ → Type 0
-IsCutVote version bytes = (length bytes < 10) ⊎ ((slice_index bytes 9 ≡ 1) × IsCutBatch version (drop 10 bytes))
+IsCutVote version bytes =
+    (length bytes < 10) ⊎ ((slice_index bytes 9 ≡ 1) × IsCutBatch version (drop 10 bytes))
 
--- the end of a log: nothing, or an entry of which the last bytes are missing, whatever the others are
+-- the end of a log: nothing, or an entry of which the last bytes are missing, whatever the others
+-- are
 abbrev pub IsEnd : Version → List ℕ → Type 0
 IsEnd version [] = Unit {0}
-IsEnd version (tag ∷ bytes) = ((tag ≡ 2) × (length bytes < 5)) ⊎ ((tag ≡ 3) × IsCutVote version bytes)
+IsEnd version (tag ∷ bytes) =
+    ((tag ≡ 2) × (length bytes < 5)) ⊎ ((tag ≡ 3) × IsCutVote version bytes)
 
--- the bytes are these changes and behind them the end; the changes can be made to this record, and make the other of it
-pub record IsFold (version : Version) (size : ℕ) (r : Record) (bytes : List ℕ) (changes : List Change) (made : Record) (end : List ℕ) : Type 0 where
+-- the bytes are these changes and behind them the end; the changes can be made to this record, and
+-- make the other of it
+pub record IsFold (version : Version) (size : ℕ) (r : Record) (bytes : List ℕ)
+    (changes : List Change) (made : Record) (end : List ℕ) : Type 0 where
   pub entries : AreEntries version size r changes
   pub spelled : bytes ≡ entries_bytes version changes ++ end
   pub ends : IsEnd version end
@@ -97,12 +110,14 @@ pub record IsFold (version : Version) (size : ℕ) (r : Record) (bytes : List �
 
 -- some changes are so
 abbrev pub Folds : Version → ℕ → Record → List ℕ → Record → List ℕ → Type 0
-Folds version size r bytes made end = (changes : List Change) × IsFold version size r bytes changes made end
+Folds version size r bytes made end =
+    (changes : List Change) × IsFold version size r bytes changes made end
 
 -- the bytes are a log of the record in that version; its header and whole entries take n bytes
 abbrev pub LogIn : Version → Me → List ℕ → Record → ℕ → Type 0
 LogIn version me bytes r n =
-    (entries : List ℕ) × (end : List ℕ) × (bytes ≡ log_header version me ++ entries) × Folds version me.group.size empty_record entries r end × (n + length end ≡ length bytes)
+    (entries : List ℕ) × (end : List ℕ) × (bytes ≡ log_header version me ++ entries)
+    × Folds version me.group.size empty_record entries r end × (n + length end ≡ length bytes)
 
 -- in either version
 abbrev pub Log : Me → List ℕ → Record → ℕ → Type 0

@@ -1,4 +1,5 @@
--- Reading an entry of a log from left to right. Which fault it has does not matter: whatever it is, the bytes are no log.
+-- Reading an entry of a log from left to right. Which fault it has does not matter: whatever it is,
+-- the bytes are no log.
 use Rattle.std.specs.Prelude.{◌≡◌, ◌↔◌, ◌++◌, ℕ, ◌==◌, List, Result, Ok, Err, if◌then◌else◌}
 use Rattle.base.specs.Steps.{◌>>=◌}
 use Rattle.paxos_msg.specs.Batches.{Change, Record}
@@ -6,7 +7,7 @@ use Rattle.paxos_msg.specs.declared.record.Change.TheVariants.{Start, Promise, B
 use Rattle.paxos_msg.specs.declared.value.Value.{Value}
 use Rattle.paxos_msg.specs.declared.fault.WireFault.{WireFault}
 use Rattle.paxos_msg.specs.declared.fault.WireFault.TheVariants as fault
-use Rattle.paxos_msg.specs.Reading.{ballot_at, byte_at, place_at, value_at}
+use Rattle.paxos_msg.specs.Reading.{ballot_at, first_byte, place_at, value_at}
 use Rattle.paxos_msg.specs.Version1.{value_at_v1}
 use Rattle.paxos_acceptor.specs.Log.{Folds, IsFor, IsInRanges, entry_bytes}
 use Rattle.paxos_acceptor.specs.declared.version.Version.{Version}
@@ -18,12 +19,12 @@ value_in One size bytes = value_at_v1 size bytes
 value_in Two size bytes = value_at size bytes
 
 -- what stands behind the tag of a promise
-abbrev pub promise_at : ℕ → List ℕ → Result (Change × List ℕ) WireFault
-promise_at size bytes = ballot_at size bytes >>= λ b. Ok (Promise b.0, b.1)
+abbrev pub log_promise_at : ℕ → List ℕ → Result (Change × List ℕ) WireFault
+log_promise_at size bytes = ballot_at size bytes >>= λ b. Ok (Promise b.0, b.1)
 
 -- what stands behind the tag of a vote
-unfoldable pub vote_at : Version → ℕ → List ℕ → Result (Change × List ℕ) WireFault
-vote_at version size bytes = do
+unfoldable pub log_vote_at : Version → ℕ → List ℕ → Result (Change × List ℕ) WireFault
+log_vote_at version size bytes = do
   place ← place_at 65535 bytes
   ballot ← ballot_at size place.1
   value ← value_in version size ballot.1
@@ -33,19 +34,22 @@ vote_at version size bytes = do
 abbrev pub tagged : Version → ℕ → ℕ → List ℕ → Result (Change × List ℕ) WireFault
 tagged version size tag bytes =
     if tag == 1 then Ok (Start, bytes)
-    else (if tag == 2 then promise_at size bytes
-    else (if tag == 3 then vote_at version size bytes else Err fault.Kind))
+    else (if tag == 2 then log_promise_at size bytes
+    else (if tag == 3 then log_vote_at version size bytes else Err fault.Kind))
 
 -- the first entry
 unfoldable pub entry_at : Version → ℕ → List ℕ → Result (Change × List ℕ) WireFault
-entry_at version size bytes = byte_at bytes >>= λ tag. tagged version size tag.0 tag.1
+entry_at version size bytes = first_byte bytes >>= λ tag. tagged version size tag.0 tag.1
 
 -- the bytes begin with the spelling of this change, and this is behind it
-pub record Begins (version : Version) (size : ℕ) (bytes : List ℕ) (c : Change) (rest : List ℕ) : Type 0 where
+pub record BeginsEntry (version : Version) (size : ℕ) (bytes : List ℕ) (c : Change)
+    (rest : List ℕ) : Type 0 where
   pub in_ranges : IsInRanges size c
   pub is_for : IsFor version c
   pub spelled : bytes ≡ entry_bytes version c ++ rest
 
 -- the folds of some bytes are those of others
 abbrev pub SameFolds : Version → ℕ → Record → List ℕ → Record → List ℕ → Type 0
-SameFolds version size r bytes s rest = (made : Record) (end : List ℕ) → Folds version size r bytes made end ↔ Folds version size s rest made end
+SameFolds version size r bytes s rest =
+    (made : Record) (end : List ℕ)
+    → Folds version size r bytes made end ↔ Folds version size s rest made end

@@ -12,10 +12,16 @@ pub record Loads (old new : StoreState) (answer : Result Record StoreFault) : Ty
   pub memory : IfErr answer (λ e. e ≡ fault.Memory)
   pub same : new ≡ old
 
--- With no plan a save makes the change. With one the device fails, which leaves the changed record or the old one, uses up the plan
--- and is counted. Where memory is wanted all is as it was.
-pub record SavesByPlan {T : Type 0} (old new : StoreState) (change : Change) (result : Result T StoreFault) : Type 0 where
-  pub ok : OnOk result ((old.plan ≡ None) × (new ≡ record old { stored = changed old.stored change }))
+-- With no plan a save makes the change. With one the device fails, which leaves the changed record
+-- or the old one, uses up the plan and is counted. Where memory is wanted all is as it was.
+pub record SavesByPlan {T : Type 0} (old new : StoreState) (change : Change)
+    (result : Result T StoreFault) : Type 0 where
+  pub ok : OnOk result
+      ((old.plan ≡ None) × (new ≡ record old { stored = changed old.stored change }))
   pub memory : IsErrOf result fault.Memory → new ≡ old
   pub device : IsErrOf result fault.Device → IsSomeAnd old.plan (λ is_kept.
-      new ≡ record { stored = if is_kept then changed old.stored change else old.stored; plan = None; faults = min (old.faults + 1) 18446744073709551615 })
+      new ≡ record {
+        stored = if is_kept then changed old.stored change else old.stored;
+        plan = None;
+        faults = min (old.faults + 1) 18446744073709551615;
+      })

@@ -8,7 +8,7 @@ use Rattle.paxos_acceptor.specs.declared.me.Me.{Me}
 use Rattle.paxos_acceptor.specs.declared.store.StoreFault.{StoreFault}
 use Rattle.paxos_acceptor.specs.declared.store.StoreFault.TheVariants as store
 use Rattle.paxos_acceptor.specs.Records.{IsRecord}
-use Rattle.paxos_acceptor.specs.States.{State}
+use Rattle.paxos_acceptor.specs.States.{AcceptorState}
 
 -- the acceptor's fault for the fault of a load
 abbrev pub fault_of_load : StoreFault → AcceptorFault
@@ -16,10 +16,15 @@ fault_of_load store.Memory = acceptor.Memory
 fault_of_load store.Device = acceptor.Store
 fault_of_load store.Bad = acceptor.BadRecord
 
--- The result of opening, from the answer of the load and the store that the load left: the acceptor has the record that was loaded, if that
--- is in its ranges; if not, or if the load gave none, a refusal gives the store back.
-abbrev pub Opens : {S : Type 0} → Me → Result Record StoreFault → S → Result (State S) (OpenRefused S) → Type 0
-Opens me (Ok kept) left (Ok a) = IsRecord me.group.size kept × (a ≡ record { me = me; kept = kept; is_closed = false; store = left })
-Opens me (Ok kept) left (Err e) = ¬ IsRecord me.group.size kept × (e ≡ record { fault = acceptor.BadRecord; store = left })
+-- The result of opening, from the answer of the load and the store that the load left: the acceptor
+-- has the record that was loaded, if that is in its ranges; if not, or if the load gave none, a
+-- refusal gives the store back.
+abbrev pub Opens : {S : Type 0} → Me → Result Record StoreFault → S
+    → Result (AcceptorState S) (OpenRefused S) → Type 0
+Opens me (Ok kept) left (Ok a) =
+    IsRecord me.group.size kept
+    × (a ≡ record { me = me; kept = kept; is_closed = false; store = left })
+Opens me (Ok kept) left (Err e) =
+    ¬ IsRecord me.group.size kept × (e ≡ record { fault = acceptor.BadRecord; store = left })
 Opens me (Err f) left (Ok a) = ⊥
 Opens me (Err f) left (Err e) = e ≡ record { fault = fault_of_load f; store = left }

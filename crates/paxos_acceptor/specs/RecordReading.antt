@@ -1,4 +1,5 @@
--- Reading a record from left to right. Which fault it has does not matter: whatever it is, the bytes are no record.
+-- Reading a record from left to right. Which fault it has does not matter: whatever it is, the
+-- bytes are no record.
 use Rattle.std.specs.Prelude.{◌≡◌, ℕ, zero, suc, ◌+◌, ◌==◌, nat_lt, not, ◌&&◌, List, [], ◌∷◌, length, Option, Some, None, Result, Ok, Err, IsErr, if◌then◌else◌}
 use Rattle.paxos_msg.specs.declared.ballot.Ballot.{Ballot}
 use Rattle.paxos_msg.specs.Batches.{Record, Vote}
@@ -25,8 +26,8 @@ version_byte One = 1
 version_byte Two = 2
 
 -- the bytes behind a header of this record in that version
-unfoldable pub header_at : Version → Me → List ℕ → Result (List ℕ) WireFault
-header_at version me bytes = do
+unfoldable pub record_header_at : Version → Me → List ℕ → Result (List ℕ) WireFault
+record_header_at version me bytes = do
   p ← behind_byte 80 bytes
   r ← behind_byte 82 p
   told ← behind_byte (version_byte version) r
@@ -45,9 +46,11 @@ some_ballot_at size bytes = ballot_at size bytes >>= λ b. Ok (Some b.0, b.1)
 
 -- the promised ballot, or zeros for none
 unfoldable pub promised_at : ℕ → List ℕ → Result (Option Ballot × List ℕ) WireFault
-promised_at size bytes = number_at bytes >>= λ round. if round.0 == 0 then zero_at round.1 else some_ballot_at size bytes
+promised_at size bytes =
+    number_at bytes >>= λ round. if round.0 == 0 then zero_at round.1 else some_ballot_at size bytes
 
--- a vote of version 1 at a place from low on, not above ballot b; low is one above the place of the vote before
+-- a vote of version 1 at a place from low on, not above ballot b; low is one above the place of the
+-- vote before
 unfoldable pub vote_at_v1 : ℕ → Ballot → ℕ → List ℕ → Result (Vote × List ℕ) WireFault
 vote_at_v1 size b low bytes = do
   place ← number_at bytes
@@ -74,12 +77,14 @@ votes_in Two size b n bytes = votes_at size b 0 65536 0 n bytes
 -- so many votes that are all of the bytes; without a promise there are none
 abbrev pub votes_of : Version → ℕ → Option Ballot → ℕ → List ℕ → Result (List Vote) WireFault
 votes_of version size None n bytes = unless fault.Ballot (not ((n == 0) && (length bytes == 0))) []
-votes_of version size (Some b) n bytes = votes_in version size b n bytes >>= λ votes. unless fault.Trailing (not (length votes.1 == 0)) votes.0
+votes_of version size (Some b) n bytes =
+    votes_in version size b n bytes
+    >>= λ votes. unless fault.Trailing (not (length votes.1 == 0)) votes.0
 
 -- what stands before the votes: starts, promised ballot and number of votes
 unfoldable pub head_at : Version → Me → List ℕ → Result ((ℕ × Option Ballot × ℕ) × List ℕ) WireFault
 head_at version me bytes = do
-  behind ← header_at version me bytes
+  behind ← record_header_at version me bytes
   starts ← number_at behind
   promised ← promised_at me.group.size starts.1
   count ← number_at promised.1
@@ -93,8 +98,8 @@ record_at version me bytes = do
   Ok (record { starts = head.0.0; promised = head.0.1; votes = votes })
 
 -- what is read is this; or the answer is Bad, and there is nothing to read; or memory ran out
-abbrev pub Reads : {X Y : Type 0} → (X → Y) → Result X StoreFault → Result Y WireFault → Type 0
-Reads view (Ok x) read = read ≡ Ok (view x)
-Reads view (Err store.Memory) read = Unit {0}
-Reads view (Err store.Device) read = ⊥
-Reads view (Err store.Bad) read = IsErr read
+abbrev pub ReadsAs : {X Y : Type 0} → (X → Y) → Result X StoreFault → Result Y WireFault → Type 0
+ReadsAs view (Ok x) read = read ≡ Ok (view x)
+ReadsAs view (Err store.Memory) read = Unit {0}
+ReadsAs view (Err store.Device) read = ⊥
+ReadsAs view (Err store.Bad) read = IsErr read

@@ -22,12 +22,15 @@ promised_bytes None = 0 ∷ 0 ∷ 0 ∷ 0 ∷ 0 ∷ []
 promised_bytes (Some b) = ballot_bytes b
 
 -- `PR`, the version, and whose record it is
-abbrev pub header_bytes : ℕ → Me → List ℕ
-header_bytes version me = 80 ∷ 82 ∷ version ∷ me.node ∷ me.group.size ∷ number_bytes me.group.session
+abbrev pub record_header : ℕ → Me → List ℕ
+record_header version me =
+    80 ∷ 82 ∷ version ∷ me.node ∷ me.group.size ∷ number_bytes me.group.session
 
 -- the header of version 2 and the record
 abbrev pub record_bytes : Me → Record → List ℕ
-record_bytes me r = header_bytes 2 me ++ number_bytes r.starts ++ promised_bytes r.promised ++ number_bytes (length r.votes) ++ votes_bytes r.votes
+record_bytes me r =
+    record_header 2 me ++ number_bytes r.starts ++ promised_bytes r.promised
+    ++ number_bytes (length r.votes) ++ votes_bytes r.votes
 
 -- the bytes are the spelling of the record, all of them
 pub record Rec (me : Me) (bytes : List ℕ) (r : Record) : Type 0 where

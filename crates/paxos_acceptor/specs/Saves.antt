@@ -5,9 +5,11 @@ use Rattle.paxos_acceptor.specs.Stores.{StoreState, FailsAsTold, HasCause, IsOne
 use Rattle.paxos_acceptor.specs.declared.fault.AcceptorFault.{AcceptorFault}
 use Rattle.paxos_acceptor.specs.declared.fault.AcceptorFault.TheVariants.{Memory, Store}
 
--- At Ok the store has this record, and where memory was wanted the old one. After a device's fault, which is counted, it has the
--- old or the new one, as it was told to if it fails at will, and is given up.
-pub record Saves {T : Type 0} (honest at_will : Type 0) (old new : StoreState) (is_closed : Bool) (result : Result T AcceptorFault) (next : Record) : Type 0 where
+-- At Ok the store has this record, and where memory was wanted the old one. After a device's fault,
+-- which is counted, it has the old or the new one, as it was told to if it fails at will, and is
+-- given up.
+pub record SavesRecord {T : Type 0} (honest at_will : Type 0) (old new : StoreState)
+    (is_closed : Bool) (result : Result T AcceptorFault) (next : Record) : Type 0 where
   pub saved : honest → OnOk result (new.stored ≡ next)
   pub memory : honest → IsErrOf result Memory → new.stored ≡ old.stored
   pub device : honest → IsErrOf result Store → IsOneOf new.stored old.stored next

@@ -4,7 +4,7 @@ use Rattle.paxos_msg.specs.Batches.{Record, Vote}
 use Rattle.paxos_msg.specs.Spelling.{number_bytes, ballot_bytes}
 use Rattle.paxos_msg.specs.Version1.{IsSingle, value_bytes_v1}
 use Rattle.paxos_acceptor.specs.declared.me.Me.{Me}
-use Rattle.paxos_acceptor.specs.Records.{IsRecord, header_bytes, promised_bytes}
+use Rattle.paxos_acceptor.specs.Records.{IsRecord, record_header, promised_bytes}
 
 -- no vote is for more than one key
 abbrev pub AreSingle : List Vote → Type 0
@@ -19,7 +19,9 @@ votes_bytes_v1 (v ∷ vs) = vote_bytes_v1 v ++ votes_bytes_v1 vs
 
 -- the header of version 1 and the record
 abbrev pub record_bytes_v1 : Me → Record → List ℕ
-record_bytes_v1 me r = header_bytes 1 me ++ number_bytes r.starts ++ promised_bytes r.promised ++ number_bytes (length r.votes) ++ votes_bytes_v1 r.votes
+record_bytes_v1 me r =
+    record_header 1 me ++ number_bytes r.starts ++ promised_bytes r.promised
+    ++ number_bytes (length r.votes) ++ votes_bytes_v1 r.votes
 
 -- the bytes are the spelling of the record in version 1, all of them
 pub record Rec1 (me : Me) (bytes : List ℕ) (r : Record) : Type 0 where

@@ -45,13 +45,20 @@ impl<S: Store + Drop> Drop for Acceptor<S> {
 }
 
 impl<S: Store> Model for Acceptor<S> {
-    ghost use Rattle.paxos_acceptor.specs.States.{State, IsInStep};
+    ghost use Rattle.paxos_acceptor.specs.States.{AcceptorState, IsAcceptorInStep};
 
-    ghost Value = { State S };
+    ghost Value = { AcceptorState S };
 
-    ghost view = { λ a. record { me = a.me; kept = a.record; is_closed = a.is_closed; store = a.store } };
+    ghost view = { λ a. record {
+      me = a.me;
+      kept = a.record;
+      is_closed = a.is_closed;
+      store = a.store;
+    } };
 
-    ghost invariant = { λ a. IsInStep S.honest S.state (record { me = a.me; kept = a.record; is_closed = a.is_closed; store = a.store }) };
+    ghost invariant = { λ a.
+        IsAcceptorInStep S.honest S.state
+        (record { me = a.me; kept = a.record; is_closed = a.is_closed; store = a.store }) };
 }
 
 /// A store that an acceptor was not opened over, and why.
@@ -72,7 +79,8 @@ fn fault_of_load(fault: StoreFault) -> AcceptorFault
     }
 }
 
-/// An acceptor over the store, of which this record was loaded, if that is in its ranges. It takes no memory.
+/// An acceptor over the store, of which this record was loaded, if that is in its ranges. It takes
+/// no memory.
 fn over<S: Store>(
     alloc: Global,
     store: S,
@@ -80,9 +88,12 @@ fn over<S: Store>(
     me: Me,
 ) -> Result<Acceptor<S>, OpenRefused<S>>
     requires { S.honest → (S.state store).stored ≡ kept }
-    ensures ok { IfOk result (λ a. a ≡ record { me = me; kept = kept; is_closed = false; store = store }) }
+    ensures ok { IfOk result
+        (λ a. a ≡ record { me = me; kept = kept; is_closed = false; store = store }) }
     ensures ranges { IfOk result (λ _. IsRecord me.group.size kept) }
-    ensures err { IfErr result (λ e. (e.fault ≡ AcceptorFault.BadRecord) × (e.store ≡ store) × ¬ IsRecord me.group.size kept) }
+    ensures err { IfErr result
+        (λ e. (e.fault ≡ AcceptorFault.BadRecord) × (e.store ≡ store)
+        × ¬ IsRecord me.group.size kept) }
 {
     if !record_fits(&kept, me) {
         let fault = AcceptorFault::BadRecord;
@@ -109,20 +120,31 @@ fn accepted(vote: &Vote) -> Body
 }
 
 impl<S: Store> Acceptor<S> {
-    /// Loads the store's record. `Memory`, `Store` and `BadRecord` are what the load met; `BadRecord`, which comes last, is also
-    /// a record out of its ranges. A refusal gives the store back.
+    /// Loads the store's record. `Memory`, `Store` and `BadRecord` are what the load met;
+    /// `BadRecord`, which comes last, is also a record out of its ranges. A refusal gives the store
+    /// back.
     pub fn open(alloc: Global, store: S, me: Me) -> Result<Acceptor<S>, OpenRefused<S>>
-        ensures loads { (answer : Result Kept StoreFault) × (left : S) × S.loads store answer left × Opens me answer left result }
-        ensures loaded { S.honest → IfOk result (λ a. (a.kept ≡ (S.state store).stored) × ((S.state a.store).stored ≡ (S.state store).stored)) }
+        ensures loads { (answer : Result Kept StoreFault) × (left : S) × S.loads store answer left
+            × Opens me answer left result }
+        ensures loaded { S.honest
+            → IfOk result (λ a. (a.kept ≡ (S.state store).stored)
+            × ((S.state a.store).stored ≡ (S.state store).stored)) }
         ensures open { IfOk result (λ a. (a.is_closed ≡ false) × (a.me ≡ me)) }
         ensures ranges { IfOk result (λ a. IsRecord me.group.size a.kept) }
-        ensures same { S.honest → IfErr result (λ e. (S.state e.store).stored ≡ (S.state store).stored) }
-        ensures bad { S.honest → IfErr result (λ e. e.fault ≡ AcceptorFault.BadRecord → ¬ IsRecord me.group.size (S.state store).stored) }
-        ensures plan { MatchResult result (λ a. (S.state a.store).plan ≡ (S.state store).plan) (λ e. (S.state e.store).plan ≡ (S.state store).plan) }
+        ensures same { S.honest
+            → IfErr result (λ e. (S.state e.store).stored ≡ (S.state store).stored) }
+        ensures bad { S.honest
+            → IfErr result (λ e. e.fault ≡ AcceptorFault.BadRecord
+            → ¬ IsRecord me.group.size (S.state store).stored) }
+        ensures plan { MatchResult result (λ a. (S.state a.store).plan ≡ (S.state store).plan)
+            (λ e. (S.state e.store).plan ≡ (S.state store).plan) }
         ensures sure { S.fails_at_will → IfErr result (λ e. e.fault ≢ AcceptorFault.Store) }
         ensures quiet { IfOk result (λ a. (S.state a.store).faults ≡ (S.state store).faults) }
-        ensures cause { IfErr result (λ e. HasCause (e.fault ≡ AcceptorFault.Store) (S.state store).faults (S.state e.store).faults) }
-        ensures others { IfErr result (λ e. (e.fault ≢ AcceptorFault.Closed) × (e.fault ≢ AcceptorFault.StartsSpent)) }
+        ensures cause { IfErr result
+            (λ e. HasCause (e.fault ≡ AcceptorFault.Store) (S.state store).faults
+            (S.state e.store).faults) }
+        ensures others { IfErr result
+            (λ e. (e.fault ≢ AcceptorFault.Closed) × (e.fault ≢ AcceptorFault.StartsSpent)) }
     {
         let mut store = store;
         match store.load() {
@@ -138,7 +160,8 @@ impl<S: Store> Acceptor<S> {
     pub fn record(&self) -> &Record
         ensures same { result.now ≡ self.now.kept }
         ensures ranges { IsRecord self.now.me.group.size self.now.kept }
-        ensures stored { S.honest → self.now.is_closed ≡ false → (S.state self.now.store).stored ≡ self.now.kept }
+        ensures stored { S.honest → self.now.is_closed ≡ false
+            → (S.state self.now.store).stored ≡ self.now.kept }
     {
         &self.record
     }
@@ -150,11 +173,14 @@ impl<S: Store> Acceptor<S> {
         self.is_closed
     }
 
-    /// Counts one more start, and answers how many there were with it. `StartsSpent` after 4,294,967,295.
+    /// Counts one more start, and answers how many there were with it. `StartsSpent` after
+    /// 4,294,967,295.
     pub fn new_start(&mut self) -> Result<u32, AcceptorFault>
         ensures answer { IfOk result (λ starts. starts ≡ self.new.kept.starts) }
-        ensures follows { Follows S.honest S.fails_at_will S.state self.old self.new (Some Start) result }
-        ensures spent { IsErrOf result AcceptorFault.StartsSpent ↔ ((self.old.is_closed ≡ false) × (self.old.kept.starts ≡ 4294967295)) }
+        ensures follows { Follows S.honest S.fails_at_will S.state self.old self.new
+            (Some Start) result }
+        ensures spent { IsErrOf result AcceptorFault.StartsSpent
+            ↔ ((self.old.is_closed ≡ false) × (self.old.kept.starts ≡ 4294967295)) }
         ensures others { ¬ IsErrOf result AcceptorFault.BadRecord }
     {
         if self.is_closed {
@@ -168,14 +194,18 @@ impl<S: Store> Acceptor<S> {
         Ok(self.record.starts)
     }
 
-    /// Answers a Prepare: promises the ballot, unless a greater one is promised, and reports the votes at places from `from` on, at
-    /// most 8 of them. A promise that is new is saved before it is answered. A refusal takes no memory.
+    /// Answers a Prepare: promises the ballot, unless a greater one is promised, and reports the
+    /// votes at places from `from` on, at most 8 of them. A promise that is new is saved before it
+    /// is answered. A refusal takes no memory.
     pub fn prepare(&mut self, ballot: Ballot, from: u32) -> Result<Body, AcceptorFault>
         requires ballot { IsBallot self.old.me.group.size ballot }
         ensures answer { IfOk result (λ body. body ≡ (prepare_of self.old.kept ballot from).says) }
-        ensures follows { Follows S.honest S.fails_at_will S.state self.old self.new (prepare_of self.old.kept ballot from).saves result }
-        ensures memory { IsErrOf result AcceptorFault.Memory → greater_promise self.old.kept.promised ballot ≡ None }
-        ensures others { ¬ IsErrOf result AcceptorFault.BadRecord × ¬ IsErrOf result AcceptorFault.StartsSpent }
+        ensures follows { Follows S.honest S.fails_at_will S.state self.old self.new
+            (prepare_of self.old.kept ballot from).saves result }
+        ensures memory { IsErrOf result AcceptorFault.Memory
+            → greater_promise self.old.kept.promised ballot ≡ None }
+        ensures others { ¬ IsErrOf result AcceptorFault.BadRecord
+            × ¬ IsErrOf result AcceptorFault.StartsSpent }
     {
         if self.is_closed {
             return Err(AcceptorFault::Closed);
@@ -196,8 +226,9 @@ impl<S: Store> Acceptor<S> {
         Ok(part)
     }
 
-    /// Answers an Accept: votes for the value at the place, unless a greater ballot is promised. A vote that is new is saved before it
-    /// is answered; one under the same ballot is told again. What saves nothing takes no memory.
+    /// Answers an Accept: votes for the value at the place, unless a greater ballot is promised. A
+    /// vote that is new is saved before it is answered; one under the same ballot is told again.
+    /// What saves nothing takes no memory.
     pub fn accept(
         &mut self,
         ballot: Ballot,
@@ -207,10 +238,14 @@ impl<S: Store> Acceptor<S> {
         requires ballot { IsBallot self.old.me.group.size ballot }
         requires place { IsPlace place }
         requires value { IsValue self.old.me.group.size value }
-        ensures answer { IfOk result (λ body. body ≡ (accept_of self.old.kept ballot place value).says) }
-        ensures follows { Follows S.honest S.fails_at_will S.state self.old self.new (accept_of self.old.kept ballot place value).saves result }
-        ensures memory { IsErrOf result AcceptorFault.Memory → (accept_of self.old.kept ballot place value).saves ≢ None }
-        ensures others { ¬ IsErrOf result AcceptorFault.BadRecord × ¬ IsErrOf result AcceptorFault.StartsSpent }
+        ensures answer { IfOk result
+            (λ body. body ≡ (accept_of self.old.kept ballot place value).says) }
+        ensures follows { Follows S.honest S.fails_at_will S.state self.old self.new
+            (accept_of self.old.kept ballot place value).saves result }
+        ensures memory { IsErrOf result AcceptorFault.Memory
+            → (accept_of self.old.kept ballot place value).saves ≢ None }
+        ensures others { ¬ IsErrOf result AcceptorFault.BadRecord
+            × ¬ IsErrOf result AcceptorFault.StartsSpent }
     {
         if self.is_closed {
             return Err(AcceptorFault::Closed);
@@ -256,10 +291,12 @@ impl<S: Store> Acceptor<S> {
 
     /// Passed on to the store: how its next save is to fail, if at all.
     pub fn fail_next(&mut self, plan: Option<bool>)
-        ensures same { S.honest → (S.state self.new.store).stored ≡ (S.state self.old.store).stored }
+        ensures same { S.honest
+            → (S.state self.new.store).stored ≡ (S.state self.old.store).stored }
         ensures plan { S.fails_at_will → (S.state self.new.store).plan ≡ plan }
         ensures faults { (S.state self.new.store).faults ≡ (S.state self.old.store).faults }
-        ensures rest { (self.new.me ≡ self.old.me) × (self.new.kept ≡ self.old.kept) × (self.new.is_closed ≡ self.old.is_closed) }
+        ensures rest { (self.new.me ≡ self.old.me) × (self.new.kept ≡ self.old.kept)
+            × (self.new.is_closed ≡ self.old.is_closed) }
     {
         self.store.fail_next(plan);
     }

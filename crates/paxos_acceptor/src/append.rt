@@ -40,8 +40,8 @@ fn put_entry(change: &Change, out: &mut Vec<u8>)
     }
 }
 
-/// Makes a change that can be made, and writes its entry behind the bytes. The room for both is made first: after an error nothing
-/// has changed.
+/// Makes a change that can be made, and writes its entry behind the bytes. The room for both is
+/// made first: after an error nothing has changed.
 pub(crate) fn append(
     kept: &mut Record,
     change: Change,

@@ -8,7 +8,7 @@ ghost use Rattle.paxos_msg.specs.Records.{changed};
 ghost use Rattle.paxos_msg.specs.Spelling.{number_bytes, votes_bytes};
 ghost use Rattle.paxos_acceptor.specs.declared.me.Me.{Me};
 ghost use Rattle.paxos_acceptor.specs.declared.version.Version.TheVariants.{One, Two};
-ghost use Rattle.paxos_acceptor.specs.Records.{AreKept, IsRecord, Rec, header_bytes, promised_bytes, record_bytes};
+ghost use Rattle.paxos_acceptor.specs.Records.{AreKept, IsRecord, Rec, record_header, promised_bytes, record_bytes};
 ghost use Rattle.paxos_acceptor.specs.RecordReading.{record_at};
 ghost use Rattle.paxos_acceptor.specs.Version1.{Rec1};
 
@@ -23,8 +23,8 @@ use paxos_msg::grammar::{
 use paxos_msg::{Ballot, Record, Vote, fits_ballot, fits_votes, put_ballot, put_number, put_votes};
 use std::alloc::Global;
 
-/// Whether the votes may stand beside the promised ballot: without one there are none, and else their places
-/// ascend and none is above it.
+/// Whether the votes may stand beside the promised ballot: without one there are none, and else
+/// their places ascend and none is above it.
 fn are_kept(size: u8, promised: Option<Ballot>, votes: &[Vote]) -> bool
     ensures { IsTrue result ↔ AreKept size promised votes.now }
 {
@@ -34,7 +34,8 @@ fn are_kept(size: u8, promised: Option<Ballot>, votes: &[Vote]) -> bool
     }
 }
 
-/// Whether the record is in its ranges: no vote is above the promised ballot, and their places ascend.
+/// Whether the record is in its ranges: no vote is above the promised ballot, and their places
+/// ascend.
 pub fn record_fits(kept: &Record, me: Me) -> bool
     ensures { IsTrue result ↔ IsRecord me.group.size kept.now }
 {
@@ -43,8 +44,8 @@ pub fn record_fits(kept: &Record, me: Me) -> bool
     are_kept(me.group.size, kept.promised, kept.votes.as_slice())
 }
 
-/// The record that the bytes are the spelling of in version 2, all of them. `Bad` where they are the spelling of none in that
-/// version; where there is no memory, `Memory`.
+/// The record that the bytes are the spelling of in version 2, all of them. `Bad` where they are
+/// the spelling of none in that version; where there is no memory, `Memory`.
 pub fn record_decode(alloc: Global, bytes: &[u8], me: Me) -> Result<Record, StoreFault>
     // What is read is spelled so.
     ensures found { IfOk result (λ kept. Rec me bytes.now kept) }
@@ -57,8 +58,9 @@ pub fn record_decode(alloc: Global, bytes: &[u8], me: Me) -> Result<Record, Stor
     record_of(alloc, Version::Two, bytes, me)
 }
 
-/// The record that the bytes are the spelling of in version 1, all of them: each of its votes is for one key at most, a batch of
-/// one. `Bad` where they are the spelling of none in that version; where there is no memory, `Memory`.
+/// The record that the bytes are the spelling of in version 1, all of them: each of its votes is
+/// for one key at most, a batch of one. `Bad` where they are the spelling of none in that version;
+/// where there is no memory, `Memory`.
 pub fn record_migrate(alloc: Global, bytes: &[u8], me: Me) -> Result<Record, StoreFault>
     // What is read is spelled so.
     ensures found { IfOk result (λ kept. Rec1 me bytes.now kept) }
@@ -71,10 +73,13 @@ pub fn record_migrate(alloc: Global, bytes: &[u8], me: Me) -> Result<Record, Sto
     record_of(alloc, Version::One, bytes, me)
 }
 
-/// Bytes are read as a record in a version just where they are its spelling in that version and it is in its ranges.
+/// Bytes are read as a record in a version just where they are its spelling in that version and it
+/// is in its ranges.
 fn record_is_spelling()
-    ensures two { (me : Me) (bytes : List ℕ) (r : Record Value) → me.group.session < 2 ^ 32 → AreBytes bytes → (record_at Two me bytes ≡ Ok r) ↔ Rec me bytes r }
-    ensures one { (me : Me) (bytes : List ℕ) (r : Record Value) → me.group.session < 2 ^ 32 → AreBytes bytes → (record_at One me bytes ≡ Ok r) ↔ Rec1 me bytes r }
+    ensures two { (me : Me) (bytes : List ℕ) (r : Record Value) → me.group.session < 2 ^ 32
+        → AreBytes bytes → (record_at Two me bytes ≡ Ok r) ↔ Rec me bytes r }
+    ensures one { (me : Me) (bytes : List ℕ) (r : Record Value) → me.group.session < 2 ^ 32
+        → AreBytes bytes → (record_at One me bytes ≡ Ok r) ↔ Rec1 me bytes r }
 {
     ballot_is_spelling();
     number_is_spelling();
@@ -85,7 +90,7 @@ fn record_is_spelling()
 /// Writes the bytes that stand before a record of version 2.
 fn put_header(me: Me, out: &mut Vec<u8>)
     requires room { vec_len out.old + 9 ≤ vec_capacity out.old }
-    ensures items { out.new.items ≡ out.old.items ++ header_bytes 2 me }
+    ensures items { out.new.items ≡ out.old.items ++ record_header 2 me }
     ensures len { vec_len out.new ≡ vec_len out.old + 9 }
     ensures capacity { vec_capacity out.new ≡ vec_capacity out.old }
 {
@@ -117,7 +122,8 @@ fn put_promised(promised: Option<Ballot>, out: &mut Vec<u8>)
 fn put_kept(votes: &[Vote], out: &mut Vec<u8>)
     requires few { length votes.now < 2 ^ 32 }
     requires room { vec_len out.old + 4 + length (votes_bytes votes.now) ≤ vec_capacity out.old }
-    ensures items { out.new.items ≡ out.old.items ++ (number_bytes (length votes.now) ++ votes_bytes votes.now) }
+    ensures items { out.new.items
+        ≡ out.old.items ++ (number_bytes (length votes.now) ++ votes_bytes votes.now) }
 {
     put_number(votes.len() as u32, out);
     put_votes(votes, out);
@@ -144,7 +150,8 @@ pub(crate) fn put_record(kept: &Record, me: Me, out: &mut Vec<u8>)
     put_kept(kept.votes.as_slice(), out);
 }
 
-/// The one spelling of the record in version 2. The record has to be in its ranges. Only `Memory` is an error.
+/// The one spelling of the record in version 2. The record has to be in its ranges. Only `Memory`
+/// is an error.
 pub fn record_encode(alloc: Global, kept: &Record, me: Me) -> Result<Vec<u8>, StoreFault>
     requires { IsRecord me.group.size kept.now }
     ensures ok { IfOk result (λ bytes. bytes.items ≡ record_bytes me kept.now) }
@@ -156,11 +163,14 @@ pub fn record_encode(alloc: Global, kept: &Record, me: Me) -> Result<Vec<u8>, St
     Ok(out)
 }
 
-/// A record has at most 65,536 votes, each of which is spelled with at most 52 bytes. A change puts one vote more at most.
+/// A record has at most 65,536 votes, each of which is spelled with at most 52 bytes. A change puts
+/// one vote more at most.
 pub(crate) fn kept_votes_are_few()
     ensures few { (size : ℕ) (r : Record Value) → IsRecord size r → length r.votes ≤ 65536 }
-    ensures short { (size : ℕ) (r : Record Value) → IsRecord size r → length (votes_bytes r.votes) ≤ 52 * length r.votes }
-    ensures one_more { (r : Record Value) (c : Change Value) → length (changed r c).votes ≤ length r.votes + 1 }
+    ensures short { (size : ℕ) (r : Record Value) → IsRecord size r
+        → length (votes_bytes r.votes) ≤ 52 * length r.votes }
+    ensures one_more { (r : Record Value) (c : Change Value)
+        → length (changed r c).votes ≤ length r.votes + 1 }
 {
     votes_are_short();
 }

@@ -23,7 +23,7 @@ pub(crate) fn if_there<T: Drop>(read: io::Result<T>) -> io::Result<Option<T>>
 }
 
 /// The most bytes that a whole record has: 22, and 52 for a vote at each place.
-const LONGEST: u64 = 22 + 52 * 65_536;
+const LONGEST_RECORD: u64 = 22 + 52 * 65_536;
 
 /// The first bytes of a file, `most` at most.
 fn read_most<R: Files + AllocGlobal>(rt: &R, path: &str, most: u64) -> io::Result<Vec<u8>> {
@@ -32,17 +32,17 @@ fn read_most<R: Files + AllocGlobal>(rt: &R, path: &str, most: u64) -> io::Resul
     Ok(bytes)
 }
 
-/// The bytes of a file: all, where it begins as a log does, and else one more than a whole record has at most. So of a file without an
-/// end, which is no record, only the first megabytes are read.
+/// The bytes of a file: all, where it begins as a log does, and else one more than a whole record
+/// has at most. So of a file without an end, which is no record, only the first megabytes are read.
 fn read_record<R: Files + AllocGlobal>(rt: &R, path: &str) -> io::Result<Vec<u8>> {
     if read_most(rt, path, 2)?.as_slice() == b"PL".as_slice() {
         return fs::read(rt, path);
     }
-    read_most(rt, path, LONGEST + 1)
+    read_most(rt, path, LONGEST_RECORD + 1)
 }
 
-/// The bytes of the file, which are on the disk, under its name, before it answers; `None` where there is no file. It may have been
-/// put there by a save that failed behind the renaming.
+/// The bytes of the file, which are on the disk, under its name, before it answers; `None` where
+/// there is no file. It may have been put there by a save that failed behind the renaming.
 pub(crate) fn read_synced<R: Files + AllocGlobal>(
     rt: &R,
     path: &str,
@@ -55,13 +55,14 @@ pub(crate) fn read_synced<R: Files + AllocGlobal>(
     Ok(found)
 }
 
-/// Writes the bytes to the fresh file, and then gives it the path: so a restart finds the old bytes or the new ones, and no others.
+/// Writes the bytes to the fresh file, and then gives it the path: so a restart finds the old bytes
+/// or the new ones, and no others.
 fn replace_synced<R: Files>(rt: &R, path: &str, fresh_path: &str, bytes: &[u8]) -> io::Result<()> {
     Synced::write(rt, fresh_path, bytes)?.put_at(rt, path)
 }
 
-/// Writes the bytes behind these many, which have to be all that the file has, and syncs them: so a restart finds the old bytes, and
-/// behind them all of the new ones or those before one of them.
+/// Writes the bytes behind these many, which have to be all that the file has, and syncs them: so a
+/// restart finds the old bytes, and behind them all of the new ones or those before one of them.
 fn append_synced<R: Files>(rt: &R, path: &str, length: usize, bytes: &[u8]) -> io::Result<()> {
     let mut file = OpenOptions::new().append(true).open(rt, path)?;
     if file.metadata()?.len() != length as u64 {

@@ -4,7 +4,8 @@ ghost use Rattle.paxos_acceptor.specs.Log.{IsCutBatch, IsCutVote, IsEnd};
 
 use crate::version::Version;
 
-/// Whether some bytes of a batch are missing, behind its tag: in version 2 its count tells how many it has.
+/// Whether some bytes of a batch are missing, behind its tag: in version 2 its count tells how many
+/// it has.
 fn is_cut_batch(version: Version, bytes: &[u8]) -> bool
     ensures { IsTrue result ↔ IsCutBatch version bytes.now }
 {
@@ -27,7 +28,8 @@ fn is_cut_vote(version: Version, bytes: &[u8]) -> bool
     bytes.len() < 10 || (bytes[9] == 1 && is_cut_batch(version, &bytes[10..]))
 }
 
-/// Whether no whole entry stands in the bytes, nor one that cannot be told: they are nothing, or an entry that was cut.
+/// Whether no whole entry stands in the bytes, nor one that cannot be told: they are nothing, or an
+/// entry that was cut.
 pub(crate) fn is_end(version: Version, bytes: &[u8]) -> bool
     ensures { IsTrue result ↔ IsEnd version bytes.now }
 {

@@ -43,8 +43,8 @@ fn is_in_ranges(size: u8, change: Change) -> bool
     }
 }
 
-/// Whether a change whose fields are in their ranges can be made to the record: there is a start to spare, and no ballot is below
-/// the promised one.
+/// Whether a change whose fields are in their ranges can be made to the record: there is a start to
+/// spare, and no ballot is below the promised one.
 pub(crate) fn is_next(kept: &Record, change: &Change) -> bool
     ensures { IsTrue result ↔ IsNext kept.now change.now }
 {
@@ -55,8 +55,8 @@ pub(crate) fn is_next(kept: &Record, change: &Change) -> bool
     }
 }
 
-/// Whether the change can be made to the record. Its own fields, the starts and the promised ballot tell it, so that the answer
-/// takes as long with many votes as with none.
+/// Whether the change can be made to the record. Its own fields, the starts and the promised ballot
+/// tell it, so that the answer takes as long with many votes as with none.
 pub(crate) fn is_entry(kept: &Record, change: &Change, me: Me) -> bool
     ensures { IsTrue result ↔ IsEntry me.group.size kept.now change.now }
 {

@@ -11,8 +11,8 @@ pub enum AcceptorFault {
     /// There is no memory. Nothing has changed.
     #[error("A1")]
     Memory,
-    /// The store's device failed. The record is as it was; from now on each call is `Closed`. Where the
-    /// acceptor was being opened there is none, and the store is given back.
+    /// The store's device failed. The record is as it was; from now on each call is `Closed`. Where
+    /// the acceptor was being opened there is none, and the store is given back.
     #[error("A2")]
     Store,
     /// The store failed before.

@@ -17,10 +17,12 @@ use std::io;
 use std::marker::Model;
 use std::rt::Files;
 
-/// A record in a file. A new file is a log of changes, to which each save appends one, whatever the record's size. A file that has a
-/// whole record is loaded too, in version 2 or in version 1, and so is a log of version 1: each save then writes the whole record of
-/// version 2 to a second file, which gets its name. A load changes nothing. What can be known of the record is what was found or saved
-/// last, and how often the device has failed. After a fault nothing is saved until it is loaded again.
+/// A record in a file. A new file is a log of changes, to which each save appends one, whatever the
+/// record's size. A file that has a whole record is loaded too, in version 2 or in version 1, and
+/// so is a log of version 1: each save then writes the whole record of version 2 to a second file,
+/// which gets its name. A load changes nothing. What can be known of the record is what was found
+/// or saved last, and how often the device has failed. After a fault nothing is saved until it is
+/// loaded again.
 pub struct FileStore<R> {
     rt: R,
     path: String,
@@ -54,7 +56,8 @@ impl<R> Model for FileStore<R> {
 
     ghost view = { λ s. record { me = s.me; found = s.found; faults = s.faults } };
 
-    ghost invariant = { λ s. IfSome s.found (λ r. IsRecord s.me.group.size r × IsFormOf s.me r s.form) };
+    ghost invariant = { λ s.
+        IfSome s.found (λ r. IsRecord s.me.group.size r × IsFormOf s.me r s.form) };
 }
 
 impl<R> FileStore<R> {
@@ -119,7 +122,8 @@ impl<R: Files + AllocGlobal + Copy + Drop> Store for FileStore<R> {
         ensures notes { Notes self.old self.new change.now result }
         ensures me { self.new.me ≡ self.old.me }
         ensures good { ¬ IsErrOf result StoreFault.Bad }
-        ensures cause { HasCause (IsErrOf result StoreFault.Device) self.old.faults self.new.faults }
+        ensures cause { HasCause
+            (IsErrOf result StoreFault.Device) self.old.faults self.new.faults }
     {
         let Some(found) = &mut self.found else {
             return Err(self.give_up());

@@ -5,7 +5,7 @@ ghost use Rattle.paxos_msg.specs.declared.value.Value.{Value};
 ghost use Rattle.paxos_msg.specs.Records.{changed, empty_record};
 ghost use Rattle.paxos_acceptor.specs.declared.me.Me.{Me};
 ghost use Rattle.paxos_acceptor.specs.declared.version.Version.TheVariants.{Two};
-ghost use Rattle.paxos_acceptor.specs.Files.{IsFormAfter, IsFormIn, IsFormOf, IsPatch, IsWhole, IsWritten};
+ghost use Rattle.paxos_acceptor.specs.Files.{IsFormAfter, IsFormIn, IsFormOf, IsPatch, IsWholeForm, IsWritten};
 ghost use Rattle.paxos_acceptor.specs.Log.{IsEntry, LogIn, log_header};
 ghost use Rattle.paxos_acceptor.specs.Records.{IsRecord, record_bytes};
 
@@ -36,18 +36,20 @@ pub(crate) enum Form {
 /// What a save writes to a file.
 #[derive(Drop)]
 pub(crate) struct Patch {
-    /// The bytes go behind these many, which are all that the file has; `None` where they go to another file, which then gets its
-    /// name.
+    /// The bytes go behind these many, which are all that the file has; `None` where they go to
+    /// another file, which then gets its name.
     pub(crate) at: Option<usize>,
     pub(crate) bytes: Vec<u8>,
 }
 
 /// The record of a file in whole form, or with a log of version 1.
 fn record_of_whole(alloc: Global, bytes: &[u8], me: Me) -> Result<Record, StoreFault>
-    ensures found { IfOk result (λ r. IsWhole me bytes.now r) }
-    ensures only { (r : Record Value) → IsWhole me bytes.now r → IfOk result (λ found. found ≡ r) }
+    ensures found { IfOk result (λ r. IsWholeForm me bytes.now r) }
+    ensures only { (r : Record Value) → IsWholeForm me bytes.now r
+        → IfOk result (λ found. found ≡ r) }
     ensures ranges { IfOk result (λ r. IsRecord me.group.size r) }
-    ensures bad { IsErrOf result StoreFault.Bad → (r : Record Value) → ¬ IsWhole me bytes.now r }
+    ensures bad { IsErrOf result StoreFault.Bad → (r : Record Value)
+        → ¬ IsWholeForm me bytes.now r }
     ensures others { ¬ IsErrOf result StoreFault.Device }
 {
     forms_are_apart();
@@ -63,14 +65,15 @@ fn record_of_whole(alloc: Global, bytes: &[u8], me: Me) -> Result<Record, StoreF
     Ok(record)
 }
 
-/// The record of a file with these bytes, and of a log of version 2 how many of them its header and its whole entries take.
+/// The record of a file with these bytes, and of a log of version 2 how many of them its header and
+/// its whole entries take.
 fn record_of_bytes(
     alloc: Global,
     bytes: &[u8],
     me: Me,
 ) -> Result<(Record, Option<usize>), StoreFault>
     ensures log { IfOk result (λ x. IfSome x.1 (LogIn Two me bytes.now x.0)) }
-    ensures whole { IfOk result (λ x. IsNone x.1 → IsWhole me bytes.now x.0) }
+    ensures whole { IfOk result (λ x. IsNone x.1 → IsWholeForm me bytes.now x.0) }
     ensures only { (r : Record Value) → IsWritten me bytes.now r → IfOk result (λ x. x.0 ≡ r) }
     ensures ranges { IfOk result (λ x. IsRecord me.group.size x.0) }
     ensures bad { IsErrOf result StoreFault.Bad → (r : Record Value) → ¬ IsWritten me bytes.now r }
@@ -87,10 +90,12 @@ fn record_of_bytes(
     }
 }
 
-/// The form of a file with these bytes, of which the header and the whole entries of a log of version 2 take `log`.
+/// The form of a file with these bytes, of which the header and the whole entries of a log of
+/// version 2 take `log`.
 fn form_of_bytes(mut bytes: Vec<u8>, log: Option<usize>) -> Form
     requires { IfSome log (λ n. n ≤ length bytes.items) }
-    ensures { (me : Me) (r : Record Value) → IfSome log (LogIn Two me bytes.items r) → (IsNone log → IsWhole me bytes.items r) → IsFormIn me bytes.items r result }
+    ensures { (me : Me) (r : Record Value) → IfSome log (LogIn Two me bytes.items r)
+        → (IsNone log → IsWholeForm me bytes.items r) → IsFormIn me bytes.items r result }
 {
     match log {
         None => Form::Whole,
@@ -111,8 +116,10 @@ pub(crate) fn form_of(
     ensures missing { IsNone file → IfOk result (λ x. (x.0 ≡ empty_record) × (x.1 ≡ Form.Missing)) }
     ensures no_file_is_good { IsNone file → IsOk result }
     ensures form { IfSome file (λ bytes. IfOk result (λ x. IsFormIn me bytes.items x.0 x.1)) }
-    ensures only { IfSome file (λ bytes. (r : Record Value) → IsWritten me bytes.items r → IfOk result (λ x. x.0 ≡ r)) }
-    ensures bad { IsErrOf result StoreFault.Bad → IfSome file (λ bytes. (r : Record Value) → ¬ IsWritten me bytes.items r) }
+    ensures only { IfSome file
+        (λ bytes. (r : Record Value) → IsWritten me bytes.items r → IfOk result (λ x. x.0 ≡ r)) }
+    ensures bad { IsErrOf result StoreFault.Bad
+        → IfSome file (λ bytes. (r : Record Value) → ¬ IsWritten me bytes.items r) }
     ensures fits { IfOk result (λ x. IsFormOf me x.0 x.1) }
     ensures ranges { IfOk result (λ x. IsRecord me.group.size x.0) }
     ensures others { ¬ IsErrOf result StoreFault.Device }
@@ -134,8 +141,8 @@ fn new_log(alloc: Global, me: Me) -> Result<Vec<u8>, AllocError>
     Ok(bytes)
 }
 
-/// Makes a change that can be made, and gives the spelling of the record that it leaves. The room for both is made first: after an
-/// error nothing has changed.
+/// Makes a change that can be made, and gives the spelling of the record that it leaves. The room
+/// for both is made first: after an error nothing has changed.
 fn spell_changed(
     alloc: Global,
     kept: &mut Record,
@@ -145,7 +152,8 @@ fn spell_changed(
     requires ranges { IsRecord me.group.size kept.old }
     requires entry { IsEntry me.group.size kept.old change }
     ensures changed { OnOk result (kept.new ≡ changed kept.old change) }
-    ensures spelled { IfOk result (λ bytes. bytes.items ≡ record_bytes me (changed kept.old change)) }
+    ensures spelled { IfOk result
+        (λ bytes. bytes.items ≡ record_bytes me (changed kept.old change)) }
     ensures ranges { OnOk result (IsRecord me.group.size kept.new) }
     ensures err { OnErr result (kept.new ≡ kept.old) }
 {
@@ -156,8 +164,8 @@ fn spell_changed(
     Ok(bytes)
 }
 
-/// Makes a change that can be made, and gives what a file of that form needs to have the changed record. After an error nothing has
-/// changed.
+/// Makes a change that can be made, and gives what a file of that form needs to have the changed
+/// record. After an error nothing has changed.
 pub(crate) fn patch_of(
     alloc: Global,
     form: &Form,

@@ -8,7 +8,7 @@ ghost use Rattle.paxos_msg.specs.Reading.{Gives};
 ghost use Rattle.paxos_msg.specs.Views.{GivesField};
 ghost use Rattle.paxos_acceptor.specs.declared.version.Version.{Version};
 ghost use Rattle.paxos_acceptor.specs.Log.{Folds, IsEnd, Log, LogIn, log_header};
-ghost use Rattle.paxos_acceptor.specs.LogReading.{Begins, SameFolds, entry_at, promise_at, tagged, value_in, vote_at};
+ghost use Rattle.paxos_acceptor.specs.LogReading.{BeginsEntry, SameFolds, entry_at, log_promise_at, tagged, value_in, log_vote_at};
 ghost use Rattle.paxos_acceptor.specs.Records.{IsRecord};
 
 use crate::ending::is_end;
@@ -45,7 +45,8 @@ pub(crate) fn log_header(version: Version, me: Me) -> [u8; 9]
 /// The bytes behind the header, if they begin with it.
 fn entries_of(version: Version, me: Me, bytes: &[u8]) -> Option<&[u8]>
     ensures some { IfSome result (λ entries. bytes.now ≡ log_header version me ++ entries.now) }
-    ensures none { IsNone result → (entries : List ℕ) → bytes.now ≢ log_header version me ++ entries }
+    ensures none { IsNone result → (entries : List ℕ)
+        → bytes.now ≢ log_header version me ++ entries }
 {
     let header = log_header(version, me);
     bytes.strip_prefix(header.as_slice())
@@ -63,16 +64,16 @@ fn value_of(version: Version, group: Group, bytes: &[u8]) -> Result<(Value, usiz
 
 /// The promise at the front of the bytes, behind its tag, and the bytes behind it.
 fn promise_of(group: Group, bytes: &[u8]) -> Result<(Change, &[u8]), WireFault>
-    ensures { Gives (λ x. (x.0, x.1.now)) result (promise_at group.size bytes.now) }
+    ensures { Gives (λ x. (x.0, x.1.now)) result (log_promise_at group.size bytes.now) }
 {
     let (ballot, taken) = read_ballot(bytes, group)?;
     Ok((Change::Promise(ballot), &bytes[taken..]))
 }
 
 /// The vote at the front of the bytes, behind its tag, and the bytes behind it.
-#[tactic(auto, unfolding(crate::specs::LogReading::vote_at, paxos_msg::specs::Reading::place_at))]
+#[tactic(auto, unfolding(crate::specs::LogReading::log_vote_at, paxos_msg::specs::Reading::place_at))]
 fn vote_of(version: Version, group: Group, bytes: &[u8]) -> Result<(Change, &[u8]), WireFault>
-    ensures { Gives (λ x. (x.0, x.1.now)) result (vote_at version group.size bytes.now) }
+    ensures { Gives (λ x. (x.0, x.1.now)) result (log_vote_at version group.size bytes.now) }
 {
     let (place, rest) = number_of(bytes)?;
     if place > 65_535 {
@@ -114,7 +115,9 @@ fn entry_of(version: Version, group: Group, bytes: &[u8]) -> Result<(Change, &[u
 
 /// An entry is read just where the bytes begin with its spelling.
 fn entry_is_spelling()
-    ensures { (version : Version) (size : ℕ) (bytes : List ℕ) (c : Change Value) (rest : List ℕ) → AreBytes bytes → (entry_at version size bytes ≡ Ok (c, rest)) ↔ Begins version size bytes c rest }
+    ensures { (version : Version) (size : ℕ) (bytes : List ℕ) (c : Change Value) (rest : List ℕ)
+        → AreBytes bytes → (entry_at version size bytes ≡ Ok (c, rest))
+        ↔ BeginsEntry version size bytes c rest }
 {
     ballot_is_spelling();
     number_is_spelling();
@@ -125,15 +128,19 @@ fn entry_is_spelling()
 
 /// The first entry, and the bytes behind it. An error is that the bytes begin with none.
 fn first_entry(version: Version, group: Group, bytes: &[u8]) -> Result<(Change, &[u8]), WireFault>
-    ensures found { IfOk result (λ x. Begins version group.size bytes.now x.0 x.1.now) }
-    ensures only { (c : Change Value) (rest : List ℕ) → Begins version group.size bytes.now c rest → IfOk result (λ x. (x.0 ≡ c) × (x.1.now ≡ rest)) }
-    ensures none { IsErr result → (c : Change Value) (rest : List ℕ) → ¬ Begins version group.size bytes.now c rest }
+    ensures found { IfOk result (λ x. BeginsEntry version group.size bytes.now x.0 x.1.now) }
+    ensures only { (c : Change Value) (rest : List ℕ)
+        → BeginsEntry version group.size bytes.now c rest
+        → IfOk result (λ x. (x.0 ≡ c) × (x.1.now ≡ rest)) }
+    ensures none { IsErr result → (c : Change Value) (rest : List ℕ)
+        → ¬ BeginsEntry version group.size bytes.now c rest }
 {
     entry_is_spelling();
     entry_of(version, group, bytes)
 }
 
-/// Makes the change of the first entry, and answers the bytes behind it. `Bad` where it can't be made, or where there is none.
+/// Makes the change of the first entry, and answers the bytes behind it. `Bad` where it can't be
+/// made, or where there is none.
 fn enter_first<'a>(
     version: Version,
     me: Me,
@@ -143,9 +150,11 @@ fn enter_first<'a>(
     requires ranges { IsRecord me.group.size kept.old }
     requires more { ¬ IsEnd version bytes.now }
     ensures ranges { OnOk result (IsRecord me.group.size kept.new) }
-    ensures same { IfOk result (λ rest. SameFolds version me.group.size kept.old bytes.now kept.new rest.now) }
+    ensures same { IfOk result
+        (λ rest. SameFolds version me.group.size kept.old bytes.now kept.new rest.now) }
     ensures shorter { IfOk result (λ rest. length rest.now < length bytes.now) }
-    ensures bad { IsErrOf result StoreFault.Bad → (made : Record Value) (end : List ℕ) → ¬ Folds version me.group.size kept.old bytes.now made end }
+    ensures bad { IsErrOf result StoreFault.Bad → (made : Record Value) (end : List ℕ)
+        → ¬ Folds version me.group.size kept.old bytes.now made end }
     ensures others { ¬ IsErrOf result StoreFault.Device }
 {
     let Ok((change, behind)) = first_entry(version, me.group, bytes) else {
@@ -158,7 +167,8 @@ fn enter_first<'a>(
     Ok(behind)
 }
 
-/// Makes the changes of all entries, one after the other, and answers the bytes behind the last whole one.
+/// Makes the changes of all entries, one after the other, and answers the bytes behind the last
+/// whole one.
 fn enter_all<'a>(
     version: Version,
     me: Me,
@@ -166,11 +176,15 @@ fn enter_all<'a>(
     entries: &'a [u8],
 ) -> Result<&'a [u8], StoreFault>
     requires { IsRecord me.group.size kept.old }
-    ensures found { IfOk result (λ end. Folds version me.group.size kept.old entries.now kept.new end.now) }
-    ensures only { (made : Record Value) (end : List ℕ) → Folds version me.group.size kept.old entries.now made end → IfOk result (λ x. (kept.new ≡ made) × (x.now ≡ end)) }
+    ensures found { IfOk result
+        (λ end. Folds version me.group.size kept.old entries.now kept.new end.now) }
+    ensures only { (made : Record Value) (end : List ℕ)
+        → Folds version me.group.size kept.old entries.now made end
+        → IfOk result (λ x. (kept.new ≡ made) × (x.now ≡ end)) }
     ensures ranges { OnOk result (IsRecord me.group.size kept.new) }
     ensures within { IfOk result (λ end. length end.now ≤ length entries.now) }
-    ensures bad { IsErrOf result StoreFault.Bad → (made : Record Value) (end : List ℕ) → ¬ Folds version me.group.size kept.old entries.now made end }
+    ensures bad { IsErrOf result StoreFault.Bad → (made : Record Value) (end : List ℕ)
+        → ¬ Folds version me.group.size kept.old entries.now made end }
     ensures others { ¬ IsErrOf result StoreFault.Device }
 {
     let mut rest = entries;
@@ -180,7 +194,8 @@ fn enter_all<'a>(
     Ok(rest)
 }
 
-/// The record that the bytes are a log of in that version, and how many of them its header and whole entries take.
+/// The record that the bytes are a log of in that version, and how many of them its header and
+/// whole entries take.
 pub(crate) fn log_of(
     alloc: Global,
     version: Version,
@@ -188,9 +203,11 @@ pub(crate) fn log_of(
     me: Me,
 ) -> Result<(Record, usize), StoreFault>
     ensures found { IfOk result (λ x. LogIn version me bytes.now x.0 x.1) }
-    ensures only { (r : Record Value) (n : ℕ) → LogIn version me bytes.now r n → IfOk result (λ x. (x.0 ≡ r) × (x.1 ≡ n)) }
+    ensures only { (r : Record Value) (n : ℕ) → LogIn version me bytes.now r n
+        → IfOk result (λ x. (x.0 ≡ r) × (x.1 ≡ n)) }
     ensures ranges { IfOk result (λ x. IsRecord me.group.size x.0) }
-    ensures bad { IsErrOf result StoreFault.Bad → (r : Record Value) (n : ℕ) → ¬ LogIn version me bytes.now r n }
+    ensures bad { IsErrOf result StoreFault.Bad → (r : Record Value) (n : ℕ)
+        → ¬ LogIn version me bytes.now r n }
     ensures others { ¬ IsErrOf result StoreFault.Device }
 {
     let Some(entries) = entries_of(version, me, bytes) else {
@@ -201,14 +218,17 @@ pub(crate) fn log_of(
     Ok((kept, bytes.len() - end.len()))
 }
 
-/// The record that the bytes are a log of, in version 2 or in version 1, and how many of them its header and whole entries take: an
-/// entry that was cut at the end is left out. `Bad` where they are a log of none; where there is no memory, `Memory`.
+/// The record that the bytes are a log of, in version 2 or in version 1, and how many of them its
+/// header and whole entries take: an entry that was cut at the end is left out. `Bad` where they
+/// are a log of none; where there is no memory, `Memory`.
 pub fn log_decode(alloc: Global, bytes: &[u8], me: Me) -> Result<(Record, usize), StoreFault>
     // What is read is a log of it.
     ensures found { IfOk result (λ x. Log me bytes.now x.0 x.1) }
     // What is a log of it is read.
-    ensures only { (r : Record Value) (n : ℕ) → Log me bytes.now r n → IfOk result (λ x. (x.0 ≡ r) × (x.1 ≡ n)) }
-    ensures bad { IsErrOf result StoreFault.Bad → (r : Record Value) (n : ℕ) → ¬ Log me bytes.now r n }
+    ensures only { (r : Record Value) (n : ℕ) → Log me bytes.now r n
+        → IfOk result (λ x. (x.0 ≡ r) × (x.1 ≡ n)) }
+    ensures bad { IsErrOf result StoreFault.Bad → (r : Record Value) (n : ℕ)
+        → ¬ Log me bytes.now r n }
     ensures ranges { IfOk result (λ x. IsRecord me.group.size x.0) }
     ensures others { ¬ IsErrOf result StoreFault.Device }
 {

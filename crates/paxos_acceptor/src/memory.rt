@@ -75,7 +75,8 @@ impl Store for MemoryStore {
         requires ascending { IsAscending self.old.stored.votes }
         ensures by_plan { SavesByPlan self.old self.new change.now result }
         ensures good { ¬ IsErrOf result StoreFault.Bad }
-        ensures cause { HasCause (IsErrOf result StoreFault.Device) self.old.faults self.new.faults }
+        ensures cause { HasCause
+            (IsErrOf result StoreFault.Device) self.old.faults self.new.faults }
     {
         if self.plan != Some(false) {
             self.record.change(*change)?;

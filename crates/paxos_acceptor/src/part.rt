@@ -2,7 +2,8 @@
 ghost use Rattle.std.specs.Prelude.{◌≡◌, ◌≤◌, IfOk, All, drop, length, take};
 ghost use Rattle.paxos_msg.specs.Messages.{IsAscending};
 ghost use Rattle.paxos_msg.specs.declared.message.Body.TheVariants as body;
-ghost use Rattle.paxos_acceptor.specs.Answers.{behind_last, upto_of, votes_from};
+ghost use Rattle.paxos_acceptor.specs.Answers.{behind_last, upto_of};
+ghost use Rattle.paxos_msg.specs.Places.{votes_from};
 
 use paxos_msg::{Ballot, Body, Vote, Votes};
 use std::alloc::{AllocError, Global};
@@ -30,7 +31,8 @@ fn place_behind(votes: &[Vote]) -> u32
     }
 }
 
-/// Up to where a part speaks that reports the first of these votes: over all places, unless there are more.
+/// Up to where a part speaks that reports the first of these votes: over all places, unless there
+/// are more.
 fn upto(remaining: &[Vote]) -> u32
     requires { All (λ vote. vote.place ≤ 65535) remaining.now }
     ensures { result ≡ upto_of remaining.now }
@@ -58,7 +60,9 @@ pub(crate) fn part_from(
 ) -> Result<Body, AllocError>
     requires in_order { IsAscending votes.now }
     requires places { All (λ vote. vote.place ≤ 65535) votes.now }
-    ensures { IfOk result (λ part. part ≡ body.Promise ballot first (upto_of (votes_from first votes.now)) (take 8 (votes_from first votes.now))) }
+    ensures { IfOk result
+        (λ part. part ≡ body.Promise ballot first (upto_of (votes_from first votes.now))
+        (take 8 (votes_from first votes.now))) }
 {
     let remaining = &votes[count_before(votes, first)..];
     Ok(Body::Promise {

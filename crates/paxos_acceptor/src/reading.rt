@@ -1,7 +1,7 @@
 //! Reading the bytes of a record, in either version.
 ghost use Rattle.std.specs.Prelude.{◌≡◌, ◌≤◌, length, IfOk, Some};
 ghost use Rattle.paxos_msg.specs.Reading.{Gives, number_at};
-ghost use Rattle.paxos_acceptor.specs.RecordReading.{behind_byte, head_at, header_at, promised_at, Reads, record_at, votes_of};
+ghost use Rattle.paxos_acceptor.specs.RecordReading.{behind_byte, head_at, record_header_at, promised_at, ReadsAs, record_at, votes_of};
 ghost use Rattle.paxos_acceptor.specs.declared.version.Version.TheVariants.{Two};
 
 use crate::me::Me;
@@ -33,9 +33,9 @@ fn after_byte(byte: u8, bytes: &[u8]) -> Result<&[u8], WireFault>
 }
 
 /// The bytes behind a header of this node's record in that version.
-#[tactic(auto, unfolding(crate::specs::RecordReading::header_at))]
+#[tactic(auto, unfolding(crate::specs::RecordReading::record_header_at))]
 fn after_header(version: Version, me: Me, bytes: &[u8]) -> Result<&[u8], WireFault>
-    ensures { Gives (λ rest. rest.now) result (header_at version me bytes.now) }
+    ensures { Gives (λ rest. rest.now) result (record_header_at version me bytes.now) }
 {
     let rest = after_byte(b'P', bytes)?;
     let rest = after_byte(b'R', rest)?;
@@ -73,7 +73,8 @@ struct Head {
 /// What stands before the votes, and the bytes behind it.
 #[tactic(auto, unfolding(crate::specs::RecordReading::head_at))]
 fn head_of(version: Version, me: Me, bytes: &[u8]) -> Result<(Head, &[u8]), WireFault>
-    ensures { Gives (λ x. ((x.0.starts, x.0.promised, x.0.count), x.1.now)) result (head_at version me bytes.now) }
+    ensures { Gives (λ x. ((x.0.starts, x.0.promised, x.0.count), x.1.now)) result
+        (head_at version me bytes.now) }
 {
     let rest = after_header(version, me, bytes)?;
     let (starts, rest) = number_of(rest)?;
@@ -87,7 +88,8 @@ fn head_of(version: Version, me: Me, bytes: &[u8]) -> Result<(Head, &[u8]), Wire
     Ok((head, rest))
 }
 
-/// The votes under the ballot, so many of them, which have to be all of the bytes. They stay in the bytes.
+/// The votes under the ballot, so many of them, which have to be all of the bytes. They stay in the
+/// bytes.
 fn lent_votes(
     group: Group,
     ballot: Ballot,
@@ -113,7 +115,8 @@ fn votes_under(
     count: u32,
     bytes: &[u8],
 ) -> Result<Vec<Vote>, StoreFault>
-    ensures { Reads (λ votes. votes.items) result (votes_of version group.size (Some ballot) count bytes.now) }
+    ensures { ReadsAs (λ votes. votes.items) result
+        (votes_of version group.size (Some ballot) count bytes.now) }
 {
     match version {
         Version::One => votes_of_v1(alloc, group, ballot, count, bytes),
@@ -132,7 +135,8 @@ fn kept_votes(
     head: Head,
     bytes: &[u8],
 ) -> Result<Vec<Vote>, StoreFault>
-    ensures { Reads (λ votes. votes.items) result (votes_of version group.size head.promised head.count bytes.now) }
+    ensures { ReadsAs (λ votes. votes.items) result
+        (votes_of version group.size head.promised head.count bytes.now) }
 {
     match head.promised {
         Some(ballot) => votes_under(alloc, version, group, ballot, head.count, bytes),
@@ -149,7 +153,7 @@ pub(crate) fn record_of(
     bytes: &[u8],
     me: Me,
 ) -> Result<Record, StoreFault>
-    ensures { Reads (λ kept. kept) result (record_at version me bytes.now) }
+    ensures { ReadsAs (λ kept. kept) result (record_at version me bytes.now) }
 {
     let Ok((head, rest)) = head_of(version, me, bytes) else {
         return Err(StoreFault::Bad);

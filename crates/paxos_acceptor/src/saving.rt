@@ -3,7 +3,7 @@ ghost use Rattle.std.specs.Prelude.{◌≡◌, ◌<◌, false, OnErr, OnOk};
 ghost use Rattle.paxos_msg.specs.declared.record.Change.TheVariants.{Ballotted, Start};
 ghost use Rattle.paxos_msg.specs.Messages.{IsAscending};
 ghost use Rattle.paxos_msg.specs.Records.{changed, with_vote};
-ghost use Rattle.paxos_acceptor.specs.Saves.{Saves};
+ghost use Rattle.paxos_acceptor.specs.Saves.{SavesRecord};
 
 use crate::fault::AcceptorFault;
 use crate::store::{Store, StoreFault};
@@ -18,7 +18,8 @@ pub(crate) fn save_to<S: Store>(
     requires open { is_closed.old ≡ false }
     requires starts { S.honest → change ≡ Start → (S.state store.old).stored.starts < 4294967295 }
     requires ascending { S.honest → IsAscending (S.state store.old).stored.votes }
-    ensures { Saves S.honest S.fails_at_will (S.state store.old) (S.state store.new) is_closed.new result (changed (S.state store.old).stored change) }
+    ensures { SavesRecord S.honest S.fails_at_will (S.state store.old)
+        (S.state store.new) is_closed.new result (changed (S.state store.old).stored change) }
 {
     match store.save(&change) {
         Ok(()) => Ok(()),
@@ -31,7 +32,8 @@ pub(crate) fn save_to<S: Store>(
     }
 }
 
-/// Saves a vote and puts it among the votes. The room for it is made before the save, so that nothing can fail behind it. After an error the votes are as they were.
+/// Saves a vote and puts it among the votes. The room for it is made before the save, so that
+/// nothing can fail behind it. After an error the votes are as they were.
 pub(crate) fn save_vote<S: Store>(
     store: &mut S,
     is_closed: &mut bool,
@@ -41,7 +43,10 @@ pub(crate) fn save_vote<S: Store>(
     requires open { is_closed.old ≡ false }
     requires in_order { IsAscending votes.old.items }
     requires ascending { S.honest → IsAscending (S.state store.old).stored.votes }
-    ensures saves { Saves S.honest S.fails_at_will (S.state store.old) (S.state store.new) is_closed.new result (changed (S.state store.old).stored (Ballotted vote.now.place vote.now.ballot vote.now.value)) }
+    ensures saves { SavesRecord S.honest S.fails_at_will (S.state store.old)
+        (S.state store.new) is_closed.new result
+        (changed (S.state store.old).stored
+        (Ballotted vote.now.place vote.now.ballot vote.now.value)) }
     ensures ok { OnOk result (votes.new.items ≡ with_vote votes.old.items vote.now) }
     ensures err { OnErr result (votes.new.items ≡ votes.old.items) }
 {

@@ -5,8 +5,8 @@ use std::io::{self, Write};
 use std::path::Path;
 use std::rt::Files;
 
-/// A file that was written and synced: there is none that was not. The code of this crate gives a file another's path by
-/// `put_at` alone, and so never before its sync.
+/// A file that was written and synced: there is none that was not. The code of this crate gives a
+/// file another's path by `put_at` alone, and so never before its sync.
 pub(crate) struct Synced<'a> {
     path: &'a str,
 }
@@ -20,7 +20,8 @@ impl<'a> Synced<'a> {
         Ok(Synced { path })
     }
 
-    /// Gives the file this path, in the place of the file that had it, and syncs the folder: a restart then finds it there.
+    /// Gives the file this path, in the place of the file that had it, and syncs the folder: a
+    /// restart then finds it there.
     pub(crate) fn put_at<R: Files>(self, rt: &R, path: &str) -> io::Result<()> {
         let Synced { path: fresh_path } = self;
         fs::rename(rt, fresh_path, path)?;

@@ -1,7 +1,7 @@
 //! The votes of a record of version 1.
 ghost use Rattle.std.specs.Prelude.{◌≡◌, ◌≤◌, IfOk, Some};
 ghost use Rattle.paxos_msg.specs.Reading.{Gives};
-ghost use Rattle.paxos_acceptor.specs.RecordReading.{Reads, vote_at_v1, votes_of};
+ghost use Rattle.paxos_acceptor.specs.RecordReading.{ReadsAs, vote_at_v1, votes_of};
 ghost use Rattle.paxos_acceptor.specs.declared.version.Version.TheVariants.{One};
 
 use crate::reading::number_of;
@@ -9,7 +9,8 @@ use crate::store::StoreFault;
 use paxos_msg::{Ballot, Group, Vote, WireFault, read_ballot, read_value_v1};
 use std::alloc::Global;
 
-/// The vote at the front of the bytes, and the bytes behind it. Its place is `low` at least, and its ballot is `most` at most.
+/// The vote at the front of the bytes, and the bytes behind it. Its place is `low` at least, and
+/// its ballot is `most` at most.
 #[tactic(auto, unfolding(crate::specs::RecordReading::vote_at_v1))]
 fn vote_of_v1(
     group: Group,
@@ -49,7 +50,8 @@ pub(crate) fn votes_of_v1(
     count: u32,
     bytes: &[u8],
 ) -> Result<Vec<Vote>, StoreFault>
-    ensures { Reads (λ votes. votes.items) result (votes_of One group.size (Some ballot) count bytes.now) }
+    ensures { ReadsAs (λ votes. votes.items) result
+        (votes_of One group.size (Some ballot) count bytes.now) }
 {
     let mut votes = Vec::new(alloc);
     let mut rest = bytes;

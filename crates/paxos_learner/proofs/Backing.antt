@@ -9,9 +9,9 @@ use Rattle.paxos_msg.specs.declared.value.Value.{Value}
 use Rattle.paxos_msg.specs.declared.message.Body.TheVariants.{Accepted, Tell}
 use Rattle.paxos_msg.specs.Messages.{IsSent, IsSaid}
 use Rattle.paxos_msg.specs.Batches.{Sent}
-use Rattle.paxos_learner.specs.Tallies.{Tally, begun, has_node, no_nodes, tallied, with_node}
-use Rattle.paxos_learner.specs.Learner.{Learner, learn, new_learner, on_accepted, on_tell}
-use Rattle.paxos_learner.specs.Backed.{IsBacked, IsTallied, MayLearn, Stays}
+use Rattle.paxos_learner.specs.Tallies.{Tally, begun_tally, has_node, no_nodes, tallied, with_node}
+use Rattle.paxos_learner.specs.Learner.{Learner, learn, new_learner, heard_accepted, heard_tell}
+use Rattle.paxos_learner.specs.Backed.{IsLearnerBacked, IsTallied, MayLearn, Stays}
 use Rattle.paxos_learner.proofs.OnePlace.{each_put, get_left}
 use Rattle.paxos_learner.proofs.Hearing.{accepted_by, told_by, tallied_by}
 
@@ -26,17 +26,21 @@ none_there i =
     ]
 
 -- whatever holds of one node more, and of those before, holds of all
-with_each : (P : ℕ → Type 0) (nodes : List Bool) (i : ℕ) → P i → ((j : ℕ) → IsTrue (has_node nodes j) → P j) → (j : ℕ) → IsTrue (has_node (with_node nodes i) j) → P j
+with_each : (P : ℕ → Type 0) (nodes : List Bool) (i : ℕ) → P i → ((j : ℕ) → IsTrue (has_node nodes j) → P j) → (j : ℕ)
+    → IsTrue (has_node (with_node nodes i) j) → P j
 with_each P nodes i here there j member =
     elim (cases_eq j i) [
       | inl same ↦ rw same here
       | inr ne ↦ there j (rw (get_or-set_other nodes i j true false ne) at member)
     ]
 
-begun_tallied : (sent : Sent) (s i : ℕ) (b : Ballot) (v : Value) → IsSent sent i (Accepted b s v) → IsTallied sent s (begun i b v)
-begun_tallied sent s i b v new = with_each (λ j. IsSent sent j (Accepted b s v)) no_nodes i new (λ j member. absurd (true≢false (sym member ∙ none_there j)))
+begun_tallied : (sent : Sent) (s i : ℕ) (b : Ballot) (v : Value) → IsSent sent i (Accepted b s v) → IsTallied sent s (begun_tally i b v)
+begun_tallied sent s i b v new =
+    with_each (λ j. IsSent sent j (Accepted b s v)) no_nodes i new
+    (λ j member. absurd (true≢false (sym member ∙ none_there j)))
 
-tally_backed : (sent : Sent) (s i : ℕ) (b : Ballot) (v : Value) (o : Option Tally) (t : Tally) → IsSent sent i (Accepted b s v) → ((u : Tally) → o ≡ Some u → IsTallied sent s u)
+tally_backed : (sent : Sent) (s i : ℕ) (b : Ballot) (v : Value) (o : Option Tally) (t : Tally)
+    → IsSent sent i (Accepted b s v) → ((u : Tally) → o ≡ Some u → IsTallied sent s u)
     → tallied o i b v ≡ Some t → IsTallied sent s t
 tally_backed sent s i b v o t new old e =
     tallied_by (IsTallied sent s) o i b v t e (begun_tallied sent s i b v new) (λ u there ballot value.
@@ -44,24 +48,26 @@ tally_backed sent s i b v o t new old e =
 
 -- ---- a learner
 
-module _ (sent : Sent) (l : Learner) (h : IsBacked sent l) where
-  learn_backed : (s : ℕ) (v : Value) → MayLearn l.size sent s v → IsBacked sent (learn l s v).learner
+module _ (sent : Sent) (l : Learner) (h : IsLearnerBacked sent l) where
+  learn_backed : (s : ℕ) (v : Value) → MayLearn l.size sent s v → IsLearnerBacked sent (learn l s v).learner
   learn_backed s v may = record {
     tallied = λ q t e. h.tallied q t (get_left l.tallies s q t e);
     learned = each_put (λ q w. MayLearn l.size sent q w) l.learned s v may h.learned;
   }
 
-  pub accepted_backed : (i : ℕ) (b : Ballot) (s : ℕ) (v : Value) → IsSent sent i (Accepted b s v) → IsBacked sent (on_accepted l i b s v).learner
+  pub accepted_backed : (i : ℕ) (b : Ballot) (s : ℕ) (v : Value) → IsSent sent i (Accepted b s v)
+      → IsLearnerBacked sent (heard_accepted l i b s v).learner
   accepted_backed i b s v new =
-      let whole : (t : Tally) → tallied (get l.tallies s) i b v ≡ Some t → IsTallied sent s t = λ t e. tally_backed sent s i b v (get l.tallies s) t new (h.tallied s) e in
-      accepted_by (IsBacked sent) l h i b s v
+      let whole : (t : Tally) → tallied (get l.tallies s) i b v ≡ Some t → IsTallied sent s t =
+      λ t e. tally_backed sent s i b v (get l.tallies s) t new (h.tallied s) e in
+      accepted_by (IsLearnerBacked sent) l h i b s v
       (λ t here e majority. learn_backed s t.value (inr (t.ballot, (has_node t.nodes, ltb-true _ _ majority, whole t e))))
       (λ t e. record { tallied = each_put (IsTallied sent) l.tallies s t (whole t e) h.tallied; learned = h.learned })
 
-  pub told_backed : (s : ℕ) (v : Value) → IsSaid sent (Tell s v) → IsBacked sent (on_tell l s v).learner
-  told_backed s v told = told_by (IsBacked sent) l h s v (λ here. learn_backed s v (inl told))
+  pub told_backed : (s : ℕ) (v : Value) → IsSaid sent (Tell s v) → IsLearnerBacked sent (heard_tell l s v).learner
+  told_backed s v told = told_by (IsLearnerBacked sent) l h s v (λ here. learn_backed s v (inl told))
 
-  pub backed_later : (next : Sent) → Stays sent next → IsBacked next l
+  pub backed_later : (next : Sent) → Stays sent next → IsLearnerBacked next l
   backed_later next later = record {
     tallied = λ s t e i member. later.stays i (Accepted t.ballot s t.value) (h.tallied s t e i member);
     learned = λ s v e. elim (h.learned s v e) [
@@ -74,5 +80,5 @@ module _ (sent : Sent) (l : Learner) (h : IsBacked sent l) where
 pub none_in : {X : Type 0} (s : ℕ) (x : X) → get {R = nat_cmp} empty s ≡ Some x → ⊥
 none_in {X = X} s x e = let none : get {X = X} {R = nat_cmp} empty s ≡ None = get-empty nat_cmp s in absurd cc
 
-pub begun_backed : (sent : Sent) (size : ℕ) → IsBacked sent (new_learner size)
+pub begun_backed : (sent : Sent) (size : ℕ) → IsLearnerBacked sent (new_learner size)
 begun_backed sent size = record { tallied = λ s t e. absurd (none_in s t e); learned = λ s v e. absurd (none_in s v e) }

@@ -7,7 +7,7 @@ use Rattle.indexmap.specs.IndexSet.{insert_all, insert_key}
 use Rattle.paxos_msg.specs.declared.value.Value.{Value}
 use Rattle.paxos_msg.specs.Keys.{Key, keys_of}
 use Rattle.paxos_learner.specs.Input.{same_key}
-use Rattle.paxos_learner.specs.Entered.{IsCounted, entered}
+use Rattle.paxos_learner.specs.Entered.{IsCounted, keys_with}
 
 -- ---- a number more at the end
 
@@ -25,7 +25,8 @@ module _ (ends more : List ℕ) (last : ℕ) (is : more ≡ ends ++ last ∷ [])
   end_here s same = ap (λ (l : List ℕ). slice_index l s) is ∙ get_or_push ends last 0 s (sym same)
 
   -- whatever holds of each place so far and of this one
-  pub each_place : (P : ℕ → Type 0) → ((s : ℕ) → s < length ends → P s) → ((s : ℕ) → s ≡ length ends → P s) → (s : ℕ) → s < length more → P s
+  pub each_place : (P : ℕ → Type 0) → ((s : ℕ) → s < length ends → P s) → ((s : ℕ) → s ≡ length ends → P s) → (s : ℕ)
+      → s < length more → P s
   each_place P before at_end s low =
       elim (cases_lt s (length ends)) [
         | inl less ↦ before s less
@@ -49,7 +50,8 @@ entered_no_fewer keys (k ∷ more) =
 -- ---- the counts
 
 -- a place more, with at most 32 keys more
-pub counted_more : (keys new : List Key) (ends more : List ℕ) (v : Value) → IsCounted keys ends → length ends < 65536 → new ≡ entered keys v → length new ≤ length keys + 32
+pub counted_more : (keys new : List Key) (ends more : List ℕ) (v : Value) → IsCounted keys ends → length ends < 65536
+    → new ≡ keys_with keys v → length new ≤ length keys + 32
     → more ≡ ends ++ length new ∷ [] → IsCounted new more
 counted_more keys new ends more v h small now few is =
     let one : length more ≡ length ends + 1 = longer ends more (length new) is in

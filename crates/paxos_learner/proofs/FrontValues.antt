@@ -22,20 +22,24 @@ length_more : (o : Option Value) (rest : List Value) (n : ℕ) → IsTrue (is_so
 length_more None rest n h e = absurd (true≢false (sym h))
 length_more (Some v) rest n h e = ap suc e
 
-length_range : (f : ℕ → Option Value) (a n : ℕ) → ((s : ℕ) → a ≤ s → s < a + n → IsTrue (is_some (f s))) → length (filter_map f (range_with_len a n)) ≡ n
+length_range : (f : ℕ → Option Value) (a n : ℕ) → ((s : ℕ) → a ≤ s → s < a + n → IsTrue (is_some (f s)))
+    → length (filter_map f (range_with_len a n)) ≡ n
 length_range f a zero h = refl
 length_range f a (suc n) h =
-    length_more (f a) (filter_map f (range_with_len (a + 1) n)) n (h a (omega arith) (omega arith)) (length_range f (a + 1) n (λ s low high. h s (omega arith) (omega arith)))
+    length_more (f a) (filter_map f (range_with_len (a + 1) n)) n (h a (omega arith) (omega arith))
+    (length_range f (a + 1) n (λ s low high. h s (omega arith) (omega arith)))
 
 first_of_more : (o : Option Value) (rest : List Value) → IsTrue (is_some o) → slice_get (cons_option o rest) 0 ≡ o
 first_of_more None rest h = absurd (true≢false (sym h))
 first_of_more (Some v) rest h = refl
 
-next_of_more : (o : Option Value) (rest : List Value) (s : ℕ) → IsTrue (is_some o) → slice_get (cons_option o rest) (suc s) ≡ slice_get rest s
+next_of_more : (o : Option Value) (rest : List Value) (s : ℕ) → IsTrue (is_some o)
+    → slice_get (cons_option o rest) (suc s) ≡ slice_get rest s
 next_of_more None rest s h = absurd (true≢false (sym h))
 next_of_more (Some v) rest s h = refl
 
-get_range : (f : ℕ → Option Value) (a n s : ℕ) → ((i : ℕ) → a ≤ i → i < a + n → IsTrue (is_some (f i))) → s < n → slice_get (filter_map f (range_with_len a n)) s ≡ f (a + s)
+get_range : (f : ℕ → Option Value) (a n s : ℕ) → ((i : ℕ) → a ≤ i → i < a + n → IsTrue (is_some (f i))) → s < n
+    → slice_get (filter_map f (range_with_len a n)) s ≡ f (a + s)
 get_range f a zero s h low = absurd (omega arith)
 get_range f a (suc n) zero h low =
     let e : a ≡ a + 0 = omega arith in
@@ -60,8 +64,11 @@ pub firsts_longer : (keys more : List Key) → (rest : List Key) × (firsts (key
 firsts_longer [] more = (firsts more, refl)
 firsts_longer (k ∷ ks) more =
     let h = firsts_longer ks more in
-    let others : Key → Bool = λ other. not (same_key k other) in
-    (filter others h.0, ap (λ (l : List Key). k ∷ filter others l) h.1 ∙ ap (λ (l : List Key). k ∷ l) (filter-append others (firsts ks) h.0))
+    let others : Key → Bool = λ other. not (same_key k other) in (
+      filter others h.0,
+      ap (λ (l : List Key). k ∷ filter others l) h.1
+          ∙ ap (λ (l : List Key). k ∷ l) (filter-append others (firsts ks) h.0),
+    )
 
 pub keys_longer : (values more : List Value) → (rest : List Key) × (keys_in_order (values ++ more) ≡ keys_in_order values ++ rest)
 keys_longer values more =
@@ -75,7 +82,8 @@ input_longer values more =
     (map byte h.0, ap (map byte) h.1 ∙ map-append byte (keys_in_order values) h.0)
 
 -- the values below a place begin those below a greater one
-values_parts : (learned : FinMap nat_cmp Value) (n m : ℕ) → n ≤ m → (more : List Value) × (values_below learned m ≡ values_below learned n ++ more)
+values_parts : (learned : FinMap nat_cmp Value) (n m : ℕ) → n ≤ m
+    → (more : List Value) × (values_below learned m ≡ values_below learned n ++ more)
 values_parts learned n m low =
     let d = range_parts 0 n m low in
     (filter_map (get learned) d.0, ap (filter_map (get learned)) d.1 ∙ filter_map-append (get learned) (range_with_len 0 n) d.0)

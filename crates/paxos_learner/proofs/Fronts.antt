@@ -66,8 +66,11 @@ first_is_missing s (k ∷ ks) h =
     elim (cases_eq k s) [
       | inl e ↦
           let f = first_missing (s + 1) ks in
-          ap (has (k ∷ ks)) (goes_on s k ks e) ∙ or_from _ _ (ne_eqb f k (λ same. omega (arith, from_start (s + 1) ks))) (first_is_missing (s + 1) ks (rw e at h.1))
-      | inr ne ↦ ap (has (k ∷ ks)) (stops s k ks ne) ∙ or_from _ _ (ne_eqb s k (λ same. ne (sym same))) (none_below (k + 1) s ks h.1 (omega (arith, h.0)))
+          ap (has (k ∷ ks)) (goes_on s k ks e)
+          ∙ or_from _ _ (ne_eqb f k (λ same. omega (arith, from_start (s + 1) ks)))
+          (first_is_missing (s + 1) ks (rw e at h.1))
+      | inr ne ↦ ap (has (k ∷ ks)) (stops s k ks ne)
+          ∙ or_from _ _ (ne_eqb s k (λ same. ne (sym same))) (none_below (k + 1) s ks h.1 (omega (arith, h.0)))
     ]
 
 -- ---- the places of a map
@@ -108,14 +111,17 @@ is_some-has : (m : FinMap nat_cmp Value) (i : ℕ) → is_some (get m i) ≡ has
 is_some-has m i = contains_key-keys m i ∙ any_tied i (keys m)
 
 -- what is found behind place x is at a place above it
-pub found_above : (x q : ℕ) (es : List (ℕ × Value)) (v : Value) → T (below_all nat_cmp x es) → T (is_sorted nat_cmp es) → find nat_cmp q es ≡ Some v → x < q
+pub found_above : (x q : ℕ) (es : List (ℕ × Value)) (v : Value) → T (below_all nat_cmp x es) → T (is_sorted nat_cmp es)
+    → find nat_cmp q es ≡ Some v → x < q
 found_above x q es v below sorted e =
     elim (cases_lt x q) [
       | inl less ↦ less
       | inr high ↦
           let places : List ℕ = map (λ f. f.0) es in
           let there : is_some (find nat_cmp q es) ≡ true = ap is_some e in
-          let none : is_some (find nat_cmp q es) ≡ false = is_some-find nat_cmp q es ∙ any_tied q places ∙ none_below (x + 1) q places (ascend_after x es below sorted) (omega arith) in
+          let none : is_some (find nat_cmp q es) ≡ false =
+          is_some-find nat_cmp q es ∙ any_tied q places
+          ∙ none_below (x + 1) q places (ascend_after x es below sorted) (omega arith) in
           absurd (true≢false (sym there ∙ none))
     ]
 

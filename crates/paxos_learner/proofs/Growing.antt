@@ -7,8 +7,8 @@ use Rattle.paxos_msg.specs.declared.ballot.Ballot.{Ballot}
 use Rattle.paxos_msg.specs.declared.value.Value.{Value}
 use Rattle.paxos_msg.specs.Fits.{IsValue}
 use Rattle.paxos_learner.specs.Tallies.{Tally, tallied}
-use Rattle.paxos_learner.specs.Learner.{Learner, front_of, is_open, learn, new_learner, on_accepted, on_tell}
-use Rattle.paxos_learner.specs.Growth.{AreInWindow, HasLearnedMore, IsInRange}
+use Rattle.paxos_learner.specs.Learner.{Learner, front_of, is_open, learn, new_learner, heard_accepted, heard_tell}
+use Rattle.paxos_learner.specs.Growth.{AreInWindow, HasLearnedMore, IsLearnerInRange}
 use Rattle.paxos_learner.proofs.OnePlace.{each_put, get_left, get_other}
 use Rattle.paxos_learner.proofs.Fronts.{IsFront-front_of}
 use Rattle.paxos_learner.proofs.Keeping.{open_is_none}
@@ -47,21 +47,25 @@ front_rises old new h =
 module _ (l : Learner) where
   -- an open place is less than 1,024 above the front
   pub open_below : (s : ℕ) → IsTrue (is_open l s) → s < front_of l.learned + 1024
-  open_below s here = ltb-true s (front_of l.learned + 1024) (and_parts (is_none (get l.learned s)) (nat_lt s (front_of l.learned + 1024)) here).1
+  open_below s here =
+      ltb-true s (front_of l.learned + 1024)
+      (and_parts (is_none (get l.learned s)) (nat_lt s (front_of l.learned + 1024)) here).1
 
   learn_more : (s : ℕ) (v : Value) → IsTrue (is_open l s) → HasLearnedMore l.learned (learn l s v).learner.learned
   learn_more s v here = insert_more l.learned s v (open_is_none l s here)
 
-  pub accepted_more : (i : ℕ) (b : Ballot) (s : ℕ) (v : Value) → HasLearnedMore l.learned (on_accepted l i b s v).learner.learned
-  accepted_more i b s v = accepted_by (λ m. HasLearnedMore l.learned m.learned) l (same_more l.learned) i b s v (λ t here e majority. learn_more s t.value here) (λ t e. same_more l.learned)
+  pub accepted_more : (i : ℕ) (b : Ballot) (s : ℕ) (v : Value) → HasLearnedMore l.learned (heard_accepted l i b s v).learner.learned
+  accepted_more i b s v =
+      accepted_by (λ m. HasLearnedMore l.learned m.learned) l (same_more l.learned) i b s v
+      (λ t here e majority. learn_more s t.value here) (λ t e. same_more l.learned)
 
-  pub told_more : (s : ℕ) (v : Value) → HasLearnedMore l.learned (on_tell l s v).learner.learned
+  pub told_more : (s : ℕ) (v : Value) → HasLearnedMore l.learned (heard_tell l s v).learner.learned
   told_more s v = told_by (λ m. HasLearnedMore l.learned m.learned) l (same_more l.learned) s v (learn_more s v)
 
-  pub accepted_size : (i : ℕ) (b : Ballot) (s : ℕ) (v : Value) → (on_accepted l i b s v).learner.size ≡ l.size
+  pub accepted_size : (i : ℕ) (b : Ballot) (s : ℕ) (v : Value) → (heard_accepted l i b s v).learner.size ≡ l.size
   accepted_size i b s v = accepted_by (λ m. m.size ≡ l.size) l refl i b s v (λ t here e majority. refl) (λ t e. refl)
 
-  pub told_size : (s : ℕ) (v : Value) → (on_tell l s v).learner.size ≡ l.size
+  pub told_size : (s : ℕ) (v : Value) → (heard_tell l s v).learner.size ≡ l.size
   told_size s v = told_by (λ m. m.size ≡ l.size) l refl s v (λ here. refl)
 
 -- ---- the window
@@ -76,22 +80,28 @@ front_few learned h =
       | inr high ↦ high
     ]
 
-pub insert_in_window : (learned : FinMap nat_cmp Value) (s : ℕ) (v : Value) → get learned s ≡ None → s ≤ 65535 → s < front_of learned + 1024 → AreInWindow learned → AreInWindow (insert learned s v)
+pub insert_in_window : (learned : FinMap nat_cmp Value) (s : ℕ) (v : Value) → get learned s ≡ None → s ≤ 65535
+    → s < front_of learned + 1024 → AreInWindow learned → AreInWindow (insert learned s v)
 insert_in_window learned s v none place near h =
-    let rises : front_of learned ≤ front_of (insert learned s v) = front_rises learned (insert learned s v) (insert_more learned s v none) in
+    let rises : front_of learned ≤ front_of (insert learned s v) =
+    front_rises learned (insert learned s v) (insert_more learned s v none) in
     record {
       place = each_put (λ q w. q ≤ 65535) learned s v place h.place;
-      window = each_put (λ q w. q < front_of (insert learned s v) + 1024) learned s v (omega arith) (λ q w e. omega (arith, h.window q w e));
+      window =
+          each_put (λ q w. q < front_of (insert learned s v) + 1024) learned s v (omega arith)
+          (λ q w e. omega (arith, h.window q w e));
     }
 
 module _ (l : Learner) (s : ℕ) (place : s ≤ 65535) (h : AreInWindow l.learned) where
   learn_in_window : (v : Value) → IsTrue (is_open l s) → AreInWindow (learn l s v).learner.learned
   learn_in_window v here = insert_in_window l.learned s v (open_is_none l s here) place (open_below l s here) h
 
-  pub accepted_in_window : (i : ℕ) (b : Ballot) (v : Value) → AreInWindow (on_accepted l i b s v).learner.learned
-  accepted_in_window i b v = accepted_by (λ m. AreInWindow m.learned) l h i b s v (λ t here e majority. learn_in_window t.value here) (λ t e. h)
+  pub accepted_in_window : (i : ℕ) (b : Ballot) (v : Value) → AreInWindow (heard_accepted l i b s v).learner.learned
+  accepted_in_window i b v =
+      accepted_by (λ m. AreInWindow m.learned) l h i b s v (λ t here e majority. learn_in_window t.value here)
+      (λ t e. h)
 
-  pub told_in_window : (v : Value) → AreInWindow (on_tell l s v).learner.learned
+  pub told_in_window : (v : Value) → AreInWindow (heard_tell l s v).learner.learned
   told_in_window v = told_by (λ m. AreInWindow m.learned) l h s v (learn_in_window v)
 
 pub begun_in_window : (size : ℕ) → AreInWindow (new_learner size).learned
@@ -99,22 +109,22 @@ begun_in_window size = record { place = λ s v e. absurd (none_in s v e); window
 
 -- ---- ranges
 
-module _ (l : Learner) (h : IsInRange l) where
-  learn_in_range : (s : ℕ) (v : Value) → IsValue l.size v → IsInRange (learn l s v).learner
+module _ (l : Learner) (h : IsLearnerInRange l) where
+  learn_in_range : (s : ℕ) (v : Value) → IsValue l.size v → IsLearnerInRange (learn l s v).learner
   learn_in_range s v fits = record {
     learned = each_put (λ q w. IsValue l.size w) l.learned s v fits h.learned;
     tallied = λ q t e. h.tallied q t (get_left l.tallies s q t e);
   }
 
-  pub accepted_in_range : (i : ℕ) (b : Ballot) (s : ℕ) (v : Value) → IsValue l.size v → IsInRange (on_accepted l i b s v).learner
+  pub accepted_in_range : (i : ℕ) (b : Ballot) (s : ℕ) (v : Value) → IsValue l.size v → IsLearnerInRange (heard_accepted l i b s v).learner
   accepted_in_range i b s v fits =
       let now : (t : Tally) → tallied (get l.tallies s) i b v ≡ Some t → IsValue l.size t.value
       = λ t e. tallied_by (λ u. IsValue l.size u.value) (get l.tallies s) i b v t e fits (λ u there ballot value. h.tallied s u there) in
-      accepted_by IsInRange l h i b s v (λ t here e majority. learn_in_range s t.value (now t e))
+      accepted_by IsLearnerInRange l h i b s v (λ t here e majority. learn_in_range s t.value (now t e))
       (λ t e. record { learned = h.learned; tallied = each_put (λ q u. IsValue l.size u.value) l.tallies s t (now t e) h.tallied })
 
-  pub told_in_range : (s : ℕ) (v : Value) → IsValue l.size v → IsInRange (on_tell l s v).learner
-  told_in_range s v fits = told_by IsInRange l h s v (λ here. learn_in_range s v fits)
+  pub told_in_range : (s : ℕ) (v : Value) → IsValue l.size v → IsLearnerInRange (heard_tell l s v).learner
+  told_in_range s v fits = told_by IsLearnerInRange l h s v (λ here. learn_in_range s v fits)
 
-pub begun_in_range : (size : ℕ) → IsInRange (new_learner size)
+pub begun_in_range : (size : ℕ) → IsLearnerInRange (new_learner size)
 begun_in_range size = record { learned = λ s v e. absurd (none_in s v e); tallied = λ s t e. absurd (none_in s t e) }

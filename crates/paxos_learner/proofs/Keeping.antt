@@ -9,7 +9,7 @@ use Rattle.paxos_msg.specs.declared.value.Value.{Value}
 use Rattle.indexmap.specs.IndexSet.{insert_all, insert_key}
 use Rattle.paxos_msg.specs.Keys.{Key, keys_of}
 use Rattle.paxos_learner.specs.Input.{same_key, keys_in_order, values_below, input_of}
-use Rattle.paxos_learner.specs.Entered.{Entered, entered, count_below}
+use Rattle.paxos_learner.specs.Entered.{Entered, keys_with, count_below}
 use Rattle.paxos_learner.specs.Kept.{IsInputOf}
 use Rattle.paxos_learner.specs.Learner.{Learner, IsFront, front_of, is_open}
 use Rattle.paxos_learner.proofs.Ends.{each_place, end_before, end_here, entered_no_fewer, longer, no_fewer}
@@ -30,10 +30,13 @@ not_below learned e s h none =
 module _ (learned : FinMap nat_cmp Value) (e : Entered) (s : ℕ) (v : Value) (h : IsInputOf learned e) (none : get learned s ≡ None) where
   -- the places so far have the values that they had
   same_values : (n : ℕ) → n ≤ length e.ends → values_below (insert learned s v) n ≡ values_below learned n
-  same_values n low = same_below (insert learned s v) learned n (λ i less. get_other learned s v i (λ same. omega (arith, not_below learned e s h none)))
+  same_values n low =
+      same_below (insert learned s v) learned n
+      (λ i less. get_other learned s v i (λ same. omega (arith, not_below learned e s h none)))
 
   -- what holds of this place and of the places that were learned holds of those that are now
-  one_or_other : (P : ℕ → Type 0) → P s → ((q : ℕ) → IsTrue (is_some (get learned q)) → P q) → (q : ℕ) → IsTrue (is_some (get (insert learned s v) q)) → P q
+  one_or_other : (P : ℕ → Type 0) → P s → ((q : ℕ) → IsTrue (is_some (get learned q)) → P q) → (q : ℕ)
+      → IsTrue (is_some (get (insert learned s v) q)) → P q
   one_or_other P at_s others q there =
       elim (cases_eq q s) [
         | inl same ↦ rw same at_s
@@ -41,7 +44,8 @@ module _ (learned : FinMap nat_cmp Value) (e : Entered) (s : ℕ) (v : Value) (h
       ]
 
   -- the input is that of the map with this place more, if there is room for it
-  pub input_of_learned : s < length e.ends + e.room → 32 * (s + 1) ≤ e.key_room + 32 * length e.ends → s < 65536 → IsInputOf (insert learned s v) e
+  pub input_of_learned : s < length e.ends + e.room → 32 * (s + 1) ≤ e.key_room + 32 * length e.ends → s < 65536
+      → IsInputOf (insert learned s v) e
   input_of_learned room key_room small = record {
     below = λ i low. ap is_some (get_other learned s v i (λ same. omega (arith, not_below learned e s h none))) ∙ h.below i low;
     keys = h.keys ∙ ap keys_in_order (sym (same_values (length e.ends) (omega arith)));
@@ -59,10 +63,13 @@ none_from_test (Some v) e = absurd (true≢false (sym e))
 
 -- an open place isn't learned
 pub open_is_none : (l : Learner) (s : ℕ) → IsTrue (is_open l s) → get l.learned s ≡ None
-open_is_none l s test = none_from_test (get l.learned s) (and_parts (is_none (get l.learned s)) (nat_lt s (front_of l.learned + 1024)) test).0
+open_is_none l s test =
+    none_from_test (get l.learned s)
+    (and_parts (is_none (get l.learned s)) (nat_lt s (front_of l.learned + 1024)) test).0
 
 -- more room changes nothing
-input_of_roomier : (learned : FinMap nat_cmp Value) (e new : Entered) → IsInputOf learned e → new.keys ≡ e.keys → new.ends ≡ e.ends → e.room ≤ new.room → e.key_room ≤ new.key_room → IsInputOf learned new
+input_of_roomier : (learned : FinMap nat_cmp Value) (e new : Entered) → IsInputOf learned e → new.keys ≡ e.keys
+    → new.ends ≡ e.ends → e.room ≤ new.room → e.key_room ≤ new.key_room → IsInputOf learned new
 input_of_roomier learned e new h keys ends room key_room = record {
   below = rw ends h.below;
   keys = rw (keys, ends) h.keys;
@@ -74,16 +81,19 @@ input_of_roomier learned e new h keys ends room key_room = record {
 }
 
 -- a place is learned once there is room for it
-pub input_of_more : (learned more : FinMap nat_cmp Value) (e new : Entered) (s : ℕ) (v : Value) → IsInputOf learned e → get learned s ≡ None → more ≡ insert learned s v
+pub input_of_more : (learned more : FinMap nat_cmp Value) (e new : Entered) (s : ℕ) (v : Value) → IsInputOf learned e
+    → get learned s ≡ None → more ≡ insert learned s v
     → new.keys ≡ e.keys → new.ends ≡ e.ends → e.room ≤ new.room → e.key_room ≤ new.key_room
     → s < length e.ends + new.room → 32 * (s + 1) ≤ new.key_room + 32 * length e.ends → s < 65536 → IsInputOf more new
 input_of_more learned more e new s v h none is keys ends room key_room there keys_there small =
-    rw is (input_of_learned learned new s v (input_of_roomier learned e new h keys ends room key_room) none (omega (arith, ap length ends)) (omega (arith, ap length ends)) small)
+    rw is (input_of_learned learned new s v (input_of_roomier learned e new h keys ends room key_room) none
+    (omega (arith, ap length ends)) (omega (arith, ap length ends)) small)
 
 -- ---- the front rises
 
 -- a front of a list is one of a longer list
-take_more_or_same : (there : Bool) (keys more : List Key) (n : ℕ) → n ≤ length keys → take n (if there then keys else keys ++ more) ≡ take n keys
+take_more_or_same : (there : Bool) (keys more : List Key) (n : ℕ) → n ≤ length keys
+    → take n (if there then keys else keys ++ more) ≡ take n keys
 take_more_or_same true keys more n low = refl
 take_more_or_same false keys more n low = take-append-le n keys more low
 
@@ -91,20 +101,23 @@ take_more_or_same false keys more n low = take-append-le n keys more low
 take_entered : (keys more : List Key) (n : ℕ) → n ≤ length keys → take n (insert_all same_key keys more) ≡ take n keys
 take_entered keys [] n low = refl
 take_entered keys (k ∷ more) n low =
-    take_entered (insert_key same_key keys k) more n (omega (arith, no_fewer (list_any (same_key k) keys) keys (k ∷ []))) ∙ take_more_or_same (list_any (same_key k) keys) keys (k ∷ []) n low
+    take_entered (insert_key same_key keys k) more n
+    (omega (arith, no_fewer (list_any (same_key k) keys) keys (k ∷ [])))
+    ∙ take_more_or_same (list_any (same_key k) keys) keys (k ∷ []) n low
 
 -- the next place has entered the input
 pub record IsNext (e : Entered) (v : Value) (new : Entered) : Type 0 where
-  pub keys : new.keys ≡ entered e.keys v
+  pub keys : new.keys ≡ keys_with e.keys v
   pub ends : new.ends ≡ e.ends ++ length new.keys ∷ []
   pub room : e.room ≤ new.room + 1
   pub key_room : e.key_room ≤ new.key_room + 32
 
-module _ (learned : FinMap nat_cmp Value) (e : Entered) (v : Value) (new : Entered) (h : IsInputOf learned e) (here : get learned (length e.ends) ≡ Some v) (next : IsNext e v new) where
+module _ (learned : FinMap nat_cmp Value) (e : Entered) (v : Value) (new : Entered) (h : IsInputOf learned e)
+    (here : get learned (length e.ends) ≡ Some v) (next : IsNext e v new) where
   -- the keys are those of one value more
   all_keys : new.keys ≡ keys_in_order (values_below learned (length e.ends + 1))
   all_keys =
-      next.keys ∙ ap (λ (keys : List Key). entered keys v) h.keys ∙ sym (keys_entered (values_below learned (length e.ends)) v)
+      next.keys ∙ ap (λ (keys : List Key). keys_with keys v) h.keys ∙ sym (keys_entered (values_below learned (length e.ends)) v)
       ∙ ap keys_in_order (sym (values_more learned (length e.ends) v here))
 
   -- there are no fewer keys than before
@@ -122,10 +135,14 @@ module _ (learned : FinMap nat_cmp Value) (e : Entered) (v : Value) (new : Enter
       record {
         below = each (λ s. IsTrue (is_some (get learned s))) h.below (λ s same. rw same (ap is_some here));
         keys = all_keys ∙ ap (λ (i : ℕ). keys_in_order (values_below learned i)) (sym one);
-        within = each (λ s. slice_index new.ends s ≤ n) (λ s low. omega (arith, before s low, h.within s low, more_keys)) (λ s same. omega (arith, at_end s same));
+        within =
+            each (λ s. slice_index new.ends s ≤ n) (λ s low. omega (arith, before s low, h.within s low, more_keys))
+            (λ s same. omega (arith, at_end s same));
         ends = each (λ s. take (slice_index new.ends s) new.keys ≡ keys_in_order (values_below learned (s + 1)))
             (λ s low. rw (before s low, next.keys) (take_entered e.keys (keys_of v) (slice_index e.ends s) (h.within s low) ∙ h.ends s low))
-            (λ s same. rw (at_end s same) (take_all n new.keys (omega arith) ∙ all_keys ∙ ap (λ (i : ℕ). keys_in_order (values_below learned (i + 1))) (sym same)));
+            (λ s same. rw (at_end s same)
+            (take_all n new.keys (omega arith) ∙ all_keys
+            ∙ ap (λ (i : ℕ). keys_in_order (values_below learned (i + 1))) (sym same)));
         room = λ s there. omega (arith, h.room s there, one, next.room);
         key_room = λ s there. omega (arith, h.key_room s there, one, next.key_room);
         small = h.small;
@@ -151,17 +168,21 @@ count_below_keys learned e h (suc s) =
 
 -- the input up to a place, and what comes after it, are the input
 pub input_parts : (learned : FinMap nat_cmp Value) (e : Entered) (h : IsInputOf learned e) (place : ℕ)
-    → input_of (values_below learned (min place (length e.ends))) ++ map (λ (k : Key). k.byte) (drop (count_below e place) e.keys) ≡ input_of (values_below learned (length e.ends))
+    → input_of (values_below learned (min place (length e.ends)))
+    ++ map (λ (k : Key). k.byte) (drop (count_below e place) e.keys)
+    ≡ input_of (values_below learned (length e.ends))
 input_parts learned e h place =
     let n = count_below e place in
-    ap (λ (keys : List Key). map (λ (k : Key). k.byte) keys ++ map (λ (k : Key). k.byte) (drop n e.keys)) (sym (count_below_keys learned e h place))
+    ap (λ (keys : List Key). map (λ (k : Key). k.byte) keys ++ map (λ (k : Key). k.byte) (drop n e.keys))
+    (sym (count_below_keys learned e h place))
     ∙ sym (map-append (λ (k : Key). k.byte) (take n e.keys) (drop n e.keys))
     ∙ ap (map (λ (k : Key). k.byte)) (take-append-drop n e.keys ∙ h.keys)
 
 -- ---- the front
 
 -- the input goes up to the front where its next place isn't learned
-pub front_is_here : (learned : FinMap nat_cmp Value) (e : Entered) → IsInputOf learned e → get learned (length e.ends) ≡ None → IsFront learned (length e.ends)
+pub front_is_here : (learned : FinMap nat_cmp Value) (e : Entered) → IsInputOf learned e
+    → get learned (length e.ends) ≡ None → IsFront learned (length e.ends)
 front_is_here learned e h none = record { below = h.below; here = none }
 
 -- the input of no place is that of the empty map

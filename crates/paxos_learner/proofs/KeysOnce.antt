@@ -12,7 +12,7 @@ use Rattle.indexmap.specs.IndexSet.{insert_all, insert_key}
 use Rattle.paxos_msg.specs.declared.value.Value.{Value}
 use Rattle.paxos_msg.specs.Keys.{Key, keys_of}
 use Rattle.paxos_learner.specs.Input.{same_key, firsts, keys_in_order}
-use Rattle.paxos_learner.specs.Entered.{entered}
+use Rattle.paxos_learner.specs.Entered.{keys_with}
 
 -- ---- keys that are the same
 
@@ -47,9 +47,12 @@ filter_one x k false e = rw e refl
 
 -- the filter of keys and perhaps one more
 filter_more : (x k : Key) (same : Bool) (keys : List Key) (there : Bool) → same_key x k ≡ same
-    → filter (other_than x) (if there then keys else keys ++ k ∷ []) ≡ (if there then filter (other_than x) keys else filter (other_than x) keys ++ (if same then [] else k ∷ []))
+    → filter (other_than x) (if there then keys else keys ++ k ∷ [])
+    ≡ (if there then filter (other_than x) keys else filter (other_than x) keys ++ (if same then [] else k ∷ []))
 filter_more x k same keys true e = refl
-filter_more x k same keys false e = filter-append (other_than x) keys (k ∷ []) ∙ ap (λ (rest : List Key). filter (other_than x) keys ++ rest) (filter_one x k same e)
+filter_more x k same keys false e =
+    filter-append (other_than x) keys (k ∷ [])
+    ∙ ap (λ (rest : List Key). filter (other_than x) keys ++ rest) (filter_one x k same e)
 
 -- nothing more leaves the keys as they are
 nothing_more : (there : Bool) (keys : List Key) → (if there then keys else keys ++ []) ≡ keys
@@ -57,13 +60,17 @@ nothing_more true keys = refl
 nothing_more false keys = append-nil keys
 
 -- one more behind the first key
-under_first : (there : Bool) (x : Key) (keys : List Key) (k : Key) → x ∷ (if there then keys else keys ++ k ∷ []) ≡ (if there then x ∷ keys else (x ∷ keys) ++ k ∷ [])
+under_first : (there : Bool) (x : Key) (keys : List Key) (k : Key)
+    → x ∷ (if there then keys else keys ++ k ∷ []) ≡ (if there then x ∷ keys else (x ∷ keys) ++ k ∷ [])
 under_first true x keys k = refl
 under_first false x keys k = refl
 
 -- another key than x is among the others exactly if it is among all
-other_kept : (x k : Key) (keys : List Key) → same_key x k ≡ false → list_any (same_key k) (filter (other_than x) keys) ≡ list_any (same_key k) keys
-other_kept x k keys e = any-filter_same (same_key k) (other_than x) true (λ y same. not_from_false _ (ap (same_key x) (sym (same_from_test k y same)) ∙ e)) keys
+other_kept : (x k : Key) (keys : List Key) → same_key x k ≡ false
+    → list_any (same_key k) (filter (other_than x) keys) ≡ list_any (same_key k) keys
+other_kept x k keys e =
+    any-filter_same (same_key k) (other_than x) true
+    (λ y same. not_from_false _ (ap (same_key x) (sym (same_from_test k y same)) ∙ e)) keys
 
 -- to filter after a key more is to filter before it
 insert_under_first : (x k : Key) (same : Bool) (keys : List Key) → same_key x k ≡ same
@@ -75,7 +82,9 @@ insert_under_first x k true keys e =
 insert_under_first x k false keys e =
     let there = list_any (same_key k) keys in
     let first : same_key k x ≡ false = same_back k x ∙ e in
-    rw (first, other_kept x k keys e) (ap (λ (rest : List Key). x ∷ rest) (filter_more x k false keys there e) ∙ under_first there x (filter (other_than x) keys) k)
+    rw (first, other_kept x k keys e)
+    (ap (λ (rest : List Key). x ∷ rest) (filter_more x k false keys there e)
+    ∙ under_first there x (filter (other_than x) keys) k)
 
 -- a key more comes last, or stands there already
 firsts_push : (keys : List Key) (k : Key) → firsts (keys ++ k ∷ []) ≡ insert_key same_key (firsts keys) k
@@ -87,12 +96,15 @@ firsts_push (x ∷ keys) k =
 firsts_all : (keys more : List Key) → firsts (keys ++ more) ≡ insert_all same_key (firsts keys) more
 firsts_all keys [] = ap firsts (append-nil keys)
 firsts_all keys (k ∷ more) =
-    ap firsts (sym (append_assoc keys (k ∷ []) more)) ∙ firsts_all (keys ++ k ∷ []) more ∙ ap (λ (l : List Key). insert_all same_key l more) (firsts_push keys k)
+    ap firsts (sym (append_assoc keys (k ∷ []) more)) ∙ firsts_all (keys ++ k ∷ []) more
+    ∙ ap (λ (l : List Key). insert_all same_key l more) (firsts_push keys k)
 
 -- the keys of one value more
-pub keys_entered : (values : List Value) (v : Value) → keys_in_order (values ++ v ∷ []) ≡ entered (keys_in_order values) v
+pub keys_entered : (values : List Value) (v : Value) → keys_in_order (values ++ v ∷ []) ≡ keys_with (keys_in_order values) v
 keys_entered values v =
-    ap firsts (flat_map-append keys_of values (v ∷ []) ∙ ap (λ (more : List Key). flat_map keys_of values ++ more) (append-nil (keys_of v))) ∙ firsts_all (flat_map keys_of values) (keys_of v)
+    ap firsts (flat_map-append keys_of values (v ∷ [])
+    ∙ ap (λ (more : List Key). flat_map keys_of values ++ more) (append-nil (keys_of v)))
+    ∙ firsts_all (flat_map keys_of values) (keys_of v)
 
 -- ---- which keys there are
 
@@ -123,15 +135,18 @@ there_found (x ∷ keys) k h =
     ]
 
 -- a key that is put in is there, and so are those that were
-insert_here : (keys : List Key) (k : Key) (there : Bool) → list_any (same_key k) keys ≡ there → Contains (if there then keys else keys ++ k ∷ []) k
+insert_here : (keys : List Key) (k : Key) (there : Bool) → list_any (same_key k) keys ≡ there
+    → Contains (if there then keys else keys ++ k ∷ []) k
 insert_here keys k true e = found_there keys k e
 insert_here keys k false e = Contains-push keys k
 
-insert_old : (keys : List Key) (k other : Key) (there : Bool) → Contains keys other → Contains (if there then keys else keys ++ k ∷ []) other
+insert_old : (keys : List Key) (k other : Key) (there : Bool) → Contains keys other
+    → Contains (if there then keys else keys ++ k ∷ []) other
 insert_old keys k other true h = h
 insert_old keys k other false h = Contains-append_left keys (k ∷ []) other h
 
-insert_from : (keys : List Key) (k other : Key) (there : Bool) → Contains (if there then keys else keys ++ k ∷ []) other → Contains keys other ⊎ (k ≡ other)
+insert_from : (keys : List Key) (k other : Key) (there : Bool) → Contains (if there then keys else keys ++ k ∷ []) other
+    → Contains keys other ⊎ (k ≡ other)
 insert_from keys k other true h = inl h
 insert_from keys k other false h = Contains-push_cases keys k other h
 

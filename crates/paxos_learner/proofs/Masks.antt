@@ -40,8 +40,10 @@ lowest_set mask =
 higher_set : (mask i : ℕ) → (bit_or mask (2 ^ suc i) % 2 ≡ mask % 2) × (bit_or mask (2 ^ suc i) / 2 ≡ bit_or (mask / 2) (2 ^ i))
 higher_set mask i =
     let other : bit_at (2 ^ suc i) 0 ≡ 0 = bit_at-pow_other (suc i) 0 (λ e. omega arith) in
-    let half : 2 ^ suc i / 2 ≡ 2 ^ i = omega (arith, pow-suc 2 i) in
-    (omega (arith, bit_at_lowest (bit_or mask (2 ^ suc i)), bit_at_or mask (2 ^ suc i) 0, bit_at_lowest mask, other), or_shr mask (2 ^ suc i) 1 ∙ ap (bit_or (mask / 2)) half)
+    let half : 2 ^ suc i / 2 ≡ 2 ^ i = omega (arith, pow-suc 2 i) in (
+      omega (arith, bit_at_lowest (bit_or mask (2 ^ suc i)), bit_at_or mask (2 ^ suc i) 0, bit_at_lowest mask, other),
+      or_shr mask (2 ^ suc i) 1 ∙ ap (bit_or (mask / 2)) half,
+    )
 
 low_bit_set : (k mask i : ℕ) → i < k → low_bits k (bit_or mask (2 ^ i)) ≡ set (low_bits k mask) i true
 unfolding low_bits
@@ -68,11 +70,14 @@ count_low mask (suc n) h =
     let q = mask / 2 in
     let one : suc n ≡ 1 + n = omega arith in
     let parts : q % 2 ^ suc n ≡ (q / 2 ^ n % 2) * 2 ^ n + q % 2 ^ n = ap (λ (k : ℕ). q % 2 ^ k) one ∙ mod-pow-add q 1 n in
-    let node : has_node (nodes_of mask) (suc n) ≡ (q / 2 ^ n % 2 == 1) = bit_node mask (suc n) h ∙ ap (λ (r : ℕ). r == 1) (bit_at-suc mask n) in
+    let node : has_node (nodes_of mask) (suc n) ≡ (q / 2 ^ n % 2 == 1) =
+    bit_node mask (suc n) h ∙ ap (λ (r : ℕ). r == 1) (bit_at-suc mask n) in
     ap ones parts ∙ ones_cat n (q / 2 ^ n % 2) (q % 2 ^ n) (mod_below q (2 ^ n) (pow_pos n))
     ∙ (λ j. ones_bit (q / 2 ^ n % 2) (omega arith) j + count_low mask n (omega arith) j)
     ∙ ap (λ (b : Bool). (if b then 1 else 0) + count_of (has_node (nodes_of mask)) n) (sym node)
 
-pub count_nodes : (mask size : ℕ) → size ≤ 9 → ones (bit_and (mask / 2) (1 * 2 ^ size % 65536 - 1)) ≡ count_of (has_node (nodes_of mask)) size
+pub count_nodes : (mask size : ℕ) → size ≤ 9
+    → ones (bit_and (mask / 2) (1 * 2 ^ size % 65536 - 1)) ≡ count_of (has_node (nodes_of mask)) size
 count_nodes mask size h =
-    ap (λ (b : ℕ). ones (bit_and (mask / 2) (b - 1))) (one_shl size 16 (omega arith)) ∙ ap ones (and_mask (mask / 2) size) ∙ count_low mask size h
+    ap (λ (b : ℕ). ones (bit_and (mask / 2) (b - 1))) (one_shl size 16 (omega arith))
+    ∙ ap ones (and_mask (mask / 2) size) ∙ count_low mask size h

@@ -19,10 +19,14 @@ module _ {X : Type 0} where
   get_left m s q x e =
       elim (cases_eq q s) [
         | inl same ↦
-            let none : get (remove m s) q ≡ None = get-remove nat_cmp_total m s q ∙ ap (λ (b : Bool). cond b None (get m q)) (unsigned_tied q s ∙ eq-eqb q s same) in
+            let none : get (remove m s) q ≡ None =
+            get-remove nat_cmp_total m s q
+            ∙ ap (λ (b : Bool). cond b None (get m q)) (unsigned_tied q s ∙ eq-eqb q s same) in
             absurd cc
         | inr ne ↦
-            let there : get (remove m s) q ≡ get m q = get-remove nat_cmp_total m s q ∙ ap (λ (b : Bool). cond b None (get m q)) (unsigned_tied q s ∙ ne_eqb q s ne) in
+            let there : get (remove m s) q ≡ get m q =
+            get-remove nat_cmp_total m s q
+            ∙ ap (λ (b : Bool). cond b None (get m q)) (unsigned_tied q s ∙ ne_eqb q s ne) in
             sym there ∙ e
       ]
 

@@ -32,12 +32,14 @@ module _ {V : Type 0} where
   get_place es q = get-from_entries nat_cmp_total es q ∙ find_place es q
 
   -- entries that differ at one place make maps that differ there
-  pub put_place : (es fs : List (ℕ × V)) (s : ℕ) (v : V) → ((q : ℕ) → lookup (nat_eq q) fs ≡ cond (nat_eq s q) (Some v) (lookup (nat_eq q) es))
+  pub put_place : (es fs : List (ℕ × V)) (s : ℕ) (v : V)
+      → ((q : ℕ) → lookup (nat_eq q) fs ≡ cond (nat_eq s q) (Some v) (lookup (nat_eq q) es))
       → from_entries {R = nat_cmp} fs ≡ insert (from_entries es) s v
   put_place es fs s v h =
       same_map nat_cmp_total nat_cmp-IsAntisymmetric _ _ (λ q.
       get_place fs q ∙ h q
-      ∙ sym (get-insert nat_cmp_total (from_entries es) s v q ∙ (λ i. cond ((unsigned_tied q s ∙ nat_eq_equiv.symm q s) i) (Some v) (get_place es q i))))
+      ∙ sym (get-insert nat_cmp_total (from_entries es) s v q
+      ∙ (λ i. cond ((unsigned_tied q s ∙ nat_eq_equiv.symm q s) i) (Some v) (get_place es q i))))
 
   -- entries that lack one place make maps that lack it
   pub cut_place : (es fs : List (ℕ × V)) (s : ℕ) → ((q : ℕ) → lookup (nat_eq q) fs ≡ cond (nat_eq s q) None (lookup (nat_eq q) es))
@@ -45,4 +47,5 @@ module _ {V : Type 0} where
   cut_place es fs s h =
       same_map nat_cmp_total nat_cmp-IsAntisymmetric _ _ (λ q.
       get_place fs q ∙ h q
-      ∙ sym (get-remove nat_cmp_total (from_entries es) s q ∙ (λ i. cond ((unsigned_tied q s ∙ nat_eq_equiv.symm q s) i) None (get_place es q i))))
+      ∙ sym (get-remove nat_cmp_total (from_entries es) s q
+      ∙ (λ i. cond ((unsigned_tied q s ∙ nat_eq_equiv.symm q s) i) None (get_place es q i))))

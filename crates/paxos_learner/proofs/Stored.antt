@@ -20,7 +20,9 @@ any_order false false true d = refl
 any_order false false false d = refl
 
 -- stored keys are compared field by field, from the serial on
-pub same_stored : (a b : TypedKey) → (a.serial == b.serial) && ((a.start == b.start) && ((a.node == b.node) && (a.byte == b.byte))) ≡ same_key (key_of a) (key_of b)
+pub same_stored : (a b : TypedKey)
+    → (a.serial == b.serial)
+    && ((a.start == b.start) && ((a.node == b.node) && (a.byte == b.byte))) ≡ same_key (key_of a) (key_of b)
 same_stored a b = any_order (a.node == b.node) (a.start == b.start) (a.serial == b.serial) (a.byte == b.byte)
 
 -- a test that tells stored keys apart as they are told apart where they are seen
@@ -31,13 +33,18 @@ module _ (test : TypedKey → TypedKey → Bool) (alike : (a b : TypedKey) → t
   any_stored (x ∷ keys) k = λ i. alike k x i || any_stored keys k i
 
   -- one key more, where the test says so
-  by_test : (b : Bool) (keys : List TypedKey) (k : TypedKey) → map key_of (if b then keys else keys ++ k ∷ []) ≡ (if b then map key_of keys else map key_of keys ++ key_of k ∷ [])
+  by_test : (b : Bool) (keys : List TypedKey) (k : TypedKey)
+      → map key_of (if b then keys else keys ++ k ∷ [])
+      ≡ (if b then map key_of keys else map key_of keys ++ key_of k ∷ [])
   by_test true keys k = refl
   by_test false keys k = map-append key_of keys (k ∷ [])
 
   -- a key that is stored is seen among the keys
-  pub insert_stored : (keys : List TypedKey) (k : TypedKey) → map key_of (insert_key test keys k) ≡ insert_key same_key (map key_of keys) (key_of k)
-  insert_stored keys k = by_test (list_any (test k) keys) keys k ∙ ap (λ b. if b then map key_of keys else map key_of keys ++ key_of k ∷ []) (any_stored keys k)
+  pub insert_stored : (keys : List TypedKey) (k : TypedKey)
+      → map key_of (insert_key test keys k) ≡ insert_key same_key (map key_of keys) (key_of k)
+  insert_stored keys k =
+      by_test (list_any (test k) keys) keys k
+      ∙ ap (λ b. if b then map key_of keys else map key_of keys ++ key_of k ∷ []) (any_stored keys k)
 
 -- the bytes of stored keys are those of the keys that are seen
 pub bytes_stored : (keys : List TypedKey) → map (λ (k : TypedKey). k.byte) keys ≡ map (λ (k : Key). k.byte) (map key_of keys)

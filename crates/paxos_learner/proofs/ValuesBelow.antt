@@ -12,22 +12,28 @@ range_more : (a n j : ℕ) → a + n ≡ j → range_with_len a (n + 1) ≡ rang
 range_more a zero j e =
     let same : a ≡ j = omega arith in
     ap (λ (x : ℕ). x ∷ []) same
-range_more a (suc n) j e = rw (add-one (suc n)) (ap (λ (rest : List ℕ). a ∷ rest) (rw (add-one n) at (range_more (a + 1) n j (omega arith))))
+range_more a (suc n) j e =
+    rw (add-one (suc n)) (ap (λ (rest : List ℕ). a ∷ rest) (rw (add-one n) at (range_more (a + 1) n j (omega arith))))
 
 -- one place more, with its value last
-pub values_more : (learned : FinMap nat_cmp Value) (n : ℕ) (v : Value) → get learned n ≡ Some v → values_below learned (n + 1) ≡ values_below learned n ++ v ∷ []
+pub values_more : (learned : FinMap nat_cmp Value) (n : ℕ) (v : Value) → get learned n ≡ Some v
+    → values_below learned (n + 1) ≡ values_below learned n ++ v ∷ []
 values_more learned n v e =
     ap (filter_map (get learned)) (range_more 0 n n (omega arith))
     ∙ filter_map-append (get learned) (range_with_len 0 n) (n ∷ [])
     ∙ ap (λ (o : Option Value). values_below learned n ++ cons_option o []) e
 
 -- what agrees on a range gives the same values there
-same_range : (f g : ℕ → Option Value) (a n : ℕ) → ((s : ℕ) → a ≤ s → s < a + n → f s ≡ g s) → filter_map f (range_with_len a n) ≡ filter_map g (range_with_len a n)
+same_range : (f g : ℕ → Option Value) (a n : ℕ) → ((s : ℕ) → a ≤ s → s < a + n → f s ≡ g s)
+    → filter_map f (range_with_len a n) ≡ filter_map g (range_with_len a n)
 same_range f g a zero same = refl
-same_range f g a (suc n) same = λ i. cons_option (same a (omega arith) (omega arith) i) (same_range f g (a + 1) n (λ s low high. same s (omega arith) (omega arith)) i)
+same_range f g a (suc n) same =
+    λ i. cons_option (same a (omega arith) (omega arith) i)
+    (same_range f g (a + 1) n (λ s low high. same s (omega arith) (omega arith)) i)
 
 -- maps that agree below n have the same values there
-pub same_below : (learned other : FinMap nat_cmp Value) (n : ℕ) → ((s : ℕ) → s < n → get learned s ≡ get other s) → values_below learned n ≡ values_below other n
+pub same_below : (learned other : FinMap nat_cmp Value) (n : ℕ) → ((s : ℕ) → s < n → get learned s ≡ get other s)
+    → values_below learned n ≡ values_below other n
 same_below learned other n same = same_range (get learned) (get other) 0 n (λ s low high. same s (omega arith))
 
 -- numbers in a row begin with fewer of them

@@ -11,10 +11,14 @@ use Rattle.paxos_learner.specs.Learner.{Learner}
 
 abbrev tally_code : Coded Tally
 tally_code =
-    code_by (Ballot × (Value × List Bool)) (coded× ballot_code (coded× value_code (coded_list coded_bool))) (λ t. (t.ballot, (t.value, t.nodes)))
+    code_by (Ballot × (Value × List Bool))
+    (coded× ballot_code (coded× value_code (coded_list coded_bool)))
+    (λ t. (t.ballot, (t.value, t.nodes)))
     (λ p. record { ballot = p.0; value = p.1.0; nodes = p.1.1 }) (λ _. refl)
 
 abbrev pub learner_code : Coded Learner
 learner_code =
-    code_by (ℕ × (FinMap nat_cmp Value × FinMap nat_cmp Tally)) (coded× coded_ℕ (coded× (code coded_ℕ value_code) (code coded_ℕ tally_code)))
-    (λ l. (l.size, (l.learned, l.tallies))) (λ p. record { size = p.0; learned = p.1.0; tallies = p.1.1 }) (λ _. refl)
+    code_by (ℕ × (FinMap nat_cmp Value × FinMap nat_cmp Tally))
+    (coded× coded_ℕ (coded× (code coded_ℕ value_code) (code coded_ℕ tally_code)))
+    (λ l. (l.size, (l.learned, l.tallies)))
+    (λ p. record { size = p.0; learned = p.1.0; tallies = p.1.1 }) (λ _. refl)

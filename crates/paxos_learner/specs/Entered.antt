@@ -6,8 +6,8 @@ use Rattle.paxos_msg.specs.Keys.{Key, keys_of}
 use Rattle.paxos_learner.specs.declared.keys.TypedKey.{TypedKey}
 use Rattle.paxos_learner.specs.Input.{same_key}
 
--- the keys that the values of the places so far have, each once; how many there were after each of these places; and how many places
--- and keys more there is room for
+-- the keys that the values of the places so far have, each once; how many there were after each of
+-- these places; and how many places and keys more there is room for
 pub record Entered : Type 0 where
   pub keys : List Key
   pub ends : List ℕ
@@ -23,15 +23,16 @@ pub record Keys : Type 0 where
 abbrev pub key_of : TypedKey → Key
 key_of k = record { node = k.node; start = k.start; serial = k.serial; byte = k.byte }
 
--- There are at most 32 keys for each place, no place has more before it than there are, and a group has 65,536 places.
+-- There are at most 32 keys for each place, no place has more before it than there are, and a group
+-- has 65,536 places.
 pub record IsCounted (keys : List Key) (ends : List ℕ) : Type 0 where
   pub few : length keys ≤ 32 * length ends
   pub within : (s : ℕ) → s < length ends → slice_index ends s ≤ length keys
   pub small : length ends ≤ 65536
 
 -- the keys with those of one value more, each that is new at the end
-abbrev pub entered : List Key → Value → List Key
-entered keys v = insert_all same_key keys (keys_of v)
+abbrev pub keys_with : List Key → Value → List Key
+keys_with keys v = insert_all same_key keys (keys_of v)
 
 -- how many keys the places below this one have
 abbrev pub count_below : Entered → ℕ → ℕ

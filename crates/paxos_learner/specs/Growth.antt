@@ -17,6 +17,6 @@ pub record AreInWindow (learned : FinMap nat_cmp Value) : Type 0 where
   pub window : (s : ℕ) (v : Value) → get learned s ≡ Some v → s < front_of learned + 1024
 
 -- each value that is learned or tallied is in its ranges
-pub record IsInRange (l : Learner) : Type 0 where
+pub record IsLearnerInRange (l : Learner) : Type 0 where
   pub learned : (s : ℕ) (v : Value) → get l.learned s ≡ Some v → IsValue l.size v
   pub tallied : (s : ℕ) (t : Tally) → get l.tallies s ≡ Some t → IsValue l.size t.value

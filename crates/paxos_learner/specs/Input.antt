@@ -9,7 +9,9 @@ use Rattle.paxos_learner.specs.Learner.{front_of}
 
 -- whether all four fields are the same
 abbrev pub same_key : Key → Key → Bool
-same_key k other = (k.node == other.node) && ((k.start == other.start) && ((k.serial == other.serial) && (k.byte == other.byte)))
+same_key k other =
+    (k.node == other.node)
+    && ((k.start == other.start) && ((k.serial == other.serial) && (k.byte == other.byte)))
 
 -- whether the key is one of these
 abbrev pub has_key : List Key → Key → Bool

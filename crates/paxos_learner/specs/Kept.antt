@@ -8,24 +8,29 @@ use Rattle.paxos_learner.specs.Entered.{Entered}
 use Rattle.paxos_learner.specs.Growth.{AreInWindow}
 use Rattle.paxos_learner.specs.Input.{StandsIn, keys_in_order, values_below}
 
--- The input has the keys of the places so far, all of which are learned, and there is room for each place that is learned, and for
--- 32 keys at each place up to it.
+-- The input has the keys of the places so far, all of which are learned, and there is room for each
+-- place that is learned, and for 32 keys at each place up to it.
 pub record IsInputOf (learned : FinMap nat_cmp Value) (e : Entered) : Type 0 where
   pub below : (s : ℕ) → s < length e.ends → IsTrue (is_some (get learned s))
   pub keys : e.keys ≡ keys_in_order (values_below learned (length e.ends))
   pub within : (s : ℕ) → s < length e.ends → slice_index e.ends s ≤ length e.keys
-  pub ends : (s : ℕ) → s < length e.ends → take (slice_index e.ends s) e.keys ≡ keys_in_order (values_below learned (s + 1))
+  pub ends : (s : ℕ) → s < length e.ends
+      → take (slice_index e.ends s) e.keys ≡ keys_in_order (values_below learned (s + 1))
   pub room : (s : ℕ) → IsTrue (is_some (get learned s)) → s < length e.ends + e.room
-  pub key_room : (s : ℕ) → IsTrue (is_some (get learned s)) → 32 * (s + 1) ≤ e.key_room + 32 * length e.ends
+  pub key_room : (s : ℕ) → IsTrue (is_some (get learned s))
+      → 32 * (s + 1) ≤ e.key_room + 32 * length e.ends
   pub small : (s : ℕ) → IsTrue (is_some (get learned s)) → s < 65536
 
 -- the keys that stand in learned values are these
 pub record AreKnown (learned : FinMap nat_cmp Value) (keys : List Key) : Type 0 where
   pub stand : (k : Key) → Contains keys k → StandsIn learned k
-  pub all : (s : ℕ) (v : Value) → get learned s ≡ Some v → (k : Key) → Contains (keys_of v) k → Contains keys k
+  pub all : (s : ℕ) (v : Value) → get learned s ≡ Some v → (k : Key) → Contains (keys_of v) k
+      → Contains keys k
 
--- The input goes up to the front, which isn't learned; the known keys are those of all learned values.
-pub record IsKept (size : ℕ) (learned : FinMap nat_cmp Value) (e : Entered) (known : List Key) : Type 0 where
+-- The input goes up to the front, which isn't learned; the known keys are those of all learned
+-- values.
+pub record IsKept (size : ℕ) (learned : FinMap nat_cmp Value) (e : Entered)
+    (known : List Key) : Type 0 where
   pub size_small : size ≤ 9
   pub input : IsInputOf learned e
   pub here : get learned (length e.ends) ≡ None

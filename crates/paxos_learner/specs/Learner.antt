@@ -9,7 +9,8 @@ use Rattle.paxos_learner.specs.declared.heard.Heard.{Heard}
 use Rattle.paxos_learner.specs.declared.heard.Heard.TheVariants as heard
 use Rattle.paxos_learner.specs.Tallies.{Tally, has_node, tallied}
 
--- what a learner of a group of that size has learned, and what it has heard of other places, each by place
+-- what a learner of a group of that size has learned, and what it has heard of other places, each
+-- by place
 pub record Learner : Type 0 where
   pub size : ℕ
   pub learned : FinMap nat_cmp Value
@@ -48,7 +49,11 @@ passed l = record { learner = l; answer = heard.Passed }
 
 -- the value is learned, and the place needs no tally any more
 abbrev pub learn : Learner → ℕ → Value → Hearing
-learn l s v = record { learner = record l { learned = insert l.learned s v; tallies = remove l.tallies s }; answer = heard.Learned }
+learn l s v =
+    record {
+      learner = record l { learned = insert l.learned s v; tallies = remove l.tallies s };
+      answer = heard.Learned;
+    }
 
 -- the place has this tally from now on, or its value is learned if the tally is a majority
 abbrev pub counted : Learner → ℕ → Option Tally → Hearing
@@ -58,9 +63,10 @@ counted l s (Some t) =
     else record { learner = record l { tallies = insert l.tallies s t }; answer = heard.Counted }
 
 -- node i says that it has accepted v at s under b
-abbrev pub on_accepted : Learner → ℕ → Ballot → ℕ → Value → Hearing
-on_accepted l i b s v = if is_open l s then counted l s (tallied (get l.tallies s) i b v) else passed l
+abbrev pub heard_accepted : Learner → ℕ → Ballot → ℕ → Value → Hearing
+heard_accepted l i b s v =
+    if is_open l s then counted l s (tallied (get l.tallies s) i b v) else passed l
 
 -- some node says that it has learned v at s
-abbrev pub on_tell : Learner → ℕ → Value → Hearing
-on_tell l s v = if is_open l s then learn l s v else passed l
+abbrev pub heard_tell : Learner → ℕ → Value → Hearing
+heard_tell l s v = if is_open l s then learn l s v else passed l

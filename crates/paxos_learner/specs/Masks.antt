@@ -27,7 +27,13 @@ bit_back (suc (suc r)) h = absurd (omega arith)
 low_bits_back : (k mask : ℕ) → mask < 2 ^ k → mask_of (low_bits k mask) ≡ mask
 unfolding low_bits mask_of
 low_bits_back zero mask h = omega arith
-low_bits_back (suc k) mask h = omega (arith, bit_back (mask % 2) (omega arith), low_bits_back k (mask / 2) (omega (arith, pow-suc 2 k)))
+low_bits_back (suc k) mask h =
+    omega (
+      arith,
+      bit_back (mask % 2) (omega arith),
+      low_bits_back k (mask / 2)
+          (omega (arith, pow-suc 2 k)),
+    )
 
 pub mask_back : (mask : ℕ) → mask < 1024 → mask_of (nodes_of mask) ≡ mask
 unfolding nodes_of

@@ -1,13 +1,14 @@
 //! The input: the bytes of the keys of the places below the front, each key once.
 ghost use Rattle.std.specs.Prelude.{◌≡◌, ◌↔◌, ◌+◌, ◌*◌, ◌<◌, ◌≤◌, [], ◌∷◌, ◌++◌, IsTrue, OnOk, Contains, length, drop, map, option_map, slice_get};
-ghost use Rattle.paxos_learner.specs.Entered.{entered, count_below, key_of};
+ghost use Rattle.paxos_learner.specs.Entered.{keys_with, count_below, key_of};
 
 use crate::keys::{KeySet, TypedKey};
 use paxos_msg::Value;
 use std::alloc::{AllocError, Global};
 use std::marker::Model;
 
-/// The keys that the places so far have, each once, in order. Places come one after another, from 0 on.
+/// The keys that the places so far have, each once, in order. Places come one after another, from 0
+/// on.
 #[derive(Drop)]
 pub struct Input {
     keys: KeySet,
@@ -51,7 +52,8 @@ impl Input {
         self.ends.len() as u32
     }
 
-    /// Makes room for so many places more, of which each may have 32 keys. After an error nothing has changed.
+    /// Makes room for so many places more, of which each may have 32 keys. After an error nothing
+    /// has changed.
     pub fn reserve(&mut self, places: usize) -> Result<(), AllocError>
         requires { places ≤ 65536 }
         ensures keys { self.new.keys ≡ self.old.keys }
@@ -70,7 +72,7 @@ impl Input {
         requires room { 0 < self.old.room }
         requires key_room { 32 ≤ self.old.key_room }
         requires few { length self.old.ends < 65536 }
-        ensures keys { self.new.keys ≡ entered self.old.keys value }
+        ensures keys { self.new.keys ≡ keys_with self.old.keys value }
         ensures ends { self.new.ends ≡ self.old.ends ++ length self.new.keys ∷ [] }
         ensures room { self.old.room ≤ self.new.room + 1 }
         ensures key_room { self.old.key_room ≤ self.new.key_room + 32 }
@@ -125,8 +127,8 @@ impl Input {
     }
 }
 
-/// Bytes of the input, in order: an iterator. A clone goes over the same bytes once more, from the next
-/// one on.
+/// Bytes of the input, in order: an iterator. A clone goes over the same bytes once more, from the
+/// next one on.
 #[derive(Drop)]
 pub struct InputAfter<'a> {
     keys: &'a [TypedKey],

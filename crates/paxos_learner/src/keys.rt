@@ -2,7 +2,7 @@
 ghost use Rattle.std.specs.Prelude.{◌≡◌, ◌↔◌, ◌+◌, ◌<◌, ◌≤◌, [], IsTrue, OnOk, Contains, drop, length, map, option_map, slice_get};
 ghost use Rattle.indexmap.specs.IndexSet.{insert_all, insert_key};
 ghost use Rattle.paxos_msg.specs.Keys.{keys_from};
-ghost use Rattle.paxos_learner.specs.Entered.{entered, key_of};
+ghost use Rattle.paxos_learner.specs.Entered.{keys_with, key_of};
 ghost use Rattle.paxos_learner.specs.Input.{same_key};
 
 use indexmap::IndexSet;
@@ -10,11 +10,12 @@ use paxos_msg::Value;
 use std::alloc::{AllocError, Global};
 use std::marker::Model;
 
-/// A typed character: the node, which of its starts, which key of that start, and the character. The widest
-/// field comes first, so that a key takes 16 bytes.
+/// A typed character: the node, which of its starts, which key of that start, and the character.
+/// The widest field comes first, so that a key takes 16 bytes.
 #[derive(Clone, Copy, Debug, PartialEq, Eq, Hash)]
 pub struct TypedKey {
-    /// Which key of that start it is, from 1 on: at most 4,294,967,295 in a value that is in its ranges.
+    /// Which key of that start it is, from 1 on: at most 4,294,967,295 in a value that is in its
+    /// ranges.
     pub serial: u64,
     /// Which start of that node it was, from 1 on.
     pub start: u32,
@@ -78,7 +79,8 @@ impl KeySet {
     fn insert_batch(&mut self, node: u8, start: u32, first: u32, bytes: &[u8])
         requires room { length bytes.now ≤ self.old.room }
         requires few { length bytes.now ≤ 32 }
-        ensures keys { self.new.keys ≡ insert_all same_key self.old.keys (keys_from node start first bytes.now) }
+        ensures keys { self.new.keys
+            ≡ insert_all same_key self.old.keys (keys_from node start first bytes.now) }
         ensures room { self.old.room ≤ self.new.room + length bytes.now }
         ensures few { length self.new.keys ≤ length self.old.keys + length bytes.now }
     {
@@ -94,11 +96,11 @@ impl KeySet {
         }
     }
 
-    /// Puts the keys of a value in, at most 32, for which there is room: each that is not there yet, at the
-    /// end.
+    /// Puts the keys of a value in, at most 32, for which there is room: each that is not there
+    /// yet, at the end.
     pub fn insert(&mut self, value: Value)
         requires { 32 ≤ self.old.room }
-        ensures keys { self.new.keys ≡ entered self.old.keys value }
+        ensures keys { self.new.keys ≡ keys_with self.old.keys value }
         ensures room { self.old.room ≤ self.new.room + 32 }
         ensures few { length self.new.keys ≤ length self.old.keys + 32 }
     {

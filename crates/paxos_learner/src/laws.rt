@@ -1,5 +1,5 @@
-//! The laws of a learner, over the definitions alone: what it hears keeps what it has learned, and the input only
-//! grows at its end.
+//! The laws of a learner, over the definitions alone: what it hears keeps what it has learned, and
+//! the input only grows at its end.
 ghost use Rattle.std.specs.Prelude.{◌≡◌, ◌↔◌, ◌<◌, ◌≤◌, ◌++◌, ℕ, Contains, IsTrue, List, Some, is_some, length, slice_get};
 ghost use Rattle.std.specs.FinMap.{empty, FinMap, get};
 ghost use Rattle.std.specs.Ordering.{nat_cmp};
@@ -10,43 +10,53 @@ ghost use Rattle.paxos_msg.specs.Fits.{IsValue};
 ghost use Rattle.paxos_msg.specs.Keys.{Key};
 ghost use Rattle.paxos_msg.specs.Messages.{IsSaid, IsSent};
 ghost use Rattle.paxos_msg.specs.Batches.{Sent};
-ghost use Rattle.paxos_learner.specs.Backed.{IsBacked, Stays};
-ghost use Rattle.paxos_learner.specs.Growth.{AreInWindow, HasLearnedMore, IsInRange};
+ghost use Rattle.paxos_learner.specs.Backed.{IsLearnerBacked, Stays};
+ghost use Rattle.paxos_learner.specs.Growth.{AreInWindow, HasLearnedMore, IsLearnerInRange};
 ghost use Rattle.paxos_learner.specs.Input.{front_values, has_key, input_of, is_learned, keys_in_order, learned_input, StandsIn, values_below};
-ghost use Rattle.paxos_learner.specs.Learner.{front_of, IsFront, Learner, new_learner, on_accepted, on_tell};
+ghost use Rattle.paxos_learner.specs.Learner.{front_of, IsFront, Learner, new_learner, heard_accepted, heard_tell};
 
-/// A learner that has heard nothing is backed. One that is backed is so after it hears an Accepted or a Tell that was
-/// sent: so what it learns by that is backed by what was sent before. It stays backed as more is sent.
+/// A learner that has heard nothing is backed. One that is backed is so after it hears an Accepted
+/// or a Tell that was sent: so what it learns by that is backed by what was sent before. It stays
+/// backed as more is sent.
 pub fn stays_backed()
-    ensures begins { (sent : Sent) (size : ℕ) → IsBacked sent (new_learner size) }
-    ensures accepted { (sent : Sent) (l : Learner) (i s : ℕ) (b : Ballot) (v : Value) →
-        IsBacked sent l → IsSent sent i (Accepted b s v) → IsBacked sent (on_accepted l i b s v).learner }
-    ensures told { (sent : Sent) (l : Learner) (s : ℕ) (v : Value) →
-        IsBacked sent l → IsSaid sent (Tell s v) → IsBacked sent (on_tell l s v).learner }
-    ensures later { (sent next : Sent) (l : Learner) → Stays sent next → IsBacked sent l → IsBacked next l }
+    ensures begins { (sent : Sent) (size : ℕ) → IsLearnerBacked sent (new_learner size) }
+    ensures accepted { (sent : Sent) (l : Learner) (i s : ℕ) (b : Ballot) (v : Value)
+        → IsLearnerBacked sent l → IsSent sent i (Accepted b s v)
+        → IsLearnerBacked sent (heard_accepted l i b s v).learner }
+    ensures told { (sent : Sent) (l : Learner) (s : ℕ) (v : Value) → IsLearnerBacked sent l
+        → IsSaid sent (Tell s v) → IsLearnerBacked sent (heard_tell l s v).learner }
+    ensures later { (sent next : Sent) (l : Learner) → Stays sent next → IsLearnerBacked sent l
+        → IsLearnerBacked next l }
 {}
 
 /// What was learned stays learned, at the same value; and the size stays.
 pub fn learned_stays()
     ensures accepted { (l : Learner) (i s : ℕ) (b : Ballot) (v : Value) →
-        HasLearnedMore l.learned (on_accepted l i b s v).learner.learned }
-    ensures told { (l : Learner) (s : ℕ) (v : Value) → HasLearnedMore l.learned (on_tell l s v).learner.learned }
-    ensures size_accepted { (l : Learner) (i s : ℕ) (b : Ballot) (v : Value) → (on_accepted l i b s v).learner.size ≡ l.size }
-    ensures size_told { (l : Learner) (s : ℕ) (v : Value) → (on_tell l s v).learner.size ≡ l.size }
+        HasLearnedMore l.learned (heard_accepted l i b s v).learner.learned }
+    ensures told { (l : Learner) (s : ℕ) (v : Value)
+        → HasLearnedMore l.learned (heard_tell l s v).learner.learned }
+    ensures size_accepted { (l : Learner) (i s : ℕ) (b : Ballot) (v : Value)
+        → (heard_accepted l i b s v).learner.size ≡ l.size }
+    ensures size_told { (l : Learner) (s : ℕ) (v : Value)
+        → (heard_tell l s v).learner.size ≡ l.size }
 {}
 
-/// There is one front, and the definition finds it. It does not fall when more is learned, and is at most 65,536 if
-/// each learned place is at most 65,535.
+/// There is one front, and the definition finds it. It does not fall when more is learned, and is
+/// at most 65,536 if each learned place is at most 65,535.
 pub fn one_front()
     ensures there { (learned : FinMap nat_cmp Value) → IsFront learned (front_of learned) }
-    ensures one { (learned : FinMap nat_cmp Value) (front : ℕ) → IsFront learned front → front ≡ front_of learned }
-    ensures rises { (old new : FinMap nat_cmp Value) → HasLearnedMore old new → front_of old ≤ front_of new }
-    ensures few { (learned : FinMap nat_cmp Value) → AreInWindow learned → front_of learned ≤ 65536 }
+    ensures one { (learned : FinMap nat_cmp Value) (front : ℕ) → IsFront learned front
+        → front ≡ front_of learned }
+    ensures rises { (old new : FinMap nat_cmp Value) → HasLearnedMore old new
+        → front_of old ≤ front_of new }
+    ensures few { (learned : FinMap nat_cmp Value) → AreInWindow learned
+        → front_of learned ≤ 65536 }
 {}
 
 /// Up to the front there is a value for each place, and the one at a place is the learned one.
 pub fn values_are_learned()
-    ensures many { (learned : FinMap nat_cmp Value) (n : ℕ) → n ≤ front_of learned → length (values_below learned n) ≡ n }
+    ensures many { (learned : FinMap nat_cmp Value) (n : ℕ) → n ≤ front_of learned
+        → length (values_below learned n) ≡ n }
     ensures at_place { (learned : FinMap nat_cmp Value) (n s : ℕ) → n ≤ front_of learned → s < n →
         slice_get (values_below learned n) s ≡ get learned s }
 {}
@@ -54,34 +64,38 @@ pub fn values_are_learned()
 /// The tests of keys hold exactly where their sentences do.
 pub fn key_tests_are_exact()
     ensures has { (keys : List Key) (k : Key) → IsTrue (has_key keys k) ↔ Contains keys k }
-    ensures learned { (learned : FinMap nat_cmp Value) (k : Key) → IsTrue (is_learned learned k) ↔ StandsIn learned k }
+    ensures learned { (learned : FinMap nat_cmp Value) (k : Key)
+        → IsTrue (is_learned learned k) ↔ StandsIn learned k }
 {}
 
-/// The input of more values begins with that of fewer; so when more is learned the learned input only grows, at its
-/// end.
+/// The input of more values begins with that of fewer; so when more is learned the learned input
+/// only grows, at its end.
 pub fn input_grows()
-    ensures keys { (values more : List Value) → (rest : List Key) × (keys_in_order (values ++ more) ≡ keys_in_order values ++ rest) }
-    ensures bytes { (values more : List Value) → (rest : List ℕ) × (input_of (values ++ more) ≡ input_of values ++ rest) }
+    ensures keys { (values more : List Value)
+        → (rest : List Key) × (keys_in_order (values ++ more) ≡ keys_in_order values ++ rest) }
+    ensures bytes { (values more : List Value)
+        → (rest : List ℕ) × (input_of (values ++ more) ≡ input_of values ++ rest) }
     ensures values { (old new : FinMap nat_cmp Value) → HasLearnedMore old new →
         (more : List Value) × (front_values new ≡ front_values old ++ more) }
     ensures learned { (old new : FinMap nat_cmp Value) → HasLearnedMore old new →
         (rest : List ℕ) × (learned_input new ≡ learned_input old ++ rest) }
 {}
 
-/// A learned place is at most 65,535 and less than 1,024 above the front: at first, and after each call for such a
-/// place.
+/// A learned place is at most 65,535 and less than 1,024 above the front: at first, and after each
+/// call for such a place.
 pub fn window_holds()
     ensures begins { (size : ℕ) → AreInWindow (new_learner size).learned }
-    ensures accepted { (l : Learner) (i s : ℕ) (b : Ballot) (v : Value) → s ≤ 65535 → AreInWindow l.learned →
-        AreInWindow (on_accepted l i b s v).learner.learned }
+    ensures accepted { (l : Learner) (i s : ℕ) (b : Ballot) (v : Value) → s ≤ 65535
+        → AreInWindow l.learned → AreInWindow (heard_accepted l i b s v).learner.learned }
     ensures told { (l : Learner) (s : ℕ) (v : Value) → s ≤ 65535 → AreInWindow l.learned →
-        AreInWindow (on_tell l s v).learner.learned }
+        AreInWindow (heard_tell l s v).learner.learned }
 {}
 
 /// What is learned and tallied is in its ranges, if all that was heard is.
 pub fn values_fit()
-    ensures begins { (size : ℕ) → IsInRange (new_learner size) }
-    ensures accepted { (l : Learner) (i s : ℕ) (b : Ballot) (v : Value) → IsValue l.size v → IsInRange l →
-        IsInRange (on_accepted l i b s v).learner }
-    ensures told { (l : Learner) (s : ℕ) (v : Value) → IsValue l.size v → IsInRange l → IsInRange (on_tell l s v).learner }
+    ensures begins { (size : ℕ) → IsLearnerInRange (new_learner size) }
+    ensures accepted { (l : Learner) (i s : ℕ) (b : Ballot) (v : Value) → IsValue l.size v
+        → IsLearnerInRange l → IsLearnerInRange (heard_accepted l i b s v).learner }
+    ensures told { (l : Learner) (s : ℕ) (v : Value) → IsValue l.size v → IsLearnerInRange l
+        → IsLearnerInRange (heard_tell l s v).learner }
 {}

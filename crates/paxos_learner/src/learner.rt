@@ -6,7 +6,7 @@ ghost use Rattle.paxos_learner.specs.Growth.{AreInWindow};
 ghost use Rattle.paxos_learner.specs.Input.{StandsIn, front_values, input_of, keys_in_order, learned_input, values_below};
 ghost use Rattle.paxos_learner.specs.Kept.{IsInputOf};
 ghost use Rattle.paxos_learner.specs.declared.heard.Heard.TheVariants.{Passed};
-ghost use Rattle.paxos_learner.specs.Learner.{IsFront, front_of, is_open, learn, new_learner, on_accepted, on_tell};
+ghost use Rattle.paxos_learner.specs.Learner.{IsFront, front_of, is_open, learn, new_learner, heard_accepted, heard_tell};
 
 use crate::heard::{Heard, LearnerFault};
 use crate::input::{Input, InputAfter};
@@ -17,11 +17,12 @@ use paxos_msg::{Ballot, Value};
 use std::alloc::{AllocError, Global};
 use std::marker::Model;
 
-/// Learns the value of each place, 0 to 65,535, in a group of `size` nodes, from what its acceptors say.
+/// Learns the value of each place, 0 to 65,535, in a group of `size` nodes, from what its acceptors
+/// say.
 ///
-/// A look, and what is heard of one place, take a search; a learned place takes one more for each of its
-/// keys, at most 32, and for each key of the places that the front then rises by. No call goes over all
-/// places.
+/// A look, and what is heard of one place, take a search; a learned place takes one more for each
+/// of its keys, at most 32, and for each key of the places that the front then rises by. No call
+/// goes over all places.
 pub struct Learner {
     size: u8,
     learned: PlaceMap<Value>,
@@ -55,7 +56,11 @@ impl Model for Learner {
 
     ghost use Rattle.paxos_learner.specs.Kept.{IsKept};
 
-    ghost view = { λ l. record { size = l.size; learned = l.learned.map; tallies = l.tallies.map } };
+    ghost view = { λ l. record {
+      size = l.size;
+      learned = l.learned.map;
+      tallies = l.tallies.map;
+    } };
 
     ghost invariant = { λ l. IsKept l.size l.learned.map l.input l.known.keys };
 }
@@ -93,8 +98,8 @@ impl Learner {
         place < self.known_front() + 1024 && self.learned(place).is_none()
     }
 
-    /// Learns the value at the place, which is open. The room for it, and for what the front may rise by, at
-    /// most 32 keys a place, is made first, so that after an error nothing has changed.
+    /// Learns the value at the place, which is open. The room for it, and for what the front may
+    /// rise by, at most 32 keys a place, is made first, so that after an error nothing has changed.
     fn learn(&mut self, place: u32, value: &Value) -> Result<(), AllocError>
         requires open { IsTrue (is_open self.old place) }
         requires place { place ≤ 65535 }
@@ -114,15 +119,17 @@ impl Learner {
 
     /// Hears that the node, 0 to 9, has accepted the value at the place under the ballot.
     ///
-    /// A place counts if it is not learned, and less than 1,024 above the front. There a greater ballot
-    /// than before begins anew, and a node counts once. `Learned`: more than half of the nodes 1 to `size`
-    /// have accepted the value under one ballot. `Counted`: so many have not yet, but this one is new.
-    /// `Passed`: nothing has changed. `Memory` comes where there is no room for what is new, reckoned with 32
-    /// keys at each place up to a learned one, and then nothing has changed.
+    /// A place counts if it is not learned, and less than 1,024 above the front. There a greater
+    /// ballot than before begins anew, and a node counts once. `Learned`: more than half of the
+    /// nodes 1 to `size` have accepted the value under one ballot. `Counted`: so many have not yet,
+    /// but this one is new. `Passed`: nothing has changed. `Memory` comes where there is no room
+    /// for what is new, reckoned with 32 keys at each place up to a learned one, and then nothing
+    /// has changed.
     ///
-    /// A message takes a search of the learned places, and where the place is open one of the tallies: a tally
-    /// that changes is written where that search has found it. A second one puts the first tally of a place, and
-    /// takes out the tally of a place that is learned. A place that has a tally takes no memory before that.
+    /// A message takes a search of the learned places, and where the place is open one of the
+    /// tallies: a tally that changes is written where that search has found it. A second one puts
+    /// the first tally of a place, and takes out the tally of a place that is learned. A place that
+    /// has a tally takes no memory before that.
     pub fn on_accepted(
         &mut self,
         sender: u8,
@@ -132,9 +139,12 @@ impl Learner {
     ) -> Result<Heard, LearnerFault>
         requires sender { sender ≤ 9 }
         requires place { place ≤ 65535 }
-        ensures ok { OnOk result (self.new ≡ (on_accepted self.old sender ballot place value).learner) }
-        ensures answer { IfOk result (λ heard. heard ≡ (on_accepted self.old sender ballot place value).answer) }
-        ensures needs { OnErr result ((on_accepted self.old sender ballot place value).answer ≢ Passed) }
+        ensures ok { OnOk result
+            (self.new ≡ (heard_accepted self.old sender ballot place value).learner) }
+        ensures answer { IfOk result
+            (λ heard. heard ≡ (heard_accepted self.old sender ballot place value).answer) }
+        ensures needs { OnErr result
+            ((heard_accepted self.old sender ballot place value).answer ≢ Passed) }
         ensures err { OnErr result (self.new ≡ self.old) }
     {
         if !self.is_open(place) {
@@ -157,13 +167,13 @@ impl Learner {
 
     /// Hears that a node has learned the value at the place.
     ///
-    /// `Learned`: so has this learner now. `Passed`: the place is learned already, or 1,024 or more above
-    /// the front, and nothing has changed. After `Memory` nothing has changed.
+    /// `Learned`: so has this learner now. `Passed`: the place is learned already, or 1,024 or more
+    /// above the front, and nothing has changed. After `Memory` nothing has changed.
     pub fn on_tell(&mut self, place: u32, value: Value) -> Result<Heard, LearnerFault>
         requires { place ≤ 65535 }
-        ensures ok { OnOk result (self.new ≡ (on_tell self.old place value).learner) }
-        ensures answer { IfOk result (λ heard. heard ≡ (on_tell self.old place value).answer) }
-        ensures needs { OnErr result ((on_tell self.old place value).answer ≢ Passed) }
+        ensures ok { OnOk result (self.new ≡ (heard_tell self.old place value).learner) }
+        ensures answer { IfOk result (λ heard. heard ≡ (heard_tell self.old place value).answer) }
+        ensures needs { OnErr result ((heard_tell self.old place value).answer ≢ Passed) }
         ensures err { OnErr result (self.new ≡ self.old) }
     {
         if self.is_open(place) {
@@ -192,11 +202,12 @@ impl Learner {
         self.input.places()
     }
 
-    /// The input bytes that the places from this one up to the front add, none from the front on. A key
-    /// that stands at several places is read at the first, so of a batch that overlaps an earlier one the
-    /// new keys alone are added. The place may be any number.
+    /// The input bytes that the places from this one up to the front add, none from the front on. A
+    /// key that stands at several places is read at the first, so of a batch that overlaps an
+    /// earlier one the new keys alone are added. The place may be any number.
     pub fn input_after(&self, place: u32) -> InputAfter<'_>
-        ensures { input_of (values_below self.now.learned (min place (front_of self.now.learned))) ++ result ≡ learned_input self.now.learned }
+        ensures { input_of (values_below self.now.learned (min place (front_of self.now.learned)))
+            ++ result ≡ learned_input self.now.learned }
     {
         self.input.after(place)
     }
@@ -217,7 +228,8 @@ impl Learner {
 
     /// Whether the key is read in the learned input: it stands at a place below the front.
     pub fn has_read(&self, key: TypedKey) -> bool
-        ensures { IsTrue result ↔ Contains (keys_in_order (front_values self.now.learned)) (key_of key) }
+        ensures { IsTrue result
+            ↔ Contains (keys_in_order (front_values self.now.learned)) (key_of key) }
     {
         self.input.contains(key)
     }

@@ -6,8 +6,8 @@ use indexmap::IndexMap;
 use std::alloc::{AllocError, Global};
 use std::marker::Model;
 
-/// Values by place. Contracts see a finite map, which index each place has, and how many places more there is
-/// room for.
+/// Values by place. Contracts see a finite map, which index each place has, and how many places
+/// more there is room for.
 #[derive(Drop)]
 pub struct PlaceMap<V: Copy> {
     entries: IndexMap<u32, V>,
@@ -23,7 +23,11 @@ impl<V: Copy> Model for PlaceMap<V> {
     ghost use Rattle.std.specs.FinMap.{from_entries};
     ghost use Rattle.indexmap.specs.IndexMap.{keys, spare};
 
-    ghost view = { λ m. record { map = from_entries m.entries.entries; places = keys m.entries; room = spare m.entries } };
+    ghost view = { λ m. record {
+      map = from_entries m.entries.entries;
+      places = keys m.entries;
+      room = spare m.entries;
+    } };
 }
 
 impl<V: Copy> PlaceMap<V> {
@@ -78,8 +82,8 @@ impl<V: Copy> PlaceMap<V> {
         self.entries.insert(place, value).unwrap();
     }
 
-    /// Puts a value at a place. A place that has one already takes no memory. After an error nothing has
-    /// changed.
+    /// Puts a value at a place. A place that has one already takes no memory. After an error
+    /// nothing has changed.
     pub fn put(&mut self, place: u32, value: V) -> Result<(), AllocError>
         ensures ok { OnOk result (self.new.map ≡ insert self.old.map place value) }
         ensures err { OnErr result (self.new.map ≡ self.old.map) }

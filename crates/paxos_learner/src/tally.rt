@@ -1,7 +1,7 @@
 //! What was heard of a place that is not learned.
 ghost use Rattle.std.specs.Prelude.{◌≡◌, ◌≤◌};
 ghost use Rattle.paxos_msg.specs.Tests.{is_majority};
-ghost use Rattle.paxos_learner.specs.Tallies.{begun, joined, tallied, has_node};
+ghost use Rattle.paxos_learner.specs.Tallies.{begun_tally, joined_tally, tallied, has_node};
 
 use crate::node_set::NodeSet;
 use paxos_msg::{Ballot, Value};
@@ -29,7 +29,7 @@ impl Tally {
     /// A tally of one node alone.
     fn begun(node: u8, ballot: Ballot, value: Value) -> Tally
         requires { node ≤ 9 }
-        ensures { result ≡ begun node ballot value }
+        ensures { result ≡ begun_tally node ballot value }
     {
         let mut nodes = NodeSet::new();
         nodes.insert(node);
@@ -43,7 +43,7 @@ impl Tally {
     /// The tally with this node as well, if that is new.
     fn joined(self, node: u8) -> Option<Tally>
         requires { node ≤ 9 }
-        ensures { result ≡ joined self node }
+        ensures { result ≡ joined_tally self node }
     {
         let Tally {
             ballot,
@@ -77,8 +77,8 @@ impl Tally {
     }
 }
 
-/// The tally at a place, where it changes, after the node was heard to accept the value under the ballot.
-/// A node is 0 to 9.
+/// The tally at a place, where it changes, after the node was heard to accept the value under the
+/// ballot. A node is 0 to 9.
 pub fn tallied(old: Option<Tally>, node: u8, ballot: Ballot, value: Value) -> Option<Tally>
     requires { node ≤ 9 }
     ensures { result ≡ tallied old node ballot value }

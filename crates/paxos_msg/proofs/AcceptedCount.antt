@@ -18,19 +18,28 @@ HasAccepted sent b s v i = IsSent sent i (Accepted b s v)
 abbrev pub IsAway : Sent → ℕ → Msg → Type 0
 IsAway sent n m = (k : ℕ) → k < n → ¬ (slice_index_or sent k m ≡ m)
 
-pub chosen_from_count : (size : ℕ) (sent : Sent) (b : Ballot) (s : ℕ) (v : Value) (count : ℕ) → IsCounted (HasAccepted sent b s v) size count → size < 2 * count → IsChosenBy size sent b s v
+pub chosen_from_count : (size : ℕ) (sent : Sent) (b : Ballot) (s : ℕ) (v : Value) (count : ℕ)
+    → IsCounted (HasAccepted sent b s v) size count → size < 2 * count → IsChosenBy size sent b s v
 chosen_from_count size sent b s v count counted more = (counted.members, rw counted.counted at more, counted.sound)
 
-pub count_from_chosen : (size : ℕ) (sent : Sent) (b : Ballot) (s : ℕ) (v : Value) (count : ℕ) → IsCounted (HasAccepted sent b s v) size count → IsChosenBy size sent b s v → size < 2 * count
+pub count_from_chosen : (size : ℕ) (sent : Sent) (b : Ballot) (s : ℕ) (v : Value) (count : ℕ)
+    → IsCounted (HasAccepted sent b s v) size count → IsChosenBy size sent b s v → size < 2 * count
 count_from_chosen size sent b s v count counted (members, majority, accepted) =
-    omega (arith, counted.counted, count_grows members counted.members size (λ i low high member. counted.complete i low high (accepted i member)))
+    omega (
+      arith,
+      counted.counted,
+      count_grows members counted.members size
+          (λ i low high member. counted.complete i low high (accepted i member)),
+    )
 
 -- no ballot that one of the messages below n accepts v under at s has chosen it
 abbrev pub IsUnchosen : ℕ → Sent → ℕ → ℕ → Value → Type 0
-IsUnchosen size sent n s v = (i : ℕ) (b : Ballot) → IsChosenBy size sent b s v → IsAway sent n (record { sender = i; body = Accepted b s v })
+IsUnchosen size sent n s v =
+    (i : ℕ) (b : Ballot) → IsChosenBy size sent b s v → IsAway sent n (record { sender = i; body = Accepted b s v })
 
 -- who has accepted is a majority exactly if the count of all nodes is more than half
-pub chosen_by_count : (size n : ℕ) (sent : Sent) (b : Ballot) (s : ℕ) (v : Value) (count : ℕ) → n ≡ size → IsCounted (HasAccepted sent b s v) n count → IsChosenBy size sent b s v ↔ (size < 2 * count)
+pub chosen_by_count : (size n : ℕ) (sent : Sent) (b : Ballot) (s : ℕ) (v : Value) (count : ℕ) → n ≡ size
+    → IsCounted (HasAccepted sent b s v) n count → IsChosenBy size sent b s v ↔ (size < 2 * count)
 chosen_by_count size n sent b s v count e counted =
     let all : IsCounted (HasAccepted sent b s v) size count = rw e at counted in
     (count_from_chosen size sent b s v count all, chosen_from_count size sent b s v count all)

@@ -7,7 +7,7 @@ use Rattle.paxos_msg.specs.Batches.{Change, Record, Sent, Vote}
 use Rattle.paxos_msg.specs.declared.record.Change.TheVariants.{Start, Promise, Ballotted}
 use Rattle.paxos_msg.specs.Ballots.{IsBelow, IsAtMost}
 use Rattle.paxos_msg.specs.declared.message.Body.TheVariants.{Accept}
-use Rattle.paxos_msg.specs.Messages.{IsSaid, vote_at}
+use Rattle.paxos_msg.specs.Messages.{IsSaid, kept_vote_at}
 use Rattle.paxos_msg.specs.Records.{changed, MaySave, IsSaved}
 use Rattle.paxos_msg.proofs.BallotOrder.{at_most_refl, at_most_trans, at_most_from_below}
 use Rattle.paxos_msg.proofs.WithVote.{vote_at-with_vote_same, vote_at-with_vote_other}
@@ -29,7 +29,7 @@ HasPromised b r = IsSomeAnd r.promised (λ p. IsAtMost b p)
 
 -- the vote at s is under b or a greater ballot
 abbrev pub HasVoted : Ballot → Record → ℕ → Type 0
-HasVoted b r s = IsSomeAnd (vote_at r.votes s) (λ vote. IsAtMost b vote.ballot)
+HasVoted b r s = IsSomeAnd (kept_vote_at r.votes s) (λ vote. IsAtMost b vote.ballot)
 
 -- a vote at s was proposed, under no greater ballot than the promised one
 pub record IsRight (sent : Sent) (r : Record) (s : ℕ) (vote : Vote) : Type 0 where
@@ -38,7 +38,8 @@ pub record IsRight (sent : Sent) (r : Record) (s : ℕ) (vote : Vote) : Type 0 w
 
 module _ (sent : Sent) (old : Record) where
   -- what holds of the promised ballot and of each greater one goes on to hold
-  pub promise_rises : (change : Change) (P : Ballot → Type 0) → ((p q : Ballot) → IsAtMost p q → P p → P q) → MaySave sent old change → IsSomeAnd old.promised P → IsSomeAnd (changed old change).promised P
+  pub promise_rises : (change : Change) (P : Ballot → Type 0) → ((p q : Ballot) → IsAtMost p q → P p → P q)
+      → MaySave sent old change → IsSomeAnd old.promised P → IsSomeAnd (changed old change).promised P
   promise_rises Start P up may h = h
   promise_rises (Promise c) P up may h =
       let (p, known, below) = both_known old.promised P (λ p. IsBelow p c) h may in
@@ -51,22 +52,30 @@ module _ (sent : Sent) (old : Record) where
   promise_kept change b may h = promise_rises change (λ p. IsAtMost b p) (λ p q pq bp. at_most_trans b p q bp pq) may h
 
   -- a vote that stays is right in the new record too
-  stays_right : (change : Change) (s : ℕ) → MaySave sent old change → vote_at (changed old change).votes s ≡ vote_at old.votes s → IfSome (vote_at old.votes s) (IsRight sent old s) → IfSome (vote_at (changed old change).votes s) (IsRight sent (changed old change) s)
+  stays_right : (change : Change) (s : ℕ) → MaySave sent old change
+      → kept_vote_at (changed old change).votes s ≡ kept_vote_at old.votes s
+      → IfSome (kept_vote_at old.votes s) (IsRight sent old s)
+      → IfSome (kept_vote_at (changed old change).votes s) (IsRight sent (changed old change) s)
   stays_right change s may same right =
-      rw same (IfSome_then (vote_at old.votes s) right (λ vote r. record { proposed = r.proposed; in_promise = promise_kept change vote.ballot may r.in_promise }))
+      rw same (IfSome_then (kept_vote_at old.votes s) right
+      (λ vote r. record { proposed = r.proposed; in_promise = promise_kept change vote.ballot may r.in_promise }))
 
-  pub votes_right : (change : Change) (s : ℕ) → MaySave sent old change → IfSome (vote_at old.votes s) (IsRight sent old s) → IfSome (vote_at (changed old change).votes s) (IsRight sent (changed old change) s)
+  pub votes_right : (change : Change) (s : ℕ) → MaySave sent old change
+      → IfSome (kept_vote_at old.votes s) (IsRight sent old s)
+      → IfSome (kept_vote_at (changed old change).votes s) (IsRight sent (changed old change) s)
   votes_right Start s may right = stays_right Start s may refl right
   votes_right (Promise c) s may right = stays_right (Promise c) s may refl right
   votes_right (Ballotted place c v) s may right =
       let vote : Vote = record { place = place; ballot = c; value = v } in
       let new : Record = changed old (Ballotted place c v) in
       elim (cases_eq s place) [
-        | inl e ↦ rw e (if_at (vote_at new.votes place) vote (IsRight sent new place) (vote_at-with_vote_same old.votes vote) (record { proposed = may.0; in_promise = at_most_refl c }))
+        | inl e ↦ rw e (if_at (kept_vote_at new.votes place) vote (IsRight sent new place)
+            (vote_at-with_vote_same old.votes vote) (record { proposed = may.0; in_promise = at_most_refl c }))
         | inr ne ↦ stays_right (Ballotted place c v) s may (vote_at-with_vote_other old.votes vote s ne) right
       ]
 
-  pub vote_kept : (change : Change) (b : Ballot) (s : ℕ) → MaySave sent old change → IfSome (vote_at old.votes s) (IsRight sent old s) → HasVoted b old s → HasVoted b (changed old change) s
+  pub vote_kept : (change : Change) (b : Ballot) (s : ℕ) → MaySave sent old change
+      → IfSome (kept_vote_at old.votes s) (IsRight sent old s) → HasVoted b old s → HasVoted b (changed old change) s
   vote_kept Start b s may right h = h
   vote_kept (Promise c) b s may right h = h
   vote_kept (Ballotted place c v) b s may right h =
@@ -74,14 +83,21 @@ module _ (sent : Sent) (old : Record) where
       let new : Record = changed old (Ballotted place c v) in
       elim (cases_eq s place) [
         | inl e ↦
-            let (before, at_before, right_before) = both_known (vote_at old.votes s) (λ vote. IsAtMost b vote.ballot) (IsRight sent old s) h right in
-            let (p, above, at_c) = both_known old.promised (λ p. IsAtMost before.ballot p) (λ p. IsAtMost p c) right_before.in_promise may.1 in
-            rw e (some_at (vote_at new.votes place) vote (λ vote. IsAtMost b vote.ballot) (vote_at-with_vote_same old.votes vote) (at_most_trans b before.ballot c at_before (at_most_trans before.ballot p c above at_c)))
+            let (before, at_before, right_before) =
+            both_known (kept_vote_at old.votes s) (λ vote. IsAtMost b vote.ballot) (IsRight sent old s) h right in
+            let (p, above, at_c) =
+            both_known old.promised (λ p. IsAtMost before.ballot p)
+            (λ p. IsAtMost p c) right_before.in_promise may.1 in
+            rw e (some_at (kept_vote_at new.votes place) vote (λ vote. IsAtMost b vote.ballot)
+            (vote_at-with_vote_same old.votes vote)
+            (at_most_trans b before.ballot c at_before (at_most_trans before.ballot p c above at_c)))
         | inr ne ↦ rw (vote_at-with_vote_other old.votes vote s ne) h
       ]
 
 -- A fact of each node's record holds after a save, if it holds of a record that is the same, and of one that changed.
-pub after_save : (sent : Sent) (records : ℕ → Record) (i : ℕ) (change : Change) (next : ℕ → Record) (j : ℕ) (Q : Record → Type 0) → MaySave sent (records i) change → IsSaved records i change next → (MaySave sent (records j) change → Q (changed (records j) change)) → Q (records j) → Q (next j)
+pub after_save : (sent : Sent) (records : ℕ → Record) (i : ℕ) (change : Change) (next : ℕ → Record) (j : ℕ)
+    (Q : Record → Type 0) → MaySave sent (records i) change → IsSaved records i change next
+    → (MaySave sent (records j) change → Q (changed (records j) change)) → Q (records j) → Q (next j)
 after_save sent records i change next j Q may saved then same =
     elim (cases_eq j i) [
       | inl e ↦ subst Q (sym (rw (sym e) at saved.own)) (then (rw (sym e) at may))

@@ -6,7 +6,7 @@ use Rattle.paxos_msg.proofs.Advances.{IsRight}
 use Rattle.paxos_msg.specs.Ballots.{IsBelow, IsAtMost}
 use Rattle.paxos_msg.specs.Batches.{Body, Grew, IsFree, Record, Sent}
 use Rattle.paxos_msg.specs.declared.message.Body.TheVariants.{Promise, Accept, Accepted}
-use Rattle.paxos_msg.specs.Messages.{IsSent, IsSaid, vote_at}
+use Rattle.paxos_msg.specs.Messages.{IsSent, IsSaid, kept_vote_at}
 use Rattle.paxos_msg.specs.Records.{empty_record}
 use Rattle.paxos_msg.specs.Chosen.{IsChosen, IsChosenBy}
 use Rattle.paxos_msg.specs.Growth.{nothing, sends, saves}
@@ -31,7 +31,9 @@ nothing_holds size records empty = record {
   one_value = λ b s v w h k. absurd (none_said (Accept b s v) h);
   submitted = λ b s v h. absurd (none_said (Accept b s v) h);
   kept = λ i b s v h. absurd (none_sent i (Accepted b s v) h);
-  right = λ i s. if_none (vote_at (records i).votes s) (IsRight [] (records i) s) (ap (λ (r : Record). vote_at r.votes s) (empty i));
+  right =
+      λ i s. if_none (kept_vote_at (records i).votes s) (IsRight [] (records i) s)
+      (ap (λ (r : Record). kept_vote_at r.votes s) (empty i));
   held = λ i b s reported h. absurd (none_sent i (Promise b h.first h.upto h.votes) h.is_sent);
   reports = λ i b s reported h. absurd (none_sent i (Promise b h.first h.upto h.votes) h.is_sent);
   decided = λ c s w h b below. absurd (none_said (Accept c s w) h);
@@ -39,22 +41,27 @@ nothing_holds size records empty = record {
 
 pub invariant_of : {size : ℕ} {sent : Sent} {records : ℕ → Record} → Grew size sent records → Invariant size sent records
 invariant_of {size} (nothing records empty) = nothing_holds size records empty
-invariant_of {size} (sends sent records typed learned i body grew may) = sends_keep size typed learned sent records (record { sender = i; body = body }) may (invariant_of grew)
-invariant_of {size} (saves sent records next i change grew may saved) = saves_keep size sent records next i change may saved (invariant_of grew)
+invariant_of {size} (sends sent records typed learned i body grew may) =
+    sends_keep size typed learned sent records (record { sender = i; body = body }) may (invariant_of grew)
+invariant_of {size} (saves sent records next i change grew may saved) =
+    saves_keep size sent records next i change may saved (invariant_of grew)
 
 -- what is chosen was proposed
-chosen_proposed : (size : ℕ) (sent : Sent) (records : ℕ → Record) (b : Ballot) (s : ℕ) (v : Value) → Invariant size sent records → IsChosenBy size sent b s v → IsSaid sent (Accept b s v)
+chosen_proposed : (size : ℕ) (sent : Sent) (records : ℕ → Record) (b : Ballot) (s : ℕ) (v : Value)
+    → Invariant size sent records → IsChosenBy size sent b s v → IsSaid sent (Accept b s v)
 chosen_proposed size sent records b s v inv (members, majority, accepted) =
     let (i, low, high, here, there) = majorities_meet size members members majority majority in
     inv.accepted i b s v (accepted i here)
 
-later_same : (size : ℕ) (sent : Sent) (records : ℕ → Record) (b c : Ballot) (s : ℕ) (v w : Value) → Invariant size sent records → IsChosenBy size sent b s v → IsSaid sent (Accept c s w) → IsBelow b c → w ≡ v
+later_same : (size : ℕ) (sent : Sent) (records : ℕ → Record) (b c : Ballot) (s : ℕ) (v w : Value)
+    → Invariant size sent records → IsChosenBy size sent b s v → IsSaid sent (Accept c s w) → IsBelow b c → w ≡ v
 later_same size sent records b c s v w inv (members, majority, accepted) said below =
     let d = inv.decided c s w said b below in
     let (i, low, high, here, there) = majorities_meet size members d.members majority d.majority in
     sym ((d.past i there).only v (accepted i here))
 
-pub kept : (size s : ℕ) (sent : Sent) (records : ℕ → Record) (b c : Ballot) (v w : Value) → Grew size sent records → IsChosenBy size sent b s v → IsSaid sent (Accept c s w) → IsAtMost b c → w ≡ v
+pub kept : (size s : ℕ) (sent : Sent) (records : ℕ → Record) (b c : Ballot) (v w : Value) → Grew size sent records
+    → IsChosenBy size sent b s v → IsSaid sent (Accept c s w) → IsAtMost b c → w ≡ v
 kept size s sent records b c v w grew chosen said at_most =
     let inv = invariant_of grew in
     elim (at_most_cases b c at_most) [
@@ -62,15 +69,18 @@ kept size s sent records b c v w grew chosen said at_most =
       | inr e ↦ inv.one_value c s w v said (rw e at (chosen_proposed size sent records b s v inv chosen))
     ]
 
-pub one_value : (size s : ℕ) (sent : Sent) (records : ℕ → Record) (v w : Value) → Grew size sent records → IsChosen size sent s v → IsChosen size sent s w → v ≡ w
+pub one_value : (size s : ℕ) (sent : Sent) (records : ℕ → Record) (v w : Value) → Grew size sent records
+    → IsChosen size sent s v → IsChosen size sent s w → v ≡ w
 one_value size s sent records v w grew (b, by_b) (c, by_c) =
     let inv = invariant_of grew in
     elim (order_cases b c) [
-      | inl below ↦ sym (kept size s sent records b c v w grew by_b (chosen_proposed size sent records c s w inv by_c) (at_most_from_below b c below))
+      | inl below ↦ sym (kept size s sent records b c v w grew by_b (chosen_proposed size sent records c s w inv by_c)
+          (at_most_from_below b c below))
       | inr at_most ↦ kept size s sent records c b w v grew by_c (chosen_proposed size sent records b s v inv by_b) at_most
     ]
 
-pub submitted : (size s : ℕ) (sent : Sent) (records : ℕ → Record) (v : Value) → Grew size sent records → IsChosen size sent s v → IsFree sent v
+pub submitted : (size s : ℕ) (sent : Sent) (records : ℕ → Record) (v : Value) → Grew size sent records
+    → IsChosen size sent s v → IsFree sent v
 submitted size s sent records v grew (b, by_b) =
     let inv = invariant_of grew in
     inv.submitted b s v (chosen_proposed size sent records b s v inv by_b)

@@ -8,10 +8,12 @@ use Rattle.paxos_msg.specs.Spelling.{Msgs}
 use Rattle.paxos_msg.specs.Grammar.{AreBytes, IsGroup}
 use Rattle.paxos_msg.proofs.MessagesRead.{message_found, message_again}
 
-pub found : {X : Type 0} (view : X → Msg) (r : Result X WireFault) (group : Group) (bytes : List ℕ) → AreBytes bytes → Gives view r (message_at group bytes) → IfOk r (λ x. Msgs group bytes (view x))
+pub found : {X : Type 0} (view : X → Msg) (r : Result X WireFault) (group : Group) (bytes : List ℕ) → AreBytes bytes
+    → Gives view r (message_at group bytes) → IfOk r (λ x. Msgs group bytes (view x))
 found view (Ok x) group bytes h e = message_found group bytes (view x) h e
 found view (Err f) group bytes h e = search rules
 
-pub only : {X : Type 0} (view : X → Msg) (r : Result X WireFault) (group : Group) (bytes : List ℕ) (m : Msg) → IsGroup group → Gives view r (message_at group bytes) → Msgs group bytes m → Gives view r (Ok m)
+pub only : {X : Type 0} (view : X → Msg) (r : Result X WireFault) (group : Group) (bytes : List ℕ) (m : Msg)
+    → IsGroup group → Gives view r (message_at group bytes) → Msgs group bytes m → Gives view r (Ok m)
 only view (Ok x) group bytes m g e k = sym (message_again group bytes m g k) ∙ e
 only view (Err f) group bytes m g e k = sym (message_again group bytes m g k) ∙ e

@@ -8,7 +8,7 @@ use Rattle.std.proofs.lemmas.List.Sorted.{IsNonDecreasingBy-from_default}
 use Rattle.std.proofs.lemmas.Bool.{cases_lt, eq-eqb, ne_eqb}
 use Rattle.std.proofs.lemmas.Bool.Decides.{nat_tests}
 use Rattle.paxos_msg.specs.Batches.{Vote}
-use Rattle.paxos_msg.specs.Messages.{AreAbove, IsAscending, vote_at}
+use Rattle.paxos_msg.specs.Messages.{AreAbove, IsAscending, kept_vote_at}
 use Rattle.paxos_msg.specs.Places.{IsGapIn, IsPlaceIn}
 use Rattle.paxos_msg.specs.Records.{with_vote}
 
@@ -19,7 +19,8 @@ above_at (x ∷ xs) s zero d h k = h.0
 above_at (x ∷ xs) s (suc i) d h k = above_at xs s i d h.1 (omega arith)
 
 -- the places rise with the index
-pub places_rise : (votes : List Vote) (i j : ℕ) (d : Vote) → IsAscending votes → i < j → j < length votes → (get_or votes i d).place < (get_or votes j d).place
+pub places_rise : (votes : List Vote) (i j : ℕ) (d : Vote) → IsAscending votes → i < j → j < length votes
+    → (get_or votes i d).place < (get_or votes j d).place
 places_rise [] i j d h lt k = absurd (omega arith)
 places_rise (x ∷ xs) zero zero d h lt k = absurd (omega arith)
 places_rise (x ∷ xs) zero (suc j) d h lt k = above_at xs x.place j d h.0 (omega arith)
@@ -32,7 +33,7 @@ above_less [] s t h k = tt
 above_less (x ∷ xs) s t h k = (omega (arith, k.0), above_less xs s t h k.1)
 
 -- no vote above a place is at it
-none_above : (votes : List Vote) (s : ℕ) → AreAbove s votes → vote_at votes s ≡ None
+none_above : (votes : List Vote) (s : ℕ) → AreAbove s votes → kept_vote_at votes s ≡ None
 none_above [] s h = refl
 none_above (x ∷ xs) s h = rw (ne_eqb x.place s (λ e. omega (arith, h.0))) (none_above xs s h.1)
 
@@ -51,13 +52,17 @@ ascending_with (x ∷ xs) vote h =
     ]
 
 -- the comparisons with a place rise along the votes, as a binary search asks
-comparisons_rise : (votes : List Vote) (s : ℕ) (d : Vote) → IsAscending votes → IsNonDecreasingBy (λ vote. ordering_index (nat_cmp vote.place s)) votes
+comparisons_rise : (votes : List Vote) (s : ℕ) (d : Vote) → IsAscending votes
+    → IsNonDecreasingBy (λ vote. ordering_index (nat_cmp vote.place s)) votes
 comparisons_rise votes s d h = IsNonDecreasingBy-from_default (λ vote. ordering_index (nat_cmp vote.place s)) votes d (λ i j le in_range.
-    let rise : (get_or votes i d).place ≤ (get_or votes j d).place = grind (arith, places_rise votes i j d h, λ (same : i ≡ j). ap (λ (k : ℕ). (get_or votes k d).place) same) in
+    let rise : (get_or votes i d).place ≤ (get_or votes j d).place =
+    grind (arith, places_rise votes i j d h, λ (same : i ≡ j). ap (λ (k : ℕ). (get_or votes k d).place) same) in
     grind (arith, nat_tests))
 
 -- a binary search by place ends at the place, or at the gap for it
-pub searched : (votes : List Vote) (s : ℕ) (d : Vote) → IsAscending votes → (r : Result ℕ ℕ) → IsSearchInRange r (length votes) → IsBinarySearchResult (λ vote. nat_cmp vote.place s) votes r → record { found : IfOk r (IsPlaceIn votes s); absent : IfErr r (IsGapIn votes s) }
+pub searched : (votes : List Vote) (s : ℕ) (d : Vote) → IsAscending votes → (r : Result ℕ ℕ)
+    → IsSearchInRange r (length votes) → IsBinarySearchResult (λ vote. nat_cmp vote.place s) votes r
+    → record { found : IfOk r (IsPlaceIn votes s); absent : IfErr r (IsGapIn votes s) }
 searched votes s d h (Ok at) in_range equal = record {
   found = record {
     in_range = in_range;
@@ -77,7 +82,8 @@ searched votes s d h (Err at) in_range parted = record {
 
 -- one index further in a list is the same index in its rest
 place_behind : (x : Vote) (xs : List Vote) (s i : ℕ) → IsPlaceIn (x ∷ xs) s (suc i) → IsPlaceIn xs s i
-place_behind x xs s i h = record { in_range = omega (arith, h.in_range); same = h.same; before = λ j d lt. h.before (suc j) d (omega arith) }
+place_behind x xs s i h =
+    record { in_range = omega (arith, h.in_range); same = h.same; before = λ j d lt. h.before (suc j) d (omega arith) }
 
 gap_behind : (x : Vote) (xs : List Vote) (s i : ℕ) → IsGapIn (x ∷ xs) s (suc i) → IsGapIn xs s i
 gap_behind x xs s i h = record {
@@ -87,16 +93,26 @@ gap_behind x xs s i h = record {
 }
 
 -- the vote where the place stands is the one at the place
-pub vote_there : (votes : List Vote) (s i : ℕ) (d : Vote) → IsPlaceIn votes s i → vote_at votes s ≡ Some (get_or votes i d)
+pub vote_there : (votes : List Vote) (s i : ℕ) (d : Vote) → IsPlaceIn votes s i → kept_vote_at votes s ≡ Some (get_or votes i d)
 vote_there [] s i d h = absurd (omega (arith, h.in_range))
 vote_there (x ∷ xs) s zero d h = rw (eq-eqb x.place s (h.same d)) refl
-vote_there (x ∷ xs) s (suc i) d h = rw (ne_eqb x.place s (λ e. omega (arith, h.before 0 d (omega arith)))) (vote_there xs s i d (place_behind x xs s i h))
+vote_there (x ∷ xs) s (suc i) d h =
+    rw (ne_eqb x.place s (λ e. omega (arith, h.before 0 d (omega arith))))
+    (vote_there xs s i d (place_behind x xs s i h))
 
 -- where the place would stand there is no vote at it
-pub none_there : (votes : List Vote) (s i : ℕ) → IsGapIn votes s i → vote_at votes s ≡ None
+pub none_there : (votes : List Vote) (s i : ℕ) → IsGapIn votes s i → kept_vote_at votes s ≡ None
 none_there [] s i h = refl
-none_there (x ∷ xs) s zero h = rw (ne_eqb x.place s (λ e. omega (arith, h.after 0 x (omega arith) (omega arith)))) (none_there xs s zero (record { in_range = omega arith; before = λ j d lt. absurd (omega arith); after = λ j d le lt. h.after (suc j) d (omega arith) (omega arith) }))
-none_there (x ∷ xs) s (suc i) h = rw (ne_eqb x.place s (λ e. omega (arith, h.before 0 x (omega arith)))) (none_there xs s i (gap_behind x xs s i h))
+none_there (x ∷ xs) s zero h =
+    rw (ne_eqb x.place s (λ e. omega (arith, h.after 0 x (omega arith) (omega arith))))
+    (none_there xs s zero
+    (record {
+      in_range = omega arith;
+      before = λ j d lt. absurd (omega arith);
+      after = λ j d le lt. h.after (suc j) d (omega arith) (omega arith);
+    }))
+none_there (x ∷ xs) s (suc i) h =
+    rw (ne_eqb x.place s (λ e. omega (arith, h.before 0 x (omega arith)))) (none_there xs s i (gap_behind x xs s i h))
 
 -- a vote is put over the one at its place
 pub put_over : (votes : List Vote) (i : ℕ) (vote : Vote) → IsPlaceIn votes vote.place i → set votes i vote ≡ with_vote votes vote

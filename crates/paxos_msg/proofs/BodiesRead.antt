@@ -7,7 +7,7 @@ use Rattle.paxos_msg.specs.declared.fault.WireFault.{WireFault}
 use Rattle.paxos_msg.specs.declared.fault.WireFault.TheVariants as fault
 use Rattle.paxos_msg.specs.Fits.{IsBody}
 use Rattle.paxos_msg.specs.Spelling.{number_bytes, ballot_bytes, value_bytes, votes_bytes, kind_of, body_bytes}
-use Rattle.paxos_msg.specs.Reading.{byte_at, ballot_at, own_ballot_at, place_at, value_at, own_keys_at, votes_at, prepare_at, promise_at, accept_at, accepted_at, refused_at, submit_at, ask_at, tell_at, body_at}
+use Rattle.paxos_msg.specs.Reading.{first_byte, ballot_at, own_ballot_at, place_at, value_at, own_keys_at, votes_at, prepare_at, promise_at, accept_at, accepted_at, refused_at, submit_at, ask_at, tell_at, body_at}
 use Rattle.paxos_msg.specs.Tests.{ballot_lt}
 use Rattle.paxos_msg.specs.Grammar.{AreBytes}
 use Rattle.base.proofs.Steps.{bind_ok, unless_ok, ok_is}
@@ -23,7 +23,8 @@ pub record IsRead (size sender kind : ℕ) (bytes : List ℕ) (p : Body × List 
   pub fits : IsBody size sender p.0
   pub kind_is : kind_of p.0 ≡ kind
 
-prepare_found : (size sender : ℕ) (bytes : List ℕ) (p : Body × List ℕ) → AreBytes bytes → prepare_at size sender bytes ≡ Ok p → IsRead size sender 1 bytes p
+prepare_found : (size sender : ℕ) (bytes : List ℕ) (p : Body × List ℕ) → AreBytes bytes
+    → prepare_at size sender bytes ≡ Ok p → IsRead size sender 1 bytes p
 unfolding prepare_at
 prepare_found size sender bytes p h e =
     let a = bind_ok (own_ballot_at size sender bytes) _ p e in
@@ -34,14 +35,15 @@ prepare_found size sender bytes p h e =
     subst (λ (q : Body × List ℕ). IsRead size sender 1 bytes q) (ok_is (Prepare a.0.0 b.0.0, b.0.1) p b.2)
     (record { takes = two; fits = (ballot.1, ballot.2, from.1); kind_is = refl })
 
-promise_found : (size sender : ℕ) (bytes : List ℕ) (p : Body × List ℕ) → AreBytes bytes → promise_at size bytes ≡ Ok p → IsRead size sender 2 bytes p
+promise_found : (size sender : ℕ) (bytes : List ℕ) (p : Body × List ℕ) → AreBytes bytes → promise_at size bytes ≡ Ok p
+    → IsRead size sender 2 bytes p
 unfolding promise_at
 promise_found size sender bytes p h e =
     let a = bind_ok (ballot_at size bytes) _ p e in
     let b = bind_ok (place_at 65535 a.0.1) _ p a.2 in
     let c = bind_ok (place_at 65536 b.0.1) _ p b.2 in
     let d = unless_ok fault.Place (leb c.0.0 b.0.0) c.0 _ p c.2 in
-    let f = bind_ok (byte_at c.0.1) _ p d.1 in
+    let f = bind_ok (first_byte c.0.1) _ p d.1 in
     let g = unless_ok fault.Count (ltb 8 f.0.0) f.0 _ p f.2 in
     let k = bind_ok (votes_at size a.0.0 b.0.0 c.0.0 0 f.0.0 f.0.1) _ p g.1 in
     let ballot = ballot_found size bytes a.0 h a.1 in
@@ -52,13 +54,19 @@ promise_found size sender bytes p h e =
     let two = takes_then bytes (ballot_bytes a.0.0) a.0.1 (number_bytes b.0.0) b.0.1 ballot.0 first.0 in
     let three = takes_then bytes (ballot_bytes a.0.0 ++ number_bytes b.0.0) b.0.1 (number_bytes c.0.0) c.0.1 two upto.0 in
     let four = takes_then bytes (ballot_bytes a.0.0 ++ number_bytes b.0.0 ++ number_bytes c.0.0) c.0.1 (f.0.0 ∷ []) f.0.1 three count.0 in
-    let five = takes_then bytes (ballot_bytes a.0.0 ++ number_bytes b.0.0 ++ number_bytes c.0.0 ++ f.0.0 ∷ []) f.0.1 (votes_bytes k.0.0) k.0.1 four votes.0 in
-    let six = subst (λ (n : ℕ). Takes bytes (ballot_bytes a.0.0 ++ number_bytes b.0.0 ++ number_bytes c.0.0 ++ n ∷ votes_bytes k.0.0) k.0.1) (sym votes.2) five in
+    let five =
+    takes_then bytes (ballot_bytes a.0.0 ++ number_bytes b.0.0 ++ number_bytes c.0.0 ++ f.0.0 ∷ []) f.0.1
+    (votes_bytes k.0.0) k.0.1 four votes.0 in
+    let six =
+    subst (λ (n : ℕ). Takes bytes
+    (ballot_bytes a.0.0 ++ number_bytes b.0.0 ++ number_bytes c.0.0 ++ n ∷ votes_bytes k.0.0) k.0.1)
+    (sym votes.2) five in
     let small : length k.0.0 ≤ 8 = rw (votes.2) (ltb-false 8 f.0.0 g.0) in
     subst (λ (q : Body × List ℕ). IsRead size sender 2 bytes q) (ok_is (Promise a.0.0 b.0.0 c.0.0 k.0.0, k.0.1) p k.2)
     (record { takes = six; fits = (ballot.1, first.1, upto.1, leb-false c.0.0 b.0.0 d.0, small, votes.1); kind_is = refl })
 
-accept_found : (size sender : ℕ) (bytes : List ℕ) (p : Body × List ℕ) → AreBytes bytes → accept_at size sender bytes ≡ Ok p → IsRead size sender 3 bytes p
+accept_found : (size sender : ℕ) (bytes : List ℕ) (p : Body × List ℕ) → AreBytes bytes
+    → accept_at size sender bytes ≡ Ok p → IsRead size sender 3 bytes p
 unfolding accept_at
 accept_found size sender bytes p h e =
     let a = bind_ok (own_ballot_at size sender bytes) _ p e in
@@ -72,7 +80,8 @@ accept_found size sender bytes p h e =
     subst (λ (q : Body × List ℕ). IsRead size sender 3 bytes q) (ok_is (Accept a.0.0 b.0.0 c.0.0, c.0.1) p c.2)
     (record { takes = three; fits = (ballot.1, ballot.2, place.1, value.1); kind_is = refl })
 
-accepted_found : (size sender : ℕ) (bytes : List ℕ) (p : Body × List ℕ) → AreBytes bytes → accepted_at size bytes ≡ Ok p → IsRead size sender 4 bytes p
+accepted_found : (size sender : ℕ) (bytes : List ℕ) (p : Body × List ℕ) → AreBytes bytes → accepted_at size bytes ≡ Ok p
+    → IsRead size sender 4 bytes p
 unfolding accepted_at
 accepted_found size sender bytes p h e =
     let a = bind_ok (ballot_at size bytes) _ p e in
@@ -87,7 +96,8 @@ accepted_found size sender bytes p h e =
     subst (λ (q : Body × List ℕ). IsRead size sender 4 bytes q) {x = made} (ok_is made p c.2)
     (record { takes = three; fits = (ballot.1, place.1, value.1); kind_is = refl })
 
-refused_found : (size sender : ℕ) (bytes : List ℕ) (p : Body × List ℕ) → AreBytes bytes → refused_at size bytes ≡ Ok p → IsRead size sender 5 bytes p
+refused_found : (size sender : ℕ) (bytes : List ℕ) (p : Body × List ℕ) → AreBytes bytes → refused_at size bytes ≡ Ok p
+    → IsRead size sender 5 bytes p
 unfolding refused_at
 refused_found size sender bytes p h e =
     let a = bind_ok (ballot_at size bytes) _ p e in
@@ -99,7 +109,8 @@ refused_found size sender bytes p h e =
     subst (λ (q : Body × List ℕ). IsRead size sender 5 bytes q) (ok_is (Refused a.0.0 b.0.0, b.0.1) p c.1)
     (record { takes = two; fits = (ballot.1, promised.1, true_below a.0.0 b.0.0 (not-false _ c.0)); kind_is = refl })
 
-submit_found : (size sender : ℕ) (bytes : List ℕ) (p : Body × List ℕ) → AreBytes bytes → submit_at size sender bytes ≡ Ok p → IsRead size sender 6 bytes p
+submit_found : (size sender : ℕ) (bytes : List ℕ) (p : Body × List ℕ) → AreBytes bytes
+    → submit_at size sender bytes ≡ Ok p → IsRead size sender 6 bytes p
 unfolding submit_at
 submit_found size sender bytes p h e =
     let a = bind_ok (own_keys_at size sender bytes) _ p e in
@@ -115,7 +126,8 @@ ask_found size sender bytes p h e =
     subst (λ (q : Body × List ℕ). IsRead size sender 7 bytes q) (ok_is (Ask a.0.0, a.0.1) p a.2)
     (record { takes = from.0; fits = from.1; kind_is = refl })
 
-tell_found : (size sender : ℕ) (bytes : List ℕ) (p : Body × List ℕ) → AreBytes bytes → tell_at size bytes ≡ Ok p → IsRead size sender 8 bytes p
+tell_found : (size sender : ℕ) (bytes : List ℕ) (p : Body × List ℕ) → AreBytes bytes → tell_at size bytes ≡ Ok p
+    → IsRead size sender 8 bytes p
 unfolding tell_at
 tell_found size sender bytes p h e =
     let a = bind_ok (place_at 65535 bytes) _ p e in
@@ -127,12 +139,14 @@ tell_found size sender bytes p h e =
     (record { takes = two; fits = (place.1, value.1); kind_is = refl })
 
 -- the kind from a test, or a later one
-kind_by : (size sender kind n : ℕ) (bytes : List ℕ) (p : Body × List ℕ) (r s : Result (Body × List ℕ) WireFault) (b : Bool) → eqb kind n ≡ b → cond b r s ≡ Ok p
+kind_by : (size sender kind n : ℕ) (bytes : List ℕ) (p : Body × List ℕ) (r s : Result (Body × List ℕ) WireFault)
+    (b : Bool) → eqb kind n ≡ b → cond b r s ≡ Ok p
     → ((kind ≡ n) × (r ≡ Ok p)) ⊎ ((kind ≡ n → ⊥) × (s ≡ Ok p))
 kind_by size sender kind n bytes p r s true t h = inl (eqb-true kind n t, h)
 kind_by size sender kind n bytes p r s false t h = inr (eqb-false kind n t, h)
 
-pub body_found : (size sender kind : ℕ) (bytes : List ℕ) (p : Body × List ℕ) → 0 < kind → kind ≤ 8 → AreBytes bytes → body_at size kind sender bytes ≡ Ok p → IsRead size sender kind bytes p
+pub body_found : (size sender kind : ℕ) (bytes : List ℕ) (p : Body × List ℕ) → 0 < kind → kind ≤ 8 → AreBytes bytes
+    → body_at size kind sender bytes ≡ Ok p → IsRead size sender kind bytes p
 unfolding body_at
 body_found size sender kind bytes p above below h e =
     let P : ℕ → Type 0 = λ k. IsRead size sender k bytes p in
@@ -151,7 +165,8 @@ body_found size sender kind bytes p above below h e =
                 | inr a6 ↦ elim (kind_by size sender kind 7 bytes p _ _ (eqb kind 7) refl a6.1) [
                   | inl a ↦ subst P (sym a.0) (ask_found size sender bytes p h a.1)
                   | inr a7 ↦ (
-                      let others : (kind ≡ 1 → ⊥) × (kind ≡ 2 → ⊥) × (kind ≡ 3 → ⊥) × (kind ≡ 4 → ⊥) × (kind ≡ 5 → ⊥) × (kind ≡ 6 → ⊥) × (kind ≡ 7 → ⊥) = (a1.0, a2.0, a3.0, a4.0, a5.0, a6.0, a7.0) in
+                      let others : (kind ≡ 1 → ⊥) × (kind ≡ 2 → ⊥) × (kind ≡ 3 → ⊥) × (kind ≡ 4 → ⊥) × (kind ≡ 5 → ⊥)
+                      × (kind ≡ 6 → ⊥) × (kind ≡ 7 → ⊥) = (a1.0, a2.0, a3.0, a4.0, a5.0, a6.0, a7.0) in
                       let last : 8 ≡ kind = omega arith in
                       subst P last (tell_found size sender bytes p h a7.1))
                 ]
@@ -164,18 +179,41 @@ body_found size sender kind bytes p above below h e =
 
 -- ---- what is written is read
 
-pub body_again : (size sender : ℕ) (body : Body) (rest : List ℕ) → IsBody size sender body → body_at size (kind_of body) sender (body_bytes body ++ rest) ≡ Ok (body, rest)
+pub body_again : (size sender : ℕ) (body : Body) (rest : List ℕ) → IsBody size sender body
+    → body_at size (kind_of body) sender (body_bytes body ++ rest) ≡ Ok (body, rest)
 unfolding body_at prepare_at promise_at accept_at accepted_at refused_at submit_at ask_at tell_at
 body_again size sender (Prepare b from) rest h =
     rw (own_again size sender b (number_bytes from ++ rest) h.0 h.1, place_again 65535 from rest (omega arith) h.2) refl
 body_again size sender (Promise b first upto votes) rest h =
     let low : leb upto first ≡ false = lt-leb upto first h.3 in
     let few : ltb 8 (length votes) ≡ false = le-ltb 8 (length votes) h.4 in
-    rw (ballot_again size b (number_bytes first ++ (number_bytes upto ++ length votes ∷ (votes_bytes votes ++ rest))) h.0, place_again 65535 first (number_bytes upto ++ length votes ∷ (votes_bytes votes ++ rest)) (omega arith) h.1, place_again 65536 upto (length votes ∷ (votes_bytes votes ++ rest)) (omega arith) h.2, low, few, votes_again size b first upto 0 first votes rest h.2 (omega arith) (omega arith) h.5) refl
+    rw (
+      ballot_again size b
+          (number_bytes first ++ (number_bytes upto ++ length votes ∷ (votes_bytes votes ++ rest))) h.0,
+      place_again 65535
+          first (number_bytes upto ++ length votes ∷ (votes_bytes votes ++ rest))
+          (omega arith) h.1,
+      place_again 65536 upto (length votes ∷ (votes_bytes votes ++ rest))
+          (omega arith) h.2,
+      low,
+      few,
+      votes_again size b first upto 0 first votes rest h.2 (omega arith)
+          (omega arith) h.5,
+    ) refl
 body_again size sender (Accept b s v) rest h =
-    rw (own_again size sender b (number_bytes s ++ (value_bytes v ++ rest)) h.0 h.1, place_again 65535 s (value_bytes v ++ rest) (omega arith) h.2, value_again size v rest h.3) refl
+    rw (
+      own_again size sender b (number_bytes s ++ (value_bytes v ++ rest)) h.0 h.1,
+      place_again 65535 s
+          (value_bytes v ++ rest) (omega arith) h.2,
+      value_again size v rest h.3,
+    ) refl
 body_again size sender (Accepted b s v) rest h =
-    rw (ballot_again size b (number_bytes s ++ (value_bytes v ++ rest)) h.0, place_again 65535 s (value_bytes v ++ rest) (omega arith) h.1, value_again size v rest h.2) refl
+    rw (
+      ballot_again size b (number_bytes s ++ (value_bytes v ++ rest)) h.0,
+      place_again 65535 s (value_bytes v ++ rest)
+          (omega arith) h.1,
+      value_again size v rest h.2,
+    ) refl
 body_again size sender (Refused b promised) rest h =
     rw (ballot_again size b (ballot_bytes promised ++ rest) h.0, ballot_again size promised rest h.1, below_true b promised h.2) refl
 body_again size sender (Submit v) rest h = rw (own_keys_again size sender v rest h.0 h.1) refl

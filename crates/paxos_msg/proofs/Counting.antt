@@ -24,7 +24,9 @@ one_step false false a b f h = omega arith
 -- a set of more nodes counts no fewer
 pub count_grows : (p q : ℕ → Bool) (n : ℕ) → ((i : ℕ) → 0 < i → i ≤ n → IsTrue (p i) → IsTrue (q i)) → count_of p n ≤ count_of q n
 count_grows p q zero all = omega arith
-count_grows p q (suc n) all = one_step (p (suc n)) (q (suc n)) (count_of p n) (count_of q n) (all (suc n) (omega arith) (omega arith)) (count_grows p q n (λ i low high. all i low (omega arith)))
+count_grows p q (suc n) all =
+    one_step (p (suc n)) (q (suc n)) (count_of p n) (count_of q n) (all (suc n) (omega arith) (omega arith))
+    (count_grows p q n (λ i low high. all i low (omega arith)))
 
 -- So many of the nodes 1 to n have P: the members have it, and all of 1 to n that have it are members.
 pub record IsCounted (P : ℕ → Type 0) (n count : ℕ) : Type 0 where
@@ -34,7 +36,13 @@ pub record IsCounted (P : ℕ → Type 0) (n count : ℕ) : Type 0 where
   pub complete : (i : ℕ) → 0 < i → i ≤ n → P i → IsTrue (members i)
 
 pub none_counted : (P : ℕ → Type 0) → IsCounted P 0 0
-none_counted P = record { members = λ i. false; counted = refl; sound = λ i h. absurd (not_true h); complete = λ i low high. absurd (omega arith) }
+none_counted P =
+    record {
+      members = λ i. false;
+      counted = refl;
+      sound = λ i h. absurd (not_true h);
+      complete = λ i low high. absurd (omega arith);
+    }
 
 module _ (P : ℕ → Type 0) (n count : ℕ) (before : IsCounted P n count) where
   -- the members, where the test tells of the next node
@@ -49,7 +57,8 @@ module _ (P : ℕ → Type 0) (n count : ℕ) (before : IsCounted P n count) whe
 
   counted_next : (x : Bool) → count_of (with_next x) (suc n) ≡ (if x then 1 else 0) + count
   counted_next x =
-      let rest : count_of (with_next x) n ≡ count = same_count (with_next x) before.members n (λ i h. at_other x i (omega arith)) ∙ sym before.counted in
+      let rest : count_of (with_next x) n ≡ count =
+      same_count (with_next x) before.members n (λ i h. at_other x i (omega arith)) ∙ sym before.counted in
       rw (at_next x, rest)
 
   next_sound : (x : Bool) → (IsTrue x → P (suc n)) → (i : ℕ) → IsTrue (with_next x i) → P i

@@ -56,7 +56,8 @@ value_true (Keys node start first bytes) (Keys n s f b) e =
 
 itself : (v : Value) → same_value v v ≡ true
 itself Noop = refl
-itself (Keys node start first bytes) = rw (eq-eqb node node refl, eq-eqb start start refl, eq-eqb first first refl, nat_list_eq_equiv.refl bytes) refl
+itself (Keys node start first bytes) =
+    rw (eq-eqb node node refl, eq-eqb start start refl, eq-eqb first first refl, nat_list_eq_equiv.refl bytes) refl
 
 true_value : (v w : Value) → v ≡ w → same_value v w ≡ true
 true_value v w e = rw e (itself w)

@@ -31,7 +31,9 @@ may_still_save sent more r (Ballotted s b v) (said, open_to) = (stays_said sent 
 
 -- ---- a call
 
-pub calls : (size i : ℕ) (typed : List Key) (learned : ℕ → Option Value) (sent : Sent) (records : ℕ → Record) (bodies : List Body) → Grew size sent records → MaySendAll size typed learned sent i (records i) bodies → Grew size (sent ++ messages_of i bodies) records
+pub calls : (size i : ℕ) (typed : List Key) (learned : ℕ → Option Value) (sent : Sent) (records : ℕ → Record)
+    (bodies : List Body) → Grew size sent records → MaySendAll size typed learned sent i (records i) bodies
+    → Grew size (sent ++ messages_of i bodies) records
 calls size i typed learned sent records [] grew may = rw (append-nil sent) grew
 calls size i typed learned sent records (body ∷ more) grew (may, rest) =
     let m : Msg = record { sender = i; body = body } in
@@ -44,7 +46,9 @@ calls size i typed learned sent records (body ∷ more) grew (may, rest) =
 same_records : (records next : ℕ → Record) → ((j : ℕ) → next j ≡ records j) → records ≡ next
 same_records records next same = λ k j. sym (same j) k
 
-pub restarts : (size i : ℕ) (sent : Sent) (records next : ℕ → Record) (failed : List Change) → Grew size sent records → ((change : Change) → Contains failed change → MaySave sent (records i) change) → Stored (records i) failed (next i) → ((j : ℕ) → j ≢ i → next j ≡ records j) → Grew size sent next
+pub restarts : (size i : ℕ) (sent : Sent) (records next : ℕ → Record) (failed : List Change) → Grew size sent records
+    → ((change : Change) → Contains failed change → MaySave sent (records i) change)
+    → Stored (records i) failed (next i) → ((j : ℕ) → j ≢ i → next j ≡ records j) → Grew size sent next
 restarts size i sent records next failed grew may (inl same) others =
     let each : (j : ℕ) → next j ≡ records j = λ j. elim (cases_eq j i) [ inl e ↦ rw e same | inr ne ↦ others j ne ] in
     subst (λ (r : ℕ → Record). Grew size sent r) (same_records records next each) grew
@@ -54,35 +58,60 @@ restarts size i sent records next failed grew may (inr (change, tried, e)) other
 -- ---- rules that still hold
 
 -- what may be sent, and is no new proposal, may still be sent when more was sent, typed and learned
-pub may_still_send : (size i : ℕ) (typed newer : List Key) (learned now : ℕ → Option Value) (sent more : Sent) (r : Record) (body : Body) → KnowsMore typed newer learned now → IsNoNewProposal sent i body → MaySend size typed learned sent i r body → MaySend size newer now (sent ++ more) i r body
+pub may_still_send : (size i : ℕ) (typed newer : List Key) (learned now : ℕ → Option Value) (sent more : Sent)
+    (r : Record) (body : Body) → KnowsMore typed newer learned now → IsNoNewProposal sent i body
+    → MaySend size typed learned sent i r body → MaySend size newer now (sent ++ more) i r body
 may_still_send size i typed newer learned now sent more r (Prepare b from) knows old may = may
 may_still_send size i typed newer learned now sent more r (message.Promise b first upto votes) knows old may = may
-may_still_send size i typed newer learned now sent more r (Accept b s v) knows old (own, rule) = (own, inl (Contains-append_left sent more (record { sender = i; body = Accept b s v }) old))
-may_still_send size i typed newer learned now sent more r (Accepted b s v) knows old (said, vote, promised) = (stays_said sent more (Accept b s v) said, vote, promised)
+may_still_send size i typed newer learned now sent more r (Accept b s v) knows old (own, rule) =
+    (own, inl (Contains-append_left sent more (record { sender = i; body = Accept b s v }) old))
+may_still_send size i typed newer learned now sent more r (Accepted b s v) knows old (said, vote, promised) =
+    (stays_said sent more (Accept b s v) said, vote, promised)
 may_still_send size i typed newer learned now sent more r (Refused b promised) knows old may = may
-may_still_send size i typed newer learned now sent more r (Submit v) knows old may = record { own = may.own; known = λ key k. knows.keys key (may.known key k) }
+may_still_send size i typed newer learned now sent more r (Submit v) knows old may =
+    record { own = may.own; known = λ key k. knows.keys key (may.known key k) }
 may_still_send size i typed newer learned now sent more r (Ask from) knows old may = may
 may_still_send size i typed newer learned now sent more r (Tell s v) knows old may = knows.values s v may
 
 -- ---- a call in two halves
 
-both_halves : (size i : ℕ) (typed : List Key) (learned : ℕ → Option Value) (sent : Sent) (r : Record) (bodies more : List Body) → MaySendAll size typed learned sent i r bodies → MaySendAll size typed learned (sent ++ messages_of i bodies) i r more → MaySendAll size typed learned sent i r (bodies ++ more)
+both_halves : (size i : ℕ) (typed : List Key) (learned : ℕ → Option Value) (sent : Sent) (r : Record)
+    (bodies more : List Body) → MaySendAll size typed learned sent i r bodies
+    → MaySendAll size typed learned (sent ++ messages_of i bodies) i r more
+    → MaySendAll size typed learned sent i r (bodies ++ more)
 both_halves size i typed learned sent r [] more first then = rw (append-nil sent) at then
 both_halves size i typed learned sent r (body ∷ bodies) more (may, rest) then =
-    let m : Msg = record { sender = i; body = body } in
-    (may, both_halves size i typed learned (sent ++ m ∷ []) r bodies more rest (rw (← append_assoc sent (m ∷ []) (messages_of i bodies)) at then))
+    let m : Msg = record { sender = i; body = body } in (
+      may,
+      both_halves size i typed learned (sent ++ m ∷ []) r bodies more rest
+          (rw (← append_assoc sent (m ∷ []) (messages_of i bodies)) at then),
+    )
 
-first_half : (size i : ℕ) (typed : List Key) (learned : ℕ → Option Value) (sent : Sent) (r : Record) (bodies more : List Body) → MaySendAll size typed learned sent i r (bodies ++ more) → MaySendAll size typed learned sent i r bodies
+first_half : (size i : ℕ) (typed : List Key) (learned : ℕ → Option Value) (sent : Sent) (r : Record)
+    (bodies more : List Body) → MaySendAll size typed learned sent i r (bodies ++ more)
+    → MaySendAll size typed learned sent i r bodies
 first_half size i typed learned sent r [] more all = tt
 first_half size i typed learned sent r (body ∷ bodies) more (may, rest) =
     (may, first_half size i typed learned (sent ++ record { sender = i; body = body } ∷ []) r bodies more rest)
 
-second_half : (size i : ℕ) (typed : List Key) (learned : ℕ → Option Value) (sent : Sent) (r : Record) (bodies more : List Body) → MaySendAll size typed learned sent i r (bodies ++ more) → MaySendAll size typed learned (sent ++ messages_of i bodies) i r more
+second_half : (size i : ℕ) (typed : List Key) (learned : ℕ → Option Value) (sent : Sent) (r : Record)
+    (bodies more : List Body) → MaySendAll size typed learned sent i r (bodies ++ more)
+    → MaySendAll size typed learned (sent ++ messages_of i bodies) i r more
 second_half size i typed learned sent r [] more all = rw (append-nil sent) all
 second_half size i typed learned sent r (body ∷ bodies) more (may, rest) =
     let m : Msg = record { sender = i; body = body } in
     rw (append_assoc sent (m ∷ []) (messages_of i bodies)) at (second_half size i typed learned (sent ++ m ∷ []) r bodies more rest)
 
-pub halves : (size i : ℕ) (typed : List Key) (learned : ℕ → Option Value) (sent : Sent) (r : Record) (bodies more : List Body) → MaySendAll size typed learned sent i r (bodies ++ more) ↔ (MaySendAll size typed learned sent i r bodies × MaySendAll size typed learned (sent ++ messages_of i bodies) i r more)
-halves size i typed learned sent r bodies more =
-    (λ all. (first_half size i typed learned sent r bodies more all, second_half size i typed learned sent r bodies more all), λ parts. both_halves size i typed learned sent r bodies more parts.0 parts.1)
+pub halves : (size i : ℕ) (typed : List Key) (learned : ℕ → Option Value) (sent : Sent) (r : Record)
+    (bodies more : List Body)
+    → MaySendAll size typed learned sent i r (bodies ++ more)
+    ↔ (MaySendAll size typed learned sent i r bodies
+    × MaySendAll size typed learned (sent ++ messages_of i bodies) i r more)
+halves size i typed learned sent r bodies more = (
+  λ all. (
+    first_half size i typed learned sent r bodies more all,
+    second_half size i typed learned sent r bodies more
+        all,
+  ),
+  λ parts. both_halves size i typed learned sent r bodies more parts.0 parts.1,
+)

@@ -28,15 +28,22 @@ short_refused group bytes p lt e =
     omega arith
 
 -- ten bytes that pass the tests are a header
-ten_are : (group : Group) (a b c kind sender size g h i j : ℕ) (rest : List ℕ) → AreBytes (g ∷ h ∷ i ∷ j ∷ rest) → a ≡ 80 → b ≡ 71 → c ≡ 2 → size ≡ group.size → big_number 4 (g ∷ h ∷ i ∷ j ∷ []) ≡ group.session
+ten_are : (group : Group) (a b c kind sender size g h i j : ℕ) (rest : List ℕ) → AreBytes (g ∷ h ∷ i ∷ j ∷ rest)
+    → a ≡ 80 → b ≡ 71 → c ≡ 2 → size ≡ group.size → big_number 4 (g ∷ h ∷ i ∷ j ∷ []) ≡ group.session
     → Takes (a ∷ b ∷ c ∷ kind ∷ sender ∷ size ∷ g ∷ h ∷ i ∷ j ∷ rest) (header_bytes group kind sender) rest
 ten_are group a b c kind sender size g h i j rest are ea eb ec es en =
     let four = four_again g h i j (are 0) (are 1) (are 2) (are 3) in
     let session : number_bytes group.session ≡ g ∷ h ∷ i ∷ j ∷ [] = rw (← en) four in
-    record { parts = rw (ea, eb, ec, es) (ap (λ (t : List ℕ). 80 ∷ 71 ∷ 2 ∷ kind ∷ sender ∷ group.size ∷ (t ++ rest)) (sym session)); others = λ k. are (suc (suc (suc (suc k)))) }
+    record {
+      parts = rw (ea, eb, ec, es)
+          (ap (λ (t : List ℕ). 80 ∷ 71 ∷ 2 ∷ kind ∷ sender ∷ group.size ∷ (t ++ rest)) (sym session));
+      others =
+          λ k. are (suc (suc (suc (suc k))));
+    }
 
 ten_found : (group : Group) (a b c kind sender size g h i j : ℕ) (rest : List ℕ) (p : (ℕ × ℕ) × List ℕ) → AreBytes (g ∷ h ∷ i ∷ j ∷ rest)
-    → header_at group (a ∷ b ∷ c ∷ kind ∷ sender ∷ size ∷ g ∷ h ∷ i ∷ j ∷ rest) ≡ Ok p → IsHeader group (a ∷ b ∷ c ∷ kind ∷ sender ∷ size ∷ g ∷ h ∷ i ∷ j ∷ rest) p
+    → header_at group (a ∷ b ∷ c ∷ kind ∷ sender ∷ size ∷ g ∷ h ∷ i ∷ j ∷ rest) ≡ Ok p
+    → IsHeader group (a ∷ b ∷ c ∷ kind ∷ sender ∷ size ∷ g ∷ h ∷ i ∷ j ∷ rest) p
 unfolding header_at
 ten_found group a b c kind sender size g h i j rest p are e =
     let bytes = a ∷ b ∷ c ∷ kind ∷ sender ∷ size ∷ g ∷ h ∷ i ∷ j ∷ rest in
@@ -44,16 +51,26 @@ ten_found group a b c kind sender size g h i j rest p are e =
     let ours = unless_ok fault.Magic (not (eqb a 80 && eqb b 71)) bytes _ p long.1 in
     let version = unless_ok fault.Version (not (eqb c 2)) bytes _ p ours.1 in
     let known = unless_ok fault.Kind (eqb kind 0 || ltb 8 kind) bytes _ p version.1 in
-    let here = unless_ok fault.Group (not (eqb size group.size && eqb (big_number 4 (g ∷ h ∷ i ∷ j ∷ [])) group.session)) bytes _ p known.1 in
+    let here =
+    unless_ok fault.Group
+    (not (eqb size group.size && eqb (big_number 4 (g ∷ h ∷ i ∷ j ∷ [])) group.session)) bytes _ p known.1 in
     let node = unless_ok fault.Sender (not (is_node group.size sender)) bytes _ p here.1 in
     let magic = and_parts (eqb a 80) (eqb b 71) (not-false _ ours.0) in
     let range = or_parts (eqb kind 0) (ltb 8 kind) known.0 in
     let same = and_parts (eqb size group.size) (eqb (big_number 4 (g ∷ h ∷ i ∷ j ∷ [])) group.session) (not-false _ here.0) in
-    let takes = ten_are group a b c kind sender size g h i j rest are (eqb-true a 80 magic.0) (eqb-true b 71 magic.1) (eqb-true c 2 (not-false _ version.0)) (eqb-true size group.size same.0) (eqb-true _ group.session same.1) in
+    let takes =
+    ten_are group a b c kind sender size g h i j rest are (eqb-true a 80 magic.0) (eqb-true b 71 magic.1)
+    (eqb-true c 2 (not-false _ version.0)) (eqb-true size group.size same.0) (eqb-true _ group.session same.1) in
     subst (λ (q : (ℕ × ℕ) × List ℕ). IsHeader group bytes q) (ok_is ((kind, sender), rest) p node.1)
-    (record { takes = takes; above = zero_false kind range.0; below = ltb-false 8 kind range.1; sender = node_found group.size sender (not-false _ node.0) })
+    (record {
+      takes = takes;
+      above = zero_false kind range.0;
+      below = ltb-false 8 kind range.1;
+      sender = node_found group.size sender (not-false _ node.0);
+    })
 
-pub header_found : (group : Group) (bytes : List ℕ) (p : (ℕ × ℕ) × List ℕ) → AreBytes bytes → header_at group bytes ≡ Ok p → IsHeader group bytes p
+pub header_found : (group : Group) (bytes : List ℕ) (p : (ℕ × ℕ) × List ℕ) → AreBytes bytes
+    → header_at group bytes ≡ Ok p → IsHeader group bytes p
 header_found group [] p are e = absurd (short_refused group [] p (omega arith) e)
 header_found group (a ∷ []) p are e = absurd (short_refused group (a ∷ []) p (omega arith) e)
 header_found group (a ∷ b ∷ []) p are e = absurd (short_refused group (a ∷ b ∷ []) p (omega arith) e)
@@ -61,9 +78,12 @@ header_found group (a ∷ b ∷ c ∷ []) p are e = absurd (short_refused group 
 header_found group (a ∷ b ∷ c ∷ k ∷ []) p are e = absurd (short_refused group (a ∷ b ∷ c ∷ k ∷ []) p (omega arith) e)
 header_found group (a ∷ b ∷ c ∷ k ∷ s ∷ []) p are e = absurd (short_refused group (a ∷ b ∷ c ∷ k ∷ s ∷ []) p (omega arith) e)
 header_found group (a ∷ b ∷ c ∷ k ∷ s ∷ z ∷ []) p are e = absurd (short_refused group (a ∷ b ∷ c ∷ k ∷ s ∷ z ∷ []) p (omega arith) e)
-header_found group (a ∷ b ∷ c ∷ k ∷ s ∷ z ∷ g ∷ []) p are e = absurd (short_refused group (a ∷ b ∷ c ∷ k ∷ s ∷ z ∷ g ∷ []) p (omega arith) e)
-header_found group (a ∷ b ∷ c ∷ k ∷ s ∷ z ∷ g ∷ h ∷ []) p are e = absurd (short_refused group (a ∷ b ∷ c ∷ k ∷ s ∷ z ∷ g ∷ h ∷ []) p (omega arith) e)
-header_found group (a ∷ b ∷ c ∷ k ∷ s ∷ z ∷ g ∷ h ∷ i ∷ []) p are e = absurd (short_refused group (a ∷ b ∷ c ∷ k ∷ s ∷ z ∷ g ∷ h ∷ i ∷ []) p (omega arith) e)
+header_found group (a ∷ b ∷ c ∷ k ∷ s ∷ z ∷ g ∷ []) p are e =
+    absurd (short_refused group (a ∷ b ∷ c ∷ k ∷ s ∷ z ∷ g ∷ []) p (omega arith) e)
+header_found group (a ∷ b ∷ c ∷ k ∷ s ∷ z ∷ g ∷ h ∷ []) p are e =
+    absurd (short_refused group (a ∷ b ∷ c ∷ k ∷ s ∷ z ∷ g ∷ h ∷ []) p (omega arith) e)
+header_found group (a ∷ b ∷ c ∷ k ∷ s ∷ z ∷ g ∷ h ∷ i ∷ []) p are e =
+    absurd (short_refused group (a ∷ b ∷ c ∷ k ∷ s ∷ z ∷ g ∷ h ∷ i ∷ []) p (omega arith) e)
 header_found group (a ∷ b ∷ c ∷ k ∷ s ∷ z ∷ g ∷ h ∷ i ∷ j ∷ rest) p are e =
     ten_found group a b c k s z g h i j rest p (λ n. are (suc (suc (suc (suc (suc (suc n))))))) e
 
@@ -75,6 +95,7 @@ header_again group kind sender rest small above below node =
     let some : eqb kind 0 ≡ false = false_zero kind above in
     let few : ltb 8 kind ≡ false = le-ltb 8 kind below in
     let size : eqb group.size group.size ≡ true = eq-eqb _ _ refl in
-    let session : eqb (big_number 4 (number_bytes group.session ++ rest)) group.session ≡ true = eq-eqb _ _ (big_number-reads_back 4 group.session rest small) in
+    let session : eqb (big_number 4 (number_bytes group.session ++ rest)) group.session ≡ true =
+    eq-eqb _ _ (big_number-reads_back 4 group.session rest small) in
     let there : is_node group.size sender ≡ true = node_again group.size sender node in
     rw (long, some, few, size, session, there) refl

@@ -5,7 +5,7 @@ use Rattle.paxos_msg.specs.declared.value.Value.{Value}
 use Rattle.paxos_msg.specs.Batches.{IsFree, Record, Sent, Vote}
 use Rattle.paxos_msg.specs.Ballots.{IsBelow, IsAtMost, IsMajority}
 use Rattle.paxos_msg.specs.declared.message.Body.TheVariants.{Accept, Accepted}
-use Rattle.paxos_msg.specs.Messages.{IsSent, IsSaid, IsPromised, vote_at}
+use Rattle.paxos_msg.specs.Messages.{IsSent, IsSaid, IsPromised, kept_vote_at}
 use Rattle.paxos_msg.proofs.Advances.{HasPromised, HasVoted, IsRight}
 
 -- what node i accepted at s below b is under no greater ballot than the reported vote's, which was proposed
@@ -29,7 +29,8 @@ pub record Invariant (size : ℕ) (sent : Sent) (records : ℕ → Record) : Typ
   pub one_value : (b : Ballot) (s : ℕ) (v w : Value) → IsSaid sent (Accept b s v) → IsSaid sent (Accept b s w) → v ≡ w
   pub submitted : (b : Ballot) (s : ℕ) (v : Value) → IsSaid sent (Accept b s v) → IsFree sent v
   pub kept : (i : ℕ) (b : Ballot) (s : ℕ) (v : Value) → IsSent sent i (Accepted b s v) → HasVoted b (records i) s
-  pub right : (i s : ℕ) → IfSome (vote_at (records i).votes s) (IsRight sent (records i) s)
+  pub right : (i s : ℕ) → IfSome (kept_vote_at (records i).votes s) (IsRight sent (records i) s)
   pub held : (i : ℕ) (b : Ballot) (s : ℕ) (reported : Option Vote) → IsPromised sent i b s reported → HasPromised b (records i)
   pub reports : (i : ℕ) (b : Ballot) (s : ℕ) (reported : Option Vote) → IsPromised sent i b s reported → IsTrueReport sent i b s reported
-  pub decided : (c : Ballot) (s : ℕ) (w : Value) → IsSaid sent (Accept c s w) → (b : Ballot) → IsBelow b c → IsDecided size sent records b s w
+  pub decided : (c : Ballot) (s : ℕ) (w : Value) → IsSaid sent (Accept c s w) → (b : Ballot) → IsBelow b c
+      → IsDecided size sent records b s w

@@ -10,16 +10,22 @@ Shared p q n = (i : ℕ) × (0 < i) × (i ≤ n) × IsTrue (p i) × IsTrue (q i)
 still_shared : (p q : ℕ → Bool) (n : ℕ) → Shared p q n → Shared p q (suc n)
 still_shared p q n (i, low, high, e, f) = (i, low, omega arith, e, f)
 
-one_more : (p q : ℕ → Bool) (n : ℕ) (x y : Bool) → p (suc n) ≡ x → q (suc n) ≡ y → (n < count_of p n + count_of q n → Shared p q n) → suc n < count_of p (suc n) + count_of q (suc n) → Shared p q (suc n)
+one_more : (p q : ℕ → Bool) (n : ℕ) (x y : Bool) → p (suc n) ≡ x → q (suc n) ≡ y
+    → (n < count_of p n + count_of q n → Shared p q n) → suc n < count_of p (suc n) + count_of q (suc n)
+    → Shared p q (suc n)
 one_more p q n true true e f below h = (suc n, omega arith, omega arith, e, f)
 one_more p q n true false e f below h = still_shared p q n (below (omega (arith, rw (e, f) at h)))
-one_more p q n false y e f below h = still_shared p q n (below (elim y as (λ z. q (suc n) ≡ z → n < count_of p n + count_of q n) [ true ↦ λ g. omega (arith, rw (e, g) at h) | false ↦ λ g. omega (arith, rw (e, g) at h) ] f))
+one_more p q n false y e f below h =
+    still_shared p q n (below
+    (elim y as (λ z. q (suc n) ≡ z → n < count_of p n + count_of q n)
+    [ true ↦ λ g. omega (arith, rw (e, g) at h) | false ↦ λ g. omega (arith, rw (e, g) at h) ] f))
 
 shared : (p q : ℕ → Bool) (n : ℕ) → n < count_of p n + count_of q n → Shared p q n
 shared p q zero h = absurd (omega arith)
 shared p q (suc n) h = one_more p q n (p (suc n)) (q (suc n)) refl refl (shared p q n) h
 
-pub majorities_meet : (size : ℕ) (p q : ℕ → Bool) → IsMajority size p → IsMajority size q → (i : ℕ) × (0 < i) × (i ≤ size) × IsTrue (p i) × IsTrue (q i)
+pub majorities_meet : (size : ℕ) (p q : ℕ → Bool) → IsMajority size p → IsMajority size q
+    → (i : ℕ) × (0 < i) × (i ≤ size) × IsTrue (p i) × IsTrue (q i)
 majorities_meet size p q h k = shared p q size (omega arith)
 
 -- more than half of an even size is more than its half

@@ -22,26 +22,37 @@ use Rattle.paxos_msg.proofs.HeaderRead.{header_found, header_again}
 
 -- ---- the fields
 
-ballot_there : (size : ℕ) (bytes : List ℕ) (b : Ballot) (rest : List ℕ) → IsBallot size b × (bytes ≡ ballot_bytes b ++ rest) → ballot_at size bytes ≡ Ok (b, rest)
+ballot_there : (size : ℕ) (bytes : List ℕ) (b : Ballot) (rest : List ℕ)
+    → IsBallot size b × (bytes ≡ ballot_bytes b ++ rest) → ballot_at size bytes ≡ Ok (b, rest)
 ballot_there size bytes b rest h = rw (h.1) (ballot_again size b rest h.0)
 
-pub ballot_is_spelling : (size : ℕ) (bytes : List ℕ) (b : Ballot) (rest : List ℕ) → AreBytes bytes → (ballot_at size bytes ≡ Ok (b, rest)) ↔ (IsBallot size b × (bytes ≡ ballot_bytes b ++ rest))
+pub ballot_is_spelling : (size : ℕ) (bytes : List ℕ) (b : Ballot) (rest : List ℕ) → AreBytes bytes
+    → (ballot_at size bytes ≡ Ok (b, rest)) ↔ (IsBallot size b × (bytes ≡ ballot_bytes b ++ rest))
 ballot_is_spelling size bytes b rest are =
     (λ e. (let f = ballot_found size bytes (b, rest) are e in (f.1, f.0.parts)), λ h. ballot_there size bytes b rest h)
 
-value_there : (size : ℕ) (bytes : List ℕ) (v : Value) (rest : List ℕ) → IsValue size v × (bytes ≡ value_bytes v ++ rest) → value_at size bytes ≡ Ok (v, rest)
+value_there : (size : ℕ) (bytes : List ℕ) (v : Value) (rest : List ℕ) → IsValue size v × (bytes ≡ value_bytes v ++ rest)
+    → value_at size bytes ≡ Ok (v, rest)
 value_there size bytes v rest h = rw (h.1) (value_again size v rest h.0)
 
-pub value_is_spelling : (size : ℕ) (bytes : List ℕ) (v : Value) (rest : List ℕ) → AreBytes bytes → (value_at size bytes ≡ Ok (v, rest)) ↔ (IsValue size v × (bytes ≡ value_bytes v ++ rest))
+pub value_is_spelling : (size : ℕ) (bytes : List ℕ) (v : Value) (rest : List ℕ) → AreBytes bytes
+    → (value_at size bytes ≡ Ok (v, rest)) ↔ (IsValue size v × (bytes ≡ value_bytes v ++ rest))
 value_is_spelling size bytes v rest are =
     (λ e. (let f = value_found size bytes (v, rest) are e in (f.1, f.0.parts)), λ h. value_there size bytes v rest h)
 
-votes_there : (size n : ℕ) (b : Ballot) (bytes : List ℕ) (votes : List Vote) (rest : List ℕ) → AreVotes size b 0 65536 votes × (length votes ≡ n) × (bytes ≡ votes_bytes votes ++ rest) → votes_at size b 0 65536 0 n bytes ≡ Ok (votes, rest)
-votes_there size n b bytes votes rest h = rw (h.2, ← h.1) (votes_again size b 0 65536 0 0 votes rest (omega arith) (omega arith) (omega arith) h.0)
+votes_there : (size n : ℕ) (b : Ballot) (bytes : List ℕ) (votes : List Vote) (rest : List ℕ)
+    → AreVotes size b 0 65536 votes × (length votes ≡ n) × (bytes ≡ votes_bytes votes ++ rest)
+    → votes_at size b 0 65536 0 n bytes ≡ Ok (votes, rest)
+votes_there size n b bytes votes rest h =
+    rw (h.2, ← h.1) (votes_again size b 0 65536 0 0 votes rest (omega arith) (omega arith) (omega arith) h.0)
 
-pub votes_are_spelling : (size n : ℕ) (b : Ballot) (bytes : List ℕ) (votes : List Vote) (rest : List ℕ) → AreBytes bytes → (votes_at size b 0 65536 0 n bytes ≡ Ok (votes, rest)) ↔ (AreVotes size b 0 65536 votes × (length votes ≡ n) × (bytes ≡ votes_bytes votes ++ rest))
-votes_are_spelling size n b bytes votes rest are =
-    (λ e. (let f = votes_found size b 0 65536 0 0 n bytes (votes, rest) are (λ k x y. x) e in (f.1, f.2, f.0.parts)), λ h. votes_there size n b bytes votes rest h)
+pub votes_are_spelling : (size n : ℕ) (b : Ballot) (bytes : List ℕ) (votes : List Vote) (rest : List ℕ) → AreBytes bytes
+    → (votes_at size b 0 65536 0 n bytes ≡ Ok (votes, rest))
+    ↔ (AreVotes size b 0 65536 votes × (length votes ≡ n) × (bytes ≡ votes_bytes votes ++ rest))
+votes_are_spelling size n b bytes votes rest are = (
+  λ e. (let f = votes_found size b 0 65536 0 0 n bytes (votes, rest) are (λ k x y. x) e in (f.1, f.2, f.0.parts)),
+  λ h. votes_there size n b bytes votes rest h,
+)
 
 -- ---- the message
 
@@ -55,7 +66,10 @@ message_found group bytes m are e =
     let body = body_found group.size a.0.0.1 a.0.0.0 a.0.1 b.0 header.above header.below header.takes.others b.1 in
     let both = takes_then bytes (header_bytes group a.0.0.0 a.0.0.1) a.0.1 (body_bytes b.0.0) b.0.1 header.takes body.takes in
     let end : b.0.1 ≡ [] = nil_from_length b.0.1 (eqb-true (length b.0.1) 0 (not-false _ c.0)) in
-    let whole : bytes ≡ header_bytes group (kind_of b.0.0) a.0.0.1 ++ body_bytes b.0.0 = rw (body.kind_is) (both.parts ∙ ap (λ (t : List ℕ). (header_bytes group a.0.0.0 a.0.0.1 ++ body_bytes b.0.0) ++ t) end ∙ append-nil (header_bytes group a.0.0.0 a.0.0.1 ++ body_bytes b.0.0)) in
+    let whole : bytes ≡ header_bytes group (kind_of b.0.0) a.0.0.1 ++ body_bytes b.0.0 =
+    rw (body.kind_is) (both.parts
+    ∙ ap (λ (t : List ℕ). (header_bytes group a.0.0.0 a.0.0.1 ++ body_bytes b.0.0) ++ t) end
+    ∙ append-nil (header_bytes group a.0.0.0 a.0.0.1 ++ body_bytes b.0.0)) in
     subst (λ (n : Msg). Msgs group bytes n) c.1 (record { fits = (header.sender, body.fits); spelled = whole })
 
 kind_above : (body : Body) → 0 < kind_of body
@@ -82,13 +96,15 @@ pub spelling_read : (group : Group) (m : Msg) → IsGroup group → Fits group m
 unfolding message_at
 spelling_read group m small fits =
     let header = header_again group (kind_of m.body) m.sender (body_bytes m.body) small (kind_above m.body) (kind_below m.body) fits.0 in
-    let body : body_at group.size (kind_of m.body) m.sender (body_bytes m.body) ≡ Ok (m.body, []) = rw (← append-nil (body_bytes m.body)) (body_again group.size m.sender m.body [] fits.1) in
+    let body : body_at group.size (kind_of m.body) m.sender (body_bytes m.body) ≡ Ok (m.body, []) =
+    rw (← append-nil (body_bytes m.body)) (body_again group.size m.sender m.body [] fits.1) in
     rw (header, body) refl
 
 pub message_again : (group : Group) (bytes : List ℕ) (m : Msg) → IsGroup group → Msgs group bytes m → message_at group bytes ≡ Ok m
 message_again group bytes m small h = rw (h.spelled) (spelling_read group m small h.fits)
 
-pub reading_is_spelling : (group : Group) (bytes : List ℕ) (m : Msg) → IsGroup group → AreBytes bytes → (message_at group bytes ≡ Ok m) ↔ Msgs group bytes m
+pub reading_is_spelling : (group : Group) (bytes : List ℕ) (m : Msg) → IsGroup group → AreBytes bytes
+    → (message_at group bytes ≡ Ok m) ↔ Msgs group bytes m
 reading_is_spelling group bytes m small are = (λ e. message_found group bytes m are e, λ h. message_again group bytes m small h)
 
 pub one_message : (group : Group) (bytes : List ℕ) (m n : Msg) → IsGroup group → Msgs group bytes m → Msgs group bytes n → m ≡ n

@@ -5,19 +5,20 @@ use Rattle.byteorder.specs.Endian.{big_number}
 use Rattle.byteorder.specs.Numbers.{big_number-reads_back}
 use Rattle.paxos_msg.specs.declared.fault.WireFault.TheVariants.{Short}
 use Rattle.paxos_msg.specs.Spelling.{number_bytes}
-use Rattle.paxos_msg.specs.Reading.{byte_at, number_at}
+use Rattle.paxos_msg.specs.Reading.{first_byte, number_at}
 use Rattle.paxos_msg.specs.Grammar.{AreBytes}
 use Rattle.base.proofs.Steps.{ok_is, last_ok}
 use Rattle.paxos_msg.proofs.Guards.{Takes}
 
-pub byte_found : (bytes : List ℕ) (x : ℕ × List ℕ) → AreBytes bytes → byte_at bytes ≡ Ok x → Takes bytes (x.0 ∷ []) x.1 × (x.0 < 256)
+pub byte_found : (bytes : List ℕ) (x : ℕ × List ℕ) → AreBytes bytes → first_byte bytes ≡ Ok x → Takes bytes (x.0 ∷ []) x.1 × (x.0 < 256)
 byte_found [] x h e = absurd cc
 byte_found (b ∷ bytes) x h e =
     subst (λ (y : ℕ × List ℕ). Takes (b ∷ bytes) (y.0 ∷ []) y.1 × (y.0 < 256)) (ok_is (b, bytes) x e)
     (record { parts = refl; others = λ i. h (suc i) }, h 0)
 
 -- four bytes are those of the number in them
-pub four_again : (a b c d : ℕ) → a < 256 → b < 256 → c < 256 → d < 256 → number_bytes (big_number 4 (a ∷ b ∷ c ∷ d ∷ [])) ≡ a ∷ b ∷ c ∷ d ∷ []
+pub four_again : (a b c d : ℕ) → a < 256 → b < 256 → c < 256 → d < 256
+    → number_bytes (big_number 4 (a ∷ b ∷ c ∷ d ∷ [])) ≡ a ∷ b ∷ c ∷ d ∷ []
 four_again a b c d ha hb hc hd =
     let one : (a * 16777216 + (b * 65536 + (c * 256 + d))) / 16777216 % 256 ≡ a = omega arith in
     let two : (a * 16777216 + (b * 65536 + (c * 256 + d))) / 65536 % 256 ≡ b = omega arith in
@@ -36,19 +37,22 @@ short_refused bytes x lt e =
     let b = ltb-false (length bytes) 4 a.0 in
     omega arith
 
-pub number_found : (bytes : List ℕ) (x : ℕ × List ℕ) → AreBytes bytes → number_at bytes ≡ Ok x → Takes bytes (number_bytes x.0) x.1 × (x.0 < 2 ^ 32)
+pub number_found : (bytes : List ℕ) (x : ℕ × List ℕ) → AreBytes bytes → number_at bytes ≡ Ok x
+    → Takes bytes (number_bytes x.0) x.1 × (x.0 < 2 ^ 32)
 number_found [] x h e = absurd (short_refused [] x (omega arith) e)
 number_found (a ∷ []) x h e = absurd (short_refused (a ∷ []) x (omega arith) e)
 number_found (a ∷ b ∷ []) x h e = absurd (short_refused (a ∷ b ∷ []) x (omega arith) e)
 number_found (a ∷ b ∷ c ∷ []) x h e = absurd (short_refused (a ∷ b ∷ c ∷ []) x (omega arith) e)
 number_found (a ∷ b ∷ c ∷ d ∷ bytes) x h e =
     let n = big_number 4 (a ∷ b ∷ c ∷ d ∷ []) in
-    let parts : a ∷ b ∷ c ∷ d ∷ bytes ≡ number_bytes n ++ bytes = ap (λ (t : List ℕ). t ++ bytes) (sym (four_again a b c d (h 0) (h 1) (h 2) (h 3))) in
+    let parts : a ∷ b ∷ c ∷ d ∷ bytes ≡ number_bytes n ++ bytes =
+    ap (λ (t : List ℕ). t ++ bytes) (sym (four_again a b c d (h 0) (h 1) (h 2) (h 3))) in
     let g = last_ok Short (ltb (length (a ∷ b ∷ c ∷ d ∷ bytes)) 4) (n, bytes) x e in
     subst (λ (y : ℕ × List ℕ). Takes (a ∷ b ∷ c ∷ d ∷ bytes) (number_bytes y.0) y.1 × (y.0 < 2 ^ 32)) g.1
     (record { parts = parts; others = λ i. h (suc (suc (suc (suc i)))) }, four_below a b c d (h 0) (h 1) (h 2) (h 3))
 
-number_with : (n : ℕ) (bytes rest : List ℕ) → 4 ≤ length bytes → big_number 4 bytes ≡ n → drop 4 bytes ≡ rest → number_at bytes ≡ Ok (n, rest)
+number_with : (n : ℕ) (bytes rest : List ℕ) → 4 ≤ length bytes → big_number 4 bytes ≡ n → drop 4 bytes ≡ rest
+    → number_at bytes ≡ Ok (n, rest)
 number_with n bytes rest le e d =
     let long : ltb (length bytes) 4 ≡ false = le-ltb _ _ le in
     rw (long, e, d) refl

@@ -12,9 +12,11 @@ some_keys : (node start first : ℕ) (bytes : List ℕ) → 0 < length bytes →
 some_keys node start first [] h = absurd (omega arith)
 some_keys node start first (byte ∷ bytes) h = λ e. absurd cc
 
-first_of : (node start first : ℕ) (bytes : List ℕ) → 0 < length bytes → (key : Key) × Contains (keys_from node start first bytes) key × (key.node ≡ node)
+first_of : (node start first : ℕ) (bytes : List ℕ) → 0 < length bytes
+    → (key : Key) × Contains (keys_from node start first bytes) key × (key.node ≡ node)
 first_of node start first [] h = absurd (omega arith)
-first_of node start first (byte ∷ bytes) h = (record { node = node; start = start; serial = first; byte = byte }, (0, omega arith, refl), refl)
+first_of node start first (byte ∷ bytes) h =
+    (record { node = node; start = start; serial = first; byte = byte }, (0, omega arith, refl), refl)
 
 -- the keys of a batch are own keys of the node that it names, and of no other
 pub own_keys : (node start first i : ℕ) (bytes : List ℕ) → 0 < length bytes → node ≡ i → AreOwnKeys batches i (Keys node start first bytes)

@@ -193,9 +193,33 @@ safe = record {
   best = None;
   majority = lit< tt;
   promised = three_cases 1 2 3 (λ i. IsPromised s4 i lower 3 None)
-      (record { first = 3; upto = 4; votes = []; is_sent = (1, lit< tt, refl); from_first = omega arith; below_upto = omega arith; reports = refl })
-      (record { first = 3; upto = 4; votes = []; is_sent = (2, lit< tt, refl); from_first = omega arith; below_upto = omega arith; reports = refl })
-      (record { first = 3; upto = 4; votes = []; is_sent = (3, lit< tt, refl); from_first = omega arith; below_upto = omega arith; reports = refl });
+      (record {
+        first = 3;
+        upto = 4;
+        votes = [];
+        is_sent = (1, lit< tt, refl);
+        from_first = omega arith;
+        below_upto = omega arith;
+        reports = refl;
+      })
+      (record {
+        first = 3;
+        upto = 4;
+        votes = [];
+        is_sent = (2, lit< tt, refl);
+        from_first = omega arith;
+        below_upto = omega arith;
+        reports = refl;
+      })
+      (record {
+        first = 3;
+        upto = 4;
+        votes = [];
+        is_sent = (3, lit< tt, refl);
+        from_first = omega arith;
+        below_upto = omega arith;
+        reports = refl;
+      });
   is_best = λ i member. refl;
   value = inr (4, (0, lit< tt, refl));
 }
@@ -219,9 +243,33 @@ safe_again = record {
   best = Some vote;
   majority = lit< tt;
   promised = three_cases 3 4 5 (λ i. IsPromised s9 i greater 3 (told i))
-      (record { first = 3; upto = 4; votes = vote ∷ []; is_sent = (6, lit< tt, refl); from_first = omega arith; below_upto = omega arith; reports = refl })
-      (record { first = 3; upto = 4; votes = []; is_sent = (7, lit< tt, refl); from_first = omega arith; below_upto = omega arith; reports = refl })
-      (record { first = 3; upto = 4; votes = []; is_sent = (8, lit< tt, refl); from_first = omega arith; below_upto = omega arith; reports = refl });
+      (record {
+        first = 3;
+        upto = 4;
+        votes = vote ∷ [];
+        is_sent = (6, lit< tt, refl);
+        from_first = omega arith;
+        below_upto = omega arith;
+        reports = refl;
+      })
+      (record {
+        first = 3;
+        upto = 4;
+        votes = [];
+        is_sent = (7, lit< tt, refl);
+        from_first = omega arith;
+        below_upto = omega arith;
+        reports = refl;
+      })
+      (record {
+        first = 3;
+        upto = 4;
+        votes = [];
+        is_sent = (8, lit< tt, refl);
+        from_first = omega arith;
+        below_upto = omega arith;
+        reports = refl;
+      });
   is_best = greatest;
   value = refl;
 }
@@ -260,18 +308,39 @@ said = (5, (9, lit< tt, refl))
 grew : Grew 5 s13 r10
 grew =
     let g10 : Grew 5 s10 r7 = sends s9 r7 typed learned 5 (Accept greater 3 key) grew_greater (refl, inr (unproposed_again, safe_again)) in
-    let c8 : Grew 5 s10 r8 = saves s10 r7 r8 3 (Ballotted 3 greater key) g10 (said, grind arith) (with_change-saved r7 3 (Ballotted 3 greater key)) in
+    let c8 : Grew 5 s10 r8 =
+    saves s10 r7 r8 3 (Ballotted 3 greater key) g10 (said, grind arith)
+    (with_change-saved r7 3 (Ballotted 3 greater key)) in
     let g11 : Grew 5 s11 r8 = sends s10 r8 typed learned 3 (Accepted greater 3 key) c8 (said, refl, refl) in
-    let c9 : Grew 5 s11 r9 = saves s11 r8 r9 4 (Ballotted 3 greater key) g11 ((5, (9, lit< tt, refl)), grind arith) (with_change-saved r8 4 (Ballotted 3 greater key)) in
+    let c9 : Grew 5 s11 r9 =
+    saves s11 r8 r9 4 (Ballotted 3 greater key) g11 ((5, (9, lit< tt, refl)), grind arith)
+    (with_change-saved r8 4 (Ballotted 3 greater key)) in
     let g12 : Grew 5 s12 r9 = sends s11 r9 typed learned 4 (Accepted greater 3 key) c9 ((5, (9, lit< tt, refl)), refl, refl) in
-    let c10 : Grew 5 s12 r10 = saves s12 r9 r10 5 (Ballotted 3 greater key) g12 ((5, (9, lit< tt, refl)), grind arith) (with_change-saved r9 5 (Ballotted 3 greater key)) in
+    let c10 : Grew 5 s12 r10 =
+    saves s12 r9 r10 5 (Ballotted 3 greater key) g12 ((5, (9, lit< tt, refl)), grind arith)
+    (with_change-saved r9 5 (Ballotted 3 greater key)) in
     sends s12 r10 typed learned 5 (Accepted greater 3 key) c10 ((5, (9, lit< tt, refl)), refl, refl)
 
 chosen : IsChosenBy 5 s13 greater 3 key
-chosen = (three 3 4 5, lit< tt, three_cases 3 4 5 (λ i. IsSent s13 i (Accepted greater 3 key)) (10, lit< tt, refl) (11, lit< tt, refl) (12, lit< tt, refl))
+chosen = (
+  three 3 4 5,
+  lit< tt,
+  three_cases 3 4 5 (λ i. IsSent s13 i (Accepted greater 3 key)) (10, lit< tt, refl)
+      (11, lit< tt, refl) (12, lit< tt, refl),
+)
 
 reported : IsPromised s13 3 greater 3 (Some vote)
-reported = record { first = 3; upto = 4; votes = vote ∷ []; is_sent = (6, lit< tt, refl); from_first = omega arith; below_upto = omega arith; reports = refl }
+reported =
+    record {
+      first = 3;
+      upto = 4;
+      votes = vote ∷ [];
+      is_sent = (6, lit< tt, refl);
+      from_first = omega arith;
+      below_upto = omega arith;
+      reports = refl;
+    }
 
-pub retold : (sent : Sent) × (records : ℕ → Record) × Grew 5 sent records × IsPromised sent 3 greater 3 (Some vote) × IsChosenBy 5 sent greater 3 key
+pub retold : (sent : Sent) × (records : ℕ → Record) × Grew 5 sent records × IsPromised sent 3 greater 3 (Some vote)
+    × IsChosenBy 5 sent greater 3 key
 retold = (s13, r10, grew, reported, chosen)

@@ -34,8 +34,14 @@ some_if o P = (if_there o P, there_if o P)
 -- ---- a Submit
 
 -- its keys were typed at the node
-pub typed_is : (typed : List Key) (i : ℕ) (v : Value) → IsTyped typed i v ↔ ((keys_of v ≢ []) × ((key : Key) → Contains (keys_of v) key → (key.node ≡ i) × Contains typed key))
-typed_is typed i v = (λ h. (h.own.has_key, λ key k. (h.own.at_node key k, h.known key k)), λ h. record { own = record { has_key = h.0; at_node = λ key k. (h.1 key k).0 }; known = λ key k. (h.1 key k).1 })
+pub typed_is : (typed : List Key) (i : ℕ) (v : Value)
+    → IsTyped typed i v ↔ ((keys_of v ≢ [])
+    × ((key : Key) → Contains (keys_of v) key → (key.node ≡ i) × Contains typed key))
+typed_is typed i v = (
+  λ h. (h.own.has_key, λ key k. (h.own.at_node key k, h.known key k)),
+  λ h.
+      record { own = record { has_key = h.0; at_node = λ key k. (h.1 key k).0 }; known = λ key k. (h.1 key k).1 },
+)
 
 -- ---- a save
 
@@ -46,7 +52,8 @@ below_raised : (o : Option Ballot) (b : Ballot) → IfSome o (λ p. IsBelow p b)
 below_raised o b h p e = let below : IsBelow p b = rw e at h in at_most_from_below p b below
 
 -- no save that is allowed lowers a promise
-pub promise_rises : (sent : Sent) (r : Record) (change : Change) (p : Ballot) → MaySave sent r change → r.promised ≡ Some p → IsSomeAnd (changed r change).promised (λ q. IsAtMost p q)
+pub promise_rises : (sent : Sent) (r : Record) (change : Change) (p : Ballot) → MaySave sent r change
+    → r.promised ≡ Some p → IsSomeAnd (changed r change).promised (λ q. IsAtMost p q)
 promise_rises sent r Start p may e = rw e (at_most_refl p)
 promise_rises sent r (Promise b) p may e = below_raised r.promised b may p e
 promise_rises sent r (Ballotted s b v) p (said, open_to) e = raised_by r.promised b open_to p e

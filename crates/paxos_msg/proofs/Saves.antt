@@ -4,16 +4,20 @@ use Rattle.paxos_msg.specs.declared.ballot.Ballot.{Ballot}
 use Rattle.paxos_msg.specs.declared.value.Value.{Value}
 use Rattle.paxos_msg.specs.Batches.{Change, Record, Sent}
 use Rattle.paxos_msg.specs.Ballots.{IsBelow}
-use Rattle.paxos_msg.specs.Messages.{vote_at}
+use Rattle.paxos_msg.specs.Messages.{kept_vote_at}
 use Rattle.paxos_msg.specs.Records.{MaySave, IsSaved}
 use Rattle.paxos_msg.proofs.BallotOrder.{below_at_most}
 use Rattle.paxos_msg.proofs.Advances.{HasPromised, HasVoted, IsRight, after_save, promise_rises, promise_kept, votes_right, vote_kept}
 use Rattle.paxos_msg.proofs.Invariant.{Invariant, IsPast, IsDecided}
 
-module _ (size : ℕ) (sent : Sent) (records next : ℕ → Record) (i : ℕ) (change : Change) (may : MaySave sent (records i) change) (saved : IsSaved records i change next) where
+module _ (size : ℕ) (sent : Sent) (records next : ℕ → Record) (i : ℕ) (change : Change)
+    (may : MaySave sent (records i) change) (saved : IsSaved records i change next) where
   past_kept : (b : Ballot) (s : ℕ) (w : Value) (j : ℕ) → IsPast sent records b s w j → IsPast sent next b s w j
   past_kept b s w j h = record {
-    passed = after_save sent records i change next j (λ r. IsSomeAnd r.promised (λ p. IsBelow b p)) may saved (λ m. promise_rises sent (records j) change (λ p. IsBelow b p) (λ p q pq bp. below_at_most b p q bp pq) m h.passed) h.passed;
+    passed =
+        after_save sent records i change next j (λ r. IsSomeAnd r.promised (λ p. IsBelow b p)) may saved
+        (λ m. promise_rises sent (records j) change (λ p. IsBelow b p)
+        (λ p q pq bp. below_at_most b p q bp pq) m h.passed) h.passed;
     only = h.only;
   }
 
@@ -25,9 +29,16 @@ module _ (size : ℕ) (sent : Sent) (records next : ℕ → Record) (i : ℕ) (c
     accepted = inv.accepted;
     one_value = inv.one_value;
     submitted = inv.submitted;
-    kept = λ j b s v h. after_save sent records i change next j (λ r. HasVoted b r s) may saved (λ m. vote_kept sent (records j) change b s m (inv.right j s) (inv.kept j b s v h)) (inv.kept j b s v h);
-    right = λ j s. after_save sent records i change next j (λ r. IfSome (vote_at r.votes s) (IsRight sent r s)) may saved (λ m. votes_right sent (records j) change s m (inv.right j s)) (inv.right j s);
-    held = λ j b s reported h. after_save sent records i change next j (HasPromised b) may saved (λ m. promise_kept sent (records j) change b m (inv.held j b s reported h)) (inv.held j b s reported h);
+    kept =
+        λ j b s v h. after_save sent records i change next j (λ r. HasVoted b r s) may saved
+        (λ m. vote_kept sent (records j) change b s m (inv.right j s) (inv.kept j b s v h)) (inv.kept j b s v h);
+    right =
+        λ j s. after_save sent records i change next j
+        (λ r. IfSome (kept_vote_at r.votes s) (IsRight sent r s)) may saved
+        (λ m. votes_right sent (records j) change s m (inv.right j s)) (inv.right j s);
+    held =
+        λ j b s reported h. after_save sent records i change next j (HasPromised b) may saved
+        (λ m. promise_kept sent (records j) change b m (inv.held j b s reported h)) (inv.held j b s reported h);
     reports = inv.reports;
     decided = λ c s w said b below. decided_kept b s w (inv.decided c s w said b below);
   }

@@ -13,14 +13,21 @@ pub still_said : (sent : Sent) (m : Msg) (body : Body) → IsSaid sent body → 
 still_said sent m body (i, h) = (i, still_sent sent m i body h)
 
 -- what is sent now was sent before, or is the new message
-pub sent_cases : (sent : Sent) (m : Msg) (i : ℕ) (body : Body) → IsSent (sent ++ m ∷ []) i body → IsSent sent i body ⊎ (m ≡ record { sender = i; body = body })
+pub sent_cases : (sent : Sent) (m : Msg) (i : ℕ) (body : Body) → IsSent (sent ++ m ∷ []) i body
+    → IsSent sent i body ⊎ (m ≡ record { sender = i; body = body })
 sent_cases sent m i body h = Contains-push_cases sent m (record { sender = i; body = body }) h
 
 -- the new message obeyed the rule of its kind
-pub rule_of : (size : ℕ) (typed : List Key) (learned : ℕ → Option Value) (sent : Sent) (records : ℕ → Record) (m : Msg) (i : ℕ) (body : Body) → m ≡ record { sender = i; body = body } → MaySend size typed learned sent m.sender (records m.sender) m.body → MaySend size typed learned sent i (records i) body
-rule_of size typed learned sent records m i body e may = subst (λ (n : Msg). MaySend size typed learned sent n.sender (records n.sender) n.body) e may
+pub rule_of : (size : ℕ) (typed : List Key) (learned : ℕ → Option Value) (sent : Sent) (records : ℕ → Record) (m : Msg)
+    (i : ℕ) (body : Body) → m ≡ record { sender = i; body = body }
+    → MaySend size typed learned sent m.sender (records m.sender) m.body
+    → MaySend size typed learned sent i (records i) body
+rule_of size typed learned sent records m i body e may =
+    subst (λ (n : Msg). MaySend size typed learned sent n.sender (records n.sender) n.body) e may
 
 -- what is sent now was sent before, or its node was allowed to send it
-pub sent_or_may : (size : ℕ) (typed : List Key) (learned : ℕ → Option Value) (sent : Sent) (records : ℕ → Record) (m : Msg) (i : ℕ) (body : Body) → MaySend size typed learned sent m.sender (records m.sender) m.body → IsSent (sent ++ m ∷ []) i body → IsSent sent i body ⊎ MaySend size typed learned sent i (records i) body
+pub sent_or_may : (size : ℕ) (typed : List Key) (learned : ℕ → Option Value) (sent : Sent) (records : ℕ → Record)
+    (m : Msg) (i : ℕ) (body : Body) → MaySend size typed learned sent m.sender (records m.sender) m.body
+    → IsSent (sent ++ m ∷ []) i body → IsSent sent i body ⊎ MaySend size typed learned sent i (records i) body
 sent_or_may size typed learned sent records m i body may h =
     elim (sent_cases sent m i body h) [ inl old ↦ inl old | inr e ↦ inr (rule_of size typed learned sent records m i body e may) ]

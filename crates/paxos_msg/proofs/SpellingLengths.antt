@@ -18,7 +18,8 @@ value_short size (Keys node start first bytes) h = omega (arith, h.2.2)
 vote_short : (size low upto : ℕ) (b : Ballot) (v : Vote) → IsVote size b low upto v → length (vote_bytes v) ≤ 52
 vote_short size low upto b v h = let a = value_short size v.value h.value in omega arith
 
-pub votes_short : (size low upto : ℕ) (b : Ballot) (votes : List Vote) → AreVotes size b low upto votes → length (votes_bytes votes) ≤ 52 * length votes
+pub votes_short : (size low upto : ℕ) (b : Ballot) (votes : List Vote) → AreVotes size b low upto votes
+    → length (votes_bytes votes) ≤ 52 * length votes
 votes_short size low upto b [] h = omega arith
 votes_short size low upto b (v ∷ votes) h =
     let a = vote_short size low upto b v h.0 in

@@ -6,7 +6,7 @@ use Rattle.paxos_msg.specs.declared.value.Value.TheVariants.{Noop, Keys}
 use Rattle.paxos_msg.specs.declared.fault.WireFault.TheVariants as fault
 use Rattle.paxos_msg.specs.Fits.{IsValue}
 use Rattle.paxos_msg.specs.Grammar.{AreBytes}
-use Rattle.paxos_msg.specs.Reading.{byte_at, is_node, number_at}
+use Rattle.paxos_msg.specs.Reading.{first_byte, is_node, number_at}
 use Rattle.paxos_msg.specs.Spelling.{number_bytes}
 use Rattle.paxos_msg.specs.Version1.{IsSingle, key_at_v1, key_rest_at_v1, tagged_v1, value_at_v1, value_bytes_v1}
 use Rattle.base.proofs.Steps.{bind_ok, unless_ok, ok_is}
@@ -22,25 +22,29 @@ pub record IsRead (size : ℕ) (bytes : List ℕ) (p : Value × List ℕ) : Type
 key_found : (size : ℕ) (bytes : List ℕ) (p : Value × List ℕ) → AreBytes bytes → key_at_v1 size bytes ≡ Ok p → IsRead size (1 ∷ bytes) p
 unfolding key_at_v1 key_rest_at_v1
 key_found size bytes p h e =
-    let a = bind_ok (byte_at bytes) _ p e in
+    let a = bind_ok (first_byte bytes) _ p e in
     let b = unless_ok fault.Value (not (is_node size a.0.0)) a.0 _ p a.2 in
     let c = bind_ok (number_at a.0.1) _ p b.1 in
     let d = unless_ok fault.Value (eqb c.0.0 0) c.0 _ p c.2 in
     let f = bind_ok (number_at c.0.1) _ p d.1 in
     let g = unless_ok fault.Value (eqb f.0.0 0) f.0 _ p f.2 in
-    let k = bind_ok (byte_at f.0.1) _ p g.1 in
+    let k = bind_ok (first_byte f.0.1) _ p g.1 in
     let node = byte_found bytes a.0 h a.1 in
     let start = number_found a.0.1 c.0 node.0.others c.1 in
     let serial = number_found c.0.1 f.0 start.0.others f.1 in
     let byte = byte_found f.0.1 k.0 serial.0.others k.1 in
-    let one : Takes (1 ∷ bytes) (1 ∷ a.0.0 ∷ []) a.0.1 = record { parts = ap (λ (t : List ℕ). 1 ∷ t) node.0.parts; others = node.0.others } in
+    let one : Takes (1 ∷ bytes) (1 ∷ a.0.0 ∷ []) a.0.1 =
+    record { parts = ap (λ (t : List ℕ). 1 ∷ t) node.0.parts; others = node.0.others } in
     let two = takes_then (1 ∷ bytes) (1 ∷ a.0.0 ∷ []) a.0.1 (number_bytes c.0.0) c.0.1 one start.0 in
     let three = takes_then (1 ∷ bytes) (1 ∷ a.0.0 ∷ number_bytes c.0.0) c.0.1 (number_bytes f.0.0) f.0.1 two serial.0 in
     let four = takes_then (1 ∷ bytes) (1 ∷ a.0.0 ∷ (number_bytes c.0.0 ++ number_bytes f.0.0)) f.0.1 (k.0.0 ∷ []) k.0.1 three byte.0 in
     let above : 0 < f.0.0 = zero_false f.0.0 g.0 in
     let last : f.0.0 + 1 ≤ 2 ^ 32 = omega (arith, serial.1) in
-    let batch : IsValue size (Keys a.0.0 c.0.0 f.0.0 (k.0.0 ∷ [])) =
-    (node_found size a.0.0 (not-false _ b.0), (zero_false c.0.0 d.0, start.1), (above, omega arith, omega arith, last, only k.0.0 byte.1)) in
+    let batch : IsValue size (Keys a.0.0 c.0.0 f.0.0 (k.0.0 ∷ [])) = (
+      node_found size a.0.0 (not-false _ b.0),
+      (zero_false c.0.0 d.0, start.1),
+      (above, omega arith, omega arith, last, only k.0.0 byte.1),
+    ) in
     subst (λ (q : Value × List ℕ). IsRead size (1 ∷ bytes) q) (ok_is (Keys a.0.0 c.0.0 f.0.0 (k.0.0 ∷ []), k.0.1) p k.2)
     (record { takes = four; fits = batch; single = omega arith })
   where
@@ -59,19 +63,33 @@ value_found : (size : ℕ) (bytes : List ℕ) (p : Value × List ℕ) → AreByt
 unfolding value_at_v1
 value_found size [] p h e = absurd cc
 value_found size (zero ∷ bytes) p h e =
-    subst (λ (q : Value × List ℕ). IsRead size (0 ∷ bytes) q) (ok_is (Noop, bytes) p e) (record { takes = record { parts = refl; others = λ i. h (suc i) }; fits = tt; single = omega arith })
+    subst (λ (q : Value × List ℕ). IsRead size (0 ∷ bytes) q) (ok_is (Noop, bytes) p e)
+    (record { takes = record { parts = refl; others = λ i. h (suc i) }; fits = tt; single = omega arith })
 value_found size (suc zero ∷ bytes) p h e = key_found size bytes p (λ i. h (suc i)) e
 value_found size (suc (suc b) ∷ bytes) p h e = absurd (tag_refused size (suc (suc b)) bytes p (omega arith) e)
 
-value_again : (size : ℕ) (v : Value) (rest : List ℕ) → IsValue size v → IsSingle v → value_at_v1 size (value_bytes_v1 v ++ rest) ≡ Ok (v, rest)
+value_again : (size : ℕ) (v : Value) (rest : List ℕ) → IsValue size v → IsSingle v
+    → value_at_v1 size (value_bytes_v1 v ++ rest) ≡ Ok (v, rest)
 unfolding value_at_v1 key_at_v1 key_rest_at_v1
 value_again size Noop rest h single = refl
 value_again size (Keys node start first []) rest h single = absurd (omega (arith, h.2.1))
 value_again size (Keys node start first (byte ∷ more ∷ bytes)) rest h single = absurd (omega (arith, single))
 value_again size (Keys node start first (byte ∷ [])) rest h single =
     let small : first < 2 ^ 32 = omega (arith, h.2.3) in
-    rw (node_again size node h.0, number_again start (number_bytes first ++ byte ∷ rest) h.1.1, false_zero start h.1.0, number_again first (byte ∷ rest) small, false_zero first h.2.0) refl
+    rw (
+      node_again size node h.0,
+      number_again start
+          (number_bytes first ++ byte ∷ rest) h.1.1,
+      false_zero start h.1.0,
+      number_again first
+          (byte ∷ rest) small,
+      false_zero first h.2.0,
+    ) refl
 
-pub value_v1_is_spelling : (size : ℕ) (bytes : List ℕ) (v : Value) (rest : List ℕ) → AreBytes bytes → (value_at_v1 size bytes ≡ Ok (v, rest)) ↔ (IsValue size v × IsSingle v × (bytes ≡ value_bytes_v1 v ++ rest))
-value_v1_is_spelling size bytes v rest are =
-    (λ e. (let f = value_found size bytes (v, rest) are e in (f.fits, f.single, f.takes.parts)), λ h. rw (h.2) (value_again size v rest h.0 h.1))
+pub value_v1_is_spelling : (size : ℕ) (bytes : List ℕ) (v : Value) (rest : List ℕ) → AreBytes bytes
+    → (value_at_v1 size bytes ≡ Ok (v, rest)) ↔ (IsValue size v × IsSingle v × (bytes ≡ value_bytes_v1 v ++ rest))
+value_v1_is_spelling size bytes v rest are = (
+  λ e. (let f = value_found size bytes (v, rest) are e in (f.fits, f.single, f.takes.parts)),
+  λ h.
+      rw (h.2) (value_again size v rest h.0 h.1),
+)

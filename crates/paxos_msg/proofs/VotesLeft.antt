@@ -15,7 +15,8 @@ none_left zero bytes e = refl
 none_left (suc n) bytes e = absurd (omega (arith, e))
 
 -- the first vote that is left, and those behind it
-pub first_left : (n : ℕ) (bytes rest : List ℕ) (v : Vote) → 0 < n → raw_vote_at bytes ≡ Ok (v, rest) → votes_left n bytes ≡ v ∷ votes_left (n - 1) rest
+pub first_left : (n : ℕ) (bytes rest : List ℕ) (v : Vote) → 0 < n → raw_vote_at bytes ≡ Ok (v, rest)
+    → votes_left n bytes ≡ v ∷ votes_left (n - 1) rest
 unfolding votes_left
 first_left zero bytes rest v lt h = absurd (omega (arith, lt))
 first_left (suc n) bytes rest v lt h = let e : suc n - 1 ≡ n = omega arith in rw (h, e) refl
@@ -27,7 +28,8 @@ none_more zero bytes e h = refl
 none_more (suc n) bytes e h = rw h refl
 
 -- reading no votes
-pub no_votes : (size : ℕ) (b : Ballot) (first upto low n : ℕ) (bytes : List ℕ) → n ≡ 0 → votes_at size b first upto low n bytes ≡ Ok (votes_left n bytes, bytes)
+pub no_votes : (size : ℕ) (b : Ballot) (first upto low n : ℕ) (bytes : List ℕ) → n ≡ 0
+    → votes_at size b first upto low n bytes ≡ Ok (votes_left n bytes, bytes)
 unfolding votes_left votes_at
 no_votes size b first upto low zero bytes e = refl
 no_votes size b first upto low (suc n) bytes e = absurd (omega (arith, e))
@@ -37,20 +39,23 @@ abbrev pub with_first : Vote → Result (List Vote × List ℕ) WireFault → Re
 with_first v others = others >>= λ x. Ok (v ∷ x.0, x.1)
 
 -- the first vote is read
-pub first_at : (size : ℕ) (b : Ballot) (first upto low n : ℕ) (bytes rest : List ℕ) (v : Vote) → 0 < n → vote_at size b first upto low bytes ≡ Ok (v, rest)
+pub first_at : (size : ℕ) (b : Ballot) (first upto low n : ℕ) (bytes rest : List ℕ) (v : Vote) → 0 < n
+    → vote_at size b first upto low bytes ≡ Ok (v, rest)
     → votes_at size b first upto low n bytes ≡ with_first v (votes_at size b first upto (v.place + 1) (n - 1) rest)
 unfolding votes_at
 first_at size b first upto low zero bytes rest v lt h = absurd (omega (arith, lt))
 first_at size b first upto low (suc n) bytes rest v lt h = let e : suc n - 1 ≡ n = omega arith in rw (h, e) refl
 
 -- the first vote has a fault
-pub fault_at : (size : ℕ) (b : Ballot) (first upto low n : ℕ) (bytes : List ℕ) (e : WireFault) → 0 < n → vote_at size b first upto low bytes ≡ Err e → votes_at size b first upto low n bytes ≡ Err e
+pub fault_at : (size : ℕ) (b : Ballot) (first upto low n : ℕ) (bytes : List ℕ) (e : WireFault) → 0 < n
+    → vote_at size b first upto low bytes ≡ Err e → votes_at size b first upto low n bytes ≡ Err e
 unfolding votes_at
 fault_at size b first upto low zero bytes e lt h = absurd (omega (arith, lt))
 fault_at size b first upto low (suc n) bytes e lt h = rw h refl
 
 -- a vote and those behind it are no more than are wanted
-few_more : (read : Result (Vote × List ℕ) WireFault) (n : ℕ) → ((bytes : List ℕ) → length (votes_left n bytes) ≤ n) → length (then_votes read (votes_left n)) ≤ suc n
+few_more : (read : Result (Vote × List ℕ) WireFault) (n : ℕ) → ((bytes : List ℕ) → length (votes_left n bytes) ≤ n)
+    → length (then_votes read (votes_left n)) ≤ suc n
 few_more (Ok x) n h = omega (arith, h x.1)
 few_more (Err e) n h = omega arith
 
@@ -62,26 +67,34 @@ few_left (suc n) bytes = few_more (raw_vote_at bytes) n (few_left n)
 
 -- reading from a state of the loop leads to the answer of the whole
 pub record LeadsTo (size : ℕ) (b : Ballot) (first upto count : ℕ) (bytes : List ℕ) (low left : ℕ) (rest : List ℕ) : Type 0 where
-  pub ok : (behind : List ℕ) → votes_at size b first upto low left rest ≡ Ok (votes_left left rest, behind) → votes_at size b first upto 0 count bytes ≡ Ok (votes_left count bytes, behind)
+  pub ok : (behind : List ℕ) → votes_at size b first upto low left rest ≡ Ok (votes_left left rest, behind)
+      → votes_at size b first upto 0 count bytes ≡ Ok (votes_left count bytes, behind)
   pub err : (e : WireFault) → votes_at size b first upto low left rest ≡ Err e → votes_at size b first upto 0 count bytes ≡ Err e
 
 -- the loop begins with the whole
-pub at_start : (size : ℕ) (b : Ballot) (first upto count left : ℕ) (bytes : List ℕ) → left ≡ count → LeadsTo size b first upto count bytes 0 left bytes
+pub at_start : (size : ℕ) (b : Ballot) (first upto count left : ℕ) (bytes : List ℕ) → left ≡ count
+    → LeadsTo size b first upto count bytes 0 left bytes
 at_start size b first upto count left bytes e = rw e (record { ok = λ behind h. h; err = λ fault h. h })
 
 -- a vote more is read
-pub goes_on : (size : ℕ) (b : Ballot) (first upto count : ℕ) (bytes : List ℕ) (low left less : ℕ) (rest behind : List ℕ) (v : Vote) → less + 1 ≡ left
+pub goes_on : (size : ℕ) (b : Ballot) (first upto count : ℕ) (bytes : List ℕ) (low left less : ℕ) (rest behind : List ℕ)
+    (v : Vote) → less + 1 ≡ left
     → vote_at size b first upto low rest ≡ Ok (v, behind) → raw_vote_at rest ≡ Ok (v, behind)
     → LeadsTo size b first upto count bytes low left rest → LeadsTo size b first upto count bytes (v.place + 1) less behind
 goes_on size b first upto count bytes low left less rest behind v one_less h raw so_far =
     let e : left - 1 ≡ less = omega arith in
     let lt : 0 < left = omega arith in
     record {
-      ok = λ end k. so_far.ok end (rw (first_left left rest behind v lt raw, first_at size b first upto low left rest behind v lt h, e) (ap (with_first v) k));
+      ok =
+          λ end k. so_far.ok end
+          (rw (first_left left rest behind v lt raw, first_at size b first upto low left rest behind v lt h, e)
+          (ap (with_first v) k));
       err = λ fault k. so_far.err fault (rw (first_at size b first upto low left rest behind v lt h, e) (ap (with_first v) k));
     }
 
 -- ---- what a value takes behind the place and the ballot of its vote
 
 pub behind_ballot : (bytes a b : List ℕ) (n : ℕ) → Takes 4 bytes a → Takes 5 a b → drop n b ≡ drop (9 + n) bytes
-behind_ballot bytes a b n place ballot = ap (λ (t : List ℕ). drop n t) (ballot.1 ∙ ap (λ (t : List ℕ). drop 5 t) place.1 ∙ drop-drop 5 4 bytes) ∙ drop-drop n 9 bytes
+behind_ballot bytes a b n place ballot =
+    ap (λ (t : List ℕ). drop n t) (ballot.1 ∙ ap (λ (t : List ℕ). drop 5 t) place.1 ∙ drop-drop 5 4 bytes)
+    ∙ drop-drop n 9 bytes

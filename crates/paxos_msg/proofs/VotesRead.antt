@@ -22,7 +22,8 @@ pub below_true : (a b : Ballot) → IsBelow a b → ballot_lt a b ≡ true
 below_true a b (inl h) = rw (lt-ltb a.round b.round h) refl
 below_true a b (inr h) = rw (le-ltb a.round b.round (omega arith), eq-eqb a.round b.round h.0, lt-ltb a.node b.node h.1) refl
 
-below_by : (a b : Ballot) (s t : Bool) → ltb a.round b.round ≡ s → eqb a.round b.round ≡ t → (s || (t && ltb a.node b.node)) ≡ true → IsBelow a b
+below_by : (a b : Ballot) (s t : Bool) → ltb a.round b.round ≡ s → eqb a.round b.round ≡ t
+    → (s || (t && ltb a.node b.node)) ≡ true → IsBelow a b
 below_by a b true t p q h = inl (ltb-true a.round b.round p)
 below_by a b false true p q h = inr (eqb-true a.round b.round q, ltb-true a.node b.node h)
 below_by a b false false p q h = absurd cc
@@ -30,7 +31,8 @@ below_by a b false false p q h = absurd cc
 pub true_below : (a b : Ballot) → ballot_lt a b ≡ true → IsBelow a b
 true_below a b h = below_by a b (ltb a.round b.round) (eqb a.round b.round) refl refl h
 
-most_by : (a b : Ballot) (s t : Bool) → ltb b.round a.round ≡ s → eqb b.round a.round ≡ t → (s || (t && ltb b.node a.node)) ≡ false → IsAtMost a b
+most_by : (a b : Ballot) (s t : Bool) → ltb b.round a.round ≡ s → eqb b.round a.round ≡ t
+    → (s || (t && ltb b.node a.node)) ≡ false → IsAtMost a b
 most_by a b true t p q h = absurd cc
 most_by a b false true p q h =
     let same = eqb-true b.round a.round q in
@@ -51,7 +53,8 @@ most_false a b (inr h) = rw (le-ltb b.round a.round (omega arith), eq-eqb b.roun
 
 -- ---- one vote
 
-pub vote_found : (size : ℕ) (b : Ballot) (first upto low : ℕ) (bytes : List ℕ) (p : Vote × List ℕ) → AreBytes bytes → vote_at size b first upto low bytes ≡ Ok p
+pub vote_found : (size : ℕ) (b : Ballot) (first upto low : ℕ) (bytes : List ℕ) (p : Vote × List ℕ) → AreBytes bytes
+    → vote_at size b first upto low bytes ≡ Ok p
     → Takes bytes (vote_bytes p.0) p.1 × IsVote size b first upto p.0 × (low ≤ p.0.place)
 unfolding vote_at
 vote_found size b first upto low bytes p h e =
@@ -80,26 +83,42 @@ vote_found size b first upto low bytes p h e =
       ltb-false a.0.0 low c.0,
     )
 
-pub vote_again : (size : ℕ) (b : Ballot) (first upto low : ℕ) (v : Vote) (rest : List ℕ) → upto ≤ 65536 → IsVote size b first upto v → low ≤ v.place
+pub vote_again : (size : ℕ) (b : Ballot) (first upto low : ℕ) (v : Vote) (rest : List ℕ) → upto ≤ 65536
+    → IsVote size b first upto v → low ≤ v.place
     → vote_at size b first upto low (vote_bytes v ++ rest) ≡ Ok (v, rest)
 unfolding vote_at
 vote_again size b first upto low v rest small h above =
     let place : v.place < 2 ^ 32 = omega (arith, h.below_upto) in
     let upper : leb upto v.place ≡ false = lt-leb upto v.place h.below_upto in
-    rw (number_again v.place (ballot_bytes v.ballot ++ (value_bytes v.value ++ rest)) place, le-ltb v.place low above, le-ltb v.place first h.from_low, upper, ballot_again size v.ballot (value_bytes v.value ++ rest) h.ballot, most_false v.ballot b h.not_above, value_again size v.value rest h.value) refl
+    rw (
+      number_again v.place
+          (ballot_bytes v.ballot ++ (value_bytes v.value ++ rest)) place,
+      le-ltb v.place low above,
+      le-ltb v.place first
+          h.from_low,
+      upper,
+      ballot_again size v.ballot
+          (value_bytes v.value ++ rest) h.ballot,
+      most_false v.ballot b h.not_above,
+      value_again size v.value rest
+          h.value,
+    ) refl
 
 -- ---- all votes
 
 -- a vote from another place on
 vote_from : (size : ℕ) (b : Ballot) (first low upto : ℕ) (v : Vote) → low ≤ v.place → IsVote size b first upto v → IsVote size b low upto v
-vote_from size b first low upto v le h = record { from_low = le; below_upto = h.below_upto; ballot = h.ballot; not_above = h.not_above; value = h.value }
+vote_from size b first low upto v le h =
+    record { from_low = le; below_upto = h.below_upto; ballot = h.ballot; not_above = h.not_above; value = h.value }
 
 -- from is a bound on places that are neither below low nor below first
-pub votes_found : (size : ℕ) (b : Ballot) (first upto low from n : ℕ) (bytes : List ℕ) (p : List Vote × List ℕ) → AreBytes bytes → ((k : ℕ) → low ≤ k → first ≤ k → from ≤ k)
+pub votes_found : (size : ℕ) (b : Ballot) (first upto low from n : ℕ) (bytes : List ℕ) (p : List Vote × List ℕ)
+    → AreBytes bytes → ((k : ℕ) → low ≤ k → first ≤ k → from ≤ k)
     → votes_at size b first upto low n bytes ≡ Ok p → Takes bytes (votes_bytes p.0) p.1 × AreVotes size b from upto p.0 × (length p.0 ≡ n)
 unfolding votes_at
 votes_found size b first upto low from zero bytes p h bound e =
-    subst (λ (q : List Vote × List ℕ). Takes bytes (votes_bytes q.0) q.1 × AreVotes size b from upto q.0 × (length q.0 ≡ zero)) (ok_is ([], bytes) p e)
+    subst (λ (q : List Vote × List ℕ). Takes bytes (votes_bytes q.0) q.1 × AreVotes size b from upto q.0
+    × (length q.0 ≡ zero)) (ok_is ([], bytes) p e)
     (record { parts = refl; others = h }, tt, refl)
 votes_found size b first upto low from (suc n) bytes p h bound e =
     let a = bind_ok (vote_at size b first upto low bytes) _ p e in
@@ -107,13 +126,15 @@ votes_found size b first upto low from (suc n) bytes p h bound e =
     let one = vote_found size b first upto low bytes a.0 h a.1 in
     let more = votes_found size b first upto (a.0.0.place + 1) (a.0.0.place + 1) n a.0.1 c.0 one.0.others (λ k x y. x) c.1 in
     let above : from ≤ a.0.0.place = bound a.0.0.place one.2 one.1.from_low in
-    subst (λ (q : List Vote × List ℕ). Takes bytes (votes_bytes q.0) q.1 × AreVotes size b from upto q.0 × (length q.0 ≡ suc n)) (ok_is (a.0.0 ∷ c.0.0, c.0.1) p c.2) (
+    subst (λ (q : List Vote × List ℕ). Takes bytes (votes_bytes q.0) q.1 × AreVotes size b from upto q.0
+    × (length q.0 ≡ suc n)) (ok_is (a.0.0 ∷ c.0.0, c.0.1) p c.2) (
       takes_then bytes (vote_bytes a.0.0) a.0.1 (votes_bytes c.0.0) c.0.1 one.0 more.0,
       (vote_from size b first from upto a.0.0 above one.1, more.1),
       ap suc more.2,
     )
 
-pub votes_again : (size : ℕ) (b : Ballot) (first upto low from : ℕ) (votes : List Vote) (rest : List ℕ) → upto ≤ 65536 → low ≤ from → first ≤ from → AreVotes size b from upto votes
+pub votes_again : (size : ℕ) (b : Ballot) (first upto low from : ℕ) (votes : List Vote) (rest : List ℕ) → upto ≤ 65536
+    → low ≤ from → first ≤ from → AreVotes size b from upto votes
     → votes_at size b first upto low (length votes) (votes_bytes votes ++ rest) ≡ Ok (votes, rest)
 unfolding votes_at
 votes_again size b first upto low from [] rest small l f h = refl
@@ -122,5 +143,6 @@ votes_again size b first upto low from (v ∷ votes) rest small l f h =
     let under : first ≤ v.place = omega (arith, h.0.from_low) in
     let one = vote_again size b first upto low v (votes_bytes votes ++ rest) small (vote_from size b from first upto v under h.0) here in
     let more = votes_again size b first upto (v.place + 1) (v.place + 1) votes rest small (omega arith) (omega arith) h.1 in
-    let parts : (vote_bytes v ++ votes_bytes votes) ++ rest ≡ vote_bytes v ++ (votes_bytes votes ++ rest) = append_assoc (vote_bytes v) (votes_bytes votes) rest in
+    let parts : (vote_bytes v ++ votes_bytes votes) ++ rest ≡ vote_bytes v ++ (votes_bytes votes ++ rest) =
+    append_assoc (vote_bytes v) (votes_bytes votes) rest in
     rw (parts, one, more) refl

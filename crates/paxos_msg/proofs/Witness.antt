@@ -114,8 +114,24 @@ safe = record {
   best = None;
   majority = lit< tt;
   promised = pair_cases (λ i. IsPromised s4 i ballot 0 None)
-      (record { first = 0; upto = 1; votes = []; is_sent = (2, lit< tt, refl); from_first = omega arith; below_upto = omega arith; reports = refl })
-      (record { first = 0; upto = 1; votes = []; is_sent = (3, lit< tt, refl); from_first = omega arith; below_upto = omega arith; reports = refl });
+      (record {
+        first = 0;
+        upto = 1;
+        votes = [];
+        is_sent = (2, lit< tt, refl);
+        from_first = omega arith;
+        below_upto = omega arith;
+        reports = refl;
+      })
+      (record {
+        first = 0;
+        upto = 1;
+        votes = [];
+        is_sent = (3, lit< tt, refl);
+        from_first = omega arith;
+        below_upto = omega arith;
+        reports = refl;
+      });
   is_best = λ i member. refl;
   value = inr (2, (0, lit< tt, refl));
 }
@@ -137,9 +153,13 @@ grew =
     let c2 : Grew 3 s3 r2 = saves s3 r1 r2 2 (ToPromise ballot) g3 tt (with_change-saved r1 2 (ToPromise ballot)) in
     let g4 : Grew 3 s4 r2 = sends s3 r2 typed learned 2 (Promise ballot 0 1 []) c2 (refl, silent (r2 2) refl) in
     let g5 : Grew 3 s5 r2 = sends s4 r2 typed learned 1 (Accept ballot 0 key) g4 (refl, inr (unproposed, safe)) in
-    let c3 : Grew 3 s5 r3 = saves s5 r2 r3 1 (Ballotted 0 ballot key) g5 (said, grind arith) (with_change-saved r2 1 (Ballotted 0 ballot key)) in
+    let c3 : Grew 3 s5 r3 =
+    saves s5 r2 r3 1 (Ballotted 0 ballot key) g5 (said, grind arith)
+    (with_change-saved r2 1 (Ballotted 0 ballot key)) in
     let g6 : Grew 3 s6 r3 = sends s5 r3 typed learned 1 (Accepted ballot 0 key) c3 (said, refl, refl) in
-    let c4 : Grew 3 s6 r4 = saves s6 r3 r4 2 (Ballotted 0 ballot key) g6 ((1, (4, lit< tt, refl)), grind arith) (with_change-saved r3 2 (Ballotted 0 ballot key)) in
+    let c4 : Grew 3 s6 r4 =
+    saves s6 r3 r4 2 (Ballotted 0 ballot key) g6 ((1, (4, lit< tt, refl)), grind arith)
+    (with_change-saved r3 2 (Ballotted 0 ballot key)) in
     sends s6 r4 typed learned 2 (Accepted ballot 0 key) c4 ((1, (4, lit< tt, refl)), refl, refl)
 
 chosen : IsChosen 3 s7 0 key

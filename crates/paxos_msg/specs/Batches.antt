@@ -1,5 +1,5 @@
--- Votes, messages, records and rules over the values of today, which are batches of keys: what other modules say of any type of
--- values is meant of these where it is taken from here.
+-- Votes, messages, records and rules over the values of today, which are batches of keys: what
+-- other modules say of any type of values is meant of these where it is taken from here.
 use Rattle.std.specs.Prelude.{ℕ, List, Option}
 use Rattle.paxos_msg.specs.declared.ballot.Ballot.{Ballot}
 use Rattle.paxos_msg.specs.declared.value.Value.{Value}

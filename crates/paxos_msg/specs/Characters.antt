@@ -15,5 +15,6 @@ pub record IsFilled (len : ℕ) (bytes : List ℕ) : Type 0 where
 pub len_back : (len : ℕ) (bytes : List ℕ) → IsFilled len bytes → length (take len bytes) ≡ len
 len_back len bytes h = length-take-le len bytes h.few
 
-pub bytes_back : (len : ℕ) (bytes : List ℕ) → IsFilled len bytes → take len bytes ++ replicate (32 - length (take len bytes)) 0 ≡ bytes
+pub bytes_back : (len : ℕ) (bytes : List ℕ) → IsFilled len bytes
+    → take len bytes ++ replicate (32 - length (take len bytes)) 0 ≡ bytes
 bytes_back len bytes h = rw (len_back len bytes h) (sym h.rest)

@@ -1,4 +1,5 @@
--- How ballots, values and votes are stored, so that what holds them may be a value that contracts see: a finite map, say.
+-- How ballots, values and votes are stored, so that what holds them may be a value that contracts
+-- see: a finite map, say.
 use Rattle.std.specs.Prelude.{◌≡◌, ℕ, List, Option, None, Some, refl}
 use Rattle.std.specs.Coded.{Coded, code_by, coded×, coded_ℕ, coded_list, coded_option}
 use Rattle.paxos_msg.specs.declared.ballot.Ballot.{Ballot}
@@ -8,7 +9,9 @@ use Rattle.paxos_msg.specs.Batches.{Vote}
 
 -- a ballot is stored as the pair of its fields
 abbrev pub ballot_code : Coded Ballot
-ballot_code = code_by (ℕ × ℕ) (coded× coded_ℕ coded_ℕ) (λ b. (b.round, b.node)) (λ p. record { round = p.0; node = p.1 }) (λ _. refl)
+ballot_code =
+    code_by (ℕ × ℕ) (coded× coded_ℕ coded_ℕ) (λ b. (b.round, b.node))
+    (λ p. record { round = p.0; node = p.1 }) (λ _. refl)
 
 -- a value is a batch of keys or none, and a batch is its four fields
 abbrev value_fields : Value → Option (ℕ × (ℕ × (ℕ × List ℕ)))
@@ -25,10 +28,13 @@ value_back (Keys node start first bytes) = refl
 
 abbrev pub value_code : Coded Value
 value_code =
-    code_by (Option (ℕ × (ℕ × (ℕ × List ℕ)))) (coded_option (coded× coded_ℕ (coded× coded_ℕ (coded× coded_ℕ (coded_list coded_ℕ))))) value_fields value_from value_back
+    code_by (Option (ℕ × (ℕ × (ℕ × List ℕ))))
+    (coded_option (coded× coded_ℕ (coded× coded_ℕ (coded× coded_ℕ (coded_list coded_ℕ)))))
+    value_fields value_from value_back
 
 -- a vote is stored as its three fields
 abbrev pub vote_code : Coded Vote
 vote_code =
-    code_by (ℕ × (Ballot × Value)) (coded× coded_ℕ (coded× ballot_code value_code)) (λ v. (v.place, (v.ballot, v.value)))
+    code_by (ℕ × (Ballot × Value)) (coded× coded_ℕ (coded× ballot_code value_code))
+    (λ v. (v.place, (v.ballot, v.value)))
     (λ p. record { place = p.0; ballot = p.1.0; value = p.1.1 }) (λ _. refl)

@@ -26,11 +26,14 @@ IsPlace s = s ≤ 65535
 
 -- 1 to 32 characters, whose keys' serials, from this one on, are from 1 on and fit four bytes
 abbrev pub IsBatch : ℕ → List ℕ → Type 0
-IsBatch first bytes = (0 < first) × (0 < length bytes) × (length bytes ≤ 32) × (first + length bytes ≤ 2 ^ 32) × AreBytes bytes
+IsBatch first bytes =
+    (0 < first) × (0 < length bytes) × (length bytes ≤ 32) × (first + length bytes ≤ 2 ^ 32)
+    × AreBytes bytes
 
 abbrev pub IsValue : ℕ → Value → Type 0
 IsValue size value.Noop = Unit {0}
-IsValue size (value.Keys node start first bytes) = IsNode size node × IsCount start × IsBatch first bytes
+IsValue size (value.Keys node start first bytes) =
+    IsNode size node × IsCount start × IsBatch first bytes
 
 -- a vote at a place from low up to upto, under a ballot that is not above b
 pub record IsVote (size : ℕ) (b : Ballot) (low upto : ℕ) (vote : Vote) : Type 0 where
@@ -43,16 +46,19 @@ pub record IsVote (size : ℕ) (b : Ballot) (low upto : ℕ) (vote : Vote) : Typ
 -- votes whose places ascend from low on, up to upto
 abbrev pub AreVotes : ℕ → Ballot → ℕ → ℕ → List Vote → Type 0
 AreVotes size b low upto [] = Unit {0}
-AreVotes size b low upto (vote ∷ votes) = IsVote size b low upto vote × AreVotes size b (vote.place + 1) upto votes
+AreVotes size b low upto (vote ∷ votes) =
+    IsVote size b low upto vote × AreVotes size b (vote.place + 1) upto votes
 
 -- the ranges of a body that node i sends
 abbrev pub IsBody : ℕ → ℕ → Body → Type 0
 IsBody size i (body.Prepare b from) = IsBallot size b × (b.node ≡ i) × IsPlace from
 IsBody size i (body.Promise b first upto votes) =
-    IsBallot size b × IsPlace first × (upto ≤ 65536) × (first < upto) × (length votes ≤ 8) × AreVotes size b first upto votes
+    IsBallot size b × IsPlace first × (upto ≤ 65536) × (first < upto) × (length votes ≤ 8)
+    × AreVotes size b first upto votes
 IsBody size i (body.Accept b s v) = IsBallot size b × (b.node ≡ i) × IsPlace s × IsValue size v
 IsBody size i (body.Accepted b s v) = IsBallot size b × IsPlace s × IsValue size v
-IsBody size i (body.Refused b promised) = IsBallot size b × IsBallot size promised × IsBelow b promised
+IsBody size i (body.Refused b promised) =
+    IsBallot size b × IsBallot size promised × IsBelow b promised
 IsBody size i (body.Submit v) = IsValue size v × AreOwnKeys batches i v
 IsBody size i (body.Ask from) = from ≤ 65536
 IsBody size i (body.Tell s v) = IsPlace s × IsValue size v

@@ -8,10 +8,16 @@ use Rattle.paxos_msg.specs.Messages.{Sent}
 use Rattle.paxos_msg.specs.Records.{empty_record, MaySave, IsSaved}
 use Rattle.paxos_msg.specs.Sending.{MaySend}
 
--- What was sent and the records, as they grow from nothing: node after node, in any order, sends what it may or saves
--- what it may. Each sending is for some typed keys and some learned values, whichever they are: a law of all growths
--- holds whatever was typed and learned.
+-- What was sent and the records, as they grow from nothing: node after node, in any order, sends
+-- what it may or saves what it may. Each sending is for some typed keys and some learned values,
+-- whichever they are: a law of all growths holds whatever was typed and learned.
 pub data Grew {V : Type 0} (values : Values V) (size : ℕ) : Sent V → (ℕ → Record V) → Type 0 where
-  nothing : (records : ℕ → Record V) → ((i : ℕ) → records i ≡ empty_record) → Grew values size [] records
-  sends : (sent : Sent V) (records : ℕ → Record V) (typed : List Key) (learned : ℕ → Option V) (i : ℕ) (body : Body V) → Grew values size sent records → MaySend values size typed learned sent i (records i) body → Grew values size (sent ++ record { sender = i; body = body } ∷ []) records
-  saves : (sent : Sent V) (records next : ℕ → Record V) (i : ℕ) (change : Change V) → Grew values size sent records → MaySave sent (records i) change → IsSaved records i change next → Grew values size sent next
+  nothing : (records : ℕ → Record V) → ((i : ℕ) → records i ≡ empty_record)
+      → Grew values size [] records
+  sends : (sent : Sent V) (records : ℕ → Record V) (typed : List Key) (learned : ℕ → Option V)
+      (i : ℕ) (body : Body V) → Grew values size sent records
+      → MaySend values size typed learned sent i (records i) body
+      → Grew values size (sent ++ record { sender = i; body = body } ∷ []) records
+  saves : (sent : Sent V) (records next : ℕ → Record V) (i : ℕ) (change : Change V)
+      → Grew values size sent records → MaySave sent (records i) change
+      → IsSaved records i change next → Grew values size sent next

@@ -14,7 +14,8 @@ pub record Key : Type 0 where
 abbrev pub keys_from : ℕ → ℕ → ℕ → List ℕ → List Key
 keys_from node start serial [] = []
 keys_from node start serial (byte ∷ bytes) =
-    record { node = node; start = start; serial = serial; byte = byte } ∷ keys_from node start (serial + 1) bytes
+    record { node = node; start = start; serial = serial; byte = byte }
+    ∷ keys_from node start (serial + 1) bytes
 
 -- the keys of a value, in order of serial
 abbrev pub keys_of : Value → List Key

@@ -23,8 +23,8 @@ abbrev pub messages_of : {V : Type 0} → ℕ → List (Body V) → Sent V
 messages_of i bodies = map (λ body. record { sender = i; body = body }) bodies
 
 -- the vote at place s, if there is one
-abbrev pub vote_at : {V : Type 0} → List (Vote V) → ℕ → Option (Vote V)
-vote_at votes s = find (λ vote. vote.place == s) votes
+abbrev pub kept_vote_at : {V : Type 0} → List (Vote V) → ℕ → Option (Vote V)
+kept_vote_at votes s = find (λ vote. vote.place == s) votes
 
 -- each vote is at a place above this one
 abbrev pub AreAbove : {V : Type 0} → ℕ → List (Vote V) → Type 0
@@ -36,13 +36,15 @@ abbrev pub IsAscending : {V : Type 0} → List (Vote V) → Type 0
 IsAscending [] = Unit {0}
 IsAscending (vote ∷ votes) = AreAbove vote.place votes × IsAscending votes
 
--- A single promise: a Promise of node i under ballot b speaks of place s, and reports this vote there, or none. So one
--- Promise stands for one single promise for each place from its first up to, and without, its upto.
-pub record IsPromised {V : Type 0} (sent : Sent V) (i : ℕ) (b : Ballot) (s : ℕ) (reported : Option (Vote V)) : Type 0 where
+-- A single promise: a Promise of node i under ballot b speaks of place s, and reports this vote
+-- there, or none. So one Promise stands for one single promise for each place from its first up to,
+-- and without, its upto.
+pub record IsPromised {V : Type 0} (sent : Sent V) (i : ℕ) (b : Ballot) (s : ℕ)
+    (reported : Option (Vote V)) : Type 0 where
   pub first : ℕ
   pub upto : ℕ
   pub votes : List (Vote V)
   pub is_sent : IsSent sent i (Promise b first upto votes)
   pub from_first : first ≤ s
   pub below_upto : s < upto
-  pub reports : vote_at votes s ≡ reported
+  pub reports : kept_vote_at votes s ≡ reported

@@ -1,4 +1,5 @@
--- Messages and records whose values are replaced, and the values of version 1 by batches of one key.
+-- Messages and records whose values are replaced, and the values of version 1 by batches of one
+-- key.
 use Rattle.std.specs.Prelude.{[], ◌∷◌, map, Option, Some, None}
 use Rattle.std.specs.Option.{option_to_list}
 use Rattle.paxos_msg.specs.declared.value.Value.{Value}
@@ -35,7 +36,8 @@ abbrev pub sent_with : {V W : Type 0} → (V → W) → Sent V → Sent W
 sent_with f sent = map (msg_with f) sent
 
 abbrev pub record_with : {V W : Type 0} → (V → W) → Record V → Record W
-record_with f r = record { starts = r.starts; promised = r.promised; votes = map (vote_with f) r.votes }
+record_with f r =
+    record { starts = r.starts; promised = r.promised; votes = map (vote_with f) r.votes }
 
 abbrev pub change_with : {V W : Type 0} → (V → W) → Change V → Change W
 change_with f change.Start = change.Start

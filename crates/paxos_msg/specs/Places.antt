@@ -1,6 +1,10 @@
--- Where a place stands among votes that ascend.
-use Rattle.std.specs.Prelude.{◌≡◌, ℕ, ◌<◌, ◌≤◌, List, length, get_or}
+-- Votes by place: those from a place on, and where a place stands among votes that ascend.
+use Rattle.std.specs.Prelude.{◌≡◌, ℕ, ◌<◌, ◌≤◌, nat_le, List, length, filter, get_or}
 use Rattle.paxos_msg.specs.declared.value.Vote.{Vote}
+
+-- the votes at place s and above it
+abbrev pub votes_from : {V : Type 0} → ℕ → List (Vote V) → List (Vote V)
+votes_from s votes = filter (λ vote. nat_le s vote.place) votes
 
 -- the vote at index i is at place s, and those before it at smaller places
 pub record IsPlaceIn {V : Type 0} (votes : List (Vote V)) (s i : ℕ) : Type 0 where

@@ -7,7 +7,7 @@ use Rattle.paxos_msg.specs.Batches.{Vote}
 use Rattle.paxos_msg.specs.declared.fault.WireFault.{WireFault}
 use Rattle.paxos_msg.specs.declared.fault.WireFault.TheVariants as fault
 use Rattle.base.specs.Steps.{unless, ◌>>=◌}
-use Rattle.paxos_msg.specs.Reading.{byte_at, bytes_at, characters_at, number_at, vote_at}
+use Rattle.paxos_msg.specs.Reading.{first_byte, bytes_at, characters_at, number_at, vote_at}
 
 -- the first n bytes are taken
 abbrev pub Takes : ℕ → List ℕ → List ℕ → Type 0
@@ -18,13 +18,13 @@ Takes n bytes rest = (n ≤ length bytes) × (rest ≡ drop n bytes)
 unfoldable pub raw_ballot_at : List ℕ → Result (Ballot × List ℕ) WireFault
 raw_ballot_at bytes = do
   round ← number_at bytes
-  node ← byte_at round.1
+  node ← first_byte round.1
   Ok (record { round = round.0; node = node.0 }, node.1)
 
 -- the characters of a batch behind their count, of which there have to be 1 to 32
 unfoldable pub raw_characters_at : List ℕ → Result (List ℕ × List ℕ) WireFault
 raw_characters_at bytes = do
-  count ← byte_at bytes
+  count ← first_byte bytes
   some ← unless fault.Value ((count.0 == 0) || nat_lt 32 count.0) count
   bytes_at some.0 some.1
 
@@ -48,10 +48,11 @@ keys_rest_at node bytes = do
 abbrev pub raw_tagged : ℕ → List ℕ → Result (Value × List ℕ) WireFault
 raw_tagged tag bytes =
     if tag == 0 then Ok (value.Noop, bytes)
-    else (if tag == 1 then (byte_at bytes >>= λ node. raw_keys_at node.0 node.1) else Err fault.Value)
+    else (if tag == 1 then (first_byte bytes >>= λ node. raw_keys_at node.0 node.1)
+    else Err fault.Value)
 
 unfoldable pub raw_value_at : List ℕ → Result (Value × List ℕ) WireFault
-raw_value_at bytes = byte_at bytes >>= λ tag. raw_tagged tag.0 tag.1
+raw_value_at bytes = first_byte bytes >>= λ tag. raw_tagged tag.0 tag.1
 
 unfoldable pub raw_vote_at : List ℕ → Result (Vote × List ℕ) WireFault
 raw_vote_at bytes = do
@@ -63,7 +64,8 @@ raw_vote_at bytes = do
 -- ---- votes as they stand
 
 -- a vote at this place is read from the front of the bytes, and as it stands it is the same
-pub record PassesVote (size : ℕ) (b : Ballot) (first upto low : ℕ) (bytes : List ℕ) (place : ℕ) (rest : List ℕ) : Type 0 where
+pub record PassesVote (size : ℕ) (b : Ballot) (first upto low : ℕ) (bytes : List ℕ) (place : ℕ)
+    (rest : List ℕ) : Type 0 where
   pub vote : Vote
   pub at_place : vote.place ≡ place
   pub read : vote_at size b first upto low bytes ≡ Ok (vote, rest)

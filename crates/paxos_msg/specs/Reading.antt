@@ -19,16 +19,18 @@ Gives view (Err e) read = read ≡ Err e
 
 -- ---- fields: the value, and the bytes behind it
 
-abbrev pub byte_at : List ℕ → Result (ℕ × List ℕ) WireFault
-byte_at [] = Err fault.Short
-byte_at (b ∷ bytes) = Ok (b, bytes)
+abbrev pub first_byte : List ℕ → Result (ℕ × List ℕ) WireFault
+first_byte [] = Err fault.Short
+first_byte (b ∷ bytes) = Ok (b, bytes)
 
 abbrev pub number_at : List ℕ → Result (ℕ × List ℕ) WireFault
-number_at bytes = if nat_lt (length bytes) 4 then Err fault.Short else Ok (big_number 4 bytes, drop 4 bytes)
+number_at bytes =
+    if nat_lt (length bytes) 4 then Err fault.Short else Ok (big_number 4 bytes, drop 4 bytes)
 
 -- so many bytes
 abbrev pub bytes_at : ℕ → List ℕ → Result (List ℕ × List ℕ) WireFault
-bytes_at n bytes = if nat_lt (length bytes) n then Err fault.Short else Ok (take n bytes, drop n bytes)
+bytes_at n bytes =
+    if nat_lt (length bytes) n then Err fault.Short else Ok (take n bytes, drop n bytes)
 
 -- a node of a group of that size
 abbrev pub is_node : ℕ → ℕ → Bool
@@ -38,7 +40,7 @@ unfoldable pub ballot_at : ℕ → List ℕ → Result (Ballot × List ℕ) Wire
 ballot_at size bytes = do
   round ← number_at bytes
   begun ← unless fault.Ballot (round.0 == 0) round
-  node ← byte_at begun.1
+  node ← first_byte begun.1
   there ← unless fault.Ballot (not (is_node size node.0)) node
   Ok (record { round = begun.0; node = there.0 }, there.1)
 
@@ -53,21 +55,23 @@ place_at most bytes = do
   place ← number_at bytes
   unless fault.Place (nat_lt most place.0) place
 
--- whether so many keys whose serials go on from this one are a batch: 1 to 32 keys with serials of 1 to 4,294,967,295
+-- whether so many keys whose serials go on from this one are a batch: 1 to 32 keys with serials of
+-- 1 to 4,294,967,295
 abbrev pub is_batch : ℕ → ℕ → Bool
-is_batch first count = nat_lt 0 first && (nat_lt 0 count && (nat_le count 32 && nat_le (first + count) 4294967296))
+is_batch first count =
+    nat_lt 0 first && (nat_lt 0 count && (nat_le count 32 && nat_le (first + count) 4294967296))
 
 -- the characters of a batch behind their count, whose first key has this serial
 unfoldable pub characters_at : ℕ → List ℕ → Result (List ℕ × List ℕ) WireFault
 characters_at first bytes = do
-  count ← byte_at bytes
+  count ← first_byte bytes
   good ← unless fault.Value (not (is_batch first count.0)) count
   bytes_at good.0 good.1
 
 -- the fields of a batch behind its tag; its node has to pass the test
 unfoldable pub keys_at : (ℕ → Bool) → List ℕ → Result (Value × List ℕ) WireFault
 keys_at is_good bytes = do
-  node ← byte_at bytes
+  node ← first_byte bytes
   there ← unless fault.Value (not (is_good node.0)) node
   start ← number_at there.1
   started ← unless fault.Value (start.0 == 0) start
@@ -75,18 +79,18 @@ keys_at is_good bytes = do
   characters ← characters_at first.0 first.1
   Ok (Keys there.0 started.0 first.0 characters.0, characters.1)
 
-abbrev pub tagged : ℕ → ℕ → List ℕ → Result (Value × List ℕ) WireFault
-tagged size tag bytes =
+abbrev pub tagged_value : ℕ → ℕ → List ℕ → Result (Value × List ℕ) WireFault
+tagged_value size tag bytes =
     if tag == 0 then Ok (Noop, bytes)
     else (if tag == 1 then keys_at (is_node size) bytes else Err fault.Value)
 
 unfoldable pub value_at : ℕ → List ℕ → Result (Value × List ℕ) WireFault
-value_at size bytes = byte_at bytes >>= λ tag. tagged size tag.0 tag.1
+value_at size bytes = first_byte bytes >>= λ tag. tagged_value size tag.0 tag.1
 
 -- keys that were typed at the sender
 unfoldable pub own_keys_at : ℕ → ℕ → List ℕ → Result (Value × List ℕ) WireFault
 own_keys_at size sender bytes = do
-  tag ← byte_at bytes
+  tag ← first_byte bytes
   keys ← unless fault.Value (not (tag.0 == 1)) tag
   keys_at (λ node. is_node size node && (node == sender)) keys.1
 
@@ -103,7 +107,8 @@ vote_at size b first upto low bytes = do
   value ← value_at size not_above.1
   Ok (record { place = there.0; ballot = not_above.0; value = value.0 }, value.1)
 
-unfoldable pub votes_at : ℕ → Ballot → ℕ → ℕ → ℕ → ℕ → List ℕ → Result (List Vote × List ℕ) WireFault
+unfoldable pub votes_at : ℕ → Ballot → ℕ → ℕ → ℕ → ℕ → List ℕ
+    → Result (List Vote × List ℕ) WireFault
 votes_at size b first upto low zero bytes = Ok ([], bytes)
 votes_at size b first upto low (suc n) bytes = do
   vote ← vote_at size b first upto low bytes
@@ -124,7 +129,7 @@ promise_at size bytes = do
   first ← place_at 65535 b.1
   upto ← place_at 65536 first.1
   above ← unless fault.Place (nat_le upto.0 first.0) upto
-  count ← byte_at above.1
+  count ← first_byte above.1
   few ← unless fault.Count (nat_lt 8 count.0) count
   votes ← votes_at size b.0 first.0 above.0 0 few.0 few.1
   Ok (Promise b.0 first.0 above.0 votes.0, votes.1)
@@ -181,8 +186,11 @@ header_at group bytes = do
   long ← unless fault.Short (nat_lt (length bytes) 10) bytes
   ours ← unless fault.Magic (not ((slice_index long 0 == 80) && (slice_index long 1 == 71))) long
   version ← unless fault.Version (not (slice_index ours 2 == 2)) ours
-  kind ← unless fault.Kind ((slice_index version 3 == 0) || nat_lt 8 (slice_index version 3)) version
-  here ← unless fault.Group (not ((slice_index kind 5 == group.size) && (big_number 4 (drop 6 kind) == group.session))) kind
+  kind ← unless fault.Kind
+      ((slice_index version 3 == 0) || nat_lt 8 (slice_index version 3)) version
+  here ← unless fault.Group
+      (not ((slice_index kind 5 == group.size) && (big_number 4 (drop 6 kind) == group.session)))
+      kind
   sender ← unless fault.Sender (not (is_node group.size (slice_index here 4))) here
   Ok ((slice_index sender 3, slice_index sender 4), drop 10 sender)
 

@@ -24,21 +24,30 @@ abbrev pub changed : {V : Type 0} → Record V → Change V → Record V
 changed r Start = record r { starts = r.starts + 1 }
 changed r (Promise b) = record r { promised = Some b }
 changed r (Ballotted s b v) =
-    record r { promised = Some b; votes = with_vote r.votes (record { place = s; ballot = b; value = v }) }
+    record r {
+      promised = Some b;
+      votes = with_vote r.votes (record { place = s; ballot = b; value = v });
+    }
 
--- When a node whose record is r may save the change: a start always, a promise only of a greater ballot than the one
--- promised, and a vote only for what was proposed, under a ballot that the promised one is not above.
+-- When a node whose record is r may save the change: a start always, a promise only of a greater
+-- ballot than the one promised, and a vote only for what was proposed, under a ballot that the
+-- promised one is not above.
 abbrev pub MaySave : {V : Type 0} → Sent V → Record V → Change V → Type 0
 MaySave sent r Start = Unit {0}
 MaySave sent r (Promise b) = IfSome r.promised (λ p. IsBelow p b)
-MaySave sent r (Ballotted s b v) = IsSaid sent (Accept b s v) × IfSome r.promised (λ p. IsAtMost p b)
+MaySave sent r (Ballotted s b v) =
+    IsSaid sent (Accept b s v) × IfSome r.promised (λ p. IsAtMost p b)
 
--- the records of the nodes after node i has saved the change: its own has changed, and the others are as they were
-pub record IsSaved {V : Type 0} (records : ℕ → Record V) (i : ℕ) (change : Change V) (next : ℕ → Record V) : Type 0 where
+-- the records of the nodes after node i has saved the change: its own has changed, and the others
+-- are as they were
+pub record IsSaved {V : Type 0} (records : ℕ → Record V) (i : ℕ) (change : Change V)
+    (next : ℕ → Record V) : Type 0 where
   pub own : next i ≡ changed (records i) change
   pub others : (j : ℕ) → j ≢ i → next j ≡ records j
 
--- What a restart finds, where saved is the record of the last save that succeeded, and failed are the changes of it
--- whose saves have failed since: that record, or the one of a save that failed.
+-- What a restart finds, where saved is the record of the last save that succeeded, and failed are
+-- the changes of it whose saves have failed since: that record, or the one of a save that failed.
 abbrev pub Stored : {V : Type 0} → Record V → List (Change V) → Record V → Type 0
-Stored {V} saved failed found = (found ≡ saved) ⊎ ((change : Change V) × Contains failed change × (found ≡ changed saved change))
+Stored {V} saved failed found =
+    (found ≡ saved) ⊎ ((change : Change V) × Contains failed change
+    × (found ≡ changed saved change))

@@ -1,4 +1,5 @@
--- What a node may send, whichever type the values have: which of them is no key, and the keys of each, are a parameter.
+-- What a node may send, whichever type the values have: which of them is no key, and the keys of
+-- each, are a parameter.
 use Rattle.std.specs.Prelude.{◌≡◌, ℕ, ◌<◌, ◌≤◌, ◌⊎◌, Bool, IsTrue, List, [], ◌∷◌, ◌++◌, Option, Some, None, IfSome, IsSomeAnd, MatchOption, Contains}
 use Rattle.paxos_msg.specs.declared.ballot.Ballot.{Ballot}
 use Rattle.paxos_msg.specs.declared.value.Vote.{Vote}
@@ -7,16 +8,19 @@ use Rattle.paxos_msg.specs.declared.message.Body.{Body}
 use Rattle.paxos_msg.specs.declared.message.Body.TheVariants.{Prepare, Promise, Accept, Accepted, Refused, Submit, Ask, Tell}
 use Rattle.paxos_msg.specs.Ballots.{IsBelow, IsAtMost, IsMajority}
 use Rattle.paxos_msg.specs.Keys.{AreOwnKeys, Key, Values}
-use Rattle.paxos_msg.specs.Messages.{Sent, IsSent, IsSaid, IsPromised, vote_at}
+use Rattle.paxos_msg.specs.Messages.{Sent, IsSent, IsSaid, IsPromised, kept_vote_at}
 
 -- a member reported this vote, and no member one of a greater ballot
-pub record IsGreatest {V : Type 0} (members : ℕ → Bool) (reported : ℕ → Option (Vote V)) (vote : Vote V) : Type 0 where
+pub record IsGreatest {V : Type 0} (members : ℕ → Bool) (reported : ℕ → Option (Vote V))
+    (vote : Vote V) : Type 0 where
   pub reporter : ℕ
   pub is_member : IsTrue (members reporter)
   pub reports : reported reporter ≡ Some vote
-  pub greatest : (i : ℕ) → IsTrue (members i) → IfSome (reported i) (λ other. IsAtMost other.ballot vote.ballot)
+  pub greatest : (i : ℕ) → IsTrue (members i)
+      → IfSome (reported i) (λ other. IsAtMost other.ballot vote.ballot)
 
--- the vote of the greatest ballot among those that the members reported, or none if they reported none
+-- the vote of the greatest ballot among those that the members reported, or none if they reported
+-- none
 abbrev pub IsBest : {V : Type 0} → (ℕ → Bool) → (ℕ → Option (Vote V)) → Option (Vote V) → Type 0
 IsBest members reported None = (i : ℕ) → IsTrue (members i) → reported i ≡ None
 IsBest members reported (Some vote) = IsGreatest members reported vote
@@ -25,9 +29,10 @@ IsBest members reported (Some vote) = IsGreatest members reported vote
 abbrev pub IsFree : {V : Type 0} → Values V → Sent V → V → Type 0
 IsFree values sent v = (v ≡ values.noop) ⊎ IsSaid sent (Submit v)
 
--- A majority has single promises for ballot b and place s, one each. If they report votes, v is the value of the
--- one with the greatest ballot; if they report none, v is a no-op or was submitted.
-pub record IsSafe {V : Type 0} (values : Values V) (size : ℕ) (sent : Sent V) (b : Ballot) (s : ℕ) (v : V) : Type 0 where
+-- A majority has single promises for ballot b and place s, one each. If they report votes, v is the
+-- value of the one with the greatest ballot; if they report none, v is a no-op or was submitted.
+pub record IsSafe {V : Type 0} (values : Values V) (size : ℕ) (sent : Sent V) (b : Ballot) (s : ℕ)
+    (v : V) : Type 0 where
   pub members : ℕ → Bool
   pub reported : ℕ → Option (Vote V)
   pub best : Option (Vote V)
@@ -40,41 +45,53 @@ pub record IsSafe {V : Type 0} (values : Values V) (size : ℕ) (sent : Sent V) 
 abbrev pub IsUnproposed : {V : Type 0} → Sent V → Ballot → ℕ → Type 0
 IsUnproposed {V} sent b s = (v : V) → ¬ IsSaid sent (Accept b s v)
 
--- The votes report record r from first up to upto: each is one of its votes and lies there, and at each place there
--- they have the vote that the record has, or none if it has none.
-pub record IsReport {V : Type 0} (r : Record V) (first upto : ℕ) (votes : List (Vote V)) : Type 0 where
+-- The votes report record r from first up to upto: each is one of its votes and lies there, and at
+-- each place there they have the vote that the record has, or none if it has none.
+pub record IsReport {V : Type 0} (r : Record V) (first upto : ℕ)
+    (votes : List (Vote V)) : Type 0 where
   pub own : (vote : Vote V) → Contains votes vote → Contains r.votes vote
   pub within : (vote : Vote V) → Contains votes vote → (first ≤ vote.place) × (vote.place < upto)
-  pub whole : (s : ℕ) → first ≤ s → s < upto → vote_at votes s ≡ vote_at r.votes s
+  pub whole : (s : ℕ) → first ≤ s → s < upto → kept_vote_at votes s ≡ kept_vote_at r.votes s
 
 -- v has keys of node i alone, each of which is among the typed keys
-pub record IsTyped {V : Type 0} (values : Values V) (typed : List Key) (i : ℕ) (v : V) : Type 0 where
+pub record IsTyped {V : Type 0} (values : Values V) (typed : List Key) (i : ℕ)
+    (v : V) : Type 0 where
   pub own : AreOwnKeys values i v
   pub known : (key : Key) → Contains (values.keys v) key → Contains typed key
 
--- Whether node i may send this after what was sent, where these keys were typed, it has learned these values, and its
--- stored record is r.
-abbrev pub MaySend : {V : Type 0} → Values V → ℕ → List Key → (ℕ → Option V) → Sent V → ℕ → Record V → Body V → Type 0
-MaySend values size typed learned sent i r (Prepare b from) = (b.node ≡ i) × IsSomeAnd r.promised (λ p. IsAtMost b p)
-MaySend values size typed learned sent i r (Promise b first upto votes) = (r.promised ≡ Some b) × IsReport r first upto votes
+-- Whether node i may send this after what was sent, where these keys were typed, it has learned
+-- these values, and its stored record is r.
+abbrev pub MaySend : {V : Type 0} → Values V → ℕ → List Key → (ℕ → Option V) → Sent V → ℕ → Record V
+    → Body V → Type 0
+MaySend values size typed learned sent i r (Prepare b from) =
+    (b.node ≡ i) × IsSomeAnd r.promised (λ p. IsAtMost b p)
+MaySend values size typed learned sent i r (Promise b first upto votes) =
+    (r.promised ≡ Some b) × IsReport r first upto votes
 MaySend values size typed learned sent i r (Accept b s v) =
-    (b.node ≡ i) × (IsSent sent i (Accept b s v) ⊎ (IsUnproposed sent b s × IsSafe values size sent b s v))
+    (b.node ≡ i) × (IsSent sent i (Accept b s v)
+    ⊎ (IsUnproposed sent b s × IsSafe values size sent b s v))
 MaySend values size typed learned sent i r (Accepted b s v) =
-    IsSaid sent (Accept b s v) × (vote_at r.votes s ≡ Some (record { place = s; ballot = b; value = v })) × (r.promised ≡ Some b)
-MaySend values size typed learned sent i r (Refused b promised) = (r.promised ≡ Some promised) × IsBelow b promised
+    IsSaid sent (Accept b s v)
+    × (kept_vote_at r.votes s ≡ Some (record { place = s; ballot = b; value = v }))
+    × (r.promised ≡ Some b)
+MaySend values size typed learned sent i r (Refused b promised) =
+    (r.promised ≡ Some promised) × IsBelow b promised
 MaySend values size typed learned sent i r (Submit v) = IsTyped values typed i v
 MaySend values size typed learned sent i r (Ask from) = Unit {0}
 MaySend values size typed learned sent i r (Tell s v) = learned s ≡ Some v
 
 -- whether node i may send these in one call, each after the earlier ones
-abbrev pub MaySendAll : {V : Type 0} → Values V → ℕ → List Key → (ℕ → Option V) → Sent V → ℕ → Record V → List (Body V) → Type 0
+abbrev pub MaySendAll : {V : Type 0} → Values V → ℕ → List Key → (ℕ → Option V) → Sent V → ℕ
+    → Record V → List (Body V) → Type 0
 MaySendAll values size typed learned sent i r [] = Unit {0}
 MaySendAll values size typed learned sent i r (body ∷ more) =
     MaySend values size typed learned sent i r body
-    × MaySendAll values size typed learned (sent ++ record { sender = i; body = body } ∷ []) i r more
+    × MaySendAll values size typed learned
+    (sent ++ record { sender = i; body = body } ∷ []) i r more
 
 -- each typed key is typed still, and each learned value is learned still
-pub record KnowsMore {V : Type 0} (typed newer : List Key) (learned now : ℕ → Option V) : Type 0 where
+pub record KnowsMore {V : Type 0} (typed newer : List Key)
+    (learned now : ℕ → Option V) : Type 0 where
   pub keys : (key : Key) → Contains typed key → Contains newer key
   pub values : (s : ℕ) (v : V) → learned s ≡ Some v → now s ≡ Some v
 

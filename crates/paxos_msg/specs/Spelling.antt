@@ -18,7 +18,8 @@ ballot_bytes b = number_bytes b.round ++ b.node ∷ []
 
 abbrev pub value_bytes : Value → List ℕ
 value_bytes Noop = 0 ∷ []
-value_bytes (Keys node start first bytes) = 1 ∷ node ∷ (number_bytes start ++ number_bytes first ++ length bytes ∷ bytes)
+value_bytes (Keys node start first bytes) =
+    1 ∷ node ∷ (number_bytes start ++ number_bytes first ++ length bytes ∷ bytes)
 
 abbrev pub vote_bytes : Vote → List ℕ
 vote_bytes v = number_bytes v.place ++ ballot_bytes v.ballot ++ value_bytes v.value
@@ -39,7 +40,9 @@ kind_of (Tell s v) = 8
 
 abbrev pub body_bytes : Body → List ℕ
 body_bytes (Prepare b from) = ballot_bytes b ++ number_bytes from
-body_bytes (Promise b first upto votes) = ballot_bytes b ++ number_bytes first ++ number_bytes upto ++ length votes ∷ [] ++ votes_bytes votes
+body_bytes (Promise b first upto votes) =
+    ballot_bytes b ++ number_bytes first ++ number_bytes upto ++ length votes ∷ []
+    ++ votes_bytes votes
 body_bytes (Accept b s v) = ballot_bytes b ++ number_bytes s ++ value_bytes v
 body_bytes (Accepted b s v) = ballot_bytes b ++ number_bytes s ++ value_bytes v
 body_bytes (Refused b promised) = ballot_bytes b ++ ballot_bytes promised
@@ -49,7 +52,8 @@ body_bytes (Tell s v) = number_bytes s ++ value_bytes v
 
 -- `PG`, version 2, kind, sender, and the group
 abbrev pub header_bytes : Group → ℕ → ℕ → List ℕ
-header_bytes group kind sender = 80 ∷ 71 ∷ 2 ∷ kind ∷ sender ∷ group.size ∷ number_bytes group.session
+header_bytes group kind sender =
+    80 ∷ 71 ∷ 2 ∷ kind ∷ sender ∷ group.size ∷ number_bytes group.session
 
 abbrev pub spelling : Group → Msg → List ℕ
 spelling group m = header_bytes group (kind_of m.body) m.sender ++ body_bytes m.body

@@ -17,7 +17,8 @@ abbrev pub same_value : Value → Value → Bool
 same_value Noop Noop = true
 same_value Noop (Keys node start first bytes) = false
 same_value (Keys node start first bytes) Noop = false
-same_value (Keys node start first bytes) (Keys n s f b) = (node == n) && ((start == s) && ((first == f) && pointwise nat_eq bytes b))
+same_value (Keys node start first bytes) (Keys n s f b) =
+    (node == n) && ((start == s) && ((first == f) && pointwise nat_eq bytes b))
 
 -- whether the members are a majority of the nodes 1 to size
 abbrev pub is_majority : ℕ → (ℕ → Bool) → Bool

@@ -6,7 +6,7 @@ use Rattle.paxos_msg.specs.declared.value.Value.TheVariants.{Noop, Keys}
 use Rattle.paxos_msg.specs.declared.fault.WireFault.{WireFault}
 use Rattle.paxos_msg.specs.declared.fault.WireFault.TheVariants as fault
 use Rattle.paxos_msg.specs.Keys.{keys_of}
-use Rattle.paxos_msg.specs.Reading.{byte_at, is_node, number_at}
+use Rattle.paxos_msg.specs.Reading.{first_byte, is_node, number_at}
 use Rattle.paxos_msg.specs.Spelling.{number_bytes}
 
 -- no key, or a single one
@@ -16,7 +16,8 @@ IsSingle v = length (keys_of v) ≤ 1
 -- The spelling of such a value in version 1: that of today without the count.
 abbrev pub value_bytes_v1 : Value → List ℕ
 value_bytes_v1 Noop = 0 ∷ []
-value_bytes_v1 (Keys node start first bytes) = 1 ∷ node ∷ (number_bytes start ++ number_bytes first ++ bytes)
+value_bytes_v1 (Keys node start first bytes) =
+    1 ∷ node ∷ (number_bytes start ++ number_bytes first ++ bytes)
 
 -- the fields of a key behind its node: its start, its serial and its character
 unfoldable pub key_rest_at_v1 : ℕ → List ℕ → Result (Value × List ℕ) WireFault
@@ -25,13 +26,13 @@ key_rest_at_v1 node bytes = do
   started ← unless fault.Value (start.0 == 0) start
   serial ← number_at started.1
   counted ← unless fault.Value (serial.0 == 0) serial
-  byte ← byte_at counted.1
+  byte ← first_byte counted.1
   Ok (Keys node started.0 counted.0 (byte.0 ∷ []), byte.1)
 
 -- the fields of a key behind its tag
 unfoldable pub key_at_v1 : ℕ → List ℕ → Result (Value × List ℕ) WireFault
 key_at_v1 size bytes = do
-  node ← byte_at bytes
+  node ← first_byte bytes
   there ← unless fault.Value (not (is_node size node.0)) node
   key_rest_at_v1 there.0 there.1
 
@@ -42,4 +43,4 @@ tagged_v1 size tag bytes =
 
 -- a value of version 1, a key as a batch of one
 unfoldable pub value_at_v1 : ℕ → List ℕ → Result (Value × List ℕ) WireFault
-value_at_v1 size bytes = byte_at bytes >>= λ tag. tagged_v1 size tag.0 tag.1
+value_at_v1 size bytes = first_byte bytes >>= λ tag. tagged_v1 size tag.0 tag.1

@@ -28,7 +28,9 @@ HasUpTo most (Submit key) = Unit {0}
 HasUpTo most (Ask from) = Unit {0}
 HasUpTo most (Tell s v) = Unit {0}
 
--- an answer of a field at the front of the bytes, and of how many bytes it takes, is what reading gives
-abbrev pub GivesField : {A : Type 0} → List ℕ → Result (A × ℕ) WireFault → Result (A × List ℕ) WireFault → Type 0
+-- an answer of a field at the front of the bytes, and of how many bytes it takes, is what reading
+-- gives
+abbrev pub GivesField : {A : Type 0} → List ℕ → Result (A × ℕ) WireFault
+    → Result (A × List ℕ) WireFault → Type 0
 GivesField bytes (Ok x) read = (x.1 ≤ length bytes) × (read ≡ Ok (x.0, drop x.1 bytes))
 GivesField bytes (Err e) read = read ≡ Err e

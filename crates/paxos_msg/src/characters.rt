@@ -24,7 +24,8 @@ impl Model for Characters {
 
     ghost inverse = { λ l. record { len = length l; bytes = l ++ replicate (32 - length l) 0 } };
 
-    ghost inverse_ok = { λ c h. λ i. record { len = len_back c.len c.bytes h i; bytes = bytes_back c.len c.bytes h i } };
+    ghost inverse_ok = { λ c h. λ i.
+        record { len = len_back c.len c.bytes h i; bytes = bytes_back c.len c.bytes h i } };
 }
 
 impl Characters {

@@ -5,7 +5,7 @@ ghost use Rattle.paxos_msg.specs.declared.message.Body.TheVariants.{Accepted};
 ghost use Rattle.paxos_msg.specs.Ballots.{count_of, IsMajority};
 ghost use Rattle.paxos_msg.specs.Chosen.{IsChosen, IsChosenBy};
 ghost use Rattle.paxos_msg.specs.Messages.{IsSent};
-ghost use Rattle.paxos_msg.specs.Nodes.{is_in};
+ghost use Rattle.paxos_msg.specs.Nodes.{is_listed};
 
 use crate::ballot::Ballot;
 use crate::message::{Body, Msg};
@@ -14,7 +14,7 @@ use crate::value::Value;
 /// How many of the nodes 1 to `size` stand in the list.
 #[tactic(auto, using(crate::proofs::Counting::count_next))]
 fn count_nodes(size: u8, members: &[u8]) -> usize
-    ensures count { result ≡ count_of (is_in members.now) size }
+    ensures count { result ≡ count_of (is_listed members.now) size }
     ensures few { result ≤ size }
 {
     let mut count: usize = 0;
@@ -26,10 +26,10 @@ fn count_nodes(size: u8, members: &[u8]) -> usize
     count
 }
 
-/// Whether the nodes that stand in the list are a majority of the nodes 1 to `size`. A node that stands
-/// there twice counts once, and one above `size` not at all.
+/// Whether the nodes that stand in the list are a majority of the nodes 1 to `size`. A node that
+/// stands there twice counts once, and one above `size` not at all.
 pub fn is_majority(size: u8, members: &[u8]) -> bool
-    ensures { IsTrue result ↔ IsMajority size (is_in members.now) }
+    ensures { IsTrue result ↔ IsMajority size (is_listed members.now) }
 {
     usize::from(size) < 2 * count_nodes(size, members)
 }
@@ -41,9 +41,11 @@ fn is_same(value: Value, other: Value) -> bool
     value == other
 }
 
-/// Whether by this message the node says that it has accepted the value at the place under the ballot.
+/// Whether by this message the node says that it has accepted the value at the place under the
+/// ballot.
 fn says_accepted(m: &Msg, node: u8, ballot: Ballot, place: u32, value: &Value) -> bool
-    ensures { IsTrue result ↔ (m.now ≡ record { sender = node; body = Accepted ballot place value.now }) }
+    ensures { IsTrue result
+        ↔ (m.now ≡ record { sender = node; body = Accepted ballot place value.now }) }
 {
     match &m.body {
         Body::Accepted {

@@ -19,8 +19,10 @@ use byteorder::{BigEndian, ByteOrder};
 
 /// Goes over one vote, and answers its place and the bytes behind it. The faults are the vote's.
 fn pass_vote(part: Part, low: u32, bytes: &[u8]) -> Result<(u32, &[u8]), WireFault>
-    ensures read { IfOk result (λ x. PassesVote part.size part.ballot part.first part.upto low bytes.now x.0 x.1.now) }
-    ensures err { IfErr result (λ e. vote_at part.size part.ballot part.first part.upto low bytes.now ≡ Err e) }
+    ensures read { IfOk result
+        (λ x. PassesVote part.size part.ballot part.first part.upto low bytes.now x.0 x.1.now) }
+    ensures err { IfErr result
+        (λ e. vote_at part.size part.ballot part.first part.upto low bytes.now ≡ Err e) }
     ensures place { IfOk result (λ x. x.0 < part.upto) }
 {
     match vote_of(part, low, bytes) {
@@ -29,12 +31,13 @@ fn pass_vote(part: Part, low: u32, bytes: &[u8]) -> Result<(u32, &[u8]), WireFau
     }
 }
 
-/// Goes over that many votes of a promise, and answers the bytes behind them. The faults are those of
-/// the first vote that has one.
+/// Goes over that many votes of a promise, and answers the bytes behind them. The faults are those
+/// of the first vote that has one.
 #[tactic(auto, using(crate::proofs::VotesLeft::few_left))]
 fn after_votes(part: Part, count: u32, bytes: &[u8]) -> Result<&[u8], WireFault>
     requires { part.upto ≤ 65536 }
-    ensures exact { Gives (λ rest. (votes_left count bytes.now, rest.now)) result (votes_at part.size part.ballot part.first part.upto 0 count bytes.now) }
+    ensures exact { Gives (λ rest. (votes_left count bytes.now, rest.now)) result
+        (votes_at part.size part.ballot part.first part.upto 0 count bytes.now) }
     ensures few { length (votes_left count bytes.now) ≤ count }
 {
     let mut rest = bytes;
@@ -58,8 +61,8 @@ fn prepare_of(size: u8, sender: u8, bytes: &[u8]) -> Result<(BodyView<'_>, &[u8]
     Ok((BodyView::Prepare { ballot, from }, rest))
 }
 
-/// The body of a Promise. Place where `upto` is above 65,536 or not above `first`, Count where there are
-/// more than 8 votes.
+/// The body of a Promise. Place where `upto` is above 65,536 or not above `first`, Count where
+/// there are more than 8 votes.
 #[tactic(auto, unfolding(crate::specs::Reading::promise_at))]
 fn promise_of(size: u8, bytes: &[u8]) -> Result<(BodyView<'_>, &[u8]), WireFault>
     ensures exact { Gives (λ x. (said x.0, x.1.now)) result (promise_at size bytes.now) }
@@ -216,8 +219,8 @@ fn header_of(group: Group, bytes: &[u8]) -> Result<((u8, u8), &[u8]), WireFault>
     Ok(((bytes[3], bytes[4]), &bytes[10..]))
 }
 
-/// The message that is all of the datagram, or the first fault from the left; Trailing where bytes are
-/// left over.
+/// The message that is all of the datagram, or the first fault from the left; Trailing where bytes
+/// are left over.
 #[tactic(auto, unfolding(crate::specs::Reading::message_at))]
 fn message_of(bytes: &[u8], group: Group) -> Result<View<'_>, WireFault>
     ensures exact { Gives (λ view. view) result (message_at group bytes.now) }
@@ -247,8 +250,8 @@ pub fn decode(bytes: &[u8], group: Group) -> Result<View<'_>, WireFault>
     message_of(bytes, group)
 }
 
-/// The ballot at the front of the bytes, and how many bytes it takes: 5. Ballot where the round is 0 or
-/// the node is not of the group, Short where it ends too soon.
+/// The ballot at the front of the bytes, and how many bytes it takes: 5. Ballot where the round is
+/// 0 or the node is not of the group, Short where it ends too soon.
 pub fn read_ballot(bytes: &[u8], group: Group) -> Result<(Ballot, usize), WireFault>
     ensures exact { GivesField bytes.now result (ballot_at group.size bytes.now) }
 {
@@ -256,26 +259,27 @@ pub fn read_ballot(bytes: &[u8], group: Group) -> Result<(Ballot, usize), WireFa
     Ok((ballot, 5))
 }
 
-/// The value at the front of the bytes, and how many bytes it takes: 1 where it is no key, and 11 and one for
-/// each of its 1 to 32 characters else. Value where its tag is neither 0 nor 1, its node is not of the group, its
-/// start is 0, or, at the count, the first serial is 0, the count is 0 or above 32, or the last serial is above
-/// 4,294,967,295; Short where it ends too soon.
+/// The value at the front of the bytes, and how many bytes it takes: 1 where it is no key, and 11
+/// and one for each of its 1 to 32 characters else. Value where its tag is neither 0 nor 1, its
+/// node is not of the group, its start is 0, or, at the count, the first serial is 0, the count is
+/// 0 or above 32, or the last serial is above 4,294,967,295; Short where it ends too soon.
 pub fn read_value(bytes: &[u8], group: Group) -> Result<(Value, usize), WireFault>
     ensures exact { GivesField bytes.now result (value_at group.size bytes.now) }
 {
     value_of(group.size, bytes)
 }
 
-/// The votes at the front of the bytes, so many of them, and the bytes behind them: at places that ascend,
-/// none under a greater ballot than this one. Place, Order, Ballot and Value as in a Promise of all places;
-/// Short where they end too soon. The votes stay in the bytes.
+/// The votes at the front of the bytes, so many of them, and the bytes behind them: at places that
+/// ascend, none under a greater ballot than this one. Place, Order, Ballot and Value as in a
+/// Promise of all places; Short where they end too soon. The votes stay in the bytes.
 pub fn read_votes(
     bytes: &[u8],
     group: Group,
     ballot: Ballot,
     count: u32,
 ) -> Result<(LentVotes<'_>, &[u8]), WireFault>
-    ensures exact { Gives (λ x. (x.0, x.1.now)) result (votes_at group.size ballot 0 65536 0 count bytes.now) }
+    ensures exact { Gives (λ x. (x.0, x.1.now)) result
+        (votes_at group.size ballot 0 65536 0 count bytes.now) }
     ensures few { IfOk result (λ x. length x.0 ≤ count) }
 {
     let part = Part {
@@ -288,7 +292,8 @@ pub fn read_votes(
     Ok((LentVotes::new(bytes, count), behind))
 }
 
-/// The number at the front of the bytes, and how many bytes it takes: 4. Short where there are fewer.
+/// The number at the front of the bytes, and how many bytes it takes: 4. Short where there are
+/// fewer.
 pub fn read_number(bytes: &[u8]) -> Result<(u32, usize), WireFault>
     ensures exact { GivesField bytes.now result (number_at bytes.now) }
 {

@@ -53,8 +53,8 @@ fn put_body(body: &Body, out: &mut Vec<u8>)
     }
 }
 
-/// Writes the datagram of a message that fits, at most 440 bytes, into an empty vector with room for
-/// 1,400. It takes no memory.
+/// Writes the datagram of a message that fits, at most 440 bytes, into an empty vector with room
+/// for 1,400. It takes no memory.
 pub fn encode_into(message: &Msg, group: Group, out: &mut Vec<u8>)
     requires fits { Fits group message.now }
     requires empty { vec_len out.old ≡ 0 }

@@ -22,8 +22,8 @@ pub enum WireFault {
     /// Its sender is 0 or above the group's size.
     #[error("G6")]
     Sender,
-    /// A ballot is out of range, is not the sender's where it has to be, or stands in the wrong order to
-    /// another.
+    /// A ballot is out of range, is not the sender's where it has to be, or stands in the wrong
+    /// order to another.
     #[error("G7")]
     Ballot,
     /// A place is out of range.

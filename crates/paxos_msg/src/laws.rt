@@ -16,7 +16,7 @@ ghost use Rattle.paxos_msg.specs.Growth as v1_growth;
 ghost use Rattle.paxos_msg.specs.Messages as v1;
 ghost use Rattle.paxos_msg.specs.Version1.{IsSingle};
 ghost use Rattle.paxos_msg.specs.Migration.{as_batch, record_with, sent_with, single_keys};
-ghost use Rattle.paxos_msg.specs.Messages.{IsAscending, IsPromised, IsSaid, IsSent, messages_of, vote_at};
+ghost use Rattle.paxos_msg.specs.Messages.{IsAscending, IsPromised, IsSaid, IsSent, messages_of, kept_vote_at};
 ghost use Rattle.paxos_msg.specs.Records.{changed, empty_record, IsSaved, MaySave, Stored, with_vote};
 ghost use Rattle.paxos_msg.specs.Sending.{IsNoNewProposal, KnowsMore};
 ghost use Rattle.paxos_msg.specs.Tests.{ballot_lt, is_majority, same_ballot, same_value};
@@ -24,8 +24,8 @@ ghost use Rattle.paxos_msg.specs.Tests.{ballot_lt, is_majority, same_ballot, sam
 use crate::ballot::Ballot;
 
 /// Ballots are in order: no ballot is below itself, one that is below another is below all that the
-/// other is below, and of two ballots exactly one is below the other, or they are the same. One is at
-/// most another if it is below it or the same.
+/// other is below, and of two ballots exactly one is below the other, or they are the same. One is
+/// at most another if it is below it or the same.
 pub fn ballots_are_ordered()
     ensures irreflexive { (a : Ballot) → ¬ IsBelow a a }
     ensures transitive { (a b c : Ballot) → IsBelow a b → IsBelow b c → IsBelow a c }
@@ -55,7 +55,8 @@ pub fn tests_are_exact()
     ensures not_below { (a b : Ballot) → (ballot_lt a b ≡ false) ↔ IsAtMost b a }
     ensures same { (a b : Ballot) → (same_ballot a b ≡ true) ↔ (a ≡ b) }
     ensures same_values { (v w : Value) → (same_value v w ≡ true) ↔ (v ≡ w) }
-    ensures majority { (size : ℕ) (members : ℕ → Bool) → (is_majority size members ≡ true) ↔ IsMajority size members }
+    ensures majority { (size : ℕ) (members : ℕ → Bool)
+        → (is_majority size members ≡ true) ↔ IsMajority size members }
 {}
 
 /// Two majorities of a group have a node of the group in common.
@@ -67,41 +68,55 @@ pub fn majorities_meet()
 /// In a group of an even size a majority is more than half, and half is none. In a group of an odd
 /// size it is at least the half of one node more.
 pub fn half_is_no_majority()
-    ensures count { (size : ℕ) (members : ℕ → Bool) → IsMajority size members ↔ (size < 2 * count_of members size) }
-    ensures even { (half : ℕ) (members : ℕ → Bool) → IsMajority (2 * half) members ↔ (half < count_of members (2 * half)) }
-    ensures half { (half : ℕ) (members : ℕ → Bool) → count_of members (2 * half) ≡ half → ¬ IsMajority (2 * half) members }
+    ensures count { (size : ℕ) (members : ℕ → Bool)
+        → IsMajority size members ↔ (size < 2 * count_of members size) }
+    ensures even { (half : ℕ) (members : ℕ → Bool)
+        → IsMajority (2 * half) members ↔ (half < count_of members (2 * half)) }
+    ensures half { (half : ℕ) (members : ℕ → Bool) → count_of members (2 * half) ≡ half
+        → ¬ IsMajority (2 * half) members }
     ensures odd { (half : ℕ) (members : ℕ → Bool) →
         IsMajority (2 * half + 1) members ↔ (half + 1 ≤ count_of members (2 * half + 1)) }
 {}
 
-/// Votes by place: what is put at a place is found there, and nothing else changes; votes that ascend do
-/// so after it. A vote that is found is one of the votes, at that place.
+/// Votes by place: what is put at a place is found there, and nothing else changes; votes that
+/// ascend do so after it. A vote that is found is one of the votes, at that place.
 pub fn votes_are_by_place()
-    ensures there { (votes : List Vote) (vote : Vote) → vote_at (with_vote votes vote) vote.place ≡ Some vote }
+    ensures there { (votes : List Vote) (vote : Vote)
+        → kept_vote_at (with_vote votes vote) vote.place ≡ Some vote }
     ensures elsewhere { (votes : List Vote) (vote : Vote) (s : ℕ) → s ≢ vote.place →
-        vote_at (with_vote votes vote) s ≡ vote_at votes s }
-    ensures ascending { (votes : List Vote) (vote : Vote) → IsAscending votes → IsAscending (with_vote votes vote) }
-    ensures found { (votes : List Vote) (s : ℕ) (vote : Vote) → vote_at votes s ≡ Some vote →
+        kept_vote_at (with_vote votes vote) s ≡ kept_vote_at votes s }
+    ensures ascending { (votes : List Vote) (vote : Vote) → IsAscending votes
+        → IsAscending (with_vote votes vote) }
+    ensures found { (votes : List Vote) (s : ℕ) (vote : Vote) → kept_vote_at votes s ≡ Some vote →
         Contains votes vote × (vote.place ≡ s) }
 {}
 
-/// What a node may send of its own, with its record r: a Prepare under a ballot of its own that is not
-/// above the promised one; a Refused with the promised ballot; a Submit of keys that were typed at it; an
-/// Ask always; a Tell of what it has learned. A value is free to be proposed if it is a no-op or was
-/// submitted. The rules of Promise, Accept and Accepted are those that agreement stands on.
+/// What a node may send of its own, with its record r: a Prepare under a ballot of its own that is
+/// not above the promised one; a Refused with the promised ballot; a Submit of keys that were typed
+/// at it; an Ask always; a Tell of what it has learned. A value is free to be proposed if it is a
+/// no-op or was submitted. The rules of Promise, Accept and Accepted are those that agreement
+/// stands on.
 pub fn sending_rules()
-    ensures prepare { (size i from : ℕ) (typed : List Key) (learned : ℕ → Option Value) (sent : Sent) (r : Record) (b : Ballot) →
-        MaySend size typed learned sent i r (Prepare b from) ↔ ((b.node ≡ i) × ((p : Ballot) × (r.promised ≡ Some p) × IsAtMost b p)) }
-    ensures refused { (size i : ℕ) (typed : List Key) (learned : ℕ → Option Value) (sent : Sent) (r : Record) (b promised : Ballot) →
-        MaySend size typed learned sent i r (Refused b promised) ↔ ((r.promised ≡ Some promised) × IsBelow b promised) }
-    ensures submit { (size i : ℕ) (typed : List Key) (learned : ℕ → Option Value) (sent : Sent) (r : Record) (v : Value) →
-        MaySend size typed learned sent i r (Submit v)
-        ↔ ((keys_of v ≢ []) × ((key : Key) → Contains (keys_of v) key → (key.node ≡ i) × Contains typed key)) }
-    ensures ask { (size i from : ℕ) (typed : List Key) (learned : ℕ → Option Value) (sent : Sent) (r : Record) →
-        MaySend size typed learned sent i r (Ask from) }
-    ensures tell { (size i s : ℕ) (typed : List Key) (learned : ℕ → Option Value) (sent : Sent) (r : Record) (v : Value) →
-        MaySend size typed learned sent i r (Tell s v) ↔ (learned s ≡ Some v) }
-    ensures free { (sent : Sent) (v : Value) → IsFree sent v ↔ ((v ≡ Value.Noop) ⊎ ((i : ℕ) × IsSent sent i (Submit v))) }
+    ensures prepare { (size i from : ℕ) (typed : List Key) (learned : ℕ → Option Value)
+        (sent : Sent) (r : Record) (b : Ballot)
+        → MaySend size typed learned sent i r (Prepare b from)
+        ↔ ((b.node ≡ i) × ((p : Ballot) × (r.promised ≡ Some p) × IsAtMost b p)) }
+    ensures refused { (size i : ℕ) (typed : List Key) (learned : ℕ → Option Value) (sent : Sent)
+        (r : Record) (b promised : Ballot)
+        → MaySend size typed learned sent i r (Refused b promised)
+        ↔ ((r.promised ≡ Some promised) × IsBelow b promised) }
+    ensures submit { (size i : ℕ) (typed : List Key) (learned : ℕ → Option Value) (sent : Sent)
+        (r : Record) (v : Value)
+        → MaySend size typed learned sent i r (Submit v)
+        ↔ ((keys_of v ≢ []) × ((key : Key) → Contains (keys_of v) key
+        → (key.node ≡ i) × Contains typed key)) }
+    ensures ask { (size i from : ℕ) (typed : List Key) (learned : ℕ → Option Value) (sent : Sent)
+        (r : Record) → MaySend size typed learned sent i r (Ask from) }
+    ensures tell { (size i s : ℕ) (typed : List Key) (learned : ℕ → Option Value) (sent : Sent)
+        (r : Record) (v : Value)
+        → MaySend size typed learned sent i r (Tell s v) ↔ (learned s ≡ Some v) }
+    ensures free { (sent : Sent) (v : Value)
+        → IsFree sent v ↔ ((v ≡ Value.Noop) ⊎ ((i : ℕ) × IsSent sent i (Submit v))) }
 {}
 
 /// What a node may save, with its record r: a start always; a promise of a ballot greater than the
@@ -111,55 +126,65 @@ pub fn saving_rules()
     ensures start { (sent : Sent) (r : Record) → MaySave sent r Start }
     ensures promise { (sent : Sent) (r : Record) (b : Ballot) →
         MaySave sent r (Promise b) ↔ ((p : Ballot) → r.promised ≡ Some p → IsBelow p b) }
-    ensures vote { (sent : Sent) (r : Record) (s : ℕ) (b : Ballot) (v : Value) →
-        MaySave sent r (Ballotted s b v) ↔ (IsSaid sent (Accept b s v) × ((p : Ballot) → r.promised ≡ Some p → IsAtMost p b)) }
+    ensures vote { (sent : Sent) (r : Record) (s : ℕ) (b : Ballot) (v : Value)
+        → MaySave sent r (Ballotted s b v)
+        ↔ (IsSaid sent (Accept b s v) × ((p : Ballot) → r.promised ≡ Some p → IsAtMost p b)) }
     ensures found { (saved : Record) (failed : List Change) → Stored saved failed saved }
-    ensures failed { (saved : Record) (failed : List Change) (change : Change) → Contains failed change → Stored saved failed (changed saved change) }
-    ensures nothing_else { (saved found : Record) (failed : List Change) → Stored saved failed found →
-        (found ≡ saved) ⊎ ((change : Change) × Contains failed change × (found ≡ changed saved change)) }
+    ensures failed { (saved : Record) (failed : List Change) (change : Change)
+        → Contains failed change → Stored saved failed (changed saved change) }
+    ensures nothing_else { (saved found : Record) (failed : List Change) → Stored saved failed found
+        → (found ≡ saved) ⊎ ((change : Change) × Contains failed change
+        × (found ≡ changed saved change)) }
 {}
 
-/// A save that is allowed never lowers a promise, and of all changes a start alone changes the number of
-/// starts, which it raises by 1.
+/// A save that is allowed never lowers a promise, and of all changes a start alone changes the
+/// number of starts, which it raises by 1.
 pub fn saves_only_raise()
-    ensures promise { (sent : Sent) (r : Record) (change : Change) (p : Ballot) →
-        MaySave sent r change → r.promised ≡ Some p → IsSomeAnd (changed r change).promised (λ q. IsAtMost p q) }
+    ensures promise { (sent : Sent) (r : Record) (change : Change) (p : Ballot)
+        → MaySave sent r change → r.promised ≡ Some p
+        → IsSomeAnd (changed r change).promised (λ q. IsAtMost p q) }
     ensures start { (r : Record) → (changed r Start).starts ≡ r.starts + 1 }
-    ensures starts { (r : Record) (change : Change) → change ≢ Start → (changed r change).starts ≡ r.starts }
+    ensures starts { (r : Record) (change : Change) → change ≢ Start
+        → (changed r change).starts ≡ r.starts }
 {}
 
 /// Growth begins with nothing sent and empty records, in a group of any size, and goes on with each
 /// sending and each save that is allowed.
 pub fn growth()
-    ensures begins { (size : ℕ) (records : ℕ → Record) → ((i : ℕ) → records i ≡ empty_record) → Grew size [] records }
-    ensures sends { (size i : ℕ) (typed : List Key) (learned : ℕ → Option Value) (sent : Sent) (records : ℕ → Record) (body : Body) →
-        Grew size sent records → MaySend size typed learned sent i (records i) body →
-        Grew size (sent ++ record { sender = i; body = body } ∷ []) records }
-    ensures saves { (size i : ℕ) (sent : Sent) (records next : ℕ → Record) (change : Change) →
-        Grew size sent records → MaySave sent (records i) change → IsSaved records i change next → Grew size sent next }
+    ensures begins { (size : ℕ) (records : ℕ → Record) → ((i : ℕ) → records i ≡ empty_record)
+        → Grew size [] records }
+    ensures sends { (size i : ℕ) (typed : List Key) (learned : ℕ → Option Value) (sent : Sent)
+        (records : ℕ → Record) (body : Body) → Grew size sent records
+        → MaySend size typed learned sent i (records i) body
+        → Grew size (sent ++ record { sender = i; body = body } ∷ []) records }
+    ensures saves { (size i : ℕ) (sent : Sent) (records next : ℕ → Record) (change : Change)
+        → Grew size sent records → MaySave sent (records i) change → IsSaved records i change next
+        → Grew size sent next }
 {}
 
-/// As more is sent, what is chosen stays chosen, and what may be saved may still be saved. What may be
-/// sent may still be sent, also when more was typed and learned, but for a new proposal: that asks that
-/// nothing else was proposed under its ballot.
+/// As more is sent, what is chosen stays chosen, and what may be saved may still be saved. What may
+/// be sent may still be sent, also when more was typed and learned, but for a new proposal: that
+/// asks that nothing else was proposed under its ballot.
 pub fn sent_only_grows()
     ensures chosen { (size s : ℕ) (sent more : Sent) (v : Value) →
         IsChosen size sent s v → IsChosen size (sent ++ more) s v }
     ensures saving { (sent more : Sent) (r : Record) (change : Change) →
         MaySave sent r change → MaySave (sent ++ more) r change }
-    ensures sending { (size i : ℕ) (typed newer : List Key) (learned now : ℕ → Option Value) (sent more : Sent) (r : Record) (body : Body) →
-        KnowsMore typed newer learned now → IsNoNewProposal sent i body →
-        MaySend size typed learned sent i r body → MaySend size newer now (sent ++ more) i r body }
+    ensures sending { (size i : ℕ) (typed newer : List Key) (learned now : ℕ → Option Value)
+        (sent more : Sent) (r : Record) (body : Body) → KnowsMore typed newer learned now
+        → IsNoNewProposal sent i body → MaySend size typed learned sent i r body
+        → MaySend size newer now (sent ++ more) i r body }
 {}
 
 /// Agreement: if what was sent and the records grew from nothing, at most one value is chosen at a
-/// place, and no other value is proposed there under the ballot of that choice or a greater one. What
-/// is chosen is a no-op or was submitted.
+/// place, and no other value is proposed there under the ballot of that choice or a greater one.
+/// What is chosen is a no-op or was submitted.
 pub fn agreement()
     ensures one_value { (size s : ℕ) (sent : Sent) (records : ℕ → Record) (v w : Value) →
         Grew size sent records → IsChosen size sent s v → IsChosen size sent s w → v ≡ w }
-    ensures kept { (size s : ℕ) (sent : Sent) (records : ℕ → Record) (b c : Ballot) (v w : Value) →
-        Grew size sent records → IsChosenBy size sent b s v → IsSaid sent (Accept c s w) → IsAtMost b c → w ≡ v }
+    ensures kept { (size s : ℕ) (sent : Sent) (records : ℕ → Record) (b c : Ballot) (v w : Value)
+        → Grew size sent records → IsChosenBy size sent b s v → IsSaid sent (Accept c s w)
+        → IsAtMost b c → w ≡ v }
     ensures submitted { (size s : ℕ) (sent : Sent) (records : ℕ → Record) (v : Value) →
         Grew size sent records → IsChosen size sent s v → IsFree sent v }
 {}
@@ -167,40 +192,48 @@ pub fn agreement()
 /// What a node may send in one call, one message after another, goes on with the growth. It may be
 /// sent in two halves, the second after the first.
 pub fn calls()
-    ensures grew { (size i : ℕ) (typed : List Key) (learned : ℕ → Option Value) (sent : Sent) (records : ℕ → Record) (bodies : List Body) →
-        Grew size sent records → MaySendAll size typed learned sent i (records i) bodies →
-        Grew size (sent ++ messages_of i bodies) records }
-    ensures halves { (size i : ℕ) (typed : List Key) (learned : ℕ → Option Value) (sent : Sent) (r : Record) (bodies more : List Body) →
-        MaySendAll size typed learned sent i r (bodies ++ more)
-        ↔ (MaySendAll size typed learned sent i r bodies × MaySendAll size typed learned (sent ++ messages_of i bodies) i r more) }
+    ensures grew { (size i : ℕ) (typed : List Key) (learned : ℕ → Option Value) (sent : Sent)
+        (records : ℕ → Record) (bodies : List Body) → Grew size sent records
+        → MaySendAll size typed learned sent i (records i) bodies
+        → Grew size (sent ++ messages_of i bodies) records }
+    ensures halves { (size i : ℕ) (typed : List Key) (learned : ℕ → Option Value) (sent : Sent)
+        (r : Record) (bodies more : List Body)
+        → MaySendAll size typed learned sent i r (bodies ++ more)
+        ↔ (MaySendAll size typed learned sent i r bodies
+        × MaySendAll size typed learned (sent ++ messages_of i bodies) i r more) }
 {}
 
 /// A restart goes on with the growth: whichever record it finds, if the node might save each change
 /// whose save has failed.
 pub fn restarts()
-    ensures { (size i : ℕ) (sent : Sent) (records next : ℕ → Record) (failed : List Change) →
-        Grew size sent records → ((change : Change) → Contains failed change → MaySave sent (records i) change) →
-        Stored (records i) failed (next i) → ((j : ℕ) → j ≢ i → next j ≡ records j) →
-        Grew size sent next }
+    ensures { (size i : ℕ) (sent : Sent) (records next : ℕ → Record) (failed : List Change)
+        → Grew size sent records
+        → ((change : Change) → Contains failed change → MaySave sent (records i) change)
+        → Stored (records i) failed (next i) → ((j : ℕ) → j ≢ i → next j ≡ records j)
+        → Grew size sent next }
 {}
 
-/// A migration goes on with the growth. In version 1 a value was a key, or none. With each key as a batch of one, what grew then by the
-/// same rules of sending and saving has grown now, and what was chosen is chosen, so that agreement reaches over the migration. A batch of one
-/// has its key; and the values that fit and have at most one key are those of version 1, each as a batch of one.
+/// A migration goes on with the growth. In version 1 a value was a key, or none. With each key as a
+/// batch of one, what grew then by the same rules of sending and saving has grown now, and what was
+/// chosen is chosen, so that agreement reaches over the migration. A batch of one has its key; and
+/// the values that fit and have at most one key are those of version 1, each as a batch of one.
 pub fn migration()
-    ensures grew { (size : ℕ) (sent : v1.Sent (Option Key)) (records : ℕ → v1_record.Record (Option Key)) →
-        v1_growth.Grew single_keys size sent records → Grew size (sent_with as_batch sent) (λ i. record_with as_batch (records i)) }
+    ensures grew { (size : ℕ) (sent : v1.Sent (Option Key))
+        (records : ℕ → v1_record.Record (Option Key)) → v1_growth.Grew single_keys size sent records
+        → Grew size (sent_with as_batch sent) (λ i. record_with as_batch (records i)) }
     ensures chosen { (size s : ℕ) (sent : v1.Sent (Option Key)) (v : Option Key) →
         IsChosen size sent s v → IsChosen size (sent_with as_batch sent) s (as_batch v) }
     ensures keys { (v : Option Key) → keys_of (as_batch v) ≡ option_to_list v }
-    ensures single { (size : ℕ) (v : Value) → IsValue size v → IsSingle v ↔ ((old : Option Key) × (v ≡ as_batch old)) }
+    ensures single { (size : ℕ) (v : Value) → IsValue size v
+        → IsSingle v ↔ ((old : Option Key) × (v ≡ as_batch old)) }
 {}
 
-/// The law of agreement is not empty. In a group of three a key that was typed can be chosen. In a group
-/// of five a greater ballot can be told of a vote under a smaller one, at a place above 0, and the key of
-/// that vote be chosen by the greater ballot.
+/// The law of agreement is not empty. In a group of three a key that was typed can be chosen. In a
+/// group of five a greater ballot can be told of a vote under a smaller one, at a place above 0,
+/// and the key of that vote be chosen by the greater ballot.
 pub fn possible()
-    ensures chosen { (sent : Sent) × (records : ℕ → Record) × Grew 3 sent records × IsChosen 3 sent 0 (Value.Keys 2 1 1 (65 ∷ [])) }
+    ensures chosen { (sent : Sent) × (records : ℕ → Record) × Grew 3 sent records
+        × IsChosen 3 sent 0 (Value.Keys 2 1 1 (65 ∷ [])) }
     ensures retold { let lower : Ballot = record { round = 1; node = 1 } in
         let greater : Ballot = record { round = 2; node = 5 } in
         let key : Value = Value.Keys 4 1 1 (65 ∷ []) in

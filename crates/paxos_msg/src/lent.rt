@@ -4,8 +4,8 @@ use crate::value::Vote;
 use std::alloc::AllocError;
 use std::marker::Model;
 
-/// Votes that lie in a datagram, in ascending order of place: an iterator that reads each as it gives
-/// it. `iter` goes over the same votes again.
+/// Votes that lie in a datagram, in ascending order of place: an iterator that reads each as it
+/// gives it. `iter` goes over the same votes again.
 #[derive(Drop)]
 pub struct LentVotes<'a> {
     bytes: &'a [u8],

@@ -1,5 +1,5 @@
-//! The messages of the group and the records of its acceptors: their types, the bytes of a datagram,
-//! and the laws of the protocol.
+//! The messages of the group and the records of its acceptors: their types, the bytes of a
+//! datagram, and the laws of the protocol.
 #![tactic(auto)]
 
 mod ballot;
@@ -28,7 +28,7 @@ pub use decoding::{decode, read_ballot, read_number, read_value, read_votes};
 pub use encoding::{encode, encode_into};
 pub use fault::WireFault;
 pub use lent::LentVotes;
-pub use message::{Body, Group, Msg};
+pub use message::{Body, Group, Msg, PLACES};
 pub use ranges::{fits, fits_ballot, fits_votes};
 pub use record::{Change, Record};
 pub use spelling::{put_ballot, put_number, put_value, put_votes};

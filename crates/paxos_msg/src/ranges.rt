@@ -24,15 +24,16 @@ pub fn fits_ballot(size: u8, ballot: Ballot) -> bool
     0 < ballot.round && is_node(size, ballot.node)
 }
 
-/// Whether there are 1 to 32 characters, and the serials of their keys, from this one on, are 1 to 4,294,967,295.
+/// Whether there are 1 to 32 characters, and the serials of their keys, from this one on, are 1 to
+/// 4,294,967,295.
 fn fits_batch(first: u32, bytes: &[u8]) -> bool
     ensures { IsTrue result ↔ IsBatch first bytes.now }
 {
     bytes.len() <= 32 && is_batch(first, bytes.len() as u8)
 }
 
-/// Whether a value is no key, or keys of a node of a group of that size, whose start is at least 1 and whose
-/// serials are 1 to 4,294,967,295.
+/// Whether a value is no key, or keys of a node of a group of that size, whose start is at least 1
+/// and whose serials are 1 to 4,294,967,295.
 fn fits_value(size: u8, value: Value) -> bool
     ensures { IsTrue result ↔ IsValue size value }
 {
@@ -78,8 +79,8 @@ fn is_at_most(ballot: Ballot, other: Ballot) -> bool
     ballot.round < other.round || (ballot.round == other.round && ballot.node <= other.node)
 }
 
-/// Whether a vote may stand in a promise under the ballot, at a place from `low` up to, and without,
-/// `upto`.
+/// Whether a vote may stand in a promise under the ballot, at a place from `low` up to, and
+/// without, `upto`.
 fn fits_vote(size: u8, ballot: Ballot, low: u32, upto: u32, vote: Vote) -> bool
     ensures { IsTrue result ↔ IsVote size ballot low upto vote }
 {
@@ -90,8 +91,8 @@ fn fits_vote(size: u8, ballot: Ballot, low: u32, upto: u32, vote: Vote) -> bool
         && fits_value(size, vote.value)
 }
 
-/// Whether votes are in their ranges, at places that ascend from `first` on up to, and without, `upto`, and
-/// under ballots that are not above this one.
+/// Whether votes are in their ranges, at places that ascend from `first` on up to, and without,
+/// `upto`, and under ballots that are not above this one.
 pub fn fits_votes(size: u8, ballot: Ballot, first: u32, upto: u32, votes: &[Vote]) -> bool
     ensures { IsTrue result ↔ AreVotes size ballot first upto votes.now }
 {
@@ -105,8 +106,8 @@ pub fn fits_votes(size: u8, ballot: Ballot, first: u32, upto: u32, votes: &[Vote
     true
 }
 
-/// Whether a promise is in its ranges: `upto` is at most 65,536, `first` is below it, and there are at
-/// most 8 votes, each in order.
+/// Whether a promise is in its ranges: `upto` is at most 65,536, `first` is below it, and there are
+/// at most 8 votes, each in order.
 fn fits_promise(size: u8, ballot: Ballot, first: u32, upto: u32, votes: &[Vote]) -> bool
     ensures { IsTrue result ↔ IsBody size 0 (body.Promise ballot first upto votes.now) }
 {
@@ -158,8 +159,8 @@ fn fits_body(size: u8, sender: u8, body: &Body) -> bool
     }
 }
 
-/// Whether a message has a spelling in the group: its sender is a node of it, and its body is in its
-/// ranges.
+/// Whether a message has a spelling in the group: its sender is a node of it, and its body is in
+/// its ranges.
 pub fn fits(message: &Msg, group: Group) -> bool
     ensures { IsTrue result ↔ Fits group message.now }
 {

@@ -1,7 +1,7 @@
-//! The fields of a datagram. Each function reads the field at the front of the bytes, and answers it
-//! and the bytes behind it, or, where it has a value, how many bytes it takes.
+//! The fields of a datagram. Each function reads the field at the front of the bytes, and answers
+//! it and the bytes behind it, or, where it has a value, how many bytes it takes.
 ghost use Rattle.std.specs.Prelude.{◌≡◌, ◌≤◌, ◌<◌, IfOk, Ok, drop};
-ghost use Rattle.paxos_msg.specs.Reading.{Gives, byte_at, bytes_at, number_at, ballot_at, own_ballot_at, place_at, is_batch, characters_at, value_at, own_keys_at, vote_at};
+ghost use Rattle.paxos_msg.specs.Reading.{Gives, first_byte, bytes_at, number_at, ballot_at, own_ballot_at, place_at, is_batch, characters_at, value_at, own_keys_at, vote_at};
 ghost use Rattle.paxos_msg.specs.Raw.{Takes, raw_ballot_at, raw_characters_at, raw_keys_at, raw_value_at, raw_vote_at, keys_rest_at};
 ghost use Rattle.paxos_msg.specs.Views.{GivesField};
 
@@ -25,7 +25,7 @@ pub(crate) struct Part {
 /// One byte. Short where there is none.
 #[inline]
 pub(crate) fn byte_of(bytes: &[u8]) -> Result<(u8, &[u8]), WireFault>
-    ensures exact { Gives (λ x. (x.0, x.1.now)) result (byte_at bytes.now) }
+    ensures exact { Gives (λ x. (x.0, x.1.now)) result (first_byte bytes.now) }
     ensures taken { IfOk result (λ x. Takes 1 bytes.now x.1.now) }
 {
     match bytes {
@@ -58,8 +58,8 @@ fn raw_ballot_of(bytes: &[u8]) -> Result<(Ballot, &[u8]), WireFault>
     Ok((Ballot { round, node }, rest))
 }
 
-/// A ballot of a group of that size. Ballot where the round is 0 or the node is not of the group; Short
-/// where it ends too soon.
+/// A ballot of a group of that size. Ballot where the round is 0 or the node is not of the group;
+/// Short where it ends too soon.
 #[inline]
 #[tactic(auto, unfolding(crate::specs::Reading::ballot_at, crate::specs::Raw::raw_ballot_at))]
 pub(crate) fn ballot_of(size: u8, bytes: &[u8]) -> Result<(Ballot, &[u8]), WireFault>
@@ -123,7 +123,8 @@ fn characters_in(count: u8, bytes: &[u8]) -> Result<(Characters, usize), WireFau
     Ok((Characters::new(&bytes[..count]).unwrap(), count))
 }
 
-/// Characters behind their count. Value where they are none or above 32; Short where they end too soon.
+/// Characters behind their count. Value where they are none or above 32; Short where they end too
+/// soon.
 #[inline]
 #[tactic(auto, unfolding(crate::specs::Raw::raw_characters_at))]
 fn raw_characters_of(bytes: &[u8]) -> Result<(Characters, usize), WireFault>
@@ -137,8 +138,8 @@ fn raw_characters_of(bytes: &[u8]) -> Result<(Characters, usize), WireFault>
     Ok((characters, 1 + taken))
 }
 
-/// Whether so many keys whose serials go on from this one are a batch: 1 to 32 keys with serials of 1 to
-/// 4,294,967,295.
+/// Whether so many keys whose serials go on from this one are a batch: 1 to 32 keys with serials of
+/// 1 to 4,294,967,295.
 #[inline]
 pub(crate) fn is_batch(first: u32, count: u8) -> bool
     ensures { result ≡ is_batch first count }
@@ -146,8 +147,8 @@ pub(crate) fn is_batch(first: u32, count: u8) -> bool
     0 < first && 0 < count && count <= 32 && first - 1 <= u32::MAX - u32::from(count)
 }
 
-/// The characters of a batch behind their count, whose first key has this serial. Value where they are no batch;
-/// Short where they end too soon.
+/// The characters of a batch behind their count, whose first key has this serial. Value where they
+/// are no batch; Short where they end too soon.
 #[inline]
 #[tactic(auto, unfolding(crate::specs::Reading::characters_at, crate::specs::Raw::raw_characters_at))]
 fn characters_of(first: u32, bytes: &[u8]) -> Result<(Characters, usize), WireFault>
@@ -180,8 +181,8 @@ fn raw_keys_of(node: u8, bytes: &[u8]) -> Result<(Value, usize), WireFault>
     Ok((keys, 8 + taken))
 }
 
-/// A value as it stands. Value where its tag is neither 0 nor 1, or it has no characters or more than 32; Short
-/// where it ends too soon.
+/// A value as it stands. Value where its tag is neither 0 nor 1, or it has no characters or more
+/// than 32; Short where it ends too soon.
 #[inline]
 #[tactic(auto, unfolding(crate::specs::Raw::raw_value_at))]
 fn raw_value_of(bytes: &[u8]) -> Result<(Value, usize), WireFault>
@@ -216,8 +217,8 @@ pub(crate) fn raw_vote_of(bytes: &[u8]) -> Result<(Vote, usize), WireFault>
     Ok((vote, 9 + taken))
 }
 
-/// The fields of a batch behind its node. Value where its start is 0 or its characters are no batch; Short where it
-/// ends too soon.
+/// The fields of a batch behind its node. Value where its start is 0 or its characters are no
+/// batch; Short where it ends too soon.
 #[inline]
 #[tactic(auto, unfolding(crate::specs::Raw::keys_rest_at, crate::specs::Raw::raw_keys_at))]
 fn keys_rest_of(node: u8, bytes: &[u8]) -> Result<(Value, usize), WireFault>
@@ -239,9 +240,9 @@ fn keys_rest_of(node: u8, bytes: &[u8]) -> Result<(Value, usize), WireFault>
     Ok((keys, 8 + taken))
 }
 
-/// A value, and how many bytes it takes: no key, or a batch of keys of a node of a group of that size. Value where its
-/// tag is neither 0 nor 1, its node is not of the group, its start is 0 or its characters are no batch; Short where it
-/// ends too soon.
+/// A value, and how many bytes it takes: no key, or a batch of keys of a node of a group of that
+/// size. Value where its tag is neither 0 nor 1, its node is not of the group, its start is 0 or
+/// its characters are no batch; Short where it ends too soon.
 #[inline]
 #[tactic(auto, unfolding(crate::specs::Reading::value_at, crate::specs::Reading::keys_at, crate::specs::Raw::keys_rest_at, crate::specs::Raw::raw_value_at))]
 pub(crate) fn value_of(size: u8, bytes: &[u8]) -> Result<(Value, usize), WireFault>
@@ -263,8 +264,9 @@ pub(crate) fn value_of(size: u8, bytes: &[u8]) -> Result<(Value, usize), WireFau
     Ok((keys, 2 + taken))
 }
 
-/// Keys that were typed at the sender, and how many bytes they take. Value where the tag is not 1, the node is not of
-/// the group or not the sender, the start is 0 or the characters are no batch; Short where they end too soon.
+/// Keys that were typed at the sender, and how many bytes they take. Value where the tag is not 1,
+/// the node is not of the group or not the sender, the start is 0 or the characters are no batch;
+/// Short where they end too soon.
 #[inline]
 #[tactic(auto, unfolding(crate::specs::Reading::own_keys_at, crate::specs::Reading::keys_at, crate::specs::Raw::keys_rest_at))]
 pub(crate) fn own_keys_of(size: u8, sender: u8, bytes: &[u8]) -> Result<(Value, usize), WireFault>
@@ -282,13 +284,14 @@ pub(crate) fn own_keys_of(size: u8, sender: u8, bytes: &[u8]) -> Result<(Value, 
     Ok((keys, 2 + taken))
 }
 
-/// A vote at a place from `low` on, which is one above the vote before. Order where its place is below
-/// `low`, Place where the promise does not speak of it, Ballot where its ballot is out of range or above
-/// the promise's, and the faults of a value.
+/// A vote at a place from `low` on, which is one above the vote before. Order where its place is
+/// below `low`, Place where the promise does not speak of it, Ballot where its ballot is out of
+/// range or above the promise's, and the faults of a value.
 #[inline]
 #[tactic(auto, using(crate::proofs::VotesLeft::behind_ballot), unfolding(crate::specs::Reading::vote_at, crate::specs::Raw::raw_vote_at))]
 pub(crate) fn vote_of(part: Part, low: u32, bytes: &[u8]) -> Result<(Vote, usize), WireFault>
-    ensures exact { GivesField bytes.now result (vote_at part.size part.ballot part.first part.upto low bytes.now) }
+    ensures exact { GivesField bytes.now result
+        (vote_at part.size part.ballot part.first part.upto low bytes.now) }
     ensures raw { IfOk result (λ x. raw_vote_at bytes.now ≡ Ok (x.0, drop x.1 bytes.now)) }
     ensures place { IfOk result (λ x. x.0.place < part.upto) }
 {

@@ -53,8 +53,8 @@ impl Record {
         }
     }
 
-    /// Makes the change. There may be no start after 4,294,967,295 of them, and the votes have to ascend by
-    /// place. After an error nothing has changed.
+    /// Makes the change. There may be no start after 4,294,967,295 of them, and the votes have to
+    /// ascend by place. After an error nothing has changed.
     pub fn change(&mut self, change: Change) -> Result<(), AllocError>
         requires starts { change ≡ Start → self.old.starts < 4294967295 }
         requires ascending { IsAscending self.old.votes }

@@ -1,5 +1,5 @@
-//! Writing the parts of a datagram behind what a vector holds. Each needs the room to be there, and so
-//! takes no memory and cannot fail.
+//! Writing the parts of a datagram behind what a vector holds. Each needs the room to be there, and
+//! so takes no memory and cannot fail.
 ghost use Rattle.std.specs.Prelude.{◌≡◌, ◌+◌, ◌≤◌, ◌++◌, ◌∷◌, [], length, vec_len, vec_capacity};
 ghost use Rattle.paxos_msg.specs.Spelling.{number_bytes, ballot_bytes, value_bytes, vote_bytes, votes_bytes, kind_of, header_bytes};
 
@@ -23,8 +23,9 @@ fn put_byte(byte: u8, out: &mut Vec<u8>)
     out.push_reserved(byte);
 }
 
-/// Writes bytes, one after the other. Where the vector is a local one of the caller, whose length and pointer no
-/// store of a byte can change, the loop becomes one copy of a block. That is why this is inlined.
+/// Writes bytes, one after the other. Where the vector is a local one of the caller, whose length
+/// and pointer no store of a byte can change, the loop becomes one copy of a block. That is why
+/// this is inlined.
 #[inline(always)]
 fn put_bytes(bytes: &[u8], out: &mut Vec<u8>)
     requires room { vec_len out.old + length bytes.now ≤ vec_capacity out.old }
@@ -37,8 +38,8 @@ fn put_bytes(bytes: &[u8], out: &mut Vec<u8>)
     }
 }
 
-/// Writes a number behind what the vector holds: four bytes, its high byte first, for which it has to have
-/// room.
+/// Writes a number behind what the vector holds: four bytes, its high byte first, for which it has
+/// to have room.
 #[inline(always)]
 pub fn put_number(number: u32, out: &mut Vec<u8>)
     requires room { vec_len out.old + 4 ≤ vec_capacity out.old }
@@ -53,8 +54,8 @@ pub fn put_number(number: u32, out: &mut Vec<u8>)
     out.push_reserved(fourth);
 }
 
-/// Writes a ballot behind what the vector holds: its round and its node, five bytes, for which it has to
-/// have room.
+/// Writes a ballot behind what the vector holds: its round and its node, five bytes, for which it
+/// has to have room.
 pub fn put_ballot(ballot: Ballot, out: &mut Vec<u8>)
     requires room { vec_len out.old + 5 ≤ vec_capacity out.old }
     ensures items { out.new.items ≡ out.old.items ++ ballot_bytes ballot }
@@ -77,8 +78,9 @@ fn put_characters(characters: Characters, out: &mut Vec<u8>)
     put_bytes(characters.as_slice(), out);
 }
 
-/// Writes a value behind what the vector holds: a 0 for no key; or a 1, and the keys' node, start, first serial,
-/// count, in a byte, and characters, 12 to 43 bytes. The vector has to have room for them.
+/// Writes a value behind what the vector holds: a 0 for no key; or a 1, and the keys' node, start,
+/// first serial, count, in a byte, and characters, 12 to 43 bytes. The vector has to have room for
+/// them.
 pub fn put_value(value: Value, out: &mut Vec<u8>)
     requires room { vec_len out.old + length (value_bytes value) ≤ vec_capacity out.old }
     ensures items { out.new.items ≡ out.old.items ++ value_bytes value }
@@ -93,8 +95,8 @@ pub fn put_value(value: Value, out: &mut Vec<u8>)
             first,
             bytes,
         } => {
-            // Behind a reference, each byte that is stored might change the vector's length and pointer. In a
-            // local vector they stay in registers. Neither step takes memory.
+            // Behind a reference, each byte that is stored might change the vector's length and
+            // pointer. In a local vector they stay in registers. Neither step takes memory.
             let empty = Vec::new(*out.allocator());
             let mut own = mem::replace(out, empty);
             put_byte(1, &mut own);
@@ -119,8 +121,8 @@ fn put_vote(vote: Vote, out: &mut Vec<u8>)
     put_value(vote.value, out);
 }
 
-/// Writes votes behind what the vector holds, one after the other: each its place, ballot and value. The
-/// vector has to have room for them.
+/// Writes votes behind what the vector holds, one after the other: each its place, ballot and
+/// value. The vector has to have room for them.
 pub fn put_votes(votes: &[Vote], out: &mut Vec<u8>)
     requires room { vec_len out.old + length (votes_bytes votes.now) ≤ vec_capacity out.old }
     ensures items { out.new.items ≡ out.old.items ++ votes_bytes votes.now }
@@ -132,12 +134,14 @@ pub fn put_votes(votes: &[Vote], out: &mut Vec<u8>)
     }
 }
 
-/// Writes what is in a promise: its ballot, the places from `first` up to `upto`, how many votes there
-/// are, in a byte, and the votes.
+/// Writes what is in a promise: its ballot, the places from `first` up to `upto`, how many votes
+/// there are, in a byte, and the votes.
 pub(crate) fn put_promise(ballot: Ballot, first: u32, upto: u32, votes: &[Vote], out: &mut Vec<u8>)
     requires few { length votes.now ≤ 8 }
     requires room { vec_len out.old + 14 + length (votes_bytes votes.now) ≤ vec_capacity out.old }
-    ensures items { out.new.items ≡ out.old.items ++ (ballot_bytes ballot ++ number_bytes first ++ number_bytes upto ++ length votes.now ∷ votes_bytes votes.now) }
+    ensures items { out.new.items
+        ≡ out.old.items ++ (ballot_bytes ballot ++ number_bytes first ++ number_bytes upto
+        ++ length votes.now ∷ votes_bytes votes.now) }
     ensures len { vec_len out.new ≡ vec_len out.old + 14 + length (votes_bytes votes.now) }
     ensures capacity { vec_capacity out.new ≡ vec_capacity out.old }
 {
@@ -151,7 +155,8 @@ pub(crate) fn put_promise(ballot: Ballot, first: u32, upto: u32, votes: &[Vote],
 /// Writes a ballot, a place and a value.
 pub(crate) fn put_proposal(ballot: Ballot, place: u32, value: Value, out: &mut Vec<u8>)
     requires room { vec_len out.old + 9 + length (value_bytes value) ≤ vec_capacity out.old }
-    ensures items { out.new.items ≡ out.old.items ++ (ballot_bytes ballot ++ number_bytes place ++ value_bytes value) }
+    ensures items { out.new.items
+        ≡ out.old.items ++ (ballot_bytes ballot ++ number_bytes place ++ value_bytes value) }
     ensures len { vec_len out.new ≡ vec_len out.old + 9 + length (value_bytes value) }
     ensures capacity { vec_capacity out.new ≡ vec_capacity out.old }
 {

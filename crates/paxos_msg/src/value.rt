@@ -14,15 +14,16 @@ pub enum Value {
         node: u8,
         /// Which start of that node it was, from 1 on.
         start: u32,
-        /// The serial of the first, which tells the how-many-th key of that start it is, from 1 on. The others
-        /// have the serials behind it, of which the last is at most 4,294,967,295.
+        /// The serial of the first, which tells the how-many-th key of that start it is, from 1 on.
+        /// The others have the serials behind it, of which the last is at most 4,294,967,295.
         first: u32,
         /// The characters, one for each key.
         bytes: Characters,
     },
 }
 
-/// A value is written `noop` or `key NODE START FIRST HH..`, with two hexadecimal digits for each character.
+/// A value is written `noop` or `key NODE START FIRST HH..`, with two hexadecimal digits for each
+/// character.
 impl fmt::Display for Value {
     fn fmt<W: fmt::Write>(&self, f: &mut fmt::Formatter<W>) -> fmt::Result {
         match *self {
@@ -39,8 +40,8 @@ impl fmt::Display for Value {
 
 /// A vote for a value at a place under a ballot.
 ///
-/// Votes, messages and records are over any type of values, so that the laws can speak of those of an earlier version. Where none is
-/// named it is [`Value`].
+/// Votes, messages and records are over any type of values, so that the laws can speak of those of
+/// an earlier version. Where none is named it is [`Value`].
 #[derive(Clone, Copy, Debug, PartialEq, Eq, Hash)]
 pub struct Vote<V = Value> {
     /// From 0 to 65,535.

@@ -9,7 +9,8 @@ use crate::message::Group;
 use crate::reading::{byte_of, number_of};
 use crate::value::Value;
 
-/// The fields of a key behind its node. Value where its start or its serial is 0; Short where it ends too soon.
+/// The fields of a key behind its node. Value where its start or its serial is 0; Short where it
+/// ends too soon.
 #[tactic(auto, unfolding(crate::specs::Version1::key_rest_at_v1))]
 fn key_rest_of_v1(node: u8, bytes: &[u8]) -> Result<(Value, usize), WireFault>
     ensures { GivesField bytes.now result (key_rest_at_v1 node bytes.now) }
@@ -32,9 +33,9 @@ fn key_rest_of_v1(node: u8, bytes: &[u8]) -> Result<(Value, usize), WireFault>
     Ok((key, 9))
 }
 
-/// The value of version 1 at the front of the bytes, a key as a batch of one, and how many bytes it takes: 1 where it is no key,
-/// 11 for a key. Value where its tag is neither 0 nor 1, its node is not of the group, or its start or its serial is 0; Short where
-/// it ends too soon.
+/// The value of version 1 at the front of the bytes, a key as a batch of one, and how many bytes it
+/// takes: 1 where it is no key, 11 for a key. Value where its tag is neither 0 nor 1, its node is
+/// not of the group, or its start or its serial is 0; Short where it ends too soon.
 #[tactic(auto, unfolding(crate::specs::Version1::value_at_v1, crate::specs::Version1::key_at_v1))]
 pub fn read_value_v1(bytes: &[u8], group: Group) -> Result<(Value, usize), WireFault>
     ensures exact { GivesField bytes.now result (value_at_v1 group.size bytes.now) }

@@ -1,6 +1,6 @@
 //! Looking up and putting in a list of votes that ascend by place.
 ghost use Rattle.std.specs.Prelude.{◌≡◌, ◌+◌, ◌<◌, ◌≤◌, IfOk, IfErr, OnOk, OnErr, IsOk, vec_len, vec_capacity};
-ghost use Rattle.paxos_msg.specs.Messages.{IsAscending, vote_at};
+ghost use Rattle.paxos_msg.specs.Messages.{IsAscending, kept_vote_at};
 ghost use Rattle.paxos_msg.specs.Places.{IsGapIn, IsPlaceIn};
 ghost use Rattle.paxos_msg.specs.Records.{with_vote};
 
@@ -19,7 +19,7 @@ fn search(votes: &[Vote], place: u32) -> Result<usize, usize>
 /// The vote at the place, if there is one, among votes in ascending order of place: by one search.
 pub fn find_vote(votes: &[Vote], place: u32) -> Option<Vote>
     requires { IsAscending votes.now }
-    ensures { result ≡ vote_at votes.now place }
+    ensures { result ≡ kept_vote_at votes.now place }
 {
     match search(votes, place) {
         Ok(at) => Some(votes[at]),
@@ -27,8 +27,8 @@ pub fn find_vote(votes: &[Vote], place: u32) -> Option<Vote>
     }
 }
 
-/// Puts a vote among votes in ascending order of place, instead of the one at its place, if there is one.
-/// It takes no memory where there is room for one more. After an error nothing has changed.
+/// Puts a vote among votes in ascending order of place, instead of the one at its place, if there
+/// is one. It takes no memory where there is room for one more. After an error nothing has changed.
 pub fn insert_vote(votes: &mut Vec<Vote>, vote: Vote) -> Result<(), AllocError>
     requires { IsAscending votes.old.items }
     ensures ok { OnOk result (votes.new.items ≡ with_vote votes.old.items vote) }

@@ -53,8 +53,8 @@ impl Votes {
         self.items.as_slice()
     }
 
-    /// Puts a vote among votes that ascend by place, instead of the one at its place, if there is one.
-    /// After an error nothing has changed.
+    /// Puts a vote among votes that ascend by place, instead of the one at its place, if there is
+    /// one. After an error nothing has changed.
     pub fn insert(&mut self, vote: Vote) -> Result<(), AllocError>
         requires { IsAscending self.old }
         ensures ok { OnOk result (self.new ≡ with_vote self.old vote) }

@@ -7,8 +7,8 @@ use Rattle.paxos_msg.specs.declared.value.Value.{Value}
 use Rattle.paxos_msg.specs.declared.message.Body.TheVariants.{Accept}
 use Rattle.paxos_msg.specs.Messages.{IsSaid}
 use Rattle.paxos_msg.specs.Batches.{Sent}
-use Rattle.paxos_proposer.specs.Proposer.{begun, covers}
-use Rattle.paxos_proposer.specs.Backed.{IsBacked}
+use Rattle.paxos_proposer.specs.Proposer.{new_proposer, is_covered_by}
+use Rattle.paxos_proposer.specs.Backed.{IsProposerBacked}
 
 -- the same number everywhere is at most that number, and 0 behind the end
 pub replicated : (n i from : ℕ) → slice_index (replicate n from) i ≤ from
@@ -19,7 +19,7 @@ replicated n i from =
     ]
 
 -- no acceptor covers a place from the first one on
-none_covers : (n i from s : ℕ) → from ≤ s → IsTrue (covers (replicate n from) s i) → ⊥
+none_covers : (n i from s : ℕ) → from ≤ s → IsTrue (is_covered_by (replicate n from) s i) → ⊥
 none_covers n i from s le member =
     let lt : s < slice_index (replicate n from) i = ltb-true s (slice_index (replicate n from) i) member in
     omega (arith, replicated n i from)
@@ -29,7 +29,8 @@ pub none_proposed : (t : Bool) (i : ℕ) (v : Value) → (if t then None else sl
 none_proposed true i v e = cc
 none_proposed false i v e = cc
 
-pub begun_backed : (sent : Sent) (b : Ballot) (from size : ℕ) → ((s : ℕ) (v : Value) → ¬ IsSaid sent (Accept b s v)) → IsBacked sent b.node (begun b from size)
+pub begun_backed : (sent : Sent) (b : Ballot) (from size : ℕ) → ((s : ℕ) (v : Value) → ¬ IsSaid sent (Accept b s v))
+    → IsProposerBacked sent b.node (new_proposer b from size)
 begun_backed sent b from size quiet = record {
   own = refl;
   nodes = length-replicate 10 from;

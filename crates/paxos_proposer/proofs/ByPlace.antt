@@ -6,34 +6,37 @@ use Rattle.std.proofs.lemmas.Bool.{cases_eq, cases_lt, eq-eqb, ne_eqb, lt-ltb, l
 use Rattle.std.proofs.lemmas.Bool.Decides.{nat_tests}
 use Rattle.std.proofs.lemmas.List.Elements.{All-head, All-tail}
 use Rattle.paxos_msg.specs.Batches.{Vote}
-use Rattle.paxos_msg.specs.Messages.{AreAbove, IsAscending, vote_at}
+use Rattle.paxos_msg.specs.Messages.{AreAbove, IsAscending, kept_vote_at}
 use Rattle.paxos_msg.specs.Records.{with_vote}
 use Rattle.paxos_proposer.specs.declared.kept.Report.{Report}
-use Rattle.paxos_proposer.specs.KeptVotes.{vote_of, votes_of}
-use Rattle.paxos_proposer.specs.Proposer.{votes_from}
+use Rattle.paxos_proposer.specs.KeptVotes.{vote_of, reported_votes}
+use Rattle.paxos_msg.specs.Places.{votes_from}
 use Rattle.paxos_proposer.proofs.Passing.{left_at, left_from}
 use Rattle.paxos_proposer.proofs.Reported.{found_first, found_later, none_above}
 
 -- ---- what is found at a place
 
-put_step : (x vote : Vote) (xs : List Vote) (s : ℕ) → vote_at (with_vote xs vote) s ≡ (if vote.place == s then Some vote else vote_at xs s)
-    → vote_at (with_vote (x ∷ xs) vote) s ≡ (if vote.place == s then Some vote else vote_at (x ∷ xs) s)
+put_step : (x vote : Vote) (xs : List Vote) (s : ℕ)
+    → kept_vote_at (with_vote xs vote) s ≡ (if vote.place == s then Some vote else kept_vote_at xs s)
+    → kept_vote_at (with_vote (x ∷ xs) vote) s ≡ (if vote.place == s then Some vote else kept_vote_at (x ∷ xs) s)
 put_step x vote xs s ih = grind (arith, nat_tests)
 
 -- a vote that is put at its place is found there, and nothing changes elsewhere
-vote_at-with_vote : (votes : List Vote) (vote : Vote) (s : ℕ) → vote_at (with_vote votes vote) s ≡ (if vote.place == s then Some vote else vote_at votes s)
+vote_at-with_vote : (votes : List Vote) (vote : Vote) (s : ℕ)
+    → kept_vote_at (with_vote votes vote) s ≡ (if vote.place == s then Some vote else kept_vote_at votes s)
 vote_at-with_vote [] vote s = refl
 vote_at-with_vote (x ∷ xs) vote s = put_step x vote xs s (vote_at-with_vote xs vote s)
 
-mapped : (t : Bool) (s : ℕ) (r : Report) (o : Option Report) → (if t then Some (vote_of s r) else option_map (vote_of s) o) ≡ option_map (vote_of s) (cond t (Some r) o)
+mapped : (t : Bool) (s : ℕ) (r : Report) (o : Option Report)
+    → (if t then Some (vote_of s r) else option_map (vote_of s) o) ≡ option_map (vote_of s) (cond t (Some r) o)
 mapped true s r o = refl
 mapped false s r o = refl
 
 -- the votes have at a place what a search of the reports finds
-pub vote_at-votes_of : (es : List (ℕ × Report)) (s : ℕ) → vote_at (votes_of es) s ≡ option_map (vote_of s) (lookup (nat_eq s) es)
+pub vote_at-votes_of : (es : List (ℕ × Report)) (s : ℕ) → kept_vote_at (reported_votes es) s ≡ option_map (vote_of s) (lookup (nat_eq s) es)
 vote_at-votes_of [] s = refl
 vote_at-votes_of (e ∷ es) s =
-    vote_at-with_vote (votes_of es) (vote_of e.0 e.1) s
+    vote_at-with_vote (reported_votes es) (vote_of e.0 e.1) s
     ∙ elim (cases_eq e.0 s) [
       | inl same ↦ rw (same, eq-eqb s s refl) refl
       | inr ne ↦ rw (ne_eqb e.0 s ne, ne_eqb s e.0 (λ same. ne (sym same))) (vote_at-votes_of es s)
@@ -66,9 +69,9 @@ ascending_with (x ∷ xs) vote h =
       ])
     ]
 
-ascending_of : (es : List (ℕ × Report)) → IsAscending (votes_of es)
+ascending_of : (es : List (ℕ × Report)) → IsAscending (reported_votes es)
 ascending_of [] = tt
-ascending_of (e ∷ es) = ascending_with (votes_of es) (vote_of e.0 e.1) (ascending_of es)
+ascending_of (e ∷ es) = ascending_with (reported_votes es) (vote_of e.0 e.1) (ascending_of es)
 
 above_left : (s n : ℕ) (votes : List Vote) → AreAbove s votes → AreAbove s (votes_from n votes)
 above_left s n [] h = tt
@@ -89,40 +92,43 @@ ascending_left n (x ∷ xs) h =
 -- ---- votes that agree at each place
 
 -- a first vote is found below no vote of the other list
-not_less : (x y : Vote) (xs ys : List Vote) → AreAbove y.place ys → ((s : ℕ) → vote_at (x ∷ xs) s ≡ vote_at (y ∷ ys) s) → y.place ≤ x.place
+not_less : (x y : Vote) (xs ys : List Vote) → AreAbove y.place ys
+    → ((s : ℕ) → kept_vote_at (x ∷ xs) s ≡ kept_vote_at (y ∷ ys) s) → y.place ≤ x.place
 not_less x y xs ys h same =
     elim (cases_lt x.place y.place) [
       | inl less ↦
-          let here : vote_at (x ∷ xs) x.place ≡ Some x = found_first x xs x.place refl in
-          let none : vote_at (y ∷ ys) x.place ≡ None = none_above (y ∷ ys) x.place (less, above_less x.place y.place ys (omega arith) h) in
+          let here : kept_vote_at (x ∷ xs) x.place ≡ Some x = found_first x xs x.place refl in
+          let none : kept_vote_at (y ∷ ys) x.place ≡ None =
+          none_above (y ∷ ys) x.place (less, above_less x.place y.place ys (omega arith) h) in
           let both = same x.place in
           absurd cc
       | inr from ↦ from
     ]
 
-same_first : (x y : Vote) (xs ys : List Vote) → x.place ≡ y.place → ((s : ℕ) → vote_at (x ∷ xs) s ≡ vote_at (y ∷ ys) s) → x ≡ y
+same_first : (x y : Vote) (xs ys : List Vote) → x.place ≡ y.place → ((s : ℕ) → kept_vote_at (x ∷ xs) s ≡ kept_vote_at (y ∷ ys) s) → x ≡ y
 same_first x y xs ys e same =
-    let here : vote_at (x ∷ xs) x.place ≡ Some x = found_first x xs x.place refl in
-    let there : vote_at (y ∷ ys) x.place ≡ Some y = found_first y ys x.place (sym e) in
+    let here : kept_vote_at (x ∷ xs) x.place ≡ Some x = found_first x xs x.place refl in
+    let there : kept_vote_at (y ∷ ys) x.place ≡ Some y = found_first y ys x.place (sym e) in
     let both = same x.place in
     (cc)
 
-same_later : (x y : Vote) (xs ys : List Vote) → x.place ≡ y.place → AreAbove x.place xs → AreAbove y.place ys → ((s : ℕ) → vote_at (x ∷ xs) s ≡ vote_at (y ∷ ys) s)
-    → (s : ℕ) → vote_at xs s ≡ vote_at ys s
+same_later : (x y : Vote) (xs ys : List Vote) → x.place ≡ y.place → AreAbove x.place xs → AreAbove y.place ys
+    → ((s : ℕ) → kept_vote_at (x ∷ xs) s ≡ kept_vote_at (y ∷ ys) s)
+    → (s : ℕ) → kept_vote_at xs s ≡ kept_vote_at ys s
 same_later x y xs ys e h k same s =
     elim (cases_eq x.place s) [
       | inl at ↦ none_above xs s (rw at at h) ∙ sym (none_above ys s (rw (sym e ∙ at) at k))
       | inr ne ↦ sym (found_later x xs s ne) ∙ same s ∙ found_later y ys s (λ at. ne (e ∙ at))
     ]
 
-pub same_votes : (xs ys : List Vote) → IsAscending xs → IsAscending ys → ((s : ℕ) → vote_at xs s ≡ vote_at ys s) → xs ≡ ys
+pub same_votes : (xs ys : List Vote) → IsAscending xs → IsAscending ys → ((s : ℕ) → kept_vote_at xs s ≡ kept_vote_at ys s) → xs ≡ ys
 same_votes [] [] h k same = refl
 same_votes [] (y ∷ ys) h k same =
-    let there : vote_at (y ∷ ys) y.place ≡ Some y = found_first y ys y.place refl in
+    let there : kept_vote_at (y ∷ ys) y.place ≡ Some y = found_first y ys y.place refl in
     let both = same y.place in
     absurd cc
 same_votes (x ∷ xs) [] h k same =
-    let here : vote_at (x ∷ xs) x.place ≡ Some x = found_first x xs x.place refl in
+    let here : kept_vote_at (x ∷ xs) x.place ≡ Some x = found_first x xs x.place refl in
     let both = same x.place in
     absurd cc
 same_votes (x ∷ xs) (y ∷ ys) h k same =
@@ -136,21 +142,23 @@ same_votes (x ∷ xs) (y ∷ ys) h k same =
 -- ---- the reports with one more, or without one
 
 -- reports that differ at one place make votes that differ there
-pub votes_of-put : (es fs : List (ℕ × Report)) (s : ℕ) (r : Report) → ((q : ℕ) → lookup (nat_eq q) fs ≡ cond (nat_eq s q) (Some r) (lookup (nat_eq q) es))
-    → votes_of fs ≡ with_vote (votes_of es) (vote_of s r)
+pub votes_of-put : (es fs : List (ℕ × Report)) (s : ℕ) (r : Report)
+    → ((q : ℕ) → lookup (nat_eq q) fs ≡ cond (nat_eq s q) (Some r) (lookup (nat_eq q) es))
+    → reported_votes fs ≡ with_vote (reported_votes es) (vote_of s r)
 votes_of-put es fs s r put =
-    same_votes _ _ (ascending_of fs) (ascending_with (votes_of es) (vote_of s r) (ascending_of es)) (λ q.
+    same_votes _ _ (ascending_of fs) (ascending_with (reported_votes es) (vote_of s r) (ascending_of es)) (λ q.
     vote_at-votes_of fs q ∙ ap (option_map (vote_of q)) (put q)
-    ∙ sym (vote_at-with_vote (votes_of es) (vote_of s r) q ∙ here q))
+    ∙ sym (vote_at-with_vote (reported_votes es) (vote_of s r) q ∙ here q))
   where
-    here : (q : ℕ) → (if s == q then Some (vote_of s r) else vote_at (votes_of es) q) ≡ option_map (vote_of q) (cond (nat_eq s q) (Some r) (lookup (nat_eq q) es))
+    here : (q : ℕ) → (if s == q then Some (vote_of s r) else kept_vote_at (reported_votes es) q)
+        ≡ option_map (vote_of q) (cond (nat_eq s q) (Some r) (lookup (nat_eq q) es))
     here q = elim (cases_eq s q) [
       | inl same ↦ rw (same, eq-eqb q q refl) refl
       | inr ne ↦ rw (ne_eqb s q ne) (vote_at-votes_of es q)
     ]
 
 -- where all are from a place on, none is below it
-none_below : (s q : ℕ) (votes : List Vote) → q < s → All (λ vote. s ≤ vote.place) votes → vote_at votes q ≡ None
+none_below : (s q : ℕ) (votes : List Vote) → q < s → All (λ vote. s ≤ vote.place) votes → kept_vote_at votes q ≡ None
 none_below s q [] lt h = refl
 none_below s q (x ∷ xs) lt h =
     let from : s ≤ x.place = All-head (λ vote. s ≤ vote.place) x xs h in
@@ -158,18 +166,21 @@ none_below s q (x ∷ xs) lt h =
 
 -- reports that lack the first place make the votes above it
 pub votes_of-cut : (es fs : List (ℕ × Report)) (s : ℕ) → ((q : ℕ) → lookup (nat_eq q) fs ≡ cond (nat_eq s q) None (lookup (nat_eq q) es))
-    → All (λ vote. s ≤ vote.place) (votes_of es) → votes_of fs ≡ votes_from (s + 1) (votes_of es)
+    → All (λ vote. s ≤ vote.place) (reported_votes es) → reported_votes fs ≡ votes_from (s + 1) (reported_votes es)
 votes_of-cut es fs s cut from =
-    same_votes _ _ (ascending_of fs) (ascending_left (s + 1) (votes_of es) (ascending_of es)) (λ q.
+    same_votes _ _ (ascending_of fs) (ascending_left (s + 1) (reported_votes es) (ascending_of es)) (λ q.
     vote_at-votes_of fs q ∙ ap (option_map (vote_of q)) (cut q) ∙ there q)
   where
-    there : (q : ℕ) → option_map (vote_of q) (cond (nat_eq s q) None (lookup (nat_eq q) es)) ≡ vote_at (votes_from (s + 1) (votes_of es)) q
+    there : (q : ℕ) → option_map (vote_of q) (cond (nat_eq s q) None (lookup (nat_eq q) es))
+        ≡ kept_vote_at (votes_from (s + 1) (reported_votes es)) q
     there q = elim (cases_eq s q) [
-      | inl same ↦ rw (eq-eqb s q same) (sym (none_below (s + 1) q (votes_from (s + 1) (votes_of es)) (omega arith) (left_from (s + 1) (votes_of es))))
+      | inl same ↦ rw (eq-eqb s q same)
+          (sym (none_below (s + 1) q (votes_from (s + 1) (reported_votes es)) (omega arith)
+          (left_from (s + 1) (reported_votes es))))
       | inr ne ↦ rw (ne_eqb s q ne) (sym (vote_at-votes_of es q) ∙ elim (cases_lt q s) [
         | inl low ↦
-            none_below s q (votes_of es) low from
-            ∙ sym (none_below (s + 1) q (votes_from (s + 1) (votes_of es)) (omega arith) (left_from (s + 1) (votes_of es)))
-        | inr high ↦ sym (left_at (s + 1) q (votes_of es) (omega arith))
+            none_below s q (reported_votes es) low from
+            ∙ sym (none_below (s + 1) q (votes_from (s + 1) (reported_votes es)) (omega arith) (left_from (s + 1) (reported_votes es)))
+        | inr high ↦ sym (left_at (s + 1) q (reported_votes es) (omega arith))
       ])
     ]

@@ -5,7 +5,7 @@ use Rattle.std.proofs.lemmas.List.{get_or-set_other, get_or-set_same}
 use Rattle.std.proofs.lemmas.Bool.Decides.{nat_tests}
 use Rattle.paxos_msg.specs.Ballots.{count_of}
 use Rattle.paxos_msg.specs.Tests.{is_majority}
-use Rattle.paxos_proposer.specs.Proposer.{covers}
+use Rattle.paxos_proposer.specs.Proposer.{is_covered_by}
 use Rattle.paxos_proposer.specs.States.{AreInRange}
 
 -- one node more is counted if it is a member
@@ -13,16 +13,17 @@ pub count_next : (p : ℕ → Bool) (n : ℕ) → count_of p (n + 1) ≡ (if p (
 count_next p n = rw add-one refl
 
 -- no promise reaches above place 65,536
-not_covered : (coverages : List ℕ) (s i : ℕ) → 65536 ≤ s → AreInRange coverages → covers coverages s i ≡ false
+not_covered : (coverages : List ℕ) (s i : ℕ) → 65536 ≤ s → AreInRange coverages → is_covered_by coverages s i ≡ false
 not_covered coverages s i high h = grind (arith, nat_tests, h.upto i)
 
 -- so none is counted there
-none_counted : (coverages : List ℕ) (s n : ℕ) → 65536 ≤ s → AreInRange coverages → count_of (covers coverages s) n ≡ 0
+none_counted : (coverages : List ℕ) (s n : ℕ) → 65536 ≤ s → AreInRange coverages → count_of (is_covered_by coverages s) n ≡ 0
 none_counted coverages s zero high h = refl
 none_counted coverages s (suc n) high h = rw (not_covered coverages s (suc n) high h, none_counted coverages s n high h)
 
 -- a place that a majority's promises reach above is a place
-pub covered_below : (size s : ℕ) (coverages : List ℕ) → AreInRange coverages → is_majority size (covers coverages s) ≡ true → s ≤ 65535
+pub covered_below : (size s : ℕ) (coverages : List ℕ) → AreInRange coverages
+    → is_majority size (is_covered_by coverages s) ≡ true → s ≤ 65535
 covered_below size s coverages h covered =
     elim (cases_lt s 65536) [
       | inl below ↦ omega arith
@@ -30,7 +31,8 @@ covered_below size s coverages h covered =
     ]
 
 -- a part that reaches no further than the last place leaves all within it
-pub set_reach : (coverages : List ℕ) (j upto : ℕ) → j < length coverages → upto ≤ 65536 → AreInRange coverages → AreInRange (slice_set coverages j upto)
+pub set_reach : (coverages : List ℕ) (j upto : ℕ) → j < length coverages → upto ≤ 65536 → AreInRange coverages
+    → AreInRange (slice_set coverages j upto)
 set_reach coverages j upto node low h = record {
   upto = λ i. elim (cases_eq i j) [
     | inl same ↦ rw (same, get_or-set_same coverages j upto 0 node) low

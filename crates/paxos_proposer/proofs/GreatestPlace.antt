@@ -11,18 +11,21 @@ use Rattle.std.proofs.lemmas.List.Elements.{All-head}
 use Rattle.paxos_msg.specs.Batches.{Vote}
 use Rattle.paxos_msg.specs.Records.{with_vote}
 use Rattle.paxos_proposer.specs.KeptVotes.{IsGreatestPlace, is_upto}
-use Rattle.paxos_proposer.specs.Proposer.{is_kept_from, votes_from}
+use Rattle.paxos_proposer.specs.Proposer.{is_kept_from}
+use Rattle.paxos_msg.specs.Places.{votes_from}
 
 put_step : (x vote : Vote) (xs : List Vote) (s : ℕ) → is_kept_from (with_vote xs vote) s ≡ nat_le s vote.place || is_kept_from xs s
     → is_kept_from (with_vote (x ∷ xs) vote) s ≡ nat_le s vote.place || is_kept_from (x ∷ xs) s
 put_step x vote xs s ih = grind (arith, nat_tests)
 
 -- a vote more counts up to its place
-pub is_kept_from-with_vote : (votes : List Vote) (vote : Vote) (s : ℕ) → is_kept_from (with_vote votes vote) s ≡ nat_le s vote.place || is_kept_from votes s
+pub is_kept_from-with_vote : (votes : List Vote) (vote : Vote) (s : ℕ)
+    → is_kept_from (with_vote votes vote) s ≡ nat_le s vote.place || is_kept_from votes s
 is_kept_from-with_vote [] vote s = refl
 is_kept_from-with_vote (x ∷ xs) vote s = put_step x vote xs s (is_kept_from-with_vote xs vote s)
 
-left_step : (x : Vote) (xs : List Vote) (n s : ℕ) → is_kept_from (votes_from n xs) s ≡ is_kept_from xs (max n s) → is_kept_from (votes_from n (x ∷ xs)) s ≡ is_kept_from (x ∷ xs) (max n s)
+left_step : (x : Vote) (xs : List Vote) (n s : ℕ) → is_kept_from (votes_from n xs) s ≡ is_kept_from xs (max n s)
+    → is_kept_from (votes_from n (x ∷ xs)) s ≡ is_kept_from (x ∷ xs) (max n s)
 left_step x xs n s ih = grind (arith, nat_tests)
 
 -- what is left from a place on counts from there on
@@ -37,7 +40,8 @@ or_false true = refl
 or_false false = refl
 
 -- a place is up to the greater of two if it is up to one of them
-raised : (greatest : Option ℕ) (place s : ℕ) → nat_le s place || is_upto greatest s ≡ is_upto (ord_max (option_cmp nat_cmp) greatest (Some place)) s
+raised : (greatest : Option ℕ) (place s : ℕ)
+    → nat_le s place || is_upto greatest s ≡ is_upto (ord_max (option_cmp nat_cmp) greatest (Some place)) s
 raised None place s = sym (or_false (nat_le s place))
 raised (Some g) place s =
     elim (cases_order place g) [
@@ -54,7 +58,8 @@ raised (Some g) place s =
     other_upto : (g place s : ℕ) → place ≤ g → nat_le s place || nat_le s g ≡ nat_le s g
     other_upto g place s le = grind (arith, nat_tests)
 
-pub greatest-put : (votes : List Vote) (greatest : Option ℕ) (vote : Vote) → IsGreatestPlace votes greatest → IsGreatestPlace (with_vote votes vote) (ord_max (option_cmp nat_cmp) greatest (Some vote.place))
+pub greatest-put : (votes : List Vote) (greatest : Option ℕ) (vote : Vote) → IsGreatestPlace votes greatest
+    → IsGreatestPlace (with_vote votes vote) (ord_max (option_cmp nat_cmp) greatest (Some vote.place))
 greatest-put votes greatest vote h = record {
   upto = λ s. is_kept_from-with_vote votes vote s ∙ ap (λ (t : Bool). nat_le s vote.place || t) (h.upto s) ∙ raised greatest vote.place s;
 }
@@ -67,7 +72,8 @@ any_from n [] h = refl
 any_from n (x ∷ xs) h = rw (le-leb n x.place (All-head (λ vote. n ≤ vote.place) x xs h), le-leb 0 x.place (omega arith)) refl
 
 -- behind the greatest place none is left
-pub greatest-passed : (votes : List Vote) (greatest : Option ℕ) (place : ℕ) → option_eq nat_eq greatest (Some place) ≡ true → IsGreatestPlace votes greatest
+pub greatest-passed : (votes : List Vote) (greatest : Option ℕ) (place : ℕ)
+    → option_eq nat_eq greatest (Some place) ≡ true → IsGreatestPlace votes greatest
     → IsGreatestPlace (votes_from (place + 1) votes) None
 greatest-passed votes None place e h = absurd cc
 greatest-passed votes (Some g) place e h =
@@ -77,7 +83,8 @@ greatest-passed votes (Some g) place e h =
     }
 
 -- behind another place the greatest one is left
-pub greatest-left : (votes : List Vote) (greatest : Option ℕ) (place : ℕ) → option_eq nat_eq greatest (Some place) ≡ false → All (λ vote. place ≤ vote.place) votes
+pub greatest-left : (votes : List Vote) (greatest : Option ℕ) (place : ℕ)
+    → option_eq nat_eq greatest (Some place) ≡ false → All (λ vote. place ≤ vote.place) votes
     → IsGreatestPlace votes greatest → IsGreatestPlace (votes_from (place + 1) votes) greatest
 greatest-left votes None place e from h = record { upto = λ s. is_kept_from-votes_from votes (place + 1) s ∙ h.upto (max (place + 1) s) }
 greatest-left votes (Some g) place e from h = record {

@@ -10,9 +10,9 @@ use Rattle.paxos_msg.specs.declared.value.Value.{Value}
 use Rattle.paxos_msg.specs.declared.value.Value.TheVariants.{Noop}
 use Rattle.paxos_msg.specs.Batches.{Vote}
 use Rattle.paxos_msg.specs.Fits.{AreVotes, IsBallot, IsBody, IsPlace, IsValue}
-use Rattle.paxos_msg.specs.Messages.{vote_at}
-use Rattle.paxos_proposer.specs.Proposer.{Proposer, after_part, begun, coverage_of, heard, is_covered, is_kept_from, next_of, next_value, proposed_at, proposing, rises, value_or}
-use Rattle.paxos_proposer.specs.Ranges.{IsInRange}
+use Rattle.paxos_msg.specs.Messages.{kept_vote_at}
+use Rattle.paxos_proposer.specs.Proposer.{Proposer, proposer_after_part, new_proposer, coverage_of, heard, is_covered, is_kept_from, next_of, next_value, proposed_at, proposing, rises, value_or}
+use Rattle.paxos_proposer.specs.Ranges.{IsProposerInRange}
 use Rattle.paxos_proposer.specs.States.{AreInRange}
 use Rattle.paxos_proposer.proofs.Begun.{none_proposed, replicated}
 use Rattle.paxos_proposer.proofs.Counting.{covered_below, set_reach}
@@ -20,7 +20,7 @@ use Rattle.paxos_proposer.proofs.Passing.{found_all, heard_all}
 use Rattle.paxos_proposer.proofs.Proposals.{if_some, proposed_there}
 use Rattle.paxos_proposer.proofs.Proposals as proposals
 
-pub begun_in_range : (b : Ballot) (from size : ℕ) → IsBallot size b → from ≤ 65536 → IsInRange (begun b from size)
+pub begun_in_range : (b : Ballot) (from size : ℕ) → IsBallot size b → from ≤ 65536 → IsProposerInRange (new_proposer b from size)
 begun_in_range b from size ballot low = record {
   ballot = ballot;
   reach = record { upto = λ i. omega (arith, replicated 10 i from) };
@@ -30,9 +30,11 @@ begun_in_range b from size ballot low = record {
 
 -- ---- a part
 
-values_of : (size : ℕ) (b : Ballot) (low upto : ℕ) (votes : List Vote) → AreVotes size b low upto votes → All (λ vote. IsValue size vote.value) votes
+values_of : (size : ℕ) (b : Ballot) (low upto : ℕ) (votes : List Vote) → AreVotes size b low upto votes
+    → All (λ vote. IsValue size vote.value) votes
 values_of size b low upto [] h = All-nil (λ vote. IsValue size vote.value)
-values_of size b low upto (x ∷ xs) h = All-cons (λ vote. IsValue size vote.value) x xs h.0.value (values_of size b (x.place + 1) upto xs h.1)
+values_of size b low upto (x ∷ xs) h =
+    All-cons (λ vote. IsValue size vote.value) x xs h.0.value (values_of size b (x.place + 1) upto xs h.1)
 
 -- coverages stay in their range, whichever one is raised
 raised_reach : (coverages : List ℕ) (j upto : ℕ) → upto ≤ 65536 → AreInRange coverages → AreInRange (slice_set coverages j upto)
@@ -42,47 +44,62 @@ raised_reach coverages j upto low h =
       | inr past ↦ subst AreInRange (sym (set_past coverages j upto past)) h
     ]
 
-part_if : (t : Bool) (p : Proposer) (j first upto : ℕ) (votes : List Vote) → IsInRange p → upto ≤ 65536 → AreVotes p.size p.ballot first upto votes
-    → IsInRange (if t then record p { coverages = slice_set p.coverages j upto; kept = heard (max (coverage_of p j) (next_of p)) p.kept votes } else p)
+part_if : (t : Bool) (p : Proposer) (j first upto : ℕ) (votes : List Vote) → IsProposerInRange p → upto ≤ 65536
+    → AreVotes p.size p.ballot first upto votes
+    → IsProposerInRange (if t
+    then record p {
+      coverages = slice_set p.coverages j upto;
+      kept = heard (max (coverage_of p j) (next_of p)) p.kept votes;
+    } else p)
 part_if false p j first upto votes h low parts = h
 part_if true p j first upto votes h low parts = record {
   ballot = h.ballot;
   reach = raised_reach p.coverages j upto low h.reach;
   kept = heard_all (λ vote. IsValue p.size vote.value) (max (coverage_of p j) (next_of p)) p.kept votes h.kept
-      (All-weaker (λ vote. IsValue p.size vote.value) (λ vote. max (coverage_of p j) (next_of p) ≤ vote.place → IsValue p.size vote.value) (λ vote fits from. fits) votes (values_of p.size p.ballot first upto votes parts));
+      (All-weaker (λ vote. IsValue p.size vote.value)
+      (λ vote. max (coverage_of p j) (next_of p) ≤ vote.place → IsValue p.size vote.value)
+      (λ vote fits from. fits) votes (values_of p.size p.ballot first upto votes parts));
   proposed = h.proposed;
 }
 
-pub part_in_range : (j first upto : ℕ) (p : Proposer) (votes : List Vote) → IsInRange p → IsBody p.size j (Promise p.ballot first upto votes) → IsInRange (after_part p j first upto votes)
+pub part_in_range : (j first upto : ℕ) (p : Proposer) (votes : List Vote) → IsProposerInRange p
+    → IsBody p.size j (Promise p.ballot first upto votes) → IsProposerInRange (proposer_after_part p j first upto votes)
 part_in_range j first upto p votes h body = part_if (rises p j first upto) p j first upto votes h body.2 body.5
 
 -- ---- a proposal
 
-module _ (p : Proposer) (h : IsInRange p) where
-  kept_or : (kept : Option Vote) (other : Option Value) (v : Value) → value_or kept other ≡ Some v → ((vote : Vote) → kept ≡ Some vote → IsValue p.size vote.value) → IfSome other (IsValue p.size) → IsValue p.size v
+module _ (p : Proposer) (h : IsProposerInRange p) where
+  kept_or : (kept : Option Vote) (other : Option Value) (v : Value) → value_or kept other ≡ Some v
+      → ((vote : Vote) → kept ≡ Some vote → IsValue p.size vote.value) → IfSome other (IsValue p.size)
+      → IsValue p.size v
   kept_or None other v e fits free = rw e at free
   kept_or (Some vote) other v e fits free = let is : vote.value ≡ v = cc in subst (IsValue p.size) is (fits vote refl)
 
-  noop_or : (t : Bool) (offered : Option Value) → IfSome offered (IsValue p.size) → IfSome (if t then Some Noop else offered) (IsValue p.size)
+  noop_or : (t : Bool) (offered : Option Value) → IfSome offered (IsValue p.size)
+      → IfSome (if t then Some Noop else offered) (IsValue p.size)
   noop_or true offered free = tt
   noop_or false offered free = free
 
-  next_fits : (offered : Option Value) (v : Value) → IfSome offered (IsValue p.size) → next_value p offered ≡ Some v → IsPlace (next_of p) × IsValue p.size v
+  next_fits : (offered : Option Value) (v : Value) → IfSome offered (IsValue p.size) → next_value p offered ≡ Some v
+      → IsPlace (next_of p) × IsValue p.size v
   next_fits offered v free e =
       let other : Option Value = if is_kept_from p.kept (next_of p + 1) then Some Noop else offered in
-      let (covered, value) = if_some (is_covered p (next_of p)) (value_or (vote_at p.kept (next_of p)) other) v e in (
+      let (covered, value) = if_some (is_covered p (next_of p)) (value_or (kept_vote_at p.kept (next_of p)) other) v e in (
         covered_below p.size (next_of p) p.coverages h.reach covered,
-        kept_or (vote_at p.kept (next_of p)) other v value (λ vote found. found_all (λ k. IsValue p.size k.value) p.kept (next_of p) vote found h.kept) (noop_or (is_kept_from p.kept (next_of p + 1)) offered free),
+        kept_or (kept_vote_at p.kept (next_of p)) other v value
+            (λ vote found. found_all (λ k. IsValue p.size k.value) p.kept (next_of p) vote found h.kept)
+            (noop_or (is_kept_from p.kept (next_of p + 1)) offered free),
       )
 
-  pub next_accept_fits : (offered : Option Value) (v : Value) → IfSome offered (IsValue p.size) → next_value p offered ≡ Some v → IsBody p.size p.ballot.node (Accept p.ballot (next_of p) v)
+  pub next_accept_fits : (offered : Option Value) (v : Value) → IfSome offered (IsValue p.size)
+      → next_value p offered ≡ Some v → IsBody p.size p.ballot.node (Accept p.ballot (next_of p) v)
   next_accept_fits offered v free e = let fits = next_fits offered v free e in (h.ballot, refl, fits.0, fits.1)
 
   pub again_fits : (s : ℕ) (v : Value) → proposed_at p s ≡ Some v → IsBody p.size p.ballot.node (Accept p.ballot s v)
   again_fits s v e = let fits = h.proposed s v e in (h.ballot, refl, fits.0, fits.1)
 
   -- the new value is the one that is proposed at the next place
-  after : (v : Value) → IsPlace (next_of p) × IsValue p.size v → IsInRange (proposing p (Some v))
+  after : (v : Value) → IsPlace (next_of p) × IsValue p.size v → IsProposerInRange (proposing p (Some v))
   after v fits = record {
     ballot = h.ballot;
     reach = h.reach;
@@ -95,9 +112,11 @@ module _ (p : Proposer) (h : IsInRange p) where
     ];
   }
 
-  by_value : (offered : Option Value) (o : Option Value) → next_value p offered ≡ o → IfSome offered (IsValue p.size) → IsInRange (proposing p o)
+  by_value : (offered : Option Value) (o : Option Value) → next_value p offered ≡ o → IfSome offered (IsValue p.size)
+      → IsProposerInRange (proposing p o)
   by_value offered None e free = h
   by_value offered (Some v) e free = after v (next_fits offered v free e)
 
-  pub proposing_in_range : (offered : Option Value) → IfSome offered (IsValue p.size) → IsInRange (proposing p (next_value p offered))
+  pub proposing_in_range : (offered : Option Value) → IfSome offered (IsValue p.size)
+      → IsProposerInRange (proposing p (next_value p offered))
   proposing_in_range offered free = by_value offered (next_value p offered) refl free

@@ -9,11 +9,11 @@ use Rattle.paxos_msg.specs.Batches.{Sent, Vote}
 use Rattle.paxos_msg.specs.declared.message.Body.TheVariants.{Promise}
 use Rattle.paxos_msg.specs.Ballots.{IsAtMost}
 use Rattle.paxos_msg.specs.Fits.{AreVotes, IsBody}
-use Rattle.paxos_msg.specs.Messages.{IsSent, IsPromised, vote_at}
+use Rattle.paxos_msg.specs.Messages.{IsSent, IsPromised, kept_vote_at}
 use Rattle.paxos_msg.specs.Sending.{IsBest, IsGreatest}
 use Rattle.paxos_msg.specs.Tests.{ballot_lt}
-use Rattle.paxos_proposer.specs.Proposer.{Proposer, covers, coverage_of, heard, next_of, rises, after_part}
-use Rattle.paxos_proposer.specs.Backed.{IsHeard, IsBacked}
+use Rattle.paxos_proposer.specs.Proposer.{Proposer, is_covered_by, coverage_of, heard, next_of, rises, proposer_after_part}
+use Rattle.paxos_proposer.specs.Backed.{HasPromises, IsProposerBacked}
 use Rattle.paxos_proposer.proofs.Reported.{AreByPlace, merged, are_ascending, none_upto, heard_below, heard_from}
 
 at_most_refl : (a : Ballot) → IsAtMost a a
@@ -35,26 +35,30 @@ abbrev with_report : (ℕ → Option Vote) → ℕ → Option Vote → ℕ → O
 with_report reported j new i = if i == j then new else reported i
 
 -- a part is heard at each place from the old coverage up to its end
-module _ (coverages : List ℕ) (j upto s : ℕ) (node : j < length coverages) (old : slice_index coverages j ≤ s) (below : s < upto) (reported : ℕ → Option Vote) (new : Option Vote) where
+module _ (coverages : List ℕ) (j upto s : ℕ) (node : j < length coverages) (old : slice_index coverages j ≤ s)
+    (below : s < upto) (reported : ℕ → Option Vote) (new : Option Vote) where
   -- what holds of the new report, and of each older one, holds of all
-  each : (Q : ℕ → Option Vote → Type 0) → Q j new → ((i : ℕ) → IsTrue (covers coverages s i) → Q i (reported i)) → (i : ℕ) → IsTrue (covers (slice_set coverages j upto) s i) → Q i (with_report reported j new i)
+  each : (Q : ℕ → Option Vote → Type 0) → Q j new → ((i : ℕ) → IsTrue (is_covered_by coverages s i) → Q i (reported i))
+      → (i : ℕ) → IsTrue (is_covered_by (slice_set coverages j upto) s i) → Q i (with_report reported j new i)
   each Q here there i member =
       elim (cases_eq i j) [
         | inl e ↦ rw (e, eq-eqb j j refl) here
         | inr ne ↦ rw (ne_eqb i j ne) (there i (rw (get_or-set_other coverages j i upto 0 ne) at member))
       ]
 
-  member_new : IsTrue (covers (slice_set coverages j upto) s j)
+  member_new : IsTrue (is_covered_by (slice_set coverages j upto) s j)
   member_new = rw (get_or-set_same coverages j upto 0 node) (lt-ltb s upto below)
 
   report_new : with_report reported j new j ≡ new
   report_new = rw (eq-eqb j j refl)
 
-  not_old : (i : ℕ) → IsTrue (covers coverages s i) → i ≢ j
+  not_old : (i : ℕ) → IsTrue (is_covered_by coverages s i) → i ≢ j
   not_old i member e = let h : s < slice_index coverages j = ltb-true s (slice_index coverages j) (rw e at member) in absurd (omega arith)
 
   -- the greatest report of the older ones stays the greatest, if the new one is not greater
-  stays_best : (x : Vote) → IsGreatest (covers coverages s) reported x → IfSome new (λ other. IsAtMost other.ballot x.ballot) → IsGreatest (covers (slice_set coverages j upto) s) (with_report reported j new) x
+  stays_best : (x : Vote) → IsGreatest (is_covered_by coverages s) reported x
+      → IfSome new (λ other. IsAtMost other.ballot x.ballot)
+      → IsGreatest (is_covered_by (slice_set coverages j upto) s) (with_report reported j new) x
   stays_best x great small =
       let ne : great.reporter ≢ j = not_old great.reporter great.is_member in
       record {
@@ -64,38 +68,73 @@ module _ (coverages : List ℕ) (j upto s : ℕ) (node : j < length coverages) (
         greatest = each (λ i r. IfSome r (λ other. IsAtMost other.ballot x.ballot)) small great.greatest;
       }
 
-  new_best : (y : Vote) → new ≡ Some y → ((i : ℕ) → IsTrue (covers coverages s i) → IfSome (reported i) (λ other. IsAtMost other.ballot y.ballot)) → IsGreatest (covers (slice_set coverages j upto) s) (with_report reported j new) y
+  new_best : (y : Vote) → new ≡ Some y
+      → ((i : ℕ) → IsTrue (is_covered_by coverages s i) → IfSome (reported i) (λ other. IsAtMost other.ballot y.ballot))
+      → IsGreatest (is_covered_by (slice_set coverages j upto) s) (with_report reported j new) y
   new_best y e small = record {
     reporter = j;
     is_member = member_new;
     reports = report_new ∙ e;
-    greatest = each (λ i r. IfSome r (λ other. IsAtMost other.ballot y.ballot)) (if_at new y (λ other. IsAtMost other.ballot y.ballot) e (at_most_refl y.ballot)) small;
+    greatest =
+        each (λ i r. IfSome r (λ other. IsAtMost other.ballot y.ballot))
+        (if_at new y (λ other. IsAtMost other.ballot y.ballot) e (at_most_refl y.ballot)) small;
   }
 
 none_small : (o : Option Vote) (y : Vote) → o ≡ None → IfSome o (λ other. IsAtMost other.ballot y.ballot)
 none_small o y e = rw e tt
 
-module _ (coverages : List ℕ) (j upto s : ℕ) (node : j < length coverages) (old : slice_index coverages j ≤ s) (below : s < upto) (reported : ℕ → Option Vote) where
-  best_heard : (kept new : Option Vote) → IsBest (covers coverages s) reported kept → IsBest (covers (slice_set coverages j upto) s) (with_report reported j new) (merged kept new)
+module _ (coverages : List ℕ) (j upto s : ℕ) (node : j < length coverages) (old : slice_index coverages j ≤ s)
+    (below : s < upto) (reported : ℕ → Option Vote) where
+  best_heard : (kept new : Option Vote) → IsBest (is_covered_by coverages s) reported kept
+      → IsBest (is_covered_by (slice_set coverages j upto) s) (with_report reported j new) (merged kept new)
   best_heard None None silent = each coverages j upto s node old below reported None (λ i r. r ≡ None) refl silent
-  best_heard None (Some y) silent = new_best coverages j upto s node old below reported (Some y) y refl (λ i member. none_small (reported i) y (silent i member))
+  best_heard None (Some y) silent =
+      new_best coverages j upto s node old below reported (Some y) y refl
+      (λ i member. none_small (reported i) y (silent i member))
   best_heard (Some x) None great = stays_best coverages j upto s node old below reported None x great tt
   best_heard (Some x) (Some y) great = by_test (ballot_lt x.ballot y.ballot) refl
     where
-      by_test : (t : Bool) → ballot_lt x.ballot y.ballot ≡ t → IsBest (covers (slice_set coverages j upto) s) (with_report reported j (Some y)) (Some (if t then y else x))
-      by_test true e = new_best coverages j upto s node old below reported (Some y) y refl (λ i member. IfSome_then (reported i) (great.greatest i member) (λ other h. at_most_less other.ballot x.ballot y.ballot h e))
+      by_test : (t : Bool) → ballot_lt x.ballot y.ballot ≡ t
+          → IsBest (is_covered_by (slice_set coverages j upto) s) (with_report reported j (Some y))
+          (Some (if t then y else x))
+      by_test true e =
+          new_best coverages j upto s node old below reported (Some y) y refl
+          (λ i member. IfSome_then (reported i) (great.greatest i member)
+          (λ other h. at_most_less other.ballot x.ballot y.ballot h e))
       by_test false e = stays_best coverages j upto s node old below reported (Some y) x great (not_less x.ballot y.ballot e)
 
-part_heard : (sent : Sent) (b : Ballot) (coverages : List ℕ) (j first upto : ℕ) (votes : List Vote) (s : ℕ) (kept : Option Vote) → j < length coverages → IsSent sent j (Promise b first upto votes) → first ≤ slice_index coverages j → slice_index coverages j ≤ s → s < upto → IsHeard sent b s (covers coverages s) kept → IsHeard sent b s (covers (slice_set coverages j upto) s) (merged kept (vote_at votes s))
+part_heard : (sent : Sent) (b : Ballot) (coverages : List ℕ) (j first upto : ℕ) (votes : List Vote) (s : ℕ)
+    (kept : Option Vote) → j < length coverages → IsSent sent j (Promise b first upto votes)
+    → first ≤ slice_index coverages j → slice_index coverages j ≤ s → s < upto
+    → HasPromises sent b s (is_covered_by coverages s) kept
+    → HasPromises sent b s (is_covered_by (slice_set coverages j upto) s) (merged kept (kept_vote_at votes s))
 part_heard sent b coverages j first upto votes s kept node is_sent from old below h = record {
-  reported = with_report h.reported j (vote_at votes s);
-  promised = each coverages j upto s node old below h.reported (vote_at votes s) (λ i r. IsPromised sent i b s r) (record { first = first; upto = upto; votes = votes; is_sent = is_sent; from_first = omega arith; below_upto = below; reports = refl }) h.promised;
-  is_best = best_heard coverages j upto s node old below h.reported kept (vote_at votes s) h.is_best;
+  reported = with_report h.reported j (kept_vote_at votes s);
+  promised =
+      each coverages j upto s node old below h.reported (kept_vote_at votes s) (λ i r. IsPromised sent i b s r)
+      (record {
+        first = first;
+        upto = upto;
+        votes = votes;
+        is_sent = is_sent;
+        from_first = omega arith;
+        below_upto = below;
+        reports = refl;
+      }) h.promised;
+  is_best = best_heard coverages j upto s node old below h.reported kept (kept_vote_at votes s) h.is_best;
 }
 
 -- at the other places a part changes no test
-same_covers : (coverages : List ℕ) (j upto s i : ℕ) → j < length coverages → slice_index coverages j < upto → (s < slice_index coverages j) ⊎ (upto ≤ s) → covers coverages s i ≡ covers (slice_set coverages j upto) s i
-same_covers coverages j upto s i node rise out = elim (cases_eq i j) [ inl e ↦ rw (e, get_or-set_same coverages j upto 0 node) (elim out [ inl low ↦ both low | inr high ↦ neither high ]) | inr ne ↦ rw (get_or-set_other coverages j i upto 0 ne) refl ]
+same_covers : (coverages : List ℕ) (j upto s i : ℕ) → j < length coverages → slice_index coverages j < upto
+    → (s < slice_index coverages j) ⊎ (upto ≤ s)
+    → is_covered_by coverages s i ≡ is_covered_by (slice_set coverages j upto) s i
+same_covers coverages j upto s i node rise out =
+    elim (cases_eq i j) [
+      | inl e ↦ rw (e, get_or-set_same coverages j upto 0 node)
+          (elim out [ inl low ↦ both low | inr high ↦ neither high ])
+      | inr ne ↦ rw
+          (get_or-set_other coverages j i upto 0 ne) refl
+    ]
   where
     both : s < slice_index coverages j → nat_lt s (slice_index coverages j) ≡ nat_lt s upto
     both low = grind (arith, nat_tests)
@@ -104,55 +143,81 @@ same_covers coverages j upto s i node rise out = elim (cases_eq i j) [ inl e ↦
     neither high = grind (arith, nat_tests)
 
 -- what was heard of a place is heard of it, if the members are the same and the kept vote too
-same_heard : (sent : Sent) (b : Ballot) (s : ℕ) (members others : ℕ → Bool) (kept now : Option Vote) → ((i : ℕ) → members i ≡ others i) → kept ≡ now → IsHeard sent b s members kept → IsHeard sent b s others now
+same_heard : (sent : Sent) (b : Ballot) (s : ℕ) (members others : ℕ → Bool) (kept now : Option Vote)
+    → ((i : ℕ) → members i ≡ others i) → kept ≡ now → HasPromises sent b s members kept
+    → HasPromises sent b s others now
 same_heard sent b s members others kept now same e h =
     let f : members ≡ others = λ k i. same i k in
-    subst (λ (m : ℕ → Bool). IsHeard sent b s m now) f (subst (λ (k : Option Vote). IsHeard sent b s members k) e h)
+    subst (λ (m : ℕ → Bool). HasPromises sent b s m now) f (subst (λ (k : Option Vote). HasPromises sent b s members k) e h)
 
 rises-true : (p : Proposer) (j first upto : ℕ) → rises p j first upto ≡ true → (first ≤ coverage_of p j) × (coverage_of p j < upto)
 rises-true p j first upto e = (grind (arith, nat_tests), grind (arith, nat_tests))
 
-module _ (by_place : AreByPlace) (sent : Sent) (me : ℕ) (p : Proposer) (h : IsBacked sent me p) (j first upto : ℕ) (votes : List Vote) (node : j < length p.coverages) (parts : AreVotes p.size p.ballot first upto votes) (is_sent : IsSent sent j (Promise p.ballot first upto votes)) where
+module _ (by_place : AreByPlace) (sent : Sent) (me : ℕ) (p : Proposer) (h : IsProposerBacked sent me p)
+    (j first upto : ℕ) (votes : List Vote) (node : j < length p.coverages)
+    (parts : AreVotes p.size p.ballot first upto votes)
+    (is_sent : IsSent sent j (Promise p.ballot first upto votes)) where
   -- the kept votes after the part
   abbrev kept_now : List Vote
   kept_now = heard (max (coverage_of p j) (next_of p)) p.kept votes
 
   -- the vote that is kept at a place where nothing is proposed yet
-  kept_at : (s : ℕ) → next_of p ≤ s → coverage_of p j ≤ s → vote_at kept_now s ≡ merged (vote_at p.kept s) (vote_at votes s)
-  kept_at s above old = heard_from by_place (max (coverage_of p j) (next_of p)) s p.kept votes (omega arith) (are_ascending p.size p.ballot first upto votes parts)
+  kept_at : (s : ℕ) → next_of p ≤ s → coverage_of p j ≤ s → kept_vote_at kept_now s ≡ merged (kept_vote_at p.kept s) (kept_vote_at votes s)
+  kept_at s above old =
+      heard_from by_place (max (coverage_of p j) (next_of p)) s p.kept votes (omega arith)
+      (are_ascending p.size p.ballot first upto votes parts)
 
   -- a place below the old coverage, or from the part's end on, keeps its vote
-  same_kept : (s : ℕ) → next_of p ≤ s → coverage_of p j < upto → (s < coverage_of p j) ⊎ (upto ≤ s) → vote_at p.kept s ≡ vote_at kept_now s
+  same_kept : (s : ℕ) → next_of p ≤ s → coverage_of p j < upto → (s < coverage_of p j) ⊎ (upto ≤ s)
+      → kept_vote_at p.kept s ≡ kept_vote_at kept_now s
   same_kept s above rise (inl low) =
-      let e : vote_at kept_now s ≡ vote_at p.kept s = heard_below by_place (max (coverage_of p j) (next_of p)) s p.kept votes (omega arith) in
+      let e : kept_vote_at kept_now s ≡ kept_vote_at p.kept s =
+      heard_below by_place (max (coverage_of p j) (next_of p)) s p.kept votes (omega arith) in
       (cc)
   same_kept s above rise (inr high) =
-      let none : vote_at votes s ≡ None = none_upto p.size p.ballot first upto s votes high parts in
-      let e : vote_at kept_now s ≡ merged (vote_at p.kept s) None = rw none at (kept_at s above (omega arith)) in
+      let none : kept_vote_at votes s ≡ None = none_upto p.size p.ballot first upto s votes high parts in
+      let e : kept_vote_at kept_now s ≡ merged (kept_vote_at p.kept s) None = rw none at (kept_at s above (omega arith)) in
       (cc)
 
-  unheard : (s : ℕ) → next_of p ≤ s → coverage_of p j < upto → (s < coverage_of p j) ⊎ (upto ≤ s) → IsHeard sent p.ballot s (covers (slice_set p.coverages j upto) s) (vote_at kept_now s)
+  unheard : (s : ℕ) → next_of p ≤ s → coverage_of p j < upto → (s < coverage_of p j) ⊎ (upto ≤ s)
+      → HasPromises sent p.ballot s (is_covered_by (slice_set p.coverages j upto) s) (kept_vote_at kept_now s)
   unheard s above rise out =
-      same_heard sent p.ballot s (covers p.coverages s) (covers (slice_set p.coverages j upto) s) (vote_at p.kept s) (vote_at kept_now s) (λ i. same_covers p.coverages j upto s i node rise out) (same_kept s above rise out) (h.heard s above)
+      same_heard sent p.ballot s (is_covered_by p.coverages s) (is_covered_by (slice_set p.coverages j upto) s)
+      (kept_vote_at p.kept s) (kept_vote_at kept_now s) (λ i. same_covers p.coverages j upto s i node rise out)
+      (same_kept s above rise out) (h.heard s above)
 
-  heard_at : (s : ℕ) → next_of p ≤ s → first ≤ coverage_of p j → coverage_of p j < upto → IsHeard sent p.ballot s (covers (slice_set p.coverages j upto) s) (vote_at kept_now s)
+  heard_at : (s : ℕ) → next_of p ≤ s → first ≤ coverage_of p j → coverage_of p j < upto
+      → HasPromises sent p.ballot s (is_covered_by (slice_set p.coverages j upto) s) (kept_vote_at kept_now s)
   heard_at s above from rise =
       elim (cases_lt s (coverage_of p j)) [
         | inl low ↦ unheard s above rise (inl low)
         | inr old ↦ elim (cases_lt s upto) [
-          | inl below ↦ rw (kept_at s above old) (part_heard sent p.ballot p.coverages j first upto votes s (vote_at p.kept s) node is_sent from old below (h.heard s above))
+          | inl below ↦ rw (kept_at s above old)
+              (part_heard sent p.ballot p.coverages j first upto votes s
+              (kept_vote_at p.kept s) node is_sent from old below (h.heard s above))
           | inr high ↦ unheard s above rise (inr high)
         ]
       ]
 
-  by_rise : (t : Bool) → rises p j first upto ≡ t → IsBacked sent me (if t then record p { coverages = slice_set p.coverages j upto; kept = kept_now } else p)
+  by_rise : (t : Bool) → rises p j first upto ≡ t
+      → IsProposerBacked sent me
+      (if t then record p { coverages = slice_set p.coverages j upto; kept = kept_now } else p)
   by_rise false e = h
   by_rise true e =
       let (from, rise) = rises-true p j first upto e in
-      record { own = h.own; nodes = length-set p.coverages j upto ∙ h.nodes; heard = λ s above. heard_at s above from rise; sent_all = h.sent_all; only = h.only }
+      record {
+        own = h.own;
+        nodes = length-set p.coverages j upto ∙ h.nodes;
+        heard = λ s above. heard_at s above from rise;
+        sent_all = h.sent_all;
+        only = h.only;
+      }
 
 -- a proposer is backed still after a part
-pub part_backed : AreByPlace → (sent : Sent) (me j first upto : ℕ) (p : Proposer) (votes : List Vote) → IsBacked sent me p → j ≤ 9 → IsBody p.size j (Promise p.ballot first upto votes) → IsSent sent j (Promise p.ballot first upto votes) → IsBacked sent me (after_part p j first upto votes)
+pub part_backed : AreByPlace → (sent : Sent) (me j first upto : ℕ) (p : Proposer) (votes : List Vote)
+    → IsProposerBacked sent me p → j ≤ 9 → IsBody p.size j (Promise p.ballot first upto votes)
+    → IsSent sent j (Promise p.ballot first upto votes)
+    → IsProposerBacked sent me (proposer_after_part p j first upto votes)
 part_backed by_place sent me j first upto p votes h node body is_sent =
     let ten : length p.coverages ≡ 10 = h.nodes in
     by_rise by_place sent me p h j first upto votes (omega arith) body.5 is_sent (rises p j first upto) refl

@@ -4,10 +4,11 @@ use Rattle.std.specs.Prelude.{All}
 use Rattle.std.proofs.lemmas.Bool.{cases_eq, cases_lt, eq-eqb, ne_eqb, le-leb, lt-leb, leb-true}
 use Rattle.std.proofs.lemmas.List.Elements.{All-cons, All-head, All-nil, All-tail}
 use Rattle.paxos_msg.specs.Batches.{Vote}
-use Rattle.paxos_msg.specs.Messages.{vote_at}
+use Rattle.paxos_msg.specs.Messages.{kept_vote_at}
 use Rattle.paxos_msg.specs.Records.{with_vote}
 use Rattle.paxos_msg.specs.Tests.{ballot_lt}
-use Rattle.paxos_proposer.specs.Proposer.{greater, heard, heard_one, votes_from}
+use Rattle.paxos_proposer.specs.Proposer.{greater, heard, heard_one}
+use Rattle.paxos_msg.specs.Places.{votes_from}
 
 -- each vote is at place s or above it
 abbrev AreFrom : ℕ → List Vote → Type 0
@@ -24,7 +25,8 @@ left_from s (x ∷ xs) =
       | inr high ↦ rw (le-leb s x.place high) (All-cons (λ vote. s ≤ vote.place) x (votes_from s xs) high (left_from s xs))
     ]
 
-found_if : (s : ℕ) (x : Vote) (xs ys : List Vote) → vote_at xs s ≡ vote_at ys s → vote_at (x ∷ xs) s ≡ vote_at (x ∷ ys) s
+found_if : (s : ℕ) (x : Vote) (xs ys : List Vote) → kept_vote_at xs s ≡ kept_vote_at ys s
+    → kept_vote_at (x ∷ xs) s ≡ kept_vote_at (x ∷ ys) s
 found_if s x xs ys e =
     elim (cases_eq x.place s) [
       | inl same ↦ rw (eq-eqb x.place s same) refl
@@ -32,7 +34,7 @@ found_if s x xs ys e =
     ]
 
 -- from the place on there are the votes that there were
-pub left_at : (n s : ℕ) (votes : List Vote) → n ≤ s → vote_at (votes_from n votes) s ≡ vote_at votes s
+pub left_at : (n s : ℕ) (votes : List Vote) → n ≤ s → kept_vote_at (votes_from n votes) s ≡ kept_vote_at votes s
 left_at n s [] low = refl
 left_at n s (x ∷ xs) low =
     elim (cases_lt x.place n) [
@@ -48,7 +50,7 @@ module _ (P : Vote → Type 0) where
   if_all false xs ys h k = k
 
   -- it holds of a vote that is found
-  pub found_all : (votes : List Vote) (s : ℕ) (vote : Vote) → vote_at votes s ≡ Some vote → All P votes → P vote
+  pub found_all : (votes : List Vote) (s : ℕ) (vote : Vote) → kept_vote_at votes s ≡ Some vote → All P votes → P vote
   found_all [] s vote e h = absurd cc
   found_all (x ∷ xs) s vote e h =
       elim (cases_eq x.place s) [
@@ -61,7 +63,8 @@ module _ (P : Vote → Type 0) where
   with_all [] vote p h = All-cons P vote [] p h
   with_all (x ∷ xs) vote p h =
       if_all (nat_lt vote.place x.place) _ _ (All-cons P vote (x ∷ xs) p h)
-      (if_all (x.place == vote.place) _ _ (All-cons P vote xs p (All-tail P x xs h)) (All-cons P x (with_vote xs vote) (All-head P x xs h) (with_all xs vote p (All-tail P x xs h))))
+      (if_all (x.place == vote.place) _ _ (All-cons P vote xs p (All-tail P x xs h))
+      (All-cons P x (with_vote xs vote) (All-head P x xs h) (with_all xs vote p (All-tail P x xs h))))
 
   greater_if : (t : Bool) (x y : Vote) → P x → P y → P (if t then x else y)
   greater_if true x y h k = h
@@ -71,15 +74,21 @@ module _ (P : Vote → Type 0) where
   greater_all None vote h p = p
   greater_all (Some k) vote h p = greater_if (ballot_lt k.ballot vote.ballot) vote k p (h k refl)
 
-  one_all : (t : Bool) (low : ℕ) (kept : List Vote) (vote : Vote) → nat_le low vote.place ≡ t → All P kept → (low ≤ vote.place → P vote) → All P (heard_one low kept vote)
-  one_all true low kept vote e h p = rw e (with_all kept _ (greater_all (vote_at kept vote.place) vote (λ k is. found_all kept vote.place k is h) (p (leb-true low vote.place e))) h)
+  one_all : (t : Bool) (low : ℕ) (kept : List Vote) (vote : Vote) → nat_le low vote.place ≡ t → All P kept
+      → (low ≤ vote.place → P vote) → All P (heard_one low kept vote)
+  one_all true low kept vote e h p =
+      rw e (with_all kept _
+      (greater_all (kept_vote_at kept vote.place) vote (λ k is. found_all kept vote.place k is h)
+      (p (leb-true low vote.place e))) h)
   one_all false low kept vote e h p = rw e h
 
   -- and after votes are heard, if it holds of those from low on
-  pub heard_all : (low : ℕ) (kept votes : List Vote) → All P kept → All (λ vote. low ≤ vote.place → P vote) votes → All P (heard low kept votes)
+  pub heard_all : (low : ℕ) (kept votes : List Vote) → All P kept → All (λ vote. low ≤ vote.place → P vote) votes
+      → All P (heard low kept votes)
   heard_all low kept [] h k = h
   heard_all low kept (x ∷ xs) h k =
-      heard_all low (heard_one low kept x) xs (one_all (nat_le low x.place) low kept x refl h (All-head (λ vote. low ≤ vote.place → P vote) x xs k))
+      heard_all low (heard_one low kept x) xs
+      (one_all (nat_le low x.place) low kept x refl h (All-head (λ vote. low ≤ vote.place → P vote) x xs k))
       (All-tail (λ vote. low ≤ vote.place → P vote) x xs k)
 
 -- what is heard from low on is from each place on that is not above low

@@ -9,10 +9,10 @@ use Rattle.paxos_msg.specs.Batches.{IsFree, IsSafe, MaySend, Msg, Record, Sent, 
 use Rattle.paxos_msg.specs.declared.value.Value.{Value}
 use Rattle.paxos_msg.specs.declared.value.Value.TheVariants.{Noop}
 use Rattle.paxos_msg.specs.Keys.{Key}
-use Rattle.paxos_msg.specs.Messages.{IsSent, IsSaid, vote_at}
+use Rattle.paxos_msg.specs.Messages.{IsSent, IsSaid, kept_vote_at}
 use Rattle.paxos_msg.specs.Sending.{IsUnproposed}
-use Rattle.paxos_proposer.specs.Proposer.{Proposer, covers, is_covered, is_kept_from, value_or, next_of, next_value, proposed_at, proposing}
-use Rattle.paxos_proposer.specs.Backed.{IsBacked}
+use Rattle.paxos_proposer.specs.Proposer.{Proposer, is_covered_by, is_covered, is_kept_from, value_or, next_of, next_value, proposed_at, proposing}
+use Rattle.paxos_proposer.specs.Backed.{IsProposerBacked}
 use Rattle.paxos_proposer.proofs.Growing.{stays_with, heard_stays}
 use Rattle.paxos_proposer.proofs.Passing.{left_at}
 
@@ -53,28 +53,33 @@ pub if_some : {X : Type 0} (t : Bool) (x : Option X) (v : X) → (if t then x el
 if_some true x v e = (refl, e)
 if_some false x v e = cc
 
-free_or : (sent : Sent) (t : Bool) (offered : Option Value) → IfSome offered (IsFree sent) → IfSome (if t then Some Noop else offered) (IsFree sent)
+free_or : (sent : Sent) (t : Bool) (offered : Option Value) → IfSome offered (IsFree sent)
+    → IfSome (if t then Some Noop else offered) (IsFree sent)
 free_or sent true offered free = inl refl
 free_or sent false offered free = free
 
-by_kept : (sent : Sent) (kept : Option Vote) (other : Option Value) (v : Value) → value_or kept other ≡ Some v → IfSome other (IsFree sent) → MatchOption kept (IsFree sent v) (λ vote. v ≡ vote.value)
+by_kept : (sent : Sent) (kept : Option Vote) (other : Option Value) (v : Value) → value_or kept other ≡ Some v
+    → IfSome other (IsFree sent) → MatchOption kept (IsFree sent v) (λ vote. v ≡ vote.value)
 by_kept sent None other v e free = rw e at free
 by_kept sent (Some vote) other v e free = cc
 
-module _ (sent : Sent) (me : ℕ) (p : Proposer) (h : IsBacked sent me p) (v : Value) where
-  value_safe : (offered : Option Value) → IfSome offered (IsFree sent) → next_value p offered ≡ Some v → IsSafe p.size sent p.ballot (next_of p) v
+module _ (sent : Sent) (me : ℕ) (p : Proposer) (h : IsProposerBacked sent me p) (v : Value) where
+  value_safe : (offered : Option Value) → IfSome offered (IsFree sent) → next_value p offered ≡ Some v
+      → IsSafe p.size sent p.ballot (next_of p) v
   value_safe offered free e =
       let other : Option Value = if is_kept_from p.kept (next_of p + 1) then Some Noop else offered in
-      let (covered, value) = if_some (is_covered p (next_of p)) (value_or (vote_at p.kept (next_of p)) other) v e in
+      let (covered, value) = if_some (is_covered p (next_of p)) (value_or (kept_vote_at p.kept (next_of p)) other) v e in
       let heard = h.heard (next_of p) (omega arith) in
       record {
-        members = covers p.coverages (next_of p);
+        members = is_covered_by p.coverages (next_of p);
         reported = heard.reported;
-        best = vote_at p.kept (next_of p);
+        best = kept_vote_at p.kept (next_of p);
         majority = ltb-true _ _ covered;
         promised = heard.promised;
         is_best = heard.is_best;
-        value = by_kept sent (vote_at p.kept (next_of p)) other v value (free_or sent (is_kept_from p.kept (next_of p + 1)) offered free);
+        value =
+            by_kept sent (kept_vote_at p.kept (next_of p)) other v value
+            (free_or sent (is_kept_from p.kept (next_of p + 1)) offered free);
       }
 
   unproposed : IsUnproposed sent p.ballot (next_of p)
@@ -83,11 +88,14 @@ module _ (sent : Sent) (me : ℕ) (p : Proposer) (h : IsBacked sent me p) (v : V
       let f : proposed_at p (next_of p) ≡ Some w = h.only (next_of p) w said in
       cc
 
-  pub may_propose : (typed : List Key) (learned : ℕ → Option Value) (r : Record) (offered : Option Value) → IfSome offered (IsFree sent) → next_value p offered ≡ Some v → MaySend p.size typed learned sent me r (Accept p.ballot (next_of p) v)
+  pub may_propose : (typed : List Key) (learned : ℕ → Option Value) (r : Record) (offered : Option Value)
+      → IfSome offered (IsFree sent) → next_value p offered ≡ Some v
+      → MaySend p.size typed learned sent me r (Accept p.ballot (next_of p) v)
   may_propose typed learned r offered free e = (h.own, inr (unproposed, value_safe offered free e))
 
   -- a proposal may be sent again
-  pub may_repeat : (typed : List Key) (learned : ℕ → Option Value) (s : ℕ) (r : Record) → proposed_at p s ≡ Some v → MaySend p.size typed learned sent me r (Accept p.ballot s v)
+  pub may_repeat : (typed : List Key) (learned : ℕ → Option Value) (s : ℕ) (r : Record) → proposed_at p s ≡ Some v
+      → MaySend p.size typed learned sent me r (Accept p.ballot s v)
   may_repeat typed learned s r e = (h.own, inl (h.sent_all s v e))
 
   said : Msg
@@ -98,12 +106,15 @@ module _ (sent : Sent) (me : ℕ) (p : Proposer) (h : IsBacked sent me p) (v : V
   sent_all s w e = elim (cases_eq s (next_of p)) [
     | inl here ↦
         let f : v ≡ w = cc (proposed_here p v s here) in
-        subst (λ (t : ℕ). IsSent (sent ++ said ∷ []) me (Accept p.ballot t w)) (sym here) (subst (λ (u : Value). IsSent (sent ++ said ∷ []) me (Accept p.ballot (next_of p) u)) f (Contains-push sent said))
+        subst (λ (t : ℕ). IsSent (sent ++ said ∷ []) me (Accept p.ballot t w)) (sym here)
+        (subst (λ (u : Value). IsSent (sent ++ said ∷ []) me (Accept p.ballot (next_of p) u)) f
+        (Contains-push sent said))
     | inr there ↦ (stays_with sent said).stays me (Accept p.ballot s w) (h.sent_all s w (sym (proposed_there p v s there) ∙ e))
   ]
 
   -- what is new under the ballot is the one proposal
-  said_cases : (s : ℕ) (w : Value) → IsSaid (sent ++ said ∷ []) (Accept p.ballot s w) → IsSaid sent (Accept p.ballot s w) ⊎ ((next_of p ≡ s) × (v ≡ w))
+  said_cases : (s : ℕ) (w : Value) → IsSaid (sent ++ said ∷ []) (Accept p.ballot s w)
+      → IsSaid sent (Accept p.ballot s w) ⊎ ((next_of p ≡ s) × (v ≡ w))
   unfolding said
   said_cases s w (i, g) = elim (Contains-push_cases sent said (record { sender = i; body = Accept p.ballot s w }) g) [
     | inl old ↦ inl (i, old)
@@ -119,7 +130,8 @@ module _ (sent : Sent) (me : ℕ) (p : Proposer) (h : IsBacked sent me p) (v : V
     | inr new ↦ let e : v ≡ w = new.1 in proposed_here p v s (sym new.0) ∙ ap (λ (u : Value). Some u) e
   ]
 
-  pub proposing_backed : IsBacked (sent ++ record { sender = me; body = Accept p.ballot (next_of p) v } ∷ []) me (proposing p (Some v))
+  pub proposing_backed : IsProposerBacked (sent ++ record { sender = me; body = Accept p.ballot (next_of p) v } ∷ []) me
+      (proposing p (Some v))
   unfolding said
   proposing_backed = record {
     own = h.own;
@@ -127,7 +139,8 @@ module _ (sent : Sent) (me : ℕ) (p : Proposer) (h : IsBacked sent me p) (v : V
     heard = λ s above.
         let grown = length_push p.values v in
         rw (left_at (next_of p + 1) s p.kept (omega arith))
-        (heard_stays sent (sent ++ said ∷ []) (stays_with sent said) p.ballot s (covers p.coverages s) (vote_at p.kept s) (h.heard s (omega arith)));
+        (heard_stays sent (sent ++ said ∷ []) (stays_with sent said) p.ballot s (is_covered_by p.coverages s)
+        (kept_vote_at p.kept s) (h.heard s (omega arith)));
     sent_all = sent_all;
     only = only;
   }

@@ -4,16 +4,16 @@ use Rattle.std.proofs.lemmas.Bool.{cases_eq, cases_lt, eq-eqb, ne_eqb, le-leb, l
 use Rattle.paxos_msg.specs.declared.ballot.Ballot.{Ballot}
 use Rattle.paxos_msg.specs.Batches.{Vote}
 use Rattle.paxos_msg.specs.Fits.{AreVotes}
-use Rattle.paxos_msg.specs.Messages.{AreAbove, IsAscending, vote_at}
+use Rattle.paxos_msg.specs.Messages.{AreAbove, IsAscending, kept_vote_at}
 use Rattle.paxos_msg.specs.Records.{with_vote}
 use Rattle.paxos_msg.specs.Tests.{ballot_lt}
 use Rattle.paxos_proposer.specs.Proposer.{greater, heard, heard_one}
 
 -- Votes by place: a vote that is put at its place is found there, and changes nothing elsewhere.
 pub record AreByPlace : Type 0 where
-  pub there : (votes : List Vote) (vote : Vote) → vote_at (with_vote votes vote) vote.place ≡ Some vote
-  pub elsewhere : (votes : List Vote) (vote : Vote) (s : ℕ) → s ≢ vote.place → vote_at (with_vote votes vote) s ≡ vote_at votes s
-  pub at_place : (votes : List Vote) (s : ℕ) (vote : Vote) → vote_at votes s ≡ Some vote → vote.place ≡ s
+  pub there : (votes : List Vote) (vote : Vote) → kept_vote_at (with_vote votes vote) vote.place ≡ Some vote
+  pub elsewhere : (votes : List Vote) (vote : Vote) (s : ℕ) → s ≢ vote.place → kept_vote_at (with_vote votes vote) s ≡ kept_vote_at votes s
+  pub at_place : (votes : List Vote) (s : ℕ) (vote : Vote) → kept_vote_at votes s ≡ Some vote → vote.place ≡ s
 
 -- the vote to keep after this report, or none
 abbrev pub merged : Option Vote → Option Vote → Option Vote
@@ -23,29 +23,33 @@ merged kept (Some vote) = Some (greater kept vote)
 -- ---- the votes of a part
 
 -- no vote above a place is at it
-pub none_above : (votes : List Vote) (s : ℕ) → AreAbove s votes → vote_at votes s ≡ None
+pub none_above : (votes : List Vote) (s : ℕ) → AreAbove s votes → kept_vote_at votes s ≡ None
 none_above [] s h = refl
 none_above (x ∷ xs) s h = rw (ne_eqb x.place s (λ e. omega (arith, h.0))) (none_above xs s h.1)
 
 -- votes from a place on are above each smaller one
 all_above : (size : ℕ) (b : Ballot) (low upto s : ℕ) (votes : List Vote) → s < low → AreVotes size b low upto votes → AreAbove s votes
 all_above size b low upto s [] lt h = tt
-all_above size b low upto s (x ∷ xs) lt h = (omega (arith, h.0.from_low), all_above size b (x.place + 1) upto s xs (omega (arith, h.0.from_low)) h.1)
+all_above size b low upto s (x ∷ xs) lt h =
+    (omega (arith, h.0.from_low), all_above size b (x.place + 1) upto s xs (omega (arith, h.0.from_low)) h.1)
 
 -- the votes of a part ascend
 pub are_ascending : (size : ℕ) (b : Ballot) (low upto : ℕ) (votes : List Vote) → AreVotes size b low upto votes → IsAscending votes
 are_ascending size b low upto [] h = tt
-are_ascending size b low upto (x ∷ xs) h = (all_above size b (x.place + 1) upto x.place xs (omega arith) h.1, are_ascending size b (x.place + 1) upto xs h.1)
+are_ascending size b low upto (x ∷ xs) h =
+    (all_above size b (x.place + 1) upto x.place xs (omega arith) h.1, are_ascending size b (x.place + 1) upto xs h.1)
 
 -- none of them is at or above the part's end
-pub none_upto : (size : ℕ) (b : Ballot) (low upto s : ℕ) (votes : List Vote) → upto ≤ s → AreVotes size b low upto votes → vote_at votes s ≡ None
+pub none_upto : (size : ℕ) (b : Ballot) (low upto s : ℕ) (votes : List Vote) → upto ≤ s → AreVotes size b low upto votes
+    → kept_vote_at votes s ≡ None
 none_upto size b low upto s [] le h = refl
-none_upto size b low upto s (x ∷ xs) le h = rw (ne_eqb x.place s (λ e. omega (arith, h.0.below_upto))) (none_upto size b (x.place + 1) upto s xs le h.1)
+none_upto size b low upto s (x ∷ xs) le h =
+    rw (ne_eqb x.place s (λ e. omega (arith, h.0.below_upto))) (none_upto size b (x.place + 1) upto s xs le h.1)
 
-pub found_first : (x : Vote) (xs : List Vote) (s : ℕ) → x.place ≡ s → vote_at (x ∷ xs) s ≡ Some x
+pub found_first : (x : Vote) (xs : List Vote) (s : ℕ) → x.place ≡ s → kept_vote_at (x ∷ xs) s ≡ Some x
 found_first x xs s e = rw (eq-eqb x.place s e)
 
-pub found_later : (x : Vote) (xs : List Vote) (s : ℕ) → x.place ≢ s → vote_at (x ∷ xs) s ≡ vote_at xs s
+pub found_later : (x : Vote) (xs : List Vote) (s : ℕ) → x.place ≢ s → kept_vote_at (x ∷ xs) s ≡ kept_vote_at xs s
 found_later x xs s ne = rw (ne_eqb x.place s ne)
 
 -- ---- what is kept
@@ -54,34 +58,38 @@ if_place : (t : Bool) (x y : Vote) (s : ℕ) → x.place ≡ s → y.place ≡ s
 if_place true x y s e f = e
 if_place false x y s e f = f
 
-if_found : (t : Bool) (xs ys : List Vote) (s : ℕ) → vote_at xs s ≡ vote_at ys s → vote_at (if t then xs else ys) s ≡ vote_at ys s
+if_found : (t : Bool) (xs ys : List Vote) (s : ℕ) → kept_vote_at xs s ≡ kept_vote_at ys s
+    → kept_vote_at (if t then xs else ys) s ≡ kept_vote_at ys s
 if_found true xs ys s e = e
 if_found false xs ys s e = refl
 
 module _ (by_place : AreByPlace) where
   -- of a kept vote at a place and another one there, the greater is there
-  greater_place : (kept : Option Vote) (vote : Vote) → ((k : Vote) → kept ≡ Some k → k.place ≡ vote.place) → (greater kept vote).place ≡ vote.place
+  greater_place : (kept : Option Vote) (vote : Vote) → ((k : Vote) → kept ≡ Some k → k.place ≡ vote.place)
+      → (greater kept vote).place ≡ vote.place
   greater_place None vote h = refl
   greater_place (Some k) vote h = if_place (ballot_lt k.ballot vote.ballot) vote k vote.place refl (h k refl)
 
   -- a report counts at its place, if that is not below low
-  one_here : (low s : ℕ) (kept : List Vote) (vote : Vote) → low ≤ s → vote.place ≡ s → vote_at (heard_one low kept vote) s ≡ Some (greater (vote_at kept s) vote)
+  one_here : (low s : ℕ) (kept : List Vote) (vote : Vote) → low ≤ s → vote.place ≡ s
+      → kept_vote_at (heard_one low kept vote) s ≡ Some (greater (kept_vote_at kept s) vote)
   one_here low s kept vote le e =
-      let k : Vote = greater (vote_at kept vote.place) vote in
-      let at : k.place ≡ vote.place = greater_place (vote_at kept vote.place) vote (by_place.at_place kept vote.place) in
-      let put : vote_at (with_vote kept k) vote.place ≡ Some k = subst (λ (t : ℕ). vote_at (with_vote kept k) t ≡ Some k) at (by_place.there kept k) in
-      let here : vote_at (heard_one low kept vote) vote.place ≡ Some k = rw (le-leb low vote.place (omega arith)) put in
-      subst (λ (t : ℕ). vote_at (heard_one low kept vote) t ≡ Some (greater (vote_at kept t) vote)) e here
+      let k : Vote = greater (kept_vote_at kept vote.place) vote in
+      let at : k.place ≡ vote.place = greater_place (kept_vote_at kept vote.place) vote (by_place.at_place kept vote.place) in
+      let put : kept_vote_at (with_vote kept k) vote.place ≡ Some k =
+      subst (λ (t : ℕ). kept_vote_at (with_vote kept k) t ≡ Some k) at (by_place.there kept k) in
+      let here : kept_vote_at (heard_one low kept vote) vote.place ≡ Some k = rw (le-leb low vote.place (omega arith)) put in
+      subst (λ (t : ℕ). kept_vote_at (heard_one low kept vote) t ≡ Some (greater (kept_vote_at kept t) vote)) e here
 
   -- and nowhere else
-  one_there : (low s : ℕ) (kept : List Vote) (vote : Vote) → vote.place ≢ s → vote_at (heard_one low kept vote) s ≡ vote_at kept s
+  one_there : (low s : ℕ) (kept : List Vote) (vote : Vote) → vote.place ≢ s → kept_vote_at (heard_one low kept vote) s ≡ kept_vote_at kept s
   one_there low s kept vote ne =
-      let k : Vote = greater (vote_at kept vote.place) vote in
-      let at : k.place ≡ vote.place = greater_place (vote_at kept vote.place) vote (by_place.at_place kept vote.place) in
+      let k : Vote = greater (kept_vote_at kept vote.place) vote in
+      let at : k.place ≡ vote.place = greater_place (kept_vote_at kept vote.place) vote (by_place.at_place kept vote.place) in
       if_found (nat_le low vote.place) (with_vote kept k) kept s (by_place.elsewhere kept k s (λ e. ne (sym (e ∙ at))))
 
   -- a report at a place below low changes nothing
-  one_low : (low s : ℕ) (kept : List Vote) (vote : Vote) → s < low → vote_at (heard_one low kept vote) s ≡ vote_at kept s
+  one_low : (low s : ℕ) (kept : List Vote) (vote : Vote) → s < low → kept_vote_at (heard_one low kept vote) s ≡ kept_vote_at kept s
   one_low low s kept vote lt =
       elim (cases_lt vote.place low) [
         | inl below ↦ rw (lt-leb low vote.place below)
@@ -89,20 +97,23 @@ module _ (by_place : AreByPlace) where
       ]
 
   -- below low nothing changes
-  pub heard_below : (low s : ℕ) (kept votes : List Vote) → s < low → vote_at (heard low kept votes) s ≡ vote_at kept s
+  pub heard_below : (low s : ℕ) (kept votes : List Vote) → s < low → kept_vote_at (heard low kept votes) s ≡ kept_vote_at kept s
   heard_below low s kept [] lt = refl
   heard_below low s kept (x ∷ xs) lt = heard_below low s (heard_one low kept x) xs lt ∙ one_low low s kept x lt
 
   -- from low on, the greater of what was kept at a place and of what is reported there is kept
-  pub heard_from : (low s : ℕ) (kept votes : List Vote) → low ≤ s → IsAscending votes → vote_at (heard low kept votes) s ≡ merged (vote_at kept s) (vote_at votes s)
+  pub heard_from : (low s : ℕ) (kept votes : List Vote) → low ≤ s → IsAscending votes
+      → kept_vote_at (heard low kept votes) s ≡ merged (kept_vote_at kept s) (kept_vote_at votes s)
   heard_from low s kept [] le h = refl
   heard_from low s kept (x ∷ xs) le h =
-      let now : Option Vote = vote_at (heard_one low kept x) s in
-      let rest : vote_at (heard low (heard_one low kept x) xs) s ≡ merged now (vote_at xs s) = heard_from low s (heard_one low kept x) xs le h.1 in
+      let now : Option Vote = kept_vote_at (heard_one low kept x) s in
+      let rest : kept_vote_at (heard low (heard_one low kept x) xs) s ≡ merged now (kept_vote_at xs s) =
+      heard_from low s (heard_one low kept x) xs le h.1 in
       elim (cases_eq x.place s) [
         | inl e ↦
-            let none : vote_at xs s ≡ None = none_above xs s (rw e at h.0) in
-            rest ∙ ap (merged now) none ∙ one_here low s kept x le e ∙ sym (ap (merged (vote_at kept s)) (found_first x xs s e))
+            let none : kept_vote_at xs s ≡ None = none_above xs s (rw e at h.0) in
+            rest ∙ ap (merged now) none ∙ one_here low s kept x le e ∙ sym (ap (merged (kept_vote_at kept s)) (found_first x xs s e))
         | inr ne ↦
-            rest ∙ ap (λ (k : Option Vote). merged k (vote_at xs s)) (one_there low s kept x ne) ∙ sym (ap (merged (vote_at kept s)) (found_later x xs s ne))
+            rest ∙ ap (λ (k : Option Vote). merged k (kept_vote_at xs s)) (one_there low s kept x ne)
+            ∙ sym (ap (merged (kept_vote_at kept s)) (found_later x xs s ne))
       ]

@@ -4,7 +4,7 @@ use Rattle.std.proofs.lemmas.Bool.{cases_eq}
 use Rattle.paxos_msg.specs.Batches.{Body, Vote}
 use Rattle.paxos_msg.specs.declared.message.Body.TheVariants as body
 use Rattle.paxos_msg.specs.declared.value.Value.{Value}
-use Rattle.paxos_proposer.specs.Proposer.{Proposer, next_of, on_promise, proposed_at, proposing, rises}
+use Rattle.paxos_proposer.specs.Proposer.{Proposer, next_of, heard_promise, proposed_at, proposing, rises}
 use Rattle.paxos_proposer.proofs.Proposals.{none_next, proposed_there}
 
 -- all but the coverages and the kept votes
@@ -14,14 +14,15 @@ record IsSame (p q : Proposer) : Type 0 where
   first : q.first ≡ p.first
   values : q.values ≡ p.values
 
-same_if : (t : Bool) (p : Proposer) (coverages : List ℕ) (kept : List Vote) → IsSame p (if t then record p { coverages = coverages; kept = kept } else p)
+same_if : (t : Bool) (p : Proposer) (coverages : List ℕ) (kept : List Vote)
+    → IsSame p (if t then record p { coverages = coverages; kept = kept } else p)
 same_if true p coverages kept = record { ballot = refl; size = refl; first = refl; values = refl }
 same_if false p coverages kept = record { ballot = refl; size = refl; first = refl; values = refl }
 
 same_itself : (p : Proposer) → IsSame p p
 same_itself p = record { ballot = refl; size = refl; first = refl; values = refl }
 
-after_same : (p : Proposer) (j : ℕ) (b : Body) → IsSame p (on_promise p j b)
+after_same : (p : Proposer) (j : ℕ) (b : Body) → IsSame p (heard_promise p j b)
 after_same p j (body.Prepare b from) = same_itself p
 after_same p j (body.Promise b first upto votes) = same_if (rises p j first upto) p _ _
 after_same p j (body.Accept b s v) = same_itself p
@@ -31,17 +32,18 @@ after_same p j (body.Submit v) = same_itself p
 after_same p j (body.Ask from) = same_itself p
 after_same p j (body.Tell s v) = same_itself p
 
-pub after_ballot : (p : Proposer) (j : ℕ) (b : Body) → ((on_promise p j b).ballot ≡ p.ballot) × ((on_promise p j b).size ≡ p.size)
+pub after_ballot : (p : Proposer) (j : ℕ) (b : Body) → ((heard_promise p j b).ballot ≡ p.ballot) × ((heard_promise p j b).size ≡ p.size)
 after_ballot p j b = let h = after_same p j b in (h.ballot, h.size)
 
-pub after_proposed : (p : Proposer) (j s : ℕ) (b : Body) → proposed_at (on_promise p j b) s ≡ proposed_at p s
+pub after_proposed : (p : Proposer) (j s : ℕ) (b : Body) → proposed_at (heard_promise p j b) s ≡ proposed_at p s
 after_proposed p j s b = let h = after_same p j b in rw (h.first, h.values) refl
 
 pub proposing_ballot : (p : Proposer) (o : Option Value) → ((proposing p o).ballot ≡ p.ballot) × ((proposing p o).size ≡ p.size)
 proposing_ballot p None = (refl, refl)
 proposing_ballot p (Some v) = (refl, refl)
 
-pub proposed_longer : (p : Proposer) (o : Option Value) (s : ℕ) (v : Value) → proposed_at p s ≡ Some v → proposed_at (proposing p o) s ≡ Some v
+pub proposed_longer : (p : Proposer) (o : Option Value) (s : ℕ) (v : Value) → proposed_at p s ≡ Some v
+    → proposed_at (proposing p o) s ≡ Some v
 proposed_longer p None s v e = e
 proposed_longer p (Some w) s v e =
     elim (cases_eq s (next_of p)) [

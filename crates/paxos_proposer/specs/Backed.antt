@@ -1,29 +1,34 @@
--- When what was sent backs a proposer: it has heard what was promised, and has proposed what was proposed under its ballot.
+-- When what was sent backs a proposer: it has heard what was promised, and has proposed what was
+-- proposed under its ballot.
 use Rattle.std.specs.Prelude.{◌≡◌, ℕ, ◌≤◌, Bool, IsTrue, length, Option, Some}
 use Rattle.paxos_msg.specs.declared.ballot.Ballot.{Ballot}
 use Rattle.paxos_msg.specs.declared.value.Value.{Value}
 use Rattle.paxos_msg.specs.Batches.{Body, Sent, Vote}
 use Rattle.paxos_msg.specs.declared.message.Body.TheVariants.{Accept}
-use Rattle.paxos_msg.specs.Messages.{IsSent, IsSaid, IsPromised, vote_at}
+use Rattle.paxos_msg.specs.Messages.{IsSent, IsSaid, IsPromised, kept_vote_at}
 use Rattle.paxos_msg.specs.Sending.{IsBest}
-use Rattle.paxos_proposer.specs.Proposer.{Proposer, covers, next_of, proposed_at}
+use Rattle.paxos_proposer.specs.Proposer.{Proposer, is_covered_by, next_of, proposed_at}
 
--- the members gave single promises for ballot b at place s, one each, and this is the greatest vote that they reported
-pub record IsHeard (sent : Sent) (b : Ballot) (s : ℕ) (members : ℕ → Bool) (kept : Option Vote) : Type 0 where
+-- the members gave single promises for ballot b at place s, one each, and this is the greatest vote
+-- that they reported
+pub record HasPromises (sent : Sent) (b : Ballot) (s : ℕ) (members : ℕ → Bool)
+    (kept : Option Vote) : Type 0 where
   pub reported : ℕ → Option Vote
   pub promised : (i : ℕ) → IsTrue (members i) → IsPromised sent i b s (reported i)
   pub is_best : IsBest members reported kept
 
--- Node me's proposer: from its next place on it knows what the acceptors promised for its ballot, and the proposals under
--- its ballot are its own.
-pub record IsBacked (sent : Sent) (me : ℕ) (p : Proposer) : Type 0 where
+-- Node me's proposer: from its next place on it knows what the acceptors promised for its ballot,
+-- and the proposals under its ballot are its own.
+pub record IsProposerBacked (sent : Sent) (me : ℕ) (p : Proposer) : Type 0 where
   pub own : p.ballot.node ≡ me
   pub nodes : length p.coverages ≡ 10
-  pub heard : (s : ℕ) → next_of p ≤ s → IsHeard sent p.ballot s (covers p.coverages s) (vote_at p.kept s)
-  pub sent_all : (s : ℕ) (v : Value) → proposed_at p s ≡ Some v → IsSent sent me (Accept p.ballot s v)
+  pub heard : (s : ℕ) → next_of p ≤ s
+      → HasPromises sent p.ballot s (is_covered_by p.coverages s) (kept_vote_at p.kept s)
+  pub sent_all : (s : ℕ) (v : Value) → proposed_at p s ≡ Some v
+      → IsSent sent me (Accept p.ballot s v)
   pub only : (s : ℕ) (v : Value) → IsSaid sent (Accept p.ballot s v) → proposed_at p s ≡ Some v
 
 -- all that was sent stays sent, and nothing new was proposed under ballot b
-pub record IsQuiet (b : Ballot) (sent next : Sent) : Type 0 where
+pub record IsQuietUnder (b : Ballot) (sent next : Sent) : Type 0 where
   pub stays : (i : ℕ) (body : Body) → IsSent sent i body → IsSent next i body
   pub quiet : (s : ℕ) (v : Value) → IsSaid next (Accept b s v) → IsSaid sent (Accept b s v)

@@ -1,17 +1,25 @@
 -- What contracts see of a proposer's fields.
 use Rattle.std.specs.Prelude.{◌-◌, vec_len, vec_capacity}
 use Rattle.paxos_proposer.specs.Proposer.{Proposer}
-use Rattle.paxos_proposer.specs.States.{IsWhole, State}
+use Rattle.paxos_proposer.specs.States.{IsProposer, ProposerState}
 use Rattle.paxos_proposer.specs.declared.proposer.Proposer.TheInside.{Inside}
 
 -- what a proposer of these fields knows
 abbrev pub rules_of : Inside → Proposer
-rules_of p = record { ballot = p.ballot; size = p.size; coverages = p.coverages; kept = p.kept.votes; first = p.first; values = p.values.items }
+rules_of p =
+    record {
+      ballot = p.ballot;
+      size = p.size;
+      coverages = p.coverages;
+      kept = p.kept.votes;
+      first = p.first;
+      values = p.values.items;
+    }
 
 -- and how many more proposals are sure to find room
-abbrev pub state_of : Inside → State
-state_of p = record { rules = rules_of p; room = vec_capacity p.values - vec_len p.values }
+abbrev pub proposer_state : Inside → ProposerState
+proposer_state p = record { known = rules_of p; room = vec_capacity p.values - vec_len p.values }
 
 -- what always holds of them
 abbrev pub AreWhole : Inside → Type 0
-AreWhole p = IsWhole (rules_of p)
+AreWhole p = IsProposer (rules_of p)

@@ -15,15 +15,16 @@ abbrev pub vote_of : ℕ → Report → Vote
 vote_of s r = record { place = s; ballot = r.ballot; value = r.value }
 
 -- the votes of reports by place, in ascending order of place; of two at one place the first counts
-abbrev pub votes_of : List (ℕ × Report) → List Vote
-votes_of [] = []
-votes_of (e ∷ es) = with_vote (votes_of es) (vote_of e.0 e.1)
+abbrev pub reported_votes : List (ℕ × Report) → List Vote
+reported_votes [] = []
+reported_votes (e ∷ es) = with_vote (reported_votes es) (vote_of e.0 e.1)
 
 -- whether the place is not above the greatest one, if there is one
 abbrev pub is_upto : Option ℕ → ℕ → Bool
 is_upto None s = false
 is_upto (Some greatest) s = nat_le s greatest
 
--- the greatest place that has a vote, if there is one: a vote is at a place or above it exactly if the place is not above this one
+-- the greatest place that has a vote, if there is one: a vote is at a place or above it exactly if
+-- the place is not above this one
 pub record IsGreatestPlace (votes : List Vote) (greatest : Option ℕ) : Type 0 where
   pub upto : (s : ℕ) → is_kept_from votes s ≡ is_upto greatest s

@@ -6,13 +6,15 @@ use Rattle.paxos_msg.specs.declared.value.Value.{Value}
 use Rattle.paxos_msg.specs.declared.value.Value.TheVariants.{Noop}
 use Rattle.paxos_msg.specs.Batches.{Body, Vote}
 use Rattle.paxos_msg.specs.declared.message.Body.TheVariants as body
-use Rattle.paxos_msg.specs.Messages.{vote_at}
+use Rattle.paxos_msg.specs.Messages.{kept_vote_at}
 use Rattle.paxos_msg.specs.Records.{with_vote}
 use Rattle.paxos_msg.specs.Tests.{ballot_lt, is_majority}
+use Rattle.paxos_msg.specs.Places.{votes_from}
 
--- Of a proposer in a group of that size: below which place each acceptor's promises reach, by the acceptor's number, which
--- is 1 to 9; of the votes that they reported, the one to keep for each place from the next one on, in ascending order of place; and
--- the values that are proposed, at the first place and on, one after another.
+-- Of a proposer in a group of that size: below which place each acceptor's promises reach, by the
+-- acceptor's number, which is 1 to 9; of the votes that they reported, the one to keep for each
+-- place from the next one on, in ascending order of place; and the values that are proposed, at the
+-- first place and on, one after another.
 pub record Proposer : Type 0 where
   pub ballot : Ballot
   pub size : ℕ
@@ -22,8 +24,16 @@ pub record Proposer : Type 0 where
   pub values : List Value
 
 -- a proposer that has heard nothing
-abbrev pub begun : Ballot → ℕ → ℕ → Proposer
-begun b from size = record { ballot = b; size = size; coverages = replicate 10 from; kept = []; first = from; values = [] }
+abbrev pub new_proposer : Ballot → ℕ → ℕ → Proposer
+new_proposer b from size =
+    record {
+      ballot = b;
+      size = size;
+      coverages = replicate 10 from;
+      kept = [];
+      first = from;
+      values = [];
+    }
 
 -- the next place to propose at
 abbrev pub next_of : Proposer → ℕ
@@ -38,12 +48,12 @@ abbrev pub coverage_of : Proposer → ℕ → ℕ
 coverage_of p i = slice_index p.coverages i
 
 -- whether the promises of acceptor i reach above place s
-abbrev pub covers : List ℕ → ℕ → ℕ → Bool
-covers coverages s i = nat_lt s (slice_index coverages i)
+abbrev pub is_covered_by : List ℕ → ℕ → ℕ → Bool
+is_covered_by coverages s i = nat_lt s (slice_index coverages i)
 
 -- whether those of a majority do
 abbrev pub is_covered : Proposer → ℕ → Bool
-is_covered p s = is_majority p.size (covers p.coverages s)
+is_covered p s = is_majority p.size (is_covered_by p.coverages s)
 
 -- ---- a part of a promise
 
@@ -51,26 +61,32 @@ is_covered p s = is_majority p.size (covers p.coverages s)
 abbrev pub rises : Proposer → ℕ → ℕ → ℕ → Bool
 rises p j first upto = nat_le first (coverage_of p j) && nat_lt (coverage_of p j) upto
 
--- the vote to keep, where one was kept: the one with the greater ballot, and of equal ballots the first
+-- the vote to keep, where one was kept: the one with the greater ballot, and of equal ballots the
+-- first
 abbrev pub greater : Option Vote → Vote → Vote
 greater None vote = vote
 greater (Some kept) vote = if ballot_lt kept.ballot vote.ballot then vote else kept
 
 -- the kept votes after one that is reported at a place from low on
 abbrev pub heard_one : ℕ → List Vote → Vote → List Vote
-heard_one low kept vote = if nat_le low vote.place then with_vote kept (greater (vote_at kept vote.place) vote) else kept
+heard_one low kept vote =
+    if nat_le low vote.place then with_vote kept (greater (kept_vote_at kept vote.place) vote)
+    else kept
 
 -- after these, one after another
 abbrev pub heard : ℕ → List Vote → List Vote → List Vote
 heard low kept [] = kept
 heard low kept (vote ∷ votes) = heard low (heard_one low kept vote) votes
 
--- The proposer after a part of acceptor j: unless it raises the coverage it is passed over. The votes count that it reports at
--- places from the old coverage on, where nothing is proposed yet.
-abbrev pub after_part : Proposer → ℕ → ℕ → ℕ → List Vote → Proposer
-after_part p j first upto votes =
+-- The proposer after a part of acceptor j: unless it raises the coverage it is passed over. The
+-- votes count that it reports at places from the old coverage on, where nothing is proposed yet.
+abbrev pub proposer_after_part : Proposer → ℕ → ℕ → ℕ → List Vote → Proposer
+proposer_after_part p j first upto votes =
     if rises p j first upto
-    then record p { coverages = slice_set p.coverages j upto; kept = heard (max (coverage_of p j) (next_of p)) p.kept votes }
+    then record p {
+      coverages = slice_set p.coverages j upto;
+      kept = heard (max (coverage_of p j) (next_of p)) p.kept votes;
+    }
     else p
 
 -- the place from which to ask the acceptor on: its new coverage, if it rose and is not the last
@@ -78,26 +94,26 @@ abbrev pub asks_on : Proposer → ℕ → ℕ → ℕ → Option ℕ
 asks_on p j first upto = if rises p j first upto && nat_lt upto 65536 then Some upto else None
 
 -- the body is a promise, or a part of one, under the ballot
-abbrev pub IsPart : Ballot → Body → Type 0
-IsPart b (body.Prepare ballot from) = ⊥
-IsPart b (body.Promise ballot first upto votes) = ballot ≡ b
-IsPart b (body.Accept ballot s v) = ⊥
-IsPart b (body.Accepted ballot s v) = ⊥
-IsPart b (body.Refused ballot promised) = ⊥
-IsPart b (body.Submit v) = ⊥
-IsPart b (body.Ask from) = ⊥
-IsPart b (body.Tell s v) = ⊥
+abbrev pub IsPromisePart : Ballot → Body → Type 0
+IsPromisePart b (body.Prepare ballot from) = ⊥
+IsPromisePart b (body.Promise ballot first upto votes) = ballot ≡ b
+IsPromisePart b (body.Accept ballot s v) = ⊥
+IsPromisePart b (body.Accepted ballot s v) = ⊥
+IsPromisePart b (body.Refused ballot promised) = ⊥
+IsPromisePart b (body.Submit v) = ⊥
+IsPromisePart b (body.Ask from) = ⊥
+IsPromisePart b (body.Tell s v) = ⊥
 
 -- what a part makes of the proposer, and no other body anything
-abbrev pub on_promise : Proposer → ℕ → Body → Proposer
-on_promise p j (body.Prepare ballot from) = p
-on_promise p j (body.Promise ballot first upto votes) = after_part p j first upto votes
-on_promise p j (body.Accept ballot s v) = p
-on_promise p j (body.Accepted ballot s v) = p
-on_promise p j (body.Refused ballot promised) = p
-on_promise p j (body.Submit v) = p
-on_promise p j (body.Ask from) = p
-on_promise p j (body.Tell s v) = p
+abbrev pub heard_promise : Proposer → ℕ → Body → Proposer
+heard_promise p j (body.Prepare ballot from) = p
+heard_promise p j (body.Promise ballot first upto votes) = proposer_after_part p j first upto votes
+heard_promise p j (body.Accept ballot s v) = p
+heard_promise p j (body.Accepted ballot s v) = p
+heard_promise p j (body.Refused ballot promised) = p
+heard_promise p j (body.Submit v) = p
+heard_promise p j (body.Ask from) = p
+heard_promise p j (body.Tell s v) = p
 
 -- the place from which to ask on after it
 abbrev pub asks_after : Proposer → ℕ → Body → Option ℕ
@@ -121,22 +137,22 @@ abbrev pub value_or : Option Vote → Option Value → Option Value
 value_or None other = other
 value_or (Some vote) other = Some vote.value
 
--- What is proposed at the next place, if anything: once a majority's promises reach above it, the value of the vote that is
--- kept there; where none is, a no-op if one is kept above, and else what is offered.
+-- What is proposed at the next place, if anything: once a majority's promises reach above it, the
+-- value of the vote that is kept there; where none is, a no-op if one is kept above, and else what
+-- is offered.
 abbrev pub next_value : Proposer → Option Value → Option Value
 next_value p offered =
     if is_covered p (next_of p)
-    then value_or (vote_at p.kept (next_of p)) (if is_kept_from p.kept (next_of p + 1) then Some Noop else offered)
+    then value_or (kept_vote_at p.kept (next_of p))
+    (if is_kept_from p.kept (next_of p + 1) then Some Noop else offered)
     else None
 
--- the votes at place s and above it
-abbrev pub votes_from : ℕ → List Vote → List Vote
-votes_from s votes = filter (λ vote. nat_le s vote.place) votes
-
--- the proposer after it has proposed the value, if there is one; a vote that was kept at the place counts no more
+-- the proposer after it has proposed the value, if there is one; a vote that was kept at the place
+-- counts no more
 abbrev pub proposing : Proposer → Option Value → Proposer
 proposing p None = p
-proposing p (Some v) = record p { values = p.values ++ v ∷ []; kept = votes_from (next_of p + 1) p.kept }
+proposing p (Some v) =
+    record p { values = p.values ++ v ∷ []; kept = votes_from (next_of p + 1) p.kept }
 
 -- its proposal of a value, as a vote under its ballot
 abbrev pub proposal : Proposer → Value → Vote

@@ -5,8 +5,9 @@ use Rattle.paxos_msg.specs.Fits.{IsBallot, IsPlace, IsValue}
 use Rattle.paxos_proposer.specs.Proposer.{Proposer, proposed_at}
 use Rattle.paxos_proposer.specs.States.{AreInRange}
 
--- its ballot, its coverages, the values of the votes that it keeps, and what it has proposed are in their ranges
-pub record IsInRange (p : Proposer) : Type 0 where
+-- its ballot, its coverages, the values of the votes that it keeps, and what it has proposed are in
+-- their ranges
+pub record IsProposerInRange (p : Proposer) : Type 0 where
   pub ballot : IsBallot p.size p.ballot
   pub reach : AreInRange p.coverages
   pub kept : All (λ vote. IsValue p.size vote.value) p.kept

@@ -3,17 +3,17 @@ use Rattle.std.specs.Prelude.{◌≡◌, ℕ, ◌+◌, ◌≤◌, All, List, len
 use Rattle.paxos_proposer.specs.Proposer.{Proposer, next_of}
 
 -- what it knows, and how many more proposals are sure to find room
-pub record State : Type 0 where
-  pub rules : Proposer
+pub record ProposerState : Type 0 where
+  pub known : Proposer
   pub room : ℕ
 
 -- no promise reaches above the last place
 pub record AreInRange (coverages : List ℕ) : Type 0 where
   pub upto : (i : ℕ) → slice_index coverages i ≤ 65536
 
--- what always holds of a proposer: a group has at most nine nodes, votes are kept from the next place on, and at most all places have
--- a proposal
-pub record IsWhole (p : Proposer) : Type 0 where
+-- what always holds of a proposer: a group has at most nine nodes, votes are kept from the next
+-- place on, and at most all places have a proposal
+pub record IsProposer (p : Proposer) : Type 0 where
   pub few : p.size ≤ 9
   pub nodes : length p.coverages ≡ 10
   pub reach : AreInRange p.coverages

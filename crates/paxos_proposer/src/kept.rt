@@ -1,8 +1,9 @@
 //! The votes to keep.
 ghost use Rattle.std.specs.Prelude.{◌≡◌, ◌+◌, ◌<◌, ◌≤◌, [], All, OnOk};
-ghost use Rattle.paxos_msg.specs.Messages.{vote_at};
+ghost use Rattle.paxos_msg.specs.Messages.{kept_vote_at};
 ghost use Rattle.paxos_msg.specs.Records.{with_vote};
-ghost use Rattle.paxos_proposer.specs.Proposer.{is_kept_from, votes_from};
+ghost use Rattle.paxos_proposer.specs.Proposer.{is_kept_from};
+ghost use Rattle.paxos_msg.specs.Places.{votes_from};
 
 use indexmap::IndexMap;
 use paxos_msg::{Ballot, Value, Vote};
@@ -16,8 +17,8 @@ pub(crate) struct Report {
     value: Value,
 }
 
-/// The vote to keep for each place, seen as the votes in ascending order of place, and how many more
-/// there is room for. Each call takes one search, however many votes there are.
+/// The vote to keep for each place, seen as the votes in ascending order of place, and how many
+/// more there is room for. Each call takes one search, however many votes there are.
 #[derive(Drop)]
 pub(crate) struct KeptVotes {
     reports: IndexMap<u32, Report>,
@@ -27,13 +28,16 @@ pub(crate) struct KeptVotes {
 
 impl Model for KeptVotes {
     ghost use Rattle.indexmap.specs.IndexMap.{spare};
-    ghost use Rattle.paxos_proposer.specs.KeptVotes.{IsGreatestPlace, Kept, votes_of};
+    ghost use Rattle.paxos_proposer.specs.KeptVotes.{IsGreatestPlace, Kept, reported_votes};
 
     ghost Value = { Kept };
 
-    ghost view = { λ k. record { votes = votes_of k.reports.entries; room = spare k.reports } };
+    ghost view = { λ k. record {
+      votes = reported_votes k.reports.entries;
+      room = spare k.reports;
+    } };
 
-    ghost invariant = { λ k. IsGreatestPlace (votes_of k.reports.entries) k.greatest };
+    ghost invariant = { λ k. IsGreatestPlace (reported_votes k.reports.entries) k.greatest };
 }
 
 impl KeptVotes {
@@ -49,7 +53,7 @@ impl KeptVotes {
 
     /// The vote that is kept at the place.
     pub fn at(&self, place: u32) -> Option<Vote>
-        ensures { result ≡ vote_at self.now.votes place }
+        ensures { result ≡ kept_vote_at self.now.votes place }
     {
         let report = self.reports.get(&place)?;
         Some(Vote {

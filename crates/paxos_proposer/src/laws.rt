@@ -1,4 +1,5 @@
-//! The laws of a proposer, over the definitions alone: what it has heard lets it send what it proposes.
+//! The laws of a proposer, over the definitions alone: what it has heard lets it send what it
+//! proposes.
 ghost use Rattle.std.specs.Prelude.{◌≡◌, ◌≤◌, ◌++◌, [], ◌∷◌, ℕ, List, Option, Some, IfSome};
 ghost use Rattle.paxos_msg.specs.declared.ballot.Ballot.{Ballot};
 ghost use Rattle.paxos_msg.specs.Batches.{Body, IsFree, MaySend, Record, Sent, Vote};
@@ -7,70 +8,78 @@ ghost use Rattle.paxos_msg.specs.declared.value.Value.{Value};
 ghost use Rattle.paxos_msg.specs.Fits.{IsBallot, IsBody, IsValue};
 ghost use Rattle.paxos_msg.specs.Keys.{Key};
 ghost use Rattle.paxos_msg.specs.Messages.{IsSaid, IsSent};
-ghost use Rattle.paxos_proposer.specs.Backed.{IsBacked, IsQuiet};
-ghost use Rattle.paxos_proposer.specs.Ranges.{IsInRange};
-ghost use Rattle.paxos_proposer.specs.Proposer.{Proposer, after_part, begun, next_of, next_value, on_promise, proposed_at, proposing};
+ghost use Rattle.paxos_proposer.specs.Backed.{IsProposerBacked, IsQuietUnder};
+ghost use Rattle.paxos_proposer.specs.Ranges.{IsProposerInRange};
+ghost use Rattle.paxos_proposer.specs.Proposer.{Proposer, proposer_after_part, new_proposer, next_of, next_value, heard_promise, proposed_at, proposing};
 
 use paxos_msg::laws::votes_are_by_place;
 
 /// A proposer that has heard nothing is backed, if nothing was proposed under its ballot.
 pub fn begins_backed()
-    ensures { (sent : Sent) (b : Ballot) (from size : ℕ) →
-        ((s : ℕ) (v : Value) → ¬ IsSaid sent (Accept b s v)) → IsBacked sent b.node (begun b from size) }
+    ensures { (sent : Sent) (b : Ballot) (from size : ℕ)
+        → ((s : ℕ) (v : Value) → ¬ IsSaid sent (Accept b s v))
+        → IsProposerBacked sent b.node (new_proposer b from size) }
 {}
 
-/// It is backed still after a part of a promise that was sent for its ballot, whichever part and however
-/// late.
+/// It is backed still after a part of a promise that was sent for its ballot, whichever part and
+/// however late.
 pub fn parts_keep_it_backed()
     ensures { (sent : Sent) (me j first upto : ℕ) (p : Proposer) (votes : List Vote) →
-        IsBacked sent me p → j ≤ 9 → IsBody p.size j (Promise p.ballot first upto votes) →
+        IsProposerBacked sent me p → j ≤ 9 → IsBody p.size j (Promise p.ballot first upto votes) →
         IsSent sent j (Promise p.ballot first upto votes) →
-        IsBacked sent me (after_part p j first upto votes) }
+        IsProposerBacked sent me (proposer_after_part p j first upto votes) }
 {
     votes_are_by_place();
 }
 
-/// What it proposes may be sent, if what is offered is a no-op or was submitted; once that is sent it is
-/// backed again. What it has proposed may be sent again.
+/// What it proposes may be sent, if what is offered is a no-op or was submitted; once that is sent
+/// it is backed again. What it has proposed may be sent again.
 pub fn proposals_may_be_sent()
-    ensures sends { (typed : List Key) (learned : ℕ → Option Value) (sent : Sent) (me : ℕ) (r : Record) (p : Proposer) (offered : Option Value) (v : Value) →
-        IsBacked sent me p → IfSome offered (IsFree sent) → next_value p offered ≡ Some v →
-        MaySend p.size typed learned sent me r (Accept p.ballot (next_of p) v) }
-    ensures backed { (sent : Sent) (me : ℕ) (p : Proposer) (v : Value) →
-        IsBacked sent me p →
-        IsBacked (sent ++ record { sender = me; body = Accept p.ballot (next_of p) v } ∷ []) me (proposing p (Some v)) }
-    ensures again { (typed : List Key) (learned : ℕ → Option Value) (sent : Sent) (me s : ℕ) (r : Record) (p : Proposer) (v : Value) →
-        IsBacked sent me p → proposed_at p s ≡ Some v → MaySend p.size typed learned sent me r (Accept p.ballot s v) }
+    ensures sends { (typed : List Key) (learned : ℕ → Option Value) (sent : Sent) (me : ℕ)
+        (r : Record) (p : Proposer) (offered : Option Value) (v : Value)
+        → IsProposerBacked sent me p → IfSome offered (IsFree sent) → next_value p offered ≡ Some v
+        → MaySend p.size typed learned sent me r (Accept p.ballot (next_of p) v) }
+    ensures backed { (sent : Sent) (me : ℕ) (p : Proposer) (v : Value) → IsProposerBacked sent me p
+        → IsProposerBacked (sent ++ record { sender = me; body = Accept p.ballot (next_of p) v }
+        ∷ []) me (proposing p (Some v)) }
+    ensures again { (typed : List Key) (learned : ℕ → Option Value) (sent : Sent) (me s : ℕ)
+        (r : Record) (p : Proposer) (v : Value) → IsProposerBacked sent me p
+        → proposed_at p s ≡ Some v → MaySend p.size typed learned sent me r (Accept p.ballot s v) }
 {}
 
 /// It stays backed as more is sent, if nothing new is proposed under its ballot.
 pub fn stays_backed()
-    ensures { (sent next : Sent) (me : ℕ) (p : Proposer) → IsQuiet p.ballot sent next → IsBacked sent me p → IsBacked next me p }
+    ensures { (sent next : Sent) (me : ℕ) (p : Proposer) → IsQuietUnder p.ballot sent next
+        → IsProposerBacked sent me p → IsProposerBacked next me p }
 {}
 
-/// What goes out fits. A proposer that has heard nothing is in its ranges; it is so after a part of a promise, and
-/// after a proposal of its own, if what is offered is. Then each Accept that it gives, or gives again, has a spelling
-/// as a message of the ballot's node.
+/// What goes out fits. A proposer that has heard nothing is in its ranges; it is so after a part of
+/// a promise, and after a proposal of its own, if what is offered is. Then each Accept that it
+/// gives, or gives again, has a spelling as a message of the ballot's node.
 pub fn what_goes_out_fits()
-    ensures begins { (b : Ballot) (from size : ℕ) → IsBallot size b → from ≤ 65536 → IsInRange (begun b from size) }
-    ensures parts { (j first upto : ℕ) (p : Proposer) (votes : List Vote) →
-        IsInRange p → IsBody p.size j (Promise p.ballot first upto votes) → IsInRange (after_part p j first upto votes) }
-    ensures proposes { (p : Proposer) (offered : Option Value) →
-        IsInRange p → IfSome offered (IsValue p.size) → IsInRange (proposing p (next_value p offered)) }
+    ensures begins { (b : Ballot) (from size : ℕ) → IsBallot size b → from ≤ 65536
+        → IsProposerInRange (new_proposer b from size) }
+    ensures parts { (j first upto : ℕ) (p : Proposer) (votes : List Vote) → IsProposerInRange p
+        → IsBody p.size j (Promise p.ballot first upto votes)
+        → IsProposerInRange (proposer_after_part p j first upto votes) }
+    ensures proposes { (p : Proposer) (offered : Option Value) → IsProposerInRange p
+        → IfSome offered (IsValue p.size) → IsProposerInRange (proposing p (next_value p offered)) }
     ensures sends { (p : Proposer) (offered : Option Value) (v : Value) →
-        IsInRange p → IfSome offered (IsValue p.size) → next_value p offered ≡ Some v →
+        IsProposerInRange p → IfSome offered (IsValue p.size) → next_value p offered ≡ Some v →
         IsBody p.size p.ballot.node (Accept p.ballot (next_of p) v) }
-    ensures again { (p : Proposer) (s : ℕ) (v : Value) → IsInRange p → proposed_at p s ≡ Some v →
-        IsBody p.size p.ballot.node (Accept p.ballot s v) }
+    ensures again { (p : Proposer) (s : ℕ) (v : Value) → IsProposerInRange p
+        → proposed_at p s ≡ Some v → IsBody p.size p.ballot.node (Accept p.ballot s v) }
 {}
 
-/// Its ballot and the group's size stay, whatever it hears and proposes; and so does what it has proposed.
+/// Its ballot and the group's size stay, whatever it hears and proposes; and so does what it has
+/// proposed.
 pub fn ballot_stays()
     ensures parts { (p : Proposer) (j : ℕ) (body : Body) →
-        ((on_promise p j body).ballot ≡ p.ballot) × ((on_promise p j body).size ≡ p.size) }
+        ((heard_promise p j body).ballot ≡ p.ballot) × ((heard_promise p j body).size ≡ p.size) }
     ensures proposes { (p : Proposer) (o : Option Value) →
         ((proposing p o).ballot ≡ p.ballot) × ((proposing p o).size ≡ p.size) }
-    ensures proposed { (p : Proposer) (j s : ℕ) (body : Body) → proposed_at (on_promise p j body) s ≡ proposed_at p s }
+    ensures proposed { (p : Proposer) (j s : ℕ) (body : Body)
+        → proposed_at (heard_promise p j body) s ≡ proposed_at p s }
     ensures longer { (p : Proposer) (o : Option Value) (s : ℕ) (v : Value) →
         proposed_at p s ≡ Some v → proposed_at (proposing p o) s ≡ Some v }
 {}

@@ -15,15 +15,17 @@ fn round_of(ballot: Option<Ballot>) -> u32
     }
 }
 
-/// The next ballot of the node: its round is one more than the greatest of the ballot that the node has
-/// promised and the one that it was told of. `RoundsSpent` where that is 4,294,967,295.
+/// The next ballot of the node: its round is one more than the greatest of the ballot that the node
+/// has promised and the one that it was told of. `RoundsSpent` where that is 4,294,967,295.
 pub fn next_ballot(
     promised: Option<Ballot>,
     seen: Option<Ballot>,
     node: u8,
 ) -> Result<Ballot, ProposerFault>
-    ensures ok { IfOk result (λ b. b ≡ record { round = greatest_round promised seen + 1; node = node }) }
-    ensures spent { IsErrOf result ProposerFault.RoundsSpent ↔ (greatest_round promised seen ≡ 4294967295) }
+    ensures ok { IfOk result
+        (λ b. b ≡ record { round = greatest_round promised seen + 1; node = node }) }
+    ensures spent { IsErrOf result ProposerFault.RoundsSpent
+        ↔ (greatest_round promised seen ≡ 4294967295) }
     ensures others { OnErr result (result ≡ Err ProposerFault.RoundsSpent) }
 {
     let greatest = round_of(promised).max(round_of(seen));

@@ -1,4 +1,5 @@
-//! What no clause says of an acceptor: parts of a promise by the numbers, and faults that are passed on.
+//! What no clause says of an acceptor: parts of a promise by the numbers, and faults that are
+//! passed on.
 ghost use Rattle.std.specs.Prelude.{◌≡◌};
 
 use paxos_acceptor::{Acceptor, AcceptorFault, Me, MemoryStore, Store};

@@ -19,8 +19,8 @@ fn accepted(sender: u8, ballot: Ballot) -> Msg {
     }
 }
 
-/// A campaign of node 1 in a group of three that all nodes promise to follow, the key of node 2, and the
-/// leader's Accept of it, which the leader accepts.
+/// A campaign of node 1 in a group of three that all nodes promise to follow, the key of node 2,
+/// and the leader's Accept of it, which the leader accepts.
 fn led(alloc: Global) -> Result<Vec<Msg>, AllocError> {
     let mut sent = Vec::new(alloc);
     sent.push(Msg {

@@ -36,7 +36,8 @@ fn no_folder_for_a_file(rt: HostRuntime) -> Result<(), Fail> {
     Ok(())
 }
 
-/// A store in a file. What contracts see of it is nothing, so that a test does not carry a record from one call to the next.
+/// A store in a file. What contracts see of it is nothing, so that a test does not carry a record
+/// from one call to the next.
 struct Kept {
     store: FileStore<HostRuntime>,
 }
@@ -124,8 +125,9 @@ fn refusal(rt: HostRuntime, path: &str) -> Result<Option<(AcceptorFault, u64)>, 
     }
 }
 
-/// What can't be read is no missing file: a folder in the place of the file, and a path through a file. An empty file is no
-/// record. Of one without an end the first megabytes are read, and it can't be synced.
+/// What can't be read is no missing file: a folder in the place of the file, and a path through a
+/// file. An empty file is no record. Of one without an end the first megabytes are read, and it
+/// can't be synced.
 #[test]
 fn files_that_cannot_be_read(rt: HostRuntime) -> Result<(), Fail> {
     let _ = fs::remove_dir(&rt, "folder_of_a_test");
@@ -144,7 +146,8 @@ fn files_that_cannot_be_read(rt: HostRuntime) -> Result<(), Fail> {
     Ok(())
 }
 
-/// After a save that failed a store saves no more until it is loaded: here a folder lies in the place of the file for a while.
+/// After a save that failed a store saves no more until it is loaded: here a folder lies in the
+/// place of the file for a while.
 #[test]
 fn saves_no_more_after_a_fault(rt: HostRuntime) -> Result<(), Fail> {
     let path = "faulty_record_of_a_test";

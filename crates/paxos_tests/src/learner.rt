@@ -21,7 +21,8 @@ fn key() -> Value {
     keys(Characters::from(0x48))
 }
 
-/// A learner that has heard of the key at places 1 and 2, and between these of no key at place 0, and its fronts.
+/// A learner that has heard of the key at places 1 and 2, and between these of no key at place 0,
+/// and its fronts.
 fn with_a_hole(alloc: Global) -> Result<(Learner, [u32; 3]), LearnerFault> {
     let mut learner = Learner::new(alloc, 3);
     learner.on_tell(1, key())?;

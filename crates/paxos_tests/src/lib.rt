@@ -1,4 +1,5 @@
-//! Tests of the crates of Paxos: messages and their bytes, acceptor, proposer and learner. This crate has nothing else.
+//! Tests of the crates of Paxos: messages and their bytes, acceptor, proposer and learner. This
+//! crate has nothing else.
 #![tactic(auto)]
 
 #[cfg(test)]
@@ -12,10 +13,10 @@ mod files;
 #[cfg(test)]
 mod learner;
 #[cfg(test)]
+mod library;
+#[cfg(test)]
 mod logs;
 #[cfg(test)]
 mod proposer;
-#[cfg(test)]
-mod readme;
 #[cfg(test)]
 mod records;

@@ -1,4 +1,5 @@
-//! Records as logs of changes: their bytes, those that were cut or changed, and files that have one.
+//! Records as logs of changes: their bytes, those that were cut or changed, and files that have
+//! one.
 ghost use Rattle.std.specs.Prelude.{◌≡◌, ◌<◌, ◌≤◌, length, IfOk};
 
 use super::acceptor::{FIRST, ME, opened};
@@ -61,7 +62,8 @@ fn log_bytes(rt: HostRuntime) -> Result<(), Fail> {
     Ok(())
 }
 
-/// The first bytes of a log are none without the whole header, and else a log without the entry that was cut.
+/// The first bytes of a log are none without the whole header, and else a log without the entry
+/// that was cut.
 fn cut_at(rt: &impl Abort, alloc: Global, bytes: &[u8], count: usize) -> Result<(), Fail>
     requires few { count ≤ 36 }
     requires enough { 36 < length bytes.now }
@@ -130,9 +132,10 @@ fn entries_below_the_promise(rt: HostRuntime) -> Result<(), Fail> {
     Ok(())
 }
 
-/// Of each byte of the log how many of its 255 other values give another record. Those of the place up to 65,535, of a round of the
-/// vote that is not 0, of its nodes 2 and 3, of a key's nodes 1 and 3, start and serial but 0, and byte. A count of 2 to 32 tells a
-/// vote that was cut. A greater promise than the vote's ballot makes the log bad.
+/// Of each byte of the log how many of its 255 other values give another record. Those of the place
+/// up to 65,535, of a round of the vote that is not 0, of its nodes 2 and 3, of a key's nodes 1 and
+/// 3, start and serial but 0, and byte. A count of 2 to 32 tells a vote that was cut. A greater
+/// promise than the vote's ballot makes the log bad.
 const OTHERS: [u32; 38] = [
     0, 0, 0, 0, 0, 0, 0, 0, 0, 0, 0, 0, 0, 0, 0, 0, 0, 0, 0, 255, 255, 255, 255, 255, 254, 2, 0, 2,
     255, 255, 255, 254, 255, 255, 255, 254, 31, 255,
@@ -216,8 +219,8 @@ fn new_file_is_a_log(rt: HostRuntime) -> Result<(), Fail> {
     Ok(())
 }
 
-/// A file with the first `length` bytes of the log is opened, and a start is saved: the whole entries stand before it, and nothing of
-/// the one that was cut.
+/// A file with the first `length` bytes of the log is opened, and a start is saved: the whole
+/// entries stand before it, and nothing of the one that was cut.
 fn goes_on(rt: &impl Abort, files: HostRuntime, path: &str, length: usize) -> Result<(), Fail>
     requires { length ≤ 38 }
 {
@@ -264,7 +267,8 @@ fn after_start(rt: &impl Abort, files: HostRuntime, bytes: &[u8]) -> Result<Vec<
     Ok(read)
 }
 
-/// A file in whole form stays in it, and one of version 1, in either form, becomes a whole record of version 2.
+/// A file in whole form stays in it, and one of version 1, in either form, becomes a whole record
+/// of version 2.
 #[test]
 fn whole_files(rt: HostRuntime) -> Result<(), Fail> {
     let mut expected = BYTES;
@@ -284,7 +288,8 @@ fn whole_files(rt: HostRuntime) -> Result<(), Fail> {
     Ok(())
 }
 
-/// A log that grew or shrank, or is gone, is no more what the store knows: the next save is a fault of the device, and changes nothing.
+/// A log that grew or shrank, or is gone, is no more what the store knows: the next save is a fault
+/// of the device, and changes nothing.
 #[test]
 fn files_of_other_hands(rt: HostRuntime) -> Result<(), Fail> {
     let path = "changed_log_of_a_test";

@@ -37,7 +37,7 @@ fn vote(place: u32, round: u32, node: u8, value: Value) -> Vote {
 /// A proposer of the group.
 struct Leader {
     proposer: Proposer,
-    ghost in_group: { proposer.rules.size ≡ 3 },
+    ghost in_group: { proposer.known.size ≡ 3 },
 }
 
 impl Drop for Leader {
@@ -58,8 +58,8 @@ impl Leader {
         }
     }
 
-    /// Hears by a datagram that the node promises the ballot from a place on, and reports the votes. No
-    /// answer where the datagram cannot be written.
+    /// Hears by a datagram that the node promises the ballot from a place on, and reports the
+    /// votes. No answer where the datagram cannot be written.
     fn hear(
         &mut self,
         alloc: Global,
@@ -98,8 +98,8 @@ impl Leader {
         self.proposer.proposed(place)
     }
 
-    /// The next place, how far the third node's promise goes, and whether all places are covered up to the last and no vote is kept
-    /// from the third place on.
+    /// The next place, how far the third node's promise goes, and whether all places are covered up
+    /// to the last and no vote is kept from the third place on.
     fn state(&self) -> (u32, u32, bool) {
         let is_done = self.proposer.is_covered(65_535) && !self.proposer.is_kept_from(3);
         (

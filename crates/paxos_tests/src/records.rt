@@ -77,8 +77,8 @@ fn spent_starts(rt: &impl Abort, alloc: Global) -> Result<(), Fail> {
     Ok(())
 }
 
-/// A record of version 1 is read as one whose votes are for batches of one key, and written in version 2. Neither version is
-/// read as the other.
+/// A record of version 1 is read as one whose votes are for batches of one key, and written in
+/// version 2. Neither version is read as the other.
 #[test]
 fn record_of_version_1(rt: HostRuntime) -> Result<(), Fail> {
     let record = record_migrate(rt.alloc(), BYTES_V1.as_slice(), ME)?;
@@ -93,8 +93,9 @@ fn record_of_version_1(rt: HostRuntime) -> Result<(), Fail> {
     Ok(())
 }
 
-/// Of each byte of that record how many of its 255 other values give another record: those of the starts, of a round of the promise
-/// that is not 0, of its nodes 2 and 3, of a place below 65,536, and of a key's nodes 1 and 3, start and serial but 0, and byte.
+/// Of each byte of that record how many of its 255 other values give another record: those of the
+/// starts, of a round of the promise that is not 0, of its nodes 2 and 3, of a place below 65,536,
+/// and of a key's nodes 1 and 3, start and serial but 0, and byte.
 const OTHERS: [u32; 42] = [
     0, 0, 0, 0, 0, 0, 0, 0, 0, 255, 255, 255, 255, 255, 255, 255, 254, 2, 0, 0, 0, 0, 0, 0, 255,
     255, 0, 0, 0, 0, 0, 0, 2, 255, 255, 255, 254, 255, 255, 255, 254, 255,
@@ -129,7 +130,8 @@ fn others_at(rt: &impl Abort, alloc: Global, index: usize) -> u32
     others
 }
 
-/// A record of version 1 that was cut is none, and with one byte changed it is another record or none.
+/// A record of version 1 that was cut is none, and with one byte changed it is another record or
+/// none.
 #[test]
 fn damaged_record_of_version_1(rt: HostRuntime) -> Result<(), Fail> {
     for length in 0..BYTES_V1.len() {

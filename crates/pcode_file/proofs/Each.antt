@@ -35,11 +35,15 @@ all_again f i (x ∷ xs) h =
     rw (here, all_again f (i + 1) xs rest) refl
 
 -- where f answers for each, there is no fault
-pub first_again : {A B : Type 0} (f : ℕ → Result A FileFault) (i : ℕ) (xs : List B) → ((k : ℕ) (x : B) → slice_get xs k ≡ Some x → (y : A) × (f (i + k) ≡ Ok y)) → first_of f i (length xs) ≡ Ok tt
+pub first_again : {A B : Type 0} (f : ℕ → Result A FileFault) (i : ℕ) (xs : List B)
+    → ((k : ℕ) (x : B) → slice_get xs k ≡ Some x → (y : A) × (f (i + k) ≡ Ok y)) → first_of f i (length xs) ≡ Ok tt
 unfolding first_of
 first_again f i [] h = refl
 first_again f i (x ∷ xs) h =
     let one = h zero x refl in
     let here : f i ≡ Ok one.0 = (let same : i + 0 ≡ i = omega arith in rw same at one.1) in
-    let rest = first_again f (i + 1) xs (λ k y g. let two = h (suc k) y g in (two.0, (let same : i + 1 + k ≡ i + suc k = omega arith in rw same two.1))) in
+    let rest =
+    first_again f (i + 1) xs
+    (λ k y g. let two = h (suc k) y g in
+    (two.0, (let same : i + 1 + k ≡ i + suc k = omega arith in rw same two.1))) in
     rw (here) rest

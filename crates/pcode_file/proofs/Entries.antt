@@ -40,7 +40,13 @@ used_now : (bytes : List ℕ) (k n : ℕ) → 0 < word bytes (4 * k + 2) → IsU
 used_now bytes k n h = record { above = omega arith; below = omega arith; used = h; free = λ j le lt. absurd (omega arith) }
 
 used_later : (bytes : List ℕ) (k n m : ℕ) → word bytes (4 * k + 2) ≡ 0 → IsUsed bytes (k + 1) n m → IsUsed bytes k (suc n) m
-used_later bytes k n m e h = record { above = omega (arith, h.above); below = omega (arith, h.below); used = h.used; free = free_more bytes k m e h.free }
+used_later bytes k n m e h =
+    record {
+      above = omega (arith, h.above);
+      below = omega (arith, h.below);
+      used = h.used;
+      free = free_more bytes k m e h.free;
+    }
 
 used_some : (bytes : List ℕ) (k n m : ℕ) → used_from bytes k n ≡ Some m → IsUsed bytes k n m
 unfolding used_from
@@ -63,15 +69,24 @@ some_again bytes k zero m h = absurd (omega (arith, h.above, h.below))
 some_again bytes k (suc n) m h =
     elim (cases_lt k m) [
       | inl later ↦ rw (eq-eqb _ 0 (h.free k (omega arith) (omega arith)))
-          (some_again bytes (k + 1) n m (record { above = omega arith; below = omega (arith, h.below); used = h.used; free = λ j le lt. h.free j (omega arith) lt }))
-      | inr least ↦ (let same : m ≡ k = omega (arith, h.above) in let used : 0 < word bytes (4 * k + 2) = rw (← same) h.used in rw (false_zero _ used) (ap Some (sym same)))
+          (some_again bytes (k + 1) n m
+          (record {
+            above = omega arith;
+            below = omega (arith, h.below);
+            used = h.used;
+            free = λ j le lt. h.free j (omega arith) lt;
+          }))
+      | inr least ↦ (let same : m ≡ k = omega (arith, h.above) in let used : 0
+          < word bytes (4 * k + 2) = rw (← same) h.used in rw (false_zero _ used) (ap Some (sym same)))
     ]
 
-others_free : (bytes : List ℕ) (k : ℕ) → k < 16 → AreFree bytes 0 k → AreFree bytes (k + 1) (k + 1 + (16 - (k + 1))) → (j : ℕ) → j < 16 → j ≢ k → word bytes (4 * j + 2) ≡ 0
+others_free : (bytes : List ℕ) (k : ℕ) → k < 16 → AreFree bytes 0 k → AreFree bytes (k + 1) (k + 1 + (16 - (k + 1)))
+    → (j : ℕ) → j < 16 → j ≢ k → word bytes (4 * j + 2) ≡ 0
 others_free bytes k in16 below above j lt ne =
     elim (cases_lt j k) [ inl less ↦ below j (omega arith) less | inr more ↦ above j (omega arith) (omega arith) ]
 
-only_by : (bytes : List ℕ) (k m : ℕ) (o : Option ℕ) → IsUsed bytes 0 16 k → used_from bytes (k + 1) (16 - (k + 1)) ≡ o → alone k o ≡ Ok m → IsOnlyEntry bytes m
+only_by : (bytes : List ℕ) (k m : ℕ) (o : Option ℕ) → IsUsed bytes 0 16 k → used_from bytes (k + 1) (16 - (k + 1)) ≡ o
+    → alone k o ≡ Ok m → IsOnlyEntry bytes m
 only_by bytes k m None u e h =
     let free = used_none bytes (k + 1) (16 - (k + 1)) e in
     let P : ℕ → Type 0 = λ x. IsOnlyEntry bytes x in
@@ -94,6 +109,13 @@ entry_found bytes m h = entry_by bytes m (used_from bytes 0 16) refl h
 pub entry_again : (bytes : List ℕ) (k : ℕ) → IsOnlyEntry bytes k → entry_of bytes ≡ Ok k
 unfolding entry_of
 entry_again bytes k h =
-    let first = some_again bytes 0 16 k (record { above = omega arith; below = omega (arith, h.within); used = h.used; free = λ j le lt. h.others j (omega (arith, h.within)) (λ e. absurd (omega arith)) }) in
+    let first =
+    some_again bytes 0 16 k
+    (record {
+      above = omega arith;
+      below = omega (arith, h.within);
+      used = h.used;
+      free = λ j le lt. h.others j (omega (arith, h.within)) (λ e. absurd (omega arith));
+    }) in
     let rest = none_again bytes (k + 1) (16 - (k + 1)) (λ j le lt. h.others j (omega (arith, h.within)) (λ e. absurd (omega arith))) in
     rw (first, rest) refl

@@ -5,7 +5,7 @@ use Rattle.std.proofs.lemmas.Bool.{or_parts, not-false, ltb-false, le-ltb, eqb-t
 use Rattle.base.proofs.Steps.{guard_ok, bind_ok}
 use Rattle.pcode_file.specs.declared.file.Proc.{Proc}
 use Rattle.pcode_file.specs.Parts.{word}
-use Rattle.pcode_file.specs.Checks.{table_of, is_level, table_from, table_at, low_of, inside, within_part, proc_from, proc_at}
+use Rattle.pcode_file.specs.Checks.{table_of, is_level, table_from, table_at, low_of, pointer_of, within_part, proc_from, proc_at}
 use Rattle.pcode_file.specs.InFile.{IsLevel, HasTable, Points, HasProc}
 use Rattle.pcode_file.proofs.Tests.{false_zero, zero_false}
 
@@ -32,7 +32,8 @@ level_again i level (inr h) =
 
 -- ---- the fourth check
 
-table_made : (segment : List ℕ) (n i t : ℕ) → t ≡ table_of segment i → t % 2 ≡ 0 → 8 ≤ t → t + 2 ≤ length segment - 2 - 2 * n → 0 < slice_index segment t → slice_index segment t ≡ i
+table_made : (segment : List ℕ) (n i t : ℕ) → t ≡ table_of segment i → t % 2 ≡ 0 → 8 ≤ t
+    → t + 2 ≤ length segment - 2 - 2 * n → 0 < slice_index segment t → slice_index segment t ≡ i
     → IsLevel i (slice_index segment (t + 1)) → word segment (t - 6) % 2 ≡ 0 → word segment (t - 8) % 2 ≡ 0 → HasTable segment n i t
 table_made segment n i t e even above below native number level params vars = record {
   pointer = omega arith;
@@ -98,7 +99,8 @@ part_ok : (i : ℕ) (b : Bool) (r : Option ℕ) (x : ℕ) → within_part i (con
 part_ok i true r x h = absurd cc
 part_ok i false r x h = (refl, h)
 
-points_found : (segment : List ℕ) (i place low end x : ℕ) → within_part i (inside segment place low end) ≡ Ok x → Points segment place low end x
+points_found : (segment : List ℕ) (i place low end x : ℕ) → within_part i (pointer_of segment place low end) ≡ Ok x
+    → Points segment place low end x
 points_found segment i place low end x h =
     let y = place - word segment place in
     let last : Option ℕ = Some y in
@@ -112,7 +114,8 @@ points_found segment i place low end x h =
     let three = leb-false _ _ d.0 in
     record { leads = omega (arith, same, one); above = omega (arith, same, two); below = omega (arith, same, three) }
 
-points_again : (segment : List ℕ) (i place low end x : ℕ) → Points segment place low end x → within_part i (inside segment place low end) ≡ Ok x
+points_again : (segment : List ℕ) (i place low end x : ℕ) → Points segment place low end x
+    → within_part i (pointer_of segment place low end) ≡ Ok x
 points_again segment i place low end x h =
     let a : ltb place (word segment place) ≡ false = le-ltb _ _ (omega (arith, h.leads)) in
     let same : place - word segment place ≡ x = omega (arith, h.leads) in
@@ -125,7 +128,17 @@ half w h = omega arith
 
 made_found : (segment : List ℕ) (n i at low enter exit : ℕ) → HasTable segment n i at → low ≤ at - 8
     → Points segment (at - 2) low (at - 8) enter → Points segment (at - 4) low (at - 8) exit
-    → HasProc segment n i (record { number = i; level = slice_index segment (at + 1); enter = enter; exit = exit; jtab = at; low = low; params = word segment (at - 6) / 2; vars = word segment (at - 8) / 2 })
+    → HasProc segment n i
+    (record {
+      number = i;
+      level = slice_index segment (at + 1);
+      enter = enter;
+      exit = exit;
+      jtab = at;
+      low = low;
+      params = word segment (at - 6) / 2;
+      vars = word segment (at - 8) / 2;
+    })
 made_found segment n i at low enter exit t room e x = record {
   table = t;
   number = refl;
@@ -138,20 +151,32 @@ made_found segment n i at low enter exit t room e x = record {
 }
 
 -- the procedure that is read is there, and its part begins where the dictionary says
-pub proc_found : (segment : List ℕ) (n i : ℕ) (q : Proc) → proc_at segment n i ≡ Ok q → HasProc segment n i q × (q.low ≡ low_of segment n q.jtab)
+pub proc_found : (segment : List ℕ) (n i : ℕ) (q : Proc) → proc_at segment n i ≡ Ok q
+    → HasProc segment n i q × (q.low ≡ low_of segment n q.jtab)
 unfolding proc_at
 proc_found segment n i q h =
     let a = bind_ok (table_at segment n i) _ q h in
     let low = low_of segment n a.0 in
     let g = guard_ok _ _ _ q a.2 in
-    let e = bind_ok (within_part i (inside segment (a.0 - 2) low (a.0 - 8))) _ q g.1 in
-    let x = bind_ok (within_part i (inside segment (a.0 - 4) low (a.0 - 8))) _ q e.2 in
-    let made = made_found segment n i a.0 low e.0 x.0 (table_found segment n i a.0 a.1) (ltb-false _ _ g.0) (points_found segment i _ _ _ e.0 e.1) (points_found segment i _ _ _ x.0 x.1) in
+    let e = bind_ok (within_part i (pointer_of segment (a.0 - 2) low (a.0 - 8))) _ q g.1 in
+    let x = bind_ok (within_part i (pointer_of segment (a.0 - 4) low (a.0 - 8))) _ q e.2 in
+    let made =
+    made_found segment n i a.0 low e.0 x.0 (table_found segment n i a.0 a.1) (ltb-false _ _ g.0)
+    (points_found segment i _ _ _ e.0 e.1) (points_found segment i _ _ _ x.0 x.1) in
     let P : Proc → Type 0 = λ p. HasProc segment n i p × (p.low ≡ low_of segment n p.jtab) in
     subst P (cc (x.2)) (made, refl)
 
 same_proc : (q : Proc) (number level params vars : ℕ) → q.number ≡ number → q.level ≡ level → q.params ≡ params → q.vars ≡ vars
-    → (record { number = number; level = level; enter = q.enter; exit = q.exit; jtab = q.jtab; low = q.low; params = params; vars = vars }) ≡ q
+    → (record {
+      number = number;
+      level = level;
+      enter = q.enter;
+      exit = q.exit;
+      jtab = q.jtab;
+      low = q.low;
+      params = params;
+      vars = vars;
+    }) ≡ q
 same_proc q number level params vars a b d e = rw (← a, ← b, ← d, ← e) refl
 
 halved : (a w : ℕ) → 2 * a ≡ w → a ≡ w / 2
@@ -163,6 +188,7 @@ from_again segment n i q h =
     (ap Ok (same_proc q _ _ _ _ h.number h.level (halved _ _ h.params) (halved _ _ h.vars)))
 
 -- the procedure that is there is read, if its part begins where the dictionary says
-pub proc_again : (segment : List ℕ) (n i : ℕ) (q : Proc) → HasProc segment n i q → q.low ≡ low_of segment n q.jtab → proc_at segment n i ≡ Ok q
+pub proc_again : (segment : List ℕ) (n i : ℕ) (q : Proc) → HasProc segment n i q → q.low ≡ low_of segment n q.jtab
+    → proc_at segment n i ≡ Ok q
 unfolding proc_at
 proc_again segment n i q h low = rw (table_again segment n i q.jtab h.table, ← low) (from_again segment n i q h)

@@ -16,7 +16,8 @@ IsFirst procs at low = (low ≡ 0) ⊎ ((k : ℕ) × (q : Proc) × (slice_get pr
 abbrev AreBehind : List Proc → ℕ → ℕ → Type 0
 AreBehind procs at low = (k : ℕ) (q : Proc) → slice_get procs k ≡ Some q → q.jtab < at → q.jtab + 2 ≤ low
 
-behind_cons : (q : Proc) (procs : List Proc) (at low : ℕ) → (q.jtab < at → q.jtab + 2 ≤ low) → AreBehind procs at low → AreBehind (q ∷ procs) at low
+behind_cons : (q : Proc) (procs : List Proc) (at low : ℕ) → (q.jtab < at → q.jtab + 2 ≤ low) → AreBehind procs at low
+    → AreBehind (q ∷ procs) at low
 behind_cons q procs at low here rest zero p g below =
     let P : Proc → Type 0 = λ x. x.jtab < at → x.jtab + 2 ≤ low in
     let same : q ≡ p = cc (g) in
@@ -27,7 +28,8 @@ first_cons : (q : Proc) (procs : List Proc) (at low : ℕ) → IsFirst procs at 
 first_cons q procs at low (inl e) = inl e
 first_cons q procs at low (inr f) = inr (suc f.0, f.1, f.2, f.3, f.4)
 
-cons_by : (q : Proc) (procs : List Proc) (at low : ℕ) (c : Bool) → ltb q.jtab at ≡ c → BeginsAt procs at low → BeginsAt (q ∷ procs) at (max (cond c (q.jtab + 2) 0) low)
+cons_by : (q : Proc) (procs : List Proc) (at low : ℕ) (c : Bool) → ltb q.jtab at ≡ c → BeginsAt procs at low
+    → BeginsAt (q ∷ procs) at (max (cond c (q.jtab + 2) 0) low)
 cons_by q procs at low true e h =
     let below = ltb-true q.jtab at e in
     let top = max (q.jtab + 2) low in
@@ -47,11 +49,13 @@ cons_by q procs at low false e h =
       first = first_cons q procs at low h.first;
     })
 
-begins_cons : (q : Proc) (procs : List Proc) (t at low : ℕ) → t ≡ q.jtab → BeginsAt procs at low → BeginsAt (q ∷ procs) at (max (behind_table t at) low)
+begins_cons : (q : Proc) (procs : List Proc) (t at low : ℕ) → t ≡ q.jtab → BeginsAt procs at low
+    → BeginsAt (q ∷ procs) at (max (behind_table t at) low)
 begins_cons q procs t at low e h = rw e (cons_by q procs at low (ltb q.jtab at) refl h)
 
 -- what the dictionary says of where a part begins is so
-pub low_begins : (segment : List ℕ) (at i : ℕ) (procs : List Proc) → Leads segment i procs → BeginsAt procs at (low_from segment at i (length procs))
+pub low_begins : (segment : List ℕ) (at i : ℕ) (procs : List Proc) → Leads segment i procs
+    → BeginsAt procs at (low_from segment at i (length procs))
 low_begins segment at i [] h = record { behind = λ k q g lt. absurd cc; first = inl refl }
 low_begins segment at i (q ∷ procs) h =
     let here : table_of segment i ≡ q.jtab = (let same : i + 0 ≡ i = omega arith in rw same at (h zero q refl)) in

@@ -5,7 +5,7 @@ use Rattle.base.proofs.Steps.{guard_ok, pass_ok, bind_ok, last_ok}
 use Rattle.base.specs.Steps.{◌>>=◌}
 use Rattle.pcode_file.specs.declared.fault.FileFault.TheVariants.{Short, DictionaryRange, OddSize}
 use Rattle.pcode_file.specs.Parts.{Parts, word}
-use Rattle.pcode_file.specs.Checks.{entry_of, bytes_of, linked, segment_of, count_of}
+use Rattle.pcode_file.specs.Checks.{entry_of, bytes_of, linked_entry, segment_of, procedure_count}
 use Rattle.pcode_file.specs.InFile.{IsOnlyEntry, InEntry}
 use Rattle.pcode_file.proofs.Tests.{false_zero, zero_false}
 use Rattle.pcode_file.proofs.Entries.{entry_found, entry_again}
@@ -20,7 +20,8 @@ pub record IsSegment (bytes : List ℕ) (s : ℕ × List ℕ) : Type 0 where
   pub even : word bytes (4 * s.0 + 2) % 2 ≡ 0
   pub segment : s.1 ≡ slice_range bytes (512 * word bytes (4 * s.0)) (512 * word bytes (4 * s.0) + word bytes (4 * s.0 + 2))
 
-segment_by : (bytes : List ℕ) (k : ℕ) (s : ℕ × List ℕ) → 512 ≤ length bytes → IsOnlyEntry bytes k → linked bytes k ≡ Ok s → IsSegment bytes s
+segment_by : (bytes : List ℕ) (k : ℕ) (s : ℕ × List ℕ) → 512 ≤ length bytes → IsOnlyEntry bytes k
+    → linked_entry bytes k ≡ Ok s → IsSegment bytes s
 segment_by bytes k s long only h =
     let start = 512 * word bytes (4 * k) in
     let len = word bytes (4 * k + 2) in
@@ -47,8 +48,8 @@ segment_by bytes k s long only h =
 pub segment_found : (bytes : List ℕ) (s : ℕ × List ℕ) → segment_of bytes ≡ Ok s → IsSegment bytes s
 unfolding segment_of
 segment_found bytes s h =
-    let a = guard_ok (ltb (length bytes) 512) Short (entry_of bytes >>= linked bytes) s h in
-    let b = bind_ok (entry_of bytes) (linked bytes) s a.1 in
+    let a = guard_ok (ltb (length bytes) 512) Short (entry_of bytes >>= linked_entry bytes) s h in
+    let b = bind_ok (entry_of bytes) (linked_entry bytes) s a.1 in
     segment_by bytes b.0 s (ltb-false _ _ a.0) (entry_found bytes b.0 b.1) b.2
 
 -- the segment that is there is read
@@ -63,7 +64,8 @@ segment_again bytes k p h =
     rw (one, entry_again bytes k h.only, two, three, four, five, ← h.segment) refl
 
 -- the count that is read is there
-pub count_found : (segment : List ℕ) (n : ℕ) → count_of segment ≡ Ok n → (n ≡ slice_index segment (length segment - 1)) × (0 < n) × (2 + 2 * n ≤ length segment)
+pub count_found : (segment : List ℕ) (n : ℕ) → procedure_count segment ≡ Ok n
+    → (n ≡ slice_index segment (length segment - 1)) × (0 < n) × (2 + 2 * n ≤ length segment)
 count_found segment n h =
     let m = slice_index segment (length segment - 1) in
     let a = last_ok DictionaryRange ((eqb m 0) || ltb (length segment) (2 + 2 * m)) m n h in
@@ -74,7 +76,8 @@ count_found segment n h =
     (sym same, omega arith, omega arith)
 
 -- the count that is there is read
-pub count_again : (segment : List ℕ) (n : ℕ) → n ≡ slice_index segment (length segment - 1) → 0 < n → 2 + 2 * n ≤ length segment → count_of segment ≡ Ok n
+pub count_again : (segment : List ℕ) (n : ℕ) → n ≡ slice_index segment (length segment - 1) → 0 < n
+    → 2 + 2 * n ≤ length segment → procedure_count segment ≡ Ok n
 count_again segment n e above fits =
     let one : eqb n 0 ≡ false = false_zero n above in
     let two : ltb (length segment) (2 + 2 * n) ≡ false = le-ltb _ _ fits in

@@ -16,7 +16,8 @@ seen view (Err e) = Err e
 -- the first entry in use among n from k on
 unfoldable pub used_from : List ℕ → ℕ → ℕ → Option ℕ
 used_from bytes k zero = None
-used_from bytes k (suc n) = if word bytes (4 * k + 2) == 0 then used_from bytes (k + 1) n else Some k
+used_from bytes k (suc n) =
+    if word bytes (4 * k + 2) == 0 then used_from bytes (k + 1) n else Some k
 
 abbrev pub alone : ℕ → Option ℕ → Result ℕ FileFault
 alone k None = Ok k
@@ -35,16 +36,19 @@ bytes_of bytes k start len =
     else if len % 2 == 0 then Ok (k, slice_range bytes start (start + len))
     else Err (OddSize 0)
 
-abbrev pub linked : List ℕ → ℕ → Result (ℕ × List ℕ) FileFault
-linked bytes k = if word bytes (192 + 2 * k) == 0 then bytes_of bytes k (512 * word bytes (4 * k)) (word bytes (4 * k + 2)) else Err Unlinked
+abbrev pub linked_entry : List ℕ → ℕ → Result (ℕ × List ℕ) FileFault
+linked_entry bytes k =
+    if word bytes (192 + 2 * k) == 0
+    then bytes_of bytes k (512 * word bytes (4 * k)) (word bytes (4 * k + 2)) else Err Unlinked
 
 unfoldable pub segment_of : List ℕ → Result (ℕ × List ℕ) FileFault
-segment_of bytes = if nat_lt (length bytes) 512 then Err Short else (entry_of bytes >>= linked bytes)
+segment_of bytes =
+    if nat_lt (length bytes) 512 then Err Short else (entry_of bytes >>= linked_entry bytes)
 
 -- ---- the third check: how many procedures
 
-abbrev pub count_of : List ℕ → Result ℕ FileFault
-count_of segment =
+abbrev pub procedure_count : List ℕ → Result ℕ FileFault
+procedure_count segment =
     let n = slice_index segment (length segment - 1) in
     unless DictionaryRange ((n == 0) || nat_lt (length segment) (2 + 2 * n)) n
 
@@ -59,11 +63,13 @@ is_level i level = if i == 1 then level == 0 else (nat_lt 0 level && nat_le leve
 
 abbrev pub table_from : List ℕ → ℕ → ℕ → ℕ → Result ℕ FileFault
 table_from segment n i t =
-    if not (t % 2 == 0) || nat_lt t 8 || nat_lt (length segment - 2 - 2 * n) (t + 2) then Err (AttributeRange i)
+    if not (t % 2 == 0) || nat_lt t 8 || nat_lt (length segment - 2 - 2 * n) (t + 2)
+    then Err (AttributeRange i)
     else if slice_index segment t == 0 then Err (Native i)
     else if not (slice_index segment t == i) then Err (AttributeRange i)
     else if not (is_level i (slice_index segment (t + 1))) then Err (Level i)
-    else if not (word segment (t - 6) % 2 == 0) || not (word segment (t - 8) % 2 == 0) then Err (OddSize i)
+    else if not (word segment (t - 6) % 2 == 0) || not (word segment (t - 8) % 2 == 0)
+    then Err (OddSize i)
     else Ok t
 
 unfoldable pub table_at : List ℕ → ℕ → ℕ → Result ℕ FileFault
@@ -77,14 +83,15 @@ behind_table table at = if nat_lt table at then table + 2 else 0
 -- two above the greatest table below `at` among those of n procedures from i on, or 0
 abbrev pub low_from : List ℕ → ℕ → ℕ → ℕ → ℕ
 low_from segment at i zero = 0
-low_from segment at i (suc n) = max (behind_table (table_of segment i) at) (low_from segment at (i + 1) n)
+low_from segment at i (suc n) =
+    max (behind_table (table_of segment i) at) (low_from segment at (i + 1) n)
 
 abbrev pub low_of : List ℕ → ℕ → ℕ → ℕ
 low_of segment n at = low_from segment at 1 n
 
 -- what the self-relative pointer at a place leads to, if that lies from low up to end
-abbrev pub inside : List ℕ → ℕ → ℕ → ℕ → Option ℕ
-inside segment place low end =
+abbrev pub pointer_of : List ℕ → ℕ → ℕ → ℕ → Option ℕ
+pointer_of segment place low end =
     if nat_lt place (word segment place) then None
     else if nat_lt (place - word segment place) low then None
     else if nat_le end (place - word segment place) then None
@@ -97,8 +104,8 @@ within_part i (Some x) = Ok x
 abbrev pub proc_from : List ℕ → ℕ → ℕ → ℕ → Result Proc FileFault
 proc_from segment i at low =
     if nat_lt (at - 8) low then Err (AttributeRange i) else
-    (within_part i (inside segment (at - 2) low (at - 8)) >>= λ enter.
-    within_part i (inside segment (at - 4) low (at - 8)) >>= λ exit.
+    (within_part i (pointer_of segment (at - 2) low (at - 8)) >>= λ enter.
+    within_part i (pointer_of segment (at - 4) low (at - 8)) >>= λ exit.
     Ok (record {
       number = i;
       level = slice_index segment (at + 1);
@@ -129,7 +136,7 @@ first_of f i (suc n) = f i >>= λ x. first_of f (i + 1) n
 unfoldable pub read_from : List ℕ → Result Parts FileFault
 read_from bytes =
     segment_of bytes >>= λ s.
-    count_of s.1 >>= λ n.
+    procedure_count s.1 >>= λ n.
     first_of (table_at s.1 n) 1 n >>= λ _.
     all_of (proc_at s.1 n) 1 n >>= λ procs.
     Ok (record {
@@ -142,11 +149,11 @@ read_from bytes =
 -- the file passed all checks: entry k is in use, and its segment has n procedures
 pub record IsChecked (bytes : List ℕ) (k : ℕ) (segment : List ℕ) (n : ℕ) : Type 0 where
   pub entry : segment_of bytes ≡ Ok (k, segment)
-  pub counted : count_of segment ≡ Ok n
+  pub counted : procedure_count segment ≡ Ok n
   pub tables : first_of (table_at segment n) 1 n ≡ Ok tt
   pub procs : first_of (proc_at segment n) 1 n ≡ Ok tt
 
 -- what was answered is what reading gives, unless memory ran out for what would be read
-abbrev pub Gives : {X : Type 0} → Result X FileFault → Result X FileFault → Type 0
-Gives (Ok x) read = read ≡ Ok x
-Gives (Err e) read = ((e ≡ Memory) × IsOk read) ⊎ (read ≡ Err e)
+abbrev pub GivesUnlessMemory : {X : Type 0} → Result X FileFault → Result X FileFault → Type 0
+GivesUnlessMemory (Ok x) read = read ≡ Ok x
+GivesUnlessMemory (Err e) read = ((e ≡ Memory) × IsOk read) ⊎ (read ≡ Err e)

@@ -28,7 +28,9 @@ pub record Points (segment : List ℕ) (place low end x : ℕ) : Type 0 where
 -- a procedure's part begins behind the greatest table below its own, or at 0
 pub record BeginsAt (procs : List Proc) (table low : ℕ) : Type 0 where
   pub behind : (k : ℕ) (q : Proc) → slice_get procs k ≡ Some q → q.jtab < table → q.jtab + 2 ≤ low
-  pub first : (low ≡ 0) ⊎ ((k : ℕ) × (q : Proc) × (slice_get procs k ≡ Some q) × (q.jtab < table) × (low ≡ q.jtab + 2))
+  pub first : (low ≡ 0)
+      ⊎ ((k : ℕ) × (q : Proc) × (slice_get procs k ≡ Some q) × (q.jtab < table)
+      × (low ≡ q.jtab + 2))
 
 -- procedure i of n is q, whose part begins where q says
 pub record HasProc (segment : List ℕ) (n i : ℕ) (q : Proc) : Type 0 where
@@ -45,7 +47,8 @@ pub record HasProc (segment : List ℕ) (n i : ℕ) (q : Proc) : Type 0 where
 pub record AreProcs (segment : List ℕ) (procs : List Proc) : Type 0 where
   pub some : 0 < length procs
   pub dictionary : 2 + 2 * length procs ≤ length segment
-  pub each : (k : ℕ) (q : Proc) → slice_get procs k ≡ Some q → HasProc segment (length procs) (1 + k) q
+  pub each : (k : ℕ) (q : Proc) → slice_get procs k ≡ Some q
+      → HasProc segment (length procs) (1 + k) q
   pub lows : (k : ℕ) (q : Proc) → slice_get procs k ≡ Some q → BeginsAt procs q.jtab q.low
 
 -- entry k of block 0 is the only one in use
@@ -63,7 +66,9 @@ pub record InEntry (bytes : List ℕ) (k : ℕ) (p : Parts) : Type 0 where
   pub ends : 512 * word bytes (4 * k) + word bytes (4 * k + 2) ≤ length bytes
   pub even : word bytes (4 * k + 2) % 2 ≡ 0
   pub name : p.name ≡ name_at bytes k
-  pub segment : p.segment ≡ slice_range bytes (512 * word bytes (4 * k)) (512 * word bytes (4 * k) + word bytes (4 * k + 2))
+  pub segment : p.segment
+      ≡ slice_range bytes (512 * word bytes (4 * k))
+      (512 * word bytes (4 * k) + word bytes (4 * k + 2))
   pub number : p.number ≡ slice_index p.segment (length p.segment - 2)
   pub count : length p.procs ≡ slice_index p.segment (length p.segment - 1)
   pub procs : AreProcs p.segment p.procs

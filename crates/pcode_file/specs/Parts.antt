@@ -2,7 +2,8 @@
 use Rattle.std.specs.Prelude.{ℕ, zero, suc, ◌+◌, ◌*◌, ◌-◌, List, [], ◌∷◌, Option, None, slice_get, slice_index}
 use Rattle.pcode_file.specs.declared.file.Proc.{Proc}
 
--- what a code file holds: its segment with the segment's name and number, and the procedures in order
+-- what a code file holds: its segment with the segment's name and number, and the procedures in
+-- order
 pub record Parts : Type 0 where
   pub name : List ℕ
   pub segment : List ℕ
@@ -26,5 +27,7 @@ end_of q = q.jtab - 8
 abbrev pub name_at : List ℕ → ℕ → List ℕ
 name_at bytes k =
     let at = 64 + 8 * k in
-    slice_index bytes at ∷ slice_index bytes (at + 1) ∷ slice_index bytes (at + 2) ∷ slice_index bytes (at + 3)
-    ∷ slice_index bytes (at + 4) ∷ slice_index bytes (at + 5) ∷ slice_index bytes (at + 6) ∷ slice_index bytes (at + 7) ∷ []
+    slice_index bytes at ∷ slice_index bytes (at + 1) ∷ slice_index bytes (at + 2)
+    ∷ slice_index bytes (at + 3)
+    ∷ slice_index bytes (at + 4) ∷ slice_index bytes (at + 5) ∷ slice_index bytes (at + 6)
+    ∷ slice_index bytes (at + 7) ∷ []

@@ -1,17 +1,17 @@
 //! The checks of a code file, in their order. None of them takes memory.
 //!
-//! Block 0 is the file's first 512 bytes and has 16 entries. Of entry `k` the word at `4 * k` is the
-//! block at which the segment begins, the word at `4 * k + 2` the segment's length in bytes, and the
-//! word at `192 + 2 * k` its kind.
+//! Block 0 is the file's first 512 bytes and has 16 entries. Of entry `k` the word at `4 * k` is
+//! the block at which the segment begins, the word at `4 * k + 2` the segment's length in bytes,
+//! and the word at `192 + 2 * k` its kind.
 //!
-//! The segment's last word has its number in the low byte and the count of its procedures in the high
-//! byte. The pointer of procedure `i` stands `2 * i` bytes below that word, and says how far below
-//! itself the procedure's attribute table stands. The table's highest word has the procedure's number
-//! and lex level; below it stand the pointers to the first instruction and to the code that leaves,
-//! and the sizes of the parameters and of the data in bytes.
+//! The segment's last word has its number in the low byte and the count of its procedures in the
+//! high byte. The pointer of procedure `i` stands `2 * i` bytes below that word, and says how far
+//! below itself the procedure's attribute table stands. The table's highest word has the
+//! procedure's number and lex level; below it stand the pointers to the first instruction and to
+//! the code that leaves, and the sizes of the parameters and of the data in bytes.
 ghost use Rattle.std.specs.Prelude.{◌≡◌, ℕ, ◌+◌, ◌*◌, ◌-◌, ◌^◌, ◌<◌, ◌≤◌, length, IfOk, IfSome, slice_range, Some};
 ghost use Rattle.pcode_file.specs.Parts.{word};
-ghost use Rattle.pcode_file.specs.Checks.{seen, used_from, entry_of, segment_of, count_of, table_of, table_at, behind_table, low_of, inside, proc_at, first_of};
+ghost use Rattle.pcode_file.specs.Checks.{seen, used_from, entry_of, segment_of, procedure_count, table_of, table_at, behind_table, low_of, pointer_of, proc_at, first_of};
 
 use crate::fault::FileFault;
 use crate::file::Proc;
@@ -71,7 +71,9 @@ fn cut(bytes: &[u8], start: usize, len: usize) -> &[u8]
 #[tactic(auto, unfolding(crate::specs::Checks::segment_of))]
 pub(crate) fn segment(bytes: &[u8]) -> Result<(usize, &[u8]), FileFault>
     ensures value { seen (λ x. (x.0, x.1.now)) result ≡ segment_of bytes.now }
-    ensures within { IfOk result (λ x. (x.0 < 16) × (2 ≤ length x.1.now) × (length x.1.now < 2 ^ 16) × (512 ≤ length bytes.now)) }
+    ensures within { IfOk result
+        (λ x. (x.0 < 16) × (2 ≤ length x.1.now) × (length x.1.now < 2 ^ 16)
+        × (512 ≤ length bytes.now)) }
 {
     if bytes.len() < 512 {
         return Err(FileFault::Short);
@@ -94,7 +96,7 @@ pub(crate) fn segment(bytes: &[u8]) -> Result<(usize, &[u8]), FileFault>
 /// How many procedures the segment has.
 pub(crate) fn count(segment: &[u8]) -> Result<u8, FileFault>
     requires { 2 ≤ length segment.now }
-    ensures value { result ≡ count_of segment.now }
+    ensures value { result ≡ procedure_count segment.now }
     ensures within { IfOk result (λ n. (0 < n) × (2 + 2 * n ≤ length segment.now)) }
 {
     let n = segment[segment.len() - 1];
@@ -173,7 +175,7 @@ fn low(segment: &[u8], n: u8, at: usize) -> usize
 /// What the self-relative pointer at a place leads to, if that lies from `low` up to `end`.
 fn pointer(segment: &[u8], place: usize, low: usize, end: usize) -> Option<usize>
     requires { place + 1 < length segment.now }
-    ensures value { result ≡ inside segment.now place low end }
+    ensures value { result ≡ pointer_of segment.now place low end }
     ensures within { IfSome result (λ x. x < end) }
 {
     let back = usize::from(word_at(segment, place));

@@ -2,7 +2,7 @@
 ghost use Rattle.std.specs.Prelude.{◌≡◌, ℕ, ◌<◌, ◌≤◌, ◌+◌, ◌*◌, ◌^◌, [], length, vec_len, vec_capacity, IfOk, IfSome, MatchResult, Ok, Err};
 ghost use Rattle.pcode_file.specs.InFile.{InFile, HasProc, AreProcs};
 ghost use Rattle.pcode_file.specs.Parts.{Parts, procedure_of, name_at};
-ghost use Rattle.pcode_file.specs.Checks.{Gives, IsChecked, all_of, proc_at, first_of, read_from};
+ghost use Rattle.pcode_file.specs.Checks.{GivesUnlessMemory, IsChecked, all_of, proc_at, first_of, read_from};
 
 use crate::checks::{check_procedures, check_tables, count, procedure, segment};
 use crate::fault::FileFault;
@@ -56,9 +56,20 @@ impl Model for CodeFile {
 
     ghost use Rattle.pcode_file.specs.InFile.{IsWhole};
 
-    ghost view = { λ f. record { name = f.name; segment = f.segment.items; number = f.number; procs = f.procs.items } };
+    ghost view = { λ f. record {
+      name = f.name;
+      segment = f.segment.items;
+      number = f.number;
+      procs = f.procs.items;
+    } };
 
-    ghost invariant = { λ f. IsWhole (record { name = f.name; segment = f.segment.items; number = f.number; procs = f.procs.items }) };
+    ghost invariant = { λ f.
+        IsWhole (record {
+          name = f.name;
+          segment = f.segment.items;
+          number = f.number;
+          procs = f.procs.items;
+        }) };
 }
 
 /// The procedure with a number from 1 on.
@@ -71,11 +82,13 @@ fn numbered(procs: &[Proc], i: u8) -> Option<Proc>
     procs.get(usize::from(i) - 1).copied()
 }
 
-/// Room for so many procedures and so many bytes. Here alone a file that is read takes memory, and by
-/// these two numbers alone.
+/// Room for so many procedures and so many bytes. Here alone a file that is read takes memory, and
+/// by these two numbers alone.
 fn room(alloc: Global, procs: usize, bytes: usize) -> Result<(Vec<Proc>, Vec<u8>), AllocError>
-    ensures procs { IfOk result (λ r. (vec_len r.0 ≡ 0) × (r.0.items ≡ []) × (procs ≤ vec_capacity r.0)) }
-    ensures bytes { IfOk result (λ r. (vec_len r.1 ≡ 0) × (r.1.items ≡ []) × (bytes ≤ vec_capacity r.1)) }
+    ensures procs { IfOk result
+        (λ r. (vec_len r.0 ≡ 0) × (r.0.items ≡ []) × (procs ≤ vec_capacity r.0)) }
+    ensures bytes { IfOk result
+        (λ r. (vec_len r.1 ≡ 0) × (r.1.items ≡ []) × (bytes ≤ vec_capacity r.1)) }
 {
     Ok((
         Vec::with_capacity(alloc, procs)?,
@@ -83,7 +96,8 @@ fn room(alloc: Global, procs: usize, bytes: usize) -> Result<(Vec<Proc>, Vec<u8>
     ))
 }
 
-/// The procedures of a segment that passed the checks, in the order of their numbers, in room for them.
+/// The procedures of a segment that passed the checks, in the order of their numbers, in room for
+/// them.
 fn collected(room: Vec<Proc>, segment: &[u8], n: u8) -> Vec<Proc>
     requires empty { (vec_len room ≡ 0) × (room.items ≡ []) }
     requires room { n ≤ vec_capacity room }
@@ -132,11 +146,12 @@ fn name_of(bytes: &[u8], k: usize) -> [u8; 8]
     ]
 }
 
-/// All checks of a file in their order. The answer is the entry in use, the segment's bytes, and how many
-/// procedures it has; or the first check that fails.
+/// All checks of a file in their order. The answer is the entry in use, the segment's bytes, and
+/// how many procedures it has; or the first check that fails.
 #[tactic(auto, unfolding(crate::specs::Checks::read_from))]
 fn checked(bytes: &[u8]) -> Result<(usize, &[u8], u8), FileFault>
-    ensures value { MatchResult result (λ x. IsChecked bytes.now x.0 x.1.now x.2) (λ fault. read_from bytes.now ≡ Err fault) }
+    ensures value { MatchResult result (λ x. IsChecked bytes.now x.0 x.1.now x.2)
+        (λ fault. read_from bytes.now ≡ Err fault) }
     ensures entry { IfOk result (λ x. (x.0 < 16) × (512 ≤ length bytes.now)) }
     ensures size { IfOk result (λ x. (2 ≤ length x.1.now) × (length x.1.now < 2 ^ 16)) }
     ensures some { IfOk result (λ x. (0 < x.2) × (2 + 2 * x.2 ≤ length x.1.now)) }
@@ -150,7 +165,7 @@ fn checked(bytes: &[u8]) -> Result<(usize, &[u8], u8), FileFault>
 
 /// All checks in their order; then memory is taken.
 fn read_checked(alloc: Global, bytes: &[u8]) -> Result<CodeFile, FileFault>
-    ensures { Gives result (read_from bytes.now) }
+    ensures { GivesUnlessMemory result (read_from bytes.now) }
 {
     let (k, part, n) = checked(bytes)?;
     let (procs, segment) = room(alloc, usize::from(n), part.len())?;
@@ -168,9 +183,9 @@ impl CodeFile {
         // What is read is in the grammar.
         ensures found { IfOk result (InFile bytes.now) }
         // What is in the grammar is read, unless memory runs out.
-        ensures only { (p : Parts) → InFile bytes.now p → Gives result (Ok p) }
+        ensures only { (p : Parts) → InFile bytes.now p → GivesUnlessMemory result (Ok p) }
         // Which fault is the first.
-        ensures exact { Gives result (read_from bytes.now) }
+        ensures exact { GivesUnlessMemory result (read_from bytes.now) }
     {
         read_checked(alloc, bytes)
     }

@@ -4,7 +4,8 @@ use Rattle.pcode_frames.specs.declared.frame.Frame.{Frame}
 use Rattle.pcode_frames.specs.Frames.{link_at, up_from, link_up_of}
 
 -- Where one link is followed, one fewer is left.
-pub up_more : (frames : List Frame) (n done i link : ℕ) → done < n → link_at frames i ≡ Some link → up_from frames (n - done) i ≡ up_from frames (n - (done + 1)) link
+pub up_more : (frames : List Frame) (n done i link : ℕ) → done < n → link_at frames i ≡ Some link
+    → up_from frames (n - done) i ≡ up_from frames (n - (done + 1)) link
 up_more frames n done i link h e =
     let left : n - done ≡ suc (n - (done + 1)) = omega arith in
     rw left (rw e refl)

@@ -5,37 +5,40 @@ use Rattle.pcode_frames.specs.declared.frame.Frame.{Frame}
 use Rattle.pcode_frames.specs.declared.halt.Halt.{Halt}
 use Rattle.pcode_frames.specs.declared.halt.Halt.TheVariants.{Empty, Overflow, BadMemory}
 
--- The live words from word 1 on; the evaluation stack, its top first; the frames, the main frame first and the current one last.
-pub record Parts : Type 0 where
+-- The live words from word 1 on; the evaluation stack, its top first; the frames, the main frame
+-- first and the current one last.
+pub record Space : Type 0 where
   pub words : List ℕ
   pub stack : List ℕ
   pub frames : List Frame
 
-abbrev pub parts : List ℕ → List ℕ → List Frame → Parts
-parts words stack frames = record { words = words; stack = stack; frames = frames }
+abbrev pub space : List ℕ → List ℕ → List Frame → Space
+space words stack frames = record { words = words; stack = stack; frames = frames }
 
 -- what a call or a return answered, with the parts after it
-abbrev pub answered : {A : Type 0} → Result A Halt → Parts → Result Parts Halt
-answered (Ok a) p = Ok p
-answered (Err halt) p = Err halt
+abbrev pub space_if_ok : {A : Type 0} → Result A Halt → Space → Result Space Halt
+space_if_ok (Ok a) p = Ok p
+space_if_ok (Err halt) p = Err halt
 
 -- the frame that is executed, if there is one
 abbrev pub current_of : List Frame → Option Frame
 current_of frames = slice_get frames (length frames - 1)
 
--- whether one more frame of so many words does not fit: there are at most 1,024 frames, and 16,383 live words
-abbrev pub is_full : Parts → ℕ → Bool
+-- whether one more frame of so many words does not fit: there are at most 1,024 frames, and 16,383
+-- live words
+abbrev pub is_full : Space → ℕ → Bool
 is_full p size = nat_lt 1023 (length p.frames) || nat_lt 16383 (length p.words + size)
 
 -- the frame of a procedure above all live words
-abbrev pub frame_of : Parts → ℕ → ℕ → ℕ → ℕ → Frame
+abbrev pub frame_of : Space → ℕ → ℕ → ℕ → ℕ → Frame
 frame_of p procedure size link back =
     record { procedure = procedure; base = length p.words; size = size; link = link; back = back }
 
--- The parts after a call: the parameters leave the stack for the new frame, its old top for offset 1, the next for offset 2, and
--- the words of its data are zero. Too few words on the stack come before want of room.
-abbrev pub called : ℕ → ℕ → ℕ → ℕ → ℕ → Parts → Result Parts Halt
-called procedure params vars link back p =
+-- The parts after a call: the parameters leave the stack for the new frame, its old top for offset
+-- 1, the next for offset 2, and the words of its data are zero. Too few words on the stack come
+-- before want of room.
+abbrev pub space_after_call : ℕ → ℕ → ℕ → ℕ → ℕ → Space → Result Space Halt
+space_after_call procedure params vars link back p =
     if nat_lt (length p.stack) params then Err Empty
     else (if is_full p (params + vars) then Err Overflow
     else Ok (record {
@@ -45,13 +48,13 @@ called procedure params vars link back p =
     }))
 
 -- the parts with the main frame, of procedure 1, with so many words, all zero
-abbrev pub started : ℕ → Parts → Result Parts Halt
-started size p = called 1 0 size 0 0 p
+abbrev pub space_after_start : ℕ → Space → Result Space Halt
+space_after_start size p = space_after_call 1 0 size 0 0 p
 
--- The parts after a return from the frame with so many words of it, those at offsets n down to 1, pushed one after another. A word that
--- is not live comes before want of room.
-abbrev pub returned : ℕ → Frame → Parts → Result Parts Halt
-returned n frame p =
+-- The parts after a return from the frame with so many words of it, those at offsets n down to 1,
+-- pushed one after another. A word that is not live comes before want of room.
+abbrev pub space_after_ret : ℕ → Frame → Space → Result Space Halt
+space_after_ret n frame p =
     if nat_lt (length p.words) (frame.base + n) then Err BadMemory
     else (if nat_lt 1024 (length p.stack + n) then Err Overflow
     else Ok (record {
@@ -75,6 +78,7 @@ abbrev pub link_up_of : List Frame → ℕ → Option ℕ
 link_up_of [] n = None
 link_up_of (main ∷ frames) n = up_from (main ∷ frames) n (length frames)
 
--- what is true of the frames: each link is below its frame's index, and the main frame's, at index 0, is 0
+-- what is true of the frames: each link is below its frame's index, and the main frame's, at index
+-- 0, is 0
 pub record AreLinked (frames : List Frame) : Type 0 where
   pub below : (i : ℕ) → IfSome (slice_get frames i) (λ frame. frame.link ≤ i - 1)

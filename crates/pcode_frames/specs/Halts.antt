@@ -4,7 +4,7 @@ use Rattle.pcode_frames.specs.declared.halt.Halt.{Halt}
 use Rattle.pcode_frames.specs.declared.halt.Halt.TheVariants.{Empty, Overflow, BadMemory}
 
 -- the number of the execution error
-abbrev pub number_of : Halt → ℕ
-number_of Empty = 0
-number_of Overflow = 4
-number_of BadMemory = 7
+abbrev pub halt_number : Halt → ℕ
+halt_number Empty = 0
+halt_number Overflow = 4
+halt_number BadMemory = 7

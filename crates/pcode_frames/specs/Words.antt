@@ -3,9 +3,9 @@ use Rattle.std.specs.Prelude.{ℕ, zero, suc, ◌/◌, ◌%◌, ◌*◌, ◌+◌
 use Rattle.std.specs.Option.{option_map, option_map_or}
 
 -- the word at a word address, if it is live
-abbrev pub word_at : List ℕ → ℕ → Option ℕ
-word_at live zero = None
-word_at live (suc k) = slice_get live k
+abbrev pub live_word_at : List ℕ → ℕ → Option ℕ
+live_word_at live zero = None
+live_word_at live (suc k) = slice_get live k
 
 abbrev pub with_word : List ℕ → ℕ → ℕ → List ℕ
 with_word live zero value = live
@@ -16,20 +16,22 @@ abbrev pub half_of : ℕ → ℕ → ℕ
 half_of address word = if address % 2 == 0 then word % 256 else word / 256
 
 abbrev pub byte_from : List ℕ → ℕ → Option ℕ
-byte_from live address = option_map (half_of address) (word_at live (address / 2))
+byte_from live address = option_map (half_of address) (live_word_at live (address / 2))
 
 -- the byte at a byte address, if its word is live; a byte address is not taken modulo 65,536
-abbrev pub byte_at : List ℕ → ℤ → Option ℕ
-byte_at live (pos address) = byte_from live address
-byte_at live (negsuc below) = None
+abbrev pub live_byte_at : List ℕ → ℤ → Option ℕ
+live_byte_at live (pos address) = byte_from live address
+live_byte_at live (negsuc below) = None
 
 -- a word with one of its bytes replaced
 abbrev pub with_half : ℕ → ℕ → ℕ → ℕ
-with_half address word byte = if address % 2 == 0 then word / 256 * 256 + byte else byte * 256 + word % 256
+with_half address word byte =
+    if address % 2 == 0 then word / 256 * 256 + byte else byte * 256 + word % 256
 
 abbrev pub with_byte_from : List ℕ → ℕ → ℕ → List ℕ
 with_byte_from live address byte =
-    option_map_or (λ word. with_word live (address / 2) (with_half address word byte)) (word_at live (address / 2)) live
+    option_map_or (λ word. with_word live (address / 2) (with_half address word byte))
+    (live_word_at live (address / 2)) live
 
 abbrev pub with_byte : List ℕ → ℤ → ℕ → List ℕ
 with_byte live (pos address) byte = with_byte_from live address byte

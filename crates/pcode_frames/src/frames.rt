@@ -1,7 +1,7 @@
 //! Frames, and what a call, a return and a static link do.
 ghost use Rattle.std.specs.Prelude.{◌≡◌, ◌+◌, ◌-◌, ◌<◌, ◌≤◌, ℕ, List, [], ◌∷◌, ◌++◌, false, Some, IfOk, IfSome, MatchOption, OnErr, length, take, drop, slice_get};
 ghost use Rattle.pcode_frames.specs.declared.frame.Frame.{Frame};
-ghost use Rattle.pcode_frames.specs.Frames.{parts, answered, called, current_of, is_full, link_at, link_up_of, returned, started};
+ghost use Rattle.pcode_frames.specs.Frames.{space, space_if_ok, space_after_call, current_of, is_full, link_at, link_up_of, space_after_ret, space_after_start};
 
 use crate::frame::Frame;
 use crate::halt::Halt;
@@ -18,8 +18,8 @@ const MAX_BELOW: usize = 1023;
 pub struct Frames {
     /// The frames below the current one; none where there is no current one.
     below: Vec<Frame>,
-    /// The current frame. It stands apart, since an interpreter reads it before each instruction: here
-    /// that is a few loads out of the struct itself, and none from the heap.
+    /// The current frame. It stands apart, since an interpreter reads it before each instruction:
+    /// here that is a few loads out of the struct itself, and none from the heap.
     current: Option<Frame>,
 }
 
@@ -93,7 +93,7 @@ impl Frames {
     /// Whether one more frame of so many words does not fit.
     fn is_full(&self, memory: &Memory, size: u32) -> bool
         requires { size ≤ 131070 }
-        ensures value { result ≡ is_full (parts memory.now [] self.now) size }
+        ensures value { result ≡ is_full (space memory.now [] self.now) size }
         ensures frames { result ≡ false → length self.now < 1024 }
         ensures words { result ≡ false → length memory.now + size ≤ 16383 }
     {
@@ -120,13 +120,15 @@ impl Frames {
         self.current = self.below.pop();
     }
 
-    /// Makes the main frame, of procedure 1, with so many words, all zero, where there is no frame and no
-    /// live word yet. If they are more than 16,383 it refuses by `Halt::Overflow`, and changes nothing.
+    /// Makes the main frame, of procedure 1, with so many words, all zero, where there is no frame
+    /// and no live word yet. If they are more than 16,383 it refuses by `Halt::Overflow`, and
+    /// changes nothing.
     pub fn start(&mut self, memory: &mut Memory, words: u16) -> Result<(), Halt>
         requires frames { self.old ≡ [] }
         requires words { memory.old ≡ [] }
-        ensures value { (stack : List ℕ) →
-            started words (parts memory.old stack self.old) ≡ answered result (parts memory.new stack self.new) }
+        ensures value { (stack : List ℕ)
+            → space_after_start words (space memory.old stack self.old)
+            ≡ space_if_ok result (space memory.new stack self.new) }
         ensures err { OnErr result ((memory.new ≡ memory.old) × (self.new ≡ self.old)) }
     {
         if self.is_full(memory, u32::from(words)) {
@@ -145,9 +147,9 @@ impl Frames {
 
     /// Calls a procedure: its parameters, in words, leave the stack for a new frame above all live
     /// words, the top for offset 1 and the next for offset 2, and the words of its data follow, all
-    /// zero. The static link is the index of a frame that is there; `back` is the offset at which the
-    /// caller goes on, in bytes from the segment's start. With too few words on the stack it refuses by
-    /// `Halt::Empty`, else with 1,024 frames, or more than 16,383 words live then, by
+    /// zero. The static link is the index of a frame that is there; `back` is the offset at which
+    /// the caller goes on, in bytes from the segment's start. With too few words on the stack it
+    /// refuses by `Halt::Empty`, else with 1,024 frames, or more than 16,383 words live then, by
     /// `Halt::Overflow`. A refusal changes nothing.
     pub fn call(
         &mut self,
@@ -160,9 +162,11 @@ impl Frames {
         back: u32,
     ) -> Result<(), Halt>
         requires { link < length self.old }
-        ensures value { called procedure params vars link back (parts memory.old stack.old self.old)
-            ≡ answered result (parts memory.new stack.new self.new) }
-        ensures err { OnErr result ((memory.new ≡ memory.old) × (stack.new ≡ stack.old) × (self.new ≡ self.old)) }
+        ensures value { space_after_call procedure params vars link back
+            (space memory.old stack.old self.old)
+            ≡ space_if_ok result (space memory.new stack.new self.new) }
+        ensures err { OnErr result
+            ((memory.new ≡ memory.old) × (stack.new ≡ stack.old) × (self.new ≡ self.old)) }
     {
         if stack.len() < usize::from(params) {
             return Err(Halt::Empty);
@@ -184,17 +188,19 @@ impl Frames {
         Ok(())
     }
 
-    /// Returns from the current frame, which is not the main frame, and answers it. The frame's first
-    /// words, as many as are asked for, are pushed as results, offset 1 the last, and the frame and all
-    /// words above its base are gone. If one of the words is not live it refuses by `Halt::BadMemory`,
-    /// else if they do not fit on the stack by `Halt::Overflow`. A refusal changes nothing.
+    /// Returns from the current frame, which is not the main frame, and answers it. The frame's
+    /// first words, as many as are asked for, are pushed as results, offset 1 the last, and the
+    /// frame and all words above its base are gone. If one of the words is not live it refuses by
+    /// `Halt::BadMemory`, else if they do not fit on the stack by `Halt::Overflow`. A refusal
+    /// changes nothing.
     pub fn ret(&mut self, memory: &mut Memory, stack: &mut Stack, words: u16) -> Result<Frame, Halt>
         requires { 2 ≤ length self.old }
         ensures value { (frame : Frame) → current_of self.old ≡ Some frame →
-            returned words frame (parts memory.old stack.old self.old)
-            ≡ answered result (parts memory.new stack.new self.new) }
+            space_after_ret words frame (space memory.old stack.old self.old)
+            ≡ space_if_ok result (space memory.new stack.new self.new) }
         ensures frame { IfOk result (λ frame. current_of self.old ≡ Some frame) }
-        ensures err { OnErr result ((memory.new ≡ memory.old) × (stack.new ≡ stack.old) × (self.new ≡ self.old)) }
+        ensures err { OnErr result
+            ((memory.new ≡ memory.old) × (stack.new ≡ stack.old) × (self.new ≡ self.old)) }
     {
         let Some(frame) = self.current() else {
             unreachable!()

@@ -1,6 +1,6 @@
 //! Why a call, a return, a push or a pop is refused.
 ghost use Rattle.std.specs.Prelude.{◌≡◌};
-ghost use Rattle.pcode_frames.specs.Halts.{number_of};
+ghost use Rattle.pcode_frames.specs.Halts.{halt_number};
 
 use thiserror::Error;
 
@@ -21,7 +21,7 @@ pub enum Halt {
 impl Halt {
     /// The number of the execution error: 0, 4 or 7.
     pub fn number(self) -> u8
-        ensures { result ≡ number_of self }
+        ensures { result ≡ halt_number self }
     {
         match self {
             Halt::Empty => 0,

@@ -1,6 +1,6 @@
 //! Memory: words that are live, and their bytes.
 ghost use Rattle.std.specs.Prelude.{◌≡◌, ◌+◌, ◌<◌, ◌≤◌, [], ◌∷◌, ◌++◌, IfOk, length, is_some, replicate, take};
-ghost use Rattle.pcode_frames.specs.Words.{word_at, with_word, half_of, with_half, byte_from, byte_at, with_byte_from, with_byte};
+ghost use Rattle.pcode_frames.specs.Words.{live_word_at, with_word, half_of, with_half, byte_from, live_byte_at, with_byte_from, with_byte};
 
 use std::alloc::{AllocError, Global};
 use std::marker::Model;
@@ -8,8 +8,9 @@ use std::marker::Model;
 /// How many words of memory may be live.
 pub(crate) const LIVE_WORDS: usize = 16383;
 
-/// Memory, seen as the list of its live words from word 1 on; word 0 is never live. Its room is made
-/// with it, so that no other call takes memory. A new one has no live word: frames make words live.
+/// Memory, seen as the list of its live words from word 1 on; word 0 is never live. Its room is
+/// made with it, so that no other call takes memory. A new one has no live word: frames make words
+/// live.
 pub struct Memory {
     pub(crate) words: Vec<u16>,
 }
@@ -96,7 +97,7 @@ impl Memory {
 
     /// The word at a word address, if it is live.
     pub fn get(&self, word: u16) -> Option<u16>
-        ensures { result ≡ word_at self.now word }
+        ensures { result ≡ live_word_at self.now word }
     {
         let index = usize::from(word).checked_sub(1)?;
         self.words.get(index).copied()
@@ -105,7 +106,7 @@ impl Memory {
     /// Stores to a word, and says whether it is live: if it is not, nothing changes.
     pub fn put(&mut self, word: u16, value: u16) -> bool
         ensures value { self.new ≡ with_word self.old word value }
-        ensures live { result ≡ is_some (word_at self.old word) }
+        ensures live { result ≡ is_some (live_word_at self.old word) }
     {
         if word == 0 {
             return false;
@@ -131,10 +132,11 @@ impl Memory {
         Some(half_of(address, word))
     }
 
-    /// The byte at a byte address, if its word is live: the low byte of word k has address 2 * k, and
-    /// the high byte the next. An address is not taken modulo 65,536, and none that is negative is live.
+    /// The byte at a byte address, if its word is live: the low byte of word k has address 2 * k,
+    /// and the high byte the next. An address is not taken modulo 65,536, and none that is negative
+    /// is live.
     pub fn get_byte(&self, address: i32) -> Option<u8>
-        ensures { result ≡ byte_at self.now address }
+        ensures { result ≡ live_byte_at self.now address }
     {
         if address < 0 {
             return None;
@@ -164,7 +166,7 @@ impl Memory {
     /// changes. The other byte of the word stays.
     pub fn put_byte(&mut self, address: i32, value: u8) -> bool
         ensures value { self.new ≡ with_byte self.old address value }
-        ensures live { result ≡ is_some (byte_at self.old address) }
+        ensures live { result ≡ is_some (live_byte_at self.old address) }
     {
         if address < 0 {
             return false;

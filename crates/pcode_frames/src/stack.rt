@@ -9,8 +9,8 @@ use std::marker::Model;
 /// How many words the stack holds at most.
 pub const STACK_WORDS: usize = 1024;
 
-/// The evaluation stack, seen as the list of its words, the top first; at most 1,024. Its room is made
-/// with it, so that no other call takes memory.
+/// The evaluation stack, seen as the list of its words, the top first; at most 1,024. Its room is
+/// made with it, so that no other call takes memory.
 pub struct Stack {
     /// The words of the stack are the last of these 1,024, the top first.
     room: Vec<u16>,
@@ -109,7 +109,8 @@ impl Stack {
         self.free += words;
     }
 
-    /// Takes the top word off. Where there is none it refuses by `Halt::Empty`, and changes nothing.
+    /// Takes the top word off. Where there is none it refuses by `Halt::Empty`, and changes
+    /// nothing.
     #[inline(always)]
     pub fn pop(&mut self) -> Result<u16, Halt>
         ensures popped { IfOk result (λ word. self.old ≡ word ∷ self.new) }

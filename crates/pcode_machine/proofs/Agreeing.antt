@@ -4,7 +4,7 @@ use Rattle.pcode_machine.specs.declared.turn.Stop.{Stop}
 use Rattle.pcode_machine.specs.declared.turn.Stop.TheVariants.{Normal, Error}
 use Rattle.pcode_machine.specs.Configuration.{State}
 use Rattle.pcode_machine.specs.Effects.{Effect, Finish}
-use Rattle.pcode_machine.specs.Step.{Makes, FailsBy}
+use Rattle.pcode_machine.specs.Step.{HasEffect, FailsBy}
 use Rattle.pcode_machine.specs.declared.errors.ExecutionError.{ExecutionError}
 
 -- why an answer stops: N at the normal end, F of an error
@@ -21,7 +21,7 @@ pub record Agrees (N : Type 0) (A : State → Type 0) (F : ExecutionError → Ty
 
 -- what an effect's answer has to meet
 abbrev pub Meets : Effect → ℕ → State → Result State Stop → Type 0
-Meets x j s r = MatchResult r (Makes x j s) (Stopped (x ≡ Finish) (FailsBy x s))
+Meets x j s r = MatchResult r (HasEffect x j s) (Stopped (x ≡ Finish) (FailsBy x s))
 
 -- an option that is none is no value
 pub not_some : {A : Type 0} (o : Option A) (v : A) → o ≡ Some v → IsNone o → ⊥
@@ -47,11 +47,13 @@ pub below_two : {R : Type 0} (f : List ℕ → R) (r : R) → f [] ≡ r → ((a
 below_two f r none one [] h = none
 below_two f r none one (a ∷ rest) h = below_one (λ l. f (a ∷ l)) r (one a) rest (omega arith)
 
-pub below_three : {R : Type 0} (f : List ℕ → R) (r : R) → f [] ≡ r → ((a : ℕ) → f (a ∷ []) ≡ r) → ((a b : ℕ) → f (a ∷ b ∷ []) ≡ r) → (st : List ℕ) → length st < 3 → f st ≡ r
+pub below_three : {R : Type 0} (f : List ℕ → R) (r : R) → f [] ≡ r → ((a : ℕ) → f (a ∷ []) ≡ r)
+    → ((a b : ℕ) → f (a ∷ b ∷ []) ≡ r) → (st : List ℕ) → length st < 3 → f st ≡ r
 below_three f r none one two [] h = none
 below_three f r none one two (a ∷ rest) h = below_two (λ l. f (a ∷ l)) r (one a) (two a) rest (omega arith)
 
-pub below_four : {R : Type 0} (f : List ℕ → R) (r : R) → f [] ≡ r → ((a : ℕ) → f (a ∷ []) ≡ r) → ((a b : ℕ) → f (a ∷ b ∷ []) ≡ r) → ((a b c : ℕ) → f (a ∷ b ∷ c ∷ []) ≡ r)
+pub below_four : {R : Type 0} (f : List ℕ → R) (r : R) → f [] ≡ r → ((a : ℕ) → f (a ∷ []) ≡ r)
+    → ((a b : ℕ) → f (a ∷ b ∷ []) ≡ r) → ((a b c : ℕ) → f (a ∷ b ∷ c ∷ []) ≡ r)
     → (st : List ℕ) → length st < 4 → f st ≡ r
 below_four f r none one two three [] h = none
 below_four f r none one two three (a ∷ rest) h = below_three (λ l. f (a ∷ l)) r (one a) (two a) (three a) rest (omega arith)

@@ -6,7 +6,7 @@ use Rattle.std.proofs.lemmas.List.{length-take-le, length-drop, take-append-drop
 use Rattle.std.proofs.lemmas.Option.{slice_get_within}
 use Rattle.std.proofs.Math.Seq.{drop-append_seam}
 use Rattle.pcode_frames.specs.Blocks.{block_of, with_block}
-use Rattle.pcode_frames.specs.Words.{word_at}
+use Rattle.pcode_frames.specs.Words.{live_word_at}
 use Rattle.pcode_machine.specs.declared.turn.Stop.{Stop}
 use Rattle.pcode_machine.specs.declared.turn.Stop.TheVariants.{Error}
 use Rattle.pcode_machine.specs.declared.errors.ExecutionError.TheVariants.{NoRoom, BadAddress}
@@ -56,20 +56,25 @@ block_there live pointer n e = grind (arith, nat_tests)
 none_placed : (live : List ℕ) (word : ℕ) → with_block live word [] ≡ live
 none_placed live word = let none : word - 1 + 0 ≡ word - 1 = omega arith in rw none (take-append-drop (word - 1) live)
 
-below_placed : (live : List ℕ) (a : ℕ) (rest : List ℕ) → length (take a live) ≡ a → (w : ℕ) → w < suc a → word_at (take a live ++ rest) w ≡ word_at live w
+below_placed : (live : List ℕ) (a : ℕ) (rest : List ℕ) → length (take a live) ≡ a → (w : ℕ) → w < suc a
+    → live_word_at (take a live ++ rest) w ≡ live_word_at live w
 below_placed live a rest front zero lt = refl
-below_placed live a rest front (suc i) lt = get_first (take a live) rest i (omega (arith, lt, front)) ∙ get_take a live i (omega (arith, lt))
+below_placed live a rest front (suc i) lt =
+    get_first (take a live) rest i (omega (arith, lt, front)) ∙ get_take a live i (omega (arith, lt))
 
-above_placed : (live : List ℕ) (a n : ℕ) (block : List ℕ) → length (take a live) ≡ a → length block ≡ n → (w : ℕ) → suc a + n ≤ w → word_at (take a live ++ (block ++ drop (a + n) live)) w ≡ word_at live w
+above_placed : (live : List ℕ) (a n : ℕ) (block : List ℕ) → length (take a live) ≡ a → length block ≡ n → (w : ℕ)
+    → suc a + n ≤ w → live_word_at (take a live ++ (block ++ drop (a + n) live)) w ≡ live_word_at live w
 above_placed live a n block front e zero le = absurd (omega (arith, le))
 above_placed live a n block front e (suc i) le =
     let m = i - (a + n) in
     let here : i ≡ a + (n + m) = omega (arith, le) in
     let sum : a + n + m ≡ a + (n + m) = omega arith in
     let P : ℕ → Type 0 = λ k. slice_get (take a live ++ (block ++ drop (a + n) live)) k ≡ slice_get live k in
-    subst P (sym here) (get_behind (take a live) (block ++ drop (a + n) live) a (n + m) front ∙ (get_behind block (drop (a + n) live) n m e ∙ (get_drop (a + n) live m ∙ ap (λ k. slice_get live k) sum)))
+    subst P (sym here) (get_behind (take a live) (block ++ drop (a + n) live) a (n + m) front
+    ∙ (get_behind block (drop (a + n) live) n m e ∙ (get_drop (a + n) live m ∙ ap (λ k. slice_get live k) sum)))
 
-some_placed : (live : List ℕ) (a n : ℕ) (block : List ℕ) → length block ≡ n → a + n ≤ length live → HasBlock live (with_block live (suc a) block) (suc a) n (slice_get block)
+some_placed : (live : List ℕ) (a n : ℕ) (block : List ℕ) → length block ≡ n → a + n ≤ length live
+    → HasBlock live (with_block live (suc a) block) (suc a) n (slice_get block)
 some_placed live a n block e h =
     let front : length (take a live) ≡ a = length-take-le a live (omega (arith, h)) in
     let rest = block ++ drop (a + n) live in
@@ -84,10 +89,12 @@ some_placed live a n block e h =
       above = above_placed live a n block front e;
     })
 
-placed_block : (live : List ℕ) (word n : ℕ) (block : List ℕ) → length block ≡ n → (n ≡ 0) ⊎ IsThere live word n → HasBlock live (with_block live word block) word n (slice_get block)
+placed_block : (live : List ℕ) (word n : ℕ) (block : List ℕ) → length block ≡ n → (n ≡ 0) ⊎ IsThere live word n
+    → HasBlock live (with_block live word block) word n (slice_get block)
 placed_block live word n [] e (inl none) =
     let P : List ℕ → Type 0 = λ new. HasBlock live new word n (slice_get []) in
-    subst P (sym (none_placed live word)) (record { inside = λ k lt. absurd (omega (arith, lt, none)); below = λ w lt. refl; above = λ w le. refl })
+    subst P (sym (none_placed live word))
+    (record { inside = λ k lt. absurd (omega (arith, lt, none)); below = λ w lt. refl; above = λ w le. refl })
 placed_block live word n (x ∷ xs) e (inl none) = absurd (omega (arith, e, none))
 placed_block live zero n block e (inr there) = absurd (omega (arith, there.above))
 placed_block live (suc a) n block e (inr there) = some_placed live a n block e (omega (arith, there.within))
@@ -96,7 +103,8 @@ block_length : (live : List ℕ) (word n : ℕ) → (n ≡ 0) ⊎ IsThere live w
 block_length live word n (inl none) = rw none refl
 block_length live word n (inr there) = length-take-le n (drop (word - 1) live) (omega (arith, length-drop (word - 1) live, there.within))
 
-block_get : (live : List ℕ) (word n : ℕ) → (n ≡ 0) ⊎ IsThere live word n → (k : ℕ) → k < n → slice_get (block_of live word n) k ≡ word_at live (word + k)
+block_get : (live : List ℕ) (word n : ℕ) → (n ≡ 0) ⊎ IsThere live word n → (k : ℕ) → k < n
+    → slice_get (block_of live word n) k ≡ live_word_at live (word + k)
 block_get live word n (inl none) k lt = absurd (omega (arith, lt, none))
 block_get live zero n (inr there) k lt = absurd (omega (arith, there.above))
 block_get live (suc b) n (inr there) k lt =
@@ -105,36 +113,46 @@ block_get live (suc b) n (inr there) k lt =
     rw (at, before) (get_take n (drop b live) k lt ∙ get_drop b live k)
 
 -- the same block, by other words for each index
-same_block : (old new : List ℕ) (word n : ℕ) (f g : ℕ → Option ℕ) → HasBlock old new word n f → ((k : ℕ) → k < n → f k ≡ g k) → HasBlock old new word n g
+same_block : (old new : List ℕ) (word n : ℕ) (f g : ℕ → Option ℕ) → HasBlock old new word n f
+    → ((k : ℕ) → k < n → f k ≡ g k) → HasBlock old new word n g
 same_block old new word n f g h e = record { inside = λ k lt. h.inside k lt ∙ e k lt; below = h.below; above = h.above }
 
 pub moved : (n j from to : ℕ) (s t : State) (rest : List ℕ) → block_moved n j s (from ∷ to ∷ rest) ≡ Ok t
-    → HasBlock s.words t.words (to / 2) n (λ k. word_at s.words (from / 2 + k)) × (t.stack ≡ rest)
+    → HasBlock s.words t.words (to / 2) n (λ k. live_word_at s.words (from / 2 + k)) × (t.stack ≡ rest)
 moved n j from to s t rest e =
     let block = block_of s.words (from / 2) n in
-    let h = by_test (is_block s.words from n && is_block s.words to n) (record s { words = with_block s.words (to / 2) block; stack = rest; next = j }) t (Error BadAddress) e in
+    let h =
+    by_test (is_block s.words from n && is_block s.words to n)
+    (record s { words = with_block s.words (to / 2) block; stack = rest; next = j }) t (Error BadAddress) e in
     let both = and_parts _ _ h.0 in
     let here = block_there s.words from n both.0 in
-    let P : State → Type 0 = λ u. HasBlock s.words u.words (to / 2) n (λ k. word_at s.words (from / 2 + k)) × (u.stack ≡ rest) in
+    let P : State → Type 0 = λ u. HasBlock s.words u.words (to / 2) n (λ k. live_word_at s.words (from / 2 + k)) × (u.stack ≡ rest) in
     subst P h.1 (
-      same_block _ _ _ _ (slice_get block) (λ k. word_at s.words (from / 2 + k)) (placed_block s.words (to / 2) n block (block_length s.words (from / 2) n here) (block_there s.words to n both.1))
+      same_block _ _ _ _ (slice_get block) (λ k. live_word_at s.words (from / 2 + k))
+          (placed_block s.words (to / 2) n block (block_length s.words (from / 2) n here)
+          (block_there s.words to n both.1))
           (block_get s.words (from / 2) n here),
       refl,
     )
 
-by_two : (b c : Bool) (x t : State) (stop other : Stop) → (if b then (if c then Err stop else Ok x) else Err other) ≡ Ok t → (b ≡ true) × (x ≡ t)
+by_two : (b c : Bool) (x t : State) (stop other : Stop)
+    → (if b then (if c then Err stop else Ok x) else Err other) ≡ Ok t → (b ≡ true) × (x ≡ t)
 by_two true true x t stop other e = absurd cc
 by_two true false x t stop other e = (refl, cc)
 by_two false c x t stop other e = absurd cc
 
 pub loaded : (n j pointer : ℕ) (s t : State) (rest : List ℕ) → block_loaded n j s (pointer ∷ rest) ≡ Ok t
-    → ((k : ℕ) → k < n → slice_get t.stack k ≡ word_at s.words (pointer / 2 + k)) × (drop n t.stack ≡ rest) × (t.words ≡ s.words)
+    → ((k : ℕ) → k < n → slice_get t.stack k ≡ live_word_at s.words (pointer / 2 + k)) × (drop n t.stack ≡ rest) × (t.words ≡ s.words)
 loaded n j pointer s t rest e =
     let block = block_of s.words (pointer / 2) n in
-    let h = by_two (is_block s.words pointer n) (nat_lt 1024 (length rest + n)) (record s { stack = block ++ rest; next = j }) t (Error NoRoom) (Error BadAddress) e in
+    let h =
+    by_two (is_block s.words pointer n) (nat_lt 1024 (length rest + n))
+    (record s { stack = block ++ rest; next = j }) t (Error NoRoom) (Error BadAddress) e in
     let here = block_there s.words pointer n h.0 in
     let count = block_length s.words (pointer / 2) n here in
-    let P : State → Type 0 = λ u. ((k : ℕ) → k < n → slice_get u.stack k ≡ word_at s.words (pointer / 2 + k)) × (drop n u.stack ≡ rest) × (u.words ≡ s.words) in
+    let P : State → Type 0 =
+    λ u. ((k : ℕ) → k < n → slice_get u.stack k ≡ live_word_at s.words (pointer / 2 + k)) × (drop n u.stack ≡ rest)
+    × (u.words ≡ s.words) in
     let Q : ℕ → Type 0 = λ m. drop m (block ++ rest) ≡ rest in
     subst P h.1 (
       λ k lt. get_first block rest k (omega (arith, lt, count)) ∙ block_get s.words (pointer / 2) n here k lt,
@@ -147,7 +165,15 @@ pub stored : (n j pointer : ℕ) (s t : State) → slice_get s.stack n ≡ Some 
 stored n j pointer s t at e =
     let block = take n s.stack in
     let R : Option ℕ → Type 0 = λ o. block_stored_at o n j s ≡ Ok t in
-    let h = by_test (is_block s.words pointer n) (record s { words = with_block s.words (pointer / 2) block; stack = drop (n + 1) s.stack; next = j }) t (Error BadAddress) (subst R at e) in
+    let h =
+    by_test (is_block s.words pointer n)
+    (record s { words = with_block s.words (pointer / 2) block; stack = drop (n + 1) s.stack; next = j }) t
+    (Error BadAddress) (subst R at e) in
     let count = length-take-le n s.stack (omega (arith, slice_get_within s.stack n pointer at)) in
     let P : State → Type 0 = λ u. HasBlock s.words u.words (pointer / 2) n (λ k. slice_get s.stack k) × (u.stack ≡ drop (n + 1) s.stack) in
-    subst P h.1 (same_block _ _ _ _ (slice_get block) (λ k. slice_get s.stack k) (placed_block s.words (pointer / 2) n block count (block_there s.words pointer n h.0)) (get_take n s.stack), refl)
+    subst P h.1 (
+      same_block _ _ _ _ (slice_get block) (λ k. slice_get s.stack k)
+          (placed_block s.words (pointer / 2) n block count (block_there s.words pointer n h.0))
+          (get_take n s.stack),
+      refl,
+    )

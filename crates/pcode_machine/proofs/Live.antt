@@ -3,14 +3,14 @@ use Rattle.std.proofs.Common.{◌≡◌, ℕ, zero, suc, ◌/◌, ◌≤◌, Lis
 use Rattle.std.proofs.lemmas.Bool.Decides.{nat_tests}
 use Rattle.std.proofs.lemmas.Option.{slice_get_within}
 use Rattle.std.specs.Option.{option_map}
-use Rattle.pcode_frames.specs.Words.{word_at, half_of, byte_at}
+use Rattle.pcode_frames.specs.Words.{live_word_at, half_of, live_byte_at}
 
 -- a live word lies within memory
-live_word : (live : List ℕ) (w v : ℕ) → word_at live w ≡ Some v → w ≤ length live
+live_word : (live : List ℕ) (w v : ℕ) → live_word_at live w ≡ Some v → w ≤ length live
 live_word live zero v e = absurd cc
 live_word live (suc k) v e = slice_get_within live k v e
 
-live_by : (live : List ℕ) (a : ℕ) (o : Option ℕ) → word_at live (a / 2) ≡ o → IsSome (option_map (half_of a) o) → a / 2 ≤ length live
+live_by : (live : List ℕ) (a : ℕ) (o : Option ℕ) → live_word_at live (a / 2) ≡ o → IsSome (option_map (half_of a) o) → a / 2 ≤ length live
 live_by live a None e h = absurd cc
 live_by live a (Some v) e h = live_word live (a / 2) v e
 
@@ -18,6 +18,7 @@ live_by live a (Some v) e h = live_word live (a / 2) v e
 bound : (a : ℕ) → a ≤ 32767 → T (leb a 32767)
 bound a h = grind (arith, nat_tests)
 
-pub live_address : (live : List ℕ) (a : ℤ) → length live ≤ 16383 → IsSome (byte_at live a) → a ≤ℤ pos 32767
-live_address live (pos a) few h = let within = live_by live a (word_at live (a / 2)) refl h in record { le = bound a (omega (arith, within, few)) }
+pub live_address : (live : List ℕ) (a : ℤ) → length live ≤ 16383 → IsSome (live_byte_at live a) → a ≤ℤ pos 32767
+live_address live (pos a) few h = let within =
+    live_by live a (live_word_at live (a / 2)) refl h in record { le = bound a (omega (arith, within, few)) }
 live_address live (negsuc a) few h = absurd cc

@@ -3,13 +3,13 @@ use Rattle.std.proofs.Common.{◌≡◌, ℕ, ◌+◌, ltb, length, Option, Some
 use Rattle.pcode_file.specs.Parts.{Parts}
 use Rattle.pcode_ops.specs.declared.instr.Instr.{Instr}
 use Rattle.pcode_frames.specs.declared.frame.Frame.{Frame}
-use Rattle.pcode_frames.specs.Words.{word_at}
+use Rattle.pcode_frames.specs.Words.{live_word_at}
 use Rattle.pcode_machine.specs.declared.turn.Stop.{Stop}
 use Rattle.pcode_machine.specs.declared.turn.Stop.TheVariants.{Error}
 use Rattle.pcode_machine.specs.Configuration.{State}
 use Rattle.pcode_machine.specs.Effects.{Effect, Push, Load, Store, Fetch, StoreAt, MoveBlock, LoadBlock, StoreBlock, LoadByte, StoreByte, IndexField, LoadField, StoreField, Replace, Combine, Check, Go, Branch, BranchByTwo, Call, Return, Begin, Fail, Finish, Nowhere, effect_of}
 use Rattle.pcode_machine.specs.Execute.{made, execute}
-use Rattle.pcode_machine.specs.Step.{Makes, Executes, FailsBy, FailsWith}
+use Rattle.pcode_machine.specs.Step.{HasEffect, Executes, FailsBy, FailsWith}
 use Rattle.pcode_machine.proofs.Agreeing.{Stopped, Agrees, Meets}
 use Rattle.pcode_machine.proofs.RelatedWords.{push_holds, push_goes, push_fails, load_holds, load_fails, store_holds, store_fails, fetch_holds, fetch_fails, store_at_holds, store_at_fails}
 use Rattle.pcode_machine.proofs.RelatedBlocks.{move_holds, move_fails, load_block_holds, load_block_goes, load_block_fails, store_block_holds, store_block_fails, load_byte_holds, load_byte_fails, store_byte_holds, store_byte_fails}
@@ -24,7 +24,7 @@ IsMet x j s o = MatchOption o (Unit {0}) (λ r. Meets x j s r)
 
 holds : (x : Effect) (j : ℕ) (s : State) → IsMet x j s (made x j s)
 holds (Push n) j s = push_holds n j s (ltb (length s.stack) 1024) refl
-holds (Load n) j s = load_holds n j s (word_at s.words n) refl
+holds (Load n) j s = load_holds n j s (live_word_at s.words n) refl
 holds (Store n) j s = store_holds n j s s.stack refl
 holds (Fetch n) j s = fetch_holds n j s s.stack refl
 holds StoreAt j s = store_at_holds j s s.stack refl
@@ -42,7 +42,9 @@ holds Check j s = check_holds j s s.stack refl
 holds (Go offset) j s = refl
 holds (Branch to) j s = branch_holds to j s s.stack refl
 holds (BranchByTwo to) j s = branch_two_holds to j s s.stack refl
-holds (Call n q k) j s = enter_by n q k j s (ltb (length s.stack) q.params) (ltb 1023 (length s.frames)) (ltb 16383 (length s.words + (q.params + q.vars))) refl refl refl
+holds (Call n q k) j s =
+    enter_by n q k j s (ltb (length s.stack) q.params) (ltb 1023 (length s.frames))
+    (ltb 16383 (length s.words + (q.params + q.vars))) refl refl refl
 holds (Return n f) j s = leave_by n f j s (ltb (length s.words) (f.base + n)) (ltb 1024 (length s.stack + n)) refl refl
 holds (Begin d) j s = begin_holds d j s s.stack refl
 holds (Fail n) j s = refl
@@ -53,7 +55,7 @@ holds Nowhere j s = tt
 some_is : (r q : Result State Stop) → r ≡ q → Some r ≡ Some q
 some_is r q e = rw e refl
 
-goes : (x : Effect) (j : ℕ) (s t : State) → Makes x j s t → made x j s ≡ Some (Ok t)
+goes : (x : Effect) (j : ℕ) (s t : State) → HasEffect x j s t → made x j s ≡ Some (Ok t)
 goes (Push n) j s t h = some_is _ _ (push_goes n j s t h)
 goes (Load n) j s t h = rw (h.1, push_goes h.0 j s t h.2) refl
 goes (Store n) j s t h = rw (h.2, h.3, h.4) refl
@@ -82,7 +84,7 @@ goes Nowhere j s t h = absurd h
 
 fails : (x : Effect) (j : ℕ) (e : ExecutionError) (s : State) → FailsBy x s e → made x j s ≡ Some (Err (Error e))
 fails (Push n) j e s h = some_is _ _ (rw h.0 (push_fails n j s h.1))
-fails (Load n) j e s h = some_is _ _ (load_fails n j e s (word_at s.words n) refl h)
+fails (Load n) j e s h = some_is _ _ (load_fails n j e s (live_word_at s.words n) refl h)
 fails (Store n) j e s h = some_is _ _ (store_fails n j e s s.stack refl h)
 fails (Fetch n) j e s h = some_is _ _ (fetch_fails n j e s h)
 fails StoreAt j e s h = some_is _ _ (store_at_fails j e s h)
@@ -114,4 +116,9 @@ Fails p f i j s = Stopped (effect_of p f i j s ≡ Finish) (FailsWith p f i j s)
 -- what the function answers for an instruction agrees with its relations
 pub execute_agrees : (p : Parts) (f : Frame) (i : Instr) (j : ℕ) (s : State)
     → Agrees (effect_of p f i j s ≡ Finish) (Executes p f i j s) (FailsWith p f i j s) (execute p f i j s)
-execute_agrees p f i j s = record { holds = holds (effect_of p f i j s) j s; goes = goes (effect_of p f i j s) j s; fails = λ e. fails (effect_of p f i j s) j e s }
+execute_agrees p f i j s =
+    record {
+      holds = holds (effect_of p f i j s) j s;
+      goes = goes (effect_of p f i j s) j s;
+      fails = λ e. fails (effect_of p f i j s) j e s;
+    }

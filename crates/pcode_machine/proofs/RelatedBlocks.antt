@@ -2,7 +2,7 @@
 use Rattle.std.proofs.Common.{◌≡◌, ℕ, ◌+◌, ◌/◌, ◌%◌, ◌<◌, ◌≤◌, Bool, true, false, ◌&&◌, cond, ltb, List, [], ◌∷◌, ◌++◌, length, take, drop, Option, Some, None, is_some, Ok, Err, slice_get, refl, arith, inl, inr}
 use Rattle.std.proofs.lemmas.Option.{slice_get_past}
 use Rattle.std.proofs.lemmas.Bool.{ltb-true, ltb-false, lt-ltb, le-ltb}
-use Rattle.pcode_frames.specs.Words.{byte_at, with_byte}
+use Rattle.pcode_frames.specs.Words.{live_byte_at, with_byte}
 use Rattle.pcode_frames.specs.Blocks.{block_of, with_block}
 use Rattle.pcode_machine.specs.declared.turn.Stop.TheVariants.{Error}
 use Rattle.pcode_machine.specs.Configuration.{State}
@@ -17,9 +17,12 @@ use Rattle.pcode_machine.specs.declared.errors.ExecutionError.{ExecutionError}
 
 -- ---- words are copied
 
-move_by : (n j from to : ℕ) (s : State) (rest : List ℕ) (b c : Bool) → s.stack ≡ from ∷ to ∷ rest → is_block s.words from n ≡ b → is_block s.words to n ≡ c
+move_by : (n j from to : ℕ) (s : State) (rest : List ℕ) (b c : Bool) → s.stack ≡ from ∷ to ∷ rest
+    → is_block s.words from n ≡ b → is_block s.words to n ≡ c
     → Meets (MoveBlock n) j s
-    (cond (b && c) (Ok (record s { words = with_block s.words (to / 2) (block_of s.words (from / 2) n); stack = rest; next = j })) (Err (Error BadAddress)))
+    (cond (b && c) (Ok (record s
+    { words = with_block s.words (to / 2) (block_of s.words (from / 2) n); stack = rest; next = j }))
+    (Err (Error BadAddress)))
 move_by n j from to s rest true true e f g = (from, to, rest, e, f, g, refl)
 move_by n j from to s rest true false e f g = inr (refl, from, to, rest, e, rw (f, g) refl)
 move_by n j from to s rest false c e f g = inr (refl, from, to, rest, e, rw f refl)
@@ -35,9 +38,11 @@ move_fails n j e s (inr h) = rw (h.4, h.5, h.0) refl
 
 -- ---- words take a pointer's place
 
-load_by : (n j pointer : ℕ) (s : State) (rest : List ℕ) (b c : Bool) → s.stack ≡ pointer ∷ rest → is_block s.words pointer n ≡ b → ltb 1024 (length rest + n) ≡ c
+load_by : (n j pointer : ℕ) (s : State) (rest : List ℕ) (b c : Bool) → s.stack ≡ pointer ∷ rest
+    → is_block s.words pointer n ≡ b → ltb 1024 (length rest + n) ≡ c
     → Meets (LoadBlock n) j s
-    (cond b (cond c (Err (Error NoRoom)) (Ok (record s { stack = block_of s.words (pointer / 2) n ++ rest; next = j }))) (Err (Error BadAddress)))
+    (cond b (cond c (Err (Error NoRoom)) (Ok (record s { stack = block_of s.words (pointer / 2) n ++ rest; next = j })))
+    (Err (Error BadAddress)))
 load_by n j pointer s rest true true e f g = inr (pointer, rest, e, inr (refl, f, ltb-true 1024 (length rest + n) g))
 load_by n j pointer s rest true false e f g = (pointer, rest, e, f, ltb-false 1024 (length rest + n) g, refl)
 load_by n j pointer s rest false c e f g = inr (pointer, rest, e, inl (refl, f))
@@ -46,7 +51,8 @@ pub load_block_holds : (n j : ℕ) (s : State) (st : List ℕ) → s.stack ≡ s
 load_block_holds n j s [] e = inl (refl, rw e (omega arith))
 load_block_holds n j s (pointer ∷ rest) e = load_by n j pointer s rest (is_block s.words pointer n) (ltb 1024 (length rest + n)) e refl refl
 
-pub load_block_goes : (n j pointer : ℕ) (s t : State) (rest : List ℕ) → s.stack ≡ pointer ∷ rest → is_block s.words pointer n ≡ true → length rest + n ≤ 1024
+pub load_block_goes : (n j pointer : ℕ) (s t : State) (rest : List ℕ) → s.stack ≡ pointer ∷ rest
+    → is_block s.words pointer n ≡ true → length rest + n ≤ 1024
     → t ≡ record s { stack = block_of s.words (pointer / 2) n ++ rest; next = j } → block_loaded n j s s.stack ≡ Ok t
 load_block_goes n j pointer s t rest e live room is = rw (e, live, le-ltb 1024 (length rest + n) room, is) refl
 
@@ -61,7 +67,10 @@ past_end : (st : List ℕ) (n : ℕ) → slice_get st n ≡ None → length st <
 past_end st n e = omega (arith, get_none st n e)
 
 store_by : (n j pointer : ℕ) (s : State) (b : Bool) → slice_get s.stack n ≡ Some pointer → is_block s.words pointer n ≡ b
-    → Meets (StoreBlock n) j s (cond b (Ok (record s { words = with_block s.words (pointer / 2) (take n s.stack); stack = drop (n + 1) s.stack; next = j })) (Err (Error BadAddress)))
+    → Meets (StoreBlock n) j s
+    (cond b (Ok (record s
+    { words = with_block s.words (pointer / 2) (take n s.stack); stack = drop (n + 1) s.stack; next = j }))
+    (Err (Error BadAddress)))
 store_by n j pointer s true e f = (pointer, e, f, refl)
 store_by n j pointer s false e f = inr (refl, pointer, e, f)
 
@@ -75,7 +84,8 @@ store_block_fails n j e s (inr h) = rw (h.2, h.3, h.0) refl
 
 -- ---- bytes
 
-byte_by : (j index base : ℕ) (s : State) (rest : List ℕ) (o : Option ℕ) → s.stack ≡ index ∷ base ∷ rest → byte_at s.words (byte_address base index) ≡ o
+byte_by : (j index base : ℕ) (s : State) (rest : List ℕ) (o : Option ℕ) → s.stack ≡ index ∷ base ∷ rest
+    → live_byte_at s.words (byte_address base index) ≡ o
     → Meets LoadByte j s (byte_pushed o j s rest)
 byte_by j index base s rest None e f = inr (refl, index, base, rest, e, rw f refl)
 byte_by j index base s rest (Some b) e f = (index, base, rest, b, e, f, refl)
@@ -83,15 +93,18 @@ byte_by j index base s rest (Some b) e f = (index, base, rest, b, e, f, refl)
 pub load_byte_holds : (j : ℕ) (s : State) (st : List ℕ) → s.stack ≡ st → Meets LoadByte j s (byte_loaded j s st)
 load_byte_holds j s [] e = inl (refl, rw e (omega arith))
 load_byte_holds j s (index ∷ []) e = inl (refl, rw e (omega arith))
-load_byte_holds j s (index ∷ base ∷ rest) e = byte_by j index base s rest (byte_at s.words (byte_address base index)) e refl
+load_byte_holds j s (index ∷ base ∷ rest) e = byte_by j index base s rest (live_byte_at s.words (byte_address base index)) e refl
 
 pub load_byte_fails : (j : ℕ) (e : ExecutionError) (s : State) → FailsBy LoadByte s e → byte_loaded j s s.stack ≡ Err (Error e)
 load_byte_fails j e s (inl h) = rw (below_two (byte_loaded j s) _ refl (λ v. refl) s.stack h.1, h.0) refl
 load_byte_fails j e s (inr h) = rw (h.4, none_is _ h.5, h.0) refl
 
-byte_to : (j v index base : ℕ) (s : State) (rest : List ℕ) (o : Option ℕ) → s.stack ≡ v ∷ index ∷ base ∷ rest → byte_at s.words (byte_address base index) ≡ o
+byte_to : (j v index base : ℕ) (s : State) (rest : List ℕ) (o : Option ℕ) → s.stack ≡ v ∷ index ∷ base ∷ rest
+    → live_byte_at s.words (byte_address base index) ≡ o
     → Meets StoreByte j s
-    (cond (is_some o) (Ok (record s { words = with_byte s.words (byte_address base index) (v % 256); stack = rest; next = j })) (Err (Error BadAddress)))
+    (cond (is_some o) (Ok
+    (record s { words = with_byte s.words (byte_address base index) (v % 256); stack = rest; next = j }))
+    (Err (Error BadAddress)))
 byte_to j v index base s rest None e f = inr (refl, v, index, base, rest, e, rw f refl)
 byte_to j v index base s rest (Some b) e f = (v, index, base, rest, e, rw f refl, refl)
 
@@ -99,7 +112,7 @@ pub store_byte_holds : (j : ℕ) (s : State) (st : List ℕ) → s.stack ≡ st 
 store_byte_holds j s [] e = inl (refl, rw e (omega arith))
 store_byte_holds j s (v ∷ []) e = inl (refl, rw e (omega arith))
 store_byte_holds j s (v ∷ index ∷ []) e = inl (refl, rw e (omega arith))
-store_byte_holds j s (v ∷ index ∷ base ∷ rest) e = byte_to j v index base s rest (byte_at s.words (byte_address base index)) e refl
+store_byte_holds j s (v ∷ index ∷ base ∷ rest) e = byte_to j v index base s rest (live_byte_at s.words (byte_address base index)) e refl
 
 pub store_byte_fails : (j : ℕ) (e : ExecutionError) (s : State) → FailsBy StoreByte s e → byte_stored j s s.stack ≡ Err (Error e)
 store_byte_fails j e s (inl h) = rw (below_three (byte_stored j s) _ refl (λ v. refl) (λ v w. refl) s.stack h.1, h.0) refl

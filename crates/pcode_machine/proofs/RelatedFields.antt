@@ -14,13 +14,21 @@ use Rattle.pcode_machine.proofs.Agreeing.{Meets, below_two, below_three, below_f
 
 -- ---- IXP
 
-index_room : (e w j index pointer : ℕ) (s : State) (rest : List ℕ) (b : Bool) → s.stack ≡ index ∷ pointer ∷ rest → ltb index 32768 ≡ true → ltb (length rest + 2) 1024 ≡ b
-    → Meets (IndexField e w) j s (cond b (Ok (record s { stack = index % e * w ∷ w ∷ behind pointer (index / e) ∷ rest; next = j })) (Err (Error NoRoom)))
-index_room e w j index pointer s rest true is small room = (index, pointer, rest, is, ltb-true index 32768 small, ltb-true (length rest + 2) 1024 room, refl)
-index_room e w j index pointer s rest false is small room = inr (index, pointer, rest, is, inr (refl, ltb-true index 32768 small, ltb-false (length rest + 2) 1024 room))
+index_room : (e w j index pointer : ℕ) (s : State) (rest : List ℕ) (b : Bool) → s.stack ≡ index ∷ pointer ∷ rest
+    → ltb index 32768 ≡ true → ltb (length rest + 2) 1024 ≡ b
+    → Meets (IndexField e w) j s
+    (cond b (Ok (record s { stack = index % e * w ∷ w ∷ behind pointer (index / e) ∷ rest; next = j }))
+    (Err (Error NoRoom)))
+index_room e w j index pointer s rest true is small room =
+    (index, pointer, rest, is, ltb-true index 32768 small, ltb-true (length rest + 2) 1024 room, refl)
+index_room e w j index pointer s rest false is small room =
+    inr (index, pointer, rest, is, inr (refl, ltb-true index 32768 small, ltb-false (length rest + 2) 1024 room))
 
 index_by : (e w j index pointer : ℕ) (s : State) (rest : List ℕ) (b : Bool) → s.stack ≡ index ∷ pointer ∷ rest → ltb index 32768 ≡ b
-    → Meets (IndexField e w) j s (cond b (cond (ltb (length rest + 2) 1024) (Ok (record s { stack = index % e * w ∷ w ∷ behind pointer (index / e) ∷ rest; next = j })) (Err (Error NoRoom))) (Err (Error OutOfRange)))
+    → Meets (IndexField e w) j s
+    (cond b (cond (ltb (length rest + 2) 1024)
+    (Ok (record s { stack = index % e * w ∷ w ∷ behind pointer (index / e) ∷ rest; next = j }))
+    (Err (Error NoRoom))) (Err (Error OutOfRange)))
 index_by e w j index pointer s rest true is small = index_room e w j index pointer s rest (ltb (length rest + 2) 1024) is small refl
 index_by e w j index pointer s rest false is large = inr (index, pointer, rest, is, inl (refl, ltb-false index 32768 large))
 
@@ -29,18 +37,21 @@ index_holds e w j s [] is = inl (refl, rw is (omega arith))
 index_holds e w j s (index ∷ []) is = inl (refl, rw is (omega arith))
 index_holds e w j s (index ∷ pointer ∷ rest) is = index_by e w j index pointer s rest (ltb index 32768) is refl
 
-pub index_goes : (e w j : ℕ) (s : State) (index pointer : ℕ) (rest : List ℕ) → s.stack ≡ index ∷ pointer ∷ rest → index < 32768 → length rest + 2 < 1024
+pub index_goes : (e w j : ℕ) (s : State) (index pointer : ℕ) (rest : List ℕ) → s.stack ≡ index ∷ pointer ∷ rest
+    → index < 32768 → length rest + 2 < 1024
     → field_indexed e w j s s.stack ≡ Ok (record s { stack = index % e * w ∷ w ∷ behind pointer (index / e) ∷ rest; next = j })
 index_goes e w j s index pointer rest is small room = rw (is, lt-ltb index 32768 small, lt-ltb (length rest + 2) 1024 room) refl
 
-pub index_fails : (n w j : ℕ) (e : ExecutionError) (s : State) → FailsBy (IndexField n w) s e → field_indexed n w j s s.stack ≡ Err (Error e)
+pub index_fails : (n w j : ℕ) (e : ExecutionError) (s : State) → FailsBy (IndexField n w) s e
+    → field_indexed n w j s s.stack ≡ Err (Error e)
 index_fails n w j e s (inl h) = rw (below_two (field_indexed n w j s) _ refl (λ v. refl) s.stack h.1, h.0) refl
 index_fails n w j e s (inr (index, pointer, rest, is, inl h)) = rw (is, h.0, le-ltb index 32768 h.1) refl
 index_fails n w j e s (inr (index, pointer, rest, is, inr h)) = rw (is, h.0, lt-ltb index 32768 h.1, le-ltb (length rest + 2) 1024 h.2) refl
 
 -- ---- LDP
 
-load_by : (j right width pointer : ℕ) (s : State) (rest : List ℕ) (r : Result ℕ ExecutionError) → s.stack ≡ right ∷ width ∷ pointer ∷ rest → field_at s.words pointer width right ≡ r
+load_by : (j right width pointer : ℕ) (s : State) (rest : List ℕ) (r : Result ℕ ExecutionError)
+    → s.stack ≡ right ∷ width ∷ pointer ∷ rest → field_at s.words pointer width right ≡ r
     → Meets LoadField j s (put_above r j s rest)
 load_by j right width pointer s rest (Ok v) is found = (right, width, pointer, rest, v, is, found, refl)
 load_by j right width pointer s rest (Err e) is found = inr (right, width, pointer, rest, is, found)
@@ -49,7 +60,8 @@ pub load_field_holds : (j : ℕ) (s : State) (st : List ℕ) → s.stack ≡ st 
 load_field_holds j s [] is = inl (refl, rw is (omega arith))
 load_field_holds j s (right ∷ []) is = inl (refl, rw is (omega arith))
 load_field_holds j s (right ∷ width ∷ []) is = inl (refl, rw is (omega arith))
-load_field_holds j s (right ∷ width ∷ pointer ∷ rest) is = load_by j right width pointer s rest (field_at s.words pointer width right) is refl
+load_field_holds j s (right ∷ width ∷ pointer ∷ rest) is =
+    load_by j right width pointer s rest (field_at s.words pointer width right) is refl
 
 pub load_field_fails : (j : ℕ) (e : ExecutionError) (s : State) → FailsBy LoadField s e → field_loaded j s s.stack ≡ Err (Error e)
 load_field_fails j e s (inl h) = rw (below_three (field_loaded j s) _ refl (λ v. refl) (λ v w. refl) s.stack h.1, h.0) refl
@@ -57,7 +69,8 @@ load_field_fails j e s (inr h) = rw (h.4, h.5) refl
 
 -- ---- STP
 
-store_by : (j value right width pointer : ℕ) (s : State) (rest : List ℕ) (r : Result ℕ ExecutionError) → s.stack ≡ value ∷ right ∷ width ∷ pointer ∷ rest
+store_by : (j value right width pointer : ℕ) (s : State) (rest : List ℕ) (r : Result ℕ ExecutionError)
+    → s.stack ≡ value ∷ right ∷ width ∷ pointer ∷ rest
     → changed_at s.words pointer width right value ≡ r → Meets StoreField j s (put_at r pointer j s rest)
 store_by j value right width pointer s rest (Ok v) is found = (value, right, width, pointer, rest, v, is, found, refl)
 store_by j value right width pointer s rest (Err e) is found = inr (value, right, width, pointer, rest, is, found)
@@ -67,7 +80,8 @@ store_field_holds j s [] is = inl (refl, rw is (omega arith))
 store_field_holds j s (value ∷ []) is = inl (refl, rw is (omega arith))
 store_field_holds j s (value ∷ right ∷ []) is = inl (refl, rw is (omega arith))
 store_field_holds j s (value ∷ right ∷ width ∷ []) is = inl (refl, rw is (omega arith))
-store_field_holds j s (value ∷ right ∷ width ∷ pointer ∷ rest) is = store_by j value right width pointer s rest (changed_at s.words pointer width right value) is refl
+store_field_holds j s (value ∷ right ∷ width ∷ pointer ∷ rest) is =
+    store_by j value right width pointer s rest (changed_at s.words pointer width right value) is refl
 
 pub store_field_fails : (j : ℕ) (e : ExecutionError) (s : State) → FailsBy StoreField s e → field_stored j s s.stack ≡ Err (Error e)
 store_field_fails j e s (inl h) = rw (below_four (field_stored j s) _ refl (λ v. refl) (λ v w. refl) (λ v w u. refl) s.stack h.1, h.0) refl

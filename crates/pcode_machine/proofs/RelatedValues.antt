@@ -23,7 +23,8 @@ replace_fails f j e s h = rw (below_one (replaced f j s) _ refl s.stack h.1, h.0
 
 -- ---- two words give way to one
 
-combine_by : (f : Operation) (j b a : ℕ) (s : State) (rest : List ℕ) (r : Result ℕ ExecutionError) → s.stack ≡ b ∷ a ∷ rest → value_of f a b ≡ r → Meets (Combine f) j s (put_above r j s rest)
+combine_by : (f : Operation) (j b a : ℕ) (s : State) (rest : List ℕ) (r : Result ℕ ExecutionError)
+    → s.stack ≡ b ∷ a ∷ rest → value_of f a b ≡ r → Meets (Combine f) j s (put_above r j s rest)
 combine_by f j b a s rest (Ok v) e g = (b, a, rest, v, e, g, refl)
 combine_by f j b a s rest (Err n) e g = inr (b, a, rest, e, g)
 
@@ -32,13 +33,15 @@ combine_holds f j s [] e = inl (refl, rw e (omega arith))
 combine_holds f j s (b ∷ []) e = inl (refl, rw e (omega arith))
 combine_holds f j s (b ∷ a ∷ rest) e = combine_by f j b a s rest (value_of f a b) e refl
 
-pub combine_fails : (f : Operation) (j : ℕ) (e : ExecutionError) (s : State) → FailsBy (Combine f) s e → combined f j s s.stack ≡ Err (Error e)
+pub combine_fails : (f : Operation) (j : ℕ) (e : ExecutionError) (s : State) → FailsBy (Combine f) s e
+    → combined f j s s.stack ≡ Err (Error e)
 combine_fails f j e s (inl h) = rw (below_two (combined f j s) _ refl (λ v. refl) s.stack h.1, h.0) refl
 combine_fails f j e s (inr h) = rw (h.3, h.4) refl
 
 -- ---- a word stays that lies between two others
 
-check_by : (j high low v : ℕ) (s : State) (rest : List ℕ) (r : Result ℕ ExecutionError) → s.stack ≡ high ∷ low ∷ v ∷ rest → checked_of v low high ≡ r → Meets Check j s (put_above r j s rest)
+check_by : (j high low v : ℕ) (s : State) (rest : List ℕ) (r : Result ℕ ExecutionError)
+    → s.stack ≡ high ∷ low ∷ v ∷ rest → checked_of v low high ≡ r → Meets Check j s (put_above r j s rest)
 check_by j high low v s rest (Ok w) e g = (high, low, v, rest, w, e, g, refl)
 check_by j high low v s rest (Err n) e g = inr (high, low, v, rest, e, g)
 
@@ -61,7 +64,8 @@ branch_holds to j s (v ∷ rest) e = (v, rest, e, refl)
 pub branch_fails : (to : ℕ → ℕ) (e : ExecutionError) (s : State) → HasTooFew 1 s e → branched to s s.stack ≡ Err (Error e)
 branch_fails to e s h = rw (below_one (branched to s) _ refl s.stack h.1, h.0) refl
 
-pub branch_two_holds : (to : ℕ → ℕ → ℕ) (j : ℕ) (s : State) (st : List ℕ) → s.stack ≡ st → Meets (BranchByTwo to) j s (branched_by_two to s st)
+pub branch_two_holds : (to : ℕ → ℕ → ℕ) (j : ℕ) (s : State) (st : List ℕ) → s.stack ≡ st
+    → Meets (BranchByTwo to) j s (branched_by_two to s st)
 branch_two_holds to j s [] e = (refl, rw e (omega arith))
 branch_two_holds to j s (b ∷ []) e = (refl, rw e (omega arith))
 branch_two_holds to j s (b ∷ a ∷ rest) e = (b, a, rest, e, refl)

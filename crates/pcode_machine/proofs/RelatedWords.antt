@@ -1,7 +1,7 @@
 -- Effects that move single words, as relations and as functions.
 use Rattle.std.proofs.Common.{◌≡◌, ℕ, ◌/◌, ◌≤◌, Bool, true, false, cond, ltb, List, [], ◌∷◌, length, Option, Some, None, is_some, Ok, Err, refl, ap, arith, inl, inr}
 use Rattle.std.proofs.lemmas.Bool.{ltb-true, ltb-false, lt-ltb, le-ltb}
-use Rattle.pcode_frames.specs.Words.{word_at, with_word}
+use Rattle.pcode_frames.specs.Words.{live_word_at, with_word}
 use Rattle.pcode_machine.specs.declared.turn.Stop.TheVariants.{Error}
 use Rattle.pcode_machine.specs.Configuration.{State}
 use Rattle.pcode_machine.specs.Loads.{pushed, loaded_by}
@@ -28,33 +28,37 @@ push_fails n j s h = rw (le-ltb (length s.stack) 1024 h) refl
 
 -- ---- a word at a word address is pushed
 
-load_room : (n j v : ℕ) (s : State) (b : Bool) → word_at s.words n ≡ Some v → ltb (length s.stack) 1024 ≡ b
+load_room : (n j v : ℕ) (s : State) (b : Bool) → live_word_at s.words n ≡ Some v → ltb (length s.stack) 1024 ≡ b
     → Meets (Load n) j s (cond b (Ok (record s { stack = v ∷ s.stack; next = j })) (Err (Error NoRoom)))
 load_room n j v s true e f = (v, e, (ltb-true (length s.stack) 1024 f, refl))
 load_room n j v s false e f = inr (refl, rw e refl, ltb-false (length s.stack) 1024 f)
 
-pub load_holds : (n j : ℕ) (s : State) (o : Option ℕ) → word_at s.words n ≡ o → Meets (Load n) j s (loaded_by o j s)
+pub load_holds : (n j : ℕ) (s : State) (o : Option ℕ) → live_word_at s.words n ≡ o → Meets (Load n) j s (loaded_by o j s)
 load_holds n j s None e = inl (refl, rw e refl)
 load_holds n j s (Some v) e = load_room n j v s (ltb (length s.stack) 1024) e refl
 
-pub load_fails : (n j : ℕ) (e : ExecutionError) (s : State) (o : Option ℕ) → word_at s.words n ≡ o → FailsBy (Load n) s e → loaded_by o j s ≡ Err (Error e)
+pub load_fails : (n j : ℕ) (e : ExecutionError) (s : State) (o : Option ℕ) → live_word_at s.words n ≡ o
+    → FailsBy (Load n) s e → loaded_by o j s ≡ Err (Error e)
 load_fails n j e s None f (inl h) = rw h.0 refl
-load_fails n j e s None f (inr h) = absurd (not_none (word_at s.words n) f h.1)
-load_fails n j e s (Some v) f (inl h) = absurd (not_some (word_at s.words n) v f h.1)
+load_fails n j e s None f (inr h) = absurd (not_none (live_word_at s.words n) f h.1)
+load_fails n j e s (Some v) f (inl h) = absurd (not_some (live_word_at s.words n) v f h.1)
 load_fails n j e s (Some v) f (inr h) = rw h.0 (push_fails v j s h.2)
 
 -- ---- a word is popped to a word address
 
-store_at : (n j v : ℕ) (s : State) (rest : List ℕ) (o : Option ℕ) → s.stack ≡ v ∷ rest → word_at s.words n ≡ o
-    → Meets (Store n) j s (cond (is_some o) (Ok (record s { words = with_word s.words n v; stack = rest; next = j })) (Err (Error BadAddress)))
+store_at : (n j v : ℕ) (s : State) (rest : List ℕ) (o : Option ℕ) → s.stack ≡ v ∷ rest → live_word_at s.words n ≡ o
+    → Meets (Store n) j s
+    (cond (is_some o) (Ok (record s { words = with_word s.words n v; stack = rest; next = j }))
+    (Err (Error BadAddress)))
 store_at n j v s rest None e f = inr (refl, rw e (omega arith), rw f refl)
 store_at n j v s rest (Some x) e f = (v, rest, e, rw f refl, refl)
 
 pub store_holds : (n j : ℕ) (s : State) (st : List ℕ) → s.stack ≡ st → Meets (Store n) j s (stored n j s st)
 store_holds n j s [] e = inl (refl, rw e (omega arith))
-store_holds n j s (v ∷ rest) e = store_at n j v s rest (word_at s.words n) e refl
+store_holds n j s (v ∷ rest) e = store_at n j v s rest (live_word_at s.words n) e refl
 
-pub store_fails : (n j : ℕ) (e : ExecutionError) (s : State) (st : List ℕ) → s.stack ≡ st → FailsBy (Store n) s e → stored n j s st ≡ Err (Error e)
+pub store_fails : (n j : ℕ) (e : ExecutionError) (s : State) (st : List ℕ) → s.stack ≡ st → FailsBy (Store n) s e
+    → stored n j s st ≡ Err (Error e)
 store_fails n j e s [] same (inl h) = rw h.0 refl
 store_fails n j e s [] same (inr h) = absurd (omega (arith, h.1, ap length same))
 store_fails n j e s (v ∷ rest) same (inl h) = absurd (omega (arith, h.1, ap length same))
@@ -78,7 +82,8 @@ fetch_fails n j e s (inr h) = rw (h.3, none_is _ h.4, h.0) refl
 -- ---- a word is popped to where the pointer below it points
 
 store_to : (j v pointer : ℕ) (s : State) (rest : List ℕ) (o : Option ℕ) → s.stack ≡ v ∷ pointer ∷ rest → pointed s.words pointer ≡ o
-    → Meets StoreAt j s (cond (is_some o) (Ok (record s { words = with_word s.words (pointer / 2) v; stack = rest; next = j })) (Err (Error BadAddress)))
+    → Meets StoreAt j s (cond (is_some o)
+    (Ok (record s { words = with_word s.words (pointer / 2) v; stack = rest; next = j })) (Err (Error BadAddress)))
 store_to j v pointer s rest None e f = inr (refl, v, pointer, rest, e, rw f refl)
 store_to j v pointer s rest (Some x) e f = (v, pointer, rest, e, rw f refl, refl)
 

@@ -10,7 +10,7 @@ use Rattle.pcode_machine.specs.declared.turn.Direction.{Direction}
 use Rattle.pcode_machine.specs.declared.turn.Direction.TheVariants.{Reading, Writing}
 use Rattle.pcode_machine.specs.declared.turn.End.{End}
 use Rattle.pcode_machine.specs.declared.turn.Stop.{Stop}
-use Rattle.pcode_frames.specs.Words.{byte_at}
+use Rattle.pcode_frames.specs.Words.{live_byte_at}
 use Rattle.pcode_machine.specs.Configuration.{State, Configuration, current_of}
 use Rattle.pcode_machine.specs.Execute.{execute}
 use Rattle.pcode_machine.specs.Outcome.{Goes, Stops, Waiting, outcome, in_frame, pending, moved, decoded, after_effect, taken, written, on_some}
@@ -27,13 +27,17 @@ found_next x b i f e = (f b, rw (found_last x b i e) refl, refl)
 
 read_next : (x : List ℕ) (b : ℕ) (c : Configuration) (t : Transfer) (o : Option ℕ) (e : End) → c.read ≡ length x
     → on_some o (Stops e) (λ _. on_some (slice_get x c.read) Waiting (λ v. Goes (taken c t v))) ≡ Waiting
-    → (d : Configuration) × (on_some o (Stops e) (λ _. on_some (slice_get (x ++ b ∷ []) c.read) Waiting (λ v. Goes (taken c t v))) ≡ Goes d) × (d.read ≡ c.read + 1)
+    → (d : Configuration)
+    × (on_some o (Stops e) (λ _. on_some (slice_get (x ++ b ∷ []) c.read) Waiting (λ v. Goes (taken c t v)))
+    ≡ Goes d) × (d.read ≡ c.read + 1)
 read_next x b c t None e r w = absurd cc
-read_next x b c t (Some old) e r w = let found = found_next x b c.read (taken c t) r in (found.0, found.1, ap (λ (k : Configuration). k.read) found.2)
+read_next x b c t (Some old) e r w = let found =
+    found_next x b c.read (taken c t) r in (found.0, found.1, ap (λ (k : Configuration). k.read) found.2)
 
 -- ---- nothing but a read waits
 
-write_never_waits : (c : Configuration) (t : Transfer) (o : Option ℕ) (e : End) → on_some o (Stops e) (λ v. Goes (written c t v)) ≡ Waiting → ⊥
+write_never_waits : (c : Configuration) (t : Transfer) (o : Option ℕ) (e : End)
+    → on_some o (Stops e) (λ v. Goes (written c t v)) ≡ Waiting → ⊥
 write_never_waits c t None e w = cc
 write_never_waits c t (Some v) e w = cc
 
@@ -50,8 +54,8 @@ instruction_never_waits p c f (Ok found) w = effect_never_waits c f (execute p f
 
 moved_next : (d : Direction) (x : List ℕ) (b : ℕ) (c : Configuration) (f : Frame) (t : Transfer) → c.read ≡ length x
     → moved d x c f t ≡ Waiting → (e : Configuration) × (moved d (x ++ b ∷ []) c f t ≡ Goes e) × (e.read ≡ c.read + 1)
-moved_next Writing x b c f t r w = absurd (write_never_waits c t (byte_at c.state.words t.address) _ w)
-moved_next Reading x b c f t r w = read_next x b c t (byte_at c.state.words t.address) _ r w
+moved_next Writing x b c f t r w = absurd (write_never_waits c t (live_byte_at c.state.words t.address) _ w)
+moved_next Reading x b c f t r w = read_next x b c t (live_byte_at c.state.words t.address) _ r w
 
 pending_next : (p : Parts) (x : List ℕ) (b : ℕ) (c : Configuration) (f : Frame) (t : Option Transfer) → c.read ≡ length x
     → pending p x c f t ≡ Waiting → (e : Configuration) × (pending p (x ++ b ∷ []) c f t ≡ Goes e) × (e.read ≡ c.read + 1)

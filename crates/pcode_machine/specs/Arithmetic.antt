@@ -1,4 +1,5 @@
--- Arithmetic on words of 16 bits, signed and modulo 65,536. Sums, differences and products are the same of signed words.
+-- Arithmetic on words of 16 bits, signed and modulo 65,536. Sums, differences and products are the
+-- same of signed words.
 use Rattle.std.specs.Prelude.{ℕ, ◌+◌, ◌-◌, ◌*◌, ◌%◌, ◌==◌, ◌&&◌, if◌then◌else◌, Result, Ok, Err, unsigned_abs, int_div, int_rem, int_le, bit_and, bit_or}
 use Rattle.std.specs.Int.{w16, bit_not}
 use Rattle.pcode_machine.specs.Signed.{signed, word_of}
@@ -19,11 +20,13 @@ product_of a b = (a * b) % 65536
 
 -- the signed quotient, rounded towards zero, or error 6 by 0
 abbrev pub quotient_of : ℕ → ℕ → Result ℕ ExecutionError
-quotient_of a b = if b == 0 then Err DivisionByZero else Ok (word_of (int_div (signed a) (signed b)))
+quotient_of a b =
+    if b == 0 then Err DivisionByZero else Ok (word_of (int_div (signed a) (signed b)))
 
 -- what that quotient leaves, with the dividend's sign, or error 6 by 0
 abbrev pub remainder_of : ℕ → ℕ → Result ℕ ExecutionError
-remainder_of a b = if b == 0 then Err DivisionByZero else Ok (word_of (int_rem (signed a) (signed b)))
+remainder_of a b =
+    if b == 0 then Err DivisionByZero else Ok (word_of (int_rem (signed a) (signed b)))
 
 -- the absolute value of a signed word; -32,768 stays
 abbrev pub absolute_of : ℕ → ℕ
@@ -52,7 +55,8 @@ complement_of a = bit_not w16 a
 -- the word, if as a signed one it is at least low and at most high, or error 1
 abbrev pub checked_of : ℕ → ℕ → ℕ → Result ℕ ExecutionError
 checked_of value low high =
-    if int_le (signed low) (signed value) && int_le (signed value) (signed high) then Ok value else Err OutOfRange
+    if int_le (signed low) (signed value) && int_le (signed value) (signed high) then Ok value
+    else Err OutOfRange
 
 -- the address of an element of so many words, at an index behind a pointer, modulo 65,536
 abbrev pub element_of : ℕ → ℕ → ℕ → ℕ

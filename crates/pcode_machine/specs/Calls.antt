@@ -5,7 +5,7 @@ use Rattle.pcode_file.specs.declared.file.Proc.{Proc}
 use Rattle.pcode_file.specs.Parts.{Parts, procedure_of}
 use Rattle.pcode_frames.specs.declared.frame.Frame.{Frame}
 use Rattle.pcode_frames.specs.declared.halt.Halt.{Halt}
-use Rattle.pcode_frames.specs.Frames.{called, returned, parts, link_up_of}
+use Rattle.pcode_frames.specs.Frames.{space_after_call, space_after_ret, space, link_up_of}
 use Rattle.pcode_frames.specs.Frames as frames
 use Rattle.pcode_machine.specs.declared.turn.Stop.{Stop}
 use Rattle.pcode_machine.specs.declared.turn.Stop.TheVariants.{Error}
@@ -16,22 +16,30 @@ use Rattle.pcode_machine.specs.Errors.{error_of}
 abbrev pub frame_up : List Frame → ℕ → Option Frame
 frame_up fs n = option_and_then (λ k. slice_get fs k) (link_up_of fs n)
 
--- The index of the frame to which the procedure in frame f links procedure n: one lex level further out than n, which is so many
--- static links up from the current frame as the caller's level is above that.
+-- The index of the frame to which the procedure in frame f links procedure n: one lex level further
+-- out than n, which is so many static links up from the current frame as the caller's level is
+-- above that.
 abbrev pub link_outward : Parts → Frame → ℕ → List Frame → Option ℕ
 link_outward p f n fs =
-    option_and_then (λ (caller : Proc). option_and_then (λ (callee : Proc). link_up_of fs (caller.level + 1 - callee.level)) (procedure_of p.procs n))
+    option_and_then (λ (caller : Proc).
+    option_and_then (λ (callee : Proc). link_up_of fs (caller.level + 1 - callee.level))
+    (procedure_of p.procs n))
     (procedure_of p.procs f.procedure)
 
--- the state with what a call or a return made of words, stack and frames, where execution goes on at an offset
-abbrev pub with_parts : ℕ → State → Result frames.Parts Halt → Result State Stop
-with_parts next s (Ok new) = Ok (record s { words = new.words; stack = new.stack; frames = new.frames; next = next })
+-- the state with what a call or a return made of words, stack and frames, where execution goes on
+-- at an offset
+abbrev pub with_parts : ℕ → State → Result frames.Space Halt → Result State Stop
+with_parts next s (Ok new) =
+    Ok (record s { words = new.words; stack = new.stack; frames = new.frames; next = next })
 with_parts next s (Err halt) = Err (Error (error_of halt))
 
 -- procedure n is called, which goes on at j when it returns
-abbrev pub entered : ℕ → Proc → ℕ → ℕ → State → Result State Stop
-entered n callee link j s = with_parts callee.enter s (called n callee.params callee.vars link j (parts s.words s.stack s.frames))
+abbrev pub entered_state : ℕ → Proc → ℕ → ℕ → State → Result State Stop
+entered_state n callee link j s =
+    with_parts callee.enter s
+    (space_after_call n callee.params callee.vars link j (space s.words s.stack s.frames))
 
 -- the procedure of the current frame returns with so many words
 abbrev pub left : ℕ → Frame → State → Result State Stop
-left words frame s = with_parts frame.back s (returned words frame (parts s.words s.stack s.frames))
+left words frame s =
+    with_parts frame.back s (space_after_ret words frame (space s.words s.stack s.frames))

@@ -6,8 +6,9 @@ use Rattle.pcode_frames.specs.declared.frame.Frame.{Frame}
 pub use Rattle.pcode_frames.specs.Frames.{current_of}
 use Rattle.pcode_machine.specs.declared.turn.Transfer.{Transfer}
 
--- What the machine keeps: the live words from word 1 on; the frames, the main frame first and the current
--- one last; the evaluation stack, its top first; the next offset; IORESULT; and the bytes still to be moved.
+-- What the machine keeps: the live words from word 1 on; the frames, the main frame first and the
+-- current one last; the evaluation stack, its top first; the next offset; IORESULT; and the bytes
+-- still to be moved.
 pub record State : Type 0 where
   pub words : List ℕ
   pub frames : List Frame
@@ -22,12 +23,13 @@ pub record Configuration : Type 0 where
   pub read : ℕ
   pub output : List ℕ
 
-abbrev pub joined : State → ℕ → List ℕ → Configuration
-joined s n output = record { state = s; read = n; output = output }
+abbrev pub configuration_of : State → ℕ → List ℕ → Configuration
+configuration_of s n output = record { state = s; read = n; output = output }
 
 -- a state without a frame, where the main frame does not fit
 abbrev pub unframed : ℕ → State
-unframed enter = record { words = []; frames = []; stack = []; next = enter; io_result = 0; transfer = None }
+unframed enter =
+    record { words = []; frames = []; stack = []; next = enter; io_result = 0; transfer = None }
 
 -- a state at ENTER with a main frame of so many words, all zero
 abbrev pub framed : ℕ → ℕ → State
@@ -43,7 +45,9 @@ framed enter size = record {
 -- the start of procedure 1, which every file has
 abbrev pub start_of : Option Proc → State
 start_of None = unframed 0
-start_of (Some q) = if nat_le (q.params + q.vars) 16383 then framed q.enter (q.params + q.vars) else unframed q.enter
+start_of (Some q) =
+    if nat_le (q.params + q.vars) 16383 then framed q.enter (q.params + q.vars)
+    else unframed q.enter
 
 -- the state at the start of a program
 abbrev pub start : Parts → State

@@ -43,7 +43,8 @@ pub data Effect : Type 0 where
   LoadByte : Effect
   -- a word's low byte is popped to an index behind a pointer
   StoreByte : Effect
-  -- an index and a pointer give way to the field there, where a word has so many elements of this width
+  -- an index and a pointer give way to the field there, where a word has so many elements of this
+  -- width
   IndexField : (elements width : ℕ) → Effect
   -- the bits of the field that three words name take their place
   LoadField : Effect
@@ -71,7 +72,8 @@ pub data Effect : Type 0 where
   Fail : (error : ExecutionError) → Effect
   -- the program ends
   Finish : Effect
-  -- nothing is stated: a frame, a procedure or a target is named that is not there. No machine meets it.
+  -- nothing is stated: a frame, a procedure or a target is named that is not there. No machine
+  -- meets it.
   Nowhere : Effect
 
 -- the effect by what an instruction names, if it is there
@@ -105,7 +107,8 @@ effect_of p f (Sro n) j s = Store n
 effect_of p f (Lao n) j s = Push (address_of n)
 effect_of p f (Lod levels n) j s = given (frame_up s.frames levels) (λ g. Load (g.base + n))
 effect_of p f (Str levels n) j s = given (frame_up s.frames levels) (λ g. Store (g.base + n))
-effect_of p f (Lda levels n) j s = given (frame_up s.frames levels) (λ g. Push (address_of (g.base + n)))
+effect_of p f (Lda levels n) j s =
+    given (frame_up s.frames levels) (λ g. Push (address_of (g.base + n)))
 effect_of p f Sto j s = StoreAt
 effect_of p f (Sind n) j s = Fetch n
 effect_of p f (Ind n) j s = Fetch n
@@ -144,9 +147,12 @@ effect_of p f Les j s = Combine (CompareBits Less)
 effect_of p f Geq j s = Combine (CompareBits GreaterOrEqual)
 effect_of p f Grt j s = Combine (CompareBits Greater)
 effect_of p f (Ujp sb) j s = given (jump_in p f.procedure sb j) (λ target. Go target)
-effect_of p f (Fjp sb) j s = given (jump_in p f.procedure sb j) (λ target. Branch (λ v. if v % 2 == 0 then target else j))
-effect_of p f (Efj sb) j s = given (jump_in p f.procedure sb j) (λ target. BranchByTwo (λ a b. if a == b then j else target))
-effect_of p f (Nfj sb) j s = given (jump_in p f.procedure sb j) (λ target. BranchByTwo (λ a b. if a == b then target else j))
+effect_of p f (Fjp sb) j s =
+    given (jump_in p f.procedure sb j) (λ target. Branch (λ v. if v % 2 == 0 then target else j))
+effect_of p f (Efj sb) j s =
+    given (jump_in p f.procedure sb j) (λ target. BranchByTwo (λ a b. if a == b then j else target))
+effect_of p f (Nfj sb) j s =
+    given (jump_in p f.procedure sb j) (λ target. BranchByTwo (λ a b. if a == b then target else j))
 effect_of p f (Xjp low high sb table) j s = Branch (λ v. case_of p.segment low high table v)
 effect_of p f (Clp n) j s = calling p n (link_up_of s.frames 0)
 effect_of p f (Cgp n) j s = calling p n (Some 0)
@@ -156,7 +162,8 @@ effect_of p f (Rnp n) j s = Return n f
 effect_of p f (Rbp n) j s = Finish
 effect_of p f Nop j s = Go j
 
--- What an effect names is there: the frame that a call links to, and a frame below the one that returns.
+-- What an effect names is there: the frame that a call links to, and a frame below the one that
+-- returns.
 abbrev pub IsPossible : Effect → State → Type 0
 IsPossible Nowhere s = ⊥
 IsPossible (Call number callee link) s = link < length s.frames
@@ -164,6 +171,6 @@ IsPossible (Return words frame) s = 2 ≤ length s.frames
 IsPossible _ s = Unit {0}
 
 -- what a case jump's table has to be
-abbrev pub HasTable : Parts → Instr → Type 0
-HasTable p (Xjp low high sb table) = (q : Proc) × IsCaseTable p.segment q low high table
-HasTable p _ = Unit {0}
+abbrev pub HasCaseTable : Parts → Instr → Type 0
+HasCaseTable p (Xjp low high sb table) = (q : Proc) × IsCaseTable p.segment q low high table
+HasCaseTable p _ = Unit {0}

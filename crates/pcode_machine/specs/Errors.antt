@@ -6,14 +6,14 @@ use Rattle.pcode_machine.specs.declared.errors.ExecutionError.{ExecutionError}
 use Rattle.pcode_machine.specs.declared.errors.ExecutionError.TheVariants.{StackUnderflow, OutOfRange, NoRoom, DivisionByZero, BadAddress, NoUnit, Halted}
 
 -- the number that the end of a program reports
-abbrev pub number_of : ExecutionError → ℕ
-number_of StackUnderflow = 0
-number_of OutOfRange = 1
-number_of NoRoom = 4
-number_of DivisionByZero = 6
-number_of BadAddress = 7
-number_of NoUnit = 10
-number_of Halted = 14
+abbrev pub error_number : ExecutionError → ℕ
+error_number StackUnderflow = 0
+error_number OutOfRange = 1
+error_number NoRoom = 4
+error_number DivisionByZero = 6
+error_number BadAddress = 7
+error_number NoUnit = 10
+error_number Halted = 14
 
 -- the error of an instruction at which the frames refuse a call or a return
 abbrev pub error_of : Halt → ExecutionError

@@ -1,6 +1,6 @@
 -- Instructions that push a word: constants, words of frames, and pointers to them.
 use Rattle.std.specs.Prelude.{ℕ, ◌*◌, ◌%◌, nat_lt, if◌then◌else◌, ◌∷◌, length, Option, Some, None, Result, Ok, Err}
-use Rattle.pcode_frames.specs.Words.{word_at}
+use Rattle.pcode_frames.specs.Words.{live_word_at}
 use Rattle.pcode_machine.specs.declared.turn.Stop.{Stop}
 use Rattle.pcode_machine.specs.declared.turn.Stop.TheVariants.{Error}
 use Rattle.pcode_machine.specs.Configuration.{State}
@@ -8,7 +8,9 @@ use Rattle.pcode_machine.specs.declared.errors.ExecutionError.TheVariants.{NoRoo
 
 -- a word is pushed, and execution goes on at j; the stack has at most 1,024 words
 abbrev pub pushed : ℕ → ℕ → State → Result State Stop
-pushed word j s = if nat_lt (length s.stack) 1024 then Ok (record s { stack = word ∷ s.stack; next = j }) else Err (Error NoRoom)
+pushed word j s =
+    if nat_lt (length s.stack) 1024 then Ok (record s { stack = word ∷ s.stack; next = j })
+    else Err (Error NoRoom)
 
 -- the address of a word, in bytes: twice the word, modulo 65,536
 abbrev pub address_of : ℕ → ℕ
@@ -21,4 +23,4 @@ loaded_by (Some v) j s = pushed v j s
 
 -- the word at a word address is pushed
 abbrev pub loaded : ℕ → ℕ → State → Result State Stop
-loaded word j s = loaded_by (word_at s.words word) j s
+loaded word j s = loaded_by (live_word_at s.words word) j s

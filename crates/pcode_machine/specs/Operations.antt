@@ -1,4 +1,5 @@
--- Instructions that make words of words: arithmetic, logic, comparisons, pointers that move, and CHK.
+-- Instructions that make words of words: arithmetic, logic, comparisons, pointers that move, and
+-- CHK.
 use Rattle.std.specs.Prelude.{ℕ, List, [], ◌∷◌, Result, Ok, Err}
 use Rattle.pcode_machine.specs.declared.operations.Change.{Change}
 use Rattle.pcode_machine.specs.declared.operations.Change.TheVariants.{Absolute, Negation, Square, Complement, Behind}

@@ -1,6 +1,6 @@
 -- Instructions that read and write at pointers, which are addresses in bytes: STO, SIND, IND.
 use Rattle.std.specs.Prelude.{ℕ, ◌+◌, ◌*◌, ◌/◌, ◌%◌, ◌==◌, if◌then◌else◌, List, [], ◌∷◌, Option, Some, None, is_some, Result, Ok, Err}
-use Rattle.pcode_frames.specs.Words.{word_at, with_word}
+use Rattle.pcode_frames.specs.Words.{live_word_at, with_word}
 use Rattle.pcode_machine.specs.declared.turn.Stop.{Stop}
 use Rattle.pcode_machine.specs.declared.turn.Stop.TheVariants.{Error}
 use Rattle.pcode_machine.specs.Configuration.{State}
@@ -12,7 +12,7 @@ behind pointer words = (pointer + 2 * words) % 65536
 
 -- the word at a pointer, which has to be even, if it is live
 abbrev pub pointed : List ℕ → ℕ → Option ℕ
-pointed live pointer = if pointer % 2 == 0 then word_at live (pointer / 2) else None
+pointed live pointer = if pointer % 2 == 0 then live_word_at live (pointer / 2) else None
 
 -- the word takes the place of the pointer above these words
 abbrev pub fetched_by : Option ℕ → ℕ → State → List ℕ → Result State Stop
@@ -29,4 +29,6 @@ abbrev pub stored_at : ℕ → State → List ℕ → Result State Stop
 stored_at j s [] = Err (Error StackUnderflow)
 stored_at j s (v ∷ []) = Err (Error StackUnderflow)
 stored_at j s (v ∷ pointer ∷ rest) =
-    if is_some (pointed s.words pointer) then Ok (record s { words = with_word s.words (pointer / 2) v; stack = rest; next = j }) else Err (Error BadAddress)
+    if is_some (pointed s.words pointer)
+    then Ok (record s { words = with_word s.words (pointer / 2) v; stack = rest; next = j })
+    else Err (Error BadAddress)

@@ -16,6 +16,6 @@ state_of m = record {
 }
 
 -- what an instruction answered, with the state after it
-abbrev pub answered : Result Unit Stop → State → Result State Stop
-answered (Ok u) s = Ok s
-answered (Err stop) s = Err stop
+abbrev pub state_if_ok : Result Unit Stop → State → Result State Stop
+state_if_ok (Ok u) s = Ok s
+state_if_ok (Err stop) s = Err stop

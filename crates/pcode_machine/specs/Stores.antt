@@ -3,11 +3,13 @@ use Rattle.std.specs.Prelude.{ℕ, if◌then◌else◌, List, [], ◌∷◌, is_
 use Rattle.pcode_machine.specs.declared.turn.Stop.{Stop}
 use Rattle.pcode_machine.specs.declared.turn.Stop.TheVariants.{Error}
 use Rattle.pcode_machine.specs.Configuration.{State}
-use Rattle.pcode_frames.specs.Words.{word_at, with_word}
+use Rattle.pcode_frames.specs.Words.{live_word_at, with_word}
 use Rattle.pcode_machine.specs.declared.errors.ExecutionError.TheVariants.{StackUnderflow, BadAddress}
 
 -- the word popped from this stack goes to a live word, and execution goes on at j
 abbrev pub stored : ℕ → ℕ → State → List ℕ → Result State Stop
 stored word j s [] = Err (Error StackUnderflow)
 stored word j s (v ∷ rest) =
-    if is_some (word_at s.words word) then Ok (record s { words = with_word s.words word v; stack = rest; next = j }) else Err (Error BadAddress)
+    if is_some (live_word_at s.words word)
+    then Ok (record s { words = with_word s.words word v; stack = rest; next = j })
+    else Err (Error BadAddress)

@@ -12,24 +12,38 @@ use Rattle.pcode_machine.specs.declared.errors.ExecutionError.TheVariants.{Stack
 abbrev pub is_console : ℕ → Bool
 is_console unit = (unit == 1) || (unit == 2)
 
--- the transfer that a call begins, if there is a byte to move: a length is signed, a byte address is the
--- base plus the signed index
-abbrev pub begun : Direction → ℕ → ℕ → ℕ → ℕ → ℕ → Option Transfer
-begun direction unit base index len at =
+-- the transfer that a call begins, if there is a byte to move: a length is signed, a byte address
+-- is the base plus the signed index
+abbrev pub begun_transfer : Direction → ℕ → ℕ → ℕ → ℕ → ℕ → Option Transfer
+begun_transfer direction unit base index len at =
     if is_console unit then
     if nat_lt 0 len then
     if nat_lt len 32768 then
-    Some (record { direction = direction; unit = unit; address = byte_address base index; left = len; at = at })
+    Some (record {
+      direction = direction;
+      unit = unit;
+      address = byte_address base index;
+      left = len;
+      at = at;
+    })
     else None
     else None
     else None
 
--- the call pops mode, block, length, index, base and unit, the last pushed first; mode and block are ignored
-abbrev pub called : Direction → ℕ → State → List ℕ → Result State Stop
-called direction j s (mode ∷ block ∷ len ∷ index ∷ base ∷ unit ∷ rest) =
-    Ok (record s { stack = rest; next = j; io_result = if is_console unit then 0 else 2; transfer = begun direction unit base index len s.next })
-called direction j s _ = Err (Error StackUnderflow)
+-- the call pops mode, block, length, index, base and unit, the last pushed first; mode and block
+-- are ignored
+abbrev pub unit_call : Direction → ℕ → State → List ℕ → Result State Stop
+unit_call direction j s (mode ∷ block ∷ len ∷ index ∷ base ∷ unit ∷ rest) =
+    Ok (record s {
+      stack = rest;
+      next = j;
+      io_result = if is_console unit then 0 else 2;
+      transfer = begun_transfer direction unit base index len s.next;
+    })
+unit_call direction j s _ = Err (Error StackUnderflow)
 
 -- what is left of a transfer after one byte
-abbrev pub later : Transfer → Option Transfer
-later t = if nat_lt 1 t.left then Some (record t { address = t.address +ℤ pos 1; left = t.left - 1 }) else None
+abbrev pub rest_of : Transfer → Option Transfer
+rest_of t =
+    if nat_lt 1 t.left then Some (record t { address = t.address +ℤ pos 1; left = t.left - 1 })
+    else None

@@ -1,7 +1,7 @@
 //! Blocks of words at pointers: MOV, LDM, STM.
 ghost use Rattle.std.specs.Prelude.{◌≡◌, OnErr};
 ghost use Rattle.pcode_machine.specs.Blocks.{block_loaded, block_moved, block_stored, is_block};
-ghost use Rattle.pcode_machine.specs.Ready.{state_of, answered};
+ghost use Rattle.pcode_machine.specs.Ready.{state_of, state_if_ok};
 
 use crate::errors::ExecutionError;
 use crate::parts::MachineParts;
@@ -26,7 +26,8 @@ impl MachineParts {
     /// Pops two pointers, copies so many words from the one on top to the other, and goes on at an
     /// offset. All are read before any is written.
     pub fn move_block(&mut self, words: u16, next: u32) -> Result<(), Stop>
-        ensures value { block_moved words next (state_of self.old) self.old.stack ≡ answered result (state_of self.new) }
+        ensures value { block_moved words next (state_of self.old) self.old.stack
+            ≡ state_if_ok result (state_of self.new) }
         ensures err { OnErr result (self.new ≡ self.old) }
     {
         let Some(from) = self.stack.get(0) else {
@@ -51,7 +52,8 @@ impl MachineParts {
     /// Replaces the pointer on top by so many words from it on, the first on top, and goes on at an
     /// offset.
     pub fn load_block(&mut self, words: u16, next: u32) -> Result<(), Stop>
-        ensures value { block_loaded words next (state_of self.old) self.old.stack ≡ answered result (state_of self.new) }
+        ensures value { block_loaded words next (state_of self.old) self.old.stack
+            ≡ state_if_ok result (state_of self.new) }
         ensures err { OnErr result (self.new ≡ self.old) }
     {
         let Some(pointer) = self.stack.get(0) else {
@@ -73,7 +75,8 @@ impl MachineParts {
     /// pointer, and goes on at an offset.
     #[tactic(auto, using(base::proofs::Lists::drop_next))]
     pub fn store_block(&mut self, words: u16, next: u32) -> Result<(), Stop>
-        ensures value { block_stored words next (state_of self.old) ≡ answered result (state_of self.new) }
+        ensures value { block_stored words next (state_of self.old)
+            ≡ state_if_ok result (state_of self.new) }
         ensures err { OnErr result (self.new ≡ self.old) }
     {
         let Some(pointer) = self.stack.get(words) else {

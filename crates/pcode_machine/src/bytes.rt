@@ -1,14 +1,14 @@
 //! Bytes behind a pointer: LDB, STB.
 ghost use Rattle.std.specs.Prelude.{◌≡◌, OnErr, ◌≤ℤ◌, pos, neg_ℤ};
 ghost use Rattle.pcode_machine.specs.Bytes.{byte_address, byte_loaded, byte_stored};
-ghost use Rattle.pcode_machine.specs.Ready.{state_of, answered};
+ghost use Rattle.pcode_machine.specs.Ready.{state_of, state_if_ok};
 
 use crate::errors::ExecutionError;
 use crate::parts::MachineParts;
 use crate::turn::Stop;
 
-/// The byte address at an index behind a base, which is not taken modulo 65,536: the index is signed,
-/// the base is not.
+/// The byte address at an index behind a base, which is not taken modulo 65,536: the index is
+/// signed, the base is not.
 pub fn byte_address(base: u16, index: u16) -> i32
     ensures { result ≡ byte_address base index }
 {
@@ -18,7 +18,8 @@ pub fn byte_address(base: u16, index: u16) -> i32
 impl MachineParts {
     /// Replaces index and base on top by the byte there, and goes on at an offset.
     pub fn load_byte(&mut self, next: u32) -> Result<(), Stop>
-        ensures value { byte_loaded next (state_of self.old) self.old.stack ≡ answered result (state_of self.new) }
+        ensures value { byte_loaded next (state_of self.old) self.old.stack
+            ≡ state_if_ok result (state_of self.new) }
         ensures err { OnErr result (self.new ≡ self.old) }
     {
         if self.stack.len() < 2 {
@@ -40,9 +41,11 @@ impl MachineParts {
         }
     }
 
-    /// Pops a word, an index and a base, stores the word's low byte there, and goes on at an offset.
+    /// Pops a word, an index and a base, stores the word's low byte there, and goes on at an
+    /// offset.
     pub fn store_byte(&mut self, next: u32) -> Result<(), Stop>
-        ensures value { byte_stored next (state_of self.old) self.old.stack ≡ answered result (state_of self.new) }
+        ensures value { byte_stored next (state_of self.old) self.old.stack
+            ≡ state_if_ok result (state_of self.new) }
         ensures err { OnErr result (self.new ≡ self.old) }
     {
         if self.stack.len() < 3 {

@@ -5,7 +5,7 @@ ghost use Rattle.pcode_frames.specs.Frames.{current_of};
 ghost use Rattle.pcode_machine.specs.Calls.{frame_up, link_outward, left};
 ghost use Rattle.pcode_machine.specs.Effects.{calling, IsPossible};
 ghost use Rattle.pcode_machine.specs.Execute.{made};
-ghost use Rattle.pcode_machine.specs.Ready.{state_of, answered};
+ghost use Rattle.pcode_machine.specs.Ready.{state_of, state_if_ok};
 
 use crate::parts::MachineParts;
 use crate::turn::Stop;
@@ -13,7 +13,8 @@ use pcode_frames::Frame;
 use pcode_ops::Program;
 
 impl MachineParts {
-    /// The word address below the frame so many static links up from the current one, which is there.
+    /// The word address below the frame so many static links up from the current one, which is
+    /// there.
     pub fn base_up(&self, levels: u8) -> u16
         requires { IsSome (frame_up self.now.frames levels) }
         ensures { MatchOption (frame_up self.now.frames levels) ⊥ (λ frame. result ≡ frame.base) }
@@ -27,8 +28,8 @@ impl MachineParts {
         }
     }
 
-    /// The index of the frame to which the procedure in the current frame links another one, which may be
-    /// one around it: one lex level further out than that other.
+    /// The index of the frame to which the procedure in the current frame links another one, which
+    /// may be one around it: one lex level further out than that other.
     pub fn link_outward(&self, program: &Program, frame: Frame, number: u8) -> Option<u16>
         ensures { result ≡ link_outward program.now frame number self.now.frames }
     {
@@ -41,8 +42,8 @@ impl MachineParts {
             .link_up(levels.saturating_sub(u16::from(callee.level)) as u8)
     }
 
-    /// Calls a procedure, whose static link is the frame at an index; it goes on at an offset when it
-    /// returns.
+    /// Calls a procedure, whose static link is the frame at an index; it goes on at an offset when
+    /// it returns.
     pub fn call_procedure(
         &mut self,
         program: &Program,
@@ -51,7 +52,8 @@ impl MachineParts {
         back: u32,
     ) -> Result<(), Stop>
         requires { IsPossible (calling program.now number link) (state_of self.old) }
-        ensures value { made (calling program.now number link) back (state_of self.old) ≡ Some (answered result (state_of self.new)) }
+        ensures value { made (calling program.now number link) back (state_of self.old)
+            ≡ Some (state_if_ok result (state_of self.new)) }
         ensures err { OnErr result (self.new ≡ self.old) }
     {
         let Some(callee) = program.file().procedure(number) else {
@@ -71,11 +73,12 @@ impl MachineParts {
         Ok(())
     }
 
-    /// Returns from the procedure of the current frame, which is not the main frame, with so many words.
+    /// Returns from the procedure of the current frame, which is not the main frame, with so many
+    /// words.
     pub fn leave(&mut self, words: u8) -> Result<(), Stop>
         requires { 2 ≤ length self.old.frames }
         ensures value { (frame : Frame) → current_of self.old.frames ≡ Some frame →
-            left words frame (state_of self.old) ≡ answered result (state_of self.new) }
+            left words frame (state_of self.old) ≡ state_if_ok result (state_of self.new) }
         ensures err { OnErr result (self.new ≡ self.old) }
     {
         let frame = self

@@ -1,12 +1,12 @@
 //! Execution errors, by name.
 ghost use Rattle.std.specs.Prelude.{◌≡◌};
 ghost use Rattle.pcode_frames.specs.declared.halt.Halt.{Halt as FrameHalt};
-ghost use Rattle.pcode_machine.specs.Errors.{error_of, number_of};
+ghost use Rattle.pcode_machine.specs.Errors.{error_of, error_number};
 
 use pcode_frames::Halt;
 
-/// Why an instruction or a transfer cannot be executed. Where several errors apply, `StackUnderflow` comes
-/// first and `NoRoom` last.
+/// Why an instruction or a transfer cannot be executed. Where several errors apply,
+/// `StackUnderflow` comes first and `NoRoom` last.
 #[derive(Clone, Copy, Debug, PartialEq, Eq)]
 pub enum ExecutionError {
     /// Number 0: the stack has fewer words than the instruction takes.
@@ -28,7 +28,7 @@ pub enum ExecutionError {
 impl ExecutionError {
     /// Returns the error's number.
     pub fn number(self) -> u8
-        ensures { result ≡ number_of self }
+        ensures { result ≡ error_number self }
     {
         match self {
             ExecutionError::StackUnderflow => 0,

@@ -2,9 +2,9 @@
 ghost use Rattle.std.specs.Prelude.{◌≡◌, Some, OnErr};
 ghost use Rattle.pcode_frames.specs.Frames.{current_of};
 ghost use Rattle.pcode_machine.specs.Execute.{execute, made};
-ghost use Rattle.pcode_machine.specs.Effects.{standard, effect_of, HasTable, IsPossible};
+ghost use Rattle.pcode_machine.specs.Effects.{standard, effect_of, HasCaseTable, IsPossible};
 ghost use Rattle.pcode_ops.specs.At.{HasElements};
-ghost use Rattle.pcode_machine.specs.Ready.{state_of, answered};
+ghost use Rattle.pcode_machine.specs.Ready.{state_of, state_if_ok};
 
 use crate::comparisons::Comparison;
 use crate::errors::ExecutionError;
@@ -18,7 +18,8 @@ use pcode_ops::{Instr, Program, StandardProcedure};
 impl MachineParts {
     /// Calls a standard procedure, and goes on at an offset.
     fn standard(&mut self, procedure: StandardProcedure, next: u32) -> Result<(), Stop>
-        ensures value { made (standard procedure next (state_of self.old)) next (state_of self.old) ≡ Some (answered result (state_of self.new)) }
+        ensures value { made (standard procedure next (state_of self.old)) next (state_of self.old)
+            ≡ Some (state_if_ok result (state_of self.new)) }
         ensures err { OnErr result (self.new ≡ self.old) }
     {
         match procedure {
@@ -36,8 +37,8 @@ impl MachineParts {
         }
     }
 
-    /// Executes an instruction of the program in the current frame, and goes on at the offset after it or
-    /// where it leads. A stop changes nothing.
+    /// Executes an instruction of the program in the current frame, and goes on at the offset after
+    /// it or where it leads. A stop changes nothing.
     #[tactic(auto, using(crate::proofs::Possible::some_given))]
     pub fn execute(
         &mut self,
@@ -47,10 +48,12 @@ impl MachineParts {
         next: u32,
     ) -> Result<(), Stop>
         requires current { current_of self.old.frames ≡ Some frame }
-        requires possible { IsPossible (effect_of program.now frame instr.now next (state_of self.old)) (state_of self.old) }
-        requires table { HasTable program.now instr.now }
+        requires possible { IsPossible
+            (effect_of program.now frame instr.now next (state_of self.old)) (state_of self.old) }
+        requires table { HasCaseTable program.now instr.now }
         requires packs { HasElements instr.now }
-        ensures value { execute program.now frame instr.now next (state_of self.old) ≡ Some (answered result (state_of self.new)) }
+        ensures value { execute program.now frame instr.now next (state_of self.old)
+            ≡ Some (state_if_ok result (state_of self.new)) }
         ensures err { OnErr result (self.new ≡ self.old) }
     {
         let base = frame.base;

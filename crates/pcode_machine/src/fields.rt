@@ -1,7 +1,7 @@
 //! Packed fields, which are some bits of a word: IXP, LDP, STP.
 ghost use Rattle.std.specs.Prelude.{◌≡◌, ◌≤◌, ◌^◌, IsTrue, OnErr};
 ghost use Rattle.pcode_machine.specs.Fields.{changed_at, field_at, field_indexed, field_loaded, field_of, field_stored, is_field, with_field};
-ghost use Rattle.pcode_machine.specs.Ready.{state_of, answered};
+ghost use Rattle.pcode_machine.specs.Ready.{state_of, state_if_ok};
 
 use crate::errors::ExecutionError;
 use crate::parts::MachineParts;
@@ -9,7 +9,8 @@ use crate::pointers::{behind, pointed};
 use crate::turn::Stop;
 use pcode_frames::{Memory, STACK_WORDS};
 
-/// Returns whether there is a bit at least, and all lie in one word: bits are counted from 0, the lowest.
+/// Returns whether there is a bit at least, and all lie in one word: bits are counted from 0, the
+/// lowest.
 fn is_field(width: u16, right: u16) -> bool
     ensures { result ≡ is_field width right }
 {
@@ -48,8 +49,8 @@ fn with_field(word: u16, width: u16, right: u16, value: u16) -> u16
     (word % low + low * field + above * (word / above)) as u16
 }
 
-/// Returns the field of the word at a pointer. Refused where the bits are no field, or else the word is not
-/// live.
+/// Returns the field of the word at a pointer. Refused where the bits are no field, or else the
+/// word is not live.
 fn field_at(memory: &Memory, pointer: u16, width: u16, right: u16) -> Result<u16, ExecutionError>
     ensures { result ≡ field_at memory.now pointer width right }
 {
@@ -62,8 +63,8 @@ fn field_at(memory: &Memory, pointer: u16, width: u16, right: u16) -> Result<u16
     }
 }
 
-/// Returns the word at a pointer with `value` in the field. Refused where the bits are no field, or else the
-/// word is not live.
+/// Returns the word at a pointer with `value` in the field. Refused where the bits are no field, or
+/// else the word is not live.
 fn changed_at(
     memory: &Memory,
     pointer: u16,
@@ -83,11 +84,13 @@ fn changed_at(
 }
 
 impl MachineParts {
-    /// Replaces an index and a pointer by the field at that index, three words: a pointer to the word, the
-    /// width, and the place of the lowest bit. Each word has `elements` fields of `width` bits.
+    /// Replaces an index and a pointer by the field at that index, three words: a pointer to the
+    /// word, the width, and the place of the lowest bit. Each word has `elements` fields of `width`
+    /// bits.
     pub fn index_field(&mut self, elements: u8, width: u8, next: u32) -> Result<(), Stop>
         requires { 1 ≤ elements }
-        ensures value { field_indexed elements width next (state_of self.old) self.old.stack ≡ answered result (state_of self.new) }
+        ensures value { field_indexed elements width next (state_of self.old) self.old.stack
+            ≡ state_if_ok result (state_of self.new) }
         ensures err { OnErr result (self.new ≡ self.old) }
     {
         if self.stack.len() < 2 {
@@ -112,7 +115,8 @@ impl MachineParts {
 
     /// Replaces the three words that name a field by its bits, and goes on at an offset.
     pub fn load_field(&mut self, next: u32) -> Result<(), Stop>
-        ensures value { field_loaded next (state_of self.old) self.old.stack ≡ answered result (state_of self.new) }
+        ensures value { field_loaded next (state_of self.old) self.old.stack
+            ≡ state_if_ok result (state_of self.new) }
         ensures err { OnErr result (self.new ≡ self.old) }
     {
         if self.stack.len() < 3 {
@@ -135,10 +139,11 @@ impl MachineParts {
         }
     }
 
-    /// Pops a word and the three words that name a field, stores the word's low bits there, and goes on at
-    /// an offset.
+    /// Pops a word and the three words that name a field, stores the word's low bits there, and
+    /// goes on at an offset.
     pub fn store_field(&mut self, next: u32) -> Result<(), Stop>
-        ensures value { field_stored next (state_of self.old) self.old.stack ≡ answered result (state_of self.new) }
+        ensures value { field_stored next (state_of self.old) self.old.stack
+            ≡ state_if_ok result (state_of self.new) }
         ensures err { OnErr result (self.new ≡ self.old) }
     {
         if self.stack.len() < 4 {

@@ -3,7 +3,7 @@ ghost use Rattle.std.specs.Prelude.{◌≡◌, ◌%◌, ◌==◌, if◌then◌el
 ghost use Rattle.pcode_file.specs.declared.file.Proc.{Proc};
 ghost use Rattle.pcode_ops.specs.Jumps.{IsCaseTable, case_of};
 ghost use Rattle.pcode_machine.specs.Jumps.{branched, branched_by_two};
-ghost use Rattle.pcode_machine.specs.Ready.{state_of, answered};
+ghost use Rattle.pcode_machine.specs.Ready.{state_of, state_if_ok};
 
 use crate::errors::ExecutionError;
 use crate::parts::MachineParts;
@@ -24,7 +24,8 @@ impl MachineParts {
     /// Pops a word, and goes on at a target if its low bit is 0, else at the next offset.
     #[inline(always)]
     pub fn jump_unless(&mut self, target: u32, next: u32) -> Result<(), Stop>
-        ensures value { branched (λ v. if v % 2 == 0 then target else next) (state_of self.old) self.old.stack ≡ answered result (state_of self.new) }
+        ensures value { branched (λ v. if v % 2 == 0 then target else next)
+            (state_of self.old) self.old.stack ≡ state_if_ok result (state_of self.new) }
         ensures err { OnErr result (self.new ≡ self.old) }
     {
         let word = self.stack.pop()?;
@@ -35,7 +36,8 @@ impl MachineParts {
     /// Pops two words, and goes on at one offset if they are equal, else at the other.
     #[inline(always)]
     pub fn jump_by_equal(&mut self, equal: u32, unequal: u32) -> Result<(), Stop>
-        ensures value { branched_by_two (λ a b. if a == b then equal else unequal) (state_of self.old) self.old.stack ≡ answered result (state_of self.new) }
+        ensures value { branched_by_two (λ a b. if a == b then equal else unequal)
+            (state_of self.old) self.old.stack ≡ state_if_ok result (state_of self.new) }
         ensures err { OnErr result (self.new ≡ self.old) }
     {
         if self.stack.len() < 2 {
@@ -57,7 +59,8 @@ impl MachineParts {
         table: usize,
     ) -> Result<(), Stop>
         requires { (q : Proc) × IsCaseTable program.now.segment q low high table }
-        ensures value { branched (λ v. case_of program.now.segment low high table v) (state_of self.old) self.old.stack ≡ answered result (state_of self.new) }
+        ensures value { branched (λ v. case_of program.now.segment low high table v)
+            (state_of self.old) self.old.stack ≡ state_if_ok result (state_of self.new) }
         ensures err { OnErr result (self.new ≡ self.old) }
     {
         let word = self.stack.pop()?;

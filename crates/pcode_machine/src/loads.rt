@@ -1,8 +1,8 @@
 //! Instructions that push a word: constants, words of frames, and pointers to them.
 ghost use Rattle.std.specs.Prelude.{◌≡◌, ◌+◌, OnErr};
-ghost use Rattle.pcode_frames.specs.Words.{word_at};
+ghost use Rattle.pcode_frames.specs.Words.{live_word_at};
 ghost use Rattle.pcode_machine.specs.Loads.{pushed, address_of, loaded};
-ghost use Rattle.pcode_machine.specs.Ready.{state_of, answered};
+ghost use Rattle.pcode_machine.specs.Ready.{state_of, state_if_ok};
 
 use crate::errors::ExecutionError;
 use crate::parts::MachineParts;
@@ -26,7 +26,7 @@ impl MachineParts {
     /// The word at an offset from a base, if it is live.
     #[inline(always)]
     pub fn word(&self, base: u16, offset: u16) -> Option<u16>
-        ensures { result ≡ word_at self.now.memory (base + offset) }
+        ensures { result ≡ live_word_at self.now.memory (base + offset) }
     {
         // No live word has a greater address than the top.
         let _top = self.memory.top();
@@ -36,7 +36,8 @@ impl MachineParts {
     /// Pushes a word, and goes on at an offset. There is room for 1,024 words.
     #[inline(always)]
     pub fn push(&mut self, word: u16, next: u32) -> Result<(), Stop>
-        ensures value { pushed word next (state_of self.old) ≡ answered result (state_of self.new) }
+        ensures value { pushed word next (state_of self.old)
+            ≡ state_if_ok result (state_of self.new) }
         ensures err { OnErr result (self.new ≡ self.old) }
     {
         self.stack.push(word)?;
@@ -47,7 +48,8 @@ impl MachineParts {
     /// Pushes the word at an offset from a base, and goes on at an offset of the code.
     #[inline(always)]
     pub fn load(&mut self, base: u16, offset: u16, next: u32) -> Result<(), Stop>
-        ensures value { loaded (base + offset) next (state_of self.old) ≡ answered result (state_of self.new) }
+        ensures value { loaded (base + offset) next (state_of self.old)
+            ≡ state_if_ok result (state_of self.new) }
         ensures err { OnErr result (self.new ≡ self.old) }
     {
         match self.word(base, offset) {

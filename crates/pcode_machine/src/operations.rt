@@ -1,7 +1,8 @@
-//! Instructions that make words of words: arithmetic, logic, comparisons, pointers that move, and CHK.
+//! Instructions that make words of words: arithmetic, logic, comparisons, pointers that move, and
+//! CHK.
 ghost use Rattle.std.specs.Prelude.{◌≡◌, OnErr};
 ghost use Rattle.pcode_machine.specs.Operations.{changed_of, checked, combined, replaced, value_of};
-ghost use Rattle.pcode_machine.specs.Ready.{state_of, answered};
+ghost use Rattle.pcode_machine.specs.Ready.{state_of, state_if_ok};
 
 use crate::arithmetic as words;
 use crate::comparisons::{Comparison, compared, compared_bits};
@@ -76,7 +77,8 @@ impl MachineParts {
     /// Changes the word on top, and goes on at an offset.
     #[inline(always)]
     pub fn replace(&mut self, change: Change, next: u32) -> Result<(), Stop>
-        ensures value { replaced change next (state_of self.old) self.old.stack ≡ answered result (state_of self.new) }
+        ensures value { replaced change next (state_of self.old) self.old.stack
+            ≡ state_if_ok result (state_of self.new) }
         ensures err { OnErr result (self.new ≡ self.old) }
     {
         if self.stack.len() == 0 {
@@ -91,7 +93,8 @@ impl MachineParts {
     /// Replaces the two words on top by one, and goes on at an offset.
     #[inline(always)]
     pub fn combine(&mut self, operation: Operation, next: u32) -> Result<(), Stop>
-        ensures value { combined operation next (state_of self.old) self.old.stack ≡ answered result (state_of self.new) }
+        ensures value { combined operation next (state_of self.old) self.old.stack
+            ≡ state_if_ok result (state_of self.new) }
         ensures err { OnErr result (self.new ≡ self.old) }
     {
         if self.stack.len() < 2 {
@@ -112,10 +115,11 @@ impl MachineParts {
         }
     }
 
-    /// Leaves the lowest of the three words on top if it lies from the next one to the top, and goes on
-    /// at an offset.
+    /// Leaves the lowest of the three words on top if it lies from the next one to the top, and
+    /// goes on at an offset.
     pub fn check(&mut self, next: u32) -> Result<(), Stop>
-        ensures value { checked next (state_of self.old) self.old.stack ≡ answered result (state_of self.new) }
+        ensures value { checked next (state_of self.old) self.old.stack
+            ≡ state_if_ok result (state_of self.new) }
         ensures err { OnErr result (self.new ≡ self.old) }
     {
         if self.stack.len() < 3 {

@@ -8,8 +8,8 @@ use pcode_file::Proc;
 use pcode_frames::{Frames, Memory, Stack};
 use std::alloc::{AllocError, Global};
 
-/// What a machine keeps beside its program. Instructions and transfers change these parts, and their
-/// contracts speak of the state that the parts stand for.
+/// What a machine keeps beside its program. Instructions and transfers change these parts, and
+/// their contracts speak of the state that the parts stand for.
 #[derive(Drop)]
 pub struct MachineParts {
     pub memory: Memory,
@@ -42,7 +42,9 @@ impl MachineParts {
     /// Puts the main frame into the room, if it fits, and goes to ENTER of the main program.
     pub fn start(&mut self, main: Proc)
         requires { state_of self.old ≡ unframed 0 }
-        ensures state { state_of self.new ≡ (if nat_le (main.params + main.vars) 16383 then framed main.enter (main.params + main.vars) else unframed main.enter) }
+        ensures state { state_of self.new
+            ≡ (if nat_le (main.params + main.vars) 16383
+            then framed main.enter (main.params + main.vars) else unframed main.enter) }
         ensures next { self.new.next ≡ main.enter }
     {
         self.next = main.enter;

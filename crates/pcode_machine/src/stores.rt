@@ -1,8 +1,8 @@
 //! Instructions that store a word of a frame: STL, STR, SRO.
 ghost use Rattle.std.specs.Prelude.{◌≡◌, ◌+◌, if◌then◌else◌, is_some, None, Some, OnErr};
-ghost use Rattle.pcode_frames.specs.Words.{word_at};
+ghost use Rattle.pcode_frames.specs.Words.{live_word_at};
 ghost use Rattle.pcode_machine.specs.Stores.{stored};
-ghost use Rattle.pcode_machine.specs.Ready.{state_of, answered};
+ghost use Rattle.pcode_machine.specs.Ready.{state_of, state_if_ok};
 
 use crate::errors::ExecutionError;
 use crate::parts::MachineParts;
@@ -12,7 +12,8 @@ use pcode_frames::Memory;
 /// The address of the word at an offset from a base, if it is live.
 #[inline(always)]
 pub fn live_word(memory: &Memory, base: u16, offset: u16) -> Option<u16>
-    ensures { result ≡ (if is_some (word_at memory.now (base + offset)) then Some (base + offset) else None) }
+    ensures { result ≡ (if is_some (live_word_at memory.now (base + offset))
+        then Some (base + offset) else None) }
 {
     // No live word has a greater address than the top.
     let _top = memory.top();
@@ -28,7 +29,8 @@ impl MachineParts {
     /// Pops a word to the live word at an offset from a base, and goes on at an offset of the code.
     #[inline(always)]
     pub fn store(&mut self, base: u16, offset: u16, next: u32) -> Result<(), Stop>
-        ensures value { stored (base + offset) next (state_of self.old) self.old.stack ≡ answered result (state_of self.new) }
+        ensures value { stored (base + offset) next (state_of self.old) self.old.stack
+            ≡ state_if_ok result (state_of self.new) }
         ensures err { OnErr result (self.new ≡ self.old) }
     {
         if self.stack.len() == 0 {

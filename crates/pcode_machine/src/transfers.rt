@@ -5,13 +5,13 @@ ghost use Rattle.pcode_frames.specs.Frames.{current_of};
 ghost use Rattle.pcode_machine.specs.declared.turn.Direction.TheVariants.{Writing};
 ghost use Rattle.pcode_machine.specs.declared.errors.ExecutionError.TheVariants.{BadAddress};
 ghost use Rattle.pcode_machine.specs.declared.turn.End.TheVariants.{Error};
-ghost use Rattle.pcode_machine.specs.Errors.{number_of};
-ghost use Rattle.pcode_frames.specs.Words.{byte_at, with_byte};
-ghost use Rattle.pcode_machine.specs.Configuration.{joined};
-ghost use Rattle.pcode_machine.specs.Transfers.{begun, called, is_console, later};
+ghost use Rattle.pcode_machine.specs.Errors.{error_number};
+ghost use Rattle.pcode_frames.specs.Words.{live_byte_at, with_byte};
+ghost use Rattle.pcode_machine.specs.Configuration.{configuration_of};
+ghost use Rattle.pcode_machine.specs.Transfers.{begun_transfer, unit_call, is_console, rest_of};
 ghost use Rattle.pcode_machine.specs.Outcome.{moved};
 ghost use Rattle.pcode_machine.specs.Turns.{Passes, sent};
-ghost use Rattle.pcode_machine.specs.Ready.{state_of, answered};
+ghost use Rattle.pcode_machine.specs.Ready.{state_of, state_if_ok};
 
 use crate::bytes::byte_address;
 use crate::errors::ExecutionError;
@@ -26,8 +26,8 @@ fn is_console(unit: u16) -> bool
     unit == 1 || unit == 2
 }
 
-/// The transfer that a call at an offset begins, if there is a byte to move. The length is signed, and
-/// the byte address is the base plus the signed index.
+/// The transfer that a call at an offset begins, if there is a byte to move. The length is signed,
+/// and the byte address is the base plus the signed index.
 fn begun(
     direction: Direction,
     unit: u16,
@@ -36,7 +36,7 @@ fn begun(
     len: u16,
     at: u32,
 ) -> Option<Transfer>
-    ensures { result ≡ begun direction unit base index len at }
+    ensures { result ≡ begun_transfer direction unit base index len at }
 {
     if !is_console(unit) {
         return None;
@@ -58,7 +58,7 @@ fn begun(
 
 /// The end of a transfer whose next byte is not in a live word.
 fn not_live(frame: Frame, transfer: Transfer) -> End
-    ensures { result ≡ Error (number_of BadAddress) frame.procedure transfer.at }
+    ensures { result ≡ Error (error_number BadAddress) frame.procedure transfer.at }
 {
     End::Error {
         number: ExecutionError::BadAddress.number(),
@@ -71,7 +71,8 @@ impl MachineParts {
     /// Calls UNITREAD or UNITWRITE: pops mode, block, length, index, base and unit, the last pushed
     /// first, and goes on at an offset. Mode and block are ignored.
     pub fn call(&mut self, direction: Direction, next: u32) -> Result<(), Stop>
-        ensures value { called direction next (state_of self.old) self.old.stack ≡ answered result (state_of self.new) }
+        ensures value { unit_call direction next (state_of self.old) self.old.stack
+            ≡ state_if_ok result (state_of self.new) }
         ensures err { OnErr result (self.new ≡ self.old) }
     {
         if self.stack.len() < 6 {
@@ -92,8 +93,8 @@ impl MachineParts {
     /// Keeps what is left of a transfer after one byte, whose address was live.
     #[tactic(auto, using(crate::proofs::Live::live_address))]
     fn pass_byte(&mut self, transfer: Transfer)
-        requires live { IsSome (byte_at self.old.memory transfer.address) }
-        ensures { self.new ≡ record self.old { transfer = later transfer } }
+        requires live { IsSome (live_byte_at self.old.memory transfer.address) }
+        ensures { self.new ≡ record self.old { transfer = rest_of transfer } }
     {
         // A live address is far below the greatest of its type.
         let _top = self.memory.top();
@@ -110,19 +111,22 @@ impl MachineParts {
 
     /// Stores a byte of a transfer at its live address, and keeps what is left of it.
     pub fn take_byte(&mut self, transfer: Transfer, byte: u8)
-        requires live { IsSome (byte_at self.old.memory transfer.address) }
-        ensures { self.new ≡ record self.old { memory = with_byte self.old.memory transfer.address byte; transfer = later transfer } }
+        requires live { IsSome (live_byte_at self.old.memory transfer.address) }
+        ensures { self.new ≡ record self.old {
+          memory = with_byte self.old.memory transfer.address byte;
+          transfer = rest_of transfer;
+        } }
     {
         self.pass_byte(transfer);
         self.memory.put_byte(transfer.address, byte);
     }
 
-    /// Writes the next byte of a transfer to a unit, and returns it; or says how the program ends, where its
-    /// address is not live.
+    /// Writes the next byte of a transfer to a unit, and returns it; or says how the program ends,
+    /// where its address is not live.
     fn write_byte(&mut self, frame: Frame, transfer: Transfer) -> Result<u8, End>
         requires { self.old.transfer ≡ Some transfer }
         ensures value { (x : List ℕ) (read : ℕ) (output : List ℕ) →
-            moved Writing x (joined (state_of self.old) read output) frame transfer
+            moved Writing x (configuration_of (state_of self.old) read output) frame transfer
             ≡ sent result (state_of self.new) read output }
         ensures err { OnErr result (self.new ≡ self.old) }
         ensures next { self.new.next ≡ self.old.next }
@@ -137,12 +141,12 @@ impl MachineParts {
         }
     }
 
-    /// Looks at the address of the next byte of a transfer from a unit. Refused, by how the program ends,
-    /// where it is not live.
+    /// Looks at the address of the next byte of a transfer from a unit. Refused, by how the program
+    /// ends, where it is not live.
     fn find_place(&self, frame: Frame, transfer: Transfer) -> Result<(), End>
-        ensures live { OnOk result (IsSome (byte_at self.now.memory transfer.address)) }
-        ensures dead { IfErr result (λ e. (byte_at self.now.memory transfer.address ≡ None)
-            × (e ≡ Error (number_of BadAddress) frame.procedure transfer.at)) }
+        ensures live { OnOk result (IsSome (live_byte_at self.now.memory transfer.address)) }
+        ensures dead { IfErr result (λ e. (live_byte_at self.now.memory transfer.address ≡ None)
+            × (e ≡ Error (error_number BadAddress) frame.procedure transfer.at)) }
     {
         match self.memory.get_byte(transfer.address) {
             None => Err(not_live(frame, transfer)),
@@ -150,8 +154,8 @@ impl MachineParts {
         }
     }
 
-    /// Goes on with a pending transfer: writes its next byte, or waits for it. The address is looked at
-    /// first.
+    /// Goes on with a pending transfer: writes its next byte, or waits for it. The address is
+    /// looked at first.
     pub fn pass(&mut self, frame: Frame, transfer: Transfer) -> Pause
         requires current { current_of self.old.frames ≡ Some frame }
         requires pending { self.old.transfer ≡ Some transfer }

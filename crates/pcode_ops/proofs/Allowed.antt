@@ -19,10 +19,12 @@ use Rattle.pcode_ops.proofs.Procedures.{is_inside}
 -- ---- where the checks of an offset let an instruction stand
 
 -- an offset in the part of an owner has that owner
-same_owner : (p : Parts) (i k : ℕ) (q : Proc) → AreProcs p.segment p.procs → owner p.procs i ≡ Ok q → is_in q k ≡ true → owner p.procs k ≡ Ok q
+same_owner : (p : Parts) (i k : ℕ) (q : Proc) → AreProcs p.segment p.procs → owner p.procs i ≡ Ok q → is_in q k ≡ true
+    → owner p.procs k ≡ Ok q
 same_owner p i k q h own inside = let at = owner_is p.procs i q own in owned p (suc at.0) k q h at.1 inside
 
-looked_stands : (p : Parts) (i : ℕ) (q : Proc) (found : Instr × ℕ) (leads : Onward) → AreProcs p.segment p.procs → Reach p i → IsLooked p i q found leads → MayStand p q found.0 found.1
+looked_stands : (p : Parts) (i : ℕ) (q : Proc) (found : Instr × ℕ) (leads : Onward) → AreProcs p.segment p.procs
+    → Reach p i → IsLooked p i q found leads → MayStand p q found.0 found.1
 looked_stands p i q found leads h reach l =
     let inside = looked_inside p i q found leads l in
     record {
@@ -32,7 +34,8 @@ looked_stands p i q found leads h reach l =
       reached = λ k to. (followed i k leads reach l.looked to, same_owner p i k q h l.owned (inside k to));
     }
 
-pub may_stand : (p : Parts) (i : ℕ) (q : Proc) (instr : Instr) (j : ℕ) → AreProcs p.segment p.procs → owner p.procs i ≡ Ok q → Ok (instr, j) ≡ instr_at p.segment i → Reach p i → IsFine p i
+pub may_stand : (p : Parts) (i : ℕ) (q : Proc) (instr : Instr) (j : ℕ) → AreProcs p.segment p.procs
+    → owner p.procs i ≡ Ok q → Ok (instr, j) ≡ instr_at p.segment i → Reach p i → IsFine p i
     → MayStand p q instr j
 may_stand p i q instr j h own at reach fine =
     let leads = fine_leads p i fine in
@@ -45,11 +48,13 @@ may_stand p i q instr j h own at reach fine =
 
 -- ---- what follows
 
-pub enter_owned : (p : Parts) (n : ℕ) (q : Proc) → AreProcs p.segment p.procs → procedure_of p.procs n ≡ Some q → Reach p q.enter × (owner p.procs q.enter ≡ Ok q)
+pub enter_owned : (p : Parts) (n : ℕ) (q : Proc) → AreProcs p.segment p.procs → procedure_of p.procs n ≡ Some q
+    → Reach p q.enter × (owner p.procs q.enter ≡ Ok q)
 enter_owned p zero q h at = absurd cc
 enter_owned p (suc k) q h at =
     let enter = (h.each k q at).enter in
     (entered k q at, owned p (suc k) q.enter q h at (is_inside q q.enter enter.above enter.below))
 
-pub next_owned : (p : Parts) (q : Proc) (instr : Instr) (next : ℕ) → MayStand p q instr next → HasNext instr → Reach p next × (owner p.procs next ≡ Ok q)
+pub next_owned : (p : Parts) (q : Proc) (instr : Instr) (next : ℕ) → MayStand p q instr next → HasNext instr
+    → Reach p next × (owner p.procs next ≡ Ok q)
 next_owned p q instr next m has = m.reached next (inl (next_is p.segment q instr next m.leads has m.found))

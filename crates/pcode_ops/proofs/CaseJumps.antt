@@ -37,7 +37,8 @@ signed_found code at w j h =
     let high : slice_index code (at + 1) ≡ word.1 = get_or_from_slice_get code (at + 1) word.1 0 word.3 in
     rw (low, high, h.2, word.4) refl
 
-pub case_jump_found : (code : List ℕ) (at : ℕ) (low high sb : ℤ) (table j : ℕ) → Cases code at low high sb table j → case_jump_at code at ≡ Ok (Xjp low high sb table, j)
+pub case_jump_found : (code : List ℕ) (at : ℕ) (low high sb : ℤ) (table j : ℕ) → Cases code at low high sb table j
+    → case_jump_at code at ≡ Ok (Xjp low high sb table, j)
 case_jump_found code at low high sb table j h =
     let first = signed_found code at low (at + 2) h.0 in
     let second = signed_found code (at + 2) high (at + 4) h.1 in
@@ -63,7 +64,8 @@ signed_there : (code : List ℕ) (at j : ℕ) → j ≡ at + 2 → at + 1 < leng
 signed_there code at j e h =
     (word code at, (slice_index code at, slice_index code (at + 1), there code at (omega arith), there code (at + 1) h, refl, e), refl)
 
-jump_there : (code : List ℕ) (at : ℕ) → at + 5 < length code → SignedByte code (at + 4 + 1) (cast_signed w8 (slice_index code (at + 5))) (at + 6)
+jump_there : (code : List ℕ) (at : ℕ) → at + 5 < length code
+    → SignedByte code (at + 4 + 1) (cast_signed w8 (slice_index code (at + 5))) (at + 6)
 jump_there code at h =
     let place : at + 5 ≡ at + 4 + 1 = omega arith in
     let byte : HasByte code (at + 4 + 1) (slice_index code (at + 5)) = rw (← place) (there code (at + 5) h) in

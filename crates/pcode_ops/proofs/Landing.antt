@@ -28,7 +28,9 @@ abbrev HasTarget : Result ℕ OpFault → Onward → Type 0
 HasTarget r o = (t : ℕ) × (r ≡ Ok t) × (o.target ≡ Some t)
 
 goes_to : (q : Proc) (next t : ℕ) (o : Onward) → goes_on q next (Some t) ≡ Ok o → o.target ≡ Some t
-goes_to q next t o e = let made = pass_ok (is_in q next) Cut (Ok (record { next = Some next; target = Some t; table = 0; count = 0 })) o e in cc (made.1)
+goes_to q next t o e = let made =
+    pass_ok (is_in q next) Cut (Ok (record { next = Some next; target = Some t; table = 0; count = 0 })) o e in cc
+    (made.1)
 
 branch_target : (q : Proc) (next : ℕ) (r : Result ℕ OpFault) (o : Onward) → (r >>= λ t. goes_on q next (Some t)) ≡ Ok o → HasTarget r o
 branch_target q next (Ok t) o e = (t, refl, goes_to q next t o e)
@@ -38,7 +40,8 @@ jump_target : (r : Result ℕ OpFault) (o : Onward) → (r >>= λ t. Ok (ends_at
 jump_target (Ok t) o e = (t, refl, cc)
 jump_target (Err f) o e = absurd cc
 
-stays_with : (p : Parts) (n : ℕ) (q : Proc) (sb : ℤ) (next : ℕ) (o : Onward) → procedure_of p.procs n ≡ Some q → ((k : ℕ) → LeadsTo p.segment o k → Reach p k × (owner p.procs k ≡ Ok q))
+stays_with : (p : Parts) (n : ℕ) (q : Proc) (sb : ℤ) (next : ℕ) (o : Onward) → procedure_of p.procs n ≡ Some q
+    → ((k : ℕ) → LeadsTo p.segment o k → Reach p k × (owner p.procs k ≡ Ok q))
     → HasTarget (jump_to p.segment q sb next) o → StaysWith p n q sb next
 stays_with p n q sb next o at reached h =
     let here : jump_in p n sb next ≡ Some h.0 = rw (at, h.1) refl in
@@ -48,22 +51,29 @@ stays_with p n q sb next o at reached h =
       stays = λ t e. (let same : h.0 ≡ t = cc in subst P same (reached h.0 (inr (inl h.2))));
     }
 
-flow_target : (segment : List ℕ) (q : Proc) (flow : Flow) (sb : ℤ) (next : ℕ) (o : Onward) → JumpsWith flow sb → flows_to segment q flow next ≡ Ok o → HasTarget (jump_to segment q sb next) o
-flow_target segment q (Jumps by) sb next o same e = let P : ℤ → Type 0 = λ x. HasTarget (jump_to segment q x next) o in subst P same (jump_target (jump_to segment q by next) o e)
-flow_target segment q (Branches by) sb next o same e = let P : ℤ → Type 0 = λ x. HasTarget (jump_to segment q x next) o in subst P same (branch_target q next (jump_to segment q by next) o e)
+flow_target : (segment : List ℕ) (q : Proc) (flow : Flow) (sb : ℤ) (next : ℕ) (o : Onward) → JumpsWith flow sb
+    → flows_to segment q flow next ≡ Ok o → HasTarget (jump_to segment q sb next) o
+flow_target segment q (Jumps by) sb next o same e = let P : ℤ → Type 0 =
+    λ x. HasTarget (jump_to segment q x next) o in subst P same (jump_target (jump_to segment q by next) o e)
+flow_target segment q (Branches by) sb next o same e = let P : ℤ → Type 0 =
+    λ x. HasTarget (jump_to segment q x next) o in subst P same (branch_target q next (jump_to segment q by next) o e)
 flow_target segment q On sb next o same e = absurd same
 flow_target segment q (Switches low high table) sb next o same e = absurd same
 flow_target segment q Ends sb next o same e = absurd same
 
-pub jump_stays : (p : Parts) (n : ℕ) (q : Proc) (instr : Instr) (sb : ℤ) (next : ℕ) → JumpsBy instr sb → MayStand p q instr next → procedure_of p.procs n ≡ Some q → StaysWith p n q sb next
-jump_stays p n q instr sb next jumps m at = stays_with p n q sb next m.leads at m.reached (flow_target p.segment q (flow_of instr) sb next m.leads jumps m.found)
+pub jump_stays : (p : Parts) (n : ℕ) (q : Proc) (instr : Instr) (sb : ℤ) (next : ℕ) → JumpsBy instr sb
+    → MayStand p q instr next → procedure_of p.procs n ≡ Some q → StaysWith p n q sb next
+jump_stays p n q instr sb next jumps m at =
+    stays_with p n q sb next m.leads at m.reached
+    (flow_target p.segment q (flow_of instr) sb next m.leads jumps m.found)
 
 -- ---- case jumps
 
 abbrev case_onward : ℕ → ℕ → Onward
 case_onward table count = record { next = Some (table - 2); target = None; table = table; count = count }
 
-entries : (p : Parts) (q : Proc) (low high sb : ℤ) (table next : ℕ) → (m : MayStand p q (Xjp low high sb table) next) → (entries_in p.segment q table (cases low high) ≡ true) × (case_onward table (cases low high) ≡ m.leads)
+entries : (p : Parts) (q : Proc) (low high sb : ℤ) (table next : ℕ) → (m : MayStand p q (Xjp low high sb table) next)
+    → (entries_in p.segment q table (cases low high) ≡ true) × (case_onward table (cases low high) ≡ m.leads)
 entries p q low high sb table next m =
     let count = cases low high in
     let e = pass_ok (entries_in p.segment q table count) JumpRange (Ok (case_onward table count)) m.leads m.found in
@@ -80,13 +90,16 @@ case_by segment low high x table true e =
     inr (inr (unsigned_abs (x -ℤ low), within_cases low high x both.0 both.1, refl))
 case_by segment low high x table false e = inl refl
 
-pub case_leads : (p : Parts) (q : Proc) (low high sb : ℤ) (table next w : ℕ) → (m : MayStand p q (Xjp low high sb table) next) → LeadsTo p.segment m.leads (case_of p.segment low high table w)
+pub case_leads : (p : Parts) (q : Proc) (low high sb : ℤ) (table next w : ℕ)
+    → (m : MayStand p q (Xjp low high sb table) next) → LeadsTo p.segment m.leads (case_of p.segment low high table w)
 case_leads p q low high sb table next w m =
     let P : Onward → Type 0 = λ o. LeadsTo p.segment o (case_of p.segment low high table w) in
     let x = cast_signed w16 w in
     subst P ((entries p q low high sb table next m).1) (case_by p.segment low high x table (int_le low x && int_le x high) refl)
 
-pub case_table : (p : Parts) (i : ℕ) (q : Proc) (low high sb : ℤ) (table next : ℕ) → instr_at p.segment i ≡ Ok (Xjp low high sb table, next) → MayStand p q (Xjp low high sb table) next → IsCaseTable p.segment q low high table
+pub case_table : (p : Parts) (i : ℕ) (q : Proc) (low high sb : ℤ) (table next : ℕ)
+    → instr_at p.segment i ≡ Ok (Xjp low high sb table, next) → MayStand p q (Xjp low high sb table) next
+    → IsCaseTable p.segment q low high table
 case_table p i q low high sb table next at m =
     let stands = case_jump_at_is p.segment i low high sb table next (decoded_at p.segment i (Xjp low high sb table) next at) in
     record {

@@ -6,7 +6,8 @@ use Rattle.pcode_ops.specs.At.{HasByte, Word, Big}
 use Rattle.pcode_ops.specs.Decoding.{or_cut, byte_at, word_at, big_at}
 
 -- what a step answers has R, where what it is made of has Q
-pub step_has : {A B E : Type 0} (Q : A → Type 0) (R : B → Type 0) (r : Result A E) (f : A → Result B E) → IfOk r Q → ((x : A) → Q x → IfOk (f x) R) → IfOk (r >>= f) R
+pub step_has : {A B E : Type 0} (Q : A → Type 0) (R : B → Type 0) (r : Result A E) (f : A → Result B E) → IfOk r Q
+    → ((x : A) → Q x → IfOk (f x) R) → IfOk (r >>= f) R
 step_has Q R (Ok x) f h g = g x h
 step_has Q R (Err e) f h g = tt
 
@@ -19,8 +20,10 @@ byte_read code i = byte_by code i (slice_get code i) refl
 
 pub word_read : (code : List ℕ) (i : ℕ) → IfOk (word_at code i) (λ n. Word code i n (i + 2))
 word_read code i =
-    step_has (HasByte code i) (λ n. Word code i n (i + 2)) (byte_at code i) (λ low. byte_at code (i + 1) >>= λ high. Ok (low + 256 * high)) (byte_read code i)
-    (λ low g. step_has (HasByte code (i + 1)) (λ n. Word code i n (i + 2)) (byte_at code (i + 1)) (λ high. Ok (low + 256 * high)) (byte_read code (i + 1))
+    step_has (HasByte code i) (λ n. Word code i n (i + 2)) (byte_at code i)
+    (λ low. byte_at code (i + 1) >>= λ high. Ok (low + 256 * high)) (byte_read code i)
+    (λ low g. step_has (HasByte code (i + 1)) (λ n. Word code i n (i + 2)) (byte_at code (i + 1))
+    (λ high. Ok (low + 256 * high)) (byte_read code (i + 1))
     (λ high h. (low, high, g, h, refl, refl)))
 
 -- an operand of one or two bytes stands at i, up to the offset behind it
@@ -28,14 +31,17 @@ abbrev pub IsBig : List ℕ → ℕ → ℕ × ℕ → Type 0
 IsBig code i r = Big code i r.0 r.1
 
 -- a first byte that is not below 128, and the one behind it
-wide_read : (code : List ℕ) (i first : ℕ) → HasByte code i first → ltb first 128 ≡ false → IfOk (byte_at code (i + 1) >>= λ low. Ok ((first - 128) * 256 + low, i + 2)) (IsBig code i)
+wide_read : (code : List ℕ) (i first : ℕ) → HasByte code i first → ltb first 128 ≡ false
+    → IfOk (byte_at code (i + 1) >>= λ low. Ok ((first - 128) * 256 + low, i + 2)) (IsBig code i)
 wide_read code i first e t =
     let least = ltb-false first 128 t in
     let whole : first ≡ first - 128 + 128 = omega arith in
-    step_has (HasByte code (i + 1)) (IsBig code i) (byte_at code (i + 1)) (λ low. Ok ((first - 128) * 256 + low, i + 2)) (byte_read code (i + 1))
+    step_has (HasByte code (i + 1)) (IsBig code i) (byte_at code (i + 1)) (λ low. Ok ((first - 128) * 256 + low, i + 2))
+    (byte_read code (i + 1))
     (λ low f. inr (first - 128, low, e ∙ ap Some whole, f, refl, refl))
 
 pub big_read : (code : List ℕ) (i : ℕ) → IfOk (big_at code i) (IsBig code i)
 big_read code i =
     step_has (HasByte code i) (IsBig code i) (byte_at code i) _ (byte_read code i)
-    (λ first e. cond_both (ltb first 128) (Ok (first, i + 1)) _ (λ r. IfOk r (IsBig code i)) (λ t. inl (e, ltb-true first 128 t, refl)) (wide_read code i first e))
+    (λ first e. cond_both (ltb first 128) (Ok (first, i + 1)) _ (λ r. IfOk r (IsBig code i))
+    (λ t. inl (e, ltb-true first 128 t, refl)) (wide_read code i first e))

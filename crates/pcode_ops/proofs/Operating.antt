@@ -27,7 +27,8 @@ made_operands code i made instr j e same =
     let P : Instr → Type 0 = λ x. HasOperands code i x j in
     subst P (sym same) (plain_operands code i made j e)
 
-stands_operands : (code : List ℕ) (i op : ℕ) (form : Form) (instr : Instr) (j : ℕ) → ((a b : ℕ) → makes_plain form a b ≡ true) → Stands code i op form instr j → HasOperands code i instr j
+stands_operands : (code : List ℕ) (i op : ℕ) (form : Form) (instr : Instr) (j : ℕ)
+    → ((a b : ℕ) → makes_plain form a b ≡ true) → Stands code i op form instr j → HasOperands code i instr j
 stands_operands code i op (Alone made) instr j p h = made_operands code i made instr j (p 0 0) h.1
 stands_operands code i op (Numbered count number make) instr j p h = made_operands code i _ instr j (p (h.0 + number) 0) h.3
 stands_operands code i op (WithByte make) instr j p h = made_operands code i _ instr j (p h.0 0) h.3
@@ -47,7 +48,8 @@ at_operands code i instr j h = stands_operands code i h.opcode h.form instr j (r
 
 -- ---- what follows of what is decoded
 
-pub case_jump_at_is : (code : List ℕ) (i : ℕ) (low high sb : ℤ) (table j : ℕ) → At code i (Xjp low high sb table) j → Cases code (i + 1 + (i + 1) % 2) low high sb table j
+pub case_jump_at_is : (code : List ℕ) (i : ℕ) (low high sb : ℤ) (table j : ℕ) → At code i (Xjp low high sb table) j
+    → Cases code (i + 1 + (i + 1) % 2) low high sb table j
 case_jump_at_is code i low high sb table j h = at_operands code i (Xjp low high sb table) j h
 
 elements_by : (code : List ℕ) (i : ℕ) (instr : Instr) (j : ℕ) → HasOperands code i instr j → HasElements instr
@@ -61,6 +63,8 @@ table_by : (code : List ℕ) (i : ℕ) (instr : Instr) (j : ℕ) → HasOperands
 table_by code i (Xjp low high sb table) j h = (omega (arith, h.4.3), omega (arith, h.5, h.6))
 table_by code i _ j h = tt
 
-pub table_found : (code : List ℕ) (i : ℕ) (r : Result (Instr × ℕ) OpFault) → r ≡ instr_at code i → IfOk r (λ found. IsTableIn (length code) found.0)
-table_found code i (Ok found) e = table_by code i found.0 found.1 (at_operands code i found.0 found.1 (decoded_at code i found.0 found.1 (sym e)))
+pub table_found : (code : List ℕ) (i : ℕ) (r : Result (Instr × ℕ) OpFault) → r ≡ instr_at code i
+    → IfOk r (λ found. IsTableIn (length code) found.0)
+table_found code i (Ok found) e =
+    table_by code i found.0 found.1 (at_operands code i found.0 found.1 (decoded_at code i found.0 found.1 (sym e)))
 table_found code i (Err f) e = tt

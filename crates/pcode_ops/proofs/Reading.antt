@@ -5,8 +5,8 @@ use Rattle.base.specs.Steps.{◌>>=◌}
 use Rattle.pcode_ops.specs.declared.instr.Instr.{Instr}
 use Rattle.pcode_ops.specs.declared.fault.OpFault.{OpFault}
 use Rattle.pcode_ops.specs.declared.opcodes.Row.{Row}
-use Rattle.pcode_ops.specs.Opcodes.{Form, Alone, Numbered, WithByte, WithBig, WithWord, WithLevels, WithSigned, Typed, Packed, Standard, CaseJump, row_of, opcodes, refusal_of}
-use Rattle.pcode_ops.specs.Decoding.{byte_at, word_at, big_at, or_zero, first_or_zero, operands_at, made_of, made_by, finished_at, read_at, by_row, instr_of}
+use Rattle.pcode_ops.specs.Opcodes.{Form, Alone, Numbered, WithByte, WithBig, WithWord, WithLevels, WithSigned, Typed, Packed, Standard, CaseJump, row_of, opcodes, opcode_refusal}
+use Rattle.pcode_ops.specs.Decoding.{byte_at, word_at, big_at, or_zero, first_or_zero, operands_at, row_with, made_by, finished_at, read_at, by_row, instr_of}
 
 one_read : (r : Result ℕ OpFault) (g : ℕ → Result (Instr × ℕ) OpFault) → (r >>= λ n. g (or_zero r)) ≡ (r >>= g)
 one_read (Ok n) g = refl
@@ -31,7 +31,8 @@ levels_read : (r : Result ℕ OpFault) (s : Result (ℕ × ℕ) OpFault) (make :
 levels_read (Err f) s make = refl
 levels_read (Ok levels) s make = big_read s (make levels)
 
-finished_is : (code : List ℕ) (i op first : ℕ) (form : Form) → finished_at code i op (made_of (operands_at code i) op first form) ≡ read_at code i op first form
+finished_is : (code : List ℕ) (i op first : ℕ) (form : Form)
+    → finished_at code i op (row_with (operands_at code i) op first form) ≡ read_at code i op first form
 finished_is code i op first (WithByte make) = one_read (byte_at code (i + 1)) (λ n. Ok (make n, i + 2))
 finished_is code i op first (WithSigned make) = one_read (byte_at code (i + 1)) (λ n. Ok (make (cast_signed w8 n), i + 2))
 finished_is code i op first (WithWord make) = one_read (word_at code (i + 1)) (λ n. Ok (make n, i + 3))
@@ -44,21 +45,25 @@ finished_is code i op first Packed = refl
 finished_is code i op first Standard = refl
 finished_is code i op first CaseJump = refl
 
-some_by : (code : List ℕ) (i op : ℕ) (row : Row) (o : Option (ℕ × Form)) → made_by (operands_at code i) op o ≡ Some row → finished_at code i op row ≡ by_row code i op o
+some_by : (code : List ℕ) (i op : ℕ) (row : Row) (o : Option (ℕ × Form)) → made_by (operands_at code i) op o ≡ Some row
+    → finished_at code i op row ≡ by_row code i op o
 some_by code i op row None e = absurd cc
 some_by code i op row (Some found) e =
-    let same : made_of (operands_at code i) op found.0 found.1 ≡ row = cc in
+    let same : row_with (operands_at code i) op found.0 found.1 ≡ row = cc in
     let P : Row → Type 0 = λ x. finished_at code i op x ≡ read_at code i op found.0 found.1 in
     subst P same (finished_is code i op found.0 found.1)
 
-none_by : (code : List ℕ) (i op : ℕ) (o : Option (ℕ × Form)) → made_by (operands_at code i) op o ≡ None → Err (refusal_of op) ≡ by_row code i op o
+none_by : (code : List ℕ) (i op : ℕ) (o : Option (ℕ × Form)) → made_by (operands_at code i) op o ≡ None
+    → Err (opcode_refusal op) ≡ by_row code i op o
 none_by code i op None e = refl
 none_by code i op (Some found) e = absurd cc
 
-pub row_finished : (code : List ℕ) (i op : ℕ) (row : Row) → Some row ≡ made_by (operands_at code i) op (row_of op opcodes) → finished_at code i op row ≡ instr_of code i op
+pub row_finished : (code : List ℕ) (i op : ℕ) (row : Row)
+    → Some row ≡ made_by (operands_at code i) op (row_of op opcodes) → finished_at code i op row ≡ instr_of code i op
 unfolding instr_of
 row_finished code i op row e = some_by code i op row (row_of op opcodes) (sym e)
 
-pub none_refused : (code : List ℕ) (i op : ℕ) → None ≡ made_by (operands_at code i) op (row_of op opcodes) → Err (refusal_of op) ≡ instr_of code i op
+pub none_refused : (code : List ℕ) (i op : ℕ) → None ≡ made_by (operands_at code i) op (row_of op opcodes)
+    → Err (opcode_refusal op) ≡ instr_of code i op
 unfolding instr_of
 none_refused code i op e = none_by code i op (row_of op opcodes) (sym e)

@@ -4,7 +4,7 @@ use Rattle.std.proofs.lemmas.Bool.{and_parts, leb-true, ltb-true, eqb-true, cond
 use Rattle.pcode_ops.specs.declared.instr.Instr.{Instr}
 use Rattle.pcode_ops.specs.declared.instr.Instr.TheVariants.{Ixp, Xjp}
 use Rattle.std.specs.Int.{w8, cast_signed}
-use Rattle.pcode_ops.specs.Opcodes.{Form, Alone, Numbered, WithByte, WithBig, WithWord, WithLevels, WithSigned, Typed, opcodes, covers, row_of}
+use Rattle.pcode_ops.specs.Opcodes.{Form, Alone, Numbered, WithByte, WithBig, WithWord, WithLevels, WithSigned, Typed, opcodes, has_opcode, row_of}
 
 -- ---- rows that have no opcode in common
 
@@ -27,7 +27,7 @@ are_apart (r ∷ rs) = is_clear r rs && are_apart rs
 opcodes_apart : are_apart opcodes ≡ true
 opcodes_apart = refl
 
-pub within_row : (op first : ℕ) (form : Form) → covers op first form ≡ true → (first ≤ op) × (op < first + width_of form)
+pub within_row : (op first : ℕ) (form : Form) → has_opcode op first form ≡ true → (first ≤ op) × (op < first + width_of form)
 within_row op first (Numbered count number make) e =
     let both = and_parts _ _ e in
     (leb-true first op both.0, ltb-true op (first + count) both.1)
@@ -37,7 +37,7 @@ or_parts : (a b : Bool) (P : Type 0) → (a || b) ≡ true → (a ≡ true → P
 or_parts true b P e f g = f refl
 or_parts false b P e f g = g e
 
-never_both : (op : ℕ) (a b : ℕ × Form) → are_two a b ≡ true → covers op a.0 a.1 ≡ true → covers op b.0 b.1 ≡ true → ⊥
+never_both : (op : ℕ) (a b : ℕ × Form) → are_two a b ≡ true → has_opcode op a.0 a.1 ≡ true → has_opcode op b.0 b.1 ≡ true → ⊥
 never_both op a b e f g =
     let one = within_row op a.0 a.1 f in
     let two = within_row op b.0 b.1 g in
@@ -45,7 +45,8 @@ never_both op a b e f g =
     (λ t. let le = leb-true (a.0 + width_of a.1) b.0 t in omega arith)
     (λ t. let le = leb-true (b.0 + width_of b.1) a.0 t in omega arith)
 
-clear_of : (row : ℕ × Form) (rows : List (ℕ × Form)) (k : ℕ) (other : ℕ × Form) → is_clear row rows ≡ true → slice_get rows k ≡ Some other → are_two row other ≡ true
+clear_of : (row : ℕ × Form) (rows : List (ℕ × Form)) (k : ℕ) (other : ℕ × Form) → is_clear row rows ≡ true
+    → slice_get rows k ≡ Some other → are_two row other ≡ true
 clear_of row [] k other e at = absurd cc
 clear_of row (r ∷ rs) zero other e at =
     let same : r ≡ other = cc in
@@ -54,26 +55,27 @@ clear_of row (r ∷ rs) zero other e at =
 clear_of row (r ∷ rs) (suc k) other e at = clear_of row rs k other ((and_parts _ _ e).1) at
 
 -- the row that has an opcode is the first that has it
-row_first : (op : ℕ) (rows : List (ℕ × Form)) (k : ℕ) (row : ℕ × Form) → are_apart rows ≡ true → slice_get rows k ≡ Some row → covers op row.0 row.1 ≡ true → row_of op rows ≡ Some row
+row_first : (op : ℕ) (rows : List (ℕ × Form)) (k : ℕ) (row : ℕ × Form) → are_apart rows ≡ true
+    → slice_get rows k ≡ Some row → has_opcode op row.0 row.1 ≡ true → row_of op rows ≡ Some row
 row_first op [] k row e at c = absurd cc
 row_first op (r ∷ rs) zero row e at c =
     let same : r ≡ row = cc in
-    let P : ℕ × Form → Type 0 = λ x. covers op x.0 x.1 ≡ true in
-    let here : covers op r.0 r.1 ≡ true = subst P (sym same) c in
+    let P : ℕ × Form → Type 0 = λ x. has_opcode op x.0 x.1 ≡ true in
+    let here : has_opcode op r.0 r.1 ≡ true = subst P (sym same) c in
     rw here (ap (λ (x : ℕ × Form). Some x) same)
 row_first op (r ∷ rs) (suc k) row e at c =
     let both = and_parts _ _ e in
     let rest = row_first op rs k row both.1 at c in
-    cond_both (covers op r.0 r.1) (Some r) (row_of op rs) (λ o. o ≡ Some row)
+    cond_both (has_opcode op r.0 r.1) (Some r) (row_of op rs) (λ o. o ≡ Some row)
     (λ t. absurd (never_both op r row (clear_of r rs k row both.0 at) t c)) (λ _. rest)
 
-pub row_is : (op k : ℕ) (row : ℕ × Form) → slice_get opcodes k ≡ Some row → covers op row.0 row.1 ≡ true → row_of op opcodes ≡ Some row
+pub row_is : (op k : ℕ) (row : ℕ × Form) → slice_get opcodes k ≡ Some row → has_opcode op row.0 row.1 ≡ true → row_of op opcodes ≡ Some row
 row_is op k row at c = row_first op opcodes k row opcodes_apart at c
 
 -- the row that is found is one of the rows, and has the opcode
 abbrev pub IsFound : ℕ → List (ℕ × Form) → Option (ℕ × Form) → Type 0
 IsFound op rows None = Unit {0}
-IsFound op rows (Some row) = (k : ℕ) × (slice_get rows k ≡ Some row) × (covers op row.0 row.1 ≡ true)
+IsFound op rows (Some row) = (k : ℕ) × (slice_get rows k ≡ Some row) × (has_opcode op row.0 row.1 ≡ true)
 
 found_later : (op : ℕ) (r : ℕ × Form) (rows : List (ℕ × Form)) (o : Option (ℕ × Form)) → IsFound op rows o → IsFound op (r ∷ rows) o
 found_later op r rows None h = tt
@@ -82,7 +84,8 @@ found_later op r rows (Some row) h = (suc h.0, h.1, h.2)
 pub row_found : (op : ℕ) (rows : List (ℕ × Form)) → IsFound op rows (row_of op rows)
 row_found op [] = tt
 row_found op (r ∷ rs) =
-    cond_both (covers op r.0 r.1) (Some r) (row_of op rs) (IsFound op (r ∷ rs)) (λ t. (0, refl, t)) (λ _. found_later op r rs (row_of op rs) (row_found op rs))
+    cond_both (has_opcode op r.0 r.1) (Some r) (row_of op rs) (IsFound op (r ∷ rs)) (λ t. (0, refl, t))
+    (λ _. found_later op r rs (row_of op rs) (row_found op rs))
 
 -- ---- what an instruction's operands have to be
 

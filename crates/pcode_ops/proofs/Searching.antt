@@ -8,7 +8,7 @@ use Rattle.pcode_file.specs.Parts.{Parts}
 use Rattle.pcode_ops.specs.declared.loading.Onward.{Onward}
 use Rattle.pcode_ops.specs.Loading.{look, LeadsTo}
 use Rattle.pcode_ops.specs.Reach.{Reach, entered, exited, followed}
-use Rattle.pcode_ops.specs.Walks.{Marks, IsMarked, IsListing, Adds, IsStarted, IsSearch, IsExact}
+use Rattle.pcode_ops.specs.Walks.{Marks, IsMarked, IsListing, Adds, IsStarted, IsSearch, MarksReached}
 
 less_or_last : (k n : ℕ) → k < n + 1 → (k < n) ⊎ (k ≡ n)
 less_or_last k n h = elim (cases_lt k n) [ inl less ↦ inl less | inr more ↦ inr (omega arith) ]
@@ -25,11 +25,13 @@ starts_more file n q a b c e s p1 p2 k r er (inr same) =
     let one : r ≡ q = cc in
     (p2.kept r.enter (p1.added r.enter (ap (λ (x : Proc). x.enter) one)), p2.added r.exit (ap (λ (x : Proc). x.exit) one))
 
-reach_enter : (file : Parts) (n : ℕ) (q : Proc) (a : Marks) (i : ℕ) → slice_get file.procs n ≡ Some q → IsStarted file n a → IsMarked a i ⊎ (i ≡ q.enter) → Reach file i
+reach_enter : (file : Parts) (n : ℕ) (q : Proc) (a : Marks) (i : ℕ) → slice_get file.procs n ≡ Some q
+    → IsStarted file n a → IsMarked a i ⊎ (i ≡ q.enter) → Reach file i
 reach_enter file n q a i e s (inl h) = s.sound i h
 reach_enter file n q a i e s (inr h) = rw h (entered n q e)
 
-reach_exit : (file : Parts) (n : ℕ) (q : Proc) (a b : Marks) (i : ℕ) → slice_get file.procs n ≡ Some q → IsStarted file n a → Adds (λ i. i ≡ q.enter) a b → IsMarked b i ⊎ (i ≡ q.exit) → Reach file i
+reach_exit : (file : Parts) (n : ℕ) (q : Proc) (a b : Marks) (i : ℕ) → slice_get file.procs n ≡ Some q
+    → IsStarted file n a → Adds (λ i. i ≡ q.enter) a b → IsMarked b i ⊎ (i ≡ q.exit) → Reach file i
 reach_exit file n q a b i e s p (inl h) = reach_enter file n q a i e s (p.only i h)
 reach_exit file n q a b i e s p (inr h) = rw h (exited n q e)
 
@@ -49,7 +51,8 @@ step_sound file m at o i r e s (inl h) = s i h
 step_sound file m at o i r e s (inr h) = followed at i o r e h
 
 step_closed : (file : Parts) (done : ℕ) (m n : Marks) (at : ℕ) (o : Onward) → IsSearch file done m → slice_get m.found done ≡ Some at
-    → look file at ≡ Ok o → Adds (LeadsTo file.segment o) m n → (k i j : ℕ) (p : Onward) → (k < done) ⊎ (k ≡ done) → slice_get n.found k ≡ Some i → look file i ≡ Ok p → LeadsTo file.segment p j → IsMarked n j
+    → look file at ≡ Ok o → Adds (LeadsTo file.segment o) m n → (k i j : ℕ) (p : Onward) → (k < done) ⊎ (k ≡ done)
+    → slice_get n.found k ≡ Some i → look file i ≡ Ok p → LeadsTo file.segment p j → IsMarked n j
 step_closed file done m n at o s e f a k i j p (inl lt) g h l =
     let inside : k < length m.found = omega (arith, s.within) in
     a.kept j (s.closed k i j p lt (sym (a.front k inside) ∙ g) h l)
@@ -61,7 +64,8 @@ step_closed file done m n at o s e f a k i j p (inr same) g h l =
     let P : Onward → Type 0 = λ x. LeadsTo file.segment x j in
     a.added j (subst P two l)
 
-pub search_goes_on : (file : Parts) (done : ℕ) (m n : Marks) (at : ℕ) (o : Onward) → IsSearch file done m → IsListing m → slice_get m.found done ≡ Some at
+pub search_goes_on : (file : Parts) (done : ℕ) (m n : Marks) (at : ℕ) (o : Onward) → IsSearch file done m → IsListing m
+    → slice_get m.found done ≡ Some at
     → look file at ≡ Ok o → Adds (LeadsTo file.segment o) m n → IsSearch file (done + 1) n
 search_goes_on file done m n at o s l e f a = record {
   started = record {
@@ -74,7 +78,8 @@ search_goes_on file done m n at o s l e f a = record {
 }
 
 faulty_closed : (file : Parts) (done : ℕ) (m : Marks) (at : ℕ) (f : OpFault) → IsSearch file done m → slice_get m.found done ≡ Some at
-    → look file at ≡ Err f → (k i j : ℕ) (p : Onward) → (k < done) ⊎ (k ≡ done) → slice_get m.found k ≡ Some i → look file i ≡ Ok p → LeadsTo file.segment p j → IsMarked m j
+    → look file at ≡ Err f → (k i j : ℕ) (p : Onward) → (k < done) ⊎ (k ≡ done) → slice_get m.found k ≡ Some i
+    → look file i ≡ Ok p → LeadsTo file.segment p j → IsMarked m j
 faulty_closed file done m at f s e g k i j p (inl lt) h l t = s.closed k i j p lt h l t
 faulty_closed file done m at f s e g k i j p (inr same) h l t = let one : i ≡ at = cc in absurd cc
 
@@ -87,7 +92,8 @@ search_passes file done m at f s e g = record {
 }
 
 -- when all that was found was looked at
-reach_marked : (file : Parts) (done : ℕ) (m : Marks) → IsSearch file done m → IsListing m → length m.found ≤ done → (i : ℕ) → Reach file i → IsMarked m i
+reach_marked : (file : Parts) (done : ℕ) (m : Marks) → IsSearch file done m → IsListing m → length m.found ≤ done
+    → (i : ℕ) → Reach file i → IsMarked m i
 reach_marked file done m s l le i (entered k q e) = (s.started.starts k q (slice_get_within file.procs k q e) e).0
 reach_marked file done m s l le i (exited k q e) = (s.started.starts k q (slice_get_within file.procs k q e) e).1
 reach_marked file done m s l le i (followed from to o r e h) =
@@ -95,10 +101,12 @@ reach_marked file done m s l le i (followed from to o r e h) =
     let inside = slice_get_within m.found place.0 from place.1 in
     s.closed place.0 from to o (omega (arith, inside)) place.1 e h
 
-pub search_ends : (file : Parts) (done : ℕ) (m : Marks) → IsSearch file done m → IsListing m → length m.found ≤ done → IsExact file m
+pub search_ends : (file : Parts) (done : ℕ) (m : Marks) → IsSearch file done m → IsListing m → length m.found ≤ done → MarksReached file m
 search_ends file done m s l le i = (s.started.sound i, reach_marked file done m s l le i)
 
 -- the next procedure as a loop reads it
 pub started_next : (file : Parts) (items : List Proc) (n : ℕ) (d : Proc) (a b c : Marks) → items ≡ file.procs → n < length items
-    → IsStarted file n a → Adds (λ i. i ≡ (get_or items n d).enter) a b → Adds (λ i. i ≡ (get_or items n d).exit) b c → IsStarted file (n + 1) c
-started_next file items n d a b c e lt s p1 p2 = started_more file n (get_or items n d) a b c (rw (← e) (slice_get-get_or items n d lt)) s p1 p2
+    → IsStarted file n a → Adds (λ i. i ≡ (get_or items n d).enter) a b → Adds (λ i. i ≡ (get_or items n d).exit) b c
+    → IsStarted file (n + 1) c
+started_next file items n d a b c e lt s p1 p2 =
+    started_more file n (get_or items n d) a b c (rw (← e) (slice_get-get_or items n d lt)) s p1 p2

@@ -15,7 +15,8 @@ use Rattle.pcode_ops.proofs.Leading.{each_entry}
 
 -- ---- an entry of a case table
 
-pub entry_above : (segment : List ℕ) (q : Proc) (low high : ℤ) (table k : ℕ) → IsCaseTable segment q low high table → k < cases low high → word segment (table + 2 * k) ≤ table + 2 * k
+pub entry_above : (segment : List ℕ) (q : Proc) (low high : ℤ) (table k : ℕ) → IsCaseTable segment q low high table
+    → k < cases low high → word segment (table + 2 * k) ≤ table + 2 * k
 entry_above segment q low high table k h lt =
     let leads = each_entry segment q (cases low high) table k h.entries lt in
     leb-true _ _ ((and_parts _ _ leads).0)
@@ -27,7 +28,8 @@ passed true r e h = refl
 passed false r e h = absurd cc
 
 -- a forward jump that leads somewhere leads into the part
-lands : (segment : List ℕ) (q : Proc) (sb : ℤ) (next : ℕ) → pos 0 ≤ℤ sb → IsSome (result_ok (jump_to segment q sb next)) → next + unsigned_abs sb < end_of q
+lands : (segment : List ℕ) (q : Proc) (sb : ℤ) (next : ℕ) → pos 0 ≤ℤ sb → IsSome (result_ok (jump_to segment q sb next))
+    → next + unsigned_abs sb < end_of q
 lands segment q sb next from h =
     let forward : int_le (pos 0) sb ≡ true = grind (arith, ints) in
     let inside : is_in q (next + unsigned_abs sb) ≡ true = passed _ _ _ (rw forward at h) in
@@ -41,5 +43,6 @@ lands_by p (suc k) sb next (Some q) h from at leads =
     let table = (h.each k q at).table.below in
     omega (arith, lands p.segment q sb next from leads)
 
-pub forward_below : (p : Parts) (n : ℕ) (sb : ℤ) (next : ℕ) → AreProcs p.segment p.procs → pos 0 ≤ℤ sb → IsSome (jump_in p n sb next) → next + unsigned_abs sb < length p.segment
+pub forward_below : (p : Parts) (n : ℕ) (sb : ℤ) (next : ℕ) → AreProcs p.segment p.procs → pos 0 ≤ℤ sb
+    → IsSome (jump_in p n sb next) → next + unsigned_abs sb < length p.segment
 forward_below p n sb next h from leads = lands_by p n sb next (procedure_of p.procs n) h from refl leads

@@ -5,7 +5,7 @@ use Rattle.pcode_ops.specs.declared.instr.Instr.{Instr}
 use Rattle.pcode_ops.specs.declared.instr.Instr.TheVariants.{Ixp, Xjp, Csp}
 use Rattle.pcode_ops.specs.declared.instr.StandardProcedure as standard
 use Rattle.pcode_ops.specs.declared.instr.StandardProcedure.TheVariants.{IoCheck, UnitRead, UnitWrite, IoResult, Halt}
-use Rattle.pcode_ops.specs.Opcodes.{Form, Alone, Numbered, WithByte, WithBig, WithWord, WithLevels, WithSigned, Typed, Packed, Standard, CaseJump, IsRow}
+use Rattle.pcode_ops.specs.Opcodes.{Form, Alone, Numbered, WithByte, WithBig, WithWord, WithLevels, WithSigned, Typed, Packed, Standard, CaseJump, IsTableRow}
 
 -- ---- operands, from offset i up to j
 
@@ -39,12 +39,12 @@ Big code i n j =
     × (n ≡ high * 256 + low) × (j ≡ i + 2))
 
 -- the number of a standard procedure
-abbrev pub number_of : standard.StandardProcedure → ℕ
-number_of IoCheck = 0
-number_of UnitRead = 5
-number_of UnitWrite = 6
-number_of IoResult = 34
-number_of Halt = 39
+abbrev pub standard_number : standard.StandardProcedure → ℕ
+standard_number IoCheck = 0
+standard_number UnitRead = 5
+standard_number UnitWrite = 6
+standard_number IoResult = 34
+standard_number Halt = 39
 
 -- elements of this width fit a word, at least one of at least one bit
 abbrev pub FitsWord : ℕ → ℕ → Type 0
@@ -89,7 +89,8 @@ Stands code i opcode Packed instr j =
     (elements : ℕ) × (width : ℕ) × HasByte code i opcode × HasByte code (i + 1) elements
     × Byte code (i + 2) width j × FitsWord elements width × (instr ≡ Ixp elements width)
 Stands code i opcode Standard instr j =
-    (p : standard.StandardProcedure) × HasByte code i opcode × Byte code (i + 1) (number_of p) j
+    (p : standard.StandardProcedure) × HasByte code i opcode
+    × Byte code (i + 1) (standard_number p) j
     × (instr ≡ Csp p)
 Stands code i opcode CaseJump instr j =
     (low : ℤ) × (high : ℤ) × (sb : ℤ) × (table : ℕ) × HasByte code i opcode
@@ -99,5 +100,5 @@ Stands code i opcode CaseJump instr j =
 pub record At (code : List ℕ) (i : ℕ) (instr : Instr) (j : ℕ) : Type 0 where
   pub opcode : ℕ
   pub form : Form
-  pub row : IsRow opcode form
+  pub row : IsTableRow opcode form
   pub stands : Stands code i opcode form instr j

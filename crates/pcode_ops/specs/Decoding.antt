@@ -12,7 +12,7 @@ use Rattle.pcode_ops.specs.declared.opcodes.Operands.{Operands}
 use Rattle.pcode_ops.specs.declared.opcodes.Row.{Row}
 use Rattle.pcode_ops.specs.declared.opcodes.Row.TheVariants as row
 use Rattle.pcode_ops.specs.At.{cases}
-use Rattle.pcode_ops.specs.Opcodes.{Form, Alone, Numbered, WithByte, WithBig, WithWord, WithLevels, WithSigned, Typed, Packed, Standard, CaseJump, opcodes, row_of, is_in, refusal_of}
+use Rattle.pcode_ops.specs.Opcodes.{Form, Alone, Numbered, WithByte, WithBig, WithWord, WithLevels, WithSigned, Typed, Packed, Standard, CaseJump, opcodes, row_of, is_among, opcode_refusal}
 
 -- ---- operands: the first fault, or the operand and the offset after it
 
@@ -40,7 +40,7 @@ standard_of j n =
     else if n == 6 then Ok (Csp UnitWrite, j)
     else if n == 34 then Ok (Csp IoResult, j)
     else if n == 39 then Ok (Csp Halt, j)
-    else if is_in n (1 ∷ 32 ∷ 33 ∷ []) then Err fault.Heap
+    else if is_among n (1 ∷ 32 ∷ 33 ∷ []) then Err fault.Heap
     else Err (fault.StandardProcedure n)
 
 abbrev pub packed_of : ℕ → ℕ → ℕ → Result (Instr × ℕ) OpFault
@@ -88,7 +88,7 @@ read_at code i op first CaseJump = case_jump_at code (i + 1 + (i + 1) % 2)
 
 -- what is at i where the table has a row for its opcode, and where it has none
 abbrev pub by_row : List ℕ → ℕ → ℕ → Option (ℕ × Form) → Result (Instr × ℕ) OpFault
-by_row code i op None = Err (refusal_of op)
+by_row code i op None = Err (opcode_refusal op)
 by_row code i op (Some found) = read_at code i op found.0 found.1
 
 unfoldable pub instr_of : List ℕ → ℕ → ℕ → Result (Instr × ℕ) OpFault
@@ -117,22 +117,22 @@ operands_at code i = record {
 }
 
 -- the row of the code's table that a form is, with its operands
-abbrev pub made_of : Operands → ℕ → ℕ → Form → Row
-made_of o op first (Alone made) = row.Alone made
-made_of o op first (Numbered count number make) = row.Alone (make (op - first + number))
-made_of o op first (WithByte make) = row.Byte (make o.byte)
-made_of o op first (WithBig make) = row.Big (make o.big)
-made_of o op first (WithWord make) = row.Word (make o.word)
-made_of o op first (WithLevels make) = row.Levels (make o.byte o.offset)
-made_of o op first (WithSigned make) = row.Byte (make (cast_signed w8 o.byte))
-made_of o op first (Typed made) = row.Typed made
-made_of o op first Packed = row.Packed
-made_of o op first Standard = row.Standard
-made_of o op first CaseJump = row.CaseJump
+abbrev pub row_with : Operands → ℕ → ℕ → Form → Row
+row_with o op first (Alone made) = row.Alone made
+row_with o op first (Numbered count number make) = row.Alone (make (op - first + number))
+row_with o op first (WithByte make) = row.Byte (make o.byte)
+row_with o op first (WithBig make) = row.Big (make o.big)
+row_with o op first (WithWord make) = row.Word (make o.word)
+row_with o op first (WithLevels make) = row.Levels (make o.byte o.offset)
+row_with o op first (WithSigned make) = row.Byte (make (cast_signed w8 o.byte))
+row_with o op first (Typed made) = row.Typed made
+row_with o op first Packed = row.Packed
+row_with o op first Standard = row.Standard
+row_with o op first CaseJump = row.CaseJump
 
 abbrev pub made_by : Operands → ℕ → Option (ℕ × Form) → Option Row
 made_by o op None = None
-made_by o op (Some found) = Some (made_of o op found.0 found.1)
+made_by o op (Some found) = Some (row_with o op found.0 found.1)
 
 -- what is left to read of a row: whether its operands are there and are what they have to be
 abbrev pub finished_at : List ℕ → ℕ → ℕ → Row → Result (Instr × ℕ) OpFault

@@ -9,9 +9,11 @@ use Rattle.pcode_ops.specs.At.{cases}
 use Rattle.pcode_ops.specs.Loading.{owner, jump_to, entries_in}
 use Rattle.pcode_ops.specs.Reach.{Reach}
 
--- where a jump of procedure n by SB leads that ends at `next`, if the procedure is there and the jump stays in its part
+-- where a jump of procedure n by SB leads that ends at `next`, if the procedure is there and the
+-- jump stays in its part
 abbrev pub jump_in : Parts → ℕ → ℤ → ℕ → Option ℕ
-jump_in p n sb next = option_and_then (λ q. result_ok (jump_to p.segment q sb next)) (procedure_of p.procs n)
+jump_in p n sb next =
+    option_and_then (λ q. result_ok (jump_to p.segment q sb next)) (procedure_of p.procs n)
 
 -- a jump of procedure n leads somewhere, and that offset is reached and owned by q
 pub record StaysWith (p : Parts) (n : ℕ) (q : Proc) (sb : ℤ) (next : ℕ) : Type 0 where
@@ -22,13 +24,16 @@ pub record StaysWith (p : Parts) (n : ℕ) (q : Proc) (sb : ℤ) (next : ℕ) : 
 abbrev pub pointed_by : List ℕ → ℕ → ℕ
 pointed_by segment place = place - word segment place
 
--- where a case jump from low to high leads on a word: through the table's entry for it, or to the UJP in front of the table
+-- where a case jump from low to high leads on a word: through the table's entry for it, or to the
+-- UJP in front of the table
 abbrev pub case_of : List ℕ → ℤ → ℤ → ℕ → ℕ → ℕ
 case_of segment low high table w =
     let index = cast_signed w16 w in
-    if int_le low index && int_le index high then pointed_by segment (table + 2 * unsigned_abs (index -ℤ low)) else table - 2
+    if int_le low index && int_le index high
+    then pointed_by segment (table + 2 * unsigned_abs (index -ℤ low)) else table - 2
 
--- the table of a case jump lies in the segment behind its UJP, and each entry leads into the part of procedure q
+-- the table of a case jump lies in the segment behind its UJP, and each entry leads into the part
+-- of procedure q
 pub record IsCaseTable (segment : List ℕ) (q : Proc) (low high : ℤ) (table : ℕ) : Type 0 where
   pub behind : 2 ≤ table
   pub ends : table + 2 * cases low high ≤ length segment

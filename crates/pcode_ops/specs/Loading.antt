@@ -150,13 +150,14 @@ abbrev pub IsFine : Parts → ℕ → Type 0
 IsFine p i = (f : OpFault) → look p i ≢ Err f
 
 -- j is what an entry of the case table points to
-abbrev pub IsEntry : List ℕ → ℕ → ℕ → ℕ → Type 0
-IsEntry segment table count j =
+abbrev pub IsCaseEntry : List ℕ → ℕ → ℕ → ℕ → Type 0
+IsCaseEntry segment table count j =
     (k : ℕ) × (k < count) × (j ≡ table + 2 * k - word segment (table + 2 * k))
 
 -- j is the next offset, the jump's target, or an entry of the case table
 abbrev pub LeadsTo : List ℕ → Onward → ℕ → Type 0
-LeadsTo segment o j = (o.next ≡ Some j) ⊎ (o.target ≡ Some j) ⊎ IsEntry segment o.table o.count j
+LeadsTo segment o j =
+    (o.next ≡ Some j) ⊎ (o.target ≡ Some j) ⊎ IsCaseEntry segment o.table o.count j
 
 abbrev pub HasNextBy : Flow → Type 0
 HasNextBy On = Unit {0}

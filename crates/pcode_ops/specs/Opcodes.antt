@@ -139,30 +139,30 @@ opcodes =
     ++ (pointer_rows ++ (arithmetic_rows ++ (comparison_rows ++ flow_rows)))))
 
 -- the table has a row with this opcode, the first one of a form with several, and this form
-abbrev pub IsRow : ℕ → Form → Type 0
-IsRow opcode form = (k : ℕ) × (slice_get opcodes k ≡ Some (opcode, form))
+abbrev pub IsTableRow : ℕ → Form → Type 0
+IsTableRow opcode form = (k : ℕ) × (slice_get opcodes k ≡ Some (opcode, form))
 
 -- ---- the row of an opcode
 
 -- an opcode is the row's, or one of the row's
-abbrev pub covers : ℕ → ℕ → Form → Bool
-covers op first (Numbered count number make) = nat_le first op && nat_lt op (first + count)
-covers op first _ = op == first
+abbrev pub has_opcode : ℕ → ℕ → Form → Bool
+has_opcode op first (Numbered count number make) = nat_le first op && nat_lt op (first + count)
+has_opcode op first _ = op == first
 
 -- the first row of some that has an opcode
 abbrev pub row_of : ℕ → List (ℕ × Form) → Option (ℕ × Form)
 row_of op [] = None
-row_of op (row ∷ rows) = if covers op row.0 row.1 then Some row else row_of op rows
+row_of op (row ∷ rows) = if has_opcode op row.0 row.1 then Some row else row_of op rows
 
-abbrev pub is_in : ℕ → List ℕ → Bool
-is_in op [] = false
-is_in op (x ∷ xs) = if op == x then true else is_in op xs
+abbrev pub is_among : ℕ → List ℕ → Bool
+is_among op [] = false
+is_among op (x ∷ xs) = if op == x then true else is_among op xs
 
 -- why an opcode without a row is refused
-abbrev pub refusal_of : ℕ → OpFault
-refusal_of op =
-    if is_in op (129 ∷ 131 ∷ 135 ∷ 137 ∷ 138 ∷ 144 ∷ 146 ∷ 150 ∷ 153 ∷ []) then fault.Real
-    else if is_in op (133 ∷ 139 ∷ 140 ∷ 148 ∷ 151 ∷ 156 ∷ 160 ∷ []) then fault.Set
-    else if is_in op (155 ∷ 166 ∷ 170 ∷ []) then fault.Str
-    else if is_in op (157 ∷ 167 ∷ 205 ∷ 209 ∷ []) then fault.Segment
+abbrev pub opcode_refusal : ℕ → OpFault
+opcode_refusal op =
+    if is_among op (129 ∷ 131 ∷ 135 ∷ 137 ∷ 138 ∷ 144 ∷ 146 ∷ 150 ∷ 153 ∷ []) then fault.Real
+    else if is_among op (133 ∷ 139 ∷ 140 ∷ 148 ∷ 151 ∷ 156 ∷ 160 ∷ []) then fault.Set
+    else if is_among op (155 ∷ 166 ∷ 170 ∷ []) then fault.Str
+    else if is_among op (157 ∷ 167 ∷ 205 ∷ 209 ∷ []) then fault.Segment
     else fault.Unsupported op

@@ -12,7 +12,8 @@ use Rattle.pcode_ops.specs.Loading.{look, LeadsTo, IsFaulty, IsFine}
 pub data Reach (p : Parts) : ℕ → Type 0 where
   entered : (k : ℕ) (q : Proc) → slice_get p.procs k ≡ Some q → Reach p q.enter
   exited : (k : ℕ) (q : Proc) → slice_get p.procs k ≡ Some q → Reach p q.exit
-  followed : (i j : ℕ) (o : Onward) → Reach p i → look p i ≡ Ok o → LeadsTo p.segment o j → Reach p j
+  followed : (i j : ℕ) (o : Onward) → Reach p i → look p i ≡ Ok o → LeadsTo p.segment o j
+      → Reach p j
 
 -- no reached offset is faulty
 abbrev pub IsLoadable : Parts → Type 0

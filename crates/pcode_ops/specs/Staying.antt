@@ -7,7 +7,8 @@ use Rattle.pcode_ops.specs.declared.loading.Onward.{Onward}
 use Rattle.pcode_ops.specs.Decoding.{instr_at}
 use Rattle.pcode_ops.specs.Loading.{is_in, look, LeadsTo}
 
--- the offset lies in the part of procedure q, and so do its whole instruction and each offset that it leads to
+-- the offset lies in the part of procedure q, and so do its whole instruction and each offset that
+-- it leads to
 pub record StaysInPart (p : Parts) (i : ℕ) (q : Proc) : Type 0 where
   pub owner : Contains p.procs q
   pub within : IsTrue (is_in q i)

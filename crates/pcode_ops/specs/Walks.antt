@@ -1,4 +1,5 @@
--- What a search has found so far: a flag for each offset, and the flagged offsets in the order in which they were found.
+-- What a search has found so far: a flag for each offset, and the flagged offsets in the order in
+-- which they were found.
 use Rattle.std.specs.Prelude.{◌≡◌, ℕ, ◌+◌, ◌*◌, ◌^◌, ◌<◌, ◌≤◌, Bool, true, false, IsTrue, ◌⊎◌, ◌↔◌, List, [], ◌∷◌, cond, length, All, IfSome, slice_get, slice_index_or, Some, Ok}
 use Rattle.pcode_file.specs.declared.file.Proc.{Proc}
 use Rattle.pcode_file.specs.InFile.{AreProcs}
@@ -12,14 +13,14 @@ use Rattle.pcode_ops.specs.Loading.{is_in, look, LeadsTo, IsFaulty, IsFine}
 use Rattle.pcode_ops.specs.Reach.{Reach, IsLoadable}
 
 -- the part and its table lie in a segment of so many bytes, ENTER and EXIT in the part
-pub record IsPart (size : ℕ) (q : Proc) : Type 0 where
+pub record IsPartWithin (size : ℕ) (q : Proc) : Type 0 where
   pub above : 8 ≤ q.jtab
   pub below : q.jtab + 2 ≤ size
   pub enter : IsTrue (is_in q q.enter)
   pub exit : IsTrue (is_in q q.exit)
 
 abbrev pub AreParts : ℕ → List Proc → Type 0
-AreParts size procs = All (IsPart size) procs
+AreParts size procs = All (IsPartWithin size) procs
 
 -- where an offset leads lies in a segment of so many bytes, and so does the case table
 pub record IsWithin (size : ℕ) (o : Onward) : Type 0 where
@@ -70,17 +71,19 @@ pub record Adds (P : ℕ → Type 0) (old new : Marks) : Type 0 where
 pub record IsStarted (p : Parts) (n : ℕ) (m : Marks) : Type 0 where
   pub size : length m.flags ≡ length p.segment
   pub sound : (i : ℕ) → IsMarked m i → Reach p i
-  pub starts : (k : ℕ) (q : Proc) → k < n → slice_get p.procs k ≡ Some q → IsMarked m q.enter × IsMarked m q.exit
+  pub starts : (k : ℕ) (q : Proc) → k < n → slice_get p.procs k ≡ Some q
+      → IsMarked m q.enter × IsMarked m q.exit
 
 -- the search has looked at the first `done` offsets that it found: where they lead is marked
 pub record IsSearch (p : Parts) (done : ℕ) (m : Marks) : Type 0 where
   pub started : IsStarted p (length p.procs) m
   pub within : done ≤ length m.found
-  pub closed : (k i j : ℕ) (o : Onward) → k < done → slice_get m.found k ≡ Some i → look p i ≡ Ok o → LeadsTo p.segment o j → IsMarked m j
+  pub closed : (k i j : ℕ) (o : Onward) → k < done → slice_get m.found k ≡ Some i → look p i ≡ Ok o
+      → LeadsTo p.segment o j → IsMarked m j
 
 -- the marked offsets are the reached ones
-abbrev pub IsExact : Parts → Marks → Type 0
-IsExact p m = (i : ℕ) → IsMarked m i ↔ Reach p i
+abbrev pub MarksReached : Parts → Marks → Type 0
+MarksReached p m = (i : ℕ) → IsMarked m i ↔ Reach p i
 
 -- the least marked offset that is faulty, with its first fault
 pub record IsFirstFault (p : Parts) (m : Marks) (f : LoadFault) : Type 0 where
@@ -90,7 +93,7 @@ pub record IsFirstFault (p : Parts) (m : Marks) (f : LoadFault) : Type 0 where
 
 -- what is true of the file and the marks of each program
 pub record IsProgram (p : Parts) (m : Marks) : Type 0 where
-  pub exact : IsExact p m
+  pub exact : MarksReached p m
   pub loadable : IsLoadable p
   pub size : length m.flags < 2 ^ 16
   pub procs : AreProcs p.segment p.procs

@@ -19,11 +19,11 @@ pub enum StandardProcedure {
 }
 
 impl StandardProcedure {
-    ghost use Rattle.pcode_ops.specs.At.{number_of};
+    ghost use Rattle.pcode_ops.specs.At.{standard_number};
 
     /// Its number.
     pub fn number(self) -> u8
-        ensures { result ≡ number_of self }
+        ensures { result ≡ standard_number self }
     {
         match self {
             StandardProcedure::IoCheck => 0,

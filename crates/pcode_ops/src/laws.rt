@@ -74,7 +74,8 @@ pub fn enter_is_owned()
         procedure_of p.procs n ≡ Some q → Reach p q.enter × (owner p.procs q.enter ≡ Ok q) }
 {}
 
-/// What is decoded at a reached offset of a loadable file may stand there in the procedure that owns it.
+/// What is decoded at a reached offset of a loadable file may stand there in the procedure that
+/// owns it.
 pub fn reached_may_stand()
     ensures { (p : Parts) (i : ℕ) (q : Proc) (instr : Instr) (next : ℕ) →
         AreProcs p.segment p.procs → IsLoadable p → Reach p i → owner p.procs i ≡ Ok q →

@@ -68,8 +68,8 @@ fn onward(program: &Program, mut near: u8, at: u32) -> Onward
     }
 }
 
-/// Writes the line of a reached offset: the instruction, and where it leads if it is a jump. `near` is
-/// the number of the procedure in whose part the offset lies.
+/// Writes the line of a reached offset: the instruction, and where it leads if it is a jump. `near`
+/// is the number of the procedure in whose part the offset lies.
 fn write_line<W: TextWriter>(writer: &mut W, program: &Program, near: u8, at: u32) -> io::Result<()>
     requires open { W.has_failed writer.old ≡ false }
     requires reached { Reach program.now at }

@@ -3,7 +3,7 @@ ghost use Rattle.std.specs.Prelude.{◌≡◌, ◌+◌, ◌-◌, ◌*◌, ◌^�
 ghost use Rattle.pcode_file.specs.InFile.{AreProcs};
 ghost use Rattle.pcode_file.specs.Parts.{procedure_of, end_of};
 ghost use Rattle.pcode_ops.specs.Loading.{is_in, owner, called, is_callable, linked, legal, leads_in, jump_to, entries_in, goes_on, ends_at, branch_to, cases_to, onward, look};
-ghost use Rattle.pcode_ops.specs.Walks.{IsPart, AreParts, IsWithin, IsTableIn};
+ghost use Rattle.pcode_ops.specs.Walks.{IsPartWithin, AreParts, IsWithin, IsTableIn};
 
 use crate::decoding::{cases, decode, get_word};
 use crate::fault::OpFault;
@@ -58,11 +58,11 @@ fn owner(procs: &[Proc], at: u32) -> Result<Proc, OpFault>
 }
 
 /// The procedure in whose part an offset lies. `near` is the number of the procedure that is asked
-/// first, and becomes that of the one found: offsets one after another then cost the same in a file of
-/// one procedure and of 255. The result does not depend on it.
+/// first, and becomes that of the one found: offsets one after another then cost the same in a file
+/// of one procedure and of 255. The result does not depend on it.
 pub(crate) fn owner_near(file: &CodeFile, near: &mut u8, at: u32) -> Result<Proc, OpFault>
     ensures value { result ≡ owner file.now.procs at }
-    ensures part { IfOk result (IsPart (length file.now.segment)) }
+    ensures part { IfOk result (IsPartWithin (length file.now.segment)) }
 {
     parts_are_apart();
     let procs = parts(file);
@@ -173,7 +173,7 @@ fn leads_in(segment: &[u8], part: Proc, place: u32) -> bool
 
 /// The target of a jump that ends at `next`.
 pub(crate) fn jump_to(segment: &[u8], part: Proc, sb: i8, next: u32) -> Result<u32, OpFault>
-    requires part { IsPart (length segment.now) part }
+    requires part { IsPartWithin (length segment.now) part }
     requires next { next ≤ length segment.now }
     requires size { length segment.now < 2 ^ 16 }
     ensures value { result ≡ jump_to segment.now part sb next }
@@ -252,7 +252,7 @@ fn ends_at(target: Option<u32>) -> Onward
 
 /// Where a jump leads that may also go on after itself.
 fn branch_to(segment: &[u8], part: Proc, sb: i8, next: u32) -> Result<Onward, OpFault>
-    requires part { IsPart (length segment.now) part }
+    requires part { IsPartWithin (length segment.now) part }
     requires next { next ≤ length segment.now }
     requires size { length segment.now < 2 ^ 16 }
     ensures value { result ≡ branch_to segment.now part sb next }
@@ -284,7 +284,7 @@ fn cases_to(segment: &[u8], part: Proc, table: u32, count: u32) -> Result<Onward
 /// Where an instruction of a procedure leads that ends at `next`: targets first, then the next
 /// offset.
 fn onward_of(segment: &[u8], part: Proc, instr: Instr, next: u32) -> Result<Onward, OpFault>
-    requires part { IsPart (length segment.now) part }
+    requires part { IsPartWithin (length segment.now) part }
     requires next { next ≤ length segment.now }
     requires size { length segment.now < 2 ^ 16 }
     requires table { IsTableIn (length segment.now) instr }

@@ -1,7 +1,7 @@
 //! The table of instructions: for each opcode its row, which says what operands follow and which
 //! instruction they make.
 ghost use Rattle.std.specs.Prelude.{◌≡◌};
-ghost use Rattle.pcode_ops.specs.Opcodes.{row_of, constant_rows, frame_rows, link_rows, pointer_rows, arithmetic_rows, comparison_rows, flow_rows, opcodes, refusal_of};
+ghost use Rattle.pcode_ops.specs.Opcodes.{row_of, constant_rows, frame_rows, link_rows, pointer_rows, arithmetic_rows, comparison_rows, flow_rows, opcodes, opcode_refusal};
 ghost use Rattle.pcode_ops.specs.Decoding.{made_by};
 
 use crate::fault::OpFault;
@@ -197,7 +197,7 @@ pub(crate) fn make_row(opcode: u8, o: Operands) -> Option<Row>
 
 /// Why an opcode without a row is refused.
 pub(crate) fn refusal(opcode: u8) -> OpFault
-    ensures { result ≡ refusal_of opcode }
+    ensures { result ≡ opcode_refusal opcode }
 {
     match opcode {
         129 | 131 | 135 | 137 | 138 | 144 | 146 | 150 | 153 => OpFault::Real,

@@ -1,8 +1,8 @@
 //! Writers of text, which are not written to once a write has failed.
 //!
-//! std's `Write` has no word for "a write failed", so that no clause over it can say that a fault was
-//! answered, or that nothing was written after it. The trait here has one; the wrapper below makes one
-//! of any `Write`.
+//! std's `Write` has no word for "a write failed", so that no clause over it can say that a fault
+//! was answered, or that nothing was written after it. The trait here has one; the wrapper below
+//! makes one of any `Write`.
 ghost use Rattle.std.specs.Prelude.{◌≡◌, Bool, false, is_err};
 
 use std::fmt::Display;

@@ -1,7 +1,7 @@
 //! The search over offsets: which are reached.
 ghost use Rattle.std.specs.Prelude.{◌≡◌, ◌+◌, ◌*◌, ◌<◌, ◌≤◌, ◌↔◌, [], length, replicate, slice_get, Some, IsTrue, IfOk, IfSome, false};
-ghost use Rattle.pcode_ops.specs.Loading.{IsEntry, LeadsTo};
-ghost use Rattle.pcode_ops.specs.Walks.{Marks, IsMarked, IsListing, IsWithin, Adds, IsStarted, IsExact};
+ghost use Rattle.pcode_ops.specs.Loading.{IsCaseEntry, LeadsTo};
+ghost use Rattle.pcode_ops.specs.Walks.{Marks, IsMarked, IsListing, IsWithin, Adds, IsStarted, MarksReached};
 
 use crate::decoding::get_word;
 use crate::loading::{Onward, look, parts};
@@ -24,7 +24,9 @@ impl Model for Walk {
 
     ghost view = { λ w. record { flags = w.flags.items; found = w.found.items } };
 
-    ghost invariant = { λ w. IsRoomy (record { flags = w.flags.items; found = w.found.items }) (vec_len w.flags) (vec_capacity w.found) };
+    ghost invariant = { λ w.
+        IsRoomy (record { flags = w.flags.items; found = w.found.items }) (vec_len w.flags)
+        (vec_capacity w.found) };
 }
 
 impl Walk {
@@ -91,7 +93,7 @@ fn mark_some(walk: &mut Walk, at: Option<u32>)
 fn mark_entries(file: &CodeFile, walk: &mut Walk, table: u32, count: u32)
     requires table { table + 2 * count ≤ length file.now.segment }
     requires size { length walk.old.flags ≡ length file.now.segment }
-    ensures { Adds (IsEntry file.now.segment table count) walk.old walk.new }
+    ensures { Adds (IsCaseEntry file.now.segment table count) walk.old walk.new }
 {
     let segment = file.segment();
     for k in 0..count {
@@ -126,7 +128,7 @@ fn mark_starts(file: &CodeFile, walk: &mut Walk)
 /// Looks at what is found until nothing more is.
 fn search_on(file: &CodeFile, walk: &mut Walk)
     requires { IsStarted file.now (length file.now.procs) walk.old }
-    ensures exact { IsExact file.now walk.new }
+    ensures exact { MarksReached file.now walk.new }
     ensures size { length walk.new.flags ≡ length file.now.segment }
 {
     let mut near = 1;
@@ -144,7 +146,7 @@ fn search_on(file: &CodeFile, walk: &mut Walk)
 /// The reached offsets, found by a walk that has found nothing yet.
 pub(crate) fn walk_over(blank: Walk, file: &CodeFile) -> Walk
     requires { blank ≡ record { flags = replicate (length file.now.segment) false; found = [] } }
-    ensures exact { IsExact file.now result }
+    ensures exact { MarksReached file.now result }
     ensures size { length result.flags ≡ length file.now.segment }
 {
     let mut walk = blank;

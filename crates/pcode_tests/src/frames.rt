@@ -13,8 +13,8 @@ const INNER: Frame = Frame {
     back: 15,
 };
 
-/// Memory, a stack and frames. What contracts see of them is nothing, so that a test does not carry their words from one call to the
-/// next.
+/// Memory, a stack and frames. What contracts see of them is nothing, so that a test does not carry
+/// their words from one call to the next.
 struct Room {
     memory: Memory,
     stack: Stack,
@@ -118,7 +118,8 @@ fn calls_and_returns(rt: HostRuntime) -> Result<(), Fail> {
         [room.word(4), room.word(5), room.word(6), room.word(7)],
         [Some(30), Some(20), Some(0), None]
     );
-    // The static link of the second call is the main frame, though its caller is the frame at index 1.
+    // The static link of the second call is the main frame, though its caller is the frame at index
+    // 1.
     room.call(&rt, 3, 0, 2, 15)?;
     assert_eq!(rt;
         [room.link_up(0), room.link_up(1), room.link_up(2)],

@@ -1,4 +1,5 @@
-//! Tests of the crates below the machine and of the machine: files, opcodes, frames and steps. This crate has nothing else.
+//! Tests of the crates below the machine and of the machine: files, opcodes, frames and steps. This
+//! crate has nothing else.
 #![tactic(auto)]
 
 #[cfg(test)]

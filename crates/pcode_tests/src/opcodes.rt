@@ -1,5 +1,5 @@
-//! Every opcode, with its operands at their bounds. The values stand as the table of instructions has
-//! them.
+//! Every opcode, with its operands at their bounds. The values stand as the table of instructions
+//! has them.
 use pcode_ops::{Instr, OpFault, StandardProcedure, decode};
 use std::process::Abort;
 use std::test::Fail;
@@ -198,8 +198,8 @@ const LEAST: [u8; 12] = [
     0xac, 0x00, 0x00, 0x80, 0x00, 0x80, 0xb9, 0x04, 0x0d, 0x00, 0x0c, 0x00,
 ];
 
-/// Bounds the wrong way round, whole and cut, and another instruction in the UJP's place: the faults come
-/// before the table is looked at.
+/// Bounds the wrong way round, whole and cut, and another instruction in the UJP's place: the
+/// faults come before the table is looked at.
 const FAULTY: [(&[u8], OpFault); 4] = [
     (
         &[

@@ -160,9 +160,9 @@ fn perform<H: Files + Net + Clock + Env + AllocGlobal + Copy + Drop, R: Read, W:
     }
 }
 
-/// Does what the program does with these words, which are without its own name, on an input, an output
-/// and an error stream, and returns the status: 0; 1 refused; 2 a fault of the command line; 3 an execution
-/// error; 4 the steps are spent. A fault of the error stream is passed over.
+/// Does what the program does with these words, which are without its own name, on an input, an
+/// output and an error stream, and returns the status: 0; 1 refused; 2 a fault of the command line;
+/// 3 an execution error; 4 the steps are spent. A fault of the error stream is passed over.
 pub fn command<
     H: Files + Net + Clock + Env + AllocGlobal + Copy + Drop,
     R: Read,

@@ -11,9 +11,10 @@ ghost use Rattle.paxos_acceptor.specs.declared.me.Me.{Me};
 ghost use Rattle.paxos_acceptor.specs.Stores.{IsOneOf};
 ghost use Rattle.paxos_proposer.specs.Proposer.{is_covered, next_of};
 ghost use Rattle.group_node.specs.Backs.{Backs};
-ghost use Rattle.group_node.specs.Delivered.{on_message};
-ghost use Rattle.group_node.specs.Leading.{at_tick};
-ghost use Rattle.group_node.specs.Node.{at_campaign, at_typed, new_key, Node, started};
+ghost use Rattle.group_node.specs.Protocol.{on_message};
+ghost use Rattle.group_node.specs.Known.{on_typed, new_key, Known, on_start};
+ghost use Rattle.group_node.specs.ProposerRows.{on_campaign};
+ghost use Rattle.group_node.specs.Tick.{on_tick};
 ghost use Rattle.group_node.specs.Ranges.{IsHeardFit, IsInRange};
 ghost use Rattle.group_node.specs.World.{after_call, Campaign, Deliver, Press, Sits, Start as Starting, Tick, with_seat, WorldState, WorldStep};
 
@@ -27,33 +28,46 @@ use paxos_proposer::laws::{
     stays_backed as proposer_stays_backed, what_goes_out_fits as proposals_fit,
 };
 
-/// Each call is an event of the node's group: where what was sent and typed backs the node and it is in its ranges. So is a call whose
-/// save fails, of which nothing is sent.
+/// Each call is an event of the node's group: where what was sent and typed backs the node and it
+/// is in its ranges. So is a call whose save fails, of which nothing is sent.
 pub fn calls_are_events()
-    ensures press { (w : WorldState) (n : Node) (byte k : ℕ) (c : Configuration) (console : List ℕ) → Sits w n c k console →
-        IsInRange n → Backs w.sent w.typed n →
-        WorldStep w (Press n.me.node byte) (after_call w n.me.node (at_typed n byte) (keys_of (new_key n byte)) c k console) }
-    ensures deliver { (w : WorldState) (n : Node) (m j k : ℕ) (body : Body) (c : Configuration) (console : List ℕ) → Sits w n c k console →
-        IsInRange n → Backs w.sent w.typed n → IsHeardFit n.me j body → slice_get w.sent m ≡ Some (record { sender = j; body = body }) →
-        WorldStep w (Deliver m n.me.node) (after_call w n.me.node (on_message n j body) [] c k console) }
-    ensures campaign { (w : WorldState) (n : Node) (k : ℕ) (c : Configuration) (console : List ℕ) → Sits w n c k console →
-        IsInRange n → Backs w.sent w.typed n → WorldStep w (Campaign n.me.node) (after_call w n.me.node (at_campaign n) [] c k console) }
-    ensures tick { (w : WorldState) (n : Node) (k : ℕ) (c : Configuration) (console : List ℕ) → Sits w n c k console →
-        IsInRange n → Backs w.sent w.typed n → WorldStep w (Tick n.me.node) (after_call w n.me.node (at_tick n) [] c k console) }
-    ensures start { (w : WorldState) (me : Me) (r : Record) (console : List ℕ) → w.size ≡ me.group.size →
-        w.seats me.node ≡ record { kept = r; console = console; up = None } →
-        WorldStep w (Starting me.node) (after_call w me.node (started me r) [] (begin w.program) 0 console) }
-    ensures falls_delivered { (w : WorldState) (n : Node) (m j k : ℕ) (body : Body) (left : Record) (c : Configuration) (console : List ℕ) →
-        Sits w n c k console → IsInRange n → Backs w.sent w.typed n → IsHeardFit n.me j body →
-        slice_get w.sent m ≡ Some (record { sender = j; body = body }) → (on_message n j body).saves ≢ None →
-        IsOneOf left n.kept (on_message n j body).node.kept →
-        WorldStep w (Deliver m n.me.node) (with_seat w n.me.node (record { kept = left; console = console; up = None })) }
-    ensures falls_campaign { (w : WorldState) (n : Node) (k : ℕ) (left : Record) (c : Configuration) (console : List ℕ) → Sits w n c k console →
-        IsInRange n → Backs w.sent w.typed n → IsOneOf left n.kept (at_campaign n).node.kept →
-        WorldStep w (Campaign n.me.node) (with_seat w n.me.node (record { kept = left; console = console; up = None })) }
-    ensures falls_start { (w : WorldState) (me : Me) (r left : Record) (console : List ℕ) →
-        w.seats me.node ≡ record { kept = r; console = console; up = None } → IsOneOf left r (changed r Start) →
-        WorldStep w (Starting me.node) (with_seat w me.node (record { kept = left; console = console; up = None })) }
+    ensures press { (w : WorldState) (n : Known) (byte k : ℕ) (c : Configuration) (console : List ℕ)
+        → Sits w n c k console → IsInRange n → Backs w.sent w.typed n
+        → WorldStep w (Press n.me.node byte)
+        (after_call w n.me.node (on_typed n byte) (keys_of (new_key n byte)) c k console) }
+    ensures deliver { (w : WorldState) (n : Known) (m j k : ℕ) (body : Body) (c : Configuration)
+        (console : List ℕ) → Sits w n c k console → IsInRange n → Backs w.sent w.typed n
+        → IsHeardFit n.me j body → slice_get w.sent m ≡ Some (record { sender = j; body = body })
+        → WorldStep w (Deliver m n.me.node)
+        (after_call w n.me.node (on_message n j body) [] c k console) }
+    ensures campaign { (w : WorldState) (n : Known) (k : ℕ) (c : Configuration) (console : List ℕ)
+        → Sits w n c k console → IsInRange n → Backs w.sent w.typed n
+        → WorldStep w (Campaign n.me.node) (after_call w n.me.node (on_campaign n) [] c k console) }
+    ensures tick { (w : WorldState) (n : Known) (k : ℕ) (c : Configuration) (console : List ℕ)
+        → Sits w n c k console → IsInRange n → Backs w.sent w.typed n
+        → WorldStep w (Tick n.me.node) (after_call w n.me.node (on_tick n) [] c k console) }
+    ensures start { (w : WorldState) (me : Me) (r : Record) (console : List ℕ)
+        → w.size ≡ me.group.size
+        → w.seats me.node ≡ record { kept = r; console = console; up = None }
+        → WorldStep w (Starting me.node)
+        (after_call w me.node (on_start me r) [] (begin w.program) 0 console) }
+    ensures falls_delivered { (w : WorldState) (n : Known) (m j k : ℕ) (body : Body) (left : Record)
+        (c : Configuration) (console : List ℕ) → Sits w n c k console → IsInRange n
+        → Backs w.sent w.typed n → IsHeardFit n.me j body
+        → slice_get w.sent m ≡ Some (record { sender = j; body = body })
+        → (on_message n j body).saves ≢ None → IsOneOf left n.kept (on_message n j body).node.kept
+        → WorldStep w (Deliver m n.me.node)
+        (with_seat w n.me.node (record { kept = left; console = console; up = None })) }
+    ensures falls_campaign { (w : WorldState) (n : Known) (k : ℕ) (left : Record)
+        (c : Configuration) (console : List ℕ) → Sits w n c k console → IsInRange n
+        → Backs w.sent w.typed n → IsOneOf left n.kept (on_campaign n).node.kept
+        → WorldStep w (Campaign n.me.node)
+        (with_seat w n.me.node (record { kept = left; console = console; up = None })) }
+    ensures falls_start { (w : WorldState) (me : Me) (r left : Record) (console : List ℕ)
+        → w.seats me.node ≡ record { kept = r; console = console; up = None }
+        → IsOneOf left r (changed r Start)
+        → WorldStep w (Starting me.node)
+        (with_seat w me.node (record { kept = left; console = console; up = None })) }
 {
     campaign_is_lawful();
     tick_is_lawful();
@@ -63,10 +77,11 @@ pub fn calls_are_events()
     key_tests_are_exact();
 }
 
-/// The law of a node is not empty: there is a node in its ranges that is backed by what was sent and typed, and that leads, so that it may
-/// propose. It keeps a reported vote, has offered a key and tallies a place, and a key waits at it.
+/// The law of a node is not empty: there is a node in its ranges that is backed by what was sent
+/// and typed, and that leads, so that it may propose. It keeps a reported vote, has offered a key
+/// and tallies a place, and a key waits at it.
 pub fn possible()
-    ensures { (n : Node) × (sent : Sent) × (typed : List Key) × IsInRange n × Backs sent typed n
+    ensures { (n : Known) × (sent : Sent) × (typed : List Key) × IsInRange n × Backs sent typed n
         × IsSomeAnd n.proposer (λ p. IsTrue (is_covered p (next_of p)) × (0 < length p.kept))
         × IsSome (get n.learner.tallies 0) × (0 < length n.offered) × (0 < length n.waiting) }
 {

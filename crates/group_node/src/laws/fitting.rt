@@ -1,5 +1,5 @@
-//! What a node sends has a spelling, and there is room for it: of a node in its ranges, whatever was sent. Each is the contract of
-//! a function that does nothing.
+//! What a node sends has a spelling, and there is room for it: of a node in its ranges, whatever
+//! was sent. Each is the contract of a function that does nothing.
 ghost use Rattle.std.specs.Prelude.{◌≡◌, ◌-◌, ◌+◌, ◌<◌, ◌≤◌, ℕ, List, min, Option, Some, IfSome, length};
 ghost use Rattle.std.specs.FinMap.{get};
 ghost use Rattle.paxos_msg.specs.declared.ballot.Ballot.{Ballot};
@@ -9,10 +9,14 @@ ghost use Rattle.paxos_msg.specs.Batches.{Body, Record, Vote};
 ghost use Rattle.paxos_msg.specs.Fits.{IsBody, IsValue};
 ghost use Rattle.paxos_acceptor.specs.declared.me.Me.{Me};
 ghost use Rattle.paxos_acceptor.specs.Records.{IsRecord};
-ghost use Rattle.paxos_proposer.specs.Proposer.{asks_after, IsPart, next_of, next_value, on_promise, proposed_at, Proposer, proposing};
-ghost use Rattle.group_node.specs.Delivered.{on_message};
-ghost use Rattle.group_node.specs.Leading.{at_promise, at_submit, at_tick, batch_of, offer_after};
-ghost use Rattle.group_node.specs.Node.{at_accept, at_accepted, at_ask, at_campaign, at_prepare, at_refused, at_tell, at_typed, front, next_ballot, next_serial, Node, started, without_read};
+ghost use Rattle.paxos_proposer.specs.Proposer.{asks_after, IsPromisePart, next_of, next_value, heard_promise, proposed_at, Proposer, proposing};
+ghost use Rattle.group_node.specs.Protocol.{on_message};
+ghost use Rattle.group_node.specs.AcceptorRows.{on_accept, on_prepare};
+ghost use Rattle.group_node.specs.Known.{on_typed, front, next_serial, Known, on_start};
+ghost use Rattle.group_node.specs.LearnerRows.{on_accepted, on_ask, on_tell};
+ghost use Rattle.group_node.specs.ProposerRows.{on_promise, on_submit, offer_after, on_campaign, on_refused, next_ballot};
+ghost use Rattle.group_node.specs.Tick.{on_tick, batch_of};
+ghost use Rattle.group_node.specs.WaitingKeys.{without_read};
 ghost use Rattle.group_node.specs.Pump.{offer, Proposals, pump};
 ghost use Rattle.group_node.specs.Ranges.{AreFit, IsFit, IsHeardFit, IsInRange, IsMember, IsOwnProposer};
 
@@ -23,16 +27,20 @@ use paxos_learner::laws::{learned_stays, one_front, values_fit, window_holds};
 use paxos_msg::laws::tests_are_exact;
 use paxos_proposer::laws::{ballot_stays, what_goes_out_fits as accepts_fit};
 
-/// A node stays in its ranges, and what it sends has a spelling: at a start of a record with a start to spare, at a key where fewer than
-/// 256 wait and there is a serial to spare, at a campaign where there is a round and a place to spare, at each tick and at
-/// each message that has a spelling.
+/// A node stays in its ranges, and what it sends has a spelling: at a start of a record with a
+/// start to spare, at a key where fewer than 256 wait and there is a serial to spare, at a campaign
+/// where there is a round and a place to spare, at each tick and at each message that has a
+/// spelling.
 pub fn what_goes_out_fits()
-    ensures start { (me : Me) (r : Record) → IsMember me → IsRecord me.group.size r → r.starts < 4294967295 → IsFit me (started me r) }
-    ensures typed { (n : Node) (byte : ℕ) → IsInRange n → byte < 256 → length n.waiting < 256 → next_serial n < 4294967296 →
-        IsFit n.me (at_typed n byte) }
-    ensures campaign { (n : Node) → IsInRange n → (next_ballot n).round < 4294967296 → front n < 65536 → IsFit n.me (at_campaign n) }
-    ensures tick { (n : Node) → IsInRange n → IsFit n.me (at_tick n) }
-    ensures message { (n : Node) (j : ℕ) (body : Body) → IsInRange n → IsHeardFit n.me j body → IsFit n.me (on_message n j body) }
+    ensures start { (me : Me) (r : Record) → IsMember me → IsRecord me.group.size r
+        → r.starts < 4294967295 → IsFit me (on_start me r) }
+    ensures typed { (n : Known) (byte : ℕ) → IsInRange n → byte < 256 → length n.waiting < 256
+        → next_serial n < 4294967296 → IsFit n.me (on_typed n byte) }
+    ensures campaign { (n : Known) → IsInRange n → (next_ballot n).round < 4294967296
+        → front n < 65536 → IsFit n.me (on_campaign n) }
+    ensures tick { (n : Known) → IsInRange n → IsFit n.me (on_tick n) }
+    ensures message { (n : Known) (j : ℕ) (body : Body) → IsInRange n → IsHeardFit n.me j body
+        → IsFit n.me (on_message n j body) }
 {
     rows_fit();
     accepts_fit();
@@ -44,19 +52,26 @@ pub fn what_goes_out_fits()
     window_holds();
 }
 
-/// The same of a message by its kind, before keys that stand below the front leave, and of their leaving.
+/// The same of a message by its kind, before keys that stand below the front leave, and of their
+/// leaving.
 pub fn rows_fit()
-    ensures prepare { (n : Node) (j from : ℕ) (b : Ballot) → IsInRange n → IsHeardFit n.me j (Prepare b from) → IsFit n.me (at_prepare n b from) }
-    ensures promise { (n : Node) (j first upto : ℕ) (b : Ballot) (votes : List Vote) → IsInRange n → IsHeardFit n.me j (Promise b first upto votes) →
-        IsFit n.me (at_promise n j b first upto votes) }
-    ensures accept { (n : Node) (j s : ℕ) (b : Ballot) (v : Value) → IsInRange n → IsHeardFit n.me j (Accept b s v) → IsFit n.me (at_accept n b s v) }
-    ensures accepted { (n : Node) (j s : ℕ) (b : Ballot) (v : Value) → IsInRange n → IsHeardFit n.me j (Accepted b s v) →
-        IsFit n.me (at_accepted n j b s v) }
-    ensures refused { (n : Node) (b promised : Ballot) → IsInRange n → IsFit n.me (at_refused n b promised) }
-    ensures submit { (n : Node) (j : ℕ) (v : Value) → IsInRange n → IsHeardFit n.me j (Submit v) → IsFit n.me (at_submit n v) }
-    ensures ask { (n : Node) (j from : ℕ) → IsInRange n → IsFit n.me (at_ask n j from) }
-    ensures tell { (n : Node) (j s : ℕ) (v : Value) → IsInRange n → IsHeardFit n.me j (Tell s v) → IsFit n.me (at_tell n s v) }
-    ensures gone { (n : Node) → IsInRange n → IsInRange (without_read n) }
+    ensures prepare { (n : Known) (j from : ℕ) (b : Ballot) → IsInRange n
+        → IsHeardFit n.me j (Prepare b from) → IsFit n.me (on_prepare n b from) }
+    ensures promise { (n : Known) (j first upto : ℕ) (b : Ballot) (votes : List Vote) → IsInRange n
+        → IsHeardFit n.me j (Promise b first upto votes)
+        → IsFit n.me (on_promise n j b first upto votes) }
+    ensures accept { (n : Known) (j s : ℕ) (b : Ballot) (v : Value) → IsInRange n
+        → IsHeardFit n.me j (Accept b s v) → IsFit n.me (on_accept n b s v) }
+    ensures accepted { (n : Known) (j s : ℕ) (b : Ballot) (v : Value) → IsInRange n
+        → IsHeardFit n.me j (Accepted b s v) → IsFit n.me (on_accepted n j b s v) }
+    ensures refused { (n : Known) (b promised : Ballot) → IsInRange n
+        → IsFit n.me (on_refused n b promised) }
+    ensures submit { (n : Known) (j : ℕ) (v : Value) → IsInRange n → IsHeardFit n.me j (Submit v)
+        → IsFit n.me (on_submit n v) }
+    ensures ask { (n : Known) (j from : ℕ) → IsInRange n → IsFit n.me (on_ask n j from) }
+    ensures tell { (n : Known) (j s : ℕ) (v : Value) → IsInRange n → IsHeardFit n.me j (Tell s v)
+        → IsFit n.me (on_tell n s v) }
+    ensures gone { (n : Known) → IsInRange n → IsInRange (without_read n) }
 {
     accepts_fit();
     ballot_stays();
@@ -68,47 +83,60 @@ pub fn rows_fit()
     window_holds();
 }
 
-/// A packet by itself: a Prepare under the proposer's ballot from any place that there is, the Accept of what it has proposed at
-/// a place, the Submit of the first keys that wait, an Ask from the front, and a Tell of what is learned.
+/// A packet by itself: a Prepare under the proposer's ballot from any place that there is, the
+/// Accept of what it has proposed at a place, the Submit of the first keys that wait, an Ask from
+/// the front, and a Tell of what is learned.
 pub fn packets_fit()
-    ensures prepare { (me : Me) (p : Proposer) (s : ℕ) → IsOwnProposer me p → s < 65536 → IsBody me.group.size me.node (Prepare p.ballot s) }
-    ensures accept { (me : Me) (p : Proposer) (s : ℕ) (v : Value) → IsOwnProposer me p → proposed_at p s ≡ Some v →
-        IsBody me.group.size me.node (Accept p.ballot s v) }
-    ensures submit { (n : Node) (v : Value) → IsInRange n → batch_of n n.waiting ≡ Some v → IsBody n.me.group.size n.me.node (Submit v) }
-    ensures ask { (n : Node) → IsInRange n → IsBody n.me.group.size n.me.node (Ask (front n)) }
-    ensures tell { (n : Node) (s : ℕ) (v : Value) → IsInRange n → get n.learner.learned s ≡ Some v → IsBody n.me.group.size n.me.node (Tell s v) }
+    ensures prepare { (me : Me) (p : Proposer) (s : ℕ) → IsOwnProposer me p → s < 65536
+        → IsBody me.group.size me.node (Prepare p.ballot s) }
+    ensures accept { (me : Me) (p : Proposer) (s : ℕ) (v : Value) → IsOwnProposer me p
+        → proposed_at p s ≡ Some v → IsBody me.group.size me.node (Accept p.ballot s v) }
+    ensures submit { (n : Known) (v : Value) → IsInRange n → batch_of n n.waiting ≡ Some v
+        → IsBody n.me.group.size n.me.node (Submit v) }
+    ensures ask { (n : Known) → IsInRange n → IsBody n.me.group.size n.me.node (Ask (front n)) }
+    ensures tell { (n : Known) (s : ℕ) (v : Value) → IsInRange n → get n.learner.learned s ≡ Some v
+        → IsBody n.me.group.size n.me.node (Tell s v) }
 {
     accepts_fit();
     one_front();
 }
 
-/// A node's proposer: it is its own still after a part of a promise that has a spelling, and asks on from a place that there is; and so it
-/// is after a proposal, after as many as there are up to a number, and after an offer, also behind a pump.
+/// A node's proposer: it is its own still after a part of a promise that has a spelling, and asks
+/// on from a place that there is; and so it is after a proposal, after as many as there are up to a
+/// number, and after an offer, also behind a pump.
 pub fn proposals_fit()
-    ensures hears { (me : Me) (p : Proposer) (j : ℕ) (body : Body) → IsOwnProposer me p → IsPart p.ballot body → IsHeardFit me j body →
-        IsOwnProposer me (on_promise p j body) }
-    ensures asks { (me : Me) (p : Proposer) (j s : ℕ) (body : Body) → IsOwnProposer me p → asks_after p j body ≡ Some s →
-        IsBody me.group.size me.node (Prepare p.ballot s) }
-    ensures sends { (me : Me) (p : Proposer) (offered : Option Value) (v : Value) → IsOwnProposer me p → IfSome offered (IsValue me.group.size) →
-        next_value p offered ≡ Some v → IsBody me.group.size me.node (Accept p.ballot (next_of p) v) }
-    ensures stays { (me : Me) (p : Proposer) (offered : Option Value) → IsOwnProposer me p → IfSome offered (IsValue me.group.size) →
-        IsOwnProposer me (proposing p (next_value p offered)) }
+    ensures hears { (me : Me) (p : Proposer) (j : ℕ) (body : Body) → IsOwnProposer me p
+        → IsPromisePart p.ballot body → IsHeardFit me j body
+        → IsOwnProposer me (heard_promise p j body) }
+    ensures asks { (me : Me) (p : Proposer) (j s : ℕ) (body : Body) → IsOwnProposer me p
+        → asks_after p j body ≡ Some s → IsBody me.group.size me.node (Prepare p.ballot s) }
+    ensures sends { (me : Me) (p : Proposer) (offered : Option Value) (v : Value)
+        → IsOwnProposer me p → IfSome offered (IsValue me.group.size)
+        → next_value p offered ≡ Some v
+        → IsBody me.group.size me.node (Accept p.ballot (next_of p) v) }
+    ensures stays { (me : Me) (p : Proposer) (offered : Option Value) → IsOwnProposer me p
+        → IfSome offered (IsValue me.group.size)
+        → IsOwnProposer me (proposing p (next_value p offered)) }
     ensures pump { (me : Me) (n : ℕ) (p : Proposer) → IsOwnProposer me p → AreFit me p (pump n p) }
-    ensures offer { (me : Me) (p : Proposer) (v : Value) → IsOwnProposer me p → IsValue me.group.size v → AreFit me p (offer p v) }
-    ensures offer_after { (me : Me) (pumped : Proposals) (v : Value) → IsOwnProposer me pumped.proposer → IsValue me.group.size v →
-        AreFit me pumped.proposer (offer_after pumped v) }
+    ensures offer { (me : Me) (p : Proposer) (v : Value) → IsOwnProposer me p
+        → IsValue me.group.size v → AreFit me p (offer p v) }
+    ensures offer_after { (me : Me) (pumped : Proposals) (v : Value)
+        → IsOwnProposer me pumped.proposer → IsValue me.group.size v
+        → AreFit me pumped.proposer (offer_after pumped v) }
 {
     accepts_fit();
     ballot_stays();
 }
 
-/// No call sends more packets than an outbox holds: a campaign sends one, a message at most 17, a tick at most 43; an Ask is told of at most
-/// 16 places below the front. A pump makes no more proposals than it may, and an offer one at most.
+/// No call sends more packets than an outbox holds: a campaign sends one, a message at most 17, a
+/// tick at most 43; an Ask is told of at most 16 places below the front. A pump makes no more
+/// proposals than it may, and an offer one at most.
 pub fn packets_are_few()
-    ensures campaign { (n : Node) → length (at_campaign n).sends ≤ 1 }
-    ensures message { (n : Node) (j : ℕ) (body : Body) → length (on_message n j body).sends ≤ 17 }
-    ensures tick { (n : Node) → IsInRange n → length (at_tick n).sends ≤ 43 }
-    ensures ask { (n : Node) (j from : ℕ) → length (at_ask n j from).sends ≤ min 16 (front n - from) }
+    ensures campaign { (n : Known) → length (on_campaign n).sends ≤ 1 }
+    ensures message { (n : Known) (j : ℕ) (body : Body) → length (on_message n j body).sends ≤ 17 }
+    ensures tick { (n : Known) → IsInRange n → length (on_tick n).sends ≤ 43 }
+    ensures ask { (n : Known) (j from : ℕ)
+        → length (on_ask n j from).sends ≤ min 16 (front n - from) }
     ensures pump { (n : ℕ) (p : Proposer) → length (pump n p).made ≤ n }
     ensures offer { (pumped : Proposals) (v : Value) → length (offer_after pumped v).made ≤ 1 }
 {}

@@ -10,16 +10,18 @@ use paxos_learner::laws::input_grows;
 use paxos_msg::laws::{agreement, majorities_meet, sent_only_grows, tests_are_exact};
 use pcode_machine::laws::prefixes_are_ordered;
 
-/// Whatever was sent, it chooses an input. Where it grew from nothing it chooses one alone, with which the input of any chosen
-/// values begins, and which only grows at its end as more is sent.
+/// Whatever was sent, it chooses an input. Where it grew from nothing it chooses one alone, with
+/// which the input of any chosen values begins, and which only grows at its end as more is sent.
 pub fn input_is_chosen()
     ensures there { (size : ℕ) (sent : Sent) → (x : List ℕ) × IsInput size sent x }
-    ensures one { (size : ℕ) (sent : Sent) (records : ℕ → Record) (x y : List ℕ) → Grew size sent records →
-        IsInput size sent x → IsInput size sent y → x ≡ y }
-    ensures begins { (size : ℕ) (sent : Sent) (records : ℕ → Record) (values : List Value) (x : List ℕ) → Grew size sent records →
-        AreChosen size sent values → IsInput size sent x → IsPrefix (input_of values) x }
-    ensures grows { (size : ℕ) (sent more : Sent) (records : ℕ → Record) (x y : List ℕ) → Grew size (sent ++ more) records →
-        IsInput size sent x → IsInput size (sent ++ more) y → IsPrefix x y }
+    ensures one { (size : ℕ) (sent : Sent) (records : ℕ → Record) (x y : List ℕ)
+        → Grew size sent records → IsInput size sent x → IsInput size sent y → x ≡ y }
+    ensures begins { (size : ℕ) (sent : Sent) (records : ℕ → Record) (values : List Value)
+        (x : List ℕ) → Grew size sent records → AreChosen size sent values → IsInput size sent x
+        → IsPrefix (input_of values) x }
+    ensures grows { (size : ℕ) (sent more : Sent) (records : ℕ → Record) (x y : List ℕ)
+        → Grew size (sent ++ more) records → IsInput size sent x → IsInput size (sent ++ more) y
+        → IsPrefix x y }
 {
     tests_are_exact();
     majorities_meet();

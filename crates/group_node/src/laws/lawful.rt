@@ -1,5 +1,6 @@
-//! The law of each call of a node, over the definitions alone. Where what was sent and typed backs a node that is in its ranges, what the
-//! call makes of it may be saved, learned and sent, and the node is backed again. Each is the contract of a function that does nothing.
+//! The law of each call of a node, over the definitions alone. Where what was sent and typed backs
+//! a node that is in its ranges, what the call makes of it may be saved, learned and sent, and the
+//! node is backed again. Each is the contract of a function that does nothing.
 ghost use Rattle.std.specs.Prelude.{◌≡◌, ◌≢◌, ◌++◌, ◌∷◌, [], ℕ, List, Option, Some};
 ghost use Rattle.std.specs.FinMap.{empty, FinMap, get};
 ghost use Rattle.std.specs.Ordering.{nat_cmp};
@@ -12,11 +13,14 @@ ghost use Rattle.paxos_msg.specs.Keys.{Key, keys_of};
 ghost use Rattle.paxos_acceptor.specs.declared.me.Me.{Me};
 ghost use Rattle.paxos_acceptor.specs.Stores.{IsOneOf};
 ghost use Rattle.group_node.specs.Backs.{Backs, IsRecordBacked};
-ghost use Rattle.group_node.specs.Delivered.{on_message};
-ghost use Rattle.group_node.specs.Leading.{at_promise, at_submit, at_tick};
-ghost use Rattle.group_node.specs.Node.{at_accept, at_accepted, at_ask, at_campaign, at_prepare, at_refused, at_tell, at_typed, Done, new_key, Node, started};
+ghost use Rattle.group_node.specs.Protocol.{on_message};
+ghost use Rattle.group_node.specs.AcceptorRows.{on_accept, on_prepare};
+ghost use Rattle.group_node.specs.Known.{on_typed, Response, new_key, Known, on_start};
+ghost use Rattle.group_node.specs.LearnerRows.{on_accepted, on_ask, on_tell};
+ghost use Rattle.group_node.specs.ProposerRows.{on_promise, on_submit, on_campaign, on_refused};
+ghost use Rattle.group_node.specs.Tick.{on_tick};
 ghost use Rattle.group_node.specs.Ranges.{IsInRange};
-ghost use Rattle.group_node.specs.Steps.{AllChosen, AllTyped, handed, IsDelivered, IsLawful, IsLawfulCall};
+ghost use Rattle.group_node.specs.Steps.{AllChosen, AllTyped, messages_handed_out, IsDelivered, IsLawful, IsLawfulCall};
 
 use paxos_acceptor::laws::{backing, promises_may_be_sent, votes_may_be_sent};
 use paxos_learner::laws::{learned_stays, stays_backed as learner_stays_backed};
@@ -32,8 +36,8 @@ use paxos_proposer::laws::{
 
 /// A start: the first two parts of `Backs`, for the stored record, are enough.
 pub fn start_is_lawful()
-    ensures { (sent : Sent) (typed : List Key) (me : Me) (r : Record) → IsRecordBacked sent me.node r →
-        IsLawful sent typed r empty (started me r) }
+    ensures { (sent : Sent) (typed : List Key) (me : Me) (r : Record)
+        → IsRecordBacked sent me.node r → IsLawful sent typed r empty (on_start me r) }
 {
     backing();
     learner_stays_backed();
@@ -41,14 +45,15 @@ pub fn start_is_lawful()
 
 /// A typed byte: its key is typed with it.
 pub fn typed_is_lawful()
-    ensures { (sent : Sent) (typed : List Key) (n : Node) (byte : ℕ) → IsInRange n → Backs sent typed n →
-        IsLawfulCall sent (typed ++ keys_of (new_key n byte)) n (at_typed n byte) }
+    ensures { (sent : Sent) (typed : List Key) (n : Known) (byte : ℕ) → IsInRange n
+        → Backs sent typed n
+        → IsLawfulCall sent (typed ++ keys_of (new_key n byte)) n (on_typed n byte) }
 {}
 
 /// A campaign.
 pub fn campaign_is_lawful()
-    ensures { (sent : Sent) (typed : List Key) (n : Node) → IsInRange n → Backs sent typed n →
-        IsLawfulCall sent typed n (at_campaign n) }
+    ensures { (sent : Sent) (typed : List Key) (n : Known) → IsInRange n → Backs sent typed n →
+        IsLawfulCall sent typed n (on_campaign n) }
 {
     backing();
     proposer_stays_backed();
@@ -61,8 +66,8 @@ pub fn campaign_is_lawful()
 
 /// A tick.
 pub fn tick_is_lawful()
-    ensures { (sent : Sent) (typed : List Key) (n : Node) → IsInRange n → Backs sent typed n →
-        IsLawfulCall sent typed n (at_tick n) }
+    ensures { (sent : Sent) (typed : List Key) (n : Known) → IsInRange n → Backs sent typed n →
+        IsLawfulCall sent typed n (on_tick n) }
 {
     backing();
     proposer_stays_backed();
@@ -74,8 +79,9 @@ pub fn tick_is_lawful()
 
 /// A Prepare.
 pub fn prepare_is_lawful()
-    ensures { (sent : Sent) (typed : List Key) (n : Node) (j from : ℕ) (b : Ballot) → IsInRange n → Backs sent typed n →
-        IsDelivered sent n j (Prepare b from) → IsLawfulCall sent typed n (at_prepare n b from) }
+    ensures { (sent : Sent) (typed : List Key) (n : Known) (j from : ℕ) (b : Ballot) → IsInRange n
+        → Backs sent typed n → IsDelivered sent n j (Prepare b from)
+        → IsLawfulCall sent typed n (on_prepare n b from) }
 {
     backing();
     proposer_stays_backed();
@@ -89,8 +95,10 @@ pub fn prepare_is_lawful()
 
 /// A Promise, or a part of one, with the pump behind it.
 pub fn promise_is_lawful()
-    ensures { (sent : Sent) (typed : List Key) (n : Node) (j first upto : ℕ) (b : Ballot) (votes : List Vote) → IsInRange n → Backs sent typed n →
-        IsDelivered sent n j (Promise b first upto votes) → IsLawfulCall sent typed n (at_promise n j b first upto votes) }
+    ensures { (sent : Sent) (typed : List Key) (n : Known) (j first upto : ℕ) (b : Ballot)
+        (votes : List Vote) → IsInRange n → Backs sent typed n
+        → IsDelivered sent n j (Promise b first upto votes)
+        → IsLawfulCall sent typed n (on_promise n j b first upto votes) }
 {
     backing();
     proposer_stays_backed();
@@ -105,8 +113,9 @@ pub fn promise_is_lawful()
 
 /// An Accept.
 pub fn accept_is_lawful()
-    ensures { (sent : Sent) (typed : List Key) (n : Node) (j s : ℕ) (b : Ballot) (v : Value) → IsInRange n → Backs sent typed n →
-        IsDelivered sent n j (Accept b s v) → IsLawfulCall sent typed n (at_accept n b s v) }
+    ensures { (sent : Sent) (typed : List Key) (n : Known) (j s : ℕ) (b : Ballot) (v : Value)
+        → IsInRange n → Backs sent typed n → IsDelivered sent n j (Accept b s v)
+        → IsLawfulCall sent typed n (on_accept n b s v) }
 {
     backing();
     proposer_stays_backed();
@@ -120,8 +129,9 @@ pub fn accept_is_lawful()
 
 /// An Accepted.
 pub fn accepted_is_lawful()
-    ensures { (sent : Sent) (typed : List Key) (n : Node) (j s : ℕ) (b : Ballot) (v : Value) → IsInRange n → Backs sent typed n →
-        IsDelivered sent n j (Accepted b s v) → IsLawfulCall sent typed n (at_accepted n j b s v) }
+    ensures { (sent : Sent) (typed : List Key) (n : Known) (j s : ℕ) (b : Ballot) (v : Value)
+        → IsInRange n → Backs sent typed n → IsDelivered sent n j (Accepted b s v)
+        → IsLawfulCall sent typed n (on_accepted n j b s v) }
 {
     learner_stays_backed();
     learned_stays();
@@ -129,8 +139,9 @@ pub fn accepted_is_lawful()
 
 /// A Tell.
 pub fn tell_is_lawful()
-    ensures { (sent : Sent) (typed : List Key) (n : Node) (j s : ℕ) (v : Value) → IsInRange n → Backs sent typed n →
-        IsDelivered sent n j (Tell s v) → IsLawfulCall sent typed n (at_tell n s v) }
+    ensures { (sent : Sent) (typed : List Key) (n : Known) (j s : ℕ) (v : Value) → IsInRange n
+        → Backs sent typed n → IsDelivered sent n j (Tell s v)
+        → IsLawfulCall sent typed n (on_tell n s v) }
 {
     learner_stays_backed();
     learned_stays();
@@ -138,14 +149,16 @@ pub fn tell_is_lawful()
 
 /// A Refused.
 pub fn refused_is_lawful()
-    ensures { (sent : Sent) (typed : List Key) (n : Node) (j : ℕ) (b promised : Ballot) → IsInRange n → Backs sent typed n →
-        IsDelivered sent n j (Refused b promised) → IsLawfulCall sent typed n (at_refused n b promised) }
+    ensures { (sent : Sent) (typed : List Key) (n : Known) (j : ℕ) (b promised : Ballot)
+        → IsInRange n → Backs sent typed n → IsDelivered sent n j (Refused b promised)
+        → IsLawfulCall sent typed n (on_refused n b promised) }
 {}
 
 /// A Submit, with the pump and the offer.
 pub fn submit_is_lawful()
-    ensures { (sent : Sent) (typed : List Key) (n : Node) (j : ℕ) (v : Value) → IsInRange n → Backs sent typed n →
-        IsDelivered sent n j (Submit v) → IsLawfulCall sent typed n (at_submit n v) }
+    ensures { (sent : Sent) (typed : List Key) (n : Known) (j : ℕ) (v : Value) → IsInRange n
+        → Backs sent typed n → IsDelivered sent n j (Submit v)
+        → IsLawfulCall sent typed n (on_submit n v) }
 {
     backing();
     proposer_stays_backed();
@@ -157,8 +170,9 @@ pub fn submit_is_lawful()
 
 /// An Ask.
 pub fn ask_is_lawful()
-    ensures { (sent : Sent) (typed : List Key) (n : Node) (j from : ℕ) → IsInRange n → Backs sent typed n →
-        IsDelivered sent n j (Ask from) → IsLawfulCall sent typed n (at_ask n j from) }
+    ensures { (sent : Sent) (typed : List Key) (n : Known) (j from : ℕ) → IsInRange n
+        → Backs sent typed n → IsDelivered sent n j (Ask from)
+        → IsLawfulCall sent typed n (on_ask n j from) }
 {
     backing();
     proposer_stays_backed();
@@ -169,8 +183,9 @@ pub fn ask_is_lawful()
 
 /// A message of any kind, with the waiting keys that leave after it.
 pub fn message_is_lawful()
-    ensures { (sent : Sent) (typed : List Key) (n : Node) (j : ℕ) (body : Body) → IsInRange n → Backs sent typed n →
-        IsDelivered sent n j body → IsLawfulCall sent typed n (on_message n j body) }
+    ensures { (sent : Sent) (typed : List Key) (n : Known) (j : ℕ) (body : Body) → IsInRange n
+        → Backs sent typed n → IsDelivered sent n j body
+        → IsLawfulCall sent typed n (on_message n j body) }
 {
     prepare_is_lawful();
     promise_is_lawful();
@@ -184,39 +199,54 @@ pub fn message_is_lawful()
 
 // ---- the others, and the whole
 
-/// What other nodes send, and keys that are typed, keep a node backed, and the stored record of one that is down.
+/// What other nodes send, and keys that are typed, keep a node backed, and the stored record of one
+/// that is down.
 pub fn others_keep_it_backed()
-    ensures sends { (sent : Sent) (typed known : List Key) (n : Node) (size j : ℕ) (learned : ℕ → Option Value) (r : Record) (body : Body) →
-        j ≢ n.me.node → MaySend size known learned sent j r body → Backs sent typed n →
-        Backs (sent ++ record { sender = j; body = body } ∷ []) typed n }
-    ensures sends_record { (sent : Sent) (known : List Key) (me size j : ℕ) (learned : ℕ → Option Value) (own r : Record) (body : Body) →
-        j ≢ me → MaySend size known learned sent j r body → IsRecordBacked sent me own →
-        IsRecordBacked (sent ++ record { sender = j; body = body } ∷ []) me own }
-    ensures types { (sent : Sent) (typed more : List Key) (n : Node) → Backs sent typed n → Backs sent (typed ++ more) n }
+    ensures sends { (sent : Sent) (typed known : List Key) (n : Known) (size j : ℕ)
+        (learned : ℕ → Option Value) (r : Record) (body : Body) → j ≢ n.me.node
+        → MaySend size known learned sent j r body → Backs sent typed n
+        → Backs (sent ++ record { sender = j; body = body } ∷ []) typed n }
+    ensures sends_record { (sent : Sent) (known : List Key) (me size j : ℕ)
+        (learned : ℕ → Option Value) (own r : Record) (body : Body) → j ≢ me
+        → MaySend size known learned sent j r body → IsRecordBacked sent me own
+        → IsRecordBacked (sent ++ record { sender = j; body = body } ∷ []) me own }
+    ensures types { (sent : Sent) (typed more : List Key) (n : Known) → Backs sent typed n
+        → Backs sent (typed ++ more) n }
 {
     backing();
     proposer_stays_backed();
     learner_stays_backed();
 }
 
-/// What a lawful call makes of the whole. The growth goes on; if all that was told is chosen, so is what the node has learned and what it
-/// tells; what is submitted was typed. A save of which nothing was sent leaves a record that is backed.
+/// What a lawful call makes of the whole. The growth goes on; if all that was told is chosen, so is
+/// what the node has learned and what it tells; what is submitted was typed. A save of which
+/// nothing was sent leaves a record that is backed.
 pub fn lawful_calls_go_on()
-    ensures grew { (sent : Sent) (typed : List Key) (records next : ℕ → Record) (before : FinMap nat_cmp Value) (done : Done) →
-        Grew done.node.me.group.size sent records → IsLawful sent typed (records done.node.me.node) before done →
-        next done.node.me.node ≡ done.node.kept → ((j : ℕ) → j ≢ done.node.me.node → next j ≡ records j) →
-        Grew done.node.me.group.size (sent ++ handed done.node.me.node done.sends) next }
-    ensures learned { (sent : Sent) (typed : List Key) (old : Record) (before : FinMap nat_cmp Value) (done : Done) →
-        AllChosen done.node.me.group.size sent → IsInRange done.node → IsLawful sent typed old before done →
-        (s : ℕ) (v : Value) → get done.node.learner.learned s ≡ Some v → IsChosen done.node.me.group.size sent s v }
-    ensures told { (sent : Sent) (typed : List Key) (old : Record) (before : FinMap nat_cmp Value) (done : Done) →
-        AllChosen done.node.me.group.size sent → IsInRange done.node → IsLawful sent typed old before done →
-        AllChosen done.node.me.group.size (sent ++ handed done.node.me.node done.sends) }
-    ensures submitted { (sent : Sent) (typed : List Key) (old : Record) (before : FinMap nat_cmp Value) (done : Done) →
-        AllTyped sent typed → IsLawful sent typed old before done → AllTyped (sent ++ handed done.node.me.node done.sends) typed }
-    ensures saved { (sent : Sent) (typed : List Key) (old left : Record) (before : FinMap nat_cmp Value) (done : Done) →
-        IsRecordBacked sent done.node.me.node old → IsLawful sent typed old before done → IsOneOf left old done.node.kept →
-        IsRecordBacked sent done.node.me.node left }
+    ensures grew { (sent : Sent) (typed : List Key) (records next : ℕ → Record)
+        (before : FinMap nat_cmp Value) (done : Response)
+        → Grew done.node.me.group.size sent records
+        → IsLawful sent typed (records done.node.me.node) before done
+        → next done.node.me.node ≡ done.node.kept
+        → ((j : ℕ) → j ≢ done.node.me.node → next j ≡ records j)
+        → Grew done.node.me.group.size
+        (sent ++ messages_handed_out done.node.me.node done.sends) next }
+    ensures learned { (sent : Sent) (typed : List Key) (old : Record)
+        (before : FinMap nat_cmp Value) (done : Response) → AllChosen done.node.me.group.size sent
+        → IsInRange done.node → IsLawful sent typed old before done → (s : ℕ) (v : Value)
+        → get done.node.learner.learned s ≡ Some v → IsChosen done.node.me.group.size sent s v }
+    ensures told { (sent : Sent) (typed : List Key) (old : Record) (before : FinMap nat_cmp Value)
+        (done : Response) → AllChosen done.node.me.group.size sent → IsInRange done.node
+        → IsLawful sent typed old before done
+        → AllChosen done.node.me.group.size
+        (sent ++ messages_handed_out done.node.me.node done.sends) }
+    ensures submitted { (sent : Sent) (typed : List Key) (old : Record)
+        (before : FinMap nat_cmp Value) (done : Response) → AllTyped sent typed
+        → IsLawful sent typed old before done
+        → AllTyped (sent ++ messages_handed_out done.node.me.node done.sends) typed }
+    ensures saved { (sent : Sent) (typed : List Key) (old left : Record)
+        (before : FinMap nat_cmp Value) (done : Response)
+        → IsRecordBacked sent done.node.me.node old → IsLawful sent typed old before done
+        → IsOneOf left old done.node.kept → IsRecordBacked sent done.node.me.node left }
 {
     growth();
     sends_in_order();

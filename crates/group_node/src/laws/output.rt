@@ -3,13 +3,13 @@ ghost use Rattle.std.specs.Prelude.{◌≡◌, ◌+◌, ◌≤◌, ◌∷◌, �
 ghost use Rattle.std.specs.FinMap.{FinMap};
 ghost use Rattle.std.specs.Ordering.{nat_cmp};
 ghost use Rattle.pcode_file.specs.Parts.{Parts};
-ghost use Rattle.pcode_machine.specs.Runs.{after, Leads};
+ghost use Rattle.pcode_machine.specs.Runs.{after_steps, LeadsIn};
 ghost use Rattle.paxos_msg.specs.declared.value.Value.{Value};
 ghost use Rattle.paxos_learner.specs.Growth.{HasLearnedMore};
 ghost use Rattle.paxos_learner.specs.Input.{learned_input};
 ghost use Rattle.group_node.specs.declared.player.Ran.{Ran};
-ghost use Rattle.group_node.specs.Consoles.{offered};
-ghost use Rattle.group_node.specs.Node.{Node};
+ghost use Rattle.group_node.specs.Console.{offered};
+ghost use Rattle.group_node.specs.Known.{Known};
 ghost use Rattle.group_node.specs.Output.{IsReplay, no_progress, Progress, RunsOn, unreleased_of};
 ghost use Rattle.group_node.specs.World.{Release, Run, seat_of, Sits, with_seat, WorldState, WorldStep};
 
@@ -20,10 +20,13 @@ use pcode_machine::laws::{run_is_after, same_run_on_longer_input, step_is_outcom
 pub fn learning_keeps_the_output()
     ensures replay { (old new : FinMap nat_cmp Value) (q : Progress) → HasLearnedMore old new →
         IsReplay (learned_input old) q → IsReplay (learned_input new) q }
-    ensures waits { (old new : FinMap nat_cmp Value) (q : Progress) → HasLearnedMore old new →
-        IsReplay (learned_input old) q → unreleased_of (learned_input new) q ≡ unreleased_of (learned_input old) q }
-    ensures configuration { (old new : FinMap nat_cmp Value) (q : Progress) → HasLearnedMore old new →
-        IsReplay (learned_input old) q → after q.program (learned_input new) q.steps ≡ after q.program (learned_input old) q.steps }
+    ensures waits { (old new : FinMap nat_cmp Value) (q : Progress) → HasLearnedMore old new
+        → IsReplay (learned_input old) q
+        → unreleased_of (learned_input new) q ≡ unreleased_of (learned_input old) q }
+    ensures configuration { (old new : FinMap nat_cmp Value) (q : Progress) → HasLearnedMore old new
+        → IsReplay (learned_input old) q
+        → after_steps q.program (learned_input new) q.steps
+        ≡ after_steps q.program (learned_input old) q.steps }
     ensures begins { (p : Parts) (x : List ℕ) → IsReplay x (no_progress p) }
 {
     input_grows();
@@ -31,20 +34,27 @@ pub fn learning_keeps_the_output()
     run_is_after();
 }
 
-/// A run, and the release of a byte, are events of the group, where the node's machine is where a replay on its learned
-/// input is. A run makes at most as many steps as it may.
+/// A run, and the release of a byte, are events of the group, where the node's machine is where a
+/// replay on its learned input is. A run makes at most as many steps as it may.
 pub fn output_is_an_event()
-    ensures run { (w : WorldState) (n : Node) (steps m made k : ℕ) (console : List ℕ) →
-        Sits w n (after w.program (learned_input n.learner.learned) m) k console → made ≤ steps →
-        Leads w.program (learned_input n.learner.learned) (m + made) (after w.program (learned_input n.learner.learned) (m + made)) →
-        WorldStep w (Run n.me.node steps)
-        (with_seat w n.me.node (seat_of n (after w.program (learned_input n.learner.learned) (m + made)) k console)) }
-    ensures release { (w : WorldState) (n : Node) (m k byte : ℕ) (rest console : List ℕ) →
-        Sits w n (after w.program (learned_input n.learner.learned) m) k console →
-        unreleased_of (learned_input n.learner.learned) (record { program = w.program; steps = m; released = k }) ≡ byte ∷ rest →
-        WorldStep w (Release n.me.node)
-        (with_seat w n.me.node (seat_of n (after w.program (learned_input n.learner.learned) m) (k + 1) (offered console k byte))) }
-    ensures few { (x : List ℕ) (steps : ℕ) (old new : Progress) (answer : Ran) → RunsOn x steps old new answer → new.steps ≤ old.steps + steps }
+    ensures run { (w : WorldState) (n : Known) (steps m made k : ℕ) (console : List ℕ)
+        → Sits w n (after_steps w.program (learned_input n.learner.learned) m) k console
+        → made ≤ steps → LeadsIn w.program (learned_input n.learner.learned) (m + made)
+        (after_steps w.program (learned_input n.learner.learned) (m + made))
+        → WorldStep w (Run n.me.node steps)
+        (with_seat w n.me.node
+        (seat_of n (after_steps w.program (learned_input n.learner.learned) (m + made)) k
+        console)) }
+    ensures release { (w : WorldState) (n : Known) (m k byte : ℕ) (rest console : List ℕ)
+        → Sits w n (after_steps w.program (learned_input n.learner.learned) m) k console
+        → unreleased_of (learned_input n.learner.learned)
+        (record { program = w.program; steps = m; released = k }) ≡ byte ∷ rest
+        → WorldStep w (Release n.me.node)
+        (with_seat w n.me.node
+        (seat_of n (after_steps w.program (learned_input n.learner.learned) m) (k + 1)
+        (offered console k byte))) }
+    ensures few { (x : List ℕ) (steps : ℕ) (old new : Progress) (answer : Ran)
+        → RunsOn x steps old new answer → new.steps ≤ old.steps + steps }
 {
     step_is_outcome();
     run_is_after();

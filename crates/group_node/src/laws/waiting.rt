@@ -3,20 +3,25 @@ ghost use Rattle.std.specs.Prelude.{◌≡◌, ◌++◌, ◌∷◌, [], ℕ, All
 ghost use Rattle.paxos_msg.specs.declared.value.Value.{Value};
 ghost use Rattle.paxos_msg.specs.Keys.{Key, keys_of};
 ghost use Rattle.paxos_learner.specs.Input.{front_values, keys_in_order};
-ghost use Rattle.group_node.specs.Leading.{batch_of};
-ghost use Rattle.group_node.specs.Node.{at_typed, new_key, Node, waiting_keys, without_read};
+ghost use Rattle.group_node.specs.Known.{on_typed, new_key, Known, waiting_keys};
+ghost use Rattle.group_node.specs.Tick.{batch_of};
+ghost use Rattle.group_node.specs.WaitingKeys.{without_read};
 
 use paxos_learner::laws::key_tests_are_exact;
 
-/// A typed key is the last that waits. A tick's batch has the first that wait, at most 32, and there is one unless none waits. After
-/// a message those that wait are the ones from the first on that doesn't stand below the front.
+/// A typed key is the last that waits. A tick's batch has the first that wait, at most 32, and
+/// there is one unless none waits. After a message those that wait are the ones from the first on
+/// that doesn't stand below the front.
 pub fn waiting_keys_are_a_row()
-    ensures typed { (n : Node) (byte : ℕ) → waiting_keys (at_typed n byte).node ≡ waiting_keys n ++ keys_of (new_key n byte) }
-    ensures batch { (n : Node) (v : Value) → batch_of n n.waiting ≡ Some v → keys_of v ≡ take 32 (waiting_keys n) }
-    ensures none { (n : Node) → batch_of n n.waiting ≡ None → waiting_keys n ≡ [] }
-    ensures gone { (n : Node) → (gone : List Key) × (waiting_keys n ≡ gone ++ waiting_keys (without_read n))
+    ensures typed { (n : Known) (byte : ℕ)
+        → waiting_keys (on_typed n byte).node ≡ waiting_keys n ++ keys_of (new_key n byte) }
+    ensures batch { (n : Known) (v : Value) → batch_of n n.waiting ≡ Some v
+        → keys_of v ≡ take 32 (waiting_keys n) }
+    ensures none { (n : Known) → batch_of n n.waiting ≡ None → waiting_keys n ≡ [] }
+    ensures gone { (n : Known)
+        → (gone : List Key) × (waiting_keys n ≡ gone ++ waiting_keys (without_read n))
         × All (λ k. Contains (keys_in_order (front_values n.learner.learned)) k) gone }
-    ensures first { (n : Node) (k : Key) (ks : List Key) → waiting_keys (without_read n) ≡ k ∷ ks →
+    ensures first { (n : Known) (k : Key) (ks : List Key) → waiting_keys (without_read n) ≡ k ∷ ks →
         ¬ Contains (keys_in_order (front_values n.learner.learned)) k }
 {
     key_tests_are_exact();

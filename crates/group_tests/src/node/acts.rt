@@ -19,7 +19,8 @@ pub enum Act {
     Runs(u32, Ran),
     /// It runs until it waits, and releases these bytes from number 0 on; then none waits.
     Prints(&'static [u8]),
-    /// It releases zero bytes with the numbers from the first up to the second, which is left out; then none waits.
+    /// It releases zero bytes with the numbers from the first up to the second, which is left out;
+    /// then none waits.
     ReleasesZeros(u64, u64),
     /// Its oldest packet goes to these, with these bytes.
     Sends(To, &'static [u8]),
@@ -172,7 +173,8 @@ fn is_answer(answer: Answer, fault: Option<NodeFault>) -> bool {
     }
 }
 
-/// The node does all this, one after another, and refuses it so. The first that it answers otherwise.
+/// The node does all this, one after another, and refuses it so. The first that it answers
+/// otherwise.
 pub fn first_unlike(seat: &mut Seat<'_>, lines: &[(Act, Option<NodeFault>)]) -> Option<usize> {
     for (line, (what, fault)) in lines.iter().enumerate() {
         if !is_answer(does(seat, *what), *fault) {

@@ -9,10 +9,11 @@ use pcode_ops::Program;
 use std::alloc::Global;
 use std::test::Fail;
 
-/// The node hears the oldest packet of its outbox. It is alone in its group, so that all packets go to itself.
+/// The node hears the oldest packet of its outbox. It is alone in its group, so that all packets go
+/// to itself.
 fn hear_itself(node: &mut Node<'_, MemoryStore>, outbox: &mut Outbox) -> Result<(), NodeFault>
-    requires { node.old.protocol.rules.me.group ≡ record { size = 1; session = 7 } }
-    ensures { node.new.protocol.rules.me.group ≡ record { size = 1; session = 7 } }
+    requires { node.old.protocol.known.me.group ≡ record { size = 1; session = 7 } }
+    ensures { node.new.protocol.known.me.group ≡ record { size = 1; session = 7 } }
 {
     let Some(packet) = outbox.pop() else {
         return Ok(());
@@ -29,7 +30,7 @@ fn hear_itself(node: &mut Node<'_, MemoryStore>, outbox: &mut Outbox) -> Result<
 
 /// The node takes a key, and leads.
 fn lead(node: &mut Node<'_, MemoryStore>, outbox: &mut Outbox) -> Result<(), NodeFault>
-    requires { node.old.protocol.rules.me.group ≡ record { size = 1; session = 7 } }
+    requires { node.old.protocol.known.me.group ≡ record { size = 1; session = 7 } }
 {
     let _key = node.typed(65)?; // it waits; the answer is the key
     node.campaign(outbox)?; // a promise is saved, and a Prepare is in the outbox
@@ -54,7 +55,8 @@ fn alone(
     alloc: Global,
     program: &Program,
 ) -> Result<Node<'_, MemoryStore>, StartRefused<MemoryStore>>
-    ensures { IfOk result (λ node. node.protocol.rules.me.group ≡ record { size = 1; session = 7 }) }
+    ensures { IfOk result
+        (λ node. node.protocol.known.me.group ≡ record { size = 1; session = 7 }) }
 {
     let store = MemoryStore::new(Record::new(alloc));
     let Ok(config) = Config::new(1, 1, 7) else {

@@ -1,4 +1,5 @@
-//! Datagrams of the group of size 3 and session 7: of the ballot 1.1 and of keys of the first start of node 2.
+//! Datagrams of the group of size 3 and session 7: of the ballot 1.1 and of keys of the first start
+//! of node 2.
 
 /// Node 1 asks for promises of the ballot 1.1 from place 0 on.
 pub const PREPARE: [u8; 19] = [

@@ -6,8 +6,8 @@ use group_node::Ran::{Ended, Full, More};
 use pcode_machine::End;
 use std::test::Fail;
 
-/// Seven steps come before the transfer, which writes one byte a step: after 263 steps 256 bytes wait, and the next step is
-/// not made.
+/// Seven steps come before the transfer, which writes one byte a step: after 263 steps 256 bytes
+/// wait, and the next step is not made.
 #[test]
 fn full_after_263_steps(rt: HostRuntime) -> Result<(), Fail> {
     let program = writing_program(rt.alloc())?;

@@ -1,4 +1,5 @@
-//! Three nodes that hear each other's datagrams one at a time: each packet that they send, byte by byte.
+//! Three nodes that hear each other's datagrams one at a time: each packet that they send, byte by
+//! byte.
 use super::acts::Act::{Campaigns, HasSentAll, Hears, Knows, Prints, Sends, Ticks, Types};
 use super::acts::{Act, is_done};
 use super::datagrams::{
@@ -13,7 +14,8 @@ use pcode_ops::Program;
 use std::alloc::Global;
 use std::test::Fail;
 
-/// A node's number, and what it does or sends. A packet that no line names is refused by the node's next call that may send.
+/// A node's number, and what it does or sends. A packet that no line names is refused by the node's
+/// next call that may send.
 type Line = (usize, Act);
 
 /// Whether the node with this number does or sends what its line says.
@@ -73,7 +75,8 @@ fn with_second(
     unlike
 }
 
-/// The same, from the first start of each on. Each node stands in a function of its own, which keeps their proofs short.
+/// The same, from the first start of each on. Each node stands in a function of its own, which
+/// keeps their proofs short.
 fn follow(alloc: Global, program: &Program, lines: &[Line]) -> Result<Option<usize>, NodeFault> {
     let mut first = Seat::fresh(alloc, program, 1)?;
     let unlike = with_second(alloc, program, &mut first, lines);
@@ -81,8 +84,9 @@ fn follow(alloc: Global, program: &Program, lines: &[Line]) -> Result<Option<usi
     unlike
 }
 
-/// Node 1 leads, and then a key is typed at node 2 and learned at nodes 1 and 2. Node 3 hears of it by a Tell. A tick of the leader before it
-/// is learned sends the Accept again; a Submit that comes again is passed over. Before the promises a tick asks each node by itself.
+/// Node 1 leads, and then a key is typed at node 2 and learned at nodes 1 and 2. Node 3 hears of it
+/// by a Tell. A tick of the leader before it is learned sends the Accept again; a Submit that comes
+/// again is passed over. Before the promises a tick asks each node by itself.
 const KEY: [Line; 45] = [
     (1, Campaigns),
     (1, Sends(All, &PREPARE)),
@@ -139,9 +143,10 @@ fn key_is_learned_by_all(rt: HostRuntime) -> Result<(), Fail> {
     Ok(())
 }
 
-/// Node 1 leads. Two keys are typed at node 2, with a tick after each. Node 1 learns the first, and then takes both of them as one batch,
-/// since it does not know the second. Once the first is learned and the second offered, no batch of them is taken. Then nodes 1 and 2
-/// learn the batch; node 2 reads the first key as soon as it learns place 0.
+/// Node 1 leads. Two keys are typed at node 2, with a tick after each. Node 1 learns the first, and
+/// then takes both of them as one batch, since it does not know the second. Once the first is
+/// learned and the second offered, no batch of them is taken. Then nodes 1 and 2 learn the batch;
+/// node 2 reads the first key as soon as it learns place 0.
 const BATCHES: [Line; 53] = [
     (1, Campaigns),
     (1, Sends(All, &PREPARE)),

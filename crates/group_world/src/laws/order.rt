@@ -1,4 +1,5 @@
-//! The order of the keys that a group has chosen. Each law is the contract of a function that does nothing.
+//! The order of the keys that a group has chosen. Each law is the contract of a function that does
+//! nothing.
 ghost use Rattle.std.specs.Prelude.{◌≡◌, ◌∷◌, [], Bool, ℕ, flat_map, List, map, Option};
 ghost use Rattle.pcode_file.specs.Parts.{Parts};
 ghost use Rattle.paxos_msg.specs.declared.message.Group.{Group};
@@ -9,31 +10,32 @@ ghost use Rattle.paxos_learner.specs.Input.{input_of, keys_in_order};
 ghost use Rattle.group_node.specs.Inputs.{AreChosen};
 ghost use Rattle.group_world.specs.declared.event.Act.{Act};
 ghost use Rattle.group_world.specs.declared.event.Done.{Done};
-ghost use Rattle.group_world.specs.Goes.{Acts};
+ghost use Rattle.group_world.specs.Goes.{Performs};
 ghost use Rattle.group_world.specs.Order.{AreApart, AreInOrder, KeysOnce, SerialsInOrder};
 ghost use Rattle.group_world.specs.Ordered.{IsOrdered};
 ghost use Rattle.group_world.specs.Sound.{IsSound};
-ghost use Rattle.group_world.specs.Worlds.{begun, state_of, World};
+ghost use Rattle.group_world.specs.Worlds.{new_world, world_state, World};
 
 use group_node::laws::{packets_fit, waiting_keys_are_a_row};
 use paxos_learner::laws::{input_grows, learned_stays, values_are_learned};
 use paxos_msg::grammar::{one_message, reading_is_spelling};
 use paxos_msg::laws::{agreement, sent_only_grows, votes_are_by_place};
 
-/// In a sound world that is ordered each typed key is read once of any chosen values, and in the order in which the keys of its start were
-/// typed, with none left out.
+/// In a sound world that is ordered each typed key is read once of any chosen values, and in the
+/// order in which the keys of its start were typed, with none left out.
 pub fn ordered_worlds_are_orderly()
-    ensures once { (w : World) → IsSound w → IsOrdered w → KeysOnce (state_of w) }
-    ensures order { (w : World) → IsSound w → IsOrdered w → SerialsInOrder (state_of w) }
+    ensures once { (w : World) → IsSound w → IsOrdered w → KeysOnce (world_state w) }
+    ensures order { (w : World) → IsSound w → IsOrdered w → SerialsInOrder (world_state w) }
 {
     agreement();
 }
 
-/// A world is ordered before all events, and each event of a sound world that leaves a sound one keeps it ordered.
+/// A world is ordered before all events, and each event of a sound world that leaves a sound one
+/// keeps it ordered.
 pub fn events_keep_order()
-    ensures begins { (p : Parts) (group : Group) → IsOrdered (begun p group) }
-    ensures goes_on { (w v : World) (plan : Option Bool) (act : Act) (d : Done) → IsSound w → IsSound v → IsOrdered w → Acts w plan act d v →
-        IsOrdered v }
+    ensures begins { (p : Parts) (group : Group) → IsOrdered (new_world p group) }
+    ensures goes_on { (w v : World) (plan : Option Bool) (act : Act) (d : Done) → IsSound w
+        → IsSound v → IsOrdered w → Performs w plan act d v → IsOrdered v }
 {
     agreement();
     sent_only_grows();
@@ -45,21 +47,25 @@ pub fn events_keep_order()
     packets_fit();
 }
 
-/// The law of order is not empty. Whatever the program, in some sound and ordered world of it the keys 1 to 3 of a start are chosen as the
-/// batches 1, 1 to 2, and 3, in this order, so that the first key stands in two of them and is read once.
+/// The law of order is not empty. Whatever the program, in some sound and ordered world of it the
+/// keys 1 to 3 of a start are chosen as the batches 1, 1 to 2, and 3, in this order, so that the
+/// first key stands in two of them and is read once.
 pub fn possible()
-    ensures { (p : Parts) → (w : World) × (values : List Value) × (w.program ≡ p) × IsSound w × IsOrdered w
-        × AreChosen w.group.size (state_of w).sent values
-        × (map (λ k. k.byte) (flat_map keys_of values) ≡ 65 ∷ 65 ∷ 66 ∷ 67 ∷ []) × (input_of values ≡ 65 ∷ 66 ∷ 67 ∷ []) }
+    ensures { (p : Parts)
+        → (w : World) × (values : List Value) × (w.program ≡ p) × IsSound w × IsOrdered w
+        × AreChosen w.group.size (world_state w).sent values
+        × (map (λ k. k.byte) (flat_map keys_of values) ≡ 65 ∷ 65 ∷ 66 ∷ 67 ∷ [])
+        × (input_of values ≡ 65 ∷ 66 ∷ 67 ∷ []) }
 {
     reading_is_spelling();
     votes_are_by_place();
 }
 
-/// Keys are not in order where the second comes before the first, or the third behind the first; nor are they apart where one serial has two
-/// characters, as after two starts with one number.
+/// Keys are not in order where the second comes before the first, or the third behind the first;
+/// nor are they apart where one serial has two characters, as after two starts with one number.
 pub fn wrong_orders()
-    ensures early { ¬ AreInOrder (keys_in_order (Keys 2 1 2 (66 ∷ []) ∷ Keys 2 1 1 (65 ∷ []) ∷ [])) }
+    ensures early { ¬ AreInOrder
+        (keys_in_order (Keys 2 1 2 (66 ∷ []) ∷ Keys 2 1 1 (65 ∷ []) ∷ [])) }
     ensures gap { ¬ AreInOrder (keys_in_order (Keys 2 1 1 (65 ∷ []) ∷ Keys 2 1 3 (67 ∷ []) ∷ [])) }
     ensures twice { ¬ AreApart (keys_in_order (Keys 2 1 1 (65 ∷ []) ∷ Keys 2 1 1 (66 ∷ []) ∷ [])) }
 {}

@@ -1,5 +1,5 @@
-//! What holds of every world: that events keep it sound, and what is promised of a sound one. Each law is the contract of a function that
-//! does nothing.
+//! What holds of every world: that events keep it sound, and what is promised of a sound one. Each
+//! law is the contract of a function that does nothing.
 ghost use Rattle.std.specs.Prelude.{Bool, Option};
 ghost use Rattle.pcode_file.specs.Parts.{Parts};
 ghost use Rattle.paxos_msg.specs.declared.message.Group.{Group};
@@ -7,10 +7,10 @@ ghost use Rattle.paxos_msg.specs.Grammar.{IsGroup};
 ghost use Rattle.group_node.specs.States.{IsSize};
 ghost use Rattle.group_world.specs.declared.event.Act.{Act};
 ghost use Rattle.group_world.specs.declared.event.Done.{Done};
-ghost use Rattle.group_world.specs.Goes.{Acts, IsStep};
+ghost use Rattle.group_world.specs.Goes.{Performs, IsStep};
 ghost use Rattle.group_world.specs.Headline.{ConsolesAgree, ConsolesHoldOutput, HasNoGap, LearnedAgree, LearnedChosen};
 ghost use Rattle.group_world.specs.Sound.{IsSound};
-ghost use Rattle.group_world.specs.Worlds.{begun, state_of, World};
+ghost use Rattle.group_world.specs.Worlds.{new_world, world_state, World};
 
 use group_node::laws::{
     calls_are_events, campaign_is_lawful, input_is_chosen, lawful_calls_go_on,
@@ -23,13 +23,15 @@ use paxos_msg::grammar::spelling_is_read;
 use paxos_msg::laws::{agreement, growth, restarts, sent_only_grows};
 use pcode_machine::laws::{output_only_grows, prefixes_are_ordered};
 
-/// A world is sound before all events, and each event keeps it sound. An event of a sound world that is not refused is that event of its
-/// group, and one that is refused changes nothing.
+/// A world is sound before all events, and each event keeps it sound. An event of a sound world
+/// that is not refused is that event of its group, and one that is refused changes nothing.
 pub fn events_keep_it_sound()
-    ensures begins { (p : Parts) (group : Group) → IsSize group.size → IsGroup group → IsSound (begun p group) }
-    ensures goes_on { (w v : World) (plan : Option Bool) (act : Act) (d : Done) → IsSound w → Acts w plan act d v → IsSound v }
-    ensures step { (w v : World) (plan : Option Bool) (act : Act) (d : Done) → IsSound w → Acts w plan act d v →
-        IsStep (state_of w) act d (state_of v) }
+    ensures begins { (p : Parts) (group : Group) → IsSize group.size → IsGroup group
+        → IsSound (new_world p group) }
+    ensures goes_on { (w v : World) (plan : Option Bool) (act : Act) (d : Done) → IsSound w
+        → Performs w plan act d v → IsSound v }
+    ensures step { (w v : World) (plan : Option Bool) (act : Act) (d : Done) → IsSound w
+        → Performs w plan act d v → IsStep (world_state w) act d (world_state v) }
 {
     typed_is_lawful();
     campaign_is_lawful();
@@ -54,14 +56,15 @@ pub fn events_keep_it_sound()
     prefixes_are_ordered();
 }
 
-/// What is promised of a sound world: what its nodes have learned agrees, is chosen and was typed; its consoles hold the program's output
-/// on the chosen input, so that of two of them one holds a prefix of the other; and no released byte comes too early.
+/// What is promised of a sound world: what its nodes have learned agrees, is chosen and was typed;
+/// its consoles hold the program's output on the chosen input, so that of two of them one holds a
+/// prefix of the other; and no released byte comes too early.
 pub fn sound_worlds_agree()
-    ensures learned_agree { (w : World) → IsSound w → LearnedAgree (state_of w) }
-    ensures learned_chosen { (w : World) → IsSound w → LearnedChosen (state_of w) }
-    ensures consoles_hold_output { (w : World) → IsSound w → ConsolesHoldOutput (state_of w) }
-    ensures consoles_agree { (w : World) → IsSound w → ConsolesAgree (state_of w) }
-    ensures no_gap { (w : World) → IsSound w → HasNoGap (state_of w) }
+    ensures learned_agree { (w : World) → IsSound w → LearnedAgree (world_state w) }
+    ensures learned_chosen { (w : World) → IsSound w → LearnedChosen (world_state w) }
+    ensures consoles_hold_output { (w : World) → IsSound w → ConsolesHoldOutput (world_state w) }
+    ensures consoles_agree { (w : World) → IsSound w → ConsolesAgree (world_state w) }
+    ensures no_gap { (w : World) → IsSound w → HasNoGap (world_state w) }
 {
     agreement();
     input_is_chosen();

@@ -1,15 +1,16 @@
-//! What is promised of every group, whatever happened to it. Each clause is a claim of its own; the function does nothing.
+//! What is promised of every group, whatever happened to it. Each clause is a claim of its own; the
+//! function does nothing.
 ghost use Rattle.std.specs.Prelude.{◌≡◌, ◌∷◌, [], List};
 ghost use Rattle.pcode_file.specs.Parts.{Parts};
 ghost use Rattle.paxos_msg.specs.declared.message.Group.{Group};
 ghost use Rattle.paxos_msg.specs.Grammar.{IsGroup};
 ghost use Rattle.group_node.specs.States.{IsSize};
 ghost use Rattle.group_world.specs.declared.event.Event.{Event};
-ghost use Rattle.group_world.specs.Goes.{Happens};
+ghost use Rattle.group_world.specs.Goes.{LeadsBy};
 ghost use Rattle.group_world.specs.Headline.{ConsolesAgree, ConsolesGrow, ConsolesHoldOutput, HasLearned, HasNoGap, LearnedAgree, LearnedChosen, LearnedStays};
 ghost use Rattle.group_world.specs.Order.{KeysOnce, SerialsInOrder};
 ghost use Rattle.group_world.specs.Witness.{echoes, letter, letter_batch, one, shown_events};
-ghost use Rattle.group_world.specs.Worlds.{begun, state_of, World};
+ghost use Rattle.group_world.specs.Worlds.{new_world, world_state, World};
 
 use crate::laws::order::{events_keep_order, ordered_worlds_are_orderly};
 use crate::laws::sound::{events_keep_it_sound, sound_worlds_agree};
@@ -17,27 +18,36 @@ use paxos_msg::grammar::reading_is_spelling;
 use paxos_msg::laws::{agreement, sent_only_grows, votes_are_by_place};
 use pcode_machine::laws::output_only_grows;
 
-/// For every program, every group of 1, 3, 5, 7 or 9 nodes and every list of keystrokes, deliveries, campaigns, ticks, runs, releases,
-/// crashes and starts, with saves that fail or not, of the world to which they lead from the one in which nothing has happened: no two nodes
-/// have learned different values for one place; what is learned is chosen, and was typed or is a no-op; each console holds a prefix of the
-/// program's output on the chosen input; so of two consoles one holds a prefix of the other; no released byte comes too early for its
-/// console, and one that it has shown is the one that stands there; each typed key is read once; and the keys of one start of one node are
-/// read in the order in which they were typed.
+/// For every program, every group of 1, 3, 5, 7 or 9 nodes and every list of keystrokes,
+/// deliveries, campaigns, ticks, runs, releases, crashes and starts, with saves that fail or not,
+/// of the world to which they lead from the one in which nothing has happened: no two nodes have
+/// learned different values for one place; what is learned is chosen, and was typed or is a no-op;
+/// each console holds a prefix of the program's output on the chosen input; so of two consoles one
+/// holds a prefix of the other; no released byte comes too early for its console, and one that it
+/// has shown is the one that stands there; each typed key is read once; and the keys of one start
+/// of one node are read in the order in which they were typed.
 pub fn headline()
-    ensures learned_agree { (p : Parts) (group : Group) (events : List Event) (w : World) → IsSize group.size → IsGroup group →
-        Happens (begun p group) events w → LearnedAgree (state_of w) }
-    ensures learned_chosen { (p : Parts) (group : Group) (events : List Event) (w : World) → IsSize group.size → IsGroup group →
-        Happens (begun p group) events w → LearnedChosen (state_of w) }
-    ensures consoles_hold_output { (p : Parts) (group : Group) (events : List Event) (w : World) → IsSize group.size → IsGroup group →
-        Happens (begun p group) events w → ConsolesHoldOutput (state_of w) }
-    ensures consoles_agree { (p : Parts) (group : Group) (events : List Event) (w : World) → IsSize group.size → IsGroup group →
-        Happens (begun p group) events w → ConsolesAgree (state_of w) }
-    ensures no_gap { (p : Parts) (group : Group) (events : List Event) (w : World) → IsSize group.size → IsGroup group →
-        Happens (begun p group) events w → HasNoGap (state_of w) }
-    ensures key_once { (p : Parts) (group : Group) (events : List Event) (w : World) → IsSize group.size → IsGroup group →
-        Happens (begun p group) events w → KeysOnce (state_of w) }
-    ensures serials_in_order { (p : Parts) (group : Group) (events : List Event) (w : World) → IsSize group.size → IsGroup group →
-        Happens (begun p group) events w → SerialsInOrder (state_of w) }
+    ensures learned_agree { (p : Parts) (group : Group) (events : List Event) (w : World)
+        → IsSize group.size → IsGroup group → LeadsBy (new_world p group) events w
+        → LearnedAgree (world_state w) }
+    ensures learned_chosen { (p : Parts) (group : Group) (events : List Event) (w : World)
+        → IsSize group.size → IsGroup group → LeadsBy (new_world p group) events w
+        → LearnedChosen (world_state w) }
+    ensures consoles_hold_output { (p : Parts) (group : Group) (events : List Event) (w : World)
+        → IsSize group.size → IsGroup group → LeadsBy (new_world p group) events w
+        → ConsolesHoldOutput (world_state w) }
+    ensures consoles_agree { (p : Parts) (group : Group) (events : List Event) (w : World)
+        → IsSize group.size → IsGroup group → LeadsBy (new_world p group) events w
+        → ConsolesAgree (world_state w) }
+    ensures no_gap { (p : Parts) (group : Group) (events : List Event) (w : World)
+        → IsSize group.size → IsGroup group → LeadsBy (new_world p group) events w
+        → HasNoGap (world_state w) }
+    ensures key_once { (p : Parts) (group : Group) (events : List Event) (w : World)
+        → IsSize group.size → IsGroup group → LeadsBy (new_world p group) events w
+        → KeysOnce (world_state w) }
+    ensures serials_in_order { (p : Parts) (group : Group) (events : List Event) (w : World)
+        → IsSize group.size → IsGroup group → LeadsBy (new_world p group) events w
+        → SerialsInOrder (world_state w) }
 {
     events_keep_it_sound();
     events_keep_order();
@@ -45,18 +55,18 @@ pub fn headline()
     ordered_worlds_are_orderly();
 }
 
-/// For every program, every group of 1, 3, 5, 7 or 9 nodes, every list of events that leads from a world
-/// in which nothing has happened to `w`, and every further list that leads from `w` to `v`: a value that a
-/// node has learned in `w`, and one that a node, the same or another, has learned for the same place in
-/// `v`, are equal, also where nodes have crashed and started again in between; and what a node's console
-/// has shown in `v` begins with what it had shown in `w`.
+/// For every program, every group of 1, 3, 5, 7 or 9 nodes, every list of events that leads from a
+/// world in which nothing has happened to `w`, and every further list that leads from `w` to `v`: a
+/// value that a node has learned in `w`, and one that a node, the same or another, has learned for
+/// the same place in `v`, are equal, also where nodes have crashed and started again in between;
+/// and what a node's console has shown in `v` begins with what it had shown in `w`.
 pub fn later_worlds_agree()
-    ensures learned_stays { (p : Parts) (group : Group) (events more : List Event) (w v : World) →
-        IsSize group.size → IsGroup group → Happens (begun p group) events w → Happens w more v →
-        LearnedStays (state_of w) (state_of v) }
-    ensures consoles_grow { (p : Parts) (group : Group) (events more : List Event) (w v : World) →
-        IsSize group.size → IsGroup group → Happens (begun p group) events w → Happens w more v →
-        ConsolesGrow (state_of w) (state_of v) }
+    ensures learned_stays { (p : Parts) (group : Group) (events more : List Event) (w v : World)
+        → IsSize group.size → IsGroup group → LeadsBy (new_world p group) events w
+        → LeadsBy w more v → LearnedStays (world_state w) (world_state v) }
+    ensures consoles_grow { (p : Parts) (group : Group) (events more : List Event) (w v : World)
+        → IsSize group.size → IsGroup group → LeadsBy (new_world p group) events w
+        → LeadsBy w more v → ConsolesGrow (world_state w) (world_state v) }
 {
     events_keep_it_sound();
     events_keep_order();
@@ -65,21 +75,23 @@ pub fn later_worlds_agree()
     sent_only_grows();
 }
 
-/// The main theorem is not empty: events lead a group of three, which runs a program that writes the letter A, to a world in which the
-/// consoles of two nodes show it.
+/// The main theorem is not empty: events lead a group of three, which runs a program that writes
+/// the letter A, to a world in which the consoles of two nodes show it.
 pub fn consoles_may_show()
-    ensures { (p : Parts) × (group : Group) × (events : List Event) × (w : World) × IsSize group.size × IsGroup group
-        × Happens (begun p group) events w × (((state_of w).seats 1).console ≡ 65 ∷ []) × (((state_of w).seats 2).console ≡ 65 ∷ []) }
+    ensures { (p : Parts) × (group : Group) × (events : List Event) × (w : World)
+        × IsSize group.size × IsGroup group × LeadsBy (new_world p group) events w
+        × (((world_state w).seats 1).console ≡ 65 ∷ [])
+        × (((world_state w).seats 2).console ≡ 65 ∷ []) }
 {
     output_only_grows();
 }
 
-/// The claims about keys are not empty: in a group of one node, whose first save fails and which then
-/// crashes and starts again, a typed key is learned, and the console shows it.
+/// The claims about keys are not empty: in a group of one node, whose first save fails and which
+/// then crashes and starts again, a typed key is learned, and the console shows it.
 pub fn keys_may_show()
-    ensures { (w : World) × Happens (begun echoes one) shown_events w
-        × HasLearned (state_of w) 1 0 letter_batch × ((state_of w).typed ≡ letter ∷ [])
-        × (((state_of w).seats 1).console ≡ 65 ∷ []) }
+    ensures { (w : World) × LeadsBy (new_world echoes one) shown_events w
+        × HasLearned (world_state w) 1 0 letter_batch × ((world_state w).typed ≡ letter ∷ [])
+        × (((world_state w).seats 1).console ≡ 65 ∷ []) }
 {
     reading_is_spelling();
     votes_are_by_place();

@@ -9,16 +9,17 @@ ghost use Rattle.group_node.specs.World.{WorldStep};
 ghost use Rattle.group_node.specs.World as group;
 ghost use Rattle.group_world.specs.Headline.{ConsolesAgree, ConsolesGrow, ConsolesHoldOutput, HasNoGap, LearnedAgree, LearnedChosen, LearnedStays};
 ghost use Rattle.group_world.specs.Order.{KeysOnce, SerialsInOrder};
-ghost use Rattle.group_world.specs.WrongWorlds.{accepted, chosen_two, early_byte, first_node, key, not_chosen, not_typed, other_byte, prepares, promised, runs_with, stopped_with, two_consoles, two_values, wrong_console};
+ghost use Rattle.group_world.specs.WrongWorlds.{accepted_message, chosen_two, early_byte, first_node, key, not_chosen, not_typed, other_byte, prepares, promised, runs_with, stopped_with, two_consoles, two_values, wrong_console};
 
 use group_node::laws::input_is_chosen;
 
-/// Each promise of the headline, and of two moments of a group, is one that a group of five can break.
-/// Nodes 4 and 5 have learned two values for one place. A node has learned what only two nodes have
-/// accepted under one ballot, or a key that is chosen and that nobody typed. Node 2 shows a byte that its
-/// program never writes; nodes 2 and 5 show different bytes; node 3 releases a byte too early, or another
-/// one than its console has shown there. Two keys have one serial; a second key comes before the first; or
-/// the third comes after the first. Later a node has learned another value, or a console shows less.
+/// Each promise of the headline, and of two moments of a group, is one that a group of five can
+/// break. Nodes 4 and 5 have learned two values for one place. A node has learned what only two
+/// nodes have accepted under one ballot, or a key that is chosen and that nobody typed. Node 2
+/// shows a byte that its program never writes; nodes 2 and 5 show different bytes; node 3 releases
+/// a byte too early, or another one than its console has shown there. Two keys have one serial; a
+/// second key comes before the first; or the third comes after the first. Later a node has learned
+/// another value, or a console shows less.
 pub fn wrong_worlds()
     ensures two_values { ¬ LearnedAgree two_values }
     ensures not_chosen { ¬ LearnedChosen not_chosen }
@@ -37,13 +38,13 @@ pub fn wrong_worlds()
     input_is_chosen();
 }
 
-/// No event leads to a group in which a node did what it may not. At a tick node 1 does not say that it
-/// has accepted what nobody proposed, and does not learn what nobody has accepted; it promises no lower
-/// round when it hears of one; and a start does not forget what was promised.
+/// No event leads to a group in which a node did what it may not. At a tick node 1 does not say
+/// that it has accepted what nobody proposed, and does not learn what nobody has accepted; it
+/// promises no lower round when it hears of one; and a start does not forget what was promised.
 pub fn wrong_steps()
     ensures says_unproposed { ¬ WorldStep
         (first_node (runs_with empty_record empty) []) (group.Tick 1)
-        (first_node (runs_with empty_record empty) (accepted 1 1 0 Noop ∷ [])) }
+        (first_node (runs_with empty_record empty) (accepted_message 1 1 0 Noop ∷ [])) }
     ensures learns_alone { ¬ WorldStep
         (first_node (runs_with empty_record empty) []) (group.Tick 1)
         (first_node (runs_with empty_record (insert empty 0 Noop)) []) }

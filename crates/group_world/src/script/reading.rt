@@ -3,7 +3,7 @@ ghost use Rattle.std.specs.Prelude.{◌≡◌, ◌<◌, ◌==◌, length, codes}
 ghost use Rattle.std.specs.List.{before_first, after_first};
 ghost use Rattle.std.specs.Option.{option_copied};
 ghost use Rattle.digits.specs.Decimal.{decimal_of};
-ghost use Rattle.group_world.specs.Scripts.{act_of_one, act_of_two, behind, event_of_one, event_of_two, event_of_words, first_word, header_of, line_of, outcome_of, words_behind};
+ghost use Rattle.group_world.specs.Scripts.{act_of_one, act_of_two, text_past, event_of_one, event_of_two, event_of_words, first_word, header_of, line_of, outcome_of, words_behind};
 
 use super::Line;
 use crate::event::{Act, Event, Outcome};
@@ -134,7 +134,7 @@ pub fn read_line(line: &str) -> Option<Line>
 
 /// What stands behind this word and a space, if they stand first.
 fn read_behind<'a>(word: &str, text: &'a str) -> Option<&'a str>
-    ensures { option_copied result ≡ behind word.now text.now }
+    ensures { option_copied result ≡ text_past word.now text.now }
 {
     let (first, rest) = first_of(text);
     if first == word { rest } else { None }

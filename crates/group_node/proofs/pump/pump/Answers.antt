@@ -9,7 +9,7 @@ loop-made-init c = record {
   sure = omega arith;
   ready = omega arith;
   room = omega arith;
-  pumping = pumping_none c.args.me c.args.proposer.now.rules c.args.outbox.now.packets;
+  pumping = pumping_none c.args.me c.args.proposer.now.known c.args.outbox.now.packets;
 }
 
 pub loop-made-preserved : goal.loop-made-preserved
@@ -20,15 +20,22 @@ loop-made-preserved c =
       sure = omega (arith, i.sure, c.propose.ensures.sure);
       ready = omega (arith, i.ready, c.propose.ensures.ready);
       room = omega (arith, i.room, c.propose.ensures.few);
-      pumping = pumping_more (next_value c.loop-made.proposer.rules None) i.pumping c.loop-made-test.true refl (c.propose.ensures.some c.if-not-propose.false) c.propose.ensures.rules c.propose.ensures.packets;
+      pumping =
+          pumping_more (next_value c.loop-made.proposer.known None) i.pumping c.loop-made-test.true refl
+          (c.propose.ensures.some c.if-not-propose.false) c.propose.ensures.known c.propose.ensures.packets;
     }
 
 -- what was proposed where no value is found
-stopped : (c : goal.Then-not-propose) → IsPumped c.args.me c.args.proposer.now.rules c.args.outbox.now.packets c.propose.new.outbox.packets c.loop-made.made c.propose.new.proposer.rules
-stopped c = over_none (next_value c.loop-made.proposer.rules None) c.loop-made.invariant.pumping refl (c.propose.ensures.none (λ t. let e : false ≡ true = rw c.if-not-propose.true at t in absurd cc)) c.propose.ensures.rules c.propose.ensures.packets
+stopped : (c : goal.Then-not-propose)
+    → IsPumped c.args.me c.args.proposer.now.known c.args.outbox.now.packets c.propose.new.outbox.packets
+    c.loop-made.made c.propose.new.proposer.known
+stopped c =
+    over_none (next_value c.loop-made.proposer.known None) c.loop-made.invariant.pumping refl
+    (c.propose.ensures.none (λ t. let e : false ≡ true = rw c.if-not-propose.true at t in absurd cc))
+    c.propose.ensures.known c.propose.ensures.packets
 
-pub returns-then-not-propose-clause-rules : goal.returns-then-not-propose-clause-rules
-returns-then-not-propose-clause-rules c = (stopped c).proposer
+pub returns-then-not-propose-clause-known : goal.returns-then-not-propose-clause-known
+returns-then-not-propose-clause-known c = (stopped c).proposer
 
 pub returns-then-not-propose-clause-packets : goal.returns-then-not-propose-clause-packets
 returns-then-not-propose-clause-packets c = (stopped c).packets
@@ -37,11 +44,13 @@ pub returns-then-not-propose-clause-made : goal.returns-then-not-propose-clause-
 returns-then-not-propose-clause-made c = (stopped c).counted
 
 -- what was proposed where 16 proposals are made
-full : (c : goal.After-loop-made) → IsPumped c.args.me c.args.proposer.now.rules c.args.outbox.now.packets c.loop-made.outbox.packets c.loop-made.made c.loop-made.proposer.rules
+full : (c : goal.After-loop-made)
+    → IsPumped c.args.me c.args.proposer.now.known c.args.outbox.now.packets c.loop-made.outbox.packets c.loop-made.made
+    c.loop-made.proposer.known
 full c = over_all c.loop-made.invariant.pumping c.loop-made-test.false
 
-pub returns-clause-rules : goal.returns-clause-rules
-returns-clause-rules c = (full c).proposer
+pub returns-clause-known : goal.returns-clause-known
+returns-clause-known c = (full c).proposer
 
 pub returns-clause-packets : goal.returns-clause-packets
 returns-clause-packets c = (full c).packets

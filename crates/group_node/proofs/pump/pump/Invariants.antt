@@ -5,9 +5,9 @@ use Rattle.group_node.proofs.pump.pump.Given as goal
 
 abbrev pub invariant-loop-made : goal.invariant-loop-made
 invariant-loop-made l = record {
-  own : IsOwnProposer l.me l.proposer.rules;
+  own : IsOwnProposer l.me l.proposer.known;
   sure : l.initial.proposer.room ≤ l.proposer.room + l.made;
   ready : l.initial.outbox.ready ≤ l.outbox.ready + l.made;
   room : length l.outbox.packets ≤ length l.initial.outbox.packets + l.made;
-  pumping : IsPumping l.me l.initial.proposer.rules l.initial.outbox.packets l.outbox.packets l.made l.proposer.rules;
+  pumping : IsPumping l.me l.initial.proposer.known l.initial.outbox.packets l.outbox.packets l.made l.proposer.known;
 }

@@ -1,5 +1,5 @@
 use Rattle.std.proofs.Common.{◌≡◌, ◌+◌}
-use Rattle.group_world.specs.Worlds.{begun}
+use Rattle.group_world.specs.Worlds.{new_world}
 use Rattle.group_sim.specs.Moments.{AreDone, LineIsDone, first_moment, moment}
 use Rattle.group_sim.proofs.simulation.sim.Given as goal
 
@@ -9,6 +9,6 @@ invariant-loop-line g l = record {
   number : l.number ≡ l.line-index + 1;
   size : l.simulation.size ≡ l.script.size;
   done : AreDone (LineIsDone l.script.size l.script.lines.items) 2 l.line-index
-      (first_moment (begun l.program (record { size = l.script.size; session = l.script.session })) (g.W.Write.contents l.fn.writer))
+      (first_moment (new_world l.program (record { size = l.script.size; session = l.script.session })) (g.W.Write.contents l.fn.writer))
       (moment l.simulation (g.W.Write.contents l.writer));
 }

@@ -19,7 +19,8 @@ returns-in_err-put g c =
     let b : List ℕ = codes " node " in
     let d : List ℕ = code_of c.args.fault in
     failed _ _ c.from_residual-in_err-put.result _ c.from_residual-in_err-put.ensures.0
-    (front-first _ _ (a ++ b ++ d) (codes "\n") (front-first _ _ (a ++ b) d (front-second _ _ _ a b c.in_ok-put_number.ensures c.in_err-put.ensures)))
+    (front-first _ _ (a ++ b ++ d) (codes "\n")
+    (front-first _ _ (a ++ b) d (front-second _ _ _ a b c.in_ok-put_number.ensures c.in_err-put.ensures)))
 
 pub returns-in_err-put-2 : goal.returns-in_err-put-2
 returns-in_err-put-2 g c =
@@ -28,7 +29,8 @@ returns-in_err-put-2 g c =
     let d : List ℕ = code_of c.args.fault in
     failed _ _ c.from_residual-in_err-put-2.result _ c.from_residual-in_err-put-2.ensures.0
     (front-first _ _ (a ++ b ++ d) (codes "\n")
-    (front-second _ _ _ (a ++ b) d (Appends-trans _ _ _ a b c.in_ok-put_number.ensures c.in_ok-put.ensures) (rw c.code.ensures at c.in_err-put-2.ensures)))
+    (front-second _ _ _ (a ++ b) d (Appends-trans _ _ _ a b c.in_ok-put_number.ensures c.in_ok-put.ensures)
+    (rw c.code.ensures at c.in_err-put-2.ensures)))
 
 pub returns : goal.returns
 returns g c =
@@ -36,5 +38,6 @@ returns g c =
     let b : List ℕ = codes " node " in
     let d : List ℕ = code_of c.args.fault in
     appended _ _ _ c.put-3.result (a ++ b ++ d) (codes "\n")
-    (Appends-trans _ _ _ (a ++ b) d (Appends-trans _ _ _ a b c.in_ok-put_number.ensures c.in_ok-put.ensures) (rw c.code.ensures at c.in_ok-put-2.ensures))
+    (Appends-trans _ _ _ (a ++ b) d (Appends-trans _ _ _ a b c.in_ok-put_number.ensures c.in_ok-put.ensures)
+    (rw c.code.ensures at c.in_ok-put-2.ensures))
     c.put-3.ensures

@@ -14,7 +14,8 @@ pub returns : goal.returns
 returns g t c = elim c.if-number-ge10.branch [
   | then-number-ge10+in_ok-put_decimal w ↦
       rw (decimal_step c.args.number w.if-number-ge10.true c.ranges.number.fits)
-      (appended _ _ _ c.put.result (decimal (c.args.number / 10)) ((48 + c.args.number % 10) ∷ []) w.in_ok-put_decimal.ensures (rw w.writer-is at c.put.ensures))
+      (appended _ _ _ c.put.result (decimal (c.args.number / 10))
+      ((48 + c.args.number % 10) ∷ []) w.in_ok-put_decimal.ensures (rw w.writer-is at c.put.ensures))
   | else-number-ge10 w ↦
       let small : c.args.number < 10 = omega arith in
       let e : c.args.number % 10 ≡ c.args.number = omega arith in

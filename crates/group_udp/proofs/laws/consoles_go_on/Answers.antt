@@ -6,5 +6,7 @@ returns c = record {
   first = first_start;
   output = λ x q h. released_is_output x q;
   goes_on = later_start c.output_only_grows.ensures.compared;
-  output_again = λ x y console q same shows h. later_output q.program x y _ _ (later_start c.output_only_grows.ensures.compared x y console q same shows h);
+  output_again =
+      λ x y console q same shows h.
+      later_output q.program x y _ _ (later_start c.output_only_grows.ensures.compared x y console q same shows h);
 }

@@ -6,7 +6,7 @@ use Rattle.group_udp.proofs.net.show_all.Goals as goal
 
 pub loop-preserved : goal.loop-preserved
 loop-preserved g c =
-    let same = ap (λ (p : Protocol g.row.S.Denot). input p.rules) c.loop.invariant.protocol in
+    let same = ap (λ (p : Protocol g.row.S.Denot). input p.known) c.loop.invariant.protocol in
     record {
       gone = shown_more _ _ c.args.member.now.node.progress c.loop.member.node.progress c.show_next.new.member.node.progress c.loop.counter
           c.args.console.now.bytes c.loop.console.bytes c.show_next.new.console.bytes same c.requires.shows c.loop.invariant.gone

@@ -5,6 +5,7 @@ use Rattle.group_udp.proofs.net.show_next.Goals as goal
 pub returns-clause-one : goal.returns-clause-one
 returns-clause-one g c = (
   c.in-Some.byte,
-  (releases_one _ c.args.member.now.node.progress c.args.member.now.node.progress c.release.new.self.node.progress [] (c.in-Some.number, c.in-Some.byte)
+  (releases_one _ c.args.member.now.node.progress c.args.member.now.node.progress c.release.new.self.node.progress []
+      (c.in-Some.number, c.in-Some.byte)
       c.in-Some.ensures.value c.in-Some.ensures.some (releases_none _ _)).0,
 )

@@ -10,7 +10,9 @@ use Rattle.group_udp.proofs.node.campaign_and_play.Goals as goal
 pub returns-in_err-campaign_if-clause-writes : goal.returns-in_err-campaign_if-clause-writes
 returns-in_err-campaign_if-clause-writes g c =
     wrote_none c.args.plan.now.seen c.args.member.now.node c.campaign_if.new.member.node _ _
-    (λ f. let p = err_from_is_err_and c.from_residual.result c.from_residual.ensures.1 in let w : c.in_err-campaign_if.field-0.0 ≡ write_failed = cc in no_campaign_write _ c.in_err-campaign_if.ensures.others w) c.in_err-campaign_if.ensures.stays
+    (λ f. let p = err_from_is_err_and c.from_residual.result c.from_residual.ensures.1 in
+    let w : c.in_err-campaign_if.field-0.0 ≡ write_failed =
+    cc in no_campaign_write _ c.in_err-campaign_if.ensures.others w) c.in_err-campaign_if.ensures.stays
 
 pub returns-clause-plays : goal.returns-clause-plays
 returns-clause-plays g c =

@@ -7,7 +7,10 @@ use Rattle.group_udp.proofs.node.node.Goals as goal
 
 pub returns-in_err-sources-clause-written : goal.returns-in_err-sources-clause-written
 returns-in_err-sources-clause-written g c =
-    shown_none _ _ _ _ (λ f. let p = err_from_is_err_and c.from_residual.result c.from_residual.ensures.1 in let w : c.in_err-sources.field-0.0 ≡ write_failed = cc in no_open_write _ c.in_err-sources.ensures.others w)
+    shown_none _ _ _ _ (λ f.
+    let p =
+    err_from_is_err_and c.from_residual.result c.from_residual.ensures.1 in let w : c.in_err-sources.field-0.0
+    ≡ write_failed = cc in no_open_write _ c.in_err-sources.ensures.others w)
 
 pub returns-in_err-store-clause-written : goal.returns-in_err-store-clause-written
 returns-in_err-store-clause-written g c =

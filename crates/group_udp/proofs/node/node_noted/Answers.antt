@@ -2,4 +2,8 @@ use Rattle.group_udp.proofs.Showing.{file_run}
 use Rattle.group_udp.proofs.node.node_noted.Goals as goal
 
 pub returns : goal.returns
-returns g c = record { runs = file_run _ _ _ _ _ _ _ _ _ _ _ _ c.in_ok-config.ensures.ok (rw c.new-writer.ensures.inner) c.node.ensures.runs c.node.ensures.written }
+returns g c =
+    record {
+      runs = file_run _ _ _ _ _ _ _ _ _ _ _ _ c.in_ok-config.ensures.ok
+          (rw c.new-writer.ensures.inner) c.node.ensures.runs c.node.ensures.written;
+    }

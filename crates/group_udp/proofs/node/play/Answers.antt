@@ -6,18 +6,24 @@ use Rattle.group_udp.proofs.node.play.Goals as goal
 
 pub returns-in_err-is_busy-clause-writes : goal.returns-in_err-is_busy-clause-writes
 returns-in_err-is_busy-clause-writes g c =
-    wrote_last c.args.plan.now.seen c.args.member.now.node c.loop.member.node c.round.new.member.node _ _ _ _ _ (λ f. let p = err_from_is_err_and c.from_residual.result c.from_residual.ensures.1 in cc) (λ f. let p = err_from_is_err_and c.from_residual.result c.from_residual.ensures.1 in cc) c.loop.invariant.wrote c.in_err-is_busy.ensures.writes
+    wrote_last c.args.plan.now.seen c.args.member.now.node c.loop.member.node c.round.new.member.node _ _ _ _ _
+    (λ f. let p = err_from_is_err_and c.from_residual.result c.from_residual.ensures.1 in cc)
+    (λ f. let p = err_from_is_err_and c.from_residual.result c.from_residual.ensures.1 in cc) c.loop.invariant.wrote
+    c.in_err-is_busy.ensures.writes
 
 pub returns-in_err-is_busy-clause-plays : goal.returns-in_err-is_busy-clause-plays
 returns-in_err-is_busy-clause-plays g c =
     let p = err_from_is_err_and c.from_residual.result c.from_residual.ensures.1 in
-    plays_refused _ _ _ c.args.plan.now.seen c.args.plan.now.turns c.loop.counter _ _ _ _ _ _ _ p.1 p.2 (omega arith) c.loop.invariant.rounds c.in_err-is_busy.ensures.round
+    plays_refused _ _ _ c.args.plan.now.seen c.args.plan.now.turns c.loop.counter _ _ _ _ _ _ _ p.1 p.2
+    (omega arith) c.loop.invariant.rounds c.in_err-is_busy.ensures.round
 
 pub loop-preserved : goal.loop-preserved
 loop-preserved g c = record {
   rounds = plays_more _ _ _ c.args.plan.now.seen c.loop.counter _ _ _ _ _ _ c.loop.invariant.rounds c.in_ok-is_busy.ensures.round;
   program = c.in_ok-is_busy.ensures.program ∙ c.loop.invariant.program;
-  wrote = wrote_more c.args.plan.now.seen c.args.member.now.node c.loop.member.node c.round.new.member.node _ _ _ _ (λ f. absurd cc) c.loop.invariant.wrote c.in_ok-is_busy.ensures.writes;
+  wrote =
+      wrote_more c.args.plan.now.seen c.args.member.now.node c.loop.member.node c.round.new.member.node _ _ _ _
+      (λ f. absurd cc) c.loop.invariant.wrote c.in_ok-is_busy.ensures.writes;
 }
 
 pub returns-clause-writes : goal.returns-clause-writes

@@ -9,8 +9,12 @@ loop-number-init g c = record { gone = ([], releases_none _ _, writes_none _ _);
 
 pub loop-number-preserved : goal.loop-number-preserved
 loop-number-preserved g c = record {
-  gone = written_one c.args.seen _ _ c.args.member.now.node.progress c.loop-number.member.node.progress c.release.new.self.node.progress _ _ _
-      (c.in-Some.number, c.in-Some.byte) (ap (λ (p : Protocol g.row.S.Denot). input p.rules) c.loop-number.invariant.protocol) c.in-Some.ensures.value c.in-Some.ensures.some
+  gone =
+      written_one c.args.seen _ _ c.args.member.now.node.progress c.loop-number.member.node.progress
+      c.release.new.self.node.progress _ _ _
+      (c.in-Some.number, c.in-Some.byte)
+      (ap (λ (p : Protocol g.row.S.Denot). input p.known) c.loop-number.invariant.protocol) c.in-Some.ensures.value
+      c.in-Some.ensures.some
       c.in-Ok.ensures.unseen (λ low. (c.in-Ok.ensures.seen low).1) c.loop-number.invariant.gone;
   protocol = c.in-Some.ensures.protocol ∙ c.loop-number.invariant.protocol;
   packets = c.in-Some.ensures.packets ∙ c.loop-number.invariant.packets;
@@ -20,17 +24,19 @@ loop-number-preserved g c = record {
 pub returns-in-Err-clause-lost : goal.returns-in-Err-clause-lost
 returns-in-Err-clause-lost g c =
     lost_one c.args.seen _ _ c.args.member.now.node.progress c.loop-number.member.node.progress c.release.new.self.node.progress _ _ _
-    (c.in-Some.number, c.in-Some.byte) (ap (λ (p : Protocol g.row.S.Denot). input p.rules) c.loop-number.invariant.protocol) c.in-Some.ensures.value c.in-Some.ensures.some
+    (c.in-Some.number, c.in-Some.byte)
+    (ap (λ (p : Protocol g.row.S.Denot). input p.known) c.loop-number.invariant.protocol) c.in-Some.ensures.value
+    c.in-Some.ensures.some
     (λ low. absurd (let ok = (c.in-Err.ensures.seen low).0 in cc)) c.in-Err.ensures.unseen c.loop-number.invariant.gone
 
 pub returns-clause-written : goal.returns-clause-written
 returns-clause-written g c =
     (written_all c.args.seen _ _ c.args.member.now.node.progress c.loop-number.member.node.progress c.release.new.self.node.progress _ _
-    (ap (λ (p : Protocol g.row.S.Denot). input p.rules) c.loop-number.invariant.protocol) c.in_default.ensures.value
+    (ap (λ (p : Protocol g.row.S.Denot). input p.known) c.loop-number.invariant.protocol) c.in_default.ensures.value
     (ap (λ (m : NodeAndOutbox g.row.S.Denot). m.node.progress) c.in_default.ensures.none) c.loop-number.invariant.gone).0
 
 pub returns-clause-released : goal.returns-clause-released
 returns-clause-released g c =
     (written_all c.args.seen _ _ c.args.member.now.node.progress c.loop-number.member.node.progress c.release.new.self.node.progress _ _
-    (ap (λ (p : Protocol g.row.S.Denot). input p.rules) c.loop-number.invariant.protocol) c.in_default.ensures.value
+    (ap (λ (p : Protocol g.row.S.Denot). input p.known) c.loop-number.invariant.protocol) c.in_default.ensures.value
     (ap (λ (m : NodeAndOutbox g.row.S.Denot). m.node.progress) c.in_default.ensures.none) c.loop-number.invariant.gone).1

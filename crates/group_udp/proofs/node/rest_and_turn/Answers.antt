@@ -10,8 +10,10 @@ returns-in_err-pressed-clause-turns g c =
 pub returns-in_err-turned-clause-turns : goal.returns-in_err-turned-clause-turns
 returns-in_err-turned-clause-turns g c =
     let p = err_from_is_err_and c.from_residual-in_err-turned.result c.from_residual-in_err-turned.ensures.1 in
-    turns_refused _ _ _ c.args.is_busy _ _ _ _ _ _ _ _ p.1 p.2 c.in_ok-rest_unless_busy.ensures.rests c.in_ok-pressed.ensures.pressed c.in_err-turned.ensures.turn
+    turns_refused _ _ _ c.args.is_busy _ _ _ _ _ _ _ _ p.1 p.2 c.in_ok-rest_unless_busy.ensures.rests
+    c.in_ok-pressed.ensures.pressed c.in_err-turned.ensures.turn
 
 pub returns-clause-turns : goal.returns-clause-turns
 returns-clause-turns g c =
-    turns_done _ _ _ c.args.is_busy _ _ _ _ _ _ _ c.is_busy_after.ensures c.in_ok-rest_unless_busy.ensures.rests c.in_ok-pressed.ensures.pressed c.in_ok-turned.ensures.turn
+    turns_done _ _ _ c.args.is_busy _ _ _ _ _ _ _ c.is_busy_after.ensures c.in_ok-rest_unless_busy.ensures.rests
+    c.in_ok-pressed.ensures.pressed c.in_ok-turned.ensures.turn

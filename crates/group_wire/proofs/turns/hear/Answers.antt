@@ -9,8 +9,10 @@ returns-clause-hears g c =
     let ending = c.hear_next.ensures.hears.1 in (
       came,
       ending,
-      turn_is c.args.group came ending false c.args.outbox.now.packets c.args.node.now c.hear_next.new.node c.hear_next.new.node _ (g.T.Wire.traffic c.send_all.new.wire)
-          (g.T.Wire.traffic c.hear_next.new.wire) (g.T.Wire.traffic c.hear_next.new.wire) c.send_all.ensures.traffic c.hear_next.ensures.hears.2 refl
+      turn_is c.args.group came ending false c.args.outbox.now.packets c.args.node.now c.hear_next.new.node
+          c.hear_next.new.node _ (g.T.Wire.traffic c.send_all.new.wire)
+          (g.T.Wire.traffic c.hear_next.new.wire)
+          (g.T.Wire.traffic c.hear_next.new.wire) c.send_all.ensures.traffic c.hear_next.ensures.hears.2 refl
           (sym (grown_by_nothing (g.T.Wire.traffic c.hear_next.new.wire))),
       c.hear_next.ensures.hears.3,
       c.hear_next.ensures.hears.4,

@@ -9,10 +9,14 @@ loop-preserved g c =
     let heard = c.in_ok-hear_next.field-0 in
     let more = hears_one_more c.args.group c.loop.counter c.loop.lost in record {
       hears = elim c.match-branch-2.branch [
-        | in-Lost w ↦ more 1 c.match-branch-2.lost c.args.node.now c.loop.node c.hear_next.new.node (g.T.Wire.traffic c.args.wire.now) (g.T.Wire.traffic c.loop.wire)
-            (g.T.Wire.traffic c.hear_next.new.wire) heard c.loop.invariant.stops.1 c.loop.invariant.hears c.in_ok-hear_next.ensures.hears (one_loss heard w.in-Lost.is) w.lost-is
-        | in-Dropped w ↦ more 0 c.match-branch-2.lost c.args.node.now c.loop.node c.hear_next.new.node (g.T.Wire.traffic c.args.wire.now) (g.T.Wire.traffic c.loop.wire)
-            (g.T.Wire.traffic c.hear_next.new.wire) heard c.loop.invariant.stops.1 c.loop.invariant.hears c.in_ok-hear_next.ensures.hears (no_loss heard w.in-Dropped.is) (omega (arith, w.lost-is))
+        | in-Lost w ↦ more 1 c.match-branch-2.lost c.args.node.now c.loop.node c.hear_next.new.node
+            (g.T.Wire.traffic c.args.wire.now) (g.T.Wire.traffic c.loop.wire)
+            (g.T.Wire.traffic c.hear_next.new.wire) heard c.loop.invariant.stops.1 c.loop.invariant.hears
+            c.in_ok-hear_next.ensures.hears (one_loss heard w.in-Lost.is) w.lost-is
+        | in-Dropped w ↦ more 0 c.match-branch-2.lost c.args.node.now c.loop.node c.hear_next.new.node
+            (g.T.Wire.traffic c.args.wire.now) (g.T.Wire.traffic c.loop.wire)
+            (g.T.Wire.traffic c.hear_next.new.wire) heard c.loop.invariant.stops.1 c.loop.invariant.hears
+            c.in_ok-hear_next.ensures.hears (no_loss heard w.in-Dropped.is) (omega (arith, w.lost-is))
       ];
       few = search rules;
       stops = search rules;

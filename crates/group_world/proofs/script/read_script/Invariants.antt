@@ -8,7 +8,9 @@ use Rattle.group_world.proofs.script.read_script.Given as goal
 
 -- what is left of the text is text, and its lines stand behind those that were read
 abbrev pub invariant-loop-rest : goal.invariant-loop-rest
-invariant-loop-rest l = shadow (Utf8 l.rest) × (lines_say 2 (lines_of l.initial.rest) ≡ after l.lines.items (lines_say (vec_len l.lines + 2) (lines_of l.rest)))
+invariant-loop-rest l =
+    shadow (Utf8 l.rest)
+    × (lines_say 2 (lines_of l.initial.rest) ≡ after l.lines.items (lines_say (vec_len l.lines + 2) (lines_of l.rest)))
     × IsReadTo (lines_of l.initial.rest) l.lines.items (lines_of l.rest)
 
 -- each line takes at least one byte

@@ -11,5 +11,6 @@ loop-pair-preserved c =
     let s = c.in-Some.ensures.steps in
     let read = c.loop-pair.invariant in
     let pushed : c.push.new.self.items ≡ c.loop-pair.bytes.items ++ c.in-Some-hex_byte.byte ∷ [] = search rules in
-    let next : IsReadUpTo c.args.text.now (chunks_rest c.next.new.self) c.push.new.self.items = rw pushed (read_pair _ _ _ _ _ _ (read.3) (s.1.0) (sym c.in-Some-hex_byte.ensures)) in
+    let next : IsReadUpTo c.args.text.now (chunks_rest c.next.new.self) c.push.new.self.items =
+    rw pushed (read_pair _ _ _ _ _ _ (read.3) (s.1.0) (sym c.in-Some-hex_byte.ensures)) in
     search rules

@@ -10,7 +10,12 @@ loop-left-init g c =
 
 pub loop-left-preserved : goal.loop-left-preserved
 loop-left-preserved g c =
-    let laws : Laws = record { longer = c.same_run_on_longer_input.ensures; there = c.run_is_after.ensures; quiet = c.quiet_steps_lead_on.ensures } in
+    let laws : Laws =
+    record {
+      longer = c.same_run_on_longer_input.ensures;
+      there = c.run_is_after.ensures;
+      quiet = c.quiet_steps_lead_on.ensures;
+    } in
     let turn = rw c.in_default-finish.is at c.in_ok-made.ensures.turn in
     let more : c.args.steps - (c.loop-left.left - c.in_ok-made.made) ≡ c.args.steps - c.loop-left.left + c.in_ok-made.made = omega arith in
     record {
@@ -22,17 +27,33 @@ loop-left-preserved g c =
 pub returns : goal.returns
 returns g c =
     let all : c.args.steps - c.loop-left.left ≡ c.args.steps = omega arith in
-    spent (record { longer = c.same_run_on_longer_input.ensures; there = c.run_is_after.ensures; quiet = c.quiet_steps_lead_on.ensures }) c.loop-left.invariant.run all
+    spent (record {
+      longer = c.same_run_on_longer_input.ensures;
+      there = c.run_is_after.ensures;
+      quiet = c.quiet_steps_lead_on.ensures;
+    }) c.loop-left.invariant.run all
 
 pub returns-in-Some : goal.returns-in-Some
 returns-in-Some g c =
-    let laws : Laws = record { longer = c.same_run_on_longer_input.ensures; there = c.run_is_after.ensures; quiet = c.quiet_steps_lead_on.ensures } in
+    let laws : Laws =
+    record {
+      longer = c.same_run_on_longer_input.ensures;
+      there = c.run_is_after.ensures;
+      quiet = c.quiet_steps_lead_on.ensures;
+    } in
     let all : c.args.steps - c.loop-left.left + c.loop-left.left ≡ c.args.steps = omega arith in
-    last_turn _ _ c.turn.new.machine.state c.in-Some.finish laws c.loop-left.invariant.program c.loop-left.invariant.run (rw c.in-Some.is at c.in_ok-made.ensures.turn) all
+    last_turn _ _ c.turn.new.machine.state c.in-Some.finish laws c.loop-left.invariant.program c.loop-left.invariant.run
+    (rw c.in-Some.is at c.in_ok-made.ensures.turn) all
 
 pub returns-in_err-made : goal.returns-in_err-made
 returns-in_err-made g c =
-    let laws : Laws = record { longer = c.same_run_on_longer_input.ensures; there = c.run_is_after.ensures; quiet = c.quiet_steps_lead_on.ensures } in
+    let laws : Laws =
+    record {
+      longer = c.same_run_on_longer_input.ensures;
+      there = c.run_is_after.ensures;
+      quiet = c.quiet_steps_lead_on.ensures;
+    } in
     let p = err_from_is_err_and c.from_residual.result c.from_residual.ensures.1 in
     let all : c.args.steps - c.loop-left.left + c.loop-left.left ≡ c.args.steps = omega arith in
-    rw p.1 (failed_turn _ c.turn.new.machine.state _ c.args.steps c.in_err-made.field-0.0 p.0 laws c.loop-left.invariant.program c.loop-left.invariant.run c.in_err-made.ensures.turn all p.2)
+    rw p.1 (failed_turn _ c.turn.new.machine.state _ c.args.steps c.in_err-made.field-0.0 p.0 laws
+    c.loop-left.invariant.program c.loop-left.invariant.run c.in_err-made.ensures.turn all p.2)

@@ -8,4 +8,6 @@ pub change-requires-clause-ascending : goal.change-requires-clause-ascending
 change-requires-clause-ascending c = record_in_order _ _ c.requires.ranges
 
 pub returns-clause-ranges : goal.returns-clause-ranges
-returns-clause-ranges c = rw (c.in_ok-change.ensures.ok) (entry_in_ranges c.args.me.group.size c.args.kept.now c.args.change c.requires.entry c.requires.ranges)
+returns-clause-ranges c =
+    rw (c.in_ok-change.ensures.ok)
+    (entry_in_ranges c.args.me.group.size c.args.kept.now c.args.change c.requires.entry c.requires.ranges)

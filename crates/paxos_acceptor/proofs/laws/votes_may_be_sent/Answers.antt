@@ -11,7 +11,8 @@ by_place c = record {
 }
 
 pub returns-clause-sends : goal.returns-clause-sends
-returns-clause-sends c = λ size i s typed learned sent r b v h said. (accept_may size i typed learned sent r h (by_place c) b s v said).sends
+returns-clause-sends c =
+    λ size i s typed learned sent r b v h said. (accept_may size i typed learned sent r h (by_place c) b s v said).sends
 
 pub returns-clause-backed : goal.returns-clause-backed
 returns-clause-backed c = λ sent r b s v h said. (accept_may 0 0 [] (λ _. None) sent r h (by_place c) b s v said).backed

@@ -5,12 +5,20 @@ use Rattle.std.proofs.Common.{refl, rules, subst, sym}
 use Rattle.paxos_acceptor.proofs.log.enter_first.Goals as goal
 
 pub returns-in_default-clause-bad : goal.returns-in_default-clause-bad
-returns-in_default-clause-bad c = λ _. none_first c.args.version c.args.me.group.size c.args.kept.now c.args.bytes.now (c.in_default.ensures.none refl) c.requires.more
+returns-in_default-clause-bad c =
+    λ _. none_first c.args.version c.args.me.group.size c.args.kept.now c.args.bytes.now
+    (c.in_default.ensures.none refl) c.requires.more
 
 pub returns-then-not-is_next-clause-bad : goal.returns-then-not-is_next-clause-bad
-returns-then-not-is_next-clause-bad c = λ _. not_next c.args.version c.args.me.group.size c.args.kept.now c.args.bytes.now c.in-Ok.change c.in-Ok.behind.now c.in-Ok.ensures.found c.in-Ok.ensures.only c.requires.more (search rules)
+returns-then-not-is_next-clause-bad c =
+    λ _. not_next c.args.version c.args.me.group.size c.args.kept.now c.args.bytes.now c.in-Ok.change c.in-Ok.behind.now
+    c.in-Ok.ensures.found c.in-Ok.ensures.only c.requires.more (search rules)
 
 pub returns-clause-same : goal.returns-clause-same
 returns-clause-same c =
-    let same = same_folds c.args.version c.args.me.group.size c.args.kept.now c.args.bytes.now c.in-Ok.change c.in-Ok.behind.now c.in-Ok.ensures.found c.in-Ok.ensures.only c.requires.more (search rules) in
-    subst (λ (r : Record). SameFolds c.args.version c.args.me.group.size c.args.kept.now c.args.bytes.now r c.in-Ok.behind.now) (sym c.in_ok-enter.ensures.ok) same
+    let same =
+    same_folds c.args.version c.args.me.group.size c.args.kept.now c.args.bytes.now c.in-Ok.change
+    c.in-Ok.behind.now c.in-Ok.ensures.found c.in-Ok.ensures.only c.requires.more (search rules) in
+    subst (λ (r : Record).
+    SameFolds c.args.version c.args.me.group.size c.args.kept.now c.args.bytes.now r c.in-Ok.behind.now)
+    (sym c.in_ok-enter.ensures.ok) same

@@ -3,7 +3,11 @@ use Rattle.paxos_msg.proofs.Answered.{found, only}
 use Rattle.paxos_msg.proofs.decoding.decode.Goals as goal
 
 pub returns-clause-found : goal.returns-clause-found
-returns-clause-found c = found (λ view. view) c.message_of.result c.args.group c.args.bytes.now (λ i. omega (arith, c.type_inv.bytes i)) c.message_of.ensures.exact
+returns-clause-found c =
+    found (λ view. view) c.message_of.result c.args.group c.args.bytes.now
+    (λ i. omega (arith, c.type_inv.bytes i)) c.message_of.ensures.exact
 
 pub returns-clause-only : goal.returns-clause-only
-returns-clause-only c = λ m. only (λ view. view) c.message_of.result c.args.group c.args.bytes.now m (omega arith) c.message_of.ensures.exact
+returns-clause-only c =
+    λ m. only (λ view. view) c.message_of.result c.args.group c.args.bytes.now m
+    (omega arith) c.message_of.ensures.exact

@@ -17,7 +17,8 @@ same_keys (Some k) = refl
 as_single : (size : ℕ) (v : Value) → IsValue size v → IsSingle v → (old : Option Key) × (v ≡ as_batch old)
 as_single size Noop h single = (None, refl)
 as_single size (Keys node start first []) h single = absurd (omega (arith, h.2.1))
-as_single size (Keys node start first (byte ∷ [])) h single = (Some (record { node = node; start = start; serial = first; byte = byte }), refl)
+as_single size (Keys node start first (byte ∷ [])) h single =
+    (Some (record { node = node; start = start; serial = first; byte = byte }), refl)
 as_single size (Keys node start first (byte ∷ more ∷ bytes)) h single = absurd (omega (arith, single))
 
 one_key : (old : Option Key) → IsSingle (as_batch old)

@@ -3,4 +3,10 @@ use Rattle.paxos_msg.proofs.spelling.put_promise.Goals as goal
 
 pub returns-clause-items : goal.returns-clause-items
 returns-clause-items c =
-    rw (c.put_votes.ensures.items, c.put_byte.ensures.items, c.put_number-2.ensures.items, c.put_number.ensures.items, c.put_ballot.ensures.items) (simp append_assoc)
+    rw (
+      c.put_votes.ensures.items,
+      c.put_byte.ensures.items,
+      c.put_number-2.ensures.items,
+      c.put_number.ensures.items,
+      c.put_ballot.ensures.items,
+    ) (simp append_assoc)

@@ -9,7 +9,9 @@ returns-in_err-procedure c =
     e ∙ first_bad (proc_at c.args.segment.now c.args.n) _ _ _ (search rules) (sym c.in_err-procedure.ensures) c.loop-k.invariant
 
 pub loop-k-preserved : goal.loop-k-preserved
-loop-k-preserved c = first_next (proc_at c.args.segment.now c.args.n) _ _ _ (search rules) (sym c.in_ok-procedure.ensures) c.loop-k.invariant
+loop-k-preserved c =
+    first_next (proc_at c.args.segment.now c.args.n) _ _ _ (search rules)
+    (sym c.in_ok-procedure.ensures) c.loop-k.invariant
 
 pub returns : goal.returns
 returns c = first_done (proc_at c.args.segment.now c.args.n) _ _ (search rules) c.loop-k.invariant

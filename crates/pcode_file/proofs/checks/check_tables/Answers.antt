@@ -9,7 +9,9 @@ returns-in_err-checked_table c =
     e ∙ first_bad (table_at c.args.segment.now c.args.n) _ _ _ (search rules) (sym c.in_err-checked_table.ensures.value) c.loop-k.invariant
 
 pub loop-k-preserved : goal.loop-k-preserved
-loop-k-preserved c = first_next (table_at c.args.segment.now c.args.n) _ _ _ (search rules) (sym c.in_ok-checked_table.ensures.value) c.loop-k.invariant
+loop-k-preserved c =
+    first_next (table_at c.args.segment.now c.args.n) _ _ _ (search rules)
+    (sym c.in_ok-checked_table.ensures.value) c.loop-k.invariant
 
 pub returns : goal.returns
 returns c = first_done (table_at c.args.segment.now c.args.n) _ _ (search rules) c.loop-k.invariant

@@ -10,7 +10,8 @@ returns-in_err-procs c =
 
 pub invariant_of-result : goal.invariant_of-result
 invariant_of-result c =
-    whole_by _ c.in_ok-k.part.now c.in_ok-k.n c.copied.ensures (c.in_ok-k.ensures.size).1 (search rules) (c.in_ok-k.ensures.some).0 (c.in_ok-k.ensures.some).1 c.collected.ensures
+    whole_by _ c.in_ok-k.part.now c.in_ok-k.n c.copied.ensures (c.in_ok-k.ensures.size).1 (search rules)
+    (c.in_ok-k.ensures.some).0 (c.in_ok-k.ensures.some).1 c.collected.ensures
 
 pub returns : goal.returns
 returns c = rw (c.name_of.ensures, c.copied.ensures) (checked_read _ _ _ _ _ c.in_ok-k.ensures.value c.collected.ensures)

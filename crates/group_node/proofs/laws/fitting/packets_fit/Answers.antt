@@ -4,7 +4,12 @@ use Rattle.group_node.proofs.ProposalsFit.{AcceptLaws, again_fits, own_prepare}
 use Rattle.group_node.proofs.laws.fitting.packets_fit.Goals as goal
 
 laws : goal.After-one_front → AcceptLaws
-laws c = record { proposes = c.what_goes_out_fits.ensures.proposes; sends = c.what_goes_out_fits.ensures.sends; again = c.what_goes_out_fits.ensures.again }
+laws c =
+    record {
+      proposes = c.what_goes_out_fits.ensures.proposes;
+      sends = c.what_goes_out_fits.ensures.sends;
+      again = c.what_goes_out_fits.ensures.again;
+    }
 
 pub returns-clause-prepare : goal.returns-clause-prepare
 returns-clause-prepare c me p s h low = own_prepare me p h s low

@@ -3,7 +3,12 @@ use Rattle.group_node.proofs.ProposalsFit.{AcceptLaws, asks_after_fits, heard_ow
 use Rattle.group_node.proofs.laws.fitting.proposals_fit.Goals as goal
 
 laws : goal.After-ballot_stays → AcceptLaws
-laws c = record { proposes = c.what_goes_out_fits.ensures.proposes; sends = c.what_goes_out_fits.ensures.sends; again = c.what_goes_out_fits.ensures.again }
+laws c =
+    record {
+      proposes = c.what_goes_out_fits.ensures.proposes;
+      sends = c.what_goes_out_fits.ensures.sends;
+      again = c.what_goes_out_fits.ensures.again;
+    }
 
 parts : goal.After-ballot_stays → PartLaws
 parts c = record { parts = c.what_goes_out_fits.ensures.parts; stays = c.ballot_stays.ensures.parts }

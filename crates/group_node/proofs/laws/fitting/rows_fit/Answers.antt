@@ -4,10 +4,21 @@ use Rattle.group_node.proofs.RowsFit.{accept_fits, accepted_fits, AnswerLaws, as
 use Rattle.group_node.proofs.laws.fitting.rows_fit.Goals as goal
 
 accepts : goal.After-window_holds → AcceptLaws
-accepts c = record { proposes = c.what_goes_out_fits.ensures.proposes; sends = c.what_goes_out_fits.ensures.sends; again = c.what_goes_out_fits.ensures.again }
+accepts c =
+    record {
+      proposes = c.what_goes_out_fits.ensures.proposes;
+      sends = c.what_goes_out_fits.ensures.sends;
+      again = c.what_goes_out_fits.ensures.again;
+    }
 
 answers : goal.After-window_holds → AnswerLaws
-answers c = record { promise_says = c.promises_fit.ensures.says; promise_kept = c.promises_fit.ensures.kept; vote_says = c.votes_fit.ensures.says; vote_kept = c.votes_fit.ensures.kept }
+answers c =
+    record {
+      promise_says = c.promises_fit.ensures.says;
+      promise_kept = c.promises_fit.ensures.kept;
+      vote_says = c.votes_fit.ensures.says;
+      vote_kept = c.votes_fit.ensures.kept;
+    }
 
 hearing : goal.After-window_holds → HearingLaws
 hearing c = record {
@@ -26,7 +37,8 @@ pub returns-clause-prepare : goal.returns-clause-prepare
 returns-clause-prepare c n j from b h heard = prepare_fits n h (answers c) j from b heard
 
 pub returns-clause-promise : goal.returns-clause-promise
-returns-clause-promise c n j first upto b votes h heard = promise_fits n h (accepts c) (parts c) c.tests_are_exact.ensures.same j first upto b votes heard
+returns-clause-promise c n j first upto b votes h heard =
+    promise_fits n h (accepts c) (parts c) c.tests_are_exact.ensures.same j first upto b votes heard
 
 pub returns-clause-accept : goal.returns-clause-accept
 returns-clause-accept c n j s b v h heard = accept_fits n h (answers c) j s b v heard

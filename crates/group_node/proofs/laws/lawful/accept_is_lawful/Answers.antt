@@ -4,8 +4,8 @@ use Rattle.std.specs.FinMap.{get}
 use Rattle.paxos_msg.specs.declared.record.Change.TheVariants as change
 use Rattle.paxos_acceptor.specs.Answers.{accept_of}
 use Rattle.paxos_acceptor.specs.Cases.{greater_promise}
-use Rattle.group_node.specs.Node.{accept_answered_to}
-use Rattle.group_node.proofs.LawfulAnswering.{accept_reply, answer_lawful, SavingLaws}
+use Rattle.group_node.specs.AcceptorRows.{accept_answered_to}
+use Rattle.group_node.proofs.LawfulAcceptorRows.{accept_reply, answer_lawful, SavingLaws}
 use Rattle.group_node.proofs.laws.lawful.accept_is_lawful.Goals as goal
 
 laws : goal.After-votes_may_be_sent → SavingLaws
@@ -22,7 +22,8 @@ laws c = record {
 pub returns : goal.returns
 returns c sent typed n j s b v ranges h delivered =
     let law = c.votes_may_be_sent.ensures in
-    answer_lawful (laws c) sent typed n (accept_answered_to (greater_promise n.kept.promised b) b) (change.Ballotted s b v) (accept_of n.kept b s v) h (record {
+    answer_lawful (laws c) sent typed n (accept_answered_to (greater_promise n.kept.promised b) b)
+    (change.Ballotted s b v) (accept_of n.kept b s v) h (record {
       may_save = law.saves sent n.kept b s v (j, delivered.is_sent);
       may_send = law.sends n.me.group.size n.me.node s typed (get n.learner.learned) sent n.kept b v h.kept.votes (j, delivered.is_sent);
       reply = accept_reply sent n.me.node s n.kept b v;

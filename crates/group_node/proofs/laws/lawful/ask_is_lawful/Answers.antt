@@ -1,5 +1,5 @@
 -- The lemma on an Ask, with the laws of the crates below.
-use Rattle.group_node.proofs.LawfulHearing.{ask_lawful}
+use Rattle.group_node.proofs.LawfulLearnerRows.{ask_lawful}
 use Rattle.group_node.proofs.laws.lawful.ask_is_lawful.Goals as goal
 
 pub returns : goal.returns

@@ -1,5 +1,5 @@
 -- The lemma on a campaign, with the laws of the crates below.
-use Rattle.group_node.proofs.LawfulHearing.{campaign_lawful, CampaignLaws}
+use Rattle.group_node.proofs.LawfulLearnerRows.{campaign_lawful, CampaignLaws}
 use Rattle.group_node.proofs.laws.lawful.campaign_is_lawful.Goals as goal
 
 laws : goal.After-begins_backed → CampaignLaws

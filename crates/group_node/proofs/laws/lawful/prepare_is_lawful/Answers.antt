@@ -4,7 +4,7 @@ use Rattle.std.specs.FinMap.{get}
 use Rattle.paxos_msg.specs.declared.record.Change.TheVariants as change
 use Rattle.paxos_acceptor.specs.Answers.{prepare_of}
 use Rattle.group_node.specs.declared.packet.To.TheVariants as whom
-use Rattle.group_node.proofs.LawfulAnswering.{answer_lawful, prepare_reply, SavingLaws}
+use Rattle.group_node.proofs.LawfulAcceptorRows.{answer_lawful, prepare_reply, SavingLaws}
 use Rattle.group_node.proofs.laws.lawful.prepare_is_lawful.Goals as goal
 
 laws : goal.After-promises_may_be_sent → SavingLaws

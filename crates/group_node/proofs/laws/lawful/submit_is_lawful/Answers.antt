@@ -1,5 +1,5 @@
 -- The lemma on a Submit, with the laws of the crates below.
-use Rattle.group_node.proofs.LawfulLeading.{submit_lawful}
+use Rattle.group_node.proofs.LawfulProposerRows.{submit_lawful}
 use Rattle.group_node.proofs.Proposing.{ProposingLaws}
 use Rattle.group_node.proofs.laws.lawful.submit_is_lawful.Goals as goal
 

@@ -1,5 +1,5 @@
 -- The lemma on ticks, with the laws of the crates below.
-use Rattle.group_node.proofs.LawfulLeading.{tick_lawful}
+use Rattle.group_node.proofs.LawfulProposerRows.{tick_lawful}
 use Rattle.group_node.proofs.Proposing.{ProposingLaws}
 use Rattle.group_node.proofs.laws.lawful.tick_is_lawful.Goals as goal
 

@@ -1,5 +1,5 @@
 -- The lemma on a typed byte.
-use Rattle.group_node.proofs.LawfulHearing.{typed_lawful}
+use Rattle.group_node.proofs.LawfulLearnerRows.{typed_lawful}
 use Rattle.group_node.proofs.laws.lawful.typed_is_lawful.Goals as goal
 
 pub returns : goal.returns

@@ -5,26 +5,35 @@ use Rattle.group_node.proofs.player.Player.turn.Goals as goal
 
 pub returns-in-Spent-clause-turns : goal.returns-in-Spent-clause-turns
 returns-in-Spent-clause-turns c =
-    let h = rw c.in-Spent.is at c.run-made.ensures.pauses in
-    (h.0, advances _ c.quiet_steps_lead_on.ensures c.requires.exact h.1 c.run-made.ensures.program refl (omega (arith, c.from.ensures)) refl refl)
+    let h = rw c.in-Spent.is at c.run-made.ensures.pauses in (
+      h.0,
+      advances _ c.quiet_steps_lead_on.ensures c.requires.exact h.1 c.run-made.ensures.program refl
+          (omega (arith, c.from.ensures)) refl refl,
+    )
 
 pub returns-in-Spent-clause-exact : goal.returns-in-Spent-clause-exact
 returns-in-Spent-clause-exact c =
     let h = rw c.in-Spent.is at c.run-made.ensures.pauses in
-    let a = advances _ c.quiet_steps_lead_on.ensures c.requires.exact h.1 c.run-made.ensures.program refl (omega (arith, c.from.ensures)) refl refl in
+    let a =
+    advances _ c.quiet_steps_lead_on.ensures c.requires.exact h.1 c.run-made.ensures.program refl
+    (omega (arith, c.from.ensures)) refl refl in
     a.exact
 
 pub returns-in-Ended-clause-turns : goal.returns-in-Ended-clause-turns
 returns-in-Ended-clause-turns c =
     let laws : Laws = record { there = c.run_is_after.ensures; longer = c.same_step_on_longer_input.ensures } in
     let h = rw c.in-Ended.is at c.run-made.ensures.pauses in
-    let a = advances _ c.quiet_steps_lead_on.ensures c.requires.exact h.1 c.run-made.ensures.program refl (omega (arith, c.from.ensures)) refl refl in
+    let a =
+    advances _ c.quiet_steps_lead_on.ensures c.requires.exact h.1 c.run-made.ensures.program refl
+    (omega (arith, c.from.ensures)) refl refl in
     (h.0, a, halts_ended laws a.exact c.run-made.ensures.program h.2)
 
 pub returns-in-Ended-clause-exact : goal.returns-in-Ended-clause-exact
 returns-in-Ended-clause-exact c =
     let h = rw c.in-Ended.is at c.run-made.ensures.pauses in
-    let a = advances _ c.quiet_steps_lead_on.ensures c.requires.exact h.1 c.run-made.ensures.program refl (omega (arith, c.from.ensures)) refl refl in
+    let a =
+    advances _ c.quiet_steps_lead_on.ensures c.requires.exact h.1 c.run-made.ensures.program refl
+    (omega (arith, c.from.ensures)) refl refl in
     a.exact
 
 pub returns-in-Wrote-clause-turns : goal.returns-in-Wrote-clause-turns
@@ -52,25 +61,33 @@ pub returns-in-Some-clause-turns : goal.returns-in-Some-clause-turns
 returns-in-Some-clause-turns c =
     let h = rw c.in-Wants.is at c.run-made.ensures.pauses in
     let mid : Player = record c.args.self.now { machine = c.run-made.new.self; steps = c.args.self.now.steps + c.from.result } in
-    let a = advances {new = mid} _ c.quiet_steps_lead_on.ensures c.requires.exact h.1 c.run-made.ensures.program refl (omega (arith, c.from.ensures)) refl refl in
+    let a =
+    advances {new = mid} _ c.quiet_steps_lead_on.ensures c.requires.exact h.1 c.run-made.ensures.program refl
+    (omega (arith, c.from.ensures)) refl refl in
     (c.run-made.result.0, mid, a, h.0, refl)
 
 pub returns-in-Some-clause-exact : goal.returns-in-Some-clause-exact
 returns-in-Some-clause-exact c =
     let laws : Laws = record { there = c.run_is_after.ensures; longer = c.same_step_on_longer_input.ensures } in
     let h = rw c.in-Wants.is at c.run-made.ensures.pauses in
-    let a = advances _ c.quiet_steps_lead_on.ensures c.requires.exact h.1 c.run-made.ensures.program refl (omega (arith, c.from.ensures)) refl refl in
+    let a =
+    advances _ c.quiet_steps_lead_on.ensures c.requires.exact h.1 c.run-made.ensures.program refl
+    (omega (arith, c.from.ensures)) refl refl in
     exact_fed laws a.exact c.requires.room (sym c.in-Some.ensures) c.feed.ensures.1
 
 pub returns-in-None-clause-turns : goal.returns-in-None-clause-turns
 returns-in-None-clause-turns c =
     let laws : Laws = record { there = c.run_is_after.ensures; longer = c.same_step_on_longer_input.ensures } in
     let h = rw c.in-Wants.is at c.run-made.ensures.pauses in
-    let a = advances _ c.quiet_steps_lead_on.ensures c.requires.exact h.1 c.run-made.ensures.program refl (omega (arith, c.from.ensures)) refl refl in
+    let a =
+    advances _ c.quiet_steps_lead_on.ensures c.requires.exact h.1 c.run-made.ensures.program refl
+    (omega (arith, c.from.ensures)) refl refl in
     (h.0, a, halts_waiting laws a.exact c.run-made.ensures.program h.2 (sym c.in-None.ensures))
 
 pub returns-in-None-clause-exact : goal.returns-in-None-clause-exact
 returns-in-None-clause-exact c =
     let h = rw c.in-Wants.is at c.run-made.ensures.pauses in
-    let a = advances _ c.quiet_steps_lead_on.ensures c.requires.exact h.1 c.run-made.ensures.program refl (omega (arith, c.from.ensures)) refl refl in
+    let a =
+    advances _ c.quiet_steps_lead_on.ensures c.requires.exact h.1 c.run-made.ensures.program refl
+    (omega (arith, c.from.ensures)) refl refl in
     a.exact

@@ -8,7 +8,12 @@ use Rattle.group_node.proofs.protocol.Protocol.begin_ballot.Goals as goal
 pub invariant_of-self-2 : goal.invariant_of-self-2
 invariant_of-self-2 g c =
     let i = c.self.invariant in
-    let laws : BeginLaws = record { kept = c.promises_fit.ensures.kept; saves = c.greater_ballots_are_promised.ensures; begins = c.what_goes_out_fits.ensures.begins } in
+    let laws : BeginLaws =
+    record {
+      kept = c.promises_fit.ensures.kept;
+      saves = c.greater_ballots_are_promised.ensures;
+      begins = c.what_goes_out_fits.ensures.begins;
+    } in
     let ballot : IsBallot c.self.inside.me.group.size c.args.ballot = rw (← c.self.view_is) at c.requires.ballot in
     let own : c.args.ballot.node ≡ c.self.inside.me.node = rw (← c.self.view_is) at c.requires.own in
     let above : IfSome c.self.inside.acceptor.kept.promised (λ b. IsBelow b c.args.ballot) = rw (← c.self.view_is) at c.requires.above in

@@ -1,7 +1,7 @@
 use Rattle.std.proofs.Common.{◌≡◌, ◌∙◌, refl, sym, ap, rules}
 use Rattle.std.proofs.lemmas.Result.{err_from_is_err_and}
 use Rattle.group_node.specs.declared.fault.NodeFault.TheVariants.{Memory}
-use Rattle.group_node.specs.Leading.{batch_of}
+use Rattle.group_node.specs.Tick.{batch_of}
 use Rattle.group_node.specs.Packets.{Queue}
 use Rattle.group_node.proofs.TickRow.{does_tick, ticked_none, ticked_ranges, ticked_some}
 use Rattle.group_node.proofs.protocol.Protocol.on_tick.Goals as goal
@@ -23,7 +23,7 @@ returns-in_err-propose_again-clause-does g c =
 
 pub ask-requires-clause-batch : goal.ask-requires-clause-batch
 ask-requires-clause-batch g c =
-    let batch : c.first_batch-batch.result ≡ batch_of c.args.self.now.rules c.args.self.now.rules.waiting = c.first_batch-batch.ensures in
+    let batch : c.first_batch-batch.result ≡ batch_of c.args.self.now.known c.args.self.now.known.waiting = c.first_batch-batch.ensures in
     let same = rw (← c.self.view_is) at batch in
     λ v e. c.packets_fit.ensures.submit _ v c.self.invariant.1.ranges (sym same ∙ e)
 
@@ -37,7 +37,9 @@ invariant_of-self-2 g c =
             i.0,
             record {
               size = i.1.size;
-              ranges = ticked_ranges {p = w.in-Some.proposer.rules} {q = w.propose_again.new.proposer.rules} i.1.ranges fits.ranges (rw w.in-Some.is refl) w.in_ok-propose_again.ensures.rules;
+              ranges =
+                  ticked_ranges {p = w.in-Some.proposer.known} {q = w.propose_again.new.proposer.known} i.1.ranges
+                  fits.ranges (rw w.in-Some.is refl) w.in_ok-propose_again.ensures.known;
               in_step = i.1.in_step;
             },
           )
@@ -47,12 +49,15 @@ invariant_of-self-2 g c =
 pub returns-clause-does : goal.returns-clause-does
 returns-clause-does g c =
     let i = c.self.invariant in
-    let batch : c.first_batch-batch.result ≡ batch_of c.args.self.now.rules c.args.self.now.rules.waiting = c.first_batch-batch.ensures in
+    let batch : c.first_batch-batch.result ≡ batch_of c.args.self.now.known c.args.self.now.known.waiting = c.first_batch-batch.ensures in
     let same = rw (← c.self.view_is) at batch in
     elim c.match-self.branch [
       | in-Some+in_ok-propose_again w ↦
-          let ticked = ticked_some {p = w.in-Some.proposer.rules} {q = w.propose_again.new.proposer.rules} i.1.ranges c.ask.ensures same c.known_front-from.ensures.front c.requires.empty
-          (rw w.in-Some.is refl) w.in_ok-propose_again.ensures.rules (ap (λ (q : Queue). q.packets) w.outbox-is ∙ w.in_ok-propose_again.ensures.packets) in
+          let ticked =
+          ticked_some {p = w.in-Some.proposer.known} {q = w.propose_again.new.proposer.known} i.1.ranges
+          c.ask.ensures same c.known_front-from.ensures.front c.requires.empty
+          (rw w.in-Some.is refl) w.in_ok-propose_again.ensures.known
+          (ap (λ (q : Queue). q.packets) w.outbox-is ∙ w.in_ok-propose_again.ensures.packets) in
           does_tick c.self.view_is ticked (rw w.self-inside-is refl) (rw w.self-inside-is refl)
       | in_default w ↦
           let ticked = ticked_none i.1.ranges c.ask.ensures same c.known_front-from.ensures.front c.requires.empty

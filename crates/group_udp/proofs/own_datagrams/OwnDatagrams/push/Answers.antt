@@ -13,7 +13,8 @@ returns-clause-kept c _ =
     let has = c.has_room.ensures.0 c.if-not-has_room.false in
     let more = kept_more bytes lengths _ _ d _ c.self.invariant (omega (arith, room.0, has.0)) (omega (arith, room.1, has.1))
     c.fill_from_slice.ensures.count c.fill_from_slice.ensures.items c.push_back.ensures.items in
-    (λ i. cut (more.0 i).items (more.1 i).items) ∙ cut_more bytes.items lengths.items d c.self.invariant.whole ∙ ap (λ (kept : List (List ℕ)). kept ++ d ∷ []) c.self.view_is
+    (λ i. cut (more.0 i).items (more.1 i).items) ∙ cut_more bytes.items lengths.items d c.self.invariant.whole
+    ∙ ap (λ (kept : List (List ℕ)). kept ++ d ∷ []) c.self.view_is
 
 pub invariant_of-self : goal.invariant_of-self
 invariant_of-self c =

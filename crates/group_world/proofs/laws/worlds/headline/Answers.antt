@@ -11,19 +11,25 @@ laws c = record {
 }
 
 pub returns-clause-learned_agree : goal.returns-clause-learned_agree
-returns-clause-learned_agree c p group events w size session happens = c.sound_worlds_agree.ensures.learned_agree w (always_holds (laws c) p group events w size session happens).sound
+returns-clause-learned_agree c p group events w size session happens =
+    c.sound_worlds_agree.ensures.learned_agree w (always_holds (laws c) p group events w size session happens).sound
 
 pub returns-clause-learned_chosen : goal.returns-clause-learned_chosen
-returns-clause-learned_chosen c p group events w size session happens = c.sound_worlds_agree.ensures.learned_chosen w (always_holds (laws c) p group events w size session happens).sound
+returns-clause-learned_chosen c p group events w size session happens =
+    c.sound_worlds_agree.ensures.learned_chosen w (always_holds (laws c) p group events w size session happens).sound
 
 pub returns-clause-consoles_hold_output : goal.returns-clause-consoles_hold_output
-returns-clause-consoles_hold_output c p group events w size session happens = c.sound_worlds_agree.ensures.consoles_hold_output w (always_holds (laws c) p group events w size session happens).sound
+returns-clause-consoles_hold_output c p group events w size session happens =
+    c.sound_worlds_agree.ensures.consoles_hold_output w
+    (always_holds (laws c) p group events w size session happens).sound
 
 pub returns-clause-consoles_agree : goal.returns-clause-consoles_agree
-returns-clause-consoles_agree c p group events w size session happens = c.sound_worlds_agree.ensures.consoles_agree w (always_holds (laws c) p group events w size session happens).sound
+returns-clause-consoles_agree c p group events w size session happens =
+    c.sound_worlds_agree.ensures.consoles_agree w (always_holds (laws c) p group events w size session happens).sound
 
 pub returns-clause-no_gap : goal.returns-clause-no_gap
-returns-clause-no_gap c p group events w size session happens = c.sound_worlds_agree.ensures.no_gap w (always_holds (laws c) p group events w size session happens).sound
+returns-clause-no_gap c p group events w size session happens =
+    c.sound_worlds_agree.ensures.no_gap w (always_holds (laws c) p group events w size session happens).sound
 
 pub returns-clause-key_once : goal.returns-clause-key_once
 returns-clause-key_once c p group events w size session happens =

@@ -11,4 +11,5 @@ invariant_of-self c = rw c.crash.ensures tt
 pub returns : goal.returns
 returns c =
     let settled : IsSettled c.self.inside.seat = c.self.invariant in
-    rw c.crash.ensures (ap (λ (r : Record). record { kept = r; console = c.self.inside.console.bytes; node = None }) (settled_kept c.self.inside.seat settled) ∙ ap (λ (m : Member). record m { node = None }) c.self.view_is)
+    rw c.crash.ensures (ap (λ (r : Record). record { kept = r; console = c.self.inside.console.bytes; node = None })
+    (settled_kept c.self.inside.seat settled) ∙ ap (λ (m : Member). record m { node = None }) c.self.view_is)

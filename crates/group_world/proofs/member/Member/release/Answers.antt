@@ -16,7 +16,9 @@ pub returns-then-is_err-clause-memory : goal.returns-then-is_err-clause-memory
 returns-then-is_err-clause-memory c = refl
 
 pub unreachable-requires : goal.unreachable-requires
-unreachable-requires c = up_not_down c.self.inside.seat c.in-Down.field-0 c.requires.up.0 c.in-Down.is (ap (λ (m : Member). m.node) c.self.view_is ∙ c.requires.up.1)
+unreachable-requires c =
+    up_not_down c.self.inside.seat c.in-Down.field-0 c.requires.up.0 c.in-Down.is
+    (ap (λ (m : Member). m.node) c.self.view_is ∙ c.requires.up.1)
 
 pub unreachable-unreachable : goal.unreachable-unreachable
 unreachable-unreachable c = absurd c.unreachable.result
@@ -37,7 +39,9 @@ returns-in-Some-clause-ok c =
     let console = c.self.inside.console.bytes in
     let is : member_of (seat.Up c.in-Up.node) console ≡ c.args.self.now = rw c.in-Up.is at c.self.view_is in
     λ q up. released_as c.in-Up.node console c.args.self.now q _ is up
-    (releases c.in-Up.node c.release-next.new.self console c.offer-shown.new.self.bytes c.in-Some.number c.in-Some.byte h.value h.some h.protocol (rw c.reserve.ensures.bytes at c.offer-shown.ensures.shown (c.offer-shown.ensures.room (search rules))))
+    (releases c.in-Up.node c.release-next.new.self console c.offer-shown.new.self.bytes c.in-Some.number c.in-Some.byte
+    h.value h.some h.protocol
+    (rw c.reserve.ensures.bytes at c.offer-shown.ensures.shown (c.offer-shown.ensures.room (search rules))))
 
 pub returns-in_default-clause-ok : goal.returns-in_default-clause-ok
 returns-in_default-clause-ok c =

@@ -1,13 +1,15 @@
 use Rattle.std.proofs.Common.{◌≡◌, ◌∙◌, ap, subst}
 use Rattle.group_world.specs.declared.seat.Seat.TheVariants as seat
 use Rattle.group_world.specs.Asks.{IsOpen}
-use Rattle.group_world.specs.Seats.{RunsTo, member_of}
+use Rattle.group_world.specs.Seats.{RunsMember, member_of}
 use Rattle.group_world.specs.Worlds.{Member, Running}
 use Rattle.group_world.proofs.Seating.{run_open, runs, the_same, up_not_down}
 use Rattle.group_world.proofs.member.Member.run.Goals as goal
 
 pub unreachable-requires : goal.unreachable-requires
-unreachable-requires c = up_not_down c.self.inside.seat c.in-Down.field-0 c.requires.up.0 c.in-Down.is (ap (λ (m : Member). m.node) c.self.view_is ∙ c.requires.up.1)
+unreachable-requires c =
+    up_not_down c.self.inside.seat c.in-Down.field-0 c.requires.up.0 c.in-Down.is
+    (ap (λ (m : Member). m.node) c.self.view_is ∙ c.requires.up.1)
 
 pub unreachable-unreachable : goal.unreachable-unreachable
 unreachable-unreachable c = absurd c.unreachable.result
@@ -26,7 +28,9 @@ returns c =
     let new = member_of (seat.Up c.run-ran.new.self) console in
     record {
       runs = λ q up.
-          subst (λ (m : Member). RunsTo m q c.args.steps new) is
-          (subst (λ (r : Running). RunsTo (member_of (seat.Up c.in-Up.node) console) r c.args.steps new) (the_same (ap (λ (m : Member). m.node) is ∙ up))
-          (runs c.in-Up.node c.run-ran.new.self console c.args.steps c.run-ran.result is_open h.runs h.protocol h.stopped.0 h.others c.unreleased-waits.ensures.replay));
+          subst (λ (m : Member). RunsMember m q c.args.steps new) is
+          (subst (λ (r : Running). RunsMember (member_of (seat.Up c.in-Up.node) console) r c.args.steps new)
+          (the_same (ap (λ (m : Member). m.node) is ∙ up))
+          (runs c.in-Up.node c.run-ran.new.self console c.args.steps c.run-ran.result is_open h.runs h.protocol
+          h.stopped.0 h.others c.unreleased-waits.ensures.replay));
     }

@@ -2,8 +2,8 @@ use Rattle.std.proofs.Common.{◌≡◌, ◌∙◌, None, [], subst}
 use Rattle.paxos_msg.specs.Batches.{Record}
 use Rattle.paxos_acceptor.specs.Records.{IsRecord}
 use Rattle.group_node.specs.Output.{no_progress}
-use Rattle.group_world.specs.Asks.{Takes}
-use Rattle.group_world.specs.Goes.{start}
+use Rattle.group_world.specs.Asks.{TakesUnlessMemory}
+use Rattle.group_world.specs.Goes.{start_outcome}
 use Rattle.group_world.specs.Seats.{kept_of, member_of, running_of}
 use Rattle.group_world.specs.Worlds.{Member}
 use Rattle.group_world.proofs.Seating.{down_is, down_kept}
@@ -24,6 +24,9 @@ returns c =
     let console = c.self.inside.console.bytes in
     let left = member_of c.start.new.self console in
     record {
-      takes = subst (λ (m : Member). Takes c.args.plan c.args.config (no_progress c.args.program.now) m left (start c.args.config m.kept) [] c.start.result)
+      takes =
+          subst (λ (m : Member).
+          TakesUnlessMemory c.args.plan c.args.config (no_progress c.args.program.now) m left
+          (start_outcome c.args.config m.kept) [] c.start.result)
           (down_is c.self.inside.seat console down ∙ c.self.view_is) (c.start.ensures.takes console);
     }

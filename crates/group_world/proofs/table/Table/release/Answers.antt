@@ -16,7 +16,14 @@ pub release-requires : goal.release-requires
 release-requires c =
     let m = c.requires.up.0 in
     let q = c.requires.up.1 in
-    let w : World = record { program = c.self.inside.program.now; group = c.self.inside.group; members = c.self.inside.members.items; sent = c.self.inside.sent.items; typed = c.self.inside.typed.items } in
+    let w : World =
+    record {
+      program = c.self.inside.program.now;
+      group = c.self.inside.group;
+      members = c.self.inside.members.items;
+      sent = c.self.inside.sent.items;
+      typed = c.self.inside.typed.items;
+    } in
     let up = up_so w c.args.self.now c.args.node m q c.self.view_is c.requires.up.2 in
     let item = item_is w.members c.place.result c.args.node m c.index_mut.result.now up.there c.place.ensures c.index_mut.ensures.value in
     record { up = (q, ap (λ (x : Member). x.node) item ∙ up.up) }
@@ -25,11 +32,19 @@ pub returns-clause-acts : goal.returns-clause-acts
 returns-clause-acts c = λ plan.
     let m = c.requires.up.0 in
     let q = c.requires.up.1 in
-    let w : World = record { program = c.self.inside.program.now; group = c.self.inside.group; members = c.self.inside.members.items; sent = c.self.inside.sent.items; typed = c.self.inside.typed.items } in
+    let w : World =
+    record {
+      program = c.self.inside.program.now;
+      group = c.self.inside.group;
+      members = c.self.inside.members.items;
+      sent = c.self.inside.sent.items;
+      typed = c.self.inside.typed.items;
+    } in
     let up = up_so w c.args.self.now c.args.node m q c.self.view_is c.requires.up.2 in
     let item = item_is w.members c.place.result c.args.node m c.index_mut.result.now up.there c.place.ensures c.index_mut.ensures.value in
-    let left = released m q (slice_get (unreleased_of (input q.rules) q.progress) 0) in
+    let left = released m q (slice_get (unreleased_of (input q.known) q.progress) 0) in
     on_ok_weaker c.release.result
-    (λ (new_is : c.release.new.self ≡ released c.index_mut.result.now q (slice_get (unreleased_of (input q.rules) q.progress) 0)).
-    acts_so w c.args.self.now (with_member w c.args.node left) _ plan (act.Release c.args.node) Applied c.self.view_is (rw (c.place.ensures, new_is, item) refl) (m, q, up, refl, refl))
+    (λ (new_is : c.release.new.self ≡ released c.index_mut.result.now q (slice_get (unreleased_of (input q.known) q.progress) 0)).
+    acts_so w c.args.self.now (with_member w c.args.node left) _ plan (act.Release c.args.node) Applied c.self.view_is
+    (rw (c.place.ensures, new_is, item) refl) (m, q, up, refl, refl))
     (c.release.ensures.ok q (ap (λ (x : Member). x.node) item ∙ up.up))

@@ -12,7 +12,14 @@ pub run-requires : goal.run-requires
 run-requires c =
     let m = c.requires.up.0 in
     let q = c.requires.up.1 in
-    let w : World = record { program = c.self.inside.program.now; group = c.self.inside.group; members = c.self.inside.members.items; sent = c.self.inside.sent.items; typed = c.self.inside.typed.items } in
+    let w : World =
+    record {
+      program = c.self.inside.program.now;
+      group = c.self.inside.group;
+      members = c.self.inside.members.items;
+      sent = c.self.inside.sent.items;
+      typed = c.self.inside.typed.items;
+    } in
     let up = up_so w c.args.self.now c.args.node m q c.self.view_is c.requires.up.2 in
     let item = item_is w.members c.place.result c.args.node m c.index_mut.result.now up.there c.place.ensures c.index_mut.ensures.value in
     record { up = (q, ap (λ (x : Member). x.node) item ∙ up.up) }
@@ -22,7 +29,14 @@ returns c = record {
   acts = λ plan.
       let m = c.requires.up.0 in
       let q = c.requires.up.1 in
-      let w : World = record { program = c.self.inside.program.now; group = c.self.inside.group; members = c.self.inside.members.items; sent = c.self.inside.sent.items; typed = c.self.inside.typed.items } in
+      let w : World =
+      record {
+        program = c.self.inside.program.now;
+        group = c.self.inside.group;
+        members = c.self.inside.members.items;
+        sent = c.self.inside.sent.items;
+        typed = c.self.inside.typed.items;
+      } in
       let up = up_so w c.args.self.now c.args.node m q c.self.view_is c.requires.up.2 in
       let item = item_is w.members c.place.result c.args.node m c.index_mut.result.now up.there c.place.ensures c.index_mut.ensures.value in
       let h = c.run.ensures.runs q (ap (λ (x : Member). x.node) item ∙ up.up) in

@@ -1,7 +1,7 @@
 use Rattle.std.proofs.lemmas.Result.{IfOk-weaker}
 use Rattle.group_world.specs.Held.{Holds}
 use Rattle.group_world.specs.Events.{plan_of}
-use Rattle.group_world.specs.Worlds.{state_of}
+use Rattle.group_world.specs.Worlds.{world_state}
 use Rattle.group_world.proofs.Growing.{Grows}
 use Rattle.group_world.proofs.Happening.{EventLaws, event_holds}
 use Rattle.group_world.proofs.LaterWorlds.{answer_grows, grown_learned}
@@ -17,7 +17,9 @@ laws c = record {
 
 -- what held before the event holds after it
 holds : (c : goal.After-apply) → Holds c.apply.new.self
-holds c = event_holds (laws c) c.self.inside.table c.apply.new.self c.args.event.now c.apply.result c.self.invariant c.apply.ensures.goes c.apply.ensures.same
+holds c =
+    event_holds (laws c) c.self.inside.table c.apply.new.self c.args.event.now c.apply.result c.self.invariant
+    c.apply.ensures.goes c.apply.ensures.same
 
 pub apply-requires : goal.apply-requires
 apply-requires c = record { sound = c.self.invariant.sound }
@@ -31,7 +33,8 @@ returns-clause-goes c = rw (← c.self.view_is) c.apply.ensures.goes
 pub returns-clause-step : goal.returns-clause-step
 returns-clause-step c =
     rw (← c.self.view_is) (IfOk-weaker c.apply.result _ _
-    (λ d goes. c.events_keep_it_sound.ensures.step c.self.inside.table c.apply.new.self (plan_of c.args.event.now.save) c.args.event.now.act d c.self.invariant.sound goes)
+    (λ d goes. c.events_keep_it_sound.ensures.step c.self.inside.table c.apply.new.self
+    (plan_of c.args.event.now.save) c.args.event.now.act d c.self.invariant.sound goes)
     c.apply.ensures.goes)
 
 pub returns-clause-taken : goal.returns-clause-taken
@@ -44,11 +47,12 @@ pub returns-clause-refused : goal.returns-clause-refused
 returns-clause-refused c = rw (← c.self.view_is) c.apply.ensures.refused
 
 -- the world has grown by it
-grows : (c : goal.After-apply) → Grows (state_of c.self.inside.table) (state_of c.apply.new.self)
+grows : (c : goal.After-apply) → Grows (world_state c.self.inside.table) (world_state c.apply.new.self)
 grows c =
     answer_grows c.self.inside.table c.apply.new.self c.args.event.now.act c.apply.result
     (IfOk-weaker c.apply.result _ _
-    (λ d goes. c.events_keep_it_sound.ensures.step c.self.inside.table c.apply.new.self (plan_of c.args.event.now.save) c.args.event.now.act d c.self.invariant.sound goes)
+    (λ d goes. c.events_keep_it_sound.ensures.step c.self.inside.table c.apply.new.self
+    (plan_of c.args.event.now.save) c.args.event.now.act d c.self.invariant.sound goes)
     c.apply.ensures.goes) c.apply.ensures.same
 
 pub returns-clause-learned_stays : goal.returns-clause-learned_stays

@@ -11,5 +11,6 @@ pub returns : goal.returns
 returns c =
     let k = key_of c.args.key in
     let e : c.contains.result ≡ list_any (same_key k) c.args.self.now.keys
-    = c.contains.ensures ∙ any_stored _ same_stored c.self.inside.keys.keys c.args.key ∙ ap (λ (s : Keys). list_any (same_key k) s.keys) c.self.view_is in
+    = c.contains.ensures ∙ any_stored _ same_stored c.self.inside.keys.keys c.args.key
+    ∙ ap (λ (s : Keys). list_any (same_key k) s.keys) c.self.view_is in
     (λ found. found_there c.args.self.now.keys k (sym e ∙ found), λ there. e ∙ there_found c.args.self.now.keys k there)

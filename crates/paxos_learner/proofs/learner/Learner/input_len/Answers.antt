@@ -10,4 +10,5 @@ use Rattle.paxos_learner.proofs.learner.Learner.input_len.Goals as goal
 pub returns : goal.returns
 returns c =
     c.len.ensures ∙ ap (λ (keys : List Key). length keys) (keys_are _ _ _ _ c.self.invariant)
-    ∙ ap (λ (l : Learner). length (keys_in_order (front_values l.learned))) c.self.view_is ∙ sym (length-map (keys_in_order (front_values c.args.self.now.learned)) (λ (k : Key). k.byte))
+    ∙ ap (λ (l : Learner). length (keys_in_order (front_values l.learned))) c.self.view_is
+    ∙ sym (length-map (keys_in_order (front_values c.args.self.now.learned)) (λ (k : Key). k.byte))

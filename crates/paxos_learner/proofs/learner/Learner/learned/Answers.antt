@@ -12,4 +12,5 @@ returns-clause-place c some =
 pub returns-clause-window : goal.returns-clause-window
 returns-clause-window c some =
     let there = some_from_test c.get.result some in
-    subst (λ (l : Learner). c.args.place < front_of l.learned + 1024) c.self.view_is (c.self.invariant.window.window c.args.place there.0 (sym c.get.ensures ∙ there.1))
+    subst (λ (l : Learner). c.args.place < front_of l.learned + 1024) c.self.view_is
+    (c.self.invariant.window.window c.args.place there.0 (sym c.get.ensures ∙ there.1))

@@ -7,7 +7,8 @@ use Rattle.paxos_learner.proofs.node_set.NodeSet.insert.Goals as goal
 
 pub invariant_of-self : goal.invariant_of-self
 invariant_of-self c =
-    or_lt 10 c.self.inside.bits _ c.self.invariant (omega (arith, one_shl c.args.node 16 (omega arith), pow_below c.args.node 10 (omega arith)))
+    or_lt 10 c.self.inside.bits _ c.self.invariant
+    (omega (arith, one_shl c.args.node 16 (omega arith), pow_below c.args.node 10 (omega arith)))
 
 pub returns : goal.returns
 returns c = insert_node c.self.inside.bits c.args.node c.requires ∙ ap (λ nodes. with_node nodes c.args.node) c.self.view_is

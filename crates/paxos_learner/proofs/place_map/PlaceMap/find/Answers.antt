@@ -10,13 +10,16 @@ use Rattle.paxos_learner.proofs.place_map.PlaceMap.find.Goals as goal
 pub returns-in_err-index-clause-value : goal.returns-in_err-index-clause-value
 returns-in_err-index-clause-value g c =
     rw c.from_residual.ensures
-    (c.in_err-index.ensures.value ∙ sym (get_place c.self.inside.entries.entries c.args.place) ∙ ap (λ places. get places.map c.args.place) c.self.view_is)
+    (c.in_err-index.ensures.value ∙ sym (get_place c.self.inside.entries.entries c.args.place)
+    ∙ ap (λ places. get places.map c.args.place) c.self.view_is)
 
 pub returns : goal.returns
 returns g c =
     let at = found_place (keys_of c.self.inside.entries.entries) c.args.place _ (sym c.in_ok-index.ensures.index) in
     record {
-      value = c.in_ok-index.ensures.value ∙ sym (get_place c.self.inside.entries.entries c.args.place) ∙ ap (λ places. get places.map c.args.place) c.self.view_is;
+      value =
+          c.in_ok-index.ensures.value ∙ sym (get_place c.self.inside.entries.entries c.args.place)
+          ∙ ap (λ places. get places.map c.args.place) c.self.view_is;
       within = subst (λ (p : Places g.row.V.Denot). c.in_ok-index.index < length p.places) c.self.view_is at.0;
       place = subst (λ (p : Places g.row.V.Denot). slice_index p.places c.in_ok-index.index ≡ c.args.place) c.self.view_is at.1;
     }

@@ -1,23 +1,24 @@
--- The reports without the first place make the votes above it, of which the greatest place is the same, or which are none.
+-- The reports without the first place make the votes above it, of which the greatest place is the same, or which are
+-- none.
 use Rattle.std.proofs.Common.{◌+◌, ◌≤◌, ◌∙◌, List, ap, subst, sym}
 use Rattle.std.specs.Prelude.{All}
 use Rattle.paxos_msg.specs.Batches.{Vote}
-use Rattle.paxos_proposer.specs.KeptVotes.{Kept, votes_of}
-use Rattle.paxos_proposer.specs.Proposer.{votes_from}
+use Rattle.paxos_proposer.specs.KeptVotes.{Kept, reported_votes}
+use Rattle.paxos_msg.specs.Places.{votes_from}
 use Rattle.paxos_proposer.proofs.ByPlace.{votes_of-cut}
 use Rattle.paxos_proposer.proofs.GreatestPlace.{greatest-passed, greatest-left}
 use Rattle.paxos_proposer.proofs.kept.KeptVotes.pass.Goals as goal
 
 pub invariant_of-self : goal.invariant_of-self
 invariant_of-self c =
-    let old : List Vote = votes_of c.self.inside.reports.entries in
+    let old : List Vote = reported_votes c.self.inside.reports.entries in
     let from = subst (λ (kept : Kept). All (λ vote. c.args.place ≤ vote.place) kept.votes) (sym c.self.view_is) c.requires in
     let is = votes_of-cut c.self.inside.reports.entries c.swap_remove.new.self.entries c.args.place c.swap_remove.ensures.updates.0 from in
     rw is (greatest-passed old c.self.inside.greatest c.args.place (sym c.eq.ensures ∙ c.if-eq.true) c.self.invariant)
 
 pub invariant_of-self-else-eq : goal.invariant_of-self-else-eq
 invariant_of-self-else-eq c =
-    let old : List Vote = votes_of c.self.inside.reports.entries in
+    let old : List Vote = reported_votes c.self.inside.reports.entries in
     let from = subst (λ (kept : Kept). All (λ vote. c.args.place ≤ vote.place) kept.votes) (sym c.self.view_is) c.requires in
     let is = votes_of-cut c.self.inside.reports.entries c.swap_remove.new.self.entries c.args.place c.swap_remove.ensures.updates.0 from in
     rw is (greatest-left old c.self.inside.greatest c.args.place (sym c.eq.ensures ∙ c.if-eq.false) from c.self.invariant)

@@ -3,14 +3,15 @@ use Rattle.std.proofs.Common.{◌≡◌, ◌+◌, ◌∙◌, ap, arith, length, 
 use Rattle.std.specs.Prelude.{is_some}
 use Rattle.std.proofs.lemmas.List.{length_push}
 use Rattle.paxos_proposer.specs.Proposer.{next_of}
-use Rattle.paxos_proposer.specs.States.{State}
+use Rattle.paxos_proposer.specs.States.{ProposerState}
 use Rattle.paxos_proposer.proofs.Passing.{left_from}
 use Rattle.paxos_proposer.proofs.proposer.Proposer.next_accept.Goals as goal
 
 pub invariant_of-self-2 : goal.invariant_of-self-2
 invariant_of-self-2 c =
     let h = c.self.invariant in
-    let next : c.next_place-place.result ≡ c.self.inside.first + length c.self.inside.values.items = c.next_place-place.ensures.next ∙ sym (ap (λ (s : State). next_of s.rules) c.self.view_is) in
+    let next : c.next_place-place.result ≡ c.self.inside.first + length c.self.inside.values.items =
+    c.next_place-place.ensures.next ∙ sym (ap (λ (s : ProposerState). next_of s.known) c.self.view_is) in
     let count : c.self.inside.first + length c.push.new.self.items ≡ c.next_place-place.result + 1
     = omega (arith, ap length c.in_ok-push.ensures.items, length_push c.self.inside.values.items c.in-Some.value) in
     let below = c.next_value.ensures.below (ap is_some c.in-Some.is) in

@@ -8,7 +8,8 @@ unwrap-requires c =
     let m : Marks = record { flags = c.self.inside.flags.items; found = c.self.inside.found.items } in
     let unset : get_or m.flags c.args.at false ≡ false = search rules in
     let inside : c.args.at < length m.flags = search rules in
-    let less : length m.found < length m.flags = omega (arith, c.self.invariant.listing.count, flagged_less m.flags c.args.at inside unset) in
+    let less : length m.found < length m.flags =
+    omega (arith, c.self.invariant.listing.count, flagged_less m.flags c.args.at inside unset) in
     search rules
 
 pub invariant_of-self : goal.invariant_of-self

@@ -1,0 +1,72 @@
+//! The words that several commands have, and how clap is told of a word.
+use crate::value::Word;
+use clap::{Arg, Command};
+use std::alloc::{AllocError, Global};
+
+pub const FILE: Word = Word {
+    name: "FILE",
+    shown: "<FILE>",
+};
+
+pub const SIZE: Word = Word {
+    name: "SIZE",
+    shown: "<SIZE>",
+};
+
+pub const SESSION: Word = Word {
+    name: "SESSION",
+    shown: "<SESSION>",
+};
+
+pub const TURNS: Word = Word {
+    name: "TURNS",
+    shown: "<TURNS>",
+};
+
+/// A word that has to be there, the path of a file or digits of bytes. One that begins with a
+/// hyphen stands behind `--`.
+pub fn text_arg<'a>(alloc: Global, word: Word, help: &'static str) -> Arg<'a> {
+    Arg::new(alloc, word.name).required(true).help(help)
+}
+
+/// A word that has to be there. A number below 0 is taken too, so that it is refused as its value.
+pub fn value_arg<'a>(alloc: Global, word: Word, help: &'static str) -> Arg<'a> {
+    text_arg(alloc, word, help).allow_negative_numbers(true)
+}
+
+/// An option with a value. A number below 0 is taken too, so that it is refused as its value.
+pub fn option_arg<'a>(
+    alloc: Global,
+    word: Word,
+    value_name: &'static str,
+    help: &'static str,
+) -> Arg<'a> {
+    Arg::new(alloc, word.name)
+        .long(word.name)
+        .value_name(value_name)
+        .allow_negative_numbers(true)
+        .help(help)
+}
+
+/// A command whose first word is FILE.
+pub fn on_file<'a>(
+    alloc: Global,
+    name: &'static str,
+    about: &'static str,
+    after: &'static str,
+) -> Result<Command<'a>, AllocError> {
+    let file = text_arg(alloc, FILE, "A UCSD II.0 code file with one linked segment");
+    Command::new(alloc, name)
+        .about(about)
+        .after_help(after)
+        .arg(file)
+}
+
+/// The word SIZE of `net` and `node`.
+pub fn size_arg<'a>(alloc: Global) -> Arg<'a> {
+    value_arg(
+        alloc,
+        SIZE,
+        "The number of the group's nodes: 1, 3, 5, 7 or 9",
+    )
+}

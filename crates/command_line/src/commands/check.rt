@@ -1,0 +1,29 @@
+//! `check FILE`.
+use crate::command_words::{FILE, on_file};
+use crate::value::{WordFault, text_of};
+use crate::words::Asked;
+use clap::{ArgMatches, Command};
+use std::alloc::{AllocError, Global};
+
+/// What help says after the words.
+const HELP: &str = "Example:
+  pgroup check examples/echo.code
+
+Exit status:
+  0  FILE can be run: the line has the segment's number, and how many
+     procedures and reached offsets it has
+  1  refused: `refused` and a code such as F3, O5 or E1, or `refused file`
+  2  a fault of the command line
+docs/FORMATS.md explains the codes.";
+
+/// Returns the command's words, as clap reads them.
+pub fn words<'a>(alloc: Global, name: &'static str) -> Result<Command<'a>, AllocError> {
+    let about = "Checks a code file, and counts its reached offsets";
+    on_file(alloc, name, about, HELP)
+}
+
+/// Returns what the words ask for, or what is wrong with them.
+pub fn read<'a>(matches: &ArgMatches<'a>) -> Result<Asked<'a>, WordFault<'a>> {
+    let file = text_of(matches, FILE)?;
+    Ok(Asked::Check { file })
+}

@@ -1,0 +1,40 @@
+//! `run FILE [--steps N]`.
+use crate::command_words::{FILE, on_file, option_arg};
+use crate::value::{Word, WordFault, count_in, text_of};
+use crate::words::{Asked, DEFAULT_STEPS};
+use clap::{ArgMatches, Command};
+use std::alloc::{AllocError, Global};
+
+const STEPS: Word = Word {
+    name: "steps",
+    shown: "--steps <N>",
+};
+
+/// What help says after the words.
+const HELP: &str = "Example:
+  pgroup run examples/echo.code --steps 5000
+
+Exit status:
+  0  the program has ended; or it waits, and its input has ended: `waits`
+  1  refused: `refused` and a code such as F3, O5 or E1, or `refused file`
+  2  a fault of the command line
+  3  an execution error: its number, its procedure and its offset
+  4  N steps were made, and the program has not ended: `steps`
+docs/FORMATS.md explains the codes and the errors.";
+
+/// Returns the command's words, as clap reads them.
+pub fn words<'a>(alloc: Global, name: &'static str) -> Result<Command<'a>, AllocError> {
+    let about = "Runs a code file on standard input and output";
+    let steps = "How many steps at most, in decimal digits [default: 1000000]";
+    on_file(alloc, name, about, HELP)?.arg(option_arg(alloc, STEPS, "N", steps))
+}
+
+/// Returns what the words ask for, or what is wrong with them.
+pub fn read<'a>(matches: &ArgMatches<'a>) -> Result<Asked<'a>, WordFault<'a>> {
+    let file = text_of(matches, FILE)?;
+    let steps = match matches.get_str(STEPS.name) {
+        None => DEFAULT_STEPS,
+        Some(text) => count_in(STEPS, text)?,
+    };
+    Ok(Asked::Run { file, steps })
+}

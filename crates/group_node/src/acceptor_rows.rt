@@ -1,0 +1,100 @@
+//! The rows of a node's acceptor: a Prepare and an Accept.
+ghost use Rattle.std.specs.Prelude.{◌≡◌, ◌⊎◌, [], false, IfErr, option_map};
+ghost use Rattle.paxos_msg.specs.Fits.{IsBallot, IsPlace, IsValue};
+ghost use Rattle.group_node.specs.Calls.{Does, Saves};
+ghost use Rattle.group_node.specs.AcceptorRows.{accept_answered_to, on_accept, on_prepare, unless_passed};
+
+use crate::fault::{NodeFault, fault_of};
+use crate::laws::rows_fit;
+use crate::outbox::Outbox;
+use crate::packet::To;
+use crate::protocol::Protocol;
+use paxos_acceptor::laws::{promises_fit, votes_fit};
+use paxos_acceptor::{Store, greater_promise};
+use paxos_msg::{Ballot, Value};
+use paxos_proposer::Proposer;
+
+/// The proposer, unless the promised ballot is above its own.
+fn unless_passed(promised: Option<Ballot>, proposer: Option<Proposer>) -> Option<Proposer>
+    ensures { option_map (λ p. p.known) result
+        ≡ unless_passed promised (option_map (λ p. p.known) proposer) }
+{
+    match proposer {
+        Some(proposer) if greater_promise(promised, proposer.ballot()).is_none() => Some(proposer),
+        _ => None,
+    }
+}
+
+/// To whom the answer to an Accept goes.
+fn accept_answered_to(greater: Option<Ballot>, ballot: Ballot) -> To
+    ensures { result ≡ accept_answered_to greater ballot }
+{
+    match greater {
+        Some(_) => To::One(ballot.node),
+        None => To::All,
+    }
+}
+
+impl<S: Store> Protocol<S> {
+    /// Answers a Prepare: the acceptor's answer goes to the ballot's node. The room for it is made
+    /// before anything changes.
+    pub(crate) fn on_prepare(
+        &mut self,
+        ballot: Ballot,
+        from: u32,
+        outbox: &mut Outbox,
+    ) -> Result<(), NodeFault>
+        requires ballot { IsBallot self.old.known.me.group.size ballot }
+        requires from { IsPlace from }
+        requires open { self.old.is_stopped ≡ false }
+        requires empty { outbox.old.packets ≡ [] }
+        ensures does { Does self.old self.new outbox.old.packets outbox.new.packets
+            (on_prepare self.old.known ballot from) result }
+        ensures saves { Saves S.honest S.fails_at_will S.state self.old self.new
+            (on_prepare self.old.known ballot from) result }
+        ensures others { IfErr result (λ e. (e ≡ NodeFault.Memory) ⊎ (e ≡ NodeFault.Store)) }
+    {
+        promises_fit();
+        rows_fit();
+        outbox.make_ready(1)?;
+        let answer = match self.acceptor.prepare(ballot, from) {
+            Ok(answer) => answer,
+            Err(fault) => return Err(fault_of(fault)),
+        };
+        self.proposer = unless_passed(self.acceptor.record().promised, self.proposer.take());
+        outbox.put(self.me, To::One(ballot.node), answer);
+        Ok(())
+    }
+
+    /// Answers an Accept: Accepted goes to all, Refused to the ballot's node.
+    pub(crate) fn on_accept(
+        &mut self,
+        ballot: Ballot,
+        place: u32,
+        value: Value,
+        outbox: &mut Outbox,
+    ) -> Result<(), NodeFault>
+        requires ballot { IsBallot self.old.known.me.group.size ballot }
+        requires place { IsPlace place }
+        requires value { IsValue self.old.known.me.group.size value }
+        requires open { self.old.is_stopped ≡ false }
+        requires empty { outbox.old.packets ≡ [] }
+        ensures does { Does self.old self.new outbox.old.packets outbox.new.packets
+            (on_accept self.old.known ballot place value) result }
+        ensures saves { Saves S.honest S.fails_at_will S.state self.old self.new
+            (on_accept self.old.known ballot place value) result }
+        ensures others { IfErr result (λ e. (e ≡ NodeFault.Memory) ⊎ (e ≡ NodeFault.Store)) }
+    {
+        votes_fit();
+        rows_fit();
+        outbox.make_ready(1)?;
+        let greater = greater_promise(self.acceptor.record().promised, ballot);
+        let answer = match self.acceptor.accept(ballot, place, value) {
+            Ok(answer) => answer,
+            Err(fault) => return Err(fault_of(fault)),
+        };
+        self.proposer = unless_passed(self.acceptor.record().promised, self.proposer.take());
+        outbox.put(self.me, accept_answered_to(greater, ballot), answer);
+        Ok(())
+    }
+}

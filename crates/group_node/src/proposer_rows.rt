@@ -1,0 +1,347 @@
+//! The rows of a node's proposer: a campaign, a Promise, a Refused and a Submit.
+ghost use Rattle.std.specs.Prelude.{◌≡◌, ℕ, ◌+◌, ◌<◌, ◌≤◌, ◌++◌, [], Err, OnErr, Some, length, option_map, ◌↔◌, ◌⊎◌, IfErr, IsErrOf, IfSome, OnOk, false};
+ghost use Rattle.paxos_msg.specs.declared.message.Body.TheVariants.{Submit};
+ghost use Rattle.group_node.specs.Protocol.{NeedsMemory, row};
+ghost use Rattle.paxos_msg.specs.declared.value.Value.{Value};
+ghost use Rattle.paxos_msg.specs.Fits.{IsBallot, IsPlace, IsValue, Fits};
+ghost use Rattle.group_node.specs.Calls.{Does, Saves};
+ghost use Rattle.group_node.specs.ProposerRows.{on_refused, greater_ballot, unless_refused, are_known, on_submit, is_known, is_known_key, offer_after, offered_with, prepare_from, on_campaign, beginning};
+ghost use Rattle.group_node.specs.Packets.{datagrams_of};
+ghost use Rattle.paxos_proposer.specs.Proposer.{IsPromisePart, asks_after, greatest_round, heard_promise};
+ghost use Rattle.paxos_msg.specs.declared.record.Change.TheVariants.{Promise};
+ghost use Rattle.paxos_msg.specs.Ballots.{IsBelow};
+ghost use Rattle.paxos_msg.specs.Keys.{keys_from};
+ghost use Rattle.paxos_acceptor.specs.Follows.{Follows};
+ghost use Rattle.paxos_learner.specs.Entered.{key_of};
+ghost use Rattle.group_node.specs.Known.{front};
+ghost use Rattle.group_node.specs.Pump.{accepts_of, pump};
+ghost use Rattle.group_node.specs.Ranges.{IsMember, IsOwnProposer};
+
+use crate::fault::{NodeFault, fault_of};
+use crate::laws::rows_fit;
+use crate::outbox::Outbox;
+use crate::packet::To;
+use crate::protocol::Protocol;
+use crate::pump::{PUMPED, propose, pump};
+use paxos_acceptor::laws::{greater_ballots_are_promised, promises_fit};
+use paxos_acceptor::{Acceptor, AcceptorFault, Me, Store};
+use paxos_learner::laws::key_tests_are_exact;
+use paxos_learner::{KeySet, TypedKey};
+use paxos_msg::laws::tests_are_exact;
+use paxos_msg::{Ballot, Body, PLACES, Value, View};
+use paxos_proposer::laws::{ballot_stays, what_goes_out_fits as accepts_fit};
+use paxos_proposer::{Proposer, next_ballot};
+
+/// Asks the acceptor for its promises from the place on, if there is one.
+fn ask_on(ballot: Ballot, acceptor: u8, from: Option<u32>, me: Me, outbox: &mut Outbox)
+    requires me { IsMember me }
+    requires ballot { IsBallot me.group.size ballot }
+    requires own { ballot.node ≡ me.node }
+    requires from { IfSome from IsPlace }
+    requires ready { 1 ≤ outbox.old.ready }
+    requires room { length outbox.old.packets < 64 }
+    ensures packets { outbox.new.packets
+        ≡ outbox.old.packets ++ datagrams_of me (prepare_from ballot acceptor from) }
+    ensures ready { outbox.old.ready ≤ outbox.new.ready + 1 }
+    ensures few { length outbox.new.packets ≤ length outbox.old.packets + 1 }
+{
+    if let Some(from) = from {
+        outbox.put(me, To::One(acceptor), Body::Prepare { ballot, from });
+    }
+}
+
+/// Takes a part of a promise under the proposer's own ballot, asks its acceptor on, and pumps. All
+/// room is made before.
+fn take_part(
+    proposer: &mut Proposer,
+    view: &View<'_>,
+    me: Me,
+    outbox: &mut Outbox,
+) -> Result<(), NodeFault>
+    requires me { IsMember me }
+    requires own { IsOwnProposer me proposer.old.known }
+    requires part { IsPromisePart proposer.old.known.ballot view.now.body }
+    requires fits { Fits me.group view.now }
+    requires empty { outbox.old.packets ≡ [] }
+    ensures known { OnOk result
+        (proposer.new.known ≡ (pump 16
+        (heard_promise proposer.old.known view.now.sender view.now.body)).proposer) }
+    ensures packets { OnOk result
+        (outbox.new.packets ≡ datagrams_of me
+        (prepare_from proposer.old.known.ballot view.now.sender
+        (asks_after proposer.old.known view.now.sender view.now.body)
+        ++ accepts_of (pump 16
+        (heard_promise proposer.old.known view.now.sender view.now.body)).made)) }
+    ensures err { OnErr result
+        ((proposer.new.known ≡ proposer.old.known) × (outbox.new.packets ≡ outbox.old.packets)) }
+    ensures others { OnErr result (result ≡ Err NodeFault.Memory) }
+    ensures own { IsOwnProposer me proposer.new.known }
+{
+    accepts_fit();
+    ballot_stays();
+    let Ok(()) = proposer.reserve() else {
+        return Err(NodeFault::Memory);
+    };
+    outbox.make_ready(17)?;
+    let Ok(asks_on) = proposer.on_promise(view.sender, view) else {
+        return Err(NodeFault::Memory);
+    };
+    ask_on(proposer.ballot(), view.sender, asks_on, me, outbox);
+    pump(proposer, me, outbox);
+    Ok(())
+}
+
+/// Pumps, and then offers the value, if the pump leaves room for it. Its keys are offered ones from
+/// then on, if the offer gives an Accept. All room is made before.
+fn offer(
+    proposer: &mut Proposer,
+    offered: &mut KeySet,
+    value: &Value,
+    me: Me,
+    outbox: &mut Outbox,
+) -> Result<(), NodeFault>
+    requires me { IsMember me }
+    requires own { IsOwnProposer me proposer.old.known }
+    requires value { IsValue me.group.size value.now }
+    requires empty { outbox.old.packets ≡ [] }
+    ensures known { OnOk result
+        (proposer.new.known ≡ (offer_after (pump 16 proposer.old.known) value.now).proposer) }
+    ensures offered { OnOk result
+        (offered.new.keys ≡ offered_with offered.old.keys value.now
+        (offer_after (pump 16 proposer.old.known) value.now).made) }
+    ensures packets { OnOk result
+        (outbox.new.packets ≡ datagrams_of me
+        (accepts_of (pump 16 proposer.old.known).made
+        ++ accepts_of (offer_after (pump 16 proposer.old.known) value.now).made)) }
+    ensures err { OnErr result
+        ((proposer.new.known ≡ proposer.old.known) × (offered.new.keys ≡ offered.old.keys)
+        × (outbox.new.packets ≡ outbox.old.packets)) }
+    ensures others { OnErr result (result ≡ Err NodeFault.Memory) }
+    ensures own { IsOwnProposer me proposer.new.known }
+{
+    let Ok(()) = proposer.reserve() else {
+        return Err(NodeFault::Memory);
+    };
+    outbox.make_ready(17)?;
+    offered.reserve(32)?;
+    let made = pump(proposer, me, outbox);
+    let next = proposer.next_place();
+    if made < PUMPED && next < PLACES && !proposer.is_kept_from(next) {
+        if propose(proposer, Some(*value), me, outbox) {
+            offered.insert(*value);
+        }
+    }
+    Ok(())
+}
+
+/// Promises a ballot above all that were promised. What the part of the promise reports is not
+/// needed: the Prepare brings it.
+fn promise<S: Store>(
+    acceptor: &mut Acceptor<S>,
+    ballot: Ballot,
+    from: u32,
+) -> Result<(), AcceptorFault>
+    requires ballot { IsBallot acceptor.old.me.group.size ballot }
+    requires above { IfSome acceptor.old.kept.promised (λ b. IsBelow b ballot) }
+    ensures follows { Follows S.honest S.fails_at_will S.state acceptor.old acceptor.new
+        (Some (Promise ballot)) result }
+    ensures others { ¬ IsErrOf result AcceptorFault.BadRecord
+        × ¬ IsErrOf result AcceptorFault.StartsSpent }
+{
+    greater_ballots_are_promised();
+    if let Err(fault) = acceptor.prepare(ballot, from) {
+        return Err(fault);
+    }
+    Ok(())
+}
+
+/// The greater of two ballots, where there was one.
+fn greater_ballot(remembered: Option<Ballot>, promised: Ballot) -> Ballot
+    ensures { result ≡ greater_ballot remembered promised }
+{
+    match remembered {
+        Some(remembered) if !(remembered < promised) => remembered,
+        _ => promised,
+    }
+}
+
+/// The proposer, unless it is its ballot that was refused.
+fn unless_refused(ballot: Ballot, proposer: Option<Proposer>) -> Option<Proposer>
+    ensures { option_map (λ p. p.known) result
+        ≡ unless_refused ballot (option_map (λ p. p.known) proposer) }
+{
+    tests_are_exact();
+    match proposer {
+        Some(proposer) if !proposer.on_refused(ballot) => Some(proposer),
+        _ => None,
+    }
+}
+
+impl<S: Store> Protocol<S> {
+    /// Begins a ballot of its own: promises it, and asks all for their promises from the known
+    /// front on.
+    pub(crate) fn on_campaign(&mut self, outbox: &mut Outbox) -> Result<(), NodeFault>
+        requires open { self.old.is_stopped ≡ false }
+        requires empty { outbox.old.packets ≡ [] }
+        ensures does { Does self.old self.new outbox.old.packets outbox.new.packets
+            (on_campaign self.old.known) result }
+        ensures saves { Saves S.honest S.fails_at_will S.state self.old self.new
+            (on_campaign self.old.known) result }
+        ensures rounds { IsErrOf result NodeFault.RoundsSpent
+            ↔ (greatest_round self.old.known.kept.promised self.old.known.remembered ≡ 4294967295) }
+        ensures places { IsErrOf result NodeFault.PlacesSpent
+            ↔ ((greatest_round self.old.known.kept.promised self.old.known.remembered < 4294967295)
+            × (front self.old.known ≡ 65536)) }
+        ensures spare { OnOk result
+            (greatest_round self.old.known.kept.promised self.old.known.remembered < 4294967295) }
+        ensures spare_saved { IsErrOf result NodeFault.Store
+            → greatest_round self.old.known.kept.promised self.old.known.remembered < 4294967295 }
+        ensures others { IfErr result
+            (λ e. (e ≡ NodeFault.Memory) ⊎ (e ≡ NodeFault.Store) ⊎ (e ≡ NodeFault.RoundsSpent)
+            ⊎ (e ≡ NodeFault.PlacesSpent)) }
+    {
+        let promised = self.acceptor.record().promised;
+        let Ok(ballot) = next_ballot(promised, self.remembered, self.me.node) else {
+            return Err(NodeFault::RoundsSpent);
+        };
+        if self.learner.known_front() == PLACES {
+            return Err(NodeFault::PlacesSpent);
+        }
+        outbox.make_ready(1)?;
+        self.begin_ballot(ballot, outbox)
+    }
+
+    /// Begins a ballot at the known front, with a buffer ready.
+    fn begin_ballot(&mut self, ballot: Ballot, outbox: &mut Outbox) -> Result<(), NodeFault>
+        requires ballot { IsBallot self.old.known.me.group.size ballot }
+        requires own { ballot.node ≡ self.old.known.me.node }
+        requires above { IfSome self.old.known.kept.promised (λ b. IsBelow b ballot) }
+        requires place { front self.old.known < 65536 }
+        requires open { self.old.is_stopped ≡ false }
+        requires empty { outbox.old.packets ≡ [] }
+        requires ready { 1 ≤ outbox.old.ready }
+        ensures does { Does self.old self.new outbox.old.packets outbox.new.packets
+            (beginning self.old.known ballot) result }
+        ensures saves { Saves S.honest S.fails_at_will S.state self.old self.new
+            (beginning self.old.known ballot) result }
+        ensures others { IfErr result (λ e. (e ≡ NodeFault.Memory) ⊎ (e ≡ NodeFault.Store)) }
+    {
+        accepts_fit();
+        promises_fit();
+        greater_ballots_are_promised();
+        let from = self.learner.known_front();
+        match promise(&mut self.acceptor, ballot, from) {
+            Ok(()) => (),
+            Err(fault) => return Err(fault_of(fault)),
+        }
+        self.proposer = Some(Proposer::begin(self.alloc, ballot, from, self.me.group.size));
+        // A set that is cleared keeps its table, and clearing goes over all of it.
+        self.offered = KeySet::new(self.alloc);
+        outbox.put(self.me, To::All, Body::Prepare { ballot, from });
+        Ok(())
+    }
+
+    /// Takes a part of a promise, if it is for the ballot of the node's own proposer.
+    pub(crate) fn on_promise(
+        &mut self,
+        ballot: Ballot,
+        view: &View<'_>,
+        outbox: &mut Outbox,
+    ) -> Result<(), NodeFault>
+        requires part { IsPromisePart ballot view.now.body }
+        requires fits { Fits self.old.known.me.group view.now }
+        requires empty { outbox.old.packets ≡ [] }
+        ensures does { Does self.old self.new outbox.old.packets outbox.new.packets
+            (row self.old.known view.now.sender view.now.body) result }
+        ensures needs { OnErr result (NeedsMemory self.old.known view.now.sender view.now.body) }
+        ensures store { self.new.store ≡ self.old.store }
+        ensures others { OnErr result (result ≡ Err NodeFault.Memory) }
+    {
+        rows_fit();
+        let Some(proposer) = &mut self.proposer else {
+            return Ok(());
+        };
+        if proposer.ballot() != ballot {
+            return Ok(());
+        }
+        take_part(proposer, view, self.me, outbox)
+    }
+
+    /// Remembers the ballot that a Refused tells of, and gives the proposer up where it is its
+    /// ballot that was refused.
+    pub(crate) fn on_refused(&mut self, ballot: Ballot, promised: Ballot)
+        ensures known { self.new.known ≡ (on_refused self.old.known ballot promised).node }
+        ensures store { self.new.store ≡ self.old.store }
+        ensures stops { self.new.is_stopped ≡ self.old.is_stopped }
+    {
+        rows_fit();
+        self.remembered = Some(greater_ballot(self.remembered, promised));
+        self.proposer = unless_refused(ballot, self.proposer.take());
+    }
+
+    /// Whether the key is learned, or offered under the node's ballot.
+    fn is_known_key(&self, key: TypedKey) -> bool
+        ensures { result ≡ is_known_key self.now.known (key_of key) }
+    {
+        key_tests_are_exact();
+        self.learner.has_learned(key) || self.offered.contains(key)
+    }
+
+    /// Whether each of the keys with these characters is, whose serials go on from `first`.
+    fn are_known(&self, node: u8, start: u32, first: u32, bytes: &[u8]) -> bool
+        requires { length bytes.now ≤ 32 }
+        ensures { result ≡ are_known self.now.known (keys_from node start first bytes.now) }
+    {
+        let mut serial = u64::from(first);
+        for byte in bytes {
+            let key = TypedKey {
+                serial,
+                start,
+                node,
+                byte: *byte,
+            };
+            if !self.is_known_key(key) {
+                return false;
+            }
+            serial += 1;
+        }
+        true
+    }
+
+    /// Whether each key of the value is.
+    fn is_known(&self, value: &Value) -> bool
+        ensures { result ≡ is_known self.now.known value.now }
+    {
+        match value {
+            Value::Noop => true,
+            Value::Keys {
+                node,
+                start,
+                first,
+                bytes,
+            } => self.are_known(*node, *start, *first, bytes.as_slice()),
+        }
+    }
+
+    /// Offers the value of a Submit after a pump, if the node leads and the value has a key that it
+    /// does not know. All room is made before.
+    pub(crate) fn on_submit(&mut self, value: &Value, outbox: &mut Outbox) -> Result<(), NodeFault>
+        requires value { IsValue self.old.known.me.group.size value.now }
+        requires empty { outbox.old.packets ≡ [] }
+        ensures does { Does self.old self.new outbox.old.packets outbox.new.packets
+            (on_submit self.old.known value.now) result }
+        ensures needs { (j : ℕ) → OnErr result (NeedsMemory self.old.known j (Submit value.now)) }
+        ensures store { self.new.store ≡ self.old.store }
+        ensures others { OnErr result (result ≡ Err NodeFault.Memory) }
+    {
+        rows_fit();
+        let is_known = self.is_known(value);
+        let Some(proposer) = &mut self.proposer else {
+            return Ok(());
+        };
+        if is_known || !proposer.is_covered(proposer.next_place()) {
+            return Ok(());
+        }
+        offer(proposer, &mut self.offered, value, self.me, outbox)
+    }
+}
