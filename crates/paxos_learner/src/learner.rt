@@ -17,6 +17,10 @@ use paxos_msg::{Ballot, Value};
 use std::alloc::{AllocError, Global};
 use std::marker::Model;
 
+/// The number of places above the front that a learner keeps: a place from the front on is open if
+/// it is less than `WINDOW` above the front.
+pub const WINDOW: u32 = 1_024;
+
 /// Learns the value of each place, 0 to 65,535, in a group of `size` nodes, from what its acceptors
 /// say.
 ///
@@ -95,7 +99,7 @@ impl Learner {
     fn is_open(&self, place: u32) -> bool
         ensures { result ≡ is_open self.now place }
     {
-        place < self.known_front() + 1024 && self.learned(place).is_none()
+        place < self.known_front() + WINDOW && self.learned(place).is_none()
     }
 
     /// Learns the value at the place, which is open. The room for it, and for what the front may

@@ -14,4 +14,4 @@ mod tally;
 pub use heard::{Heard, LearnerFault};
 pub use input::InputAfter;
 pub use keys::{KeySet, TypedKey};
-pub use learner::Learner;
+pub use learner::{Learner, WINDOW};

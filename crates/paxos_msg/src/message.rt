@@ -3,9 +3,6 @@ use crate::ballot::Ballot;
 use crate::value::Value;
 use crate::votes::Votes;
 
-/// How many places there are: a value is chosen at each of the places 0 to 65,535, or none is yet.
-pub const PLACES: u32 = 65_536;
-
 /// A group of nodes.
 #[derive(Clone, Copy, Debug, PartialEq, Eq, Hash)]
 pub struct Group {
