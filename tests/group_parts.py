@@ -1,6 +1,8 @@
-"""What the tests of groups share: nodes as processes with records and consoles in files, keys that
-are typed at them, and what has to hold of the records and consoles."""
+"""What the tests and benches of groups share: nodes as processes with records and consoles in
+files, keys that are typed at them, and what has to hold of the records and consoles."""
 
+import importlib.machinery
+import importlib.util
 import itertools
 import os
 import random
@@ -13,57 +15,64 @@ import tempfile
 import time
 
 sys.dont_write_bytecode = True  # no files of the tool's own in the repository
-TOP = os.path.realpath(os.path.join(os.path.dirname(os.path.abspath(__file__)), ".."))
+TESTS = os.path.dirname(os.path.realpath(__file__))
+TOP = os.path.dirname(TESTS)
 SCRIPTS = os.path.join(TOP, "examples", "group")
 sys.path.insert(0, SCRIPTS)
+from shared.nodes import TURNS, command_of, dropped_at, free_addresses
 from shared.record import NOOP, Damaged, read_head, read_record
-from shared.words import ask
+from shared.words import ask, parser_of, text_of
 
-PROGRAM = os.path.abspath(os.environ.get("PGROUP", os.path.join(TOP, "run")))
+BUILT = os.path.join(TOP, "crates", "pgroup", "out", "pgroup")
+PROGRAM = os.path.realpath(os.environ.get("PGROUP") or BUILT)
 ECHO = os.path.join(TOP, "examples", "echo.code")
 SESSION = 7
-TURNS = 4294967295
 # The mean pause between two datagrams of keys in seconds, and how many keys may be on the way.
 PAUSE = 0.08
 AHEAD = 300
 
+# Reads bytes from unit 2 and writes each to unit 1, without end: procedure 1 is UNITREAD,
+# UNITWRITE, three NOP, and a jump back.
+ENDLESS = bytes.fromhex(
+    "02a50300010000 9e05 01a50300010000 9e06 d7d7d7 b9f6 c100"
+    "001a 0002 0004 0009 0022 0001 0002 0001 01"
+)
+
 
 class Broken(Exception):
-    """What does not hold."""
+    """Something does not hold."""
 
 
-def text_of(address):
-    return f"{address[0]}:{address[1]}"
+def provide(name):
+    """Ends the script `name` with status 2 if the program is missing. It is the one that PGROUP
+    names, or else the one that ./run provides."""
+    if not os.environ.get("PGROUP"):
+        words = [os.path.join(TOP, "run"), "--help"]
+        if subprocess.run(words, check=False, stdout=subprocess.DEVNULL).returncode != 0:
+            sys.exit(2)
+    if not os.access(PROGRAM, os.X_OK):
+        print(f"{name}: there is no program {PROGRAM}", file=sys.stderr)
+        sys.exit(2)
 
 
-def free_addresses(count):
-    """Loopback addresses whose ports nobody has now, below those that the system gives to who asks
-    for any: a node that is started again finds its own still free."""
-    found = []
-    while len(found) < count:
-        address = ("127.0.0.1", random.SystemRandom().randrange(20000, 32000))
-        with socket.socket(socket.AF_INET, socket.SOCK_DGRAM) as probe:
-            try:
-                probe.bind(address)
-            except OSError:
-                continue
-        if address not in found:
-            found.append(address)
-    return found
+def cases_module():
+    """Returns tests/cases/run as a module: it makes code files and reads the files of cases."""
+    loader = importlib.machinery.SourceFileLoader("cases", os.path.join(TESTS, "cases", "run"))
+    module = importlib.util.module_from_spec(importlib.util.spec_from_loader("cases", loader))
+    loader.exec_module(module)
+    return module
 
 
-def dropped_at(port):
-    """How many datagrams the socket with this port has dropped. None where there is none."""
-    with open("/proc/net/udp", encoding="ascii") as table:
-        for line in table:
-            words = line.split()
-            if words[1].endswith(f":{port:04X}") and words[2] == "00000000:0000":
-                return int(words[-1])
-    return None
+def endless_in(folder):
+    """Writes the code file of ENDLESS into a folder. Returns its path."""
+    path = os.path.join(folder, "endless.code")
+    with open(path, "wb") as out:
+        out.write(cases_module().code_file(ENDLESS))
+    return path
 
 
 def await_that(is_so, what, seconds=60.0):
-    """Waits until this is so. `what` names it where it does not come."""
+    """Waits until `is_so` returns true. Raises Broken with the text `what` after `seconds`."""
     end = time.monotonic() + seconds
     while not is_so():
         if time.monotonic() > end:
@@ -76,24 +85,14 @@ def bytes_of(path):
         return file.read()
 
 
-def is_there(name):
-    """Whether the program is there, or could be built. Else it was said why not."""
-    try:
-        done = subprocess.run([PROGRAM, "--help"], check=False, stdout=subprocess.DEVNULL)
-    except OSError as fault:
-        print(f"{name}: {fault}", file=sys.stderr)
-        return False
-    return done.returncode == 0
-
-
 def output_of(file, keys):
-    """What `pgroup run` writes where it reads these keys."""
+    """Returns what `pgroup run` writes on these keys."""
     words = [PROGRAM, "run", "--steps", str(TURNS), file]
     return subprocess.run(words, check=False, input=keys, capture_output=True).stdout
 
 
 def votes_in(path):
-    """The votes of a record, none where it is not there yet."""
+    """Returns the votes of a record. There are none before the file exists."""
     try:
         return read_record(path).votes
     except FileNotFoundError:
@@ -103,7 +102,7 @@ def votes_in(path):
 
 
 def values_of(records):
-    """The values at the places from 0 on, or what is wrong with them yet."""
+    """Returns the values at the places from 0 on, or a text that says what is still missing."""
     votes = [votes_in(it) for it in records]
     values = []
     for place in range(1 + max((place for it in votes for place in it), default=-1)):
@@ -118,7 +117,7 @@ def values_of(records):
 
 
 def keys_of(values):
-    """The keys of values, each once, in order: node, start, serial and character."""
+    """Returns the keys of values, each once, in order: node, start, serial and character."""
     keys = {}
     for batch in values:
         if batch is not NOOP:
@@ -128,7 +127,7 @@ def keys_of(values):
 
 
 def check_consoles(consoles):
-    """Of two consoles one holds a prefix of the other."""
+    """Raises Broken unless of each two consoles one holds a prefix of the other."""
     shown = sorted((bytes_of(it) for it in consoles), key=len)
     for shorter, longer in zip(shown, shown[1:]):
         if not longer.startswith(shorter):
@@ -137,8 +136,8 @@ def check_consoles(consoles):
 
 
 def fault_of_end(file, records, consoles):
-    """What does not hold yet of the end: the consoles are equal, and show what the program writes
-    on the chosen keys of the records. The keys, or a text."""
+    """Checks the end of a run: the consoles are equal, and show what the program writes on the
+    chosen keys of the records. Returns the keys, or a text that says what does not hold yet."""
     check_consoles(consoles)
     shown = [bytes_of(it) for it in consoles]
     if len(set(shown)) > 1:
@@ -154,7 +153,7 @@ def fault_of_end(file, records, consoles):
 
 
 class Node:
-    """A node: its process where it is up, its files, and what was typed at each of its starts, by
+    """A node: its process while it runs, its files, and what was typed at each of its starts, by
     the start's number."""
 
     def __init__(self, number, folder, keys, addresses):
@@ -167,16 +166,21 @@ class Node:
         self.typed = {}
         open(self.console, "wb").close()
 
-    def start(self, file, campaigns):
+    def command(self, file, *more, turns=TURNS):
+        """Returns the node's command line, with `more` words after its own."""
+        more = ("--keys", text_of(self.keys), *more)
+        return command_of(
+            PROGRAM, file, self.number, SESSION, self.record, self.addresses, *more, turns=turns
+        )
+
+    def start(self, file, campaigns=False, env=None):
         """Starts the node. Its console goes on where it stopped."""
         self.sent = bytearray()
-        words = [PROGRAM, "node", file, self.number, len(self.addresses), SESSION, self.record]
-        words += [TURNS] + [text_of(it) for it in self.addresses]
-        words += ["--keys", text_of(self.keys), "--seen", os.path.getsize(self.console)]
-        words += ["--campaign"] * campaigns
+        more = ["--seen", os.path.getsize(self.console)] + ["--campaign"] * campaigns
         with open(self.console, "ab") as console, open(self.errors, "ab") as errors:
             self.process = subprocess.Popen(
-                [str(it) for it in words], stdin=subprocess.DEVNULL, stdout=console, stderr=errors
+                self.command(file, *more), stdin=subprocess.DEVNULL, stdout=console,
+                stderr=errors, env=env,
             )
 
     def await_keys(self):
@@ -188,7 +192,7 @@ class Node:
         await_that(is_bound, f"node {self.number} has its socket of keys")
 
     def check(self):
-        """The node did not end by itself."""
+        """Raises Broken if the node has ended by itself."""
         status = self.process.poll()
         if status is not None:
             said = bytes_of(self.errors).decode().strip()
@@ -198,10 +202,15 @@ class Node:
         self.check()
         if dropped_at(self.keys[1]):
             raise Broken(f"a fault of the test: node {self.number} could not take all keys")
-        self.process.kill()
-        self.process.wait()
-        self.process = None
+        self.end()
         self.note_typed()
+
+    def end(self):
+        """Kills the process if it runs."""
+        if self.process:
+            self.process.kill()
+            self.process.wait()
+            self.process = None
 
     def note_typed(self):
         """Notes what was typed at the start that the record counted last."""
@@ -209,7 +218,7 @@ class Node:
             self.typed.setdefault(read_head(self.record).starts, bytes(self.sent))
 
     def now_typed(self):
-        """What was typed at each start, the present one among them."""
+        """Returns what was typed at each start, including the present one."""
         return {**self.typed, read_head(self.record).starts: bytes(self.sent)}
 
 
@@ -263,8 +272,8 @@ class Group:
         return max(os.path.getsize(it.console) for it in self.nodes)
 
     def type_some(self):
-        """Types the next bytes of the text at a node that is up, unless many were typed since a
-        console went on or a node was killed."""
+        """Types the next bytes of the text at a node that is up. It types none if many were typed
+        since a console went on or a node was killed."""
         node = self.random.choice(self.up())
         longest = self.longest()
         if longest > self.last_shown:
@@ -279,7 +288,7 @@ class Group:
         self.ahead += len(data)
 
     def type_for(self, seconds, is_enough=lambda: False):
-        """Types for this time, at most until this is so. Whether it was."""
+        """Types for this time, or until `is_enough` returns true. Returns its answer."""
         end = time.monotonic() + seconds
         while time.monotonic() < end:
             if is_enough():
@@ -292,14 +301,14 @@ class Group:
         return is_enough()
 
     def let_campaign(self, node):
-        """Starts a node, which is killed first where it is up, so that it campaigns."""
+        """Starts a node so that it campaigns. It is killed first if it is up."""
         if node.process:
             self.kill(node)
         self.start(node, True)
         node.await_keys()
 
     def final_fault(self):
-        """What does not hold yet of the end, or None. It raises what can never hold again."""
+        """Returns what does not hold yet of the end, or None. Raises Broken if it never can."""
         for node in self.nodes:
             node.check()
         files = [it.record for it in self.nodes], [it.console for it in self.nodes]
@@ -307,7 +316,7 @@ class Group:
         return keys if isinstance(keys, str) else self.fault_of_typed(keys)
 
     def fault_of_typed(self, keys):
-        """Whether the keys are what was typed, start by start."""
+        """Returns what is missing of the keys that were typed, start by start, or None."""
         for node in self.nodes:
             now = read_head(node.record).starts
             typed = node.now_typed()
@@ -324,7 +333,8 @@ class Group:
         return None
 
     def settle(self, remedy, seconds, times):
-        """Waits until all that has to hold at the end holds. Where that takes long, a remedy."""
+        """Waits until all that has to hold at the end holds. After each `seconds` it applies
+        `remedy` to a node, at most `times` times."""
         fault = None
         for _ in range(times):
             end = time.monotonic() + seconds
@@ -341,16 +351,20 @@ class Group:
         return len(values_of([it.record for it in self.nodes]))
 
     def end(self):
-        for node in self.up():
-            node.process.kill()
-            node.process.wait()
+        for node in self.nodes:
+            node.end()
+
+
+def end_on_signals():
+    """Lets SIGTERM and SIGHUP end the script as an exception does, so that no process is left."""
+    for number in (signal.SIGTERM, signal.SIGHUP):
+        signal.signal(number, lambda *_: sys.exit(1))
 
 
 def in_folder(test):
-    """Runs a test in a folder of its own, which stays where something does not hold. The status."""
-    # So that no process is left where the test is ended from outside.
-    for number in (signal.SIGTERM, signal.SIGHUP):
-        signal.signal(number, lambda *_: sys.exit(1))
+    """Runs a test in a folder of its own, which stays if something does not hold. Returns the
+    status."""
+    end_on_signals()
     folder = tempfile.mkdtemp()
     try:
         test(folder)
@@ -362,3 +376,40 @@ def in_folder(test):
         raise
     shutil.rmtree(folder, ignore_errors=True)
     return 0
+
+
+def has_no_words(name):
+    """Returns true if the script `name` was called without words, and else says how to call it."""
+    if len(sys.argv) > 1:
+        print(f"usage: {name} (PGROUP=FILE names the program)", file=sys.stderr)
+    return len(sys.argv) == 1
+
+
+def main_of_checks(name, *checks):
+    """Runs the checks of the script `name`, each in a folder of its own. Returns the status."""
+    if not has_no_words(name):
+        return 2
+    provide(name)
+    for check in checks:
+        status = in_folder(check)
+        if status:
+            return status
+    print(f"{name}: all checks passed")
+    return 0
+
+
+def seed_of(given):
+    """Returns the seed that was given, or a random one, and prints it."""
+    seed = random.SystemRandom().randrange(1 << 32) if given is None else given
+    print(f"seed {seed}", flush=True)
+    return seed
+
+
+def main_with_seed(name, parser, test):
+    """Runs the test of the script `name` with the words that `parser` reads and a seed. Returns the
+    status."""
+    parser.add_argument("--seed", metavar="N", type=int)
+    words = parser.parse_args()
+    words.seed = seed_of(words.seed)
+    provide(name)
+    return in_folder(lambda folder: test(folder, words))

@@ -12,8 +12,8 @@ Batch = collections.namedtuple("Batch", "node start first characters")
 PLACES = 65536
 LAST = 4294967295
 MOST_VOTES, MOST_KEYS = 8, 32
-# The record of node 2 in a group of size 3 and session 7 of one start, which has promised 1.1 and voted at place 0 under it for the key H:
-# whole in version 2, and as a log in version 1.
+# The record of node 2 in a group of size 3 and session 7 of one start, which has promised 1.1 and
+# voted at place 0 under it for the key H: whole in version 2, and as a log in version 1.
 RECORD = bytes.fromhex("""
     50 52 02 02 03 00 00 00 07  00 00 00 01  00 00 00 01 01  00 00 00 01
     00 00 00 00  00 00 00 01 01  01 02 00 00 00 01 00 00 00 01 01 48""")

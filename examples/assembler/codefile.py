@@ -137,8 +137,8 @@ class Assembler:
 
     def assemble(self):
         """The part of the segment, and the offset of its attribute table's highest word."""
-        # The length of an instruction does not depend on where labels are, so that a first pass, which
-        # takes all of them to be at 0, finds out where they are.
+        # The length of an instruction does not depend on where labels are, so that a first pass,
+        # which takes all of them to be at 0, finds out where they are.
         self.offsets = dict.fromkeys(self.procedure.labels, 0)
         _, self.offsets = self.code()
         self.far = []
@@ -191,5 +191,6 @@ def map_of(source):
         for line in procedure.lines:
             yield Mapped(procedure.number, line.at, line)
             if line.name == "XJP":
-                # Its UJP is an instruction too, behind the byte that makes the offset even, W1 and W2.
+                # Its UJP is an instruction too, behind the byte that makes the offset even, W1 and
+                # W2.
                 yield Mapped(procedure.number, line.at + 1 + (line.at + 1) % 2 + 4, line)

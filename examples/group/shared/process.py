@@ -9,10 +9,10 @@ import subprocess
 import sys
 import time
 
+from .nodes import command_of
 from .record import Damaged, read_record
 from .words import text_of
 
-TURNS = 4294967295
 PR_SET_PDEATHSIG = 1
 LIBC = ctypes.CDLL(None)
 # The least and the greatest pause before a node is started again, and how long a node has to run
@@ -92,10 +92,9 @@ class Node:
 
     def command(self, seen, campaigns):
         words = self.words
-        place = [words.file, words.id, words.size, words.session, words.record, TURNS]
-        addresses = [text_of(it) for it in words.nodes]
         rest = ["--keys", text_of(words.keys), "--seen", seen] + ["--campaign"] * campaigns
-        return [str(it) for it in [words.program, "node"] + place + addresses + rest]
+        place = (words.file, words.id, words.session, words.record)
+        return command_of(words.program, *place, words.nodes, *rest)
 
     def start(self, now, campaigns=False):
         """Starts the node, or puts it off where its ports are taken."""

@@ -1,0 +1,66 @@
+"""The command line of a node, free addresses, and what the system says of UDP ports. The scripts of
+this folder share it with the tests and benches of groups."""
+
+import random
+import socket
+
+from .words import text_of
+
+# The greatest number of turns: a node that is to run until it is ended.
+TURNS = 4294967295
+
+
+def command_of(program, file, node, session, record, addresses, *more, turns=TURNS):
+    """Returns the command line of a node. `addresses` has the address of each node of the group,
+    and `more` the words after them."""
+    words = [program, "node", file, node, len(addresses), session, record, turns]
+    return [str(it) for it in [*words, *map(text_of, addresses), *more]]
+
+
+def free_addresses(count):
+    """Returns `count` loopback addresses whose ports nobody has bound. They are below the range from
+    which the system gives ports to those that ask for any: a node that is started again finds its
+    own still free."""
+    found = []
+    while len(found) < count:
+        address = ("127.0.0.1", random.SystemRandom().randrange(20000, 32000))
+        with socket.socket(socket.AF_INET, socket.SOCK_DGRAM) as probe:
+            try:
+                probe.bind(address)
+            except OSError:
+                continue
+        if address not in found:
+            found.append(address)
+    return found
+
+
+def socket_at(port):
+    """Returns the words of the line of /proc/net/udp for the socket with this port that is connected
+    to nobody, or None if there is no such socket."""
+    with open("/proc/net/udp", encoding="ascii") as table:
+        for line in table:
+            words = line.split()
+            if words[1].endswith(f":{port:04X}") and words[2] == "00000000:0000":
+                return words
+    return None
+
+
+def dropped_at(port):
+    """Returns how many datagrams the socket with this port has dropped, or None if there is none."""
+    words = socket_at(port)
+    return int(words[-1]) if words else None
+
+
+def is_empty_at(port):
+    """Returns true if there is a socket with this port and no datagram waits in it."""
+    words = socket_at(port)
+    return words is not None and words[4].endswith(":00000000")
+
+
+def children_of(pid):
+    """Returns the processes that this process has started and that still run."""
+    try:
+        with open(f"/proc/{pid}/task/{pid}/children", encoding="ascii") as children:
+            return [int(it) for it in children.read().split()]
+    except OSError:
+        return []
