@@ -1,4 +1,4 @@
--- Elements of a list, of a longer one, and of its front. `rt lemma` finds what std has; this is what it lacks.
+-- Elements of a list, of a longer one, and of its front: lemmas that std lacks.
 use Rattle.std.proofs.Common.{◌⊎◌, ◌≡◌, ℕ, zero, suc, ◌+◌, ◌<◌, ◌≤◌, List, [], ◌∷◌, ◌++◌, length, take, drop, Option, Some, None, slice_get, refl, ap, inl, inr, arith}
 
 -- what is found is one
@@ -59,6 +59,6 @@ drop_suc zero (x ∷ xs) y ys e = cc
 drop_suc (suc n) [] y ys e = absurd cc
 drop_suc (suc n) (x ∷ xs) y ys e = drop_suc n xs y ys e
 
--- what is left behind one more
+-- what is left after one more
 pub drop_next : {A : Type 0} (n : ℕ) (xs : List A) (y : A) (ys : List A) → drop n xs ≡ y ∷ ys → ys ≡ drop (n + 1) xs
 drop_next n xs y ys e = let one : n + 1 ≡ suc n = omega arith in rw one (drop_suc n xs y ys e)

@@ -1,4 +1,4 @@
--- What follows where a step did not fail.
+-- What follows if a step did not fail.
 use Rattle.std.proofs.Common.{◌≡◌, Bool, true, false, cond, Result, Ok, Err, refl}
 use Rattle.base.specs.Steps.{◌>>=◌, unless}
 
@@ -18,12 +18,12 @@ pub last_ok : {A E : Type 0} (e : E) (b : Bool) (x y : A) → unless e b x ≡ O
 last_ok e true x y h = absurd cc
 last_ok e false x y h = (refl, cc)
 
--- an answer behind a test that refuses: the test failed
+-- an answer after a test that refuses: the test failed
 pub guard_ok : {A E : Type 0} (b : Bool) (e : E) (r : Result A E) (y : A) → cond b (Err e) r ≡ Ok y → (b ≡ false) × (r ≡ Ok y)
 guard_ok true e r y h = absurd cc
 guard_ok false e r y h = (refl, h)
 
--- an answer behind a test that has to hold: it held
+-- an answer after a test that has to hold: it held
 pub pass_ok : {A E : Type 0} (b : Bool) (e : E) (r : Result A E) (y : A) → cond b r (Err e) ≡ Ok y → (b ≡ true) × (r ≡ Ok y)
 pass_ok true e r y h = (refl, h)
 pass_ok false e r y h = absurd cc

@@ -1,7 +1,7 @@
-//! How the faults of a device are counted.
+//! The count of a device's faults.
 ghost use Rattle.base.specs.Faults.{HasRisen};
 
-/// The count after one more fault. It stays at `u64::MAX`, where it counts as risen.
+/// Returns `faults` plus one. At `u64::MAX` it returns `u64::MAX`, which counts as one more.
 pub fn count_fault(faults: u64) -> u64
     ensures { HasRisen faults result }
 {

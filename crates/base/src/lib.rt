@@ -1,5 +1,6 @@
-//! What both halves stand on: how the faults of a device are counted, and, in `specs/` and
-//! `proofs/`, steps that may fail and lemmas on them and on lists.
+//! What the crates of the p-machine and of the group share: the count of a device's faults, which
+//! `count_fault(faults)` raises. In `specs/` and `proofs/` also steps that may fail, and lemmas on
+//! them and on lists.
 #![tactic(auto)]
 
 mod faults;

@@ -1,18 +1,19 @@
-//! The commands. Each is a module, with its words, its help, and what it asks for.
+//! The commands. Each is a module with its words, its help and its work.
 mod check;
 mod list;
 mod net;
 mod node;
-mod run;
+pub mod run;
 mod show;
 mod sim;
 
 use crate::value::WordFault;
-use crate::words::Asked;
 use clap::{ArgMatches, Command};
-pub use net::NetWords;
-pub use node::NodeWords;
 use std::alloc::{AllocError, Global};
+use std::io::{Read, Write};
+use std::net::Net;
+use std::rt::{Env, Files};
+use std::time::Clock;
 
 /// What help says after the list of commands. No line of help has more than 80 columns.
 const HELP: &str = "Examples:
@@ -50,18 +51,25 @@ static ALL: [Name; 7] = [
     Name::Node,
 ];
 
+/// Calls a function of the command's module.
+macro_rules! in_module {
+    ($command:expr, $call:ident($($argument:expr),*)) => {
+        match $command {
+            Name::Check => check::$call($($argument),*),
+            Name::List => list::$call($($argument),*),
+            Name::Run => run::$call($($argument),*),
+            Name::Show => show::$call($($argument),*),
+            Name::Sim => sim::$call($($argument),*),
+            Name::Net => net::$call($($argument),*),
+            Name::Node => node::$call($($argument),*),
+        }
+    };
+}
+
 impl Name {
     /// Returns the word that names the command.
     pub fn word(self) -> &'static str {
-        match self {
-            Name::Check => "check",
-            Name::List => "list",
-            Name::Run => "run",
-            Name::Show => "show",
-            Name::Sim => "sim",
-            Name::Net => "net",
-            Name::Node => "node",
-        }
+        in_module!(self, word())
     }
 
     /// Returns the command that a word names, if it names one.
@@ -77,32 +85,25 @@ impl Name {
     /// Returns the command's words, as clap reads them.
     fn words<'a>(self, alloc: Global) -> Result<Command<'a>, AllocError> {
         let word = self.word();
-        match self {
-            Name::Check => check::words(alloc, word),
-            Name::List => list::words(alloc, word),
-            Name::Run => run::words(alloc, word),
-            Name::Show => show::words(alloc, word),
-            Name::Sim => sim::words(alloc, word),
-            Name::Net => net::words(alloc, word),
-            Name::Node => node::words(alloc, word),
-        }
+        in_module!(self, words(alloc, word))
     }
 
-    /// Returns what the command's words ask for, or what is wrong with them.
-    pub fn read<'a>(
+    /// Does what the command's words ask for. Returns the status, or what is wrong with the words.
+    pub fn perform<
+        'a,
+        H: Files + Net + Clock + Env + AllocGlobal + Copy + Drop,
+        R: Read,
+        W: Write,
+        E: Write,
+    >(
         self,
-        alloc: Global,
+        rt: &H,
         matches: &ArgMatches<'a>,
-    ) -> Result<Asked<'a>, WordFault<'a>> {
-        match self {
-            Name::Check => check::read(matches),
-            Name::List => list::read(matches),
-            Name::Run => run::read(matches),
-            Name::Show => show::read(matches),
-            Name::Sim => sim::read(matches),
-            Name::Net => net::read(matches),
-            Name::Node => node::read(alloc, matches),
-        }
+        reader: &mut R,
+        writer: &mut W,
+        errors: &mut E,
+    ) -> Result<u8, WordFault<'a>> {
+        in_module!(self, perform(rt, matches, reader, writer, errors))
     }
 
     /// Returns the command by itself, for the texts of its faults: its usage begins with `pgroup`
@@ -114,9 +115,9 @@ impl Name {
     }
 }
 
-/// Returns all commands. Without one of them the built-in program runs, so that usage shows the
-/// command as optional.
-pub fn commands<'a>(alloc: Global) -> Result<Command<'a>, AllocError> {
+/// Returns the words of all commands, as clap reads them. Without one of them the built-in program
+/// runs, so that usage shows the command as optional.
+pub fn all_words<'a>(alloc: Global) -> Result<Command<'a>, AllocError> {
     let about = "Runs UCSD Pascal II.0 p-code programs, alone or in a group of nodes.
 Without words it runs a built-in program, which prints A.";
     let mut all = Command::new(alloc, "pgroup")

@@ -1,14 +1,23 @@
-//! The words of the command line: what they ask `pgroup` to do, the help of each command, and the
-//! texts of faults in the words.
+//! The command line of `pgroup`: each command's words, its help, its work and its statuses.
 //!
-//! `words_of(rt)` has the words that the program was given, and `read_words(alloc, words)` says
-//! what they ask for. Neither looks at a file or a socket.
+//! It is for the program `pgroup`, and for tests of its commands. Call first:
+//!
+//! - `words_of(rt)`, which returns the words that the program was given;
+//! - `answer(rt, words, reader, writer, errors)`, which does what the words ask for and returns the
+//!   status;
+//! - `read_words(alloc, words)`, which only reads words: they ask for a command or for help, or
+//!   have a fault.
+//!
+//! Each command is a module of `commands`. To add one, write its module and name it there.
 #![tactic(auto)]
 
-mod command_words;
+mod answering;
 mod commands;
+mod reading;
+mod refusal;
+mod shared_words;
 mod value;
-mod words;
 
-pub use commands::{NetWords, NodeWords};
-pub use words::{Asked, DEFAULT_STEPS, NotAsked, read_words, words_of};
+pub use answering::{answer, explain};
+pub use commands::run::DEFAULT_STEPS;
+pub use reading::{NotAsked, read_words, words_of};

@@ -12,13 +12,13 @@ use std::net::{SocketAddr, SocketAddrV4};
 /// A word of the command line that has a value.
 #[derive(Clone, Copy, Debug, PartialEq, Eq)]
 pub struct Word {
-    /// Under which name its value is found.
+    /// The name under which its value is found.
     pub name: &'static str,
-    /// How a fault names it, as help does.
+    /// Its name in a fault, as help shows it.
     pub shown: &'static str,
 }
 
-/// What is wrong with words, or that there is no memory to read them.
+/// What is wrong with words, or that memory ran out while they were read.
 #[derive(Clone, Copy, Debug, PartialEq, Eq)]
 pub enum WordFault<'a> {
     /// A word has a value that is not what it has to be.
@@ -85,7 +85,7 @@ pub const SENDABLE: &str = "an address of one machine, with a port from 1 to 655
 
 const PATH: &str = "the path of a file";
 
-/// The fault of a word whose value is not what is wanted.
+/// Returns the fault of a word whose value is not what is wanted.
 pub fn refused_value<'a>(word: Word, value: &'a str, wanted: &'static str) -> WordFault<'a> {
     WordFault::Value {
         value,
@@ -94,12 +94,12 @@ pub fn refused_value<'a>(word: Word, value: &'a str, wanted: &'static str) -> Wo
     }
 }
 
-/// The text of a word that has to be there.
+/// Returns the text of a required word.
 pub fn text_of<'a>(matches: &ArgMatches<'a>, word: Word) -> Result<&'a str, WordFault<'a>> {
     matches.get_str(word.name).ok_or(WordFault::Missing(word))
 }
 
-/// The number that a text of a word stands for, from 0 to 255.
+/// Reads a number from a word's text, from 0 to 255.
 fn byte_in<'a>(word: Word, value: &'a str) -> Result<u8, WordFault<'a>> {
     match decimal(value).and_then(|number| u8::try_from(number).ok()) {
         Some(number) => Ok(number),
@@ -107,7 +107,7 @@ fn byte_in<'a>(word: Word, value: &'a str) -> Result<u8, WordFault<'a>> {
     }
 }
 
-/// The number that a text of a word stands for, from 0 to 4,294,967,295.
+/// Reads a number from a word's text, from 0 to 4,294,967,295.
 pub fn count_in<'a>(word: Word, value: &'a str) -> Result<u32, WordFault<'a>> {
     match decimal(value).and_then(|number| u32::try_from(number).ok()) {
         Some(number) => Ok(number),
@@ -115,12 +115,12 @@ pub fn count_in<'a>(word: Word, value: &'a str) -> Result<u32, WordFault<'a>> {
     }
 }
 
-/// The number that a text of a word stands for, from 0 to 18,446,744,073,709,551,615.
+/// Reads a number from a word's text, from 0 to 18,446,744,073,709,551,615.
 pub fn large_in<'a>(word: Word, value: &'a str) -> Result<u64, WordFault<'a>> {
     decimal(value).ok_or(refused_value(word, value, LARGE))
 }
 
-/// Returns whether a datagram to this address reaches one machine: its port is not 0, and it is
+/// Returns true if a datagram to this address reaches one machine: its port is not 0, and it is
 /// neither a multicast nor the broadcast address.
 fn is_sendable(address: SocketAddrV4) -> bool
     ensures { IsTrue result ↔ ((v4_port address ≢ 0) × ¬ IsMulticastV4 (v4_ip address)
@@ -130,7 +130,7 @@ fn is_sendable(address: SocketAddrV4) -> bool
     address.port() != 0 && !ip.is_multicast() && !ip.is_broadcast()
 }
 
-/// The address of a text of a word, which has the form `a.b.c.d:port`, and reaches one machine.
+/// Reads an address of the form `a.b.c.d:port` from a word's text. It has to reach one machine.
 pub fn address_in<'a>(word: Word, value: &'a str) -> Result<SocketAddr, WordFault<'a>> {
     match value.parse::<SocketAddrV4>() {
         Ok(address) if is_sendable(address) => Ok(SocketAddr::V4(address)),
@@ -139,7 +139,7 @@ pub fn address_in<'a>(word: Word, value: &'a str) -> Result<SocketAddr, WordFaul
     }
 }
 
-/// The path of a file, which is not empty.
+/// Returns the path of a file. Fails if it is empty.
 pub fn path_of<'a>(matches: &ArgMatches<'a>, word: Word) -> Result<&'a str, WordFault<'a>> {
     let path = text_of(matches, word)?;
     if path.is_empty() {
@@ -148,12 +148,12 @@ pub fn path_of<'a>(matches: &ArgMatches<'a>, word: Word) -> Result<&'a str, Word
     Ok(path)
 }
 
-/// The number of a word that has to be there, from 0 to 255.
+/// Reads the number of a required word, from 0 to 255.
 pub fn byte_of<'a>(matches: &ArgMatches<'a>, word: Word) -> Result<u8, WordFault<'a>> {
     byte_in(word, text_of(matches, word)?)
 }
 
-/// The number of a word that has to be there, from 0 to 4,294,967,295.
+/// Reads the number of a required word, from 0 to 4,294,967,295.
 pub fn count_of<'a>(matches: &ArgMatches<'a>, word: Word) -> Result<u32, WordFault<'a>> {
     count_in(word, text_of(matches, word)?)
 }

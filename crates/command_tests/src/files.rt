@@ -16,7 +16,7 @@ pub const READS: [u8; 42] = [
     0x09, 0x00, 0x22, 0x00, 0x01, 0x00, 0x02, 0x00, 0x01, 0x01,
 ];
 
-/// A code file with this segment as its entry 1, and zeros up to 1,024 bytes.
+/// Makes a code file with this segment as its entry 1, and zeros up to 1,024 bytes.
 fn code_file(alloc: Global, segment: &[u8]) -> Result<Vec<u8>, AllocError> {
     let [low, high] = u16::try_from(segment.len()).unwrap_or(0).to_le_bytes();
     let mut file = Vec::new(alloc);
@@ -31,7 +31,7 @@ fn code_file(alloc: Global, segment: &[u8]) -> Result<Vec<u8>, AllocError> {
     Ok(file)
 }
 
-/// A path that no other test and no other run of the tests has.
+/// Returns a path that no other test and no other run of the tests has.
 fn path_of(rt: &HostRuntime, name: &str) -> io::Result<String> {
     let folder = env::temp_dir(rt)?;
     let number = process::id(rt.process());
@@ -39,14 +39,14 @@ fn path_of(rt: &HostRuntime, name: &str) -> io::Result<String> {
     Ok(format!(in rt.alloc(); "{text}/pgroup_{number}_{name}")?)
 }
 
-/// Writes a file of these bytes. Its path.
+/// Writes a file of these bytes. Returns its path.
 pub fn write_file(rt: &HostRuntime, name: &str, bytes: &[u8]) -> io::Result<String> {
     let path = path_of(rt, name)?;
     fs::write(rt, path.as_str(), bytes)?;
     Ok(path)
 }
 
-/// Writes the code file of a segment. Its path.
+/// Writes the code file of a segment. Returns its path.
 pub fn write_program(rt: &HostRuntime, name: &str, segment: &[u8]) -> io::Result<String> {
     let file = code_file(rt.alloc(), segment)?;
     write_file(rt, name, file.as_slice())

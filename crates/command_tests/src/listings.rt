@@ -7,7 +7,7 @@ use std::fs;
 use std::io::{self, ErrorKind, Write};
 use std::test::Fail;
 
-/// A writer that takes some bytes of a write at most, and fails at one of its writes or at each
+/// A writer that takes at most `takes` bytes of a write, and fails at one of its writes or at each
 /// flush.
 #[derive(Drop)]
 struct Meter {
@@ -19,7 +19,7 @@ struct Meter {
 }
 
 impl Meter {
-    /// One that takes all.
+    /// Makes a writer that takes all.
     fn new(alloc: Global) -> Meter {
         Meter {
             bytes: Vec::new(alloc),
@@ -50,10 +50,10 @@ impl Write for Meter {
     }
 }
 
-/// What comes of a listing.
+/// The result of a listing.
 type Listed = Result<(), MachineRefusal>;
 
-/// Lists a segment to such a writer.
+/// Lists a segment to `output`.
 fn list_to(rt: &HostRuntime, segment: &[u8], output: &mut Meter) -> io::Result<Listed> {
     let path = write_program(rt, "listed", segment)?;
     let listed = list_file(rt, path.as_str(), output);
@@ -74,6 +74,8 @@ const LISTING_OF_A: &[u8] = b"proc 1 level 0 params 2 data 1 enter 0 exit 12
 00012 RBP 0
 ";
 
+/// Shows what no clause says: a listing to a writer that fails is refused as `E3`, and nothing is
+/// written after the fault.
 #[test]
 fn a_listing_that_fails(rt: HostRuntime) -> Result<(), Fail> {
     let mut writer = Meter::new(rt.alloc());
@@ -99,9 +101,9 @@ const CALLS_THE_LAST: [u8; 26] = [
     0x02, 0x00, 0x04, 0x00, 0x06, 0x00, 0x16, 0x00, 0x01, 0x00,
 ];
 
-/// A segment of 255 procedures, as many as there can be: each but the first has 12 bytes, an RNP
-/// and its attribute table at lex level 1. So the table of procedure i ends at 12 i + 13, and its
-/// pointer, which stands at 3,584 - 2 i, is 3,572 - 14 i.
+/// Makes a segment of 255 procedures, the most that a segment can have. Each but the first has 12
+/// bytes, an RNP and its attribute table at lex level 1. So the table of procedure i ends at
+/// 12 i + 13, and its pointer, which is at 3,584 - 2 i, is 3,572 - 14 i.
 fn many_procedures(alloc: Global) -> Result<Vec<u8>, AllocError> {
     let mut segment = Vec::from_slice(alloc, &CALLS_THE_LAST)?;
     for number in 2..=255u8 {
@@ -110,7 +112,7 @@ fn many_procedures(alloc: Global) -> Result<Vec<u8>, AllocError> {
     for k in 0..254u16 {
         segment.extend_from_slice(&(2 + 14 * k).to_le_bytes())?;
     }
-    // The first procedure's table ends at 25, and its pointer stands at 3,582.
+    // The first procedure's table ends at 25, and its pointer is at 3,582.
     segment.extend_from_slice(&3558u16.to_le_bytes())?;
     segment.extend_from_slice(&[1, 255])?;
     Ok(segment)
@@ -131,8 +133,8 @@ const LISTING_OF_THE_FIRST: &str = "proc 1 level 0 params 2 data 1 enter 0 exit 
 00014 RBP 0
 ";
 
-/// The listing of `many_procedures`: the RNP of procedure i stands at 12 i + 2, its ENTER and its
-/// EXIT.
+/// Returns the listing of `many_procedures`. The RNP of procedure i is at 12 i + 2, its ENTER and
+/// its EXIT.
 fn listing_of_many(alloc: Global) -> Result<String, AllocError> {
     let mut listing = String::from_str(alloc, LISTING_OF_THE_FIRST)?;
     for number in 2..=255u16 {
@@ -145,6 +147,8 @@ fn listing_of_many(alloc: Global) -> Result<String, AllocError> {
     Ok(listing)
 }
 
+/// Shows what no clause says: a listing of more than 8,192 bytes is written in pieces of at least
+/// 4,096 bytes, but for the last.
 #[test]
 fn a_listing_in_pieces(rt: HostRuntime) -> Result<(), Fail> {
     let segment = many_procedures(rt.alloc())?;

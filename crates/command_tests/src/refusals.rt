@@ -2,13 +2,13 @@
 use machine_run::MachineRefusal;
 use std::alloc::{AllocError, Global};
 
-/// Whether the refusal's text is this code.
+/// Returns true if the refusal's text is this code.
 pub fn is_code(alloc: Global, refusal: MachineRefusal, code: &str) -> Result<bool, AllocError> {
     let text = format!(in alloc; "{refusal}")?;
     Ok(text.as_str() == code)
 }
 
-/// Whether it is a refusal with this code.
+/// Returns true if it is a refusal with this code.
 pub fn is_refused<T: Drop>(
     alloc: Global,
     done: Result<T, MachineRefusal>,

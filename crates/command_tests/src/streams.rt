@@ -32,6 +32,8 @@ impl Read for FailingReader {
     }
 }
 
+/// Shows what no clause says: a run whose reader fails is refused as `E2`, after it has written
+/// what it had read.
 #[test]
 fn a_reader_that_fails(rt: HostRuntime) -> Result<(), Fail> {
     let path = write_program(&rt, "reads", &READS)?;
@@ -63,14 +65,14 @@ impl Write for FailingWriter {
     }
 }
 
-/// Whether the built-in program is refused by such a writer.
+/// Returns true if the built-in program is refused with such a writer.
 fn built_in_fails(alloc: Global, takes_nothing: bool) -> Result<bool, AllocError> {
     let mut output = FailingWriter { takes_nothing };
     let ran = run_built_in(alloc, DEFAULT_STEPS, &mut output);
     is_refused(alloc, ran, "E3")
 }
 
-/// Whether a program of a file is refused by such a writer, and nothing is read.
+/// Returns true if a program of a file is refused with such a writer, and nothing is read.
 fn run_fails(rt: &HostRuntime, takes_nothing: bool) -> io::Result<bool> {
     let path = write_program(rt, "prints", &PRINTS_A)?;
     let mut input: &[u8] = b"X";
@@ -80,7 +82,7 @@ fn run_fails(rt: &HostRuntime, takes_nothing: bool) -> io::Result<bool> {
     Ok(is_refused(rt.alloc(), ran, "E3")? && input == b"X".as_slice())
 }
 
-/// Whether help, which these words ask for, is not written by such a writer.
+/// Returns true if help is not written to such a writer.
 fn help_fails(alloc: Global, takes_nothing: bool) -> Result<bool, AllocError> {
     let mut words = Vec::new(alloc);
     words.push(String::from_str(alloc, "--help")?)?;
@@ -91,6 +93,8 @@ fn help_fails(alloc: Global, takes_nothing: bool) -> Result<bool, AllocError> {
     }
 }
 
+/// Shows what no clause says: a run whose writer fails or takes nothing is refused as `E3` and
+/// reads nothing, and help is not written to such a writer.
 #[test]
 fn a_writer_that_fails(rt: HostRuntime) -> Result<(), Fail> {
     for takes_nothing in [false, true] {
@@ -104,7 +108,7 @@ fn a_writer_that_fails(rt: HostRuntime) -> Result<(), Fail> {
     Ok(())
 }
 
-/// A script that shows a group happens, with this output.
+/// Performs a script that shows a group, with this output.
 fn happens(rt: &HostRuntime, output: &mut FailingWriter) -> io::Result<Result<(), ScriptRefusal>> {
     let program = write_program(rt, "program", &READS)?;
     let script = write_file(rt, "script", b"size 1 session 7\nshow\n")?;
@@ -114,7 +118,7 @@ fn happens(rt: &HostRuntime, output: &mut FailingWriter) -> io::Result<Result<()
     Ok(happened)
 }
 
-/// Whether what a script shows is refused by such a writer.
+/// Returns true if what a script shows is refused with such a writer.
 fn script_fails(rt: &HostRuntime, takes_nothing: bool) -> io::Result<bool> {
     let mut output = FailingWriter { takes_nothing };
     match happens(rt, &mut output)? {
@@ -123,6 +127,7 @@ fn script_fails(rt: &HostRuntime, takes_nothing: bool) -> io::Result<bool> {
     }
 }
 
+/// Shows what no clause says: a script whose writer fails or takes nothing is refused as `E3`.
 #[test]
 fn scripts_over_a_writer_that_fails(rt: HostRuntime) -> Result<(), Fail> {
     for takes_nothing in [false, true] {

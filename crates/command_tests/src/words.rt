@@ -1,4 +1,4 @@
-//! Words of a command line that can be had, and others that can not.
+//! Words of a command line that can be read, and others that cannot.
 use super::refusals::is_code;
 use command_line::{NotAsked, words_of};
 use machine_run::{MachineRefusal, RunIo};
@@ -39,7 +39,7 @@ Usage: pgroup [COMMAND]
 For more information, try '--help'.
 ";
 
-/// Whether the words are refused with this text.
+/// Returns true if the words are refused with this text.
 fn is_fault(reason: &NotAsked, expected: &str) -> bool {
     match reason {
         NotAsked::Fault(text) => text.as_str() == expected,
@@ -47,6 +47,8 @@ fn is_fault(reason: &NotAsked, expected: &str) -> bool {
     }
 }
 
+/// Shows what no clause says: `words_of` returns the words without the program's own name, and
+/// refuses a word that is not UTF-8.
 #[test]
 fn words_that_can_not_be_had(rt: HostRuntime) -> Result<(), Fail> {
     let alloc = rt.alloc();
@@ -56,7 +58,7 @@ fn words_that_can_not_be_had(rt: HostRuntime) -> Result<(), Fail> {
     let line: [&[u8]; 3] = [b"pgroup", b"run", b"\xff"];
     let reason = words_of(&(Line(&line), alloc)).err().ok_or("a refusal")?;
     assert!(rt; is_fault(&reason, NOT_UTF_8));
-    // What is said where there is no memory for the words.
+    // The code of the refusal if memory runs out for the words.
     let no_memory = MachineRefusal::Run(RunIo::Memory);
     assert!(rt; is_code(alloc, no_memory, "E1")?);
     Ok(())

@@ -3,8 +3,9 @@ use Rattle.std.specs.Prelude.{ℕ, ◌^◌, List, length, Option, Some, None, �
 use Rattle.std.specs.Str.{all_ascii_digits}
 use Rattle.std.specs.Str.Parse.{digits_value}
 
--- the number of decimal digits alone, of which there is one at least, if so many bits are enough
--- for it; it may begin with zeros
+-- The number of decimal digits alone, if it has at least one digit and `bits` bits hold it.
+-- Allows: zeros in front.
+-- Forbids: a sign, and any other character.
 abbrev pub decimal_of : ℕ → List ℕ → Option ℕ
 decimal_of bits ds =
     if nat_lt 0 (length ds) && all_ascii_digits ds && nat_lt (digits_value 10 ds) (2 ^ bits)

@@ -2,8 +2,8 @@
 use Rattle.std.specs.Prelude.{ℕ, ◌+◌, ◌*◌, List, [], ◌∷◌, Option, Some, None, ◌&&◌, nat_lt, if◌then◌else◌}
 use Rattle.std.specs.Char.{digit_value}
 
--- the byte of two digits of either case, the high one first; there is none of other bytes, or of
--- fewer or more of them
+-- The byte of exactly two hexadecimal digits of either case, the high one first.
+-- Forbids: other bytes, and fewer or more than two.
 abbrev pub hex_byte_of : List ℕ → Option ℕ
 hex_byte_of (h ∷ l ∷ []) =
     if nat_lt (digit_value h) 16 && nat_lt (digit_value l) 16

@@ -1,5 +1,7 @@
-//! Numbers in decimal digits and bytes in hexadecimal ones, as the words of a command and of a
-//! script have them.
+//! Reads numbers in decimal digits and bytes in hexadecimal digits, for commands and scripts.
+//!
+//! - `decimal(text)` returns the number of decimal digits alone.
+//! - `hex_byte(digits)` returns the byte of two hexadecimal digits.
 #![tactic(auto)]
 
 ghost use Rattle.std.specs.Prelude.{◌≡◌, ◌<◌, ◌^◌};
@@ -8,19 +10,19 @@ ghost use Rattle.std.specs.Option.{SomeIff};
 ghost use Rattle.digits.specs.Decimal.{decimal_of};
 ghost use Rattle.digits.specs.Hex.{hex_byte_of};
 
-/// The number of decimal digits alone, which may begin with zeros. There is none where a sign or
-/// another character stands, where nothing stands, and above `u64::MAX`.
+/// Returns the number of decimal digits alone, which may begin with zeros. Returns `None` if `text`
+/// is empty or has a sign or another character, and if the number is above `u64::MAX`.
 pub fn decimal(text: &str) -> Option<u64>
     ensures { result ≡ decimal_of 64 text.now }
 {
-    // std's `parse` allows one `+` in front.
+    // std's `parse` lets one `+` in front pass.
     if text.starts_with('+') {
         return None;
     }
     text.parse::<u64>().ok()
 }
 
-/// The value of a hexadecimal digit of either case.
+/// Returns the value of a hexadecimal digit of either case.
 fn hex_digit(byte: u8) -> Option<u8>
     ensures { SomeIff result (digit_value byte < 16) (digit_value byte) }
 {
@@ -32,7 +34,7 @@ fn hex_digit(byte: u8) -> Option<u8>
     }
 }
 
-/// The byte of exactly two hexadecimal digits of either case, the high one first.
+/// Returns the byte of exactly two hexadecimal digits of either case, the high one first.
 pub fn hex_byte(digits: &[u8]) -> Option<u8>
     ensures { result ≡ hex_byte_of digits.now }
 {

@@ -1,5 +1,5 @@
 -- Why a node drops a datagram.
-use Rattle.std.specs.Prelude.{ℕ, suc, ◌+◌, min, List, ◌==◌, if◌then◌else◌, Option, Some, None, Result, Ok, Err, slice_get}
+use Rattle.std.specs.Prelude.{ℕ, ◌+◌, min, List, ◌==◌, if◌then◌else◌, Option, Some, None, Result, Ok, Err, slice_get}
 use Rattle.paxos_msg.specs.declared.message.Group.{Group}
 use Rattle.paxos_msg.specs.declared.fault.WireFault.{WireFault}
 use Rattle.paxos_msg.specs.declared.fault.WireFault.TheVariants as fault
@@ -9,35 +9,36 @@ use Rattle.group_log.specs.declared.drops.Drops.{Drops}
 use Rattle.group_log.specs.declared.drops.DropReason.{DropReason}
 use Rattle.group_log.specs.declared.drops.DropReason.TheVariants.{Source, Version, Size, Session, Damaged}
 
--- at which index of a datagram the size of its group is
+-- The index in a datagram of its group's size.
 abbrev pub size_index : ℕ
 size_index = 5
 
--- the reason for a datagram of another group, by the size that it names
+-- The reason for a datagram of another group, by the size that it names.
 abbrev pub group_reason : Group → Option ℕ → DropReason
 group_reason g None = Size
 group_reason g (Some size) = if size == g.size then Session else Size
 
--- the reason for the first check that a datagram fails
+-- The reason for the first check that a datagram fails.
 abbrev pub reason_for : Group → List ℕ → WireFault → DropReason
 reason_for g bytes fault.Version = Version
 reason_for g bytes fault.Group = group_reason g (slice_get bytes size_index)
 reason_for g bytes _ = Damaged
 
--- the reason for what reading gives
+-- The reason for the result of reading.
 abbrev pub reason_after : Group → List ℕ → Result Msg WireFault → Option DropReason
 reason_after g bytes (Ok m) = None
 reason_after g bytes (Err e) = Some (reason_for g bytes e)
 
--- why a node of the group drops these bytes, if it does
+-- Why a node of the group drops these bytes, if it does, by the first check that they fail.
+-- Allows: no reason, for a message of the group.
 abbrev pub reason_of : Group → List ℕ → Option DropReason
 reason_of g bytes = reason_after g bytes (message_at g bytes)
 
--- one more, up to the greatest count
+-- One more, up to the greatest count.
 abbrev pub one_more : ℕ → ℕ
 one_more n = min (n + 1) 4294967295
 
--- the counts after one more drop
+-- The counts of dropped datagrams after one more.
 abbrev pub drops_with : Drops → DropReason → Drops
 drops_with d Source = record d { source = one_more d.source }
 drops_with d Version = record d { version = one_more d.version }

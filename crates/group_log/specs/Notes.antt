@@ -10,27 +10,27 @@ use Rattle.group_log.specs.declared.note.End.TheVariants.{Turns, Node, Other}
 use Rattle.group_log.specs.declared.note.Note.{Note}
 use Rattle.group_log.specs.declared.note.Note.TheVariants.{NoFile, NoSocket, StartedNew, Started, Campaigns, CampaignRefused, Leads, BallotRefused, Dropped, Full, Ended}
 
--- a text, a number in decimal digits, and what follows
+-- A text, a number in decimal digits, and what follows.
 abbrev pub numbered_note : List ℕ → ℕ → List ℕ → List ℕ
 numbered_note text n rest = text ++ (decimal n ++ rest)
 
--- a ballot is written `ROUND.NODE`, and `-` where there is none
+-- A ballot as `ROUND.NODE`, or `-` for none.
 abbrev pub ballot_or_dash : Option Ballot → List ℕ
 ballot_or_dash None = codes "-"
 ballot_or_dash (Some b) = decimal b.round ++ (codes "." ++ decimal b.node)
 
--- the group of a node that started
+-- The group of a node that started.
 abbrev pub group_note : Group → List ℕ → List ℕ
 group_note g rest =
     numbered_note (codes "started size ") g.size (numbered_note (codes " session ") g.session rest)
 
--- how a run was over
+-- How a run ended.
 abbrev pub end_text : End → List ℕ
 end_text Turns = codes "ended"
 end_text (Node fault) = codes "ended refused " ++ code_of fault
 end_text Other = codes "ended refused"
 
--- dropped datagrams, for each reason
+-- The number of dropped datagrams for each reason.
 abbrev pub drops_text : Drops → List ℕ
 drops_text d = numbered_note (codes "dropped source ") d.source
     (numbered_note (codes " version ") d.version
@@ -38,7 +38,7 @@ drops_text d = numbered_note (codes "dropped source ") d.source
     (numbered_note (codes " session ") d.session
     (codes " damaged " ++ decimal d.damaged))))
 
--- the text of a note
+-- The text of a note.
 abbrev pub note_text : Note → List ℕ
 note_text (NoFile path) = codes "file " ++ (path.now ++ codes " cannot be read")
 note_text (NoSocket address) = codes "socket " ++ (socket_text address ++ codes " cannot be made")
@@ -55,7 +55,7 @@ note_text (Dropped drops) = drops_text drops
 note_text (Full waiting) = numbered_note (codes "full waiting ") waiting (codes " bytes left")
 note_text (Ended end) = end_text end
 
--- the line of a note: the time in seconds with three decimals, the node, and the note
+-- The line of a note: the time in seconds with three decimals, the node, and the note.
 abbrev pub line_text : ℕ → ℕ → Note → List ℕ
 line_text millis node note =
     numbered_note (codes "") (millis / 1000)

@@ -4,7 +4,7 @@ ghost use Rattle.group_log.specs.Drops.{drops_with, group_reason, one_more, reas
 
 use paxos_msg::{Group, WireFault, decode};
 
-/// At which index of a datagram the size of its group is.
+/// The index in a datagram of its group's size.
 const SIZE: usize = 5;
 
 /// Why a node drops a datagram.
@@ -12,17 +12,17 @@ const SIZE: usize = 5;
 pub enum DropReason {
     /// It came from another address than that of the node that it names.
     Source,
-    /// It is of another version.
+    /// It has another version.
     Version,
-    /// It is of a group of another size.
+    /// It names a group of another size.
     Size,
-    /// It is of another session.
+    /// It names another session.
     Session,
-    /// It is no datagram of a group, or a damaged one.
+    /// It is not a datagram of a group, or is damaged.
     Damaged,
 }
 
-/// Returns whether a datagram of another group differs in the group's session or in its size.
+/// Returns `Session` if a datagram of another group names the group's size, and otherwise `Size`.
 fn group_reason(group: Group, datagram: &[u8]) -> DropReason
     ensures { result ≡ group_reason group (slice_get datagram.now size_index) }
 {
@@ -32,8 +32,8 @@ fn group_reason(group: Group, datagram: &[u8]) -> DropReason
     }
 }
 
-/// Returns why a node of this group drops a datagram, by the first check that the datagram fails.
-/// None where it spells a message of the group.
+/// Returns why a node of this group drops a datagram, by the first check that the datagram fails,
+/// or None if it spells a message of the group.
 pub fn reason_of(group: Group, datagram: &[u8]) -> Option<DropReason>
     ensures { result ≡ reason_of group datagram.now }
 {
@@ -45,7 +45,7 @@ pub fn reason_of(group: Group, datagram: &[u8]) -> Option<DropReason>
     }
 }
 
-/// How many datagrams a node dropped, for each reason. A count ends at 4,294,967,295.
+/// The number of datagrams that a node dropped, for each reason. A count ends at 4,294,967,295.
 #[derive(Clone, Copy, Debug, PartialEq, Eq, Default)]
 pub struct Drops {
     pub source: u32,
@@ -55,7 +55,7 @@ pub struct Drops {
     pub damaged: u32,
 }
 
-/// Returns one more, or the greatest count.
+/// Returns one more than `count`, or the greatest count.
 fn one_more(count: u32) -> u32
     ensures { result ≡ one_more count }
 {

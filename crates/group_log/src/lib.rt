@@ -1,8 +1,14 @@
 //! What a node on UDP says of itself, in lines for a person and for `grep`.
 //!
-//! A `Note` is one thing that a node says, and `line_of` is its line. A `Log` looks at a node after
-//! its calls and writes a note for each change; it does nothing where no log was asked for.
-//! `reason_of` says why a node drops a datagram.
+//! It is for programs that run nodes. Call first:
+//!
+//! - `Log::new(alloc, clock, errors, node, is_on)`, which makes the log of a node; if it is not on,
+//!   its calls do nothing;
+//! - `log.look(node)`, after each call of the node, which writes a note for each change of its
+//!   ballot;
+//! - `reason_of(group, datagram)`, which returns why a node drops a datagram.
+//!
+//! A `Note` is one thing that a node says, and `line_of` returns its line.
 #![tactic(auto)]
 
 mod drops;

@@ -9,10 +9,10 @@ use std::alloc::Global;
 use std::io::Write;
 use std::time::{Clock, Duration, Instant, SystemTime};
 
-/// How many seconds it is at least from one note of dropped datagrams to the next.
+/// The least time in seconds from one note of dropped datagrams to the next.
 const DROPS_APART: u64 = 1;
 
-/// The log of one node: it writes notes to `errors`, a line each, if it is on. A line that cannot
+/// The log of one node. If it is on, it writes notes to `errors`, a line each. A line that cannot
 /// be made or written is left out.
 pub struct Log<'a, H, E> {
     alloc: Global,
@@ -41,7 +41,7 @@ impl<'a, H, E> Drop for Log<'a, H, E> {
 }
 
 impl<'a, H: Clock, E: Write> Log<'a, H, E> {
-    /// The log of node `node`, before its start.
+    /// Makes the log of node `node`, before its start.
     pub fn new(
         alloc: Global,
         clock: &'a H,
@@ -61,12 +61,12 @@ impl<'a, H: Clock, E: Write> Log<'a, H, E> {
         }
     }
 
-    /// Returns whether notes are written.
+    /// Returns true if notes are written.
     pub fn is_on(&self) -> bool {
         self.is_on
     }
 
-    /// Returns the time in milliseconds from the start of 1970 on, or 0 where the clock cannot be
+    /// Returns the time in milliseconds from the start of 1970 on, or 0 if the clock cannot be
     /// read.
     fn millis(&self) -> u64 {
         let Ok(now) = SystemTime::now(self.clock) else {
@@ -88,7 +88,7 @@ impl<'a, H: Clock, E: Write> Log<'a, H, E> {
         }
     }
 
-    /// Notes over which record the node has started.
+    /// Notes that the node has started, and over which record.
     pub fn started<S: Store>(&mut self, node: &Node<'_, S>, group: Group) {
         let record = node.record();
         if record.starts == 1 && record.promised.is_none() {
@@ -123,7 +123,7 @@ impl<'a, H: Clock, E: Write> Log<'a, H, E> {
         self.role = next;
     }
 
-    /// Notes dropped datagrams, once a second at most, and then counts from 0 on again.
+    /// Notes dropped datagrams, at most once a second, and sets the counts to 0.
     pub fn dropped(&mut self, drops: &mut Drops) {
         if !self.is_on || *drops == Drops::default() {
             return;
@@ -141,7 +141,8 @@ impl<'a, H: Clock, E: Write> Log<'a, H, E> {
         *drops = Drops::default();
     }
 
-    /// Notes once that typed bytes are left for which there is no room, until there is room again.
+    /// Notes that typed bytes are left for which there is no room. Until there is room again, notes
+    /// it only once.
     pub fn full(&mut self, waiting: usize, is_full: bool) {
         if is_full && !self.is_full {
             self.note(&Note::Full(waiting));
@@ -150,7 +151,7 @@ impl<'a, H: Clock, E: Write> Log<'a, H, E> {
     }
 }
 
-/// Returns the greater of two ballots, where there are any.
+/// Returns the greater of two ballots, if there is one.
 fn greatest(first: Option<Ballot>, second: Option<Ballot>) -> Option<Ballot> {
     first.max(second)
 }

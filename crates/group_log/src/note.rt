@@ -9,14 +9,14 @@ use std::alloc::{AllocError, Global};
 use std::fmt;
 use std::net::SocketAddr;
 
-/// How a node's run was over.
+/// How a node's run ended.
 #[derive(Clone, Copy, Debug, PartialEq, Eq)]
 pub enum End {
     /// All turns were made.
     Turns,
     /// The node refused to start, or to go on.
     Node(NodeFault),
-    /// A socket, memory, or a way to write the output was missing.
+    /// A socket could not be made, memory ran out, or the output could not be written.
     Other,
 }
 
@@ -27,7 +27,7 @@ pub enum Note<'a> {
     NoFile(&'a str),
     /// No socket can be made at this address.
     NoSocket(SocketAddr),
-    /// It has started for the first time: there was no record, or an empty one.
+    /// It has started for the first time, over no record or an empty one.
     StartedNew(Group),
     /// It has started over a record, which counts this start.
     Started {
@@ -49,9 +49,9 @@ pub enum Note<'a> {
     },
     /// It has dropped datagrams since the last note of this kind.
     Dropped(Drops),
-    /// This many keys wait, and typed bytes are left for which there is no room.
+    /// The keys that wait are this many, and typed bytes are left for which there is no room.
     Full(usize),
-    /// Its run is over.
+    /// Its run has ended.
     Ended(End),
 }
 

@@ -26,7 +26,7 @@ impl Role {
         }
     }
 
-    /// Returns whether it leads under this ballot.
+    /// Returns true if it leads under this ballot.
     fn leads(self, ballot: Ballot) -> bool
         ensures { result ≡ leads self ballot }
     {
@@ -36,9 +36,9 @@ impl Role {
         }
     }
 
-    /// Returns the role that comes after this one, of a node with this ballot. `is_leading` says
-    /// whether a majority has promised the place at which it proposes next. A leader that has come
-    /// to the end of what was promised yet is one still.
+    /// Returns the role after this one, of a node with this ballot. `is_leading` is true if a
+    /// majority has promised the place at which it proposes next. A leader at the end of what is
+    /// promised so far is still one.
     pub fn next(self, ballot: Option<Ballot>, is_leading: bool) -> Role
         ensures { result ≡ role_after self ballot is_leading }
     {

@@ -23,7 +23,7 @@ use Rattle.group_node.specs.Ranges.{IsInRange}
 use Rattle.group_node.specs.Steps.{IsLawfulCall, IsSavedBy}
 use Rattle.group_node.specs.World.{after_call, AreParted, CallOrFall, Falls, MakesCall, Seat, seat_of, Sits, StartsUp, Up, with_seat, WorldState}
 use Rattle.group_node.proofs.Seats.{seat_alone, seat_elsewhere, seat_here}
-use Rattle.group_node.proofs.Staying.{IsOf}
+use Rattle.group_node.proofs.CallsKeep.{IsOf}
 
 -- keys of which none leaves
 pub all_stay : (learned : FinMap nat_cmp Value) (keys stay : List Key) → stay ≡ keys → AreParted learned keys stay

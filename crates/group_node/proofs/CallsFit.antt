@@ -1,4 +1,5 @@
--- What the calls of a node leave that have no message: it stays in its ranges, and what it sends has a spelling.
+-- What the calls of a node leave that have no message: it stays in its ranges, and what it sends
+-- has a spelling.
 use Rattle.std.proofs.Common.{◌≡◌, ℕ, ◌-◌, ◌<◌, ◌≤◌, nat_lt, Bool, true, false, if◌then◌else◌, List, [], ◌∷◌, ◌++◌, length, Option, Some, None, is_none, option_map, IfSome, inl, inr, refl, sym, subst, arith}
 use Rattle.std.specs.List.{filter_map, range_with_len}
 use Rattle.std.proofs.lemmas.Bool.{cases_eq, cases_lt, ltb-true}
@@ -36,8 +37,8 @@ use Rattle.group_node.proofs.RowsFit.{led_range, quiet_fits}
 
 -- ---- start
 
--- The laws of what begins: a record after a start, a learner and a proposer that have heard nothing are in their
--- ranges.
+-- The laws of what begins: a record after a start, a learner and a proposer that have heard nothing
+-- are in their ranges.
 pub record BeginLaws : Type 0 where
   pub start : (size : ℕ) (r : Record) → IsRecord size r → r.starts < 4294967295 → IsRecord size (changed r change.Start)
   pub learner : (size : ℕ) → IsLearnerInRange (new_learner size)
@@ -100,8 +101,8 @@ typed_fits n byte h low room spare =
 
 -- ---- campaign
 
--- The laws of a promise: the record after the save for a Prepare is in its ranges, and that save is the promise of a
--- ballot above the promised one.
+-- The laws of a promise: the record after the save for a Prepare is in its ranges, and that save is
+-- the promise of a ballot above the promised one.
 pub record PromiseLaws : Type 0 where
   pub kept : (size from : ℕ) (r : Record) (b : Ballot) → IsRecord size r → IsBallot size b → from ≤ 65535
       → IsRecord size (after r (prepare_of r b from).saves)

@@ -19,7 +19,7 @@ pub next_is_above : (promised seen : Option Ballot) (node : ℕ)
 next_is_above None seen node = tt
 next_is_above (Some p) seen node = grind arith
 
--- the laws that a ballot which begins stands on
+-- the laws that a ballot which begins rests on
 pub record BeginLaws : Type 0 where
   pub kept : (size from : ℕ) (r : Record) (b : Ballot) → IsRecord size r → IsBallot size b → IsPlace from
       → IsRecord size (after r (prepare_of r b from).saves)

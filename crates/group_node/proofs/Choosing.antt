@@ -1,4 +1,5 @@
--- Where at most one value is chosen at a place, there is one input alone, with which that of any chosen values begins.
+-- Where at most one value is chosen at a place, there is one input alone, with which that of any
+-- chosen values begins.
 use Rattle.std.proofs.Common.{◌≡◌, ℕ, ◌≤◌, List, ◌++◌, length, inl, inr, sym, ap, subst, ◌∙◌}
 use Rattle.std.proofs.lemmas.Bool.{cases_lt}
 use Rattle.pcode_machine.specs.Prefixes.{IsPrefix}
@@ -9,7 +10,7 @@ use Rattle.paxos_learner.specs.Input.{input_of}
 use Rattle.group_node.specs.Inputs.{AreChosen, IsInput}
 use Rattle.group_node.proofs.Prefixes.{agree_prefix, some_at}
 
--- the laws that this stands on, of what was sent
+-- the laws that this rests on, of what was sent
 pub record Laws (size : ℕ) (sent : Sent) : Type 0 where
   pub one : (s : ℕ) (v w : Value) → IsChosen size sent s v → IsChosen size sent s w → v ≡ w
   pub bytes : (values more : List Value) → (rest : List ℕ) × (input_of (values ++ more) ≡ input_of values ++ rest)

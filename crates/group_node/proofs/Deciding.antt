@@ -9,7 +9,7 @@ use Rattle.paxos_msg.specs.Ballots.{count_of, IsMajority}
 use Rattle.paxos_msg.specs.Chosen.{IsChosenBy}
 use Rattle.paxos_msg.specs.Tests.{same_ballot, same_value}
 
--- the laws of the protocol that this stands on
+-- the laws of the protocol that this rests on
 pub record Laws : Type 0 where
   pub ballots : (a b : Ballot) → (same_ballot a b ≡ true) ↔ (a ≡ b)
   pub values : (v w : Value) → (same_value v w ≡ true) ↔ (v ≡ w)

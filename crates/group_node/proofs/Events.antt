@@ -18,7 +18,7 @@ up_of : Known → Configuration → ℕ → Up
 up_of n c k = record { learned = n.learner.learned; configuration = c; released = k; waiting = waiting_keys n }
 
 module _ (w : WorldState) (n : Known) (k : ℕ) (console : List ℕ) where
-  -- a run of so many steps
+  -- a run of this many steps
   pub run_event : There → ((p : Parts) (x : List ℕ) (c d : Configuration) → Step p x c d ↔ (outcome p x c ≡ Goes d)) → (steps m made : ℕ)
       → Sits w n (after_steps w.program (learned_input n.learner.learned) m) k console → made ≤ steps
       → LeadsIn w.program (learned_input n.learner.learned) (m + made) (after_steps w.program (learned_input n.learner.learned) (m + made))

@@ -12,7 +12,7 @@ use Rattle.pcode_machine.specs.Turns.{AreQuiet, IsLast, Makes, WaitsOn, Writes}
 use Rattle.group_node.specs.declared.player.Player.{Player}
 use Rattle.group_node.specs.Player.{Advances, IsPlayed, PlaysStep}
 
--- the laws of runs that a step stands on
+-- the laws of runs that a step rests on
 pub record Laws : Type 0 where
   pub there : (p : Parts) (x : List ℕ) (n : ℕ) (c : Configuration) → LeadsIn p x n c → after_steps p x n ≡ c
   pub longer : (p : Parts) (x y : List ℕ) (c d : Configuration) → outcome p x c ≡ Goes d → outcome p (x ++ y) c ≡ Goes d
@@ -25,7 +25,7 @@ makes-wrote w = record { steps = λ before output. rw (add-zero (length before),
 
 -- ---- one step more
 
--- so many are taken of a list that has them
+-- this many are taken of a list that has them
 taken_length : (x : List ℕ) (n : ℕ) → n ≤ length x → length (take n x) ≡ n
 taken_length x n le = omega (arith, length-take n x)
 

@@ -2,8 +2,7 @@
 use Rattle.std.proofs.Common.{◌≡◌, Some, Err, IsErrOf, refl}
 use Rattle.paxos_msg.specs.Batches.{Change}
 use Rattle.paxos_msg.specs.Records.{changed}
-use Rattle.paxos_acceptor.specs.Follows.{Follows}
-use Rattle.paxos_acceptor.specs.States.{AcceptorState}
+use Rattle.paxos_acceptor.specs.Follows.{AcceptorState, Follows}
 use Rattle.paxos_acceptor.specs.Stores.{StoreState}
 use Rattle.paxos_acceptor.specs.declared.fault.AcceptorFault.{AcceptorFault}
 use Rattle.paxos_acceptor.specs.declared.fault.AcceptorFault.TheVariants as acceptor

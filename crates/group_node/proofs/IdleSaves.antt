@@ -17,7 +17,7 @@ use Rattle.group_node.specs.ProposerRows.{is_known, offer_after, offering, prepa
 use Rattle.group_node.specs.Pump.{pump}
 use Rattle.group_node.specs.States.{Protocol}
 use Rattle.group_node.specs.World.{MayCause}
-use Rattle.group_node.proofs.Staying.{row_saves}
+use Rattle.group_node.proofs.CallsKeep.{row_saves}
 
 -- the record after the call is that after its save
 pub record KeepsSaved (n : Known) (done : Response) : Type 0 where
@@ -54,7 +54,7 @@ row_kept n j (Submit v) = submit_kept n n.proposer v
 row_kept n j (Ask from) = record { kept = refl }
 row_kept n j (Tell s v) = record { kept = refl }
 
--- a fault that is only want of memory is none of the device
+-- a fault that is only missing memory is none of the device
 pub only_memory : (r : Result (Unit {0}) NodeFault) → OnErr r (r ≡ Err Memory) → ¬ IsErrOf r Store
 only_memory (Ok x) h s = absurd cc
 only_memory (Err e) h s = absurd cc

@@ -82,7 +82,7 @@ prepared_reply : (sent : Sent) (i from : ℕ) (greater : Option Ballot) (r : Rec
 prepared_reply sent i from None r b = record { old = tt; saves = either_or (is_promised r.promised b) (change.Promise b) }
 prepared_reply sent i from (Some p) r b = record { old = tt; saves = inl refl }
 
--- a vote, by the value that stands there under its ballot
+-- a vote, by the value that is there under its ballot
 voted_reply : (sent : Sent) (i s : ℕ) (under : Option Value) (b : Ballot) (v : Value)
     → IsReply sent i (change.Ballotted s b v) (voted under b s v)
 voted_reply sent i s None b v = record { old = tt; saves = inr refl }

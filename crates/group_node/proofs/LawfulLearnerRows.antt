@@ -1,4 +1,5 @@
--- The other calls of a node: a start, a typed byte, a campaign, an Ask, and the keys that leave after a message.
+-- The other calls of a node: a start, a typed byte, a campaign, an Ask, and the keys that leave
+-- after a message.
 use Rattle.std.proofs.Common.{◌≡◌, ℕ, ◌+◌, ◌-◌, min, List, [], ◌∷◌, ◌++◌, Option, Some, None, option_map, IfSome, IsSomeAnd, Contains, inl, inr, refl, arith}
 use Rattle.std.specs.FinMap.{empty, get}
 use Rattle.std.specs.List.{range_with_len}
@@ -119,7 +120,8 @@ settled_lawful sent typed n done h = record {
 
 -- ---- a campaign
 
--- The laws of the crates below that a campaign stands on: also, a proposer that has heard nothing is backed.
+-- The laws of the crates below that a campaign rests on: also, a proposer that has heard nothing is
+-- backed.
 pub record CampaignLaws : Type 0 where
   pub sending : SendingLaws
   pub records : RecordLaws

@@ -23,7 +23,7 @@ use Rattle.group_node.specs.Packets.{Packet, to_all, to_one}
 use Rattle.group_node.specs.Pump.{accepts_of, offer, Proposals, pump, stop}
 use Rattle.group_node.specs.Ranges.{IsInRange, IsOwnProposer}
 use Rattle.group_node.specs.Steps.{messages_handed_out, IsDelivered, IsLawful}
-use Rattle.group_node.proofs.Growing.{said_still}
+use Rattle.group_node.proofs.NodeBackedAsMoreIsSent.{said_still}
 use Rattle.group_node.proofs.Proposing.{leading, offer_goes, promised_same, Proposes, ProposingLaws, pump_goes, stop_goes}
 use Rattle.group_node.proofs.Sending.{Goes, goes_on, IsStable, sender_of, stable_goes}
 use Rattle.group_node.proofs.WaitingKeys.{batch_typed, first_keys}
@@ -165,7 +165,8 @@ asks_stable sent typed n h =
 
 -- ---- the calls
 
--- The laws of the crates below: what is known of a proposer's ballot after a part of a promise, and that it is backed
+-- The laws of the crates below: what is known of a proposer's ballot after a part of a promise, and
+-- that it is backed
 pub record PartLaws : Type 0 where
   pub hears : (sent : Sent) (me j first upto : ℕ) (p : Proposer) (votes : List Vote) → IsProposerBacked sent me p
       → j ≤ 9 → IsBody p.size j (Promise p.ballot first upto votes) → IsSent sent j (Promise p.ballot first upto votes)
@@ -214,7 +215,7 @@ module _ (laws : ProposingLaws) (sent : Sent) (typed : List Key) (n : Known) (h 
   offer_if now true p v free size g = offer_goes laws typed n now p v free size g
   offer_if now false p v free size g = stop_goes laws typed n now p size g
 
-  -- a Submit, by whether it is passed over
+  -- a Submit, by whether it is ignored
   submit_if : (p : Proposer) → IsSound sent n p → (v : Value) → IsSaid sent (Submit v) → (t : Bool)
       → IsLawful sent typed n.kept n.learner.learned
       (if t then offering n v (pump 16 p) (offer_after (pump 16 p) v) else quiet n)

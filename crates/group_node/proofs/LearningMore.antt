@@ -9,7 +9,7 @@ use Rattle.paxos_proposer.specs.Proposer.{proposer_after_part, asks_on, is_cover
 use Rattle.paxos_learner.specs.Growth.{HasLearnedMore}
 use Rattle.paxos_learner.specs.Learner.{Learner, heard_accepted, heard_tell}
 use Rattle.group_node.specs.declared.fault.NodeFault.{NodeFault}
-use Rattle.group_node.specs.Protocol.{on_message, row}
+use Rattle.group_node.specs.Protocol.{row}
 use Rattle.group_node.specs.Known.{Response, Known, quiet}
 use Rattle.group_node.specs.ProposerRows.{is_known, offer_after, offering, prepare_from, proposing_on, submitted, taking_part}
 use Rattle.group_node.specs.Pump.{pump}
@@ -57,9 +57,9 @@ row_learns laws n j (Submit v) = submit_learns n n.proposer v
 row_learns laws n j (Ask from) = record { more = same n }
 row_learns laws n j (Tell s v) = record { more = laws.told n.learner s v }
 
--- what is learned after a message, as its call tells it
-pub message_learns : HeardLaws → (n m : Known) (j : ℕ) (body : Body) (r : Result (Unit {0}) NodeFault)
-    → OnOk r (m ≡ (on_message n j body).node) → OnErr r (m ≡ n)
+-- What is learned after the row of a message, by its contract.
+pub row_learns_more : HeardLaws → (n m : Known) (j : ℕ) (body : Body) (r : Result (Unit {0}) NodeFault)
+    → OnOk r (m ≡ (row n j body).node) → OnErr r (m ≡ n)
     → HasLearnedMore n.learner.learned m.learner.learned
-message_learns laws n m j body (Ok x) ok err = rw ok (row_learns laws n j body).more
-message_learns laws n m j body (Err e) ok err = rw err (same n)
+row_learns_more laws n m j body (Ok x) ok err = rw ok (row_learns laws n j body).more
+row_learns_more laws n m j body (Err e) ok err = rw err (same n)

@@ -5,7 +5,8 @@ use Rattle.paxos_learner.specs.Input.{has_key}
 use Rattle.group_node.specs.WaitingKeys.{count_read}
 use Rattle.group_node.specs.Ranges.{IsWaiting}
 
--- some have left, all of them read: those that are to leave of these are those that were to leave of all
+-- some have left, all of them read: those that are to leave of these are those that were to leave
+-- of all
 pub record IsLeaving (read : List Key) (node start was : ℕ) (all : List ℕ) (first : ℕ) (bytes : List ℕ) : Type 0 where
   pub rest : drop (count_read read (keys_from node start first bytes)) bytes ≡ drop (count_read read (keys_from node start was all)) all
   pub serial : first + count_read read (keys_from node start first bytes) ≡ was + count_read read (keys_from node start was all)
@@ -47,14 +48,14 @@ pub untrue : (t : Bool) → ¬ IsTrue t → t ≡ false
 untrue true h = absurd (h refl)
 untrue false h = refl
 
--- the first, and those behind it
+-- the first, and those after it
 pub first_is : (bytes : List ℕ) (byte : ℕ) → slice_get bytes 0 ≡ Some byte → bytes ≡ byte ∷ drop 1 bytes
 first_is [] byte e = absurd cc
 first_is (x ∷ xs) byte e =
     let same : x ≡ byte = cc in
     rw same refl
 
--- serials may go on behind the first
+-- serials may go on after the first
 pub waiting_next : {first byte : ℕ} {bytes : List ℕ} → IsWaiting first (byte ∷ bytes) → IsWaiting (first + 1) bytes
 waiting_next {first} {byte} {bytes} h = record {
   some = omega arith;

@@ -9,7 +9,7 @@ use Rattle.paxos_msg.specs.Keys.{Key}
 use Rattle.paxos_msg.specs.Messages.{IsSaid}
 use Rattle.group_node.specs.Backs.{Backs, HasPromised}
 use Rattle.group_node.specs.Known.{Known}
-use Rattle.group_node.proofs.Growing.{IsQuiet}
+use Rattle.group_node.proofs.NodeBackedAsMoreIsSent.{IsQuiet}
 
 -- what another node may send proposes nothing under a ballot of this one
 pub other_quiet : (size : ℕ) (known : List Key) (learned : ℕ → Option Value) (sent : Sent) (me j : ℕ) (r : Record)

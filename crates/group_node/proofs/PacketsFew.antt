@@ -34,7 +34,7 @@ filter_map_few : {X Y : Type 0} (f : X → Option Y) (xs : List X) → length (f
 filter_map_few f [] = omega arith
 filter_map_few f (x ∷ xs) = omega (arith, more_by_one (f x) (filter_map f xs), filter_map_few f xs)
 
--- of so many places one each at most
+-- of this many places one each at most
 places_few : {Y : Type 0} (f : ℕ → Option Y) (a n : ℕ) → length (filter_map f (range_with_len a n)) ≤ n
 places_few f a n = omega (arith, filter_map_few f (range_with_len a n), length-range_with_len a n)
 
@@ -48,7 +48,7 @@ both_few a b xs ys h k = omega (arith, length-append xs ys)
 
 -- ---- proposals
 
--- a proposal, if there is one, and what goes on behind it
+-- a proposal, if there is one, and what goes on after it
 propose_few : (p : Proposer) (o : Option Value) (go_on : Proposer → Proposals) (most : ℕ)
     → ((q : Proposer) → length (go_on q).made ≤ most) → length (propose p o go_on).made ≤ suc most
 propose_few p None go_on most few = omega arith
@@ -65,7 +65,7 @@ offer_if : (t : Bool) (p : Proposer) (v : Value) → length (if t then offer p v
 offer_if true p v = propose_few p (next_value p (Some v)) stop 0 (λ q. omega arith)
 offer_if false p v = omega arith
 
--- an offer behind a pump
+-- an offer after a pump
 pub offer_few : (pumped : Proposals) (v : Value) → length (offer_after pumped v).made ≤ 1
 offer_few pumped v = offer_if (leaves_room pumped) pumped.proposer v
 

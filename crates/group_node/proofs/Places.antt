@@ -46,7 +46,7 @@ pub counted_more : {X : Type 0} (f : ℕ → Option X) (a n s next : ℕ) → a 
 counted_more f a n s next here is =
     rw (is, ← here, one_more f a n) (length-append (filter_map f (range_with_len a n)) (option_to_list (f (a + n))))
 
--- the first of what so many places give are all that fewer of them give
+-- the first of what this many places give are all that fewer of them give
 first_give : {X : Type 0} (f : ℕ → Option X) (a n m most : ℕ) → n ≤ m → length (filter_map f (range_with_len a n)) ≡ most
     → take most (filter_map f (range_with_len a m)) ≡ filter_map f (range_with_len a n)
 first_give f a n m most few full =
@@ -58,7 +58,7 @@ first_give f a n m most few full =
 
 -- ---- packets
 
--- What the places from the first one on, so many, give is in the outbox.
+-- What the places from the first one on, this many, give is in the outbox.
 pub record ArePut (me : Me) (f : ℕ → Option Packet) (first : ℕ) (before now : List Datagram) (count : ℕ) : Type 0 where
   pub packets : now ≡ before ++ datagrams_of me (filter_map f (range_with_len first count))
 
@@ -89,7 +89,7 @@ pub all_put : {me : Me} {f : ℕ → Option Packet} {first : ℕ} {start before 
     → now ≡ start ++ datagrams_of me (filter_map f (range_with_len first many))
 all_put h same all = rw (← same, ← all) h.packets
 
--- of so many places that most of what is to be put in is
+-- of this many places that most of what is to be put in is
 pub most_put : {me : Me} {f : ℕ → Option Packet} {first : ℕ} {before now : List Datagram} {count : ℕ} (many most : ℕ)
     → ArePut me f first before now count
     → count ≤ many → length (filter_map f (range_with_len first count)) ≡ most

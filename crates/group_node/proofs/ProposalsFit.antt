@@ -15,7 +15,8 @@ use Rattle.group_node.specs.Packets.{Packet, to_all}
 use Rattle.group_node.specs.Pump.{accepts_of, offer, Proposals, propose, pump, stop}
 use Rattle.group_node.specs.Ranges.{AreFit, IsHeardFit, IsOwnProposer}
 
--- The laws of proposers: what they propose, and propose again, has a spelling, and they stay in their ranges.
+-- The laws of proposers: what they propose, and propose again, has a spelling, and they stay in
+-- their ranges.
 pub record AcceptLaws : Type 0 where
   pub proposes : (p : Proposer) (offered : Option Value) → IsProposerInRange p → IfSome offered (IsValue p.size)
       → IsProposerInRange (proposing p (next_value p offered))
@@ -30,7 +31,8 @@ kept_by : (p : Proposer) (o : Option Value) (P : Ballot → ℕ → Type 0) → 
 kept_by p None P h = h
 kept_by p (Some v) P h = h
 
--- The laws of proposers that hear a part of a promise: they stay in their ranges, and keep ballot and size.
+-- The laws of proposers that hear a part of a promise: they stay in their ranges, and keep ballot
+-- and size.
 pub record PartLaws : Type 0 where
   pub parts : (j first upto : ℕ) (p : Proposer) (votes : List Vote) → IsProposerInRange p
       → IsBody p.size j (Promise p.ballot first upto votes)
@@ -56,7 +58,7 @@ module _ (me : Me) (p : Proposer) (h : IsOwnProposer me p) where
   asks_if upto s true low e = let is : upto ≡ s = cc in own_prepare s (rw (← is) (low refl))
   asks_if upto s false low e = absurd cc
 
-  -- the Prepare behind a part
+  -- the Prepare after a part
   pub asks_on_fits : (j first upto s : ℕ) → asks_on p j first upto ≡ Some s → IsBody me.group.size me.node (Prepare p.ballot s)
   asks_on_fits j first upto s e =
       asks_if upto s (rises p j first upto && nat_lt upto 65536)
@@ -132,7 +134,7 @@ module _ (laws : AcceptLaws) (me : Me) where
   stop_fits : (p : Proposer) → IsOwnProposer me p → AreFit me p (stop p)
   stop_fits p h = record { own = h; ballot = refl; sends = All-nil IsPacketFit }
 
-  -- a proposal, if there is one, and what goes on behind it
+  -- a proposal, if there is one, and what goes on after it
   propose_fits : (p : Proposer) → IsOwnProposer me p → (offered o : Option Value) (go_on : Proposer → Proposals)
       → IfSome offered (IsValue me.group.size) → next_value p offered ≡ o
       → ((q : Proposer) → IsOwnProposer me q → AreFit me q (go_on q)) → AreFit me p (propose p o go_on)
@@ -165,7 +167,7 @@ module _ (laws : AcceptLaws) (me : Me) where
   offer_if true p v h fits = offer_fits p v h fits
   offer_if false p v h fits = stop_fits p h
 
-  -- an offer behind a pump
+  -- an offer after a pump
   pub offer_after_fits : (pumped : Proposals) (v : Value) → IsOwnProposer me pumped.proposer → IsValue me.group.size v
       → AreFit me pumped.proposer (offer_after pumped v)
   offer_after_fits pumped v h fits = offer_if (leaves_room pumped) pumped.proposer v h fits

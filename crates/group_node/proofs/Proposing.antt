@@ -15,10 +15,11 @@ use Rattle.group_node.specs.Backs.{Backs, HasPromised, IsRecordBacked}
 use Rattle.group_node.specs.Known.{Known}
 use Rattle.group_node.specs.Pump.{accepts_of, offer, Proposals, propose, pump, stop}
 use Rattle.group_node.specs.Steps.{messages_handed_out}
-use Rattle.group_node.proofs.Growing.{learner_later}
+use Rattle.group_node.proofs.NodeBackedAsMoreIsSent.{learner_later}
 use Rattle.group_node.proofs.Sending.{Goes, SendingLaws, sender_of}
 
--- The laws of the crates below: also, what a proposer proposes may be sent, and then it is backed again.
+-- The laws of the crates below: also, what a proposer proposes may be sent, and then it is backed
+-- again.
 pub record ProposingLaws : Type 0 where
   pub sending : SendingLaws
   pub proposes : (typed : List Key) (learned : ℕ → Option Value) (sent : Sent) (me : ℕ) (r : Record) (p : Proposer)
@@ -40,7 +41,7 @@ at_most_same b = inr (refl, omega arith)
 pub promised_same : (r : Record) (b : Ballot) → r.promised ≡ Some b → HasPromised r b
 promised_same r b e = rw e (at_most_same b)
 
--- what is new behind one Accept is that Accept
+-- what is new after one Accept is that Accept
 accept_cases : (sent : Sent) (me : ℕ) (b c : Ballot) (s t : ℕ) (v w : Value)
     → IsSaid (sent ++ record { sender = me; body = Accept b s v } ∷ []) (Accept c t w)
     → IsSaid sent (Accept c t w) ⊎ (b ≡ c)
@@ -99,7 +100,7 @@ module _ (laws : ProposingLaws) (typed : List Key) (n : Known) where
   abbrev GoesOn : (Proposer → Proposals) → Type 0
   GoesOn go_on = (sent : Sent) (p : Proposer) → p.size ≡ n.me.group.size → Backs sent typed (leading n p) → Proposes typed n sent (go_on p)
 
-  -- a proposal, if there is one, and what goes on behind it
+  -- a proposal, if there is one, and what goes on after it
   propose_goes : (sent : Sent) (p : Proposer) (offered o : Option Value) (go_on : Proposer → Proposals)
       → IfSome offered (IsFree sent) → next_value p offered ≡ o → GoesOn go_on → p.size ≡ n.me.group.size
       → Backs sent typed (leading n p)

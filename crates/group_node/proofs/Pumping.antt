@@ -27,8 +27,8 @@ accepts_append me made more =
     ap (datagrams_of me) (map-append (λ (vote : Vote). to_all (Accept vote.ballot vote.place vote.value)) made more)
     ∙ map-append (datagram_of me) (accepts_of made) (accepts_of more)
 
--- After so many proposals, which are in the outbox, the proposer has so many left, with which it comes to where the
--- whole pump comes.
+-- After this many proposals, which are in the outbox, the proposer has this many left, with which
+-- it comes to where the whole pump comes.
 pub record IsPumping (me : Me) (began : Proposer) (before now : List Datagram) (count : ℕ) (p : Proposer) : Type 0 where
   pub made : List Vote
   pub left : ℕ
@@ -89,7 +89,7 @@ more {me} {began} {p} {before} {now} {count} v h few e = by_left h.left h.all h.
             ∙ ap (λ (l : List Datagram). before ++ l) (sym (accepts_append me h.made (proposal p v ∷ [])));
       }
 
--- what a pump comes to, as the code tells it
+-- what a pump comes to, as the code says
 pub record IsPumped (me : Me) (began : Proposer) (before now : List Datagram) (count : ℕ) (p : Proposer) : Type 0 where
   pub proposer : p ≡ (pump 16 began).proposer
   pub packets : now ≡ before ++ datagrams_of me (accepts_of (pump 16 began).made)
@@ -106,7 +106,7 @@ over {me} {began} {p} {before} {now} {count} h none =
       counted = rw made (sym h.counted);
     }
 
--- where no value is found, as the code tells it
+-- where no value is found, as the code says
 pub over_none : {me : Me} {began p q : Proposer} {before now then : List Datagram} {count : ℕ} (o : Option Value)
     → IsPumping me began before now count p
     → next_value p None ≡ o → o ≡ None → q ≡ (propose p o stop).proposer
@@ -123,7 +123,7 @@ over_all {me} {began} {p} {before} {now} {count} h most =
     let none : h.left ≡ 0 = omega (arith, h.all, most) in
     over h (rw none (refl, refl))
 
--- one more, as the code tells it
+-- one more, as the code says
 pub pumping_more : {me : Me} {began p q : Proposer} {before now then : List Datagram} {count : ℕ} (o : Option Value)
     → IsPumping me began before now count p → count < 16
     → next_value p None ≡ o → IsSome o → q ≡ (propose p o stop).proposer

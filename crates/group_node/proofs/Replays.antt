@@ -16,7 +16,7 @@ use Rattle.group_node.specs.Player.{IsPlayed, progress_of}
 use Rattle.group_node.specs.World.{MakesSteps}
 use Rattle.group_node.proofs.Exact.{replayed}
 
--- the law that steps which exist lead to what is after so many of them
+-- the law that steps which exist lead to what is after this many of them
 abbrev pub There : Type 0
 There = (p : Parts) (x : List ℕ) (n : ℕ) (c : Configuration) → LeadsIn p x n c → after_steps p x n ≡ c
 

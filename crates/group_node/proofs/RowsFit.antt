@@ -1,4 +1,5 @@
--- What a node makes of a message that has a spelling: it stays in its ranges, and what it sends has a spelling.
+-- What a node makes of a message that has a spelling: it stays in its ranges, and what it sends has
+-- a spelling.
 use Rattle.std.proofs.Common.{◌≡◌, ◌∙◌, ◌↔◌, ℕ, suc, ◌+◌, ◌-◌, ◌≤◌, min, Bool, true, false, ◌&&◌, not, if◌then◌else◌, List, [], ◌∷◌, length, drop, Option, Some, None, is_some, option_map, IfSome, refl, sym, subst, arith}
 use Rattle.std.specs.List.{range_with_len}
 use Rattle.std.proofs.lemmas.List.{get_or-drop, length-drop}
@@ -248,7 +249,7 @@ module _ (n : Known) (h : IsInRange n) where
 
   -- ---- Promise
 
-  -- proposals behind other packets
+  -- proposals after other packets
   pub proposing_fits : (p : Proposer) (before : List Packet) (proposals : Proposals) → AllFit n.me before
       → AreFit n.me p proposals → IsFit n.me (proposing_on n before proposals)
   proposing_fits p before proposals fit f = record {

@@ -14,10 +14,10 @@ use Rattle.group_node.specs.Backs.{Backs, HasPromised}
 use Rattle.group_node.specs.Known.{Known}
 use Rattle.group_node.specs.Packets.{Packet, bodies_of}
 use Rattle.group_node.specs.Steps.{messages_handed_out}
-use Rattle.group_node.proofs.Growing.{backs_later, BackingLaws, IsQuiet}
+use Rattle.group_node.proofs.NodeBackedAsMoreIsSent.{backs_later, BackingLaws, IsQuiet}
 
--- The laws of the crates below: also, what may be sent and is no new proposal may be sent still as more is sent, and
--- what may be sent in two halves may be sent as one.
+-- The laws of the crates below: also, what may be sent and is no new proposal may be sent still as
+-- more is sent, and what may be sent in two halves may be sent as one.
 pub record SendingLaws : Type 0 where
   pub backing : BackingLaws
   pub still : (size i : ℕ) (typed newer : List Key) (learned now : ℕ → Option Value) (sent more : Sent) (r : Record)

@@ -1,5 +1,5 @@
--- What a tick comes to, as the code tells it. A lemma takes the ranges of the node that is meant, so that the node need
--- not be written out.
+-- What a tick comes to, as the code says. A lemma takes the ranges of the node that is meant, so
+-- that the node need not be written out.
 use Rattle.std.proofs.Common.{◌≡◌, ◌∙◌, ℕ, List, [], ◌∷◌, ◌++◌, Option, Some, None, Ok, inl, inr, refl, subst, sym, ap, append_assoc}
 use Rattle.std.proofs.lemmas.List.{map-append}
 use Rattle.paxos_msg.specs.declared.value.Value.{Value}
@@ -18,7 +18,7 @@ pub record IsTicked (n then : Known) (before now : List Datagram) : Type 0 where
   pub node : then ≡ (on_tick n).node
   pub sends : now ≡ before ++ datagrams_of n.me (on_tick n).sends
 
--- what it asks last, as the code tells it
+-- what it asks last, as the code says
 asked : (n : Known) (mid now : List Datagram) (batch : Option Value) (from : ℕ)
     → now ≡ mid ++ datagrams_of n.me (submits batch ++ to_all (Ask from) ∷ [])
     → batch ≡ batch_of n n.waiting → from ≡ front n → now ≡ mid ++ datagrams_of n.me (asks n)
@@ -57,7 +57,7 @@ pub ticked_ranges : {n : Known} {p q : Proposer} → IsInRange n → IsInRange (
     → q ≡ (pump 16 p).proposer → IsInRange (record n { proposer = Some q })
 ticked_ranges {n} {p} {q} h fits e one = let at = rw e at fits in rw one at
 
--- a tick that is not refused, as the code tells it
+-- a tick that is not refused, as the code says
 pub does_tick : {S : Type 0} {inside old new : Protocol S} {then : Known} {before now : List Datagram} → inside ≡ old
     → IsTicked inside.known then before now
     → new.known ≡ then → new.is_stopped ≡ inside.is_stopped → Does {S = S} {T = Unit {0}} old new before now (on_tick old.known) (Ok tt)

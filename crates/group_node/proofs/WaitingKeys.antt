@@ -37,7 +37,7 @@ first_keys node start serial n xs key h =
     (rw (keys_from-append node start serial (take n xs) (drop n xs))
     (Contains-append_left (keys_from node start serial (take n xs)) (keys_from node start (serial + length (take n xs)) (drop n xs)) key h))
 
--- the keys of the characters behind some are those behind their keys
+-- the keys of the characters after some are those after their keys
 keys_from-drop : (node start serial n : ℕ) (xs : List ℕ)
     → keys_from node start (serial + n) (drop n xs) ≡ drop n (keys_from node start serial xs)
 keys_from-drop node start serial zero xs = rw (add-zero serial) refl
@@ -46,7 +46,7 @@ keys_from-drop node start serial (suc n) (x ∷ xs) =
     let same : serial + suc n ≡ serial + 1 + n = omega arith in
     rw same (keys_from-drop node start (serial + 1) n xs)
 
--- a key of those behind some is one of all
+-- a key of those after some is one of all
 pub last_keys : (node start serial n : ℕ) (xs : List ℕ) (key : Key)
     → Contains (keys_from node start (serial + n) (drop n xs)) key → Contains (keys_from node start serial xs) key
 last_keys node start serial n xs key h =
@@ -87,7 +87,7 @@ read_first : KeyLaw → (read keys : List Key) → All (λ key. Contains read ke
 read_first law read [] = All-nil (λ (key : Key). Contains read key)
 read_first law read (k ∷ keys) = read_by law read keys k (has_key read k) refl (read_first law read keys)
 
--- of the waiting keys those leave that stand below the front
+-- of the waiting keys those leave that are below the front
 without_parted : KeyLaw → (n : Known) → AreParted n.learner.learned (waiting_keys n) (waiting_keys (without_read n))
 without_parted law n = record {
   gone = take (count_gone n) (waiting_keys n);
@@ -126,7 +126,7 @@ first_unread law read (x ∷ keys) k ks e = by (has_key read x) refl e (first_un
       let none : has_key read k ≡ false = rw (← same) is in
       absurd cc
 
--- so after keys have left the first that waits doesn't stand below the front
+-- so after keys have left the first that waits is not below the front
 pub waiting_unread : KeyLaw → (n : Known) (k : Key) (ks : List Key) → waiting_keys (without_read n) ≡ k ∷ ks
     → ¬ Contains (keys_in_order (front_values n.learner.learned)) k
 waiting_unread law n k ks e =

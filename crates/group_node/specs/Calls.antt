@@ -1,16 +1,18 @@
--- What a call of a node leaves, by what its row says.
-use Rattle.std.specs.Prelude.{◌≡◌, ◌≢◌, ◌↔◌, ◌⊎◌, ◌<◌, true, false, List, [], ◌++◌, length, None, Result, OnOk, OnErr, IsErrOf}
+-- The state after a call of a node, by its response.
+use Rattle.std.specs.Prelude.{◌≡◌, ◌≢◌, ◌↔◌, ◌⊎◌, ◌<◌, true, false, List, [], ◌++◌, length, None, Result, Err, IfErr, OnOk, OnErr, IsErrOf}
 use Rattle.paxos_acceptor.specs.Stores.{StoreState, FailsAsTold, HasCause, IsOneOf}
 use Rattle.paxos_acceptor.specs.declared.fault.AcceptorFault.{AcceptorFault}
 use Rattle.paxos_acceptor.specs.declared.fault.AcceptorFault.TheVariants as acceptor
 use Rattle.group_node.specs.declared.fault.NodeFault.{NodeFault}
-use Rattle.group_node.specs.declared.fault.NodeFault.TheVariants.{Store, Stopped, OutboxFull}
+use Rattle.group_node.specs.declared.fault.NodeFault.TheVariants.{Memory, Store, Stopped, OutboxFull, RoundsSpent, PlacesSpent}
 use Rattle.group_node.specs.declared.fault.NodeFault.TheVariants as fault
 use Rattle.group_node.specs.Packets.{Datagram, datagrams_of}
-use Rattle.group_node.specs.Known.{Response}
+use Rattle.group_node.specs.Known.{Known, Response, front}
 use Rattle.group_node.specs.States.{Protocol}
+use Rattle.group_node.specs.ProposerRows.{last_round}
+use Rattle.paxos_msg.specs.declared.limits.TheConstants.{LAST_ROUND, PLACES}
 
--- what an acceptor's fault is to a node
+-- The node's fault for an acceptor's fault.
 abbrev pub node_fault : AcceptorFault → NodeFault
 node_fault acceptor.Memory = fault.Memory
 node_fault acceptor.Store = fault.Store
@@ -18,8 +20,12 @@ node_fault acceptor.Closed = fault.Stopped
 node_fault acceptor.BadRecord = fault.BadRecord
 node_fault acceptor.StartsSpent = fault.StartsSpent
 
--- Of a call that does this: at Ok the node is that of the row, and what it sends stands behind what
--- the outbox held; at Err both are as they were. Nothing but a fault of the device stops the node.
+-- The node and the outbox after a call with this response.
+-- At `Ok` the node is that of the response, and what it sends comes after what the outbox held. At
+-- `Err` both are as they were. Only a fault of the device stops the node.
+-- Allows: any refusal.
+-- Forbids: a part of a response; a packet of a call that was refused.
+-- Source: Simple 2.5.
 pub record Does {S T : Type 0} (old new : Protocol S) (before now : List Datagram) (done : Response)
     (result : Result T NodeFault) : Type 0 where
   pub ok : OnOk result (new.known ≡ done.node)
@@ -28,9 +34,13 @@ pub record Does {S T : Type 0} (old new : Protocol S) (before now : List Datagra
   pub unsent : OnErr result (now ≡ before)
   pub stops : (new.is_stopped ≡ true) ↔ ((old.is_stopped ≡ true) ⊎ IsErrOf result Store)
 
--- Of its store: at Ok an honest one has the row's record; after a device's fault, which is counted,
--- the old one or the row's; after any other refusal the old one. Where the row saves nothing, the
--- store is as it was. Plans are as an acceptor's.
+-- The store after a call with this response.
+-- At `Ok` an honest one has the response's record. After a fault of the device, which is counted,
+-- it has the old one or the response's, and after any other refusal the old one. If the response
+-- saves nothing, the store is as it was. Plans are as an acceptor's.
+-- Allows: a save that failed and was made.
+-- Forbids: a fault of the device in a call that saves nothing.
+-- Source: Simple 2.5.
 pub record Saves {S T : Type 0} (honest at_will : Type 0) (state : S → StoreState)
     (old new : Protocol S) (done : Response) (result : Result T NodeFault) : Type 0 where
   pub saved : honest → OnOk result ((state new.store).stored ≡ done.node.kept)
@@ -47,14 +57,32 @@ pub record Saves {S T : Type 0} (honest at_will : Type 0) (state : S → StoreSt
       → FailsAsTold (state old.store).plan old.known.kept done.node.kept (state new.store).stored
   pub cause : HasCause (IsErrOf result Store) (state old.store).faults (state new.store).faults
 
--- A call with an outbox: it is refused as stopped exactly where the store was given up, and for
--- want of room exactly where it wasn't and fewer than 64 places are free.
+-- The refusals of a call with an outbox.
+-- It is `Stopped` exactly if a save has failed. Otherwise it is `OutboxFull` exactly if fewer than
+-- 64 places are free.
+-- Forbids: a call that sends into an outbox with a packet.
 pub record IsLetIn {S T : Type 0} (old : Protocol S) (before : List Datagram)
     (result : Result T NodeFault) : Type 0 where
   pub stopped : IsErrOf result Stopped ↔ (old.is_stopped ≡ true)
   pub full : IsErrOf result OutboxFull ↔ ((old.is_stopped ≡ false) × (0 < length before))
 
--- the call is taken: the store was not given up, and all 64 places of the outbox are free
+-- The facts of a call that is taken: no save has failed, and all 64 places of the outbox are free.
 pub record IsLet {S : Type 0} (old : Protocol S) (before : List Datagram) : Type 0 where
   pub is_open : old.is_stopped ≡ false
   pub is_free : before ≡ []
+
+-- The claim that a call fails only if memory runs out.
+abbrev pub MayLackMemory : {T : Type 0} → Result T NodeFault → Type 0
+MayLackMemory result = OnErr result (result ≡ Err Memory)
+
+-- The claim that a call fails only if memory runs out or its save fails.
+abbrev pub MayFailToSave : {T : Type 0} → Result T NodeFault → Type 0
+MayFailToSave result = IfErr result (λ e. (e ≡ Memory) ⊎ (e ≡ Store))
+
+-- The refusals of a campaign that is taken: no round is left, or otherwise no place is.
+-- A campaign that saves has a round.
+pub record IsCampaignRefused {T : Type 0} (n : Known) (result : Result T NodeFault) : Type 0 where
+  pub rounds : IsErrOf result RoundsSpent ↔ (last_round n ≡ LAST_ROUND)
+  pub places : IsErrOf result PlacesSpent ↔ ((last_round n < LAST_ROUND) × (front n ≡ PLACES))
+  pub spare : OnOk result (last_round n < LAST_ROUND)
+  pub spare_saved : IsErrOf result Store → last_round n < LAST_ROUND

@@ -1,9 +1,9 @@
--- The codes of what a node refuses.
+-- The codes of a node's refusals.
 use Rattle.std.specs.Prelude.{ℕ, List, codes}
 use Rattle.group_node.specs.declared.fault.NodeFault.{NodeFault}
 use Rattle.group_node.specs.declared.fault.NodeFault.TheVariants as fault
 
--- the code of a refusal
+-- The code of a refusal, `D1` to `D12`.
 abbrev pub code_of : NodeFault → List ℕ
 code_of fault.Memory = codes "D1"
 code_of fault.Store = codes "D2"

@@ -5,12 +5,19 @@ use Rattle.paxos_msg.specs.Batches.{Sent}
 use Rattle.paxos_msg.specs.Chosen.{IsChosen}
 use Rattle.paxos_learner.specs.Input.{input_of}
 
--- these values are chosen at the places 0, 1, 2 and so on, as many places as there are values
+-- The values that are chosen at the places 0, 1, 2 and so on.
+-- Allows: fewer values than are chosen.
+-- Forbids: a hole.
+-- Source: Simple 2.2.
 pub record AreChosen (size : ℕ) (sent : Sent) (values : List Value) : Type 0 where
   pub chosen : (s : ℕ) (v : Value) → slice_get values s ≡ Some v → IsChosen size sent s v
 
--- x is the input: the bytes of the keys, each once, of the chosen values up to the first place at
--- which nothing is chosen
+-- The input `x` that is chosen.
+-- It has the bytes of the keys, each once, of the chosen values up to the first place at which
+-- nothing is chosen.
+-- Allows: that no node knows of it.
+-- Forbids: a value from above a hole.
+-- Source: Simple 3, commands are executed in order.
 pub record IsInput (size : ℕ) (sent : Sent) (x : List ℕ) : Type 0 where
   pub values : List Value
   pub chosen : AreChosen size sent values

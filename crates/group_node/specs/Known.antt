@@ -1,4 +1,4 @@
--- What a node knows, what a call leaves, and what a start and a typed key make of a node.
+-- What a node knows, and its response to a start and to a typed key.
 use Rattle.std.specs.Prelude.{ℕ, ◌+◌, List, [], ◌∷◌, ◌++◌, length, Option, Some, None}
 use Rattle.paxos_msg.specs.declared.ballot.Ballot.{Ballot}
 use Rattle.paxos_msg.specs.declared.value.Value.{Value}
@@ -12,9 +12,13 @@ use Rattle.paxos_proposer.specs.Proposer.{Proposer}
 use Rattle.paxos_learner.specs.Learner.{Learner, front_of, new_learner}
 use Rattle.group_node.specs.Packets.{Packet}
 
--- What a node knows: who it is; its acceptor's record; its learner; its proposer, if it has one;
--- the greatest ballot that it was told of in a Refused; the keys that it has offered under its
--- ballot; and the characters that wait, of which the first is the key with this serial.
+-- What a node knows.
+-- It has its number and group; its acceptor's record; its learner; its proposer, if it has one; the
+-- greatest ballot that a Refused reported; the keys that it has offered under its ballot; and the
+-- characters that wait, of which the first is the key with this serial.
+-- Allows: a node without a proposer.
+-- Forbids: two proposers.
+-- Source: Simple 2.5, each process is proposer, acceptor and learner.
 pub record Known : Type 0 where
   pub me : Me
   pub kept : Record
@@ -25,34 +29,44 @@ pub record Known : Type 0 where
   pub waiting : List ℕ
   pub first : ℕ
 
--- what a call leaves: the node, the change that it saves, if any, and what it sends after the save,
--- in order
+-- The response to a call: the node after it, the change that it saves, if any, and then what it
+-- sends, in order.
+-- Allows: a call that neither saves nor sends.
+-- Forbids: two saves in one call.
+-- Source: Simple 2.5, stable storage.
 pub record Response : Type 0 where
   pub node : Known
   pub saves : Option Change
   pub sends : List Packet
 
--- nothing is saved or sent
+-- The response that saves and sends nothing.
 abbrev pub quiet : Known → Response
 quiet n = record { node = n; saves = None; sends = [] }
 
--- the known front
+-- The known front of a node.
+-- Source: Simple 3.
 abbrev pub front : Known → ℕ
 front n = front_of n.learner.learned
 
--- these characters as a value, the first with this serial, typed at the node in its present start
+-- The value of characters that were typed at the node in its present start, the first with this
+-- serial.
 abbrev pub own_batch : Known → ℕ → List ℕ → Value
 own_batch n serial bytes = Keys n.me.node n.kept.starts serial bytes
 
--- the keys that wait, in order of serial
+-- The keys that wait, in order of serial.
+-- Forbids: a gap in the serials that wait.
 abbrev pub waiting_keys : Known → List Key
 waiting_keys n = keys_from n.me.node n.kept.starts n.first n.waiting
 
--- the serial of the next key that is typed
+-- The serial of the next key that is typed.
+-- Allows: 4,294,967,296, which no key gets.
 abbrev pub next_serial : Known → ℕ
 next_serial n = n.first + length n.waiting
 
--- a node that has counted a start over its record, and has heard nothing
+-- The response to a start: it is counted in the record and saved, and the node has heard nothing.
+-- Allows: any record.
+-- Forbids: a proposer or a learned place from before.
+-- Source: Simple 2.5.
 abbrev pub on_start : Me → Record → Response
 on_start me r = record {
   node = record {
@@ -69,10 +83,11 @@ on_start me r = record {
   sends = [];
 }
 
--- the typed key, as a batch of one
+-- The typed key, as a batch of one.
 abbrev pub new_key : Known → ℕ → Value
 new_key n byte = own_batch n (next_serial n) (byte ∷ [])
 
--- it waits, behind those that wait
+-- The response to a typed key, which waits after the others.
+-- Forbids: a key that is sent at once.
 abbrev pub on_typed : Known → ℕ → Response
 on_typed n byte = quiet (record n { waiting = n.waiting ++ byte ∷ [] })

@@ -1,34 +1,37 @@
--- What a node sends: messages with their addressees, and the datagrams that an outbox holds.
-use Rattle.std.specs.Prelude.{ℕ, List, map}
+-- Messages with their addressees, and the datagrams that an outbox holds.
+use Rattle.std.specs.Prelude.{ℕ, ◌+◌, ◌≤◌, List, length, map}
 use Rattle.paxos_msg.specs.Batches.{Body}
 use Rattle.paxos_msg.specs.Spelling.{spelling}
 use Rattle.paxos_acceptor.specs.declared.me.Me.{Me}
 use Rattle.group_node.specs.declared.packet.To.{To}
 use Rattle.group_node.specs.declared.packet.To.TheVariants as whom
+use Rattle.group_node.specs.declared.limits.TheConstants.{MOST_PACKETS}
 
--- what a message says, and to whom it goes
+-- A message's body and its addressees.
+-- Allows: a packet to the node itself.
 pub record Packet : Type 0 where
   pub to : To
   pub body : Body
 
--- to all nodes of the group, the sender included
+-- The packet of a body to all nodes of the group, the sender included.
 abbrev pub to_all : Body → Packet
 to_all b = record { to = whom.All; body = b }
 
--- to one node
+-- The packet of a body to one node.
 abbrev pub to_one : ℕ → Body → Packet
 to_one i b = record { to = whom.One i; body = b }
 
--- what the packets say, in order
+-- The bodies of packets, in order.
 abbrev pub bodies_of : List Packet → List Body
 bodies_of packets = map (λ packet. packet.body) packets
 
--- a datagram, and to whom it goes
+-- A datagram's bytes and its addressees.
 pub record Datagram : Type 0 where
   pub to : To
   pub bytes : List ℕ
 
--- the packet of a node as a datagram
+-- The datagram of a node's packet.
+-- Forbids: the name of another sender.
 abbrev pub datagram_of : Me → Packet → Datagram
 datagram_of me packet =
     record {
@@ -36,11 +39,21 @@ datagram_of me packet =
       bytes = spelling me.group (record { sender = me.node; body = packet.body });
     }
 
--- the packets of a node as datagrams
+-- The datagrams of a node's packets.
 abbrev pub datagrams_of : Me → List Packet → List Datagram
 datagrams_of me packets = map (datagram_of me) packets
 
--- what is to be sent, the oldest first, and for how many more packets a buffer is ready
+-- The datagrams to be sent, the oldest first, and the number of buffers that are ready.
 pub record Queue : Type 0 where
   pub packets : List Datagram
   pub ready : ℕ
+
+-- The room for `n` more packets: a buffer is ready for each, and each finds a place.
+pub record HasRoom (n : ℕ) (q : Queue) : Type 0 where
+  pub ready : n ≤ q.ready
+  pub places : length q.packets + n ≤ MOST_PACKETS
+
+-- The step from an outbox to one into which at most `n` packets were put.
+pub record GrowsBy (n : ℕ) (old new : Queue) : Type 0 where
+  pub ready : old.ready ≤ new.ready + n
+  pub few : length new.packets ≤ length old.packets + n

@@ -9,14 +9,16 @@ use Rattle.group_node.specs.declared.player.Player.{Player}
 use Rattle.group_node.specs.declared.player.Ran.{Ran}
 use Rattle.group_node.specs.declared.player.Ran.TheVariants as ran
 use Rattle.group_node.specs.Output.{Progress, unreleased_of}
+use Rattle.group_node.specs.declared.limits.TheConstants.{RING_BYTES}
 
--- what contracts see of it
+-- The progress of a node's machine, which is what contracts see of it.
 abbrev pub progress_of : Player → Progress
 progress_of q = record { program = q.machine.program; steps = q.steps; released = q.released }
 
--- The machine has made its steps on the input x, each of which exists, and has read so many bytes
--- of it. Of what it wrote the ring holds those bytes that were not released. No more bytes were
--- read or written than steps were made.
+-- The invariant of a node's machine.
+-- It has made its steps on the input `x`, each of which exists, and has read `read` bytes of it.
+-- The ring holds those bytes of the output that were not released. No more bytes were read or
+-- written than steps were made.
 pub record IsPlayed (x : List ℕ) (q : Player) : Type 0 where
   pub output : List ℕ
   pub made : LeadsIn q.machine.program x q.steps (configuration_of q.machine.state q.read output)
@@ -25,10 +27,10 @@ pub record IsPlayed (x : List ℕ) (q : Player) : Type 0 where
   pub released : q.released ≤ length output
   pub few : length output ≤ q.steps
   pub seldom : q.read ≤ q.steps
-  pub room : length q.unreleased.items ≤ 256
-  pub capacity : q.unreleased.capacity ≡ 256
+  pub room : length q.unreleased.items ≤ RING_BYTES
+  pub capacity : q.unreleased.capacity ≡ RING_BYTES
 
--- one step, with the ring and the counts
+-- One step, with the ring and the counts.
 pub record PlaysStep (old new : Player) (took wrote : List ℕ) : Type 0 where
   pub program : new.machine.program ≡ old.machine.program
   pub made : Makes old.machine.program old.machine.state new.machine.state took wrote
@@ -39,8 +41,8 @@ pub record PlaysStep (old new : Player) (took wrote : List ℕ) : Type 0 where
   pub short : length wrote ≤ 1
   pub one : length took ≤ 1
 
--- why no step is made: the machine waits for a byte that the input has not, or the program has
--- ended
+-- Why no step is made: the machine waits for a byte that the input does not have, or the program
+-- has ended.
 abbrev pub MakesNoStep : List ℕ → Player → Ran → Type 0
 MakesNoStep x q ran.More = ⊥
 MakesNoStep x q ran.Full = ⊥
@@ -49,7 +51,7 @@ MakesNoStep x q ran.Waits =
 MakesNoStep x q (ran.Ended e) =
     outcome q.machine.program x (after_steps q.machine.program x q.steps) ≡ Stops e
 
--- k steps that read and wrote nothing
+-- The machine before and after `k` steps that read and wrote nothing.
 pub record Advances (x : List ℕ) (k : ℕ) (old new : Player) : Type 0 where
   pub exact : IsPlayed x new
   pub unreleased : new.unreleased ≡ old.unreleased
@@ -57,8 +59,9 @@ pub record Advances (x : List ℕ) (k : ℕ) (old new : Player) : Type 0 where
   pub released : new.released ≡ old.released
   pub steps : new.steps ≡ old.steps + k
 
--- A turn of at most so many steps made n of them: some that read and write nothing, and then one
--- that takes or writes a byte; or the run is over.
+-- The turn of at most `most` steps that made `n` of them.
+-- They are some that read and write nothing, and then one that takes or writes a byte; or the run
+-- is over.
 abbrev pub TurnsTo : List ℕ → ℕ → Player → Player → ℕ × Option Ran → Type 0
 TurnsTo x most old new (n, None) =
     (k : ℕ) × (mid : Player) × Advances x k old mid × (k < most) × (n ≡ k + 1)
@@ -69,8 +72,8 @@ TurnsTo x most old new (n, Some ran.Waits) =
 TurnsTo x most old new (n, Some (ran.Ended e)) =
     (n < most) × Advances x n old new × MakesNoStep x new (ran.Ended e)
 
--- So many steps are left of a run that may come to `most` of them: it is exact, and before each
--- step that it made there was room for a byte.
+-- The run that may come to `most` steps, of which `left` are left.
+-- It is exact, and before each step that it made there was room for a byte.
 pub record RanSoFar (x : List ℕ) (most left : ℕ) (old now : Player) : Type 0 where
   pub exact : IsPlayed x now
   pub program : now.machine.program ≡ old.machine.program
@@ -78,4 +81,4 @@ pub record RanSoFar (x : List ℕ) (most left : ℕ) (old now : Player) : Type 0
   pub more : old.steps ≤ now.steps
   pub budget : now.steps + left ≡ most
   pub room : (n : ℕ) → old.steps ≤ n → n < now.steps
-      → length (unreleased_of x (record (progress_of old) { steps = n })) < 256
+      → length (unreleased_of x (record (progress_of old) { steps = n })) < RING_BYTES

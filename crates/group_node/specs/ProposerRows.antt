@@ -1,4 +1,4 @@
--- What a node makes of a campaign, a Promise, a Refused and a Submit: the rows of its proposer.
+-- A node after a campaign, a Promise, a Refused and a Submit, with its proposer.
 use Rattle.std.specs.Prelude.{ℕ, ◌+◌, List, [], ◌∷◌, ◌++◌, length, Option, Some, None, option_map, if◌then◌else◌, nat_lt, ◌&&◌, ◌||◌, not, Bool, false}
 use Rattle.paxos_msg.specs.declared.ballot.Ballot.{Ballot}
 use Rattle.paxos_msg.specs.declared.value.Value.{Value}
@@ -15,13 +15,23 @@ use Rattle.paxos_msg.specs.Batches.{Vote}
 use Rattle.paxos_learner.specs.Entered.{keys_with}
 use Rattle.group_node.specs.Pump.{Proposals, accepts_of, offer, pump, stop}
 use Rattle.group_node.specs.Known.{Known, Response, quiet, front}
+use Rattle.paxos_msg.specs.declared.limits.TheConstants.{PLACES}
+use Rattle.group_node.specs.declared.limits.TheConstants.{MOST_PUMPED}
 
--- one round more than the greatest that it has promised or was told of
+-- The greatest round of a ballot that the node has promised or that a Refused reported.
+abbrev pub last_round : Known → ℕ
+last_round n = greatest_round n.kept.promised n.remembered
+
+-- The node's next ballot: one round above the greatest one, under its own number.
+-- Forbids: a ballot that is not above the promised one.
+-- Source: Simple 2.5, proposal numbers.
 abbrev pub next_ballot : Known → Ballot
-next_ballot n = record { round = greatest_round n.kept.promised n.remembered + 1; node = n.me.node }
+next_ballot n = record { round = last_round n + 1; node = n.me.node }
 
--- it promises the ballot, begins under it at the known front with nothing offered, and asks all for
--- promises
+-- The response that begins a ballot.
+-- The ballot is promised and saved. A proposer begins under it at the known front with nothing
+-- offered, and asks all for their promises from there on.
+-- Source: Simple 2.2, phase 1(a); 3, phase 1 for many places at once.
 abbrev pub beginning : Known → Ballot → Response
 beginning n b = record {
   node = record n {
@@ -33,21 +43,29 @@ beginning n b = record {
   sends = to_all (Prepare b (front n)) ∷ [];
 }
 
--- so with its next ballot
+-- The response to a campaign: the node begins its next ballot.
+-- Allows: a campaign of a node that leads.
+-- Forbids: a ballot that is not above the promised one.
+-- Source: Simple 2.2, phase 1(a); 2.5, proposal numbers; 3.
 abbrev pub on_campaign : Known → Response
 on_campaign n = beginning n (next_ballot n)
 
--- the greater of two ballots, where there was one
+-- The greater of two ballots, if there was one before.
+-- Forbids: a smaller ballot in the place of a greater one.
 abbrev pub greater_ballot : Option Ballot → Ballot → Ballot
 greater_ballot None c = c
 greater_ballot (Some b) c = if ballot_lt b c then c else b
 
--- the proposer, unless it is its ballot that was refused
+-- The proposer, unless its ballot was refused.
 abbrev pub unless_refused : Ballot → Option Proposer → Option Proposer
 unless_refused b None = None
 unless_refused b (Some p) = if same_ballot p.ballot b then None else Some p
 
--- the promised ballot is remembered, and the proposer of the refused one is dropped
+-- The response to a Refused.
+-- The reported ballot is remembered if it is greater, and the proposer of the refused ballot is
+-- dropped.
+-- Allows: a Refused of another ballot, which is remembered all the same.
+-- Source: Simple 2.2, a proposer is informed of a greater ballot.
 abbrev pub on_refused : Known → Ballot → Ballot → Response
 on_refused n b promised =
     quiet (record n {
@@ -55,16 +73,17 @@ on_refused n b promised =
       proposer = unless_refused b n.proposer;
     })
 
--- the ballot of a node's proposer, if it has one
+-- The ballot of a node's proposer, if it has one.
 abbrev pub own_ballot : Option Proposer → Option Ballot
 own_ballot proposer = option_map (λ p. p.ballot) proposer
 
--- whether a majority has promised the place at which a node's proposer proposes next
+-- The test that a majority has promised the place at which a node's proposer proposes next.
+-- Forbids: a node without a proposer that leads.
 abbrev pub is_leading : Option Proposer → Bool
 is_leading None = false
 is_leading (Some p) = is_covered p (next_of p)
 
--- its proposer has made these proposals; their Accepts are sent behind other packets
+-- The response of a proposer's proposals, whose Accepts are sent after other packets.
 abbrev pub proposing_on : Known → List Packet → Proposals → Response
 proposing_on n before proposals = record {
   node = record n { proposer = Some proposals.proposer };
@@ -72,65 +91,86 @@ proposing_on n before proposals = record {
   sends = before ++ accepts_of proposals.made;
 }
 
--- asks acceptor j for its promises from a place on, if there is one
+-- The Prepare that asks acceptor `j` for its promises from a place on, if there is one.
 abbrev pub prepare_from : Ballot → ℕ → Option ℕ → List Packet
 prepare_from b j None = []
 prepare_from b j (Some s) = to_one j (Prepare b s) ∷ []
 
--- a part for the proposer's own ballot is taken, the acceptor is asked on, and then it pumps
+-- The response to a part of a promise for the proposer's own ballot.
+-- The part is taken, the acceptor is asked for the rest if its coverage rose and does not reach all
+-- places, and then the node pumps.
+-- Forbids: a change by a part under another ballot.
+-- Source: Simple 2.2, phase 2(a).
 abbrev pub taking_part : Known → Option Proposer → ℕ → Ballot → ℕ → ℕ → List Vote → Response
 taking_part n None j b first upto votes = quiet n
 taking_part n (Some p) j b first upto votes =
     if same_ballot p.ballot b
     then proposing_on n (prepare_from b j (asks_on p j first upto))
-    (pump 16 (proposer_after_part p j first upto votes))
+    (pump MOST_PUMPED (proposer_after_part p j first upto votes))
     else quiet n
 
+-- The response to a Promise: a part for the ballot of the node's proposer is taken.
+-- Allows: a pump after a part that is ignored.
+-- Forbids: a change by a part under another ballot.
+-- Source: Simple 2.2, phase 2(a).
 abbrev pub on_promise : Known → ℕ → Ballot → ℕ → ℕ → List Vote → Response
 on_promise n j b first upto votes = taking_part n n.proposer j b first upto votes
 
--- whether the key is learned, or offered under the node's ballot
+-- The test that the key is learned at any place, or offered under the node's ballot.
+-- Allows: a key above a hole.
 abbrev pub is_known_key : Known → Key → Bool
 is_known_key n k = is_learned n.learner.learned k || has_key n.offered k
 
--- whether each of the keys is
+-- The test that each of the keys is known.
 abbrev pub are_known : Known → List Key → Bool
 are_known n keys = list_all (is_known_key n) keys
 
--- whether each key of the value is
+-- The test that each key of the value is known.
+-- Forbids: a batch that counts as known though one key of it is new.
 abbrev pub is_known : Known → Value → Bool
 is_known n v = are_known n (keys_of v)
 
--- whether a pump leaves room for an offer: it made fewer than 16 proposals, and its next place is
--- one of the group's, with no vote kept there or above
+-- The test that a pump leaves room for an offer.
+-- It made fewer than 16 proposals, and its next place is one of the group's, with no vote kept
+-- there or above.
+-- Forbids: an offer at a place at or below a kept vote.
+-- Source: Simple 2.2, P2c.
 abbrev pub leaves_room : Proposals → Bool
 leaves_room pumped =
-    nat_lt (length pumped.made) 16
-    && (nat_lt (next_of pumped.proposer) 65536
+    nat_lt (length pumped.made) MOST_PUMPED
+    && (nat_lt (next_of pumped.proposer) PLACES
     && not (is_kept_from pumped.proposer.kept (next_of pumped.proposer)))
 
--- the offer after a pump
+-- The proposals of the offer after a pump.
+-- Allows: a pump alone.
 abbrev pub offer_after : Proposals → Value → Proposals
 offer_after pumped v = if leaves_room pumped then offer pumped.proposer v else stop pumped.proposer
 
--- the offered keys, with those of the value if its offer gave an Accept
+-- The offered keys, with those of the value if its offer gave an Accept.
 abbrev pub offered_with : List Key → Value → List Vote → List Key
 offered_with offered v [] = offered
 offered_with offered v (vote ∷ votes) = keys_with offered v
 
--- a pump, and then the offer
+-- The response of a pump and the offer after it.
 abbrev pub offering : Known → Value → Proposals → Proposals → Response
 offering n v pumped made =
     proposing_on (record n { offered = offered_with n.offered v made.made })
     (accepts_of pumped.made) made
 
--- by the proposer, if there is one: passed over unless it leads and the value has a key that isn't
--- known
+-- The response to a Submit by a node's proposer, if it has one.
+-- It is ignored unless a majority has promised the next place and the value has a key that is not
+-- known.
+-- Forbids: a proposal by a node that does not lead.
+-- Source: Simple 3, the leader proposes what clients ask for.
 abbrev pub submitted : Known → Option Proposer → Value → Response
 submitted n None v = quiet n
 submitted n (Some p) v =
     if is_covered p (next_of p) && not (is_known n v)
-    then offering n v (pump 16 p) (offer_after (pump 16 p) v) else quiet n
+    then offering n v (pump MOST_PUMPED p) (offer_after (pump MOST_PUMPED p) v) else quiet n
 
+-- The response to a Submit: a node that leads pumps, and then offers the value.
+-- Allows: a key that is offered at two places, under two ballots.
+-- Forbids: a proposal by a node that does not lead.
+-- Source: Simple 3, the leader proposes what clients ask for.
 abbrev pub on_submit : Known → Value → Response
 on_submit n v = submitted n n.proposer v

@@ -1,4 +1,4 @@
--- What a node makes of a message, by its kind.
+-- A node after a message, by the message's kind.
 use Rattle.std.specs.Prelude.{◌≡◌, ◌≢◌, ℕ, ◌<◌, true, false, Some}
 use Rattle.paxos_learner.specs.declared.heard.Heard.TheVariants.{Passed}
 use Rattle.paxos_learner.specs.Learner.{heard_accepted, heard_tell}
@@ -11,7 +11,8 @@ use Rattle.group_node.specs.LearnerRows.{on_accepted, on_ask, on_tell}
 use Rattle.group_node.specs.ProposerRows.{on_refused, on_promise, on_submit, is_known}
 use Rattle.group_node.specs.WaitingKeys.{without_read}
 
--- the row of the message of node j
+-- The response to a message of node `j`, by its kind.
+-- Forbids: a kind without a response.
 abbrev pub row : Known → ℕ → Body → Response
 row n j (Prepare b from) = on_prepare n b from
 row n j (Promise b first upto votes) = on_promise n j b first upto votes
@@ -22,10 +23,10 @@ row n j (Submit v) = on_submit n v
 row n j (Ask from) = on_ask n j from
 row n j (Tell s v) = on_tell n s v
 
--- The row of this message of node j may need memory: it answers, or what it brings is new. A
--- Refused needs none, nor does what is ignored: a Promise under another ballot, a Submit at a node
--- that does not lead or that knows all its keys, an Ask from the front on, an Accepted and a Tell
--- that change nothing.
+-- The messages at which a node may need memory: it answers them, or what they bring is new.
+-- Forbids: memory for a Refused, and for what is ignored. That is a Promise under another ballot, a
+-- Submit at a node that does not lead or that knows all its keys, an Ask from the front on, and an
+-- Accepted and a Tell that change nothing.
 abbrev pub NeedsMemory : Known → ℕ → Body → Type 0
 NeedsMemory n j (Prepare b from) = Unit {0}
 NeedsMemory n j (Promise b first upto votes) =
@@ -39,10 +40,11 @@ NeedsMemory n j (Submit v) =
 NeedsMemory n j (Ask from) = from < front n
 NeedsMemory n j (Tell s v) = (heard_tell n.learner s v).answer ≢ Passed
 
--- keys that stand below the front wait no more
+-- The response after which the keys below the front wait no more.
 abbrev pub without_read_keys : Response → Response
 without_read_keys done = record done { node = without_read done.node }
 
--- a message of node j
+-- The response to a message of node `j`, after which the keys below the front wait no more.
+-- Allows: a message that was delivered before.
 abbrev pub on_message : Known → ℕ → Body → Response
 on_message n j body = without_read_keys (row n j body)

@@ -6,16 +6,16 @@ use Rattle.paxos_msg.specs.Batches.{Vote}
 use Rattle.paxos_proposer.specs.Proposer.{Proposer, next_value, proposal, proposing}
 use Rattle.group_node.specs.Packets.{Packet, to_all}
 
--- a proposer after some proposals, and these, in order
+-- A proposer after some proposals, and the proposals in order.
 pub record Proposals : Type 0 where
   pub proposer : Proposer
   pub made : List Vote
 
--- no proposal
+-- No proposal.
 abbrev pub stop : Proposer → Proposals
 stop p = record { proposer = p; made = [] }
 
--- proposes the value, if there is one, and then goes on
+-- The proposal of a value, if there is one, and what follows it.
 abbrev pub propose : Proposer → Option Value → (Proposer → Proposals) → Proposals
 propose p None go_on = stop p
 propose p (Some v) go_on = record {
@@ -23,15 +23,20 @@ propose p (Some v) go_on = record {
   made = proposal p v ∷ (go_on (proposing p (Some v))).made;
 }
 
--- up to so many proposals with no value offered
+-- Up to `n` proposals with no value offered.
+-- Allows: fewer, if the proposer has no more to make.
+-- Forbids: a value of the node's own.
+-- Source: Simple 2.2, phase 2(a); 3, gaps are filled by no-ops.
 unfoldable pub pump : ℕ → Proposer → Proposals
 pump zero p = stop p
 pump (suc n) p = propose p (next_value p None) (pump n)
 
--- a proposal of what is offered, where the proposer has none of its own
+-- The proposal of what is offered, if the proposer has none of its own to make.
+-- Source: Simple 2.2, phase 2(a).
 abbrev pub offer : Proposer → Value → Proposals
 offer p v = propose p (next_value p (Some v)) stop
 
--- the Accepts of the proposals, to all
+-- The Accepts of the proposals, to all.
+-- Source: Simple 2.2, phase 2(a).
 abbrev pub accepts_of : List Vote → List Packet
 accepts_of votes = map (λ vote. to_all (Accept vote.ballot vote.place vote.value)) votes

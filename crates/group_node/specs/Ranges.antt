@@ -1,4 +1,4 @@
--- When all of a node is in its ranges, whatever was sent: then what it sends has a spelling.
+-- The nodes all of which is in its ranges, whatever was sent: what they send has a spelling.
 use Rattle.std.specs.Prelude.{◌≡◌, ℕ, ◌+◌, ◌^◌, ◌<◌, ◌≤◌, All, List, length, IfSome}
 use Rattle.paxos_msg.specs.Fits.{Fits, IsBody, IsNode}
 use Rattle.paxos_msg.specs.Grammar.{AreBytes}
@@ -12,33 +12,40 @@ use Rattle.paxos_learner.specs.Learner.{Learner}
 use Rattle.group_node.specs.Known.{Response, Known}
 use Rattle.group_node.specs.Packets.{Packet}
 use Rattle.group_node.specs.Pump.{accepts_of, Proposals}
+use Rattle.paxos_msg.specs.declared.limits.TheConstants.{MOST_NODES}
+use Rattle.group_node.specs.declared.limits.TheConstants.{MOST_WAITING}
 
--- it is a node of a group of at most nine
+-- The nodes of a group of at most nine.
 pub record IsMember (me : Me) : Type 0 where
   pub node : IsNode me.group.size me.node
-  pub few : me.group.size ≤ 9
+  pub few : me.group.size ≤ MOST_NODES
 
--- a proposer of this node's
+-- The proposers of this node.
+-- Forbids: a proposer under another node's ballot.
 pub record IsOwnProposer (me : Me) (p : Proposer) : Type 0 where
   pub size : p.size ≡ me.group.size
   pub own : p.ballot.node ≡ me.node
   pub ranges : IsProposerInRange p
 
--- a learner of this group's
+-- The learners of this group.
 pub record IsOwnLearner (me : Me) (l : Learner) : Type 0 where
   pub size : l.size ≡ me.group.size
   pub ranges : IsLearnerInRange l
   pub window : AreInWindow l.learned
 
--- at most 256 characters wait, and the serials of their keys, from this one on, are from 1 on and
--- fit four bytes
+-- The characters that may wait.
+-- They are at most 256. The serials of their keys, from this one on, are at least 1 and fit four
+-- bytes.
+-- Forbids: 257 characters that wait.
 pub record IsWaiting (first : ℕ) (bytes : List ℕ) : Type 0 where
   pub some : 0 < first
   pub fits : first + length bytes ≤ 2 ^ 32
-  pub few : length bytes ≤ 256
+  pub few : length bytes ≤ MOST_WAITING
   pub characters : AreBytes bytes
 
--- the node is one of its group, was started, and all its parts are in their ranges and of its group
+-- The nodes in their ranges: started, a node of its group, with all parts in their ranges and of
+-- its group.
+-- Allows: a node that has heard nothing.
 pub record IsInRange (n : Known) : Type 0 where
   pub me : IsMember n.me
   pub kept : IsRecord n.me.group.size n.kept
@@ -47,23 +54,24 @@ pub record IsInRange (n : Known) : Type 0 where
   pub learner : IsOwnLearner n.me n.learner
   pub waiting : IsWaiting n.first n.waiting
 
--- a message of node j with a spelling in the node's group
+-- The messages of node `j` that have a spelling in the node's group.
 abbrev pub IsHeardFit : Me → ℕ → Body → Type 0
 IsHeardFit me j body = Fits me.group (record { sender = j; body = body })
 
--- each packet of the node has a spelling
+-- The packets of a node that all have a spelling.
 abbrev pub AllFit : Me → List Packet → Type 0
 AllFit me packets = All (λ packet. IsBody me.group.size me.node packet.body) packets
 
--- what a call of this node leaves: the same node, which is in its ranges, and packets that have a
--- spelling
+-- The responses of this node that fit: the same node, in its ranges, and packets that have a
+-- spelling.
 pub record IsFit (me : Me) (done : Response) : Type 0 where
   pub same : done.node.me ≡ me
   pub ranges : IsInRange done.node
   pub sends : AllFit me done.sends
 
--- proposals of this node's proposer: it is one of the node's still, under the same ballot, and each
--- has a spelling as an Accept
+-- The proposals of this node's proposer that fit.
+-- The proposer is still the node's, under the same ballot, and each proposal has a spelling as an
+-- Accept.
 pub record AreFit (me : Me) (p : Proposer) (proposals : Proposals) : Type 0 where
   pub own : IsOwnProposer me proposals.proposer
   pub ballot : proposals.proposer.ballot ≡ p.ballot

@@ -7,39 +7,44 @@ use Rattle.paxos_learner.specs.Input.{learned_input}
 use Rattle.group_node.specs.Known.{Known}
 use Rattle.group_node.specs.Output.{Progress}
 use Rattle.group_node.specs.Ranges.{IsInRange}
+use Rattle.paxos_msg.specs.declared.limits.TheConstants.{MOST_NODES}
 
--- of a node's part in the protocol: what it knows, whether it gave its store up, and the store
+-- A node's part in the protocol: what it knows, whether a save has failed, and the store.
 pub record Protocol (S : Type 0) : Type 0 where
   pub known : Known
   pub is_stopped : Bool
   pub store : S
 
--- of a node: its part in the protocol, and how far its machine has come
+-- A node: its part in the protocol, and the progress of its machine.
 pub record NodeState (S : Type 0) : Type 0 where
   pub protocol : Protocol S
   pub progress : Progress
 
--- characters that wait, of which the first is the key with this serial
+-- The characters that wait, of which the first is the key with this serial.
 pub record Waiting : Type 0 where
   pub first : ℕ
   pub bytes : List ℕ
 
--- its learned input
+-- The learned input of a node.
+-- Source: Simple 3.
 abbrev pub input : Known → List ℕ
 input n = learned_input n.learner.learned
 
--- a group has 1, 3, 5, 7 or 9 nodes
+-- The sizes of a group: 1, 3, 5, 7 and 9 nodes.
+-- Forbids: 2 nodes.
 pub record IsSize (size : ℕ) : Type 0 where
   pub odd : size % 2 ≡ 1
-  pub few : size ≤ 9
+  pub few : size ≤ MOST_NODES
 
--- a node of a group of such a size
+-- The nodes of a group of such a size.
+-- Forbids: node 0.
 pub record IsConfig (me : Me) : Type 0 where
   pub size : IsSize me.group.size
   pub node : IsNode me.group.size me.node
 
--- What always holds of a node's part in the protocol: its size is one of a group's, all that it
--- knows is in its ranges, and an honest store has its record, unless the store was given up.
+-- The invariant of a node's part in the protocol.
+-- Its size is one of a group's, and all that it knows is in its ranges. An honest store has its
+-- record, unless a save has failed.
 pub record IsInStep {S : Type 0} (honest : Type 0) (state : S → StoreState)
     (p : Protocol S) : Type 0 where
   pub size : IsSize p.known.me.group.size

@@ -16,18 +16,23 @@ use Rattle.group_node.specs.Packets.{Packet, bodies_of}
 use Rattle.group_node.specs.Backs.{Backs}
 use Rattle.group_node.specs.Ranges.{IsHeardFit}
 
--- a save of this change, if there is one, may be made and leads from one record to the other
+-- The save of a change, if there is one, that may be made and leads from one record to the other.
+-- Source: Simple 2.5.
 abbrev pub IsSavedBy : Sent → Record → Option Change → Record → Type 0
 IsSavedBy sent old None new = new ≡ old
 IsSavedBy sent old (Some c) new = MaySave sent old c × (new ≡ changed old c)
 
--- the messages by which a node hands these packets out
+-- The messages by which a node sends these packets.
 abbrev pub messages_handed_out : ℕ → List Packet → Sent
 messages_handed_out i packets = messages_of i (bodies_of packets)
 
--- A call of a node, before which its record was old and it had learned these values: it saves what
--- it may; what it has learned is backed by what was sent before the call; what was learned stays;
--- what it sends may be sent, one after another; and then the node is backed.
+-- The calls of a node that the rules allow.
+-- Before it the record was `old`, and these values were learned. It saves what it may. What it has
+-- learned is backed by what was sent before the call. What was learned stays. What it sends may be
+-- sent, one message after another. Then the node is backed.
+-- Allows: a call that does nothing.
+-- Forbids: a place learned from what the call itself sends.
+-- Source: Simple 2.2, 2.3 and 2.5.
 pub record IsLawful (sent : Sent) (typed : List Key) (old : Record) (before : FinMap nat_cmp Value)
     (done : Response) : Type 0 where
   pub saves : IsSavedBy sent old done.saves done.node.kept
@@ -37,21 +42,24 @@ pub record IsLawful (sent : Sent) (typed : List Key) (old : Record) (before : Fi
       (get done.node.learner.learned) sent done.node.me.node done.node.kept (bodies_of done.sends)
   pub backs : Backs (sent ++ messages_handed_out done.node.me.node done.sends) typed done.node
 
--- the same of a call of this node
+-- The calls of this node that the rules allow.
 abbrev pub IsLawfulCall : Sent → List Key → Known → Response → Type 0
 IsLawfulCall sent typed n done = IsLawful sent typed n.kept n.learner.learned done
 
--- node j has sent this message, and it has a spelling in the group
+-- The messages that node `j` has sent and that have a spelling in the group.
+-- Allows: a message from long ago.
+-- Forbids: a message that nobody sent.
+-- Source: Simple 2.1, messages are not corrupted.
 pub record IsDelivered (sent : Sent) (n : Known) (j : ℕ) (body : Body) : Type 0 where
   pub is_sent : IsSent sent j body
   pub fits : IsHeardFit n.me j body
 
 -- ---- what a group says of all that was sent
 
--- what was told is chosen
+-- The claim that each value that was told is chosen.
 abbrev pub AllChosen : ℕ → Sent → Type 0
 AllChosen size sent = (s : ℕ) (v : Value) → IsSaid sent (Tell s v) → IsChosen size sent s v
 
--- what was submitted was typed at its sender
+-- The claim that each value that was submitted was typed at its sender.
 abbrev pub AllTyped : Sent → List Key → Type 0
 AllTyped sent typed = (i : ℕ) (v : Value) → IsSent sent i (Submit v) → IsTyped typed i v

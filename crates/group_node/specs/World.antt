@@ -22,22 +22,27 @@ use Rattle.group_node.specs.Console.{offered}
 use Rattle.group_node.specs.Known.{Response, Known, waiting_keys}
 use Rattle.group_node.specs.Steps.{messages_handed_out}
 
--- a node that is up: what it has learned, how far its machine has come, how many bytes of its
--- output were released, and the keys that wait
+-- A node that is up: what it has learned, its machine's configuration, the number of released
+-- bytes, and the keys that wait.
+-- Source: Simple 2.5; 3.
 pub record Up : Type 0 where
   pub learned : FinMap nat_cmp Value
   pub configuration : Configuration
   pub released : ℕ
   pub waiting : List Key
 
--- of one node: its stored record, its console, and itself where it is up
+-- A node's stored record, its console, and the node itself if it is up.
+-- Source: Simple 2.5.
 pub record Seat : Type 0 where
   pub kept : Record
   pub console : List ℕ
   pub up : Option Up
 
--- a group that runs a program: its nodes by number, all that was sent, and all keys that were
--- typed, the oldest first
+-- A group that runs a program: its nodes by number, all that was sent, and all keys that were
+-- typed, the oldest first.
+-- Allows: a group of any size.
+-- Forbids: a message that is forgotten.
+-- Source: Simple 2.1, asynchronous processes that may stop and restart.
 pub record WorldState : Type 0 where
   pub program : Parts
   pub size : ℕ
@@ -45,8 +50,10 @@ pub record WorldState : Type 0 where
   pub sent : Sent
   pub typed : List Key
 
--- what happens at a node: a byte is typed, the message of that number is delivered, it campaigns,
--- it ticks, it runs for at most so many steps, it releases a byte, it crashes, it starts
+-- What happens at a node.
+-- A byte is typed, the message of that number is delivered, it campaigns, it ticks, it runs for at
+-- most `steps` steps, it releases a byte, it crashes, it starts.
+-- Source: Simple 2.1.
 pub data Event : Type 0 where
   Press : (i byte : ℕ) → Event
   Deliver : (m i : ℕ) → Event
@@ -57,11 +64,12 @@ pub data Event : Type 0 where
   Crash : (i : ℕ) → Event
   Start : (i : ℕ) → Event
 
--- a node that has just started
+-- A node that has just started.
 abbrev pub fresh : Parts → Up
 fresh p = record { learned = empty; configuration = begin p; released = 0; waiting = [] }
 
--- nothing changes but at node i, which sends these messages, and at which these keys were typed
+-- The change of a group at node `i` alone, which sends these messages, and at which these keys were
+-- typed.
 pub record ChangesOnly (w v : WorldState) (i : ℕ) (bodies : List Body)
     (keys : List Key) : Type 0 where
   pub program : v.program ≡ w.program
@@ -72,14 +80,18 @@ pub record ChangesOnly (w v : WorldState) (i : ℕ) (bodies : List Body)
 
 -- ---- calls that may save and send
 
--- keys wait behind others, and leave only from the front, where they stand below the known front
+-- The keys that still wait: keys are added at the end, and leave only from the front, once they are
+-- below the known front.
+-- Forbids: a key that leaves before it is read.
 pub record AreParted (learned : FinMap nat_cmp Value) (keys stay : List Key) : Type 0 where
   pub gone : List Key
   pub parts : keys ≡ gone ++ stay
   pub below : All (λ k. Contains (keys_in_order (front_values learned)) k) gone
 
--- What a node that is up may make of itself: it learns only what was told, or accepted by a
--- majority under one ballot; its machine and what it has released stay.
+-- The changes that a node which is up may make to itself.
+-- It learns only what was told, or accepted by a majority under one ballot. Its machine and what it
+-- has released stay.
+-- Source: Simple 2.3.
 pub record LearnsOnly (w : WorldState) (keys : List Key) (was now : Up) : Type 0 where
   pub keeps : HasLearnedMore was.learned now.learned
   pub gains : (s : ℕ) (v : Value) → get now.learned s ≡ Some v
@@ -88,8 +100,10 @@ pub record LearnsOnly (w : WorldState) (keys : List Key) (was now : Up) : Type 0
   pub released : now.released ≡ was.released
   pub waiting : AreParted now.learned (was.waiting ++ keys) now.waiting
 
--- A call of node i, which is up: it saves this change, if any, which it may, and then sends what it
--- may.
+-- The call of node `i`, which is up: it saves this change, if any, which it may, and then sends
+-- what it may.
+-- Allows: any packets that may be sent.
+-- Source: Simple 2.2, 2.3 and 2.5.
 pub record MakesCall (w v : WorldState) (i : ℕ) (c : Option Change) (keys : List Key) : Type 0 where
   pub bodies : List Body
   pub was : Up
@@ -102,8 +116,11 @@ pub record MakesCall (w v : WorldState) (i : ℕ) (c : Option Change) (keys : Li
   pub sends : MaySendAll w.size v.typed (get now.learned) w.sent i (after (w.seats i).kept c) bodies
   pub learns : LearnsOnly w keys was now
 
--- A save of this change has failed: the record is the old one or the changed one, nothing was sent,
--- and the node is down.
+-- The fall of a node whose save of this change has failed.
+-- The record is the old one or the changed one, nothing was sent, and the node is down.
+-- Allows: the changed record after a failed save.
+-- Forbids: a packet of that call.
+-- Source: Simple 2.5.
 pub record Falls (w v : WorldState) (i : ℕ) (c : Change) : Type 0 where
   pub saves : MaySave w.sent (w.seats i).kept c
   pub kept : IsOneOf (v.seats i).kept (w.seats i).kept (changed (w.seats i).kept c)
@@ -111,17 +128,19 @@ pub record Falls (w v : WorldState) (i : ℕ) (c : Change) : Type 0 where
   pub down : (v.seats i).up ≡ None
   pub rest : ChangesOnly w v i [] []
 
--- a call that saves this change, if any, and if it does may fail
+-- The call that saves this change, if any, and that may fail if it does.
 abbrev pub CallOrFall : WorldState → WorldState → ℕ → Option Change → Type 0
 CallOrFall w v i None = MakesCall w v i None []
 CallOrFall w v i (Some c) = MakesCall w v i (Some c) [] ⊎ (IsSome (w.seats i).up × Falls w v i c)
 
--- this change, or none
+-- This change, or none.
 abbrev pub IsNoneOr : Change → Option Change → Type 0
 IsNoneOr c o = (o ≡ None) ⊎ (o ≡ Some c)
 
--- what a delivered message may make a node save: a Prepare the promise of its ballot, an Accept a
--- vote for what it proposes
+-- The change that a delivered message may cause: a Prepare the promise of its ballot, an Accept a
+-- vote for what it proposes.
+-- Forbids: a vote saved at a Promise.
+-- Source: Simple 2.2.
 abbrev pub MayCause : Body → Option Change → Type 0
 MayCause (Prepare b from) o = IsNoneOr (change.Promise b) o
 MayCause (Promise b first upto votes) o = o ≡ None
@@ -132,7 +151,8 @@ MayCause (Submit v) o = o ≡ None
 MayCause (Ask from) o = o ≡ None
 MayCause (Tell s v) o = o ≡ None
 
--- message number m is delivered, which may be any, at any time
+-- The delivery of message number `m`, which may be any, at any time.
+-- Allows: a message to a node that it was not meant for.
 pub record Delivers (w v : WorldState) (m i : ℕ) : Type 0 where
   pub message : Msg
   pub is_sent : slice_get w.sent m ≡ Some message
@@ -140,12 +160,13 @@ pub record Delivers (w v : WorldState) (m i : ℕ) : Type 0 where
   pub cause : MayCause message.body saved
   pub call : CallOrFall w v i saved
 
--- a promise of a ballot of its own is saved
+-- The campaign of a node: a promise of a ballot of its own is saved.
+-- Source: Simple 2.2; 2.5.
 pub record Campaigns (w v : WorldState) (i : ℕ) : Type 0 where
   pub round : ℕ
   pub call : CallOrFall w v i (Some (change.Promise (record { round = round; node = i })))
 
--- one key more was typed
+-- The typing of one more key.
 pub record Presses (w v : WorldState) (i byte : ℕ) : Type 0 where
   pub key : Key
   pub node : key.node ≡ i
@@ -153,7 +174,8 @@ pub record Presses (w v : WorldState) (i byte : ℕ) : Type 0 where
   pub character : key.byte ≡ byte
   pub call : MakesCall w v i None (key ∷ [])
 
--- a start is saved, and the node is up
+-- The start of a node: it is saved, and the node is up.
+-- Source: Simple 2.5.
 pub record StartsUp (w v : WorldState) (i : ℕ) : Type 0 where
   pub left : v.seats i
       ≡ record {
@@ -165,12 +187,16 @@ pub record StartsUp (w v : WorldState) (i : ℕ) : Type 0 where
 
 -- ---- the machine, its output, and crashes
 
--- n steps on the input x lead from one configuration to another
+-- The configurations `c` and `d` before and after `n` steps on the input `x`.
+-- Source: Manual, p-machine.
 unfoldable pub MakesSteps : Parts → List ℕ → ℕ → Configuration → Configuration → Type 0
 MakesSteps p x zero c d = d ≡ c
 MakesSteps p x (suc n) c d = (b : Configuration) × MakesSteps p x n c b × Step p x b d
 
--- the machine of node i makes at most so many steps on the learned input
+-- The run of node `i`: its machine makes at most `steps` steps on the learned input.
+-- Allows: a run of fewer steps.
+-- Forbids: a step on a byte from above a hole.
+-- Source: Simple 3.
 pub record MakesRun (w v : WorldState) (i steps : ℕ) : Type 0 where
   pub was : Up
   pub configuration : Configuration
@@ -182,7 +208,7 @@ pub record MakesRun (w v : WorldState) (i steps : ℕ) : Type 0 where
       ≡ record (w.seats i) { up = Some (record was { configuration = configuration }) }
   pub rest : ChangesOnly w v i [] []
 
--- what is left by the release of a byte, if one waits: it is offered to the console by its number
+-- The seat after the release of a byte, if one waits: it is offered to the console by its number.
 abbrev pub after_release : Seat → Up → Option ℕ → Seat
 after_release seat was None = seat
 after_release seat was (Some byte) =
@@ -192,7 +218,8 @@ after_release seat was (Some byte) =
       up = Some (record was { released = was.released + 1 });
     }
 
--- the first byte of the output that wasn't released goes to the console
+-- The release of the first byte of the output that was not released, which goes to the console.
+-- Allows: a release when nothing waits.
 pub record Releases (w v : WorldState) (i : ℕ) : Type 0 where
   pub was : Up
   pub from : (w.seats i).up ≡ Some was
@@ -200,14 +227,23 @@ pub record Releases (w v : WorldState) (i : ℕ) : Type 0 where
       ≡ after_release (w.seats i) was (slice_get was.configuration.output was.released)
   pub rest : ChangesOnly w v i [] []
 
--- the node is down; its record and its console stay
+-- The crash of a node: it is down, and its record and its console stay.
+-- Forbids: a console that is emptied by a crash.
 pub record Crashes (w v : WorldState) (i : ℕ) : Type 0 where
   pub left : v.seats i ≡ record (w.seats i) { up = None }
   pub rest : ChangesOnly w v i [] []
 
 -- ---- events
 
--- the event leads from one group to the other
+-- The groups before and after an event.
+-- Only its node changes. That node saves at most one change, which it may, and sends what it may.
+-- It learns only what was told, or accepted by a majority under one ballot. Its machine makes steps
+-- on the learned input.
+-- Allows: a message delivered to any node, at any time, any number of times, or never; a crash at
+-- any time.
+-- Forbids: a start saved except at a `Start`; a promise saved except at a Prepare under its ballot
+-- or a campaign of its own; a change of another node.
+-- Source: Simple 2.1 to 2.3, 2.5 and 3.
 abbrev pub WorldStep : WorldState → Event → WorldState → Type 0
 WorldStep w (Press i byte) v = Presses w v i byte
 WorldStep w (Deliver m i) v = Delivers w v m i
@@ -220,7 +256,7 @@ WorldStep w (Start i) v = ((w.seats i).up ≡ None) × (StartsUp w v i ⊎ Falls
 
 -- ---- a node's calls as events
 
--- the seat of a node that is up, whose machine has come to c and has released k bytes
+-- The seat of a node that is up, whose machine has come to `c` and has released `k` bytes.
 abbrev pub seat_of : Known → Configuration → ℕ → List ℕ → Seat
 seat_of n c k console =
     record {
@@ -235,11 +271,11 @@ seat_of n c k console =
           });
     }
 
--- the group with this seat of node i
+-- The group with this seat of node `i`.
 abbrev pub with_seat : WorldState → ℕ → Seat → WorldState
 with_seat w i seat = record w { seats = λ j. if j == i then seat else w.seats j }
 
--- the group after a call of node i, in which these keys were typed
+-- The group after a call of node `i`, in which these keys were typed.
 abbrev pub after_call : WorldState → ℕ → Response → List Key → Configuration → ℕ → List ℕ
     → WorldState
 after_call w i done keys c k console = record (with_seat w i (seat_of done.node c k console)) {
@@ -247,7 +283,7 @@ after_call w i done keys c k console = record (with_seat w i (seat_of done.node 
   typed = w.typed ++ keys;
 }
 
--- the node sits in its group, and its machine and its console are these
+-- The facts of a node in its group, with its machine and its console.
 pub record Sits (w : WorldState) (n : Known) (c : Configuration) (k : ℕ)
     (console : List ℕ) : Type 0 where
   pub size : w.size ≡ n.me.group.size

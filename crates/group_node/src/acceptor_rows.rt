@@ -1,10 +1,10 @@
-//! The rows of a node's acceptor: a Prepare and an Accept.
+//! What a node does at a Prepare and at an Accept: its acceptor answers.
 ghost use Rattle.std.specs.Prelude.{◌≡◌, ◌⊎◌, [], false, IfErr, option_map};
 ghost use Rattle.paxos_msg.specs.Fits.{IsBallot, IsPlace, IsValue};
-ghost use Rattle.group_node.specs.Calls.{Does, Saves};
+ghost use Rattle.group_node.specs.Calls.{Does, MayFailToSave, Saves};
 ghost use Rattle.group_node.specs.AcceptorRows.{accept_answered_to, on_accept, on_prepare, unless_passed};
 
-use crate::fault::{NodeFault, fault_of};
+use crate::fault::{NodeFault, node_fault};
 use crate::laws::rows_fit;
 use crate::outbox::Outbox;
 use crate::packet::To;
@@ -14,7 +14,7 @@ use paxos_acceptor::{Store, greater_promise};
 use paxos_msg::{Ballot, Value};
 use paxos_proposer::Proposer;
 
-/// The proposer, unless the promised ballot is above its own.
+/// Returns the proposer, unless the promised ballot is above its own.
 fn unless_passed(promised: Option<Ballot>, proposer: Option<Proposer>) -> Option<Proposer>
     ensures { option_map (λ p. p.known) result
         ≡ unless_passed promised (option_map (λ p. p.known) proposer) }
@@ -25,7 +25,7 @@ fn unless_passed(promised: Option<Ballot>, proposer: Option<Proposer>) -> Option
     }
 }
 
-/// To whom the answer to an Accept goes.
+/// Returns to whom the answer to an Accept goes.
 fn accept_answered_to(greater: Option<Ballot>, ballot: Ballot) -> To
     ensures { result ≡ accept_answered_to greater ballot }
 {
@@ -36,7 +36,7 @@ fn accept_answered_to(greater: Option<Ballot>, ballot: Ballot) -> To
 }
 
 impl<S: Store> Protocol<S> {
-    /// Answers a Prepare: the acceptor's answer goes to the ballot's node. The room for it is made
+    /// Answers a Prepare. The acceptor's answer goes to the ballot's node. Room for it is made
     /// before anything changes.
     pub(crate) fn on_prepare(
         &mut self,
@@ -52,21 +52,21 @@ impl<S: Store> Protocol<S> {
             (on_prepare self.old.known ballot from) result }
         ensures saves { Saves S.honest S.fails_at_will S.state self.old self.new
             (on_prepare self.old.known ballot from) result }
-        ensures others { IfErr result (λ e. (e ≡ NodeFault.Memory) ⊎ (e ≡ NodeFault.Store)) }
+        ensures others { MayFailToSave result }
     {
         promises_fit();
         rows_fit();
         outbox.make_ready(1)?;
         let answer = match self.acceptor.prepare(ballot, from) {
             Ok(answer) => answer,
-            Err(fault) => return Err(fault_of(fault)),
+            Err(fault) => return Err(node_fault(fault)),
         };
         self.proposer = unless_passed(self.acceptor.record().promised, self.proposer.take());
         outbox.put(self.me, To::One(ballot.node), answer);
         Ok(())
     }
 
-    /// Answers an Accept: Accepted goes to all, Refused to the ballot's node.
+    /// Answers an Accept. An Accepted goes to all, a Refused to the ballot's node.
     pub(crate) fn on_accept(
         &mut self,
         ballot: Ballot,
@@ -83,7 +83,7 @@ impl<S: Store> Protocol<S> {
             (on_accept self.old.known ballot place value) result }
         ensures saves { Saves S.honest S.fails_at_will S.state self.old self.new
             (on_accept self.old.known ballot place value) result }
-        ensures others { IfErr result (λ e. (e ≡ NodeFault.Memory) ⊎ (e ≡ NodeFault.Store)) }
+        ensures others { MayFailToSave result }
     {
         votes_fit();
         rows_fit();
@@ -91,7 +91,7 @@ impl<S: Store> Protocol<S> {
         let greater = greater_promise(self.acceptor.record().promised, ballot);
         let answer = match self.acceptor.accept(ballot, place, value) {
             Ok(answer) => answer,
-            Err(fault) => return Err(fault_of(fault)),
+            Err(fault) => return Err(node_fault(fault)),
         };
         self.proposer = unless_passed(self.acceptor.record().promised, self.proposer.take());
         outbox.put(self.me, accept_answered_to(greater, ballot), answer);

@@ -1,10 +1,11 @@
-//! Which node of which group.
+//! The node's number and its group.
 ghost use Rattle.std.specs.Prelude.{◌≡◌, ◌↔◌, ◌<◌, ◌⊎◌, IfOk, IfErr, IsErrOf};
 ghost use Rattle.group_node.specs.States.{IsConfig, IsSize};
 
 use crate::fault::NodeFault;
 use paxos_acceptor::Me;
 use paxos_msg::Group;
+use paxos_msg::limits::MOST_NODES;
 use std::marker::Model;
 
 /// A node of a group of 1, 3, 5, 7 or 9 nodes.
@@ -25,9 +26,9 @@ impl Model for Config {
 }
 
 impl Config {
-    /// Node `node` of a group of `size` nodes; the session is a number that tells groups apart.
-    /// `Size` where the size is even or above 9, and else `Id` where the node is 0 or above the
-    /// size.
+    /// Returns node `node` of a group of `size` nodes. The session is a number that tells groups
+    /// apart. Fails with `Size` if the size is even or above 9, and otherwise with `Id` if the node
+    /// is 0 or above the size.
     pub fn new(node: u8, size: u8, session: u32) -> Result<Config, NodeFault>
         ensures ok { IfOk result
             (λ c. c ≡ record { node = node; group = record { size = size; session = session } }) }
@@ -35,7 +36,7 @@ impl Config {
         ensures id { IsErrOf result NodeFault.Id ↔ (IsSize size × ((node ≡ 0) ⊎ (size < node))) }
         ensures others { IfErr result (λ e. (e ≡ NodeFault.Size) ⊎ (e ≡ NodeFault.Id)) }
     {
-        if size % 2 == 0 || size > 9 {
+        if size % 2 == 0 || size > MOST_NODES {
             return Err(NodeFault::Size);
         }
         if node == 0 || size < node {
@@ -47,7 +48,7 @@ impl Config {
         })
     }
 
-    /// The node and its group.
+    /// Returns the node's number and its group.
     pub fn me(&self) -> Me
         ensures me { result ≡ self.now }
         ensures ranges { IsConfig self.now }

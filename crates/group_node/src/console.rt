@@ -6,7 +6,7 @@ use crate::fault::NodeFault;
 use std::alloc::Global;
 use std::marker::Model;
 
-/// What a console makes of a byte that is offered.
+/// What a console does with an offered byte.
 #[derive(Clone, Copy, Debug, PartialEq, Eq)]
 pub enum Offer {
     /// The byte is the next one, and is shown.
@@ -15,11 +15,11 @@ pub enum Offer {
     Repeat,
     /// Bytes before it are missing.
     Gap,
-    /// The byte is the next one, and there is no memory for it.
+    /// The byte is the next one, and memory has run out.
     Memory,
 }
 
-/// A console. It shows bytes one behind another, and takes back none.
+/// A console. It shows bytes one after another, and takes back none.
 pub struct Console {
     bytes: Vec<u8>,
 }
@@ -43,7 +43,7 @@ impl Model for Console {
 }
 
 impl Console {
-    /// A console that has shown nothing. It takes no memory.
+    /// Makes a console that has shown nothing. It allocates nothing.
     pub fn new(alloc: Global) -> Console
         ensures { result.bytes ≡ [] }
     {
@@ -52,8 +52,8 @@ impl Console {
         }
     }
 
-    /// Makes room for one byte, so that the next one is not refused for want of memory. It is
-    /// refused only as `Memory`, and what was shown stays.
+    /// Makes room for one byte, so that the next one is not refused as `Memory`. Fails only with
+    /// `Memory`. What was shown stays.
     pub fn reserve(&mut self) -> Result<(), NodeFault>
         ensures bytes { self.new.bytes ≡ self.old.bytes }
         ensures room { OnOk result (0 < self.new.room) }
@@ -65,7 +65,7 @@ impl Console {
         }
     }
 
-    /// Offers the byte with this number, counted from 0. The next byte is shown; one that was shown
+    /// Offers the byte of number `number`, from 0 on. The next byte is shown. A byte that was shown
     /// before, or before which others are missing, changes nothing. Without room the next byte may
     /// be refused as `Memory`.
     pub fn offer(&mut self, number: u64, byte: u8) -> Offer
@@ -89,7 +89,7 @@ impl Console {
         }
     }
 
-    /// The bytes that it has shown, the oldest first.
+    /// Returns the bytes that it has shown, the oldest first.
     pub fn bytes(&self) -> &[u8]
         ensures { result.now ≡ self.now.bytes }
     {

@@ -12,7 +12,7 @@ use std::fmt;
 /// Why a node refuses a call. Its text is its code.
 #[derive(Clone, Copy, Debug, PartialEq, Eq)]
 pub enum NodeFault {
-    /// There is no memory.
+    /// Out of memory.
     Memory,
     /// The store's device failed.
     Store,
@@ -73,8 +73,8 @@ impl fmt::Display for NodeFault {
 
 impl Error for NodeFault {}
 
-/// What an acceptor's fault is to its node.
-pub(crate) fn fault_of(fault: AcceptorFault) -> NodeFault
+/// Returns the node's fault for an acceptor's fault.
+pub(crate) fn node_fault(fault: AcceptorFault) -> NodeFault
     ensures { result ≡ node_fault fault }
 {
     match fault {
@@ -86,7 +86,7 @@ pub(crate) fn fault_of(fault: AcceptorFault) -> NodeFault
     }
 }
 
-/// A learner has no other fault than want of memory.
+/// A learner fails only if memory runs out.
 impl From<LearnerFault> for NodeFault {
     ghost use Rattle.std.specs.Prelude.{◌≡◌};
     ghost use Rattle.group_node.specs.declared.fault.NodeFault.TheVariants.{Memory};

@@ -1,5 +1,5 @@
-//! The laws of a node and of its output, over the definitions alone. Each is the contract of a
-//! function that does nothing.
+//! Laws of a node and of its output, over the definitions alone. Each is the contract of a function
+//! that does nothing.
 mod events;
 mod fitting;
 mod inputs;

@@ -1,4 +1,17 @@
-//! A node of the group, and a console.
+//! One node of a replicated group, and a console, for those who write their own network.
+//!
+//! - `Node::start(alloc, &program, config, store)` starts a node over the stored record of its
+//! acceptor. `Config::new(node, size, session)?` is its place in the group.
+//! - `node.typed(byte)?`, `node.on_message(&view, &mut outbox)?`, `node.campaign(&mut outbox)?` and
+//! `node.tick(&mut outbox)?` are its events. Each saves first, at most once. Then it puts the
+//! packets that are to be sent into the outbox, from which `outbox.pop()` takes them.
+//! - `node.run(steps)?` runs the program on the learned keys. `node.release()` returns its next
+//! output byte with its number, and `console.offer(number, byte)` shows it.
+//!
+//! Tick each node from time to time, and let one node campaign, which then leads. docs/LIBRARY.md
+//! runs a node by hand. A refusal is a `NodeFault`: after `Memory` nothing has
+//! changed, and after `Store` the node is stopped. The module `laws` has what holds of each node
+//! and of its group.
 #![tactic(auto)]
 
 mod acceptor_rows;
@@ -7,6 +20,7 @@ mod console;
 mod fault;
 pub mod laws;
 mod learner_rows;
+pub mod limits;
 mod node;
 mod outbox;
 mod packet;

@@ -1,4 +1,4 @@
-//! A node.
+//! One node of a group.
 ghost use Rattle.std.specs.Prelude.{◌≡◌, ◌≢◌, ◌↔◌, ◌+◌, ◌⊎◌, ◌<◌, ◌≤◌, ℕ, List, [], false, true, length, option_map, slice_get, IsSome, None, Result, IfErr, IfNone, IfOk, IsErrOf, OnErr, OnOk, OnSome};
 ghost use Rattle.std.specs.FinMap.{get};
 ghost use Rattle.paxos_msg.specs.declared.record.Change.TheVariants.{Start};
@@ -9,11 +9,12 @@ ghost use Rattle.paxos_acceptor.specs.Records.{IsRecord};
 ghost use Rattle.paxos_acceptor.specs.Stores.{FailsAsTold, HasCause, IsOneOf};
 ghost use Rattle.paxos_acceptor.specs.declared.store.StoreFault.{StoreFault};
 ghost use Rattle.paxos_learner.specs.Learner.{IsFront};
-ghost use Rattle.paxos_proposer.specs.Proposer.{greatest_round};
+ghost use Rattle.paxos_msg.specs.declared.limits.TheConstants.{LAST_ROUND, LAST_SERIAL, LAST_START, PLACES};
+ghost use Rattle.group_node.specs.declared.limits.TheConstants.{MOST_WAITING, TICK_PACKETS};
 ghost use Rattle.group_node.specs.Calls.{Does, IsLet, IsLetIn, Saves};
 ghost use Rattle.group_node.specs.Protocol.{NeedsMemory, on_message};
 ghost use Rattle.group_node.specs.Known.{on_typed, front, new_key, next_serial, on_start};
-ghost use Rattle.group_node.specs.ProposerRows.{is_leading, own_ballot, on_campaign};
+ghost use Rattle.group_node.specs.ProposerRows.{is_leading, last_round, own_ballot, on_campaign};
 ghost use Rattle.group_node.specs.Tick.{on_tick};
 ghost use Rattle.group_node.specs.Output.{IsReplay, no_progress, RunsOn, unreleased_of};
 ghost use Rattle.group_node.specs.Player.{IsPlayed, progress_of};
@@ -22,21 +23,25 @@ ghost use Rattle.group_node.specs.Starting.{StartsAfter};
 ghost use Rattle.group_node.specs.States.{input};
 
 use crate::config::Config;
-use crate::fault::{NodeFault, fault_of};
+use crate::fault::{NodeFault, node_fault};
+use crate::laws::what_goes_out_fits;
+use crate::limits::MOST_WAITING;
 use crate::outbox::Outbox;
 use crate::player::{Player, Ran};
 use crate::protocol::{Protocol, StartRefused};
 use crate::waiting_keys::Waiting;
 use paxos_acceptor::{Acceptor, OpenRefused, Store};
 use paxos_learner::laws::{input_grows, learned_stays};
+use paxos_learner::{KeySet, Learner};
+use paxos_msg::limits::{LAST_SERIAL, LAST_START};
 use paxos_msg::{Ballot, Record, Value, View};
 use pcode_machine::laws::{run_is_after, same_run_on_longer_input};
 use pcode_ops::Program;
 use std::alloc::{AllocError, Global};
 use std::marker::Model;
 
-/// One node of a group, over the store of its acceptor's record: its part in the protocol, and the
-/// machine that runs the program on the keys of the learned places below the known front.
+/// One node of a group, over the store of its acceptor's record. It has its part in the protocol,
+/// and the machine that runs the program on the keys of the learned places below the known front.
 ///
 /// A call of a node is one event. What the node has to send goes into an outbox. A call that saves
 /// does so before it sends, at most once, and makes all its room before that: after `Memory`
@@ -71,8 +76,8 @@ impl<'a, S: Store> Model for Node<'a, S> {
     ghost invariant = { λ n. IsPlayed (input n.protocol.known) n.player };
 }
 
-/// The room of a node beside its acceptor: for the machine and its output, and for the keys that
-/// wait.
+/// Makes the room of a node besides its acceptor: for the machine and its output, and for the keys
+/// that wait.
 fn room<'a>(alloc: Global, program: &'a Program) -> Result<(Player<'a>, Waiting), AllocError>
     ensures player { IfOk result (λ x. progress_of x.0 ≡ no_progress program.now) }
     ensures exact { (input : List ℕ) → IfOk result (λ x. IsPlayed input x.0) }
@@ -82,14 +87,14 @@ fn room<'a>(alloc: Global, program: &'a Program) -> Result<(Player<'a>, Waiting)
 }
 
 impl<'a, S: Store> Node<'a, S> {
-    /// Starts the node over what its store has. A start is counted and saved; then the node has
-    /// learned, offered and typed nothing, and its machine is before its first step. All room is
-    /// made before the save.
+    /// Starts the node over the record of its store. The start is counted and saved. Then the node
+    /// has learned, offered and typed nothing, and its machine is before its first step. All room
+    /// is made before the save.
     ///
-    /// `Memory`, `Store` and `BadRecord` are what the load met, `BadRecord` also a record out of
-    /// its ranges. `StartsSpent` after 4,294,967,295 starts. Then `Memory` for want of room, and
-    /// `Store` where the save failed. A refusal gives the store back; but for a failed save it has
-    /// the record that it had.
+    /// Fails with `Memory`, `Store` or `BadRecord` if the load does, and with `BadRecord` if the
+    /// record is out of its ranges. Then fails with `StartsSpent` after 4,294,967,295 starts, with
+    /// `Memory` if there is no room, and with `Store` if the save failed. A refusal gives the store
+    /// back. It has the record that it had, unless the save failed.
     pub fn start(
         alloc: Global,
         program: &'a Program,
@@ -113,10 +118,10 @@ impl<'a, S: Store> Node<'a, S> {
             → ¬ IsRecord config.group.size (S.state store).stored) }
         ensures spent { S.honest
             → IfErr result (λ e. e.fault ≡ NodeFault.StartsSpent
-            → (S.state store).stored.starts ≡ 4294967295) }
+            → (S.state store).stored.starts ≡ LAST_START) }
         ensures fit { S.honest
             → IfOk result (λ _. IsRecord config.group.size (S.state store).stored
-            × ((S.state store).stored.starts < 4294967295)) }
+            × ((S.state store).stored.starts < LAST_START)) }
         ensures device { S.honest
             → IfErr result (λ e. e.fault ≡ NodeFault.Store
             → IsOneOf (S.state e.store).stored (S.state store).stored
@@ -127,7 +132,7 @@ impl<'a, S: Store> Node<'a, S> {
             (changed (S.state store).stored Start) (S.state e.store).stored) }
         ensures spare { S.fails_at_will → S.honest
             → IfErr result (λ e. e.fault ≡ NodeFault.Store
-            → (S.state store).stored.starts < 4294967295) }
+            → (S.state store).stored.starts < LAST_START) }
         ensures same { S.honest
             → IfErr result (λ e. e.fault ≢ NodeFault.Store
             → (S.state e.store).stored ≡ (S.state store).stored) }
@@ -144,14 +149,15 @@ impl<'a, S: Store> Node<'a, S> {
             (λ e. (e.fault ≡ NodeFault.Memory) ⊎ (e.fault ≡ NodeFault.Store)
             ⊎ (e.fault ≡ NodeFault.BadRecord) ⊎ (e.fault ≡ NodeFault.StartsSpent)) }
     {
+        what_goes_out_fits();
         let mut acceptor = match Acceptor::open(alloc, store, config.me()) {
             Ok(acceptor) => acceptor,
             Err(OpenRefused { fault, store }) => {
-                let fault = fault_of(fault);
+                let fault = node_fault(fault);
                 return Err(StartRefused { fault, store });
             }
         };
-        if acceptor.record().starts == u32::MAX {
+        if acceptor.record().starts == LAST_START {
             let fault = NodeFault::StartsSpent;
             let store = acceptor.into_store();
             return Err(StartRefused { fault, store });
@@ -161,14 +167,32 @@ impl<'a, S: Store> Node<'a, S> {
             let store = acceptor.into_store();
             return Err(StartRefused { fault, store });
         };
-        let protocol = Protocol::begin(alloc, &config, acceptor, waiting)?;
-        Ok(Node { protocol, player })
+        let me = config.me();
+        match acceptor.new_start() {
+            Ok(_) => {
+                let protocol = Protocol {
+                    me,
+                    acceptor,
+                    learner: Learner::new(alloc, me.group.size),
+                    proposer: None,
+                    remembered: None,
+                    offered: KeySet::new(alloc),
+                    waiting,
+                    alloc,
+                };
+                Ok(Node { protocol, player })
+            }
+            Err(fault) => Err(StartRefused {
+                fault: node_fault(fault),
+                store: acceptor.into_store(),
+            }),
+        }
     }
 
-    /// A character is typed at the node, and waits until its key stands below the known front. The
-    /// answer is its key: this node, this start, the next serial, which is 1 at first. It takes no
-    /// memory. `Stopped` after a failed save; `Busy` where 256 keys wait; `SerialSpent` after the
-    /// serial 4,294,967,295. After a refusal nothing has changed.
+    /// Types a character at the node. Its key waits until it is below the known front. Returns the
+    /// key: this node, this start, and the next serial, which is 1 at first. It allocates nothing.
+    /// Fails with `Stopped` after a failed save, with `Busy` if 256 keys wait, and with
+    /// `SerialSpent` after the serial 4,294,967,295; then nothing has changed.
     pub fn typed(&mut self, byte: u8) -> Result<Value, NodeFault>
         ensures ok { IfOk result (λ v. v ≡ new_key self.old.protocol.known byte) }
         ensures known { IfOk result
@@ -180,21 +204,31 @@ impl<'a, S: Store> Node<'a, S> {
         ensures stopped { IsErrOf result NodeFault.Stopped ↔ (self.old.protocol.is_stopped ≡ true) }
         ensures busy { IsErrOf result NodeFault.Busy
             ↔ ((self.old.protocol.is_stopped ≡ false)
-            × (length self.old.protocol.known.waiting ≡ 256)) }
+            × (length self.old.protocol.known.waiting ≡ MOST_WAITING)) }
         ensures spent { IsErrOf result NodeFault.SerialSpent
             ↔ ((self.old.protocol.is_stopped ≡ false)
-            × (length self.old.protocol.known.waiting < 256)
-            × (next_serial self.old.protocol.known ≡ 4294967296)) }
+            × (length self.old.protocol.known.waiting < MOST_WAITING)
+            × (next_serial self.old.protocol.known ≡ LAST_SERIAL + 1)) }
         ensures others { IfErr result
             (λ e. (e ≡ NodeFault.Stopped) ⊎ (e ≡ NodeFault.Busy) ⊎ (e ≡ NodeFault.SerialSpent)) }
     {
-        self.protocol.typed(byte)
+        let protocol = &mut self.protocol;
+        if protocol.is_stopped() {
+            return Err(NodeFault::Stopped);
+        }
+        if protocol.waiting.len() >= MOST_WAITING {
+            return Err(NodeFault::Busy);
+        }
+        if protocol.waiting.next_serial() > u64::from(LAST_SERIAL) {
+            return Err(NodeFault::SerialSpent);
+        }
+        Ok(protocol.on_typed(byte))
     }
 
-    /// Takes a message of a node of the group, and puts what it makes the node send into the
-    /// outbox: the row of the message's kind. Keys that stand below the known front after it wait
-    /// no more. `Stopped` after a failed save, `OutboxFull` where the outbox holds packets,
-    /// `Memory` and `Store` as the type says.
+    /// Takes a message of a node of the group, and puts what the node sends at it into the outbox.
+    /// Then the keys below the known front wait no more. Fails with `Stopped` after a failed save,
+    /// with `OutboxFull` if the outbox holds packets, and with `Memory` and `Store` as the type
+    /// says.
     pub fn on_message(&mut self, view: &View<'_>, outbox: &mut Outbox) -> Result<(), NodeFault>
         requires fits { Fits self.old.protocol.known.me.group view.now }
         ensures does { Does self.old.protocol self.new.protocol outbox.old.packets
@@ -213,13 +247,17 @@ impl<'a, S: Store> Node<'a, S> {
         learned_stays();
         input_grows();
         same_run_on_longer_input();
-        self.protocol.on_message(view, outbox)
+        self.protocol.let_in(outbox)?;
+        self.protocol.row(view, outbox)?;
+        self.protocol.drop_read();
+        Ok(())
     }
 
-    /// Begins a ballot of the node's own, greater than any that it has promised or was told of:
-    /// promises it, and asks all nodes for their promises from the known front on. `RoundsSpent`
-    /// where the greatest round is 4,294,967,295, and else `PlacesSpent` where all 65,536 places
-    /// are learned; the other refusals as `on_message`'s, `Stopped` and `OutboxFull` first.
+    /// Begins a ballot of the node's own, above any that it has promised or that refused it. It
+    /// promises the ballot, and asks all nodes for their promises from the known front on. Fails
+    /// with `Stopped` and `OutboxFull` first, then with `RoundsSpent` if the greatest round is
+    /// 4,294,967,295, then with `PlacesSpent` if all 65,536 places are learned, and with `Memory`
+    /// and `Store` as `on_message` does.
     pub fn campaign(&mut self, outbox: &mut Outbox) -> Result<(), NodeFault>
         ensures does { Does self.old.protocol self.new.protocol outbox.old.packets
             outbox.new.packets (on_campaign self.old.protocol.known) result }
@@ -229,45 +267,43 @@ impl<'a, S: Store> Node<'a, S> {
         ensures let_in { IsLetIn self.old.protocol outbox.old.packets result }
         ensures rounds { IsErrOf result NodeFault.RoundsSpent
             ↔ (IsLet self.old.protocol outbox.old.packets
-            × (greatest_round self.old.protocol.known.kept.promised
-            self.old.protocol.known.remembered ≡ 4294967295)) }
+            × (last_round self.old.protocol.known ≡ LAST_ROUND)) }
         ensures places { IsErrOf result NodeFault.PlacesSpent
             ↔ (IsLet self.old.protocol outbox.old.packets
-            × (greatest_round self.old.protocol.known.kept.promised
-            self.old.protocol.known.remembered < 4294967295)
-            × (front self.old.protocol.known ≡ 65536)) }
+            × (last_round self.old.protocol.known < LAST_ROUND)
+            × (front self.old.protocol.known ≡ PLACES)) }
         ensures spare { OnOk result
-            (greatest_round self.old.protocol.known.kept.promised self.old.protocol.known.remembered
-            < 4294967295) }
+            (last_round self.old.protocol.known < LAST_ROUND) }
         ensures spare_saved { IsErrOf result NodeFault.Store
-            → greatest_round self.old.protocol.known.kept.promised
-            self.old.protocol.known.remembered < 4294967295 }
+            → last_round self.old.protocol.known < LAST_ROUND }
         ensures others { IfErr result
             (λ e. (e ≡ NodeFault.Stopped) ⊎ (e ≡ NodeFault.OutboxFull) ⊎ (e ≡ NodeFault.RoundsSpent)
             ⊎ (e ≡ NodeFault.PlacesSpent) ⊎ (e ≡ NodeFault.Memory) ⊎ (e ≡ NodeFault.Store)) }
     {
-        self.protocol.campaign(outbox)
+        self.protocol.let_in(outbox)?;
+        self.protocol.on_campaign(outbox)
     }
 
-    /// What the node does from time to time, in this order: it asks acceptors on, sends its open
-    /// Accepts again, proposes, submits the first keys that wait, and asks for what was learned. It
-    /// saves nothing.
+    /// Does what the node does from time to time. In this order it asks acceptors for more
+    /// promises, sends its open Accepts again, proposes, submits the first keys that wait, and asks
+    /// for what was learned. It saves nothing.
     pub fn tick(&mut self, outbox: &mut Outbox) -> Result<(), NodeFault>
         ensures does { Does self.old.protocol self.new.protocol outbox.old.packets
             outbox.new.packets (on_tick self.old.protocol.known) result }
         ensures needs { IsErrOf result NodeFault.Memory
-            → (outbox.old.ready < 43) ⊎ IsSome self.old.protocol.known.proposer }
+            → (outbox.old.ready < TICK_PACKETS) ⊎ IsSome self.old.protocol.known.proposer }
         ensures store { self.new.protocol.store ≡ self.old.protocol.store }
         ensures progress { self.new.progress ≡ self.old.progress }
         ensures let_in { IsLetIn self.old.protocol outbox.old.packets result }
         ensures others { IfErr result
             (λ e. (e ≡ NodeFault.Stopped) ⊎ (e ≡ NodeFault.OutboxFull) ⊎ (e ≡ NodeFault.Memory)) }
     {
-        self.protocol.tick(outbox)
+        self.protocol.let_in(outbox)?;
+        self.protocol.on_tick(outbox)
     }
 
-    /// Lets the machine make so many steps at most, on the bytes of the keys below the known front.
-    /// It takes no memory. Before each step it looks whether the steps are spent (`More`), then
+    /// Runs the machine for at most `steps` steps, on the bytes of the keys below the known front.
+    /// It allocates nothing. Before each step it checks whether the steps are spent (`More`), then
     /// whether 256 bytes of output wait (`Full`), and then whether the machine waits or has ended.
     pub fn run(&mut self, steps: u32) -> Result<Ran, NodeFault>
         ensures runs { IfOk result
@@ -284,8 +320,8 @@ impl<'a, S: Store> Node<'a, S> {
         Ok(self.player.run(&self.protocol.learner, steps))
     }
 
-    /// Releases the first byte of the output that waits, with its number, counted from 0 on from
-    /// this start. It takes no memory.
+    /// Releases the first byte of the output that waits. Returns its number, from 0 on from this
+    /// start, and the byte. It allocates nothing.
     pub fn release(&mut self) -> Option<(u64, u8)>
         ensures value { result
             ≡ option_map (λ b. (self.old.progress.released, b))
@@ -300,9 +336,9 @@ impl<'a, S: Store> Node<'a, S> {
         self.player.release()
     }
 
-    /// How many bytes of output wait, at most 256: what the machine has written in its steps so
-    /// far, but for the bytes that were released. It is the same as after so many steps from the
-    /// start on the input that is known now.
+    /// Returns the number of output bytes that wait, at most 256: those that the machine has
+    /// written in its steps so far and that were not released. It is the same as after as many
+    /// steps from the start on the input that is known now.
     pub fn unreleased(&self) -> usize
         ensures count { result
             ≡ length (unreleased_of (input self.now.protocol.known) self.now.progress) }
@@ -312,24 +348,24 @@ impl<'a, S: Store> Node<'a, S> {
         self.player.unreleased_len()
     }
 
-    /// The known front: the least place that is not learned, 0 to 65,536.
+    /// Returns the known front: the least place that is not learned, 0 to 65,536.
     pub fn known_front(&self) -> u32
         ensures front { result ≡ front self.now.protocol.known }
         ensures least { IsFront self.now.protocol.known.learner.learned result }
-        ensures few { result ≤ 65536 }
+        ensures few { result ≤ PLACES }
     {
         self.protocol.learner.known_front()
     }
 
-    /// The value that is learned at the place, which may be any number.
+    /// Returns the value that is learned at `place`, which may be any number.
     pub fn learned(&self, place: u32) -> Option<Value>
         ensures { result ≡ get self.now.protocol.known.learner.learned place }
     {
         self.protocol.learner.learned(place)
     }
 
-    /// The acceptor's record. An honest store has the same one, unless it has failed. All that the
-    /// node knows is in its ranges.
+    /// Returns the acceptor's record. An honest store has the same one, unless it has failed. All
+    /// that the node knows is in its ranges.
     pub fn record(&self) -> &Record
         ensures same { result.now ≡ self.now.protocol.known.kept }
         ensures ranges { IsInRange self.now.protocol.known }
@@ -339,8 +375,8 @@ impl<'a, S: Store> Node<'a, S> {
         self.protocol.record()
     }
 
-    /// The ballot under which the node asks to lead, or leads: that of its last campaign of this
-    /// start, until it hears that a greater one refused it.
+    /// Returns the ballot under which the node asks to lead, or leads. It is that of its last
+    /// campaign of this start, until it hears that a greater one refused it.
     pub fn ballot(&self) -> Option<Ballot>
         ensures { result ≡ own_ballot self.now.protocol.known.proposer }
     {
@@ -348,8 +384,8 @@ impl<'a, S: Store> Node<'a, S> {
         Some(proposer.ballot())
     }
 
-    /// Whether the node leads: under its ballot a majority has promised the place at which it
-    /// proposes next.
+    /// Returns true if the node leads: under its ballot a majority has promised the place at which
+    /// it proposes next.
     pub fn is_leading(&self) -> bool
         ensures { result ≡ is_leading self.now.protocol.known.proposer }
     {
@@ -359,29 +395,29 @@ impl<'a, S: Store> Node<'a, S> {
         }
     }
 
-    /// The greatest ballot by which the node heard that it was refused, in this start.
+    /// Returns the greatest ballot by which the node heard that it was refused, in this start.
     pub fn refusing_ballot(&self) -> Option<Ballot>
         ensures { result ≡ self.now.protocol.known.remembered }
     {
         self.protocol.remembered
     }
 
-    /// How many typed keys wait, at most 256.
+    /// Returns the number of typed keys that wait, at most 256.
     pub fn waiting(&self) -> usize
         ensures count { result ≡ length self.now.protocol.known.waiting }
-        ensures few { result ≤ 256 }
+        ensures few { result ≤ MOST_WAITING }
     {
         self.protocol.waiting.len()
     }
 
-    /// Whether a save has failed, so that each further call that can be refused is `Stopped`.
+    /// Returns true if a save has failed. Then each further call that can be refused is `Stopped`.
     pub fn is_stopped(&self) -> bool
         ensures { result ≡ self.now.protocol.is_stopped }
     {
         self.protocol.is_stopped()
     }
 
-    /// Passed on to the store: how its next save is to fail, if at all.
+    /// Passes a plan on to the store: how its next save fails, or `None`.
     pub fn fail_next(&mut self, plan: Option<bool>)
         ensures same { S.honest
             → (S.state self.new.protocol.store).stored ≡ (S.state self.old.protocol.store).stored }
@@ -392,10 +428,10 @@ impl<'a, S: Store> Node<'a, S> {
             × (self.new.protocol.is_stopped ≡ self.old.protocol.is_stopped)
             × (self.new.progress ≡ self.old.progress) }
     {
-        self.protocol.fail_next(plan);
+        self.protocol.acceptor.fail_next(plan);
     }
 
-    /// The store as it is.
+    /// Returns the store as it is.
     pub fn into_store(self) -> S
         ensures { result ≡ self.entry.protocol.store }
     {

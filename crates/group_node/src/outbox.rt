@@ -2,17 +2,17 @@
 ghost use Rattle.std.specs.Prelude.{◌≡◌, ◌+◌, ◌-◌, ◌<◌, ◌≤◌, [], ◌∷◌, ◌++◌, drop, length, slice_get, vec_len, IfOk, OnErr, OnOk};
 ghost use Rattle.paxos_msg.specs.Fits.{Fits, IsBody, IsNode};
 ghost use Rattle.paxos_msg.specs.Spelling.{spelling};
-ghost use Rattle.group_node.specs.Packets.{datagram_of};
+ghost use Rattle.group_node.specs.declared.limits.TheConstants.{MOST_PACKETS};
+ghost use Rattle.group_node.specs.Packets.{datagram_of, HasRoom};
 
+use crate::limits::MOST_PACKETS;
 use crate::packet::{Packet, To};
 use circular_buffer::HeapCircularBuffer;
 use paxos_acceptor::Me;
+use paxos_msg::limits::LONGEST_DATAGRAM;
 use paxos_msg::{Body, Group, Msg, encode_into};
 use std::alloc::{AllocError, Global};
 use std::marker::Model;
-
-/// How many packets an outbox holds.
-const PACKETS: usize = 64;
 
 /// An empty buffer with room for a datagram.
 #[derive(Drop)]
@@ -22,23 +22,24 @@ struct Spare {
 
 impl Model for Spare {
     ghost use Rattle.std.specs.Prelude.{◌≡◌, ◌≤◌, vec_len, vec_capacity};
+    ghost use Rattle.paxos_msg.specs.declared.limits.TheConstants.{LONGEST_DATAGRAM};
 
     ghost Value = { Unit {0} };
 
     ghost view = { λ _. tt };
 
-    ghost invariant = { λ s. (vec_len s.bytes ≡ 0) × (1400 ≤ vec_capacity s.bytes) };
+    ghost invariant = { λ s. (vec_len s.bytes ≡ 0) × (LONGEST_DATAGRAM ≤ vec_capacity s.bytes) };
 }
 
 impl Spare {
-    /// A buffer for one datagram.
+    /// Makes a buffer for one datagram.
     fn new(alloc: Global) -> Result<Spare, AllocError> {
         Ok(Spare {
-            bytes: Vec::with_capacity(alloc, 1400)?,
+            bytes: Vec::with_capacity(alloc, LONGEST_DATAGRAM)?,
         })
     }
 
-    /// The datagram of a message, in this buffer. It takes no memory.
+    /// Returns the datagram of a message, in this buffer. It allocates nothing.
     fn written(self, message: &Msg, group: Group) -> Vec<u8>
         requires { Fits group message.now }
         ensures { result.items ≡ spelling group message.now }
@@ -49,11 +50,11 @@ impl Spare {
     }
 }
 
-/// The packets that wait to be sent, the oldest first: at most 64.
+/// The packets that wait to be sent, the oldest first, at most 64.
 pub struct Outbox {
     packets: HeapCircularBuffer<Packet>,
-    // With a buffer ready a packet takes no memory. A node makes as many ready as it may need
-    // before it changes anything.
+    // A packet takes a buffer that is ready, and allocates nothing. A node makes as many ready as
+    // it may need before it changes anything.
     spares: Vec<Spare>,
     alloc: Global,
 }
@@ -70,33 +71,34 @@ impl Drop for Outbox {
 
 impl Model for Outbox {
     ghost use Rattle.std.specs.Prelude.{◌≡◌, vec_len};
+    ghost use Rattle.group_node.specs.declared.limits.TheConstants.{MOST_PACKETS};
     ghost use Rattle.group_node.specs.Packets.{Queue};
 
     ghost Value = { Queue };
 
     ghost view = { λ o. record { packets = o.packets.items; ready = vec_len o.spares } };
 
-    ghost invariant = { λ o. o.packets.capacity ≡ 64 };
+    ghost invariant = { λ o. o.packets.capacity ≡ MOST_PACKETS };
 }
 
 impl Outbox {
-    /// An empty outbox. It takes the memory for 64 packets, without their bytes.
+    /// Makes an empty outbox. It allocates room for 64 packets, without their bytes.
     pub fn new(alloc: Global) -> Result<Outbox, AllocError>
         ensures { IfOk result (λ o. o.packets ≡ []) }
     {
         Ok(Outbox {
-            packets: HeapCircularBuffer::with_capacity(alloc, PACKETS)?,
+            packets: HeapCircularBuffer::with_capacity(alloc, MOST_PACKETS)?,
             spares: Vec::new(alloc),
             alloc,
         })
     }
 
-    /// How many more packets there is room for.
+    /// Returns the number of packets that still fit.
     pub fn free(&self) -> usize
-        ensures free { result ≡ 64 - length self.now.packets }
-        ensures few { length self.now.packets ≤ 64 }
+        ensures free { result ≡ MOST_PACKETS - length self.now.packets }
+        ensures few { length self.now.packets ≤ MOST_PACKETS }
     {
-        PACKETS - self.packets.len()
+        MOST_PACKETS - self.packets.len()
     }
 
     /// Takes the oldest packet out, if there is one.
@@ -107,7 +109,7 @@ impl Outbox {
         self.packets.pop_front()
     }
 
-    /// Makes buffers ready for so many packets. After an error the packets are as they were.
+    /// Makes `count` buffers ready. After an error the packets are as they were.
     pub(crate) fn make_ready(&mut self, count: usize) -> Result<(), AllocError>
         ensures packets { self.new.packets ≡ self.old.packets }
         ensures ok { OnOk result (count ≤ self.new.ready) }
@@ -119,12 +121,11 @@ impl Outbox {
         Ok(())
     }
 
-    /// Puts a node's message in, for which a buffer is ready. It takes no memory.
+    /// Puts a node's message in, for which a buffer is ready. It allocates nothing.
     pub(crate) fn put(&mut self, me: Me, to: To, body: Body)
         requires node { IsNode me.group.size me.node }
         requires body { IsBody me.group.size me.node body }
-        requires ready { 0 < self.old.ready }
-        requires room { length self.old.packets < 64 }
+        requires room { HasRoom 1 self.old }
         ensures packets { self.new.packets
             ≡ self.old.packets ++ datagram_of me (record { to = to; body = body }) ∷ [] }
         ensures ready { self.new.ready + 1 ≡ self.old.ready }

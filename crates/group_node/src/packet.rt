@@ -1,16 +1,16 @@
 //! What a node sends.
 use std::marker::Model;
 
-/// To whom a packet goes.
+/// The addressees of a packet.
 #[derive(Clone, Copy, Debug, PartialEq, Eq)]
 pub enum To {
     /// To all nodes of the group, the sender included.
     All,
-    /// To the node with this number.
+    /// The node of this number.
     One(u8),
 }
 
-/// A datagram, and to whom it goes.
+/// A datagram and its addressees.
 pub struct Packet {
     pub to: To,
     /// The bytes of the datagram, at most 440.

@@ -3,9 +3,11 @@ ghost use Rattle.std.specs.Prelude.{◌≡◌, ◌↔◌, ◌+◌, ◌<◌, ◌�
 ghost use Rattle.circular_buffer.specs.Buffer.{buffer};
 ghost use Rattle.paxos_learner.specs.Input.{learned_input};
 ghost use Rattle.pcode_machine.specs.Turns.{WaitsOn};
+ghost use Rattle.group_node.specs.declared.limits.TheConstants.{RING_BYTES};
 ghost use Rattle.group_node.specs.Output.{most_of, no_progress, RunsOn, unreleased_of};
 ghost use Rattle.group_node.specs.Player.{IsPlayed, PlaysStep, TurnsTo, progress_of};
 
+use crate::limits::RING_BYTES;
 use circular_buffer::HeapCircularBuffer;
 use paxos_learner::Learner;
 use pcode_machine::laws::{
@@ -15,10 +17,7 @@ use pcode_machine::{End, Machine, MachineFault, Pause};
 use pcode_ops::Program;
 use std::alloc::{AllocError, Global};
 
-/// How many bytes of output wait at most.
-const RING_BYTES: usize = 256;
-
-/// How a run was over.
+/// Why a run is over.
 #[derive(Clone, Copy, Debug, PartialEq, Eq)]
 pub enum Ran {
     /// The steps are spent, or the count of steps is at its greatest value.
@@ -36,11 +35,11 @@ pub(crate) struct Player<'a> {
     pub(crate) machine: Machine<'a>,
     /// The output that was not released, the oldest byte first.
     pub(crate) unreleased: HeapCircularBuffer<u8>,
-    /// How many steps were made.
+    /// The number of steps that were made.
     pub(crate) steps: u64,
-    /// How many bytes of the input were read.
+    /// The number of input bytes that were read.
     pub(crate) read: usize,
-    /// How many bytes of output were released.
+    /// The number of output bytes that were released.
     pub(crate) released: u64,
 }
 
@@ -56,7 +55,7 @@ impl<'a> Drop for Player<'a> {
     }
 }
 
-/// How many of these steps can still be counted, where so many were made.
+/// Returns how many of `steps` steps can still be counted after `made` steps.
 fn counted(steps: u32, made: u64) -> u32
     ensures most { result ≤ steps }
     ensures counted { made + result ≡ most_of made steps }
@@ -65,7 +64,7 @@ fn counted(steps: u32, made: u64) -> u32
 }
 
 impl<'a> Player<'a> {
-    /// A machine before its first step. All its room is made here.
+    /// Makes a machine before its first step. All its room is allocated here.
     pub(crate) fn begin(alloc: Global, program: &'a Program) -> Result<Player<'a>, AllocError>
         ensures progress { IfOk result (λ q. progress_of q ≡ no_progress program.now) }
         ensures exact { (x : List ℕ) → IfOk result (λ q. IsPlayed x q) }
@@ -83,14 +82,14 @@ impl<'a> Player<'a> {
         })
     }
 
-    /// Whether there is room for one byte more of output.
+    /// Returns true if there is room for one more byte of output.
     fn has_room(&self) -> bool
-        ensures { IsTrue result ↔ (length self.now.unreleased.items < 256) }
+        ensures { IsTrue result ↔ (length self.now.unreleased.items < RING_BYTES) }
     {
         self.unreleased.len() < RING_BYTES
     }
 
-    /// Puts a byte behind the output that waits, for which there is room.
+    /// Puts a byte after the output that waits, for which there is room.
     fn write(&mut self, byte: u8)
         requires { length self.old.unreleased.items < self.old.unreleased.capacity }
         ensures { self.new ≡ record self.old {
@@ -119,18 +118,18 @@ impl<'a> Player<'a> {
         }
     }
 
-    /// The byte of the learned input that the machine has not read yet, if there is one.
+    /// Returns the byte of the learned input that the machine reads next, if there is one.
     fn next_byte(&self, learner: &Learner) -> Option<u8>
         ensures { result ≡ slice_get (learned_input learner.now.learned) self.now.read }
     {
         learner.input_at(self.read)
     }
 
-    /// Makes steps, at most `most`, until one takes a byte of the learned input or writes one, or
-    /// the run is over. Returns how many it made, and how the run is over if it is.
+    /// Makes at most `most` steps, until one takes a byte of the learned input or writes one, or
+    /// the run is over. Returns how many it made, and why the run is over if it is.
     fn turn(&mut self, learner: &Learner, most: u32) -> (u32, Option<Ran>)
         requires exact { IsPlayed (learned_input learner.now.learned) self.old }
-        requires room { length self.old.unreleased.items < 256 }
+        requires room { length self.old.unreleased.items < RING_BYTES }
         requires steps { self.old.steps + most ≤ 18446744073709551615 }
         ensures exact { IsPlayed (learned_input learner.now.learned) self.new }
         ensures turns { TurnsTo (learned_input learner.now.learned) most self.old self.new result }
@@ -161,8 +160,8 @@ impl<'a> Player<'a> {
         }
     }
 
-    /// Makes steps, at most so many, on the learned input. Before each step it looks first whether
-    /// the steps are spent, then whether 256 bytes wait, then at the machine. It takes no memory.
+    /// Makes at most `steps` steps on the learned input. Before each step it checks whether the
+    /// steps are spent, then whether 256 bytes wait, then the machine. It allocates nothing.
     pub(crate) fn run(&mut self, learner: &Learner, steps: u32) -> Ran
         requires { IsPlayed (learned_input learner.now.learned) self.old }
         ensures exact { IsPlayed (learned_input learner.now.learned) self.new }
@@ -185,8 +184,8 @@ impl<'a> Player<'a> {
         Ran::More
     }
 
-    /// The first byte of the output that was not released, with its number, from 0 on. It is
-    /// released by this. It takes no memory.
+    /// Releases the first byte of the output that was not released. Returns its number, from 0 on,
+    /// and the byte. It allocates nothing.
     pub(crate) fn release(&mut self) -> Option<(u64, u8)>
         requires { (x : List ℕ) × IsPlayed x self.old }
         ensures value { (x : List ℕ) → IsPlayed x self.old
@@ -207,10 +206,10 @@ impl<'a> Player<'a> {
         Some((number, byte))
     }
 
-    /// How many bytes of the output were not released.
+    /// Returns the number of output bytes that were not released.
     pub(crate) fn unreleased_len(&self) -> usize
         ensures { (x : List ℕ) → IsPlayed x self.now
-            → (result ≡ length (unreleased_of x (progress_of self.now))) × (result ≤ 256) }
+            → (result ≡ length (unreleased_of x (progress_of self.now))) × (result ≤ RING_BYTES) }
     {
         run_is_after();
         self.unreleased.len()

@@ -1,12 +1,14 @@
-//! The rows of a node's proposer: a campaign, a Promise, a Refused and a Submit.
+//! What a node does at a campaign, a Promise, a Refused and a Submit, with its proposer.
 ghost use Rattle.std.specs.Prelude.{◌≡◌, ℕ, ◌+◌, ◌<◌, ◌≤◌, ◌++◌, [], Err, OnErr, Some, length, option_map, ◌↔◌, ◌⊎◌, IfErr, IsErrOf, IfSome, OnOk, false};
 ghost use Rattle.paxos_msg.specs.declared.message.Body.TheVariants.{Submit};
+ghost use Rattle.paxos_msg.specs.declared.limits.TheConstants.{MOST_CHARACTERS, PLACES};
+ghost use Rattle.group_node.specs.declared.limits.TheConstants.{MOST_PUMPED};
 ghost use Rattle.group_node.specs.Protocol.{NeedsMemory, row};
 ghost use Rattle.paxos_msg.specs.declared.value.Value.{Value};
 ghost use Rattle.paxos_msg.specs.Fits.{IsBallot, IsPlace, IsValue, Fits};
-ghost use Rattle.group_node.specs.Calls.{Does, Saves};
+ghost use Rattle.group_node.specs.Calls.{Does, IsCampaignRefused, MayFailToSave, MayLackMemory, Saves};
 ghost use Rattle.group_node.specs.ProposerRows.{on_refused, greater_ballot, unless_refused, are_known, on_submit, is_known, is_known_key, offer_after, offered_with, prepare_from, on_campaign, beginning};
-ghost use Rattle.group_node.specs.Packets.{datagrams_of};
+ghost use Rattle.group_node.specs.Packets.{datagrams_of, GrowsBy, HasRoom};
 ghost use Rattle.paxos_proposer.specs.Proposer.{IsPromisePart, asks_after, greatest_round, heard_promise};
 ghost use Rattle.paxos_msg.specs.declared.record.Change.TheVariants.{Promise};
 ghost use Rattle.paxos_msg.specs.Ballots.{IsBelow};
@@ -17,41 +19,41 @@ ghost use Rattle.group_node.specs.Known.{front};
 ghost use Rattle.group_node.specs.Pump.{accepts_of, pump};
 ghost use Rattle.group_node.specs.Ranges.{IsMember, IsOwnProposer};
 
-use crate::fault::{NodeFault, fault_of};
+use crate::fault::{NodeFault, node_fault};
 use crate::laws::rows_fit;
+use crate::limits::{MESSAGE_PACKETS, MOST_PUMPED};
 use crate::outbox::Outbox;
 use crate::packet::To;
 use crate::protocol::Protocol;
-use crate::pump::{PUMPED, propose, pump};
+use crate::pump::{propose, pump};
 use paxos_acceptor::laws::{greater_ballots_are_promised, promises_fit};
 use paxos_acceptor::{Acceptor, AcceptorFault, Me, Store};
 use paxos_learner::laws::key_tests_are_exact;
 use paxos_learner::{KeySet, TypedKey};
 use paxos_msg::laws::tests_are_exact;
-use paxos_msg::{Ballot, Body, PLACES, Value, View};
+use paxos_msg::limits::{MOST_CHARACTERS, PLACES};
+use paxos_msg::{Ballot, Body, Value, View};
 use paxos_proposer::laws::{ballot_stays, what_goes_out_fits as accepts_fit};
 use paxos_proposer::{Proposer, next_ballot};
 
-/// Asks the acceptor for its promises from the place on, if there is one.
-fn ask_on(ballot: Ballot, acceptor: u8, from: Option<u32>, me: Me, outbox: &mut Outbox)
+/// Asks `acceptor` for its promises from the place `from` on, if there is one.
+fn prepare_from(ballot: Ballot, acceptor: u8, from: Option<u32>, me: Me, outbox: &mut Outbox)
     requires me { IsMember me }
     requires ballot { IsBallot me.group.size ballot }
     requires own { ballot.node ≡ me.node }
     requires from { IfSome from IsPlace }
-    requires ready { 1 ≤ outbox.old.ready }
-    requires room { length outbox.old.packets < 64 }
+    requires room { HasRoom 1 outbox.old }
     ensures packets { outbox.new.packets
         ≡ outbox.old.packets ++ datagrams_of me (prepare_from ballot acceptor from) }
-    ensures ready { outbox.old.ready ≤ outbox.new.ready + 1 }
-    ensures few { length outbox.new.packets ≤ length outbox.old.packets + 1 }
+    ensures grows { GrowsBy 1 outbox.old outbox.new }
 {
     if let Some(from) = from {
         outbox.put(me, To::One(acceptor), Body::Prepare { ballot, from });
     }
 }
 
-/// Takes a part of a promise under the proposer's own ballot, asks its acceptor on, and pumps. All
-/// room is made before.
+/// Takes a part of a promise under the proposer's own ballot, asks its acceptor for the rest, and
+/// pumps. All room is made before.
 fn take_part(
     proposer: &mut Proposer,
     view: &View<'_>,
@@ -64,17 +66,17 @@ fn take_part(
     requires fits { Fits me.group view.now }
     requires empty { outbox.old.packets ≡ [] }
     ensures known { OnOk result
-        (proposer.new.known ≡ (pump 16
+        (proposer.new.known ≡ (pump MOST_PUMPED
         (heard_promise proposer.old.known view.now.sender view.now.body)).proposer) }
     ensures packets { OnOk result
         (outbox.new.packets ≡ datagrams_of me
         (prepare_from proposer.old.known.ballot view.now.sender
         (asks_after proposer.old.known view.now.sender view.now.body)
-        ++ accepts_of (pump 16
+        ++ accepts_of (pump MOST_PUMPED
         (heard_promise proposer.old.known view.now.sender view.now.body)).made)) }
     ensures err { OnErr result
         ((proposer.new.known ≡ proposer.old.known) × (outbox.new.packets ≡ outbox.old.packets)) }
-    ensures others { OnErr result (result ≡ Err NodeFault.Memory) }
+    ensures others { MayLackMemory result }
     ensures own { IsOwnProposer me proposer.new.known }
 {
     accepts_fit();
@@ -82,16 +84,16 @@ fn take_part(
     let Ok(()) = proposer.reserve() else {
         return Err(NodeFault::Memory);
     };
-    outbox.make_ready(17)?;
+    outbox.make_ready(MESSAGE_PACKETS)?;
     let Ok(asks_on) = proposer.on_promise(view.sender, view) else {
         return Err(NodeFault::Memory);
     };
-    ask_on(proposer.ballot(), view.sender, asks_on, me, outbox);
+    prepare_from(proposer.ballot(), view.sender, asks_on, me, outbox);
     pump(proposer, me, outbox);
     Ok(())
 }
 
-/// Pumps, and then offers the value, if the pump leaves room for it. Its keys are offered ones from
+/// Pumps, and then offers the value, if the pump leaves room for it. Its keys count as offered from
 /// then on, if the offer gives an Accept. All room is made before.
 fn offer(
     proposer: &mut Proposer,
@@ -105,28 +107,29 @@ fn offer(
     requires value { IsValue me.group.size value.now }
     requires empty { outbox.old.packets ≡ [] }
     ensures known { OnOk result
-        (proposer.new.known ≡ (offer_after (pump 16 proposer.old.known) value.now).proposer) }
+        (proposer.new.known
+        ≡ (offer_after (pump MOST_PUMPED proposer.old.known) value.now).proposer) }
     ensures offered { OnOk result
         (offered.new.keys ≡ offered_with offered.old.keys value.now
-        (offer_after (pump 16 proposer.old.known) value.now).made) }
+        (offer_after (pump MOST_PUMPED proposer.old.known) value.now).made) }
     ensures packets { OnOk result
         (outbox.new.packets ≡ datagrams_of me
-        (accepts_of (pump 16 proposer.old.known).made
-        ++ accepts_of (offer_after (pump 16 proposer.old.known) value.now).made)) }
+        (accepts_of (pump MOST_PUMPED proposer.old.known).made
+        ++ accepts_of (offer_after (pump MOST_PUMPED proposer.old.known) value.now).made)) }
     ensures err { OnErr result
         ((proposer.new.known ≡ proposer.old.known) × (offered.new.keys ≡ offered.old.keys)
         × (outbox.new.packets ≡ outbox.old.packets)) }
-    ensures others { OnErr result (result ≡ Err NodeFault.Memory) }
+    ensures others { MayLackMemory result }
     ensures own { IsOwnProposer me proposer.new.known }
 {
     let Ok(()) = proposer.reserve() else {
         return Err(NodeFault::Memory);
     };
-    outbox.make_ready(17)?;
-    offered.reserve(32)?;
+    outbox.make_ready(MESSAGE_PACKETS)?;
+    offered.reserve(MOST_CHARACTERS)?;
     let made = pump(proposer, me, outbox);
     let next = proposer.next_place();
-    if made < PUMPED && next < PLACES && !proposer.is_kept_from(next) {
+    if made < MOST_PUMPED && next < PLACES && !proposer.is_kept_from(next) {
         if propose(proposer, Some(*value), me, outbox) {
             offered.insert(*value);
         }
@@ -134,8 +137,8 @@ fn offer(
     Ok(())
 }
 
-/// Promises a ballot above all that were promised. What the part of the promise reports is not
-/// needed: the Prepare brings it.
+/// Promises a ballot above all that were promised. The votes of this promise are not needed: the
+/// Prepare brings them.
 fn promise<S: Store>(
     acceptor: &mut Acceptor<S>,
     ballot: Ballot,
@@ -155,7 +158,7 @@ fn promise<S: Store>(
     Ok(())
 }
 
-/// The greater of two ballots, where there was one.
+/// Returns the greater of two ballots, if there was one before.
 fn greater_ballot(remembered: Option<Ballot>, promised: Ballot) -> Ballot
     ensures { result ≡ greater_ballot remembered promised }
 {
@@ -165,7 +168,7 @@ fn greater_ballot(remembered: Option<Ballot>, promised: Ballot) -> Ballot
     }
 }
 
-/// The proposer, unless it is its ballot that was refused.
+/// Returns the proposer, unless its ballot was refused.
 fn unless_refused(ballot: Ballot, proposer: Option<Proposer>) -> Option<Proposer>
     ensures { option_map (λ p. p.known) result
         ≡ unless_refused ballot (option_map (λ p. p.known) proposer) }
@@ -178,8 +181,8 @@ fn unless_refused(ballot: Ballot, proposer: Option<Proposer>) -> Option<Proposer
 }
 
 impl<S: Store> Protocol<S> {
-    /// Begins a ballot of its own: promises it, and asks all for their promises from the known
-    /// front on.
+    /// Begins a ballot of the node's own: promises it, and asks all for their promises from the
+    /// known front on.
     pub(crate) fn on_campaign(&mut self, outbox: &mut Outbox) -> Result<(), NodeFault>
         requires open { self.old.is_stopped ≡ false }
         requires empty { outbox.old.packets ≡ [] }
@@ -187,15 +190,7 @@ impl<S: Store> Protocol<S> {
             (on_campaign self.old.known) result }
         ensures saves { Saves S.honest S.fails_at_will S.state self.old self.new
             (on_campaign self.old.known) result }
-        ensures rounds { IsErrOf result NodeFault.RoundsSpent
-            ↔ (greatest_round self.old.known.kept.promised self.old.known.remembered ≡ 4294967295) }
-        ensures places { IsErrOf result NodeFault.PlacesSpent
-            ↔ ((greatest_round self.old.known.kept.promised self.old.known.remembered < 4294967295)
-            × (front self.old.known ≡ 65536)) }
-        ensures spare { OnOk result
-            (greatest_round self.old.known.kept.promised self.old.known.remembered < 4294967295) }
-        ensures spare_saved { IsErrOf result NodeFault.Store
-            → greatest_round self.old.known.kept.promised self.old.known.remembered < 4294967295 }
+        ensures spent { IsCampaignRefused self.old.known result }
         ensures others { IfErr result
             (λ e. (e ≡ NodeFault.Memory) ⊎ (e ≡ NodeFault.Store) ⊎ (e ≡ NodeFault.RoundsSpent)
             ⊎ (e ≡ NodeFault.PlacesSpent)) }
@@ -211,20 +206,20 @@ impl<S: Store> Protocol<S> {
         self.begin_ballot(ballot, outbox)
     }
 
-    /// Begins a ballot at the known front, with a buffer ready.
+    /// Begins a ballot at the known front. A buffer is ready.
     fn begin_ballot(&mut self, ballot: Ballot, outbox: &mut Outbox) -> Result<(), NodeFault>
         requires ballot { IsBallot self.old.known.me.group.size ballot }
         requires own { ballot.node ≡ self.old.known.me.node }
         requires above { IfSome self.old.known.kept.promised (λ b. IsBelow b ballot) }
-        requires place { front self.old.known < 65536 }
+        requires place { front self.old.known < PLACES }
         requires open { self.old.is_stopped ≡ false }
         requires empty { outbox.old.packets ≡ [] }
-        requires ready { 1 ≤ outbox.old.ready }
+        requires ready { 0 < outbox.old.ready }
         ensures does { Does self.old self.new outbox.old.packets outbox.new.packets
             (beginning self.old.known ballot) result }
         ensures saves { Saves S.honest S.fails_at_will S.state self.old self.new
             (beginning self.old.known ballot) result }
-        ensures others { IfErr result (λ e. (e ≡ NodeFault.Memory) ⊎ (e ≡ NodeFault.Store)) }
+        ensures others { MayFailToSave result }
     {
         accepts_fit();
         promises_fit();
@@ -232,7 +227,7 @@ impl<S: Store> Protocol<S> {
         let from = self.learner.known_front();
         match promise(&mut self.acceptor, ballot, from) {
             Ok(()) => (),
-            Err(fault) => return Err(fault_of(fault)),
+            Err(fault) => return Err(node_fault(fault)),
         }
         self.proposer = Some(Proposer::begin(self.alloc, ballot, from, self.me.group.size));
         // A set that is cleared keeps its table, and clearing goes over all of it.
@@ -255,7 +250,7 @@ impl<S: Store> Protocol<S> {
             (row self.old.known view.now.sender view.now.body) result }
         ensures needs { OnErr result (NeedsMemory self.old.known view.now.sender view.now.body) }
         ensures store { self.new.store ≡ self.old.store }
-        ensures others { OnErr result (result ≡ Err NodeFault.Memory) }
+        ensures others { MayLackMemory result }
     {
         rows_fit();
         let Some(proposer) = &mut self.proposer else {
@@ -267,8 +262,8 @@ impl<S: Store> Protocol<S> {
         take_part(proposer, view, self.me, outbox)
     }
 
-    /// Remembers the ballot that a Refused tells of, and gives the proposer up where it is its
-    /// ballot that was refused.
+    /// Remembers the ballot that a Refused reports, and drops the proposer if its ballot was
+    /// refused.
     pub(crate) fn on_refused(&mut self, ballot: Ballot, promised: Ballot)
         ensures known { self.new.known ≡ (on_refused self.old.known ballot promised).node }
         ensures store { self.new.store ≡ self.old.store }
@@ -279,7 +274,7 @@ impl<S: Store> Protocol<S> {
         self.proposer = unless_refused(ballot, self.proposer.take());
     }
 
-    /// Whether the key is learned, or offered under the node's ballot.
+    /// Returns true if the key is learned, or offered under the node's ballot.
     fn is_known_key(&self, key: TypedKey) -> bool
         ensures { result ≡ is_known_key self.now.known (key_of key) }
     {
@@ -287,9 +282,10 @@ impl<S: Store> Protocol<S> {
         self.learner.has_learned(key) || self.offered.contains(key)
     }
 
-    /// Whether each of the keys with these characters is, whose serials go on from `first`.
+    /// Returns true if each of the keys with these characters is known. Their serials go on from
+    /// `first`.
     fn are_known(&self, node: u8, start: u32, first: u32, bytes: &[u8]) -> bool
-        requires { length bytes.now ≤ 32 }
+        requires { length bytes.now ≤ MOST_CHARACTERS }
         ensures { result ≡ are_known self.now.known (keys_from node start first bytes.now) }
     {
         let mut serial = u64::from(first);
@@ -308,7 +304,7 @@ impl<S: Store> Protocol<S> {
         true
     }
 
-    /// Whether each key of the value is.
+    /// Returns true if each key of the value is known.
     fn is_known(&self, value: &Value) -> bool
         ensures { result ≡ is_known self.now.known value.now }
     {
@@ -323,8 +319,8 @@ impl<S: Store> Protocol<S> {
         }
     }
 
-    /// Offers the value of a Submit after a pump, if the node leads and the value has a key that it
-    /// does not know. All room is made before.
+    /// Offers the value of a Submit after a pump, if the node leads and does not know each key of
+    /// the value. All room is made before.
     pub(crate) fn on_submit(&mut self, value: &Value, outbox: &mut Outbox) -> Result<(), NodeFault>
         requires value { IsValue self.old.known.me.group.size value.now }
         requires empty { outbox.old.packets ≡ [] }
@@ -332,7 +328,7 @@ impl<S: Store> Protocol<S> {
             (on_submit self.old.known value.now) result }
         ensures needs { (j : ℕ) → OnErr result (NeedsMemory self.old.known j (Submit value.now)) }
         ensures store { self.new.store ≡ self.old.store }
-        ensures others { OnErr result (result ≡ Err NodeFault.Memory) }
+        ensures others { MayLackMemory result }
     {
         rows_fit();
         let is_known = self.is_known(value);

@@ -4,42 +4,37 @@ ghost use Rattle.std.specs.Option.{option_to_list};
 ghost use Rattle.paxos_msg.specs.declared.message.Body.TheVariants.{Ask, Submit};
 ghost use Rattle.paxos_msg.specs.declared.value.Value.{Value};
 ghost use Rattle.paxos_msg.specs.Fits.{IsBody};
-ghost use Rattle.group_node.specs.Calls.{Does};
+ghost use Rattle.paxos_msg.specs.declared.limits.TheConstants.{MOST_NODES};
+ghost use Rattle.group_node.specs.declared.limits.TheConstants.{MOST_AGAIN, MOST_PUMPED, PROPOSER_PACKETS, TICK_PACKETS};
+ghost use Rattle.group_node.specs.Calls.{Does, MayLackMemory};
 ghost use Rattle.group_node.specs.Tick.{accept_again, accepts_again, asks_again, on_tick, batch_of, prepares_again, submits};
-ghost use Rattle.group_node.specs.Packets.{datagrams_of, to_all};
+ghost use Rattle.group_node.specs.Packets.{datagrams_of, GrowsBy, HasRoom, to_all};
 ghost use Rattle.group_node.specs.Pump.{accepts_of, pump};
 ghost use Rattle.group_node.specs.Ranges.{IsMember, IsOwnProposer};
 
 use crate::fault::NodeFault;
 use crate::laws::{packets_fit, what_goes_out_fits};
+use crate::limits::{MOST_AGAIN, TICK_PACKETS};
 use crate::outbox::Outbox;
 use crate::packet::To;
 use crate::protocol::Protocol;
 use crate::pump::pump;
 use paxos_acceptor::{Me, Store};
 use paxos_learner::Learner;
-use paxos_msg::{Body, PLACES, Value};
+use paxos_msg::limits::{LAST_PLACE, PLACES};
+use paxos_msg::{Body, Value};
 use paxos_proposer::Proposer;
 
-/// How many packets a tick sends at most: 9 Prepares, 16 Accepts again, 16 of a pump, a Submit and
-/// an Ask.
-const TICKED: usize = 43;
-
-/// How many Accepts a tick sends again.
-const AGAIN: u8 = 16;
-
 /// Asks an acceptor to promise the rest, if it has not promised all places.
-fn prepare_at(proposer: &Proposer, node: u8, me: Me, outbox: &mut Outbox)
+fn ask_again(proposer: &Proposer, node: u8, me: Me, outbox: &mut Outbox)
     requires me { IsMember me }
     requires own { IsOwnProposer me proposer.now.known }
-    requires node { node ≤ 9 }
-    requires ready { 0 < outbox.old.ready }
-    requires room { length outbox.old.packets < 64 }
+    requires node { node ≤ MOST_NODES }
+    requires room { HasRoom 1 outbox.old }
     ensures packets { outbox.new.packets
         ≡ outbox.old.packets
         ++ datagrams_of me (option_to_list (asks_again proposer.now.known node)) }
-    ensures ready { outbox.old.ready ≤ outbox.new.ready + 1 }
-    ensures few { length outbox.new.packets ≤ length outbox.old.packets + 1 }
+    ensures grows { GrowsBy 1 outbox.old outbox.new }
 {
     packets_fit();
     let from = proposer.coverage(node);
@@ -54,24 +49,22 @@ fn prepare_at(proposer: &Proposer, node: u8, me: Me, outbox: &mut Outbox)
 fn prepare_again(proposer: &Proposer, me: Me, outbox: &mut Outbox)
     requires me { IsMember me }
     requires own { IsOwnProposer me proposer.now.known }
-    requires ready { 9 ≤ outbox.old.ready }
-    requires room { length outbox.old.packets + 9 ≤ 64 }
+    requires room { HasRoom MOST_NODES outbox.old }
     ensures packets { outbox.new.packets
         ≡ outbox.old.packets ++ datagrams_of me (prepares_again proposer.now.known) }
-    ensures ready { outbox.old.ready ≤ outbox.new.ready + 9 }
-    ensures room { length outbox.new.packets ≤ length outbox.old.packets + 9 }
+    ensures grows { GrowsBy MOST_NODES outbox.old outbox.new }
 {
-    if proposer.is_covered(PLACES - 1) {
+    if proposer.is_covered(LAST_PLACE) {
         return;
     }
     for before in 0..me.group.size {
-        prepare_at(proposer, before + 1, me, outbox);
+        ask_again(proposer, before + 1, me, outbox);
     }
 }
 
-/// Puts the Accept of what is proposed at a place in once more, if the place is not learned.
-/// Whether it did.
-fn accept_at(
+/// Puts the Accept of what is proposed at `place` into the outbox again, if the place is not
+/// learned. Returns true if it did.
+fn accept_again(
     learner: &Learner,
     proposer: &Proposer,
     place: u32,
@@ -80,16 +73,14 @@ fn accept_at(
 ) -> bool
     requires me { IsMember me }
     requires own { IsOwnProposer me proposer.now.known }
-    requires ready { 0 < outbox.old.ready }
-    requires room { length outbox.old.packets < 64 }
+    requires room { HasRoom 1 outbox.old }
     ensures packets { outbox.new.packets
         ≡ outbox.old.packets
         ++ datagrams_of me (option_to_list
         (accept_again learner.now.learned proposer.now.known place)) }
     ensures some { result ≡ is_some (accept_again learner.now.learned proposer.now.known place) }
     ensures none { ¬ IsTrue result → outbox.new ≡ outbox.old }
-    ensures ready { outbox.old.ready ≤ outbox.new.ready + 1 }
-    ensures few { length outbox.new.packets ≤ length outbox.old.packets + 1 }
+    ensures grows { GrowsBy 1 outbox.old outbox.new }
 {
     packets_fit();
     if learner.learned(place).is_some() {
@@ -110,26 +101,23 @@ fn accept_at(
     }
 }
 
-/// Sends the Accepts again of the places that are not learned: the 16 lowest. Places from 1,024
-/// above the front on are never learned, so no more than that many are looked at without one to
-/// send.
+/// Sends again the Accepts of the places that are not learned: the 16 lowest. Places from 1,024
+/// above the front on are never learned. So it looks at no more than that many without one to send.
 fn accept_all_again(learner: &Learner, proposer: &Proposer, me: Me, outbox: &mut Outbox)
     requires me { IsMember me }
     requires own { IsOwnProposer me proposer.now.known }
-    requires ready { 16 ≤ outbox.old.ready }
-    requires room { length outbox.old.packets + 16 ≤ 64 }
+    requires room { HasRoom MOST_AGAIN outbox.old }
     ensures packets { outbox.new.packets
         ≡ outbox.old.packets
         ++ datagrams_of me (accepts_again learner.now.learned proposer.now.known) }
-    ensures ready { outbox.old.ready ≤ outbox.new.ready + 16 }
-    ensures room { length outbox.new.packets ≤ length outbox.old.packets + 16 }
+    ensures grows { GrowsBy MOST_AGAIN outbox.old outbox.new }
 {
     let mut sent: u8 = 0;
     for place in learner.known_front()..proposer.next_place() {
-        if sent == AGAIN {
+        if sent == MOST_AGAIN {
             return;
         }
-        if accept_at(learner, proposer, place, me, outbox) {
+        if accept_again(learner, proposer, place, me, outbox) {
             sent += 1;
         }
     }
@@ -139,24 +127,21 @@ fn accept_all_again(learner: &Learner, proposer: &Proposer, me: Me, outbox: &mut
 fn submit(batch: Option<Value>, me: Me, outbox: &mut Outbox)
     requires me { IsMember me }
     requires batch { (v : Value) → batch ≡ Some v → IsBody me.group.size me.node (Submit v) }
-    requires ready { 0 < outbox.old.ready }
-    requires room { length outbox.old.packets < 64 }
+    requires room { HasRoom 1 outbox.old }
     ensures packets { outbox.new.packets ≡ outbox.old.packets ++ datagrams_of me (submits batch) }
-    ensures ready { outbox.old.ready ≤ outbox.new.ready + 1 }
-    ensures few { length outbox.new.packets ≤ length outbox.old.packets + 1 }
+    ensures grows { GrowsBy 1 outbox.old outbox.new }
 {
     if let Some(key) = batch {
         outbox.put(me, To::All, Body::Submit { key });
     }
 }
 
-/// Submits the batch, if there is one, and asks all for what is learned from the place on.
+/// Submits the batch, if there is one, and asks all for what is learned from `from` on.
 fn ask(batch: Option<Value>, from: u32, me: Me, outbox: &mut Outbox)
     requires me { IsMember me }
     requires batch { (v : Value) → batch ≡ Some v → IsBody me.group.size me.node (Submit v) }
     requires from { IsBody me.group.size me.node (Ask from) }
-    requires ready { 2 ≤ outbox.old.ready }
-    requires room { length outbox.old.packets + 2 ≤ 64 }
+    requires room { HasRoom 2 outbox.old }
     ensures { outbox.new.packets
         ≡ outbox.old.packets ++ datagrams_of me (submits batch ++ to_all (Ask from) ∷ []) }
 {
@@ -164,7 +149,8 @@ fn ask(batch: Option<Value>, from: u32, me: Me, outbox: &mut Outbox)
     outbox.put(me, To::All, Body::Ask { from });
 }
 
-/// Asks on, proposes again, and pumps, in this order. The room for the proposals is made before.
+/// Asks for more promises, sends Accepts again, and pumps, in this order. The room for the
+/// proposals is made before.
 fn propose_again(
     learner: &Learner,
     proposer: &mut Proposer,
@@ -173,18 +159,18 @@ fn propose_again(
 ) -> Result<(), NodeFault>
     requires me { IsMember me }
     requires own { IsOwnProposer me proposer.old.known }
-    requires ready { 41 ≤ outbox.old.ready }
+    requires room { HasRoom PROPOSER_PACKETS outbox.old }
     requires empty { outbox.old.packets ≡ [] }
-    ensures known { OnOk result (proposer.new.known ≡ (pump 16 proposer.old.known).proposer) }
+    ensures known { OnOk result
+        (proposer.new.known ≡ (pump MOST_PUMPED proposer.old.known).proposer) }
     ensures packets { OnOk result
         (outbox.new.packets ≡ datagrams_of me
         ((prepares_again proposer.old.known ++ accepts_again learner.now.learned proposer.old.known)
-        ++ accepts_of (pump 16 proposer.old.known).made)) }
-    ensures ready { outbox.old.ready ≤ outbox.new.ready + 41 }
-    ensures room { length outbox.new.packets ≤ 41 }
+        ++ accepts_of (pump MOST_PUMPED proposer.old.known).made)) }
+    ensures grows { GrowsBy PROPOSER_PACKETS outbox.old outbox.new }
     ensures err { OnErr result
         ((proposer.new.known ≡ proposer.old.known) × (outbox.new.packets ≡ outbox.old.packets)) }
-    ensures others { OnErr result (result ≡ Err NodeFault.Memory) }
+    ensures others { MayLackMemory result }
     ensures own { IsOwnProposer me proposer.new.known }
 {
     let Ok(()) = proposer.reserve() else {
@@ -197,8 +183,8 @@ fn propose_again(
 }
 
 impl<S: Store> Protocol<S> {
-    /// The first keys that wait, at most 32, as one batch.
-    fn first_batch(&self) -> Option<Value>
+    /// Returns the first keys that wait, at most 32, as one batch.
+    fn batch(&self) -> Option<Value>
         ensures { result ≡ batch_of self.now.known self.now.known.waiting }
     {
         let bytes = self.waiting.batch()?;
@@ -210,20 +196,22 @@ impl<S: Store> Protocol<S> {
         })
     }
 
-    /// Asks on, proposes again, pumps, submits and asks, in this order. All room is made before.
+    /// Asks for more promises, sends Accepts again, pumps, submits and asks, in this order. All
+    /// room is made before.
     pub(crate) fn on_tick(&mut self, outbox: &mut Outbox) -> Result<(), NodeFault>
         requires empty { outbox.old.packets ≡ [] }
         ensures does { Does self.old self.new outbox.old.packets outbox.new.packets
             (on_tick self.old.known) result }
-        ensures needs { OnErr result ((outbox.old.ready < 43) ⊎ IsSome self.old.known.proposer) }
+        ensures needs { OnErr result
+            ((outbox.old.ready < TICK_PACKETS) ⊎ IsSome self.old.known.proposer) }
         ensures store { self.new.store ≡ self.old.store }
-        ensures others { OnErr result (result ≡ Err NodeFault.Memory) }
+        ensures others { MayLackMemory result }
     {
         packets_fit();
         what_goes_out_fits();
-        outbox.make_ready(TICKED)?;
+        outbox.make_ready(TICK_PACKETS)?;
         let me = self.me;
-        let batch = self.first_batch();
+        let batch = self.batch();
         let from = self.learner.known_front();
         if let Some(proposer) = &mut self.proposer {
             propose_again(&self.learner, proposer, me, outbox)?;

@@ -2,31 +2,32 @@
 ghost use Rattle.std.specs.Prelude.{◌≡◌, ◌↔◌, ◌+◌, ◌<◌, ◌≤◌, ◌^◌, [], ◌∷◌, ◌++◌, drop, length, slice_get, take, IfOk, IfSome, IsSome};
 ghost use Rattle.paxos_msg.specs.Keys.{keys_from};
 ghost use Rattle.paxos_learner.specs.Input.{front_values, keys_in_order};
+ghost use Rattle.paxos_msg.specs.declared.limits.TheConstants.{MOST_CHARACTERS};
+ghost use Rattle.group_node.specs.declared.limits.TheConstants.{MOST_WAITING};
 ghost use Rattle.group_node.specs.WaitingKeys.{count_read};
 ghost use Rattle.group_node.specs.Ranges.{IsWaiting};
 
+use crate::limits::MOST_WAITING;
 use circular_buffer::HeapCircularBuffer;
 use paxos_learner::laws::key_tests_are_exact;
 use paxos_learner::{Learner, TypedKey};
 use paxos_msg::Characters;
+use paxos_msg::limits::MOST_CHARACTERS;
 use std::alloc::{AllocError, Global};
 use std::marker::Model;
 
-/// How many characters wait at most.
-pub(crate) const MOST_WAITING: usize = 256;
-
-/// Characters that were typed one after another in one start, and of which key the first is: at
-/// most 256.
+/// Characters that were typed one after another in one start, at most 256, and the serial of the
+/// first.
 #[derive(Drop)]
 pub(crate) struct Waiting {
     bytes: HeapCircularBuffer<u8>,
-    // The serial of the first, or of the next that is typed where none waits: at most
-    // 4,294,967,296.
+    // The serial of the first character, or of the next one if none waits: at most 4,294,967,296.
     first: u64,
 }
 
 impl Model for Waiting {
     ghost use Rattle.std.specs.Prelude.{◌≡◌};
+    ghost use Rattle.group_node.specs.declared.limits.TheConstants.{MOST_WAITING};
     ghost use Rattle.group_node.specs.Ranges.{IsWaiting};
     ghost use Rattle.group_node.specs.States.{Waiting as State};
 
@@ -34,11 +35,12 @@ impl Model for Waiting {
 
     ghost view = { λ w. record { first = w.first; bytes = w.bytes.items } };
 
-    ghost invariant = { λ w. (w.bytes.capacity ≡ 256) × IsWaiting w.first w.bytes.items };
+    ghost invariant = { λ w. (w.bytes.capacity ≡ MOST_WAITING) × IsWaiting w.first w.bytes.items };
 }
 
 impl Waiting {
-    /// None wait, and the next is the first key. It takes the memory for all that may wait.
+    /// Makes a list in which none waits; the next character is the first key. It allocates all that
+    /// it needs.
     pub(crate) fn new(alloc: Global) -> Result<Waiting, AllocError>
         ensures { IfOk result (λ w. w ≡ record { first = 1; bytes = [] }) }
     {
@@ -48,7 +50,7 @@ impl Waiting {
         })
     }
 
-    /// How many wait.
+    /// Returns the number of characters that wait.
     pub(crate) fn len(&self) -> usize
         ensures len { result ≡ length self.now.bytes }
         ensures ranges { IsWaiting self.now.first self.now.bytes }
@@ -56,14 +58,14 @@ impl Waiting {
         self.bytes.len()
     }
 
-    /// The serial of the first.
+    /// Returns the serial of the first.
     pub(crate) fn first(&self) -> u64
         ensures { result ≡ self.now.first }
     {
         self.first
     }
 
-    /// The serial of the next that is typed, at most 4,294,967,296.
+    /// Returns the serial of the next character, at most 4,294,967,296.
     pub(crate) fn next_serial(&self) -> u64
         ensures serial { result ≡ self.now.first + length self.now.bytes }
         ensures few { result ≤ 2 ^ 32 }
@@ -71,9 +73,9 @@ impl Waiting {
         self.first + self.bytes.len() as u64
     }
 
-    /// One more waits, as the last.
+    /// Appends a character.
     pub(crate) fn push(&mut self, byte: u8)
-        requires room { length self.old.bytes < 256 }
+        requires room { length self.old.bytes < MOST_WAITING }
         requires serial { self.old.first + length self.old.bytes < 2 ^ 32 }
         ensures first { self.new.first ≡ self.old.first }
         ensures bytes { self.new.bytes ≡ self.old.bytes ++ byte ∷ [] }
@@ -84,13 +86,13 @@ impl Waiting {
         }
     }
 
-    /// The first of them, at most 32, if any wait.
+    /// Returns the first characters, at most 32, if any wait.
     pub(crate) fn batch(&self) -> Option<Characters>
-        ensures same { IfSome result (λ c. c ≡ take 32 self.now.bytes) }
+        ensures same { IfSome result (λ c. c ≡ take MOST_CHARACTERS self.now.bytes) }
         ensures some { IsSome result ↔ (0 < length self.now.bytes) }
     {
-        let count = self.bytes.len().min(32);
-        let mut bytes = [0; 32];
+        let count = self.bytes.len().min(MOST_CHARACTERS);
+        let mut bytes = [0; MOST_CHARACTERS];
         for i in 0..count {
             let Some(byte) = self.bytes.get(i) else {
                 unreachable!()
@@ -100,7 +102,7 @@ impl Waiting {
         Characters::new(&bytes[..count])
     }
 
-    /// Those at the front that are read wait no more, up to the first that is not.
+    /// Drops the characters at the front whose keys are read, up to the first that is not.
     pub(crate) fn leave_read(&mut self, learner: &Learner, node: u8, start: u32)
         ensures bytes { self.new.bytes
             ≡ drop (count_read (keys_in_order (front_values learner.now.learned))

@@ -12,9 +12,9 @@ use Rattle.group_world.specs.declared.event.Done.{Done}
 use Rattle.group_world.specs.declared.event.Event.{Event}
 use Rattle.group_world.specs.declared.fault.WorldFault.{WorldFault}
 use Rattle.group_world.specs.declared.fault.WorldFault.TheVariants.{Memory}
-use Rattle.group_world.specs.Goes.{Performs}
+use Rattle.group_world.specs.Event.{Performs}
+use Rattle.group_world.specs.Group.{message_of, World}
 use Rattle.group_world.specs.Refusals.{IsRefused, refusal}
-use Rattle.group_world.specs.Worlds.{World, message_of}
 use Rattle.group_sim.specs.declared.simulation.Halt.{Halt}
 use Rattle.group_sim.specs.declared.simulation.Halt.TheVariants as halt
 use Rattle.group_sim.specs.Moments.{DeliversOne, HappensAt, Moment, Shows, Spends}

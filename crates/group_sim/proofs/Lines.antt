@@ -3,7 +3,7 @@ use Rattle.std.proofs.Common.{◌≡◌, ◌⊎◌, ℕ, ◌+◌, ◌-◌, ◌<�
 use Rattle.std.proofs.lemmas.Option.{slice_get-get_or}
 use Rattle.machine_run.specs.declared.run.RunIo.{RunIo}
 use Rattle.group_world.specs.declared.script.Line.{Line}
-use Rattle.group_world.specs.Worlds.{World}
+use Rattle.group_world.specs.Group.{World}
 use Rattle.group_sim.specs.declared.simulation.Halt.{Halt}
 use Rattle.group_sim.specs.declared.simulation.Halt.TheVariants as halt
 use Rattle.group_sim.specs.declared.simulation.Stopped.{Stopped}

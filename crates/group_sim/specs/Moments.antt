@@ -10,14 +10,14 @@ use Rattle.group_world.specs.declared.event.Act.{Act}
 use Rattle.group_world.specs.declared.event.Act.TheVariants.{Deliver, Run, Release}
 use Rattle.group_world.specs.declared.event.Done.{Done}
 use Rattle.group_world.specs.declared.event.Event.{Event}
-use Rattle.group_world.specs.declared.event.Outcome.TheVariants.{Kept}
 use Rattle.group_world.specs.declared.fault.WorldFault.{WorldFault}
 use Rattle.group_world.specs.declared.fault.WorldFault.TheVariants as fault
 use Rattle.group_world.specs.declared.script.Line.{Line}
 use Rattle.group_world.specs.declared.script.Line.TheVariants as line
-use Rattle.group_world.specs.Goes.{Goes}
+use Rattle.group_world.specs.Event.{Goes, kept_event}
+use Rattle.group_world.specs.Group.{World}
+use Rattle.group_world.specs.Member.{Running}
 use Rattle.group_world.specs.Refusals.{IsRefused}
-use Rattle.group_world.specs.Worlds.{Running, World, kept_event}
 use Rattle.machine_run.specs.declared.run.RunIo.{RunIo}
 use Rattle.machine_run.specs.declared.run.RunIo.TheVariants.{Write}
 use Rattle.group_sim.specs.declared.simulation.Halt.{Halt}
@@ -28,31 +28,32 @@ use Rattle.group_sim.specs.Writing.{AppendsFront}
 use Rattle.group_sim.specs.Texts.{node_at, event_text}
 use Rattle.group_sim.specs.Groups.{group_text}
 
--- a moment of a script: the group, how many messages its settles have passed, how many deliveries
--- the settle may still make, and what the writer holds, where that is known
+-- A moment of a script.
+-- It has the group, the number of messages that the settles have passed, the number of deliveries
+-- that the settle may still make, and what the writer holds, where that is known.
 pub record Moment : Type 0 where
   pub world : World
   pub passed : ℕ
   pub left : ℕ
   pub written : Option (List ℕ)
 
--- the moment of a simulation, with what the writer holds
+-- The moment of a simulation, with what the writer holds.
 abbrev pub moment : Simulation → Option (List ℕ) → Moment
 moment s written = record { world = s.world; passed = s.passed; left = s.left; written = written }
 
--- what leads from a moment to another, with this answer: it is done, or the script halts
+-- A relation of a moment, an answer (done, or the script halts) and the moment after it.
 abbrev pub Deed : Type 1
 Deed = Moment → Result (Unit {0}) Halt → Moment → Type 0
 
 -- ---- one after the other
 
--- the first n of the deeds, of which the first has this number, are done
+-- The first n of numbered deeds, from the number `first` on, are done in order.
 abbrev pub AreDone : (ℕ → Deed) → ℕ → ℕ → Moment → Moment → Type 0
 AreDone deed first zero a b = b ≡ a
 AreDone deed first (suc n) a b =
     (mid : Moment) × AreDone deed first n a mid × deed (first + n) mid (Ok tt) b
 
--- the deed of that number is the first that halts, and so
+-- The deed `number` is the first that halts, and halts with `h`.
 pub record HaltsAt (deed : ℕ → Deed) (first number : ℕ) (a : Moment) (h : Halt)
     (b : Moment) : Type 0 where
   pub before : Moment
@@ -60,40 +61,42 @@ pub record HaltsAt (deed : ℕ → Deed) (first number : ℕ) (a : Moment) (h : 
   pub after_first : first ≤ number
   pub halts : deed number before (Err h) b
 
--- n deeds are done, one after the other, up to the first that halts
+-- A deed of n deeds in order, up to the first that halts.
 abbrev pub InTurn : (ℕ → Deed) → ℕ → ℕ → Deed
 InTurn deed first n a (Ok x) b = AreDone deed first n a b
 InTurn deed first n a (Err h) b =
     (number : ℕ) × (number < first + n) × HaltsAt deed first number a h b
 
--- one deed, and then another, unless the first halts
+-- A deed and then another, unless the first halts.
 abbrev pub Then : Deed → Deed → Deed
 Then first second a (Ok x) b = (mid : Moment) × first a (Ok tt) mid × second mid (Ok tt) b
 Then first second a (Err h) b =
     first a (Err h) b ⊎ ((mid : Moment) × first a (Ok tt) mid × second mid (Err h) b)
 
--- nothing is done
+-- The deed that changes nothing.
 abbrev pub DoesNothing : Deed
 DoesNothing a r b = (r ≡ Ok tt) × (b ≡ a)
 
 -- ---- an event
 
--- from a moment to another only this world came, and this text was written
+-- A moment after another in which only the world is new, and this text was written.
 pub record LeavesWorld (a : Moment) (world : World) (text : List ℕ) (b : Moment) : Type 0 where
   pub world_is : b.world ≡ world
   pub passed : b.passed ≡ a.passed
   pub left : b.left ≡ a.left
   pub written : Appends a.written b.written text
 
--- the same where a write failed: of the text a front was written
+-- A moment after another in which only the world is new, and a prefix of the text was written.
 pub record LeavesFront (a : Moment) (world : World) (text : List ℕ) (b : Moment) : Type 0 where
   pub world_is : b.world ≡ world
   pub passed : b.passed ≡ a.passed
   pub left : b.left ≡ a.left
   pub written : AppendsFront a.written b.written text
 
--- An event of a line happens, and what its node refuses is written; or the world refuses it, and
--- nothing has changed.
+-- An event of a line that happens or is refused.
+-- If it happens, a refusal of its node is written. If the world refuses it, nothing has changed.
+-- Allows: an event that its node refuses.
+-- Forbids: a text that is not written.
 abbrev pub HappensAt : ℕ → Event → Deed
 HappensAt number e a (Ok x) b =
     (world : World) × (done : Done) × Goes a.world e done world
@@ -106,65 +109,66 @@ HappensAt number e a (Err halt.Unwritten) b =
 
 -- ---- a settle
 
--- a message to these is meant for node i
+-- True if a message to these is for node i.
 abbrev pub is_meant : To → ℕ → Bool
 is_meant whom.All i = true
 is_meant (whom.One j) i = j == i
 
--- how many deliveries a settle makes at most
+-- The most deliveries that a settle makes.
 abbrev pub deliveries : ℕ
 deliveries = 10000
 
--- how many steps each node makes at the end of a settle, at most
+-- The most steps that each node makes at the end of a settle.
 abbrev pub steps : ℕ
 steps = 1000
 
--- a delivery, which is one of those that the settle may still make; where none is left the settle
--- is too long
+-- A delivery, which is one of those that the settle may still make.
+-- If none is left, the settle is too long.
 abbrev pub Spends : ℕ → Act → Deed
 Spends number act a r b =
     ((a.left ≡ 0) × (r ≡ Err halt.TooLong) × (b ≡ a))
     ⊎ ((0 < a.left) × HappensAt number (kept_event act) (record a { left = a.left - 1 }) r b)
 
--- message k is delivered to node i, if it is meant for it and it is up
+-- The delivery of message k to node i, if it is for that node and the node is up.
+-- Allows: a message to a node that is down.
 abbrev pub DeliversOne : ℕ → ℕ → To → ℕ → Deed
 DeliversOne number k to i a r b =
     ((is_meant to i && is_some (node_at a.world i) ≡ false) × DoesNothing a r b)
     ⊎ ((is_meant to i && is_some (node_at a.world i) ≡ true) × Spends number (Deliver k i) a r b)
 
--- message k is delivered to those whom it is meant for and who are up, in ascending order
+-- The deliveries of message k to those whom it is for and who are up, in ascending order.
 abbrev pub PassesOn : ℕ → ℕ → ℕ → Deed
 PassesOn number size k a r b =
     (message : Datagram) × (slice_get a.world.sent k ≡ Some message)
     × InTurn (DeliversOne number k message.to) 1 size a r b
 
--- the messages that no settle has passed, and those that they cause, in the order in which they
--- were sent, until there are no more
+-- The deliveries of the messages that no settle has passed, and of those that they cause.
+-- They come in the order in which they were sent, until there are no more.
+-- Forbids: a message that is passed twice.
 abbrev pub DeliversAll : ℕ → ℕ → Deed
 DeliversAll number size a (Ok x) b =
     (n : ℕ) × (mid : Moment) × AreDone (PassesOn number size) a.passed n a mid
     × (length mid.world.sent ≤ a.passed + n) × (b ≡ record mid { passed = a.passed + n })
 DeliversAll number size a (Err h) b = (k : ℕ) × HaltsAt (PassesOn number size) a.passed k a h b
 
--- how many bytes wait at a node
+-- The number of bytes that wait at a node.
 abbrev pub waiting : Option Running → ℕ
 waiting None = 0
 waiting (Some q) = length (unreleased_of (input q.known) q.progress)
 
--- node i releases all its output that waits
+-- The release of all output that waits at node i.
 abbrev pub ReleasesAll : ℕ → ℕ → Deed
 ReleasesAll number i a r b =
     InTurn (λ k. HappensAt number (kept_event (Release i))) 0 (waiting (node_at a.world i)) a r b
 
--- node i, if it is up, makes its steps and releases all its output that waits
+-- The steps of node i, if it is up, and the release of all its output that waits.
 abbrev pub Plays : ℕ → ℕ → Deed
 Plays number i a r b =
     ((is_some (node_at a.world i) ≡ false) × DoesNothing a r b)
     ⊎ ((is_some (node_at a.world i) ≡ true)
     × Then (HappensAt number (kept_event (Run i steps))) (ReleasesAll number i) a r b)
 
--- all messages are delivered, and then each node that is up makes its steps and releases all, in
--- ascending order
+-- A settle: all deliveries, and then each node that is up runs and releases all, ascending.
 abbrev pub Settles : ℕ → ℕ → Deed
 Settles number size a r b =
     Then (DeliversAll number size) (InTurn (Plays number) 1 size)
@@ -172,35 +176,39 @@ Settles number size a r b =
 
 -- ---- a script
 
--- the text of a group of this size is written, and nothing else has changed
+-- A `show` of a group of this size: its text is written, and nothing else has changed.
+-- Allows: a group whose nodes are all down; a failed write, which leaves a prefix of the text.
+-- Forbids: another text.
 abbrev pub Shows : ℕ → Deed
 Shows size a (Ok x) b = LeavesWorld a a.world (group_text a.world size) b
 Shows size a (Err (halt.Refused f)) b = ⊥
 Shows size a (Err halt.TooLong) b = ⊥
 Shows size a (Err halt.Unwritten) b = LeavesFront a a.world (group_text a.world size) b
 
--- what the line of this number says is done
+-- The deed of a line of this number.
 abbrev pub Says : ℕ → ℕ → Line → Deed
 Says size number (line.Act e) = HappensAt number e
 Says size number line.Settle = Settles number size
 Says size number line.Show = Shows size
 
--- the line of this number, which is the item `number - 2` of the lines, is done
+-- The deed of line `number`, which is the item `number - 2` of the lines.
 abbrev pub LineIsDone : ℕ → List Line → ℕ → Deed
 LineIsDone size lines number a r b =
     (said : Line) × (slice_get lines (number - 2) ≡ Some said) × Says size number said a r b
 
--- before the first event of a script, with what the writer holds
+-- The moment before the first event of a script, with what the writer holds.
 abbrev pub first_moment : World → Option (List ℕ) → Moment
 first_moment w written = record { world = w; passed = 0; left = 0; written = written }
 
--- all lines of a script were done, one after the other, and the writer holds this
+-- A script of which all lines were done in order, and what the writer then holds.
+-- Forbids: a line that is left out.
 pub record IsScriptDone (w : World) (lines : List Line) (old new : Option (List ℕ)) : Type 0 where
   pub end : Moment
   pub done : AreDone (LineIsDone w.group.size lines) 2 (length lines) (first_moment w old) end
   pub written : end.written ≡ new
 
--- a script was done up to the line of this number, which halts so, and the writer holds this
+-- A script that was done up to line `number`, which halts with `h`, and what the writer then holds.
+-- Allows: a settle that halts in the middle.
 pub record IsHalted (w : World) (lines : List Line) (number : ℕ) (h : Halt)
     (old new : Option (List ℕ)) : Type 0 where
   pub end : Moment
@@ -208,18 +216,18 @@ pub record IsHalted (w : World) (lines : List Line) (number : ℕ) (h : Halt)
   pub few : number < 2 + length lines
   pub written : end.written ≡ new
 
--- the world's refusal, or a settle that is too long
+-- The cause of a halt as the answer has it: the world's refusal, or a settle that is too long.
 abbrev pub halt_of : Option WorldFault → Halt
 halt_of (Some f) = halt.Refused f
 halt_of None = halt.TooLong
 
--- what comes of a script that halts at a line
+-- The answer of a script that halts at a line.
 abbrev pub halt_answer : ℕ → Halt → Result (Option Stopped) RunIo
 halt_answer number (halt.Refused f) = Ok (Some (record { line = number; fault = Some f }))
 halt_answer number halt.TooLong = Ok (Some (record { line = number; fault = None }))
 halt_answer number halt.Unwritten = Err Write
 
--- there is no group at line 1: none of this size, or no memory for it
+-- A script whose group cannot be made at line 1: the size is wrong, or memory runs out.
 abbrev pub IsNoGroup : ℕ → ℕ → Option WorldFault → Type 0
 IsNoGroup size number f =
     (number ≡ 1) × (((f ≡ Some fault.Size) × ¬ IsSize size)

@@ -1,4 +1,4 @@
-//! When a line of a script halts. It is the contract of a function that does nothing.
+//! When a line of a script halts: the contract of a function that does nothing.
 ghost use Rattle.std.specs.Prelude.{◌≡◌, ℕ};
 ghost use Rattle.group_node.specs.declared.packet.To.{To};
 ghost use Rattle.group_world.specs.declared.event.Event.{Event};
@@ -8,9 +8,9 @@ ghost use Rattle.group_sim.specs.declared.simulation.Halt.{Halt};
 ghost use Rattle.group_sim.specs.declared.simulation.Halt.TheVariants as halt;
 ghost use Rattle.group_sim.specs.Moments.{DeliversOne, HappensAt, Moment, Shows};
 
-/// What halts could not have been done. An event that can happen is refused only where memory runs
-/// out. A delivery for which a settle is too long can't be made. A `show` halts only where a write
-/// fails.
+/// Says that what halts could not have been done. An event that can happen is refused only if
+/// memory runs out. A delivery for which a settle is too long can't be made. A `show` halts only if
+/// a write fails.
 pub fn halts_have_a_cause()
     ensures refused { (number : ℕ) (e : Event) (a b c : Moment) (f : WorldFault)
         → HappensAt number e a (Ok tt) b → HappensAt number e a (Err (halt.Refused f)) c

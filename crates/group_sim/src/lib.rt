@@ -1,7 +1,13 @@
-//! Scripts that happen to a group in memory, and the group as text.
+//! A simulation: a script is performed on a group in memory, and the group is printed.
 //!
-//! `sim_file` does the work of the command `sim`: it reads a code file and a script, and `sim` lets
-//! the script happen to a group that runs the program.
+//! It is for tests and demonstrations of a group without a network. Call first:
+//!
+//! - `read_script` of `group_world`, which reads a script;
+//! - `sim`, which performs it on a group that runs a program, and whose contract says, line by
+//! line,
+//!   what happened and what was written;
+//! - or `sim_file`, which does the work of the command `sim` on a code file and the file of a
+//! script.
 #![tactic(auto)]
 
 pub mod laws;

@@ -1,29 +1,29 @@
-//! What the command `sim` refuses.
+//! The refusals of the command `sim`.
 use crate::simulation::Stopped;
 use group_world::{ScriptFault, WorldFault};
 use machine_run::{FileError, MachineRefusal, RunIo};
 use thiserror::Error;
 
-/// Why a line of a script is refused. Its text follows the word `refused`.
+/// Why a line of a script is refused. The text follows the word `refused`.
 #[derive(Clone, Copy, Debug, Error)]
 pub enum LineFault {
-    /// It is no line of a script.
+    /// It is not a line of a script.
     #[error("script")]
     Unread,
-    /// It is a settle of too many deliveries.
+    /// It is a settle with too many deliveries.
     #[error("settle")]
     TooLong,
-    /// The world refuses it, or has no memory for it.
+    /// The world refuses it, or memory runs out for it.
     #[error(transparent)]
     World(WorldFault),
 }
 
-/// What `sim` refuses.
+/// Why `sim` is refused.
 #[derive(Clone, Copy, Debug)]
 pub enum ScriptRefusal {
-    /// One of the files, or the output.
+    /// One of the files or the output is at fault.
     Machine(MachineRefusal),
-    /// A line of the script, by its number from 1 on.
+    /// A line of the script is at fault, by its number from 1.
     Line { line: usize, fault: LineFault },
 }
 

@@ -1,4 +1,4 @@
-//! What the command `sim` does with a code file and the file of a script.
+//! The work of the command `sim` on a code file and the file of a script.
 use crate::refusal::ScriptRefusal;
 use crate::simulation::sim;
 use group_world::{Script, read_script};
@@ -6,7 +6,7 @@ use machine_run::{MachineRefusal, load_file, read_file};
 use std::io::Write;
 use std::rt::Files;
 
-/// The script of a file.
+/// Reads the script of a file. Fails with `File` if it can't be read or is not UTF-8.
 fn load_script<H: Files + AllocGlobal>(rt: &H, file: &str) -> Result<Script, ScriptRefusal> {
     let bytes = read_file(rt, file)?;
     let Ok(text) = str::from_utf8(bytes.as_slice()) else {
@@ -15,7 +15,7 @@ fn load_script<H: Files + AllocGlobal>(rt: &H, file: &str) -> Result<Script, Scr
     Ok(read_script(rt.alloc(), text)?)
 }
 
-/// Lets the script of a file happen to a group that runs the program of a code file.
+/// Performs the script of a file on a group that runs the program of a code file.
 pub fn sim_file<H: Files + AllocGlobal, W: Write>(
     rt: &H,
     file: &str,

@@ -1,4 +1,4 @@
-//! The state of a group as text.
+//! A group as text.
 ghost use Rattle.std.specs.Prelude.{◌≡◌, Some};
 ghost use Rattle.group_sim.specs.Groups.{ballot_text, console_at, console_text, group_text};
 ghost use Rattle.group_sim.specs.Groups.{keys_text, known_text, learned_at, learned_by, node_line};
@@ -22,7 +22,7 @@ fn write_ballot<W: Write>(writer: &mut W, ballot: Ballot) -> Result<(), WriteFau
     put_number(writer, b".", ballot.node as u64)
 }
 
-/// Writes keys as a value has them.
+/// Writes the keys of a value, whose first has the serial `first`.
 fn write_keys<W: Write>(
     writer: &mut W,
     node: u8,
@@ -66,7 +66,7 @@ fn write_known<W: Write>(writer: &mut W, world: &World<'_>, node: u8) -> Result<
     }
 }
 
-/// The ballot that a node's stored record has promised.
+/// Returns the ballot that a node's stored record has promised.
 fn promised(world: &World<'_>, node: u8) -> Option<Ballot>
     ensures { result ≡ known_promise world.now node }
 {
@@ -76,7 +76,7 @@ fn promised(world: &World<'_>, node: u8) -> Option<Ballot>
     }
 }
 
-/// Writes what a node has promised.
+/// Writes the ballot that a node has promised, or `-`.
 fn write_promised<W: Write>(writer: &mut W, promised: Option<Ballot>) -> Result<(), WriteFault>
     ensures { WritesText (W.contents writer.old) result (W.contents writer.new)
         (promised_text promised) }
@@ -90,7 +90,7 @@ fn write_promised<W: Write>(writer: &mut W, promised: Option<Ballot>) -> Result<
     }
 }
 
-/// What a node's console has shown.
+/// Returns the bytes that a node's console has shown.
 fn console<'w>(world: &'w World<'_>, node: u8) -> &'w [u8]
     ensures { result.now ≡ console_at world.now node }
 {
@@ -100,7 +100,7 @@ fn console<'w>(world: &'w World<'_>, node: u8) -> &'w [u8]
     }
 }
 
-/// Writes what a console has shown.
+/// Writes the bytes that a console has shown, or `-`.
 fn write_console<W: Write>(writer: &mut W, console: &[u8]) -> Result<(), WriteFault>
     ensures { WritesText (W.contents writer.old) result (W.contents writer.new)
         (console_text console.now) }
@@ -135,7 +135,7 @@ fn write_nodes<W: Write>(writer: &mut W, world: &World<'_>, size: u8) -> Result<
     Ok(())
 }
 
-/// What a node has learned at a place, if it is up.
+/// Returns the value that a node has learned at a place, if the node is up.
 fn learned_of(world: &World<'_>, node: u8, place: u32) -> Option<Value>
     ensures { result ≡ learned_by world.now node place }
 {
@@ -145,7 +145,7 @@ fn learned_of(world: &World<'_>, node: u8, place: u32) -> Option<Value>
     }
 }
 
-/// What the first node that is up and has learned a value at a place has learned there.
+/// Returns the value of the first node that is up and has learned one at the place.
 fn learned(world: &World<'_>, size: u8, place: u32) -> Option<Value>
     ensures { result ≡ learned_at world.now size place }
 {
@@ -156,7 +156,7 @@ fn learned(world: &World<'_>, size: u8, place: u32) -> Option<Value>
     found
 }
 
-/// Writes the line of a place at which this value is learned.
+/// Writes the line of a place at which `value` is learned.
 fn write_learned<W: Write>(writer: &mut W, place: u32, value: Value) -> Result<(), WriteFault>
     ensures { WritesText (W.contents writer.old) result (W.contents writer.new)
         (place_line place (Some value)) }
@@ -182,7 +182,7 @@ fn write_place<W: Write>(
     }
 }
 
-/// Writes a line for each place at which some node that is up has learned a value.
+/// Writes a line for each place at which some node that is up has learned a value, ascending.
 fn write_places<W: Write>(writer: &mut W, world: &World<'_>, size: u8) -> Result<(), WriteFault>
     ensures { WritesText (W.contents writer.old) result (W.contents writer.new)
         (place_lines world.now size) }
@@ -193,8 +193,8 @@ fn write_places<W: Write>(writer: &mut W, world: &World<'_>, size: u8) -> Result
     Ok(())
 }
 
-/// Writes a line for each node of a group of this size, one for each learned place, and how many
-/// messages were sent. Where a write fails a front of this text is written.
+/// Writes a line for each node of a group of `size` nodes, a line for each learned place, and the
+/// number of messages that were sent. A write that fails leaves a prefix of this text.
 pub fn write_group<W: Write>(writer: &mut W, world: &World<'_>, size: u8) -> Result<(), WriteFault>
     ensures { WritesText (W.contents writer.old) result (W.contents writer.new)
         (group_text world.now size) }

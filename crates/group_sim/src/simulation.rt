@@ -1,8 +1,9 @@
-//! Scripts that happen to a group.
+//! The performance of a script on a group.
 ghost use Rattle.std.specs.Prelude.{◌≡◌, ◌↔◌, ◌⊎◌, ℕ, ◌+◌, ◌≤◌, is_some, length, IfErr, IfOk, IfSome, IsNone, OnErr};
 ghost use Rattle.group_node.specs.Fault.{code_of};
 ghost use Rattle.group_node.specs.States.{IsSize};
-ghost use Rattle.group_world.specs.Worlds.{new_world, kept_event};
+ghost use Rattle.group_world.specs.Event.{kept_event};
+ghost use Rattle.group_world.specs.Group.{new_world};
 ghost use Rattle.group_sim.specs.Moments.{DeliversOne, DeliversAll, HappensAt, InTurn, IsScriptDone, IsHalted, IsNoGroup, Plays, ReleasesAll, Says, Settles, Shows, halt_answer, halt_of, is_meant, moment, waiting};
 ghost use Rattle.group_sim.specs.Texts.{node_at, refusal_text, event_text};
 ghost use Rattle.group_sim.specs.Writing.{WritesText};
@@ -16,22 +17,22 @@ use pcode_ops::Program;
 use std::alloc::Global;
 use std::io::Write;
 
-/// How many deliveries a settle makes at most.
+/// The most deliveries that a settle makes.
 const DELIVERIES: u32 = 10_000;
 
-/// How many steps each machine makes at the end of a settle, at most.
+/// The most steps that each machine makes at the end of a settle.
 const SETTLE_STEPS: u32 = 1_000;
 
 /// The line at which a script stopped, and why.
 #[derive(Clone, Copy, Debug, PartialEq, Eq)]
 pub struct Stopped {
-    /// The number of the line, from 1 on.
+    /// The number of the line, from 1.
     pub line: usize,
-    /// The world's refusal; nothing where a settle was too long.
+    /// The world's refusal, or `None` if a settle was too long.
     pub fault: Option<WorldFault>,
 }
 
-/// Why a script doesn't go on behind a line.
+/// Why a script doesn't go on after a line.
 #[derive(Clone, Copy, Debug, PartialEq, Eq)]
 enum Halt {
     /// The world refused an event.
@@ -71,7 +72,7 @@ fn code(fault: NodeFault) -> &'static [u8]
     fault.code().as_bytes()
 }
 
-/// Writes what a node refused at a line.
+/// Writes the line of a node's refusal.
 fn write_refusal<W: Write>(writer: &mut W, line: usize, fault: NodeFault) -> Result<(), WriteFault>
     ensures { WritesText (W.contents writer.old) result (W.contents writer.new)
         (refusal_text line fault) }
@@ -82,7 +83,7 @@ fn write_refusal<W: Write>(writer: &mut W, line: usize, fault: NodeFault) -> Res
     put(writer, b"\n")
 }
 
-/// Writes what a node refused at a line, if it refused an event.
+/// Writes the line of a node's refusal, if it refused the event.
 fn tell<W: Write>(writer: &mut W, line: usize, done: Done) -> Result<(), WriteFault>
     ensures { WritesText (W.contents writer.old) result (W.contents writer.new)
         (event_text line done) }
@@ -93,7 +94,7 @@ fn tell<W: Write>(writer: &mut W, line: usize, done: Done) -> Result<(), WriteFa
     }
 }
 
-/// Whether a message to these is meant for a node.
+/// Returns true if a message to `to` is for the node.
 fn is_meant_for(to: To, node: u8) -> bool
     ensures { result ≡ is_meant to node }
 {
@@ -103,13 +104,13 @@ fn is_meant_for(to: To, node: u8) -> bool
     }
 }
 
-/// A group to which a script happens, and how far its settles have come.
+/// A group on which a script is performed, and how far its settles have come.
 struct Simulation<'a> {
     world: World<'a>,
     size: u8,
-    /// How many messages the settles so far have passed.
+    /// The number of messages that the settles so far have passed.
     passed: usize,
-    /// How many deliveries the settle may still make.
+    /// The number of deliveries that the settle may still make.
     left: u32,
 }
 
@@ -125,7 +126,7 @@ impl<'a> Drop for Simulation<'a> {
 }
 
 impl Simulation<'_> {
-    /// An event of the line happens. What its node refuses is written, and the script goes on.
+    /// Applies an event of the line. Writes a refusal of its node, after which the script goes on.
     fn happen<W: Write>(&mut self, writer: &mut W, line: usize, event: &Event) -> Result<(), Halt>
         ensures size { self.new.size ≡ self.old.size }
         ensures happens { HappensAt line event.now (moment self.old (W.contents writer.old)) result
@@ -141,7 +142,7 @@ impl Simulation<'_> {
         }
     }
 
-    /// An act of a settle, none of whose saves fails.
+    /// Performs an act of a settle, whose save does not fail.
     fn go_on<W: Write>(&mut self, writer: &mut W, line: usize, act: Act) -> Result<(), Halt>
         ensures size { self.new.size ≡ self.old.size }
         ensures happens { HappensAt line (kept_event act)
@@ -152,13 +153,14 @@ impl Simulation<'_> {
         self.happen(writer, line, &Event { act, save })
     }
 
+    /// Returns true if there is such a node and it is up.
     fn is_up(&self, node: u8) -> bool
         ensures { result ≡ is_some (node_at self.now.world node) }
     {
         self.world.node(node).is_some()
     }
 
-    /// Delivers a message to a node, if it is meant for it and it is up.
+    /// Delivers a message to a node, if it is for that node and the node is up.
     fn deliver<W: Write>(
         &mut self,
         writer: &mut W,
@@ -182,7 +184,7 @@ impl Simulation<'_> {
         self.go_on(writer, line, Act::Deliver(message, node))
     }
 
-    /// Delivers a message to those whom it is meant for and who are up, in ascending order.
+    /// Delivers a message to those whom it is for and who are up, in ascending order.
     fn pass<W: Write>(
         &mut self,
         writer: &mut W,
@@ -223,13 +225,13 @@ impl Simulation<'_> {
                 return Err(halt);
             }
         }
-        // A list has no more items than this.
+        // A vector has no more items than this.
         let _sent = self.world.sent();
         self.passed = usize::MAX;
         Ok(())
     }
 
-    /// How many bytes wait at a node.
+    /// Returns the number of bytes that wait at a node.
     fn waiting(&self, node: u8) -> usize
         ensures { result ≡ waiting (node_at self.now.world node) }
     {
@@ -239,7 +241,7 @@ impl Simulation<'_> {
         }
     }
 
-    /// The node releases all its output that waits.
+    /// Releases all output that waits at a node.
     fn release_all<W: Write>(&mut self, writer: &mut W, line: usize, node: u8) -> Result<(), Halt>
         ensures size { self.new.size ≡ self.old.size }
         ensures releases { ReleasesAll line node (moment self.old (W.contents writer.old)) result
@@ -254,7 +256,7 @@ impl Simulation<'_> {
         Ok(())
     }
 
-    /// The node, if it is up, makes its steps and releases all its output that waits.
+    /// Runs a node, if it is up, and releases all its output that waits.
     fn play<W: Write>(&mut self, writer: &mut W, line: usize, node: u8) -> Result<(), Halt>
         ensures size { self.new.size ≡ self.old.size }
         ensures plays { Plays line node (moment self.old (W.contents writer.old)) result
@@ -269,7 +271,7 @@ impl Simulation<'_> {
         self.release_all(writer, line, node)
     }
 
-    /// Each node that is up makes its steps and releases all, in ascending order.
+    /// Runs each node that is up and releases all its output, in ascending order.
     fn play_all<W: Write>(&mut self, writer: &mut W, line: usize) -> Result<(), Halt>
         ensures size { self.new.size ≡ self.old.size }
         ensures plays { InTurn (Plays line) 1 self.old.size
@@ -285,7 +287,7 @@ impl Simulation<'_> {
         Ok(())
     }
 
-    /// Delivers all, and then each node that is up makes its steps and releases all.
+    /// Delivers all messages, and then runs each node that is up and releases all its output.
     fn settle<W: Write>(&mut self, writer: &mut W, line: usize) -> Result<(), Halt>
         ensures size { self.new.size ≡ self.old.size }
         ensures settles { Settles line self.old.size
@@ -299,7 +301,7 @@ impl Simulation<'_> {
         self.play_all(writer, line)
     }
 
-    /// Writes the state of the group.
+    /// Writes the group.
     fn show<W: Write>(&self, writer: &mut W) -> Result<(), Halt>
         ensures { Shows self.now.size (moment self.now (W.contents writer.old)) result
             (moment self.now (W.contents writer.new)) }
@@ -310,7 +312,7 @@ impl Simulation<'_> {
         }
     }
 
-    /// What a line says.
+    /// Performs a line.
     fn perform<W: Write>(&mut self, writer: &mut W, number: usize, line: &Line) -> Result<(), Halt>
         ensures size { self.new.size ≡ self.old.size }
         ensures says { Says self.old.size number line.now
@@ -325,7 +327,7 @@ impl Simulation<'_> {
     }
 }
 
-/// What comes of a script that doesn't go on behind a line.
+/// Returns the answer of a script that halts at a line.
 fn stopped_at(line: usize, halt: Halt) -> Result<Option<Stopped>, RunIo>
     ensures { result ≡ halt_answer line halt }
 {
@@ -337,17 +339,17 @@ fn stopped_at(line: usize, halt: Halt) -> Result<Option<Stopped>, RunIo>
     Ok(Some(Stopped { line, fault }))
 }
 
-/// What a script says happens to a group of nodes that run the program, one line after the other.
-/// What a node refuses and what the script shows is written.
+/// Performs a script on a group of nodes that run the program, line by line. Writes what a node
+/// refuses and what the script shows.
 ///
-/// A `settle` goes through the messages that no earlier settle has passed, in the order in which
-/// they were sent, with those that it causes, and delivers each to those whom it is meant for and
-/// who are up, in ascending order. Then each node that is up, in ascending order, makes 1,000 steps
-/// at most and releases all its output that waits.
+/// A `settle` passes the messages that no earlier settle has passed, with those that it causes, in
+/// the order in which they were sent. It delivers each to those whom it is for and who are up, in
+/// ascending order. Then each node that is up, in ascending order, runs at most 1,000 steps and
+/// releases all its output that waits.
 ///
-/// The answer is where it stopped, if it did: at line 1 where there is no such group, at a line
-/// that the world refused, and at a settle of more than 10,000 deliveries. `Write` where a write
-/// failed or took nothing. Want of memory is a refusal of the world, so that the answer is never
+/// Returns where it stopped, if it did: at line 1 if there is no such group, at a line that the
+/// world refused, or at a settle of more than 10,000 deliveries. Fails with `Write` if a write
+/// failed or took nothing. Running out of memory is a refusal of the world, so it never fails with
 /// `Memory`.
 pub fn sim<W: Write>(
     alloc: Global,

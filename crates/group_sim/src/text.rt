@@ -1,4 +1,4 @@
-//! Texts that are written piece by piece, so that after a failed write a front of them is there.
+//! Texts that are written piece by piece, so that a failed write leaves a prefix of them.
 ghost use Rattle.std.specs.Prelude.{◌≡◌, ◌<◌, true, decimal};
 ghost use Rattle.std.specs.Fmt.{digit_glyph};
 ghost use Rattle.group_sim.specs.Groups.{hex_digits, hex_text, numbered};
@@ -7,7 +7,7 @@ ghost use Rattle.group_sim.specs.Writing.{WritesText};
 use machine_run::WriteFault;
 use std::io::{ErrorKind, Write};
 
-/// Writes a text. A write that was interrupted is tried again, as `write_all` does.
+/// Writes a text. Tries a write that was interrupted again, as `write_all` does.
 pub fn put<W: Write>(writer: &mut W, text: &[u8]) -> Result<(), WriteFault>
     ensures { WritesText (W.contents writer.old) result (W.contents writer.new) text.now }
 {
@@ -48,7 +48,7 @@ pub fn put_number<W: Write>(writer: &mut W, text: &[u8], number: u64) -> Result<
     put_decimal(writer, number)
 }
 
-/// The hexadecimal digit of a number, in capitals.
+/// Returns the hexadecimal digit of a number, in capitals.
 fn hex_digit(value: u8) -> u8
     requires { value < 16 }
     ensures { result ≡ digit_glyph true value }

@@ -1,5 +1,5 @@
-//! Which nodes there are, a console, and the texts of refusals. What a node of a group of three
-//! refuses, what it sends byte by byte, and what its machine writes, stand in the files below.
+//! Which nodes there are, a console, and the texts of refusals. The files below have what a node of
+//! a group of three refuses, what it sends byte by byte, and what its machine writes.
 mod acts;
 mod by_hand;
 mod datagrams;
@@ -10,7 +10,7 @@ mod traces;
 use group_node::{Config, Console, NodeFault, Offer};
 use std::test::Fail;
 
-/// Node, size and session, and how they are refused.
+/// Node, size and session, and the refusal.
 const CONFIGS: [((u8, u8, u32), Option<NodeFault>); 8] = [
     ((1, 2, 7), Some(NodeFault::Size)),
     ((1, 11, 7), Some(NodeFault::Size)),
@@ -22,6 +22,7 @@ const CONFIGS: [((u8, u8, u32), Option<NodeFault>); 8] = [
     ((9, 9, 7), None),
 ];
 
+/// Shows Config::new (ok, size, id): which nodes, of groups of which sizes, there are.
 #[test]
 fn nodes_of_groups(rt: HostRuntime) {
     for ((node, size, session), fault) in CONFIGS {
@@ -33,6 +34,8 @@ fn nodes_of_groups(rt: HostRuntime) {
     }
 }
 
+/// Shows Console::new, Console::reserve (room), Console::offer (answer, shown, only_fresh),
+/// Console::bytes: a byte that comes next, one that was shown before, and one after a gap.
 #[test]
 fn console_and_learner_edges(rt: HostRuntime) -> Result<(), Fail> {
     let mut console = Console::new(rt.alloc());
@@ -48,6 +51,7 @@ fn console_and_learner_edges(rt: HostRuntime) -> Result<(), Fail> {
     Ok(())
 }
 
+/// Shows NodeFault::code, NodeFault::fmt (output): the text of each refusal is its code.
 #[test]
 fn texts_of_refusals(rt: HostRuntime) -> Result<(), Fail> {
     let texts = [

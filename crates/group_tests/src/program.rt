@@ -17,7 +17,7 @@ const WRITES_300: [u8; 28] = [
     0x04, 0x00, 0x07, 0x00, 0x14, 0x00, 0x01, 0x00, 0x02, 0x00, 0x01, 0x01,
 ];
 
-/// A code file with this segment as its entry 1, and zeros up to 1,024 bytes.
+/// Returns a code file with this segment as its entry 1, and zeros up to 1,024 bytes.
 fn code_file(alloc: Global, segment: &[u8]) -> Result<Vec<u8>, AllocError> {
     let [low, high] = u16::try_from(segment.len()).unwrap_or(0).to_le_bytes();
     let mut file = Vec::new(alloc);
@@ -32,7 +32,7 @@ fn code_file(alloc: Global, segment: &[u8]) -> Result<Vec<u8>, AllocError> {
     Ok(file)
 }
 
-/// The program of the segment.
+/// Returns the program of the segment.
 fn program(alloc: Global, segment: &[u8]) -> Result<Program, Fail> {
     let bytes = code_file(alloc, segment)?;
     let file = CodeFile::read(alloc, bytes.as_slice())
@@ -42,12 +42,12 @@ fn program(alloc: Global, segment: &[u8]) -> Result<Program, Fail> {
     Ok(program)
 }
 
-/// The program that reads bytes and writes each of them.
+/// Returns the program that reads bytes and writes each of them.
 pub fn reading_program(alloc: Global) -> Result<Program, Fail> {
     program(alloc, &READS)
 }
 
-/// The program that writes 300 zero bytes.
+/// Returns the program that writes 300 zero bytes.
 pub fn writing_program(alloc: Global) -> Result<Program, Fail> {
     program(alloc, &WRITES_300)
 }

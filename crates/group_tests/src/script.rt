@@ -63,7 +63,7 @@ const SAID: [Line; 12] = [
     Line::Show,
 ];
 
-/// Whether a text is read as the good script.
+/// Returns true if a text is read as the good script.
 fn is_good(rt: &HostRuntime, text: &str) -> bool {
     match read_script(rt.alloc(), text) {
         Ok(script) => {
@@ -75,6 +75,7 @@ fn is_good(rt: &HostRuntime, text: &str) -> bool {
     }
 }
 
+/// Shows read_script (read), digits::decimal, digits::hex_byte: a script with each kind of line.
 #[test]
 fn a_script_of_each_line(rt: HostRuntime) -> Result<(), Fail> {
     assert!(rt; is_good(&rt, GOOD));
@@ -83,7 +84,7 @@ fn a_script_of_each_line(rt: HostRuntime) -> Result<(), Fail> {
     Ok(())
 }
 
-/// Texts, and the number of the first line that is none of a script.
+/// Texts that are no script, and the number of the first bad line.
 const BAD: [(&str, usize); 40] = [
     ("", 1),
     ("\n", 1),
@@ -127,7 +128,7 @@ const BAD: [(&str, usize); 40] = [
     ("size 3 session 7\nwait 1 2", 2),
 ];
 
-/// Whether a text is refused for this line, and not for lack of memory.
+/// Returns true if a text is refused for this line, and not for lack of memory.
 fn is_refused(rt: &HostRuntime, text: &str, line: usize) -> bool {
     match read_script(rt.alloc(), text) {
         Ok(_) => false,
@@ -139,6 +140,8 @@ fn is_refused(rt: &HostRuntime, text: &str, line: usize) -> bool {
     }
 }
 
+/// Shows read_script (refused): a text that is no script is refused with the number of its first
+/// bad line.
 #[test]
 fn lines_that_are_none(rt: HostRuntime) -> Result<(), Fail> {
     for (text, line) in BAD {

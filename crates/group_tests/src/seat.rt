@@ -1,10 +1,9 @@
-//! A node of a group of three with its outbox. What contracts see of it is nothing, so that a test
-//! does not carry a node's state from one call to the next; each call of the node stands in a
-//! function of its own.
+//! A node of a group of three with its outbox. Contracts see nothing of it, so that a test does not
+//! carry a node's state from one call to the next. Each call of the node is in a function of its
+//! own.
 ghost use Rattle.std.specs.Prelude.{◌≡◌};
 
 use group_node::{Config, Node, NodeFault, Outbox, Packet, Ran, StartRefused};
-use group_wire::{Wire, press_some, turn};
 use paxos_acceptor::MemoryStore;
 use paxos_msg::{Group, Record, Value, decode};
 use pcode_ops::Program;
@@ -43,7 +42,7 @@ impl<'a> Model for Seat<'a> {
 }
 
 impl<'a> Seat<'a> {
-    /// The node with this number, started over the store.
+    /// Starts the node of this number over the store.
     pub fn start(
         alloc: Global,
         program: &'a Program,
@@ -64,7 +63,7 @@ impl<'a> Seat<'a> {
         }
     }
 
-    /// The node with this number, started over this record.
+    /// Starts the node of this number over this record.
     pub fn over(
         alloc: Global,
         program: &'a Program,
@@ -77,7 +76,7 @@ impl<'a> Seat<'a> {
         }
     }
 
-    /// The node with this number, started for the first time.
+    /// Starts the node of this number for the first time.
     pub fn fresh(alloc: Global, program: &'a Program, number: u8) -> Result<Seat<'a>, NodeFault> {
         Seat::over(alloc, program, number, Record::new(alloc))
     }
@@ -94,7 +93,7 @@ impl<'a> Seat<'a> {
         self.node.typed(byte)
     }
 
-    /// Hears a datagram. No answer where it is none of the group.
+    /// Hears a datagram. Returns `None` if it is none of the group.
     pub fn hear(&mut self, bytes: &[u8]) -> Option<Result<(), NodeFault>> {
         let view = decode(bytes, GROUP).ok()?;
         Some(self.node.on_message(&view, &mut self.outbox))
@@ -116,7 +115,7 @@ impl<'a> Seat<'a> {
         self.outbox.free()
     }
 
-    /// How many bytes of output wait.
+    /// Returns the number of output bytes that wait.
     pub fn unreleased(&self) -> usize {
         self.node.unreleased()
     }
@@ -135,16 +134,6 @@ impl<'a> Seat<'a> {
 
     pub fn fail_next(&mut self, plan: Option<bool>) {
         self.node.fail_next(plan);
-    }
-
-    /// Types bytes, as many as there is room for, and takes them off the front.
-    pub fn press_some(&mut self, bytes: &mut &[u8]) -> Result<(), NodeFault> {
-        press_some(&mut self.node, bytes)
-    }
-
-    /// A turn of the node on this wire, and why its run was over.
-    pub fn turn<T: Wire>(&mut self, wire: &mut T) -> Result<Ran, NodeFault> {
-        Ok(turn(&mut self.node, wire, &mut self.outbox, GROUP)?.ran)
     }
 
     pub fn into_store(self) -> MemoryStore {

@@ -1,5 +1,5 @@
-//! A stop at each save: a script in which twelve saves are made, and each of them fails once with
-//! the old record and once with the changed one. The group goes on from there.
+//! A stop at each save. In a script twelve saves are made, and each of them fails once with the old
+//! record and once with the changed one. The group goes on from there.
 use crate::program::reading_program;
 use group_node::To;
 use group_world::{Act, Done, Event, Outcome, World, WorldFault};
@@ -77,7 +77,7 @@ const EVENTS: [Act; 62] = [
     Act::Release(3),
 ];
 
-/// The events that save, by their numbers, and what each console shows in the end where the save
+/// The events that save, by their numbers, and what each console shows in the end if the save
 /// fails: a start, a promise, a vote. The first key is typed after the promises; the second one is
 /// typed again.
 const SAVES: [(usize, &[u8]); 12] = [
@@ -95,21 +95,21 @@ const SAVES: [(usize, &[u8]); 12] = [
     (46, b"\x48\x51"),
 ];
 
-/// How many places are looked at. No more are used.
+/// The number of places that are checked. No more are used.
 const PLACES: u32 = 16;
 
 /// The nodes.
 const NODES: [u8; 3] = [1, 2, 3];
 
-/// Two nodes.
+/// The pairs of nodes.
 const PAIRS: [(u8, u8); 3] = [(1, 2), (1, 3), (2, 3)];
 
-/// A group whose events are looked at one after the other. What contracts see of it is nothing, so
-/// that a test does not carry a world from one event to the next.
+/// A group whose events are watched one after another. Contracts see nothing of it, so that a test
+/// does not carry a world from one event to the next.
 #[derive(Drop)]
 struct Watched<'a> {
     world: World<'a>,
-    /// How many messages were delivered to all.
+    /// The number of messages that were delivered to all.
     passed: usize,
 }
 
@@ -120,32 +120,32 @@ impl<'a> Model for Watched<'a> {
 }
 
 impl<'a> Watched<'a> {
-    /// A group in which nothing has happened.
+    /// Makes a group in which nothing has happened.
     fn new(alloc: Global, program: &'a Program) -> Result<Watched<'a>, WorldFault> {
         let world = World::new(alloc, program, 3, 7)?;
         Ok(Watched { world, passed: 0 })
     }
 
-    /// Whether two nodes have learned different values for a place.
+    /// Returns true if two nodes have learned different values for a place.
     fn differ_at(&self, left: u8, right: u8, place: u32) -> bool {
         let left = self.world.node(left).and_then(|node| node.learned(place));
         let right = self.world.node(right).and_then(|node| node.learned(place));
         left.is_some() && right.is_some() && left != right
     }
 
-    /// Whether of the consoles of two nodes one is a prefix of the other.
+    /// Returns true if one of the consoles of two nodes is a prefix of the other.
     fn shows_one(&self, left: u8, right: u8) -> bool {
         let left = self.world.console(left).unwrap_or(&[]);
         let right = self.world.console(right).unwrap_or(&[]);
         left.starts_with(right) || right.starts_with(left)
     }
 
-    /// Whether two nodes contradict each other.
+    /// Returns true if two nodes contradict each other.
     fn contradict(&self, left: u8, right: u8) -> bool {
         !self.shows_one(left, right) || (0..PLACES).any(|place| self.differ_at(left, right, place))
     }
 
-    /// An event happens, and no node contradicts another then.
+    /// Applies an event. Fails if nodes contradict each other then.
     fn happen(&mut self, act: Act, save: Outcome) -> Result<Done, Fail> {
         let done = self.world.apply(&Event { act, save })?;
         for (left, right) in PAIRS {
@@ -156,7 +156,7 @@ impl<'a> Watched<'a> {
         Ok(done)
     }
 
-    /// An event happens whose save, if it makes one, succeeds.
+    /// Applies an event whose save, if it makes one, succeeds.
     fn go_on(&mut self, act: Act) -> Result<(), Fail> {
         match self.happen(act, Outcome::Kept)? {
             Done::Applied => Ok(()),
@@ -164,7 +164,7 @@ impl<'a> Watched<'a> {
         }
     }
 
-    /// The events before this one happen.
+    /// Applies the first `count` events.
     fn begin(&mut self, count: usize) -> Result<(), Fail> {
         for act in EVENTS.iter().take(count) {
             self.go_on(*act)?;
@@ -172,7 +172,7 @@ impl<'a> Watched<'a> {
         Ok(())
     }
 
-    /// Each node that is down starts.
+    /// Starts each node that is down.
     fn start_all(&mut self) -> Result<(), Fail> {
         for node in NODES {
             if self.world.node(node).is_none() {
@@ -182,12 +182,12 @@ impl<'a> Watched<'a> {
         Ok(())
     }
 
-    /// To whom a message goes, if there is one of that number.
+    /// Returns to whom a message goes, if there is one of that number.
     fn addressee(&self, message: usize) -> Option<To> {
         self.world.message(message).map(|packet| packet.to)
     }
 
-    /// A message is delivered to those whom it is meant for.
+    /// Delivers a message to those whom it is meant for.
     fn pass(&mut self, message: usize, to: To) -> Result<(), Fail> {
         for node in NODES {
             if to == To::All || to == To::One(node) {
@@ -197,7 +197,7 @@ impl<'a> Watched<'a> {
         Ok(())
     }
 
-    /// All messages are delivered that were not yet delivered to all, and those that they cause.
+    /// Delivers all messages that were not yet delivered to all, and those that they cause.
     fn deliver_all(&mut self) -> Result<(), Fail> {
         for message in self.passed..1000 {
             let Some(to) = self.addressee(message) else {
@@ -209,7 +209,7 @@ impl<'a> Watched<'a> {
         Err(Fail::new("messages without end"))
     }
 
-    /// A node's machine makes its steps.
+    /// Runs a node's machine, and releases what it writes.
     fn play(&mut self, node: u8) -> Result<(), Fail> {
         self.go_on(Act::Run(node, 1000))?;
         for _ in 0..2 {
@@ -218,7 +218,7 @@ impl<'a> Watched<'a> {
         Ok(())
     }
 
-    /// The machines make their steps, and what they write is released.
+    /// Runs all machines, and releases what they write.
     fn play_all(&mut self) -> Result<(), Fail> {
         for node in NODES {
             self.play(node)?;
@@ -226,7 +226,7 @@ impl<'a> Watched<'a> {
         Ok(())
     }
 
-    /// The group goes on after a stop: the second key is typed once more.
+    /// Lets the group go on after a stop: the second key is typed once more.
     fn recover(&mut self) -> Result<(), Fail> {
         self.start_all()?;
         self.go_on(Act::Campaign(1))?;
@@ -237,7 +237,7 @@ impl<'a> Watched<'a> {
         self.play_all()
     }
 
-    /// Whether all consoles show these bytes.
+    /// Returns true if all consoles show these bytes.
     fn shows(&self, bytes: &[u8]) -> bool {
         NODES
             .iter()
@@ -245,7 +245,8 @@ impl<'a> Watched<'a> {
     }
 }
 
-/// The save of an event fails so; then the group goes on, and all consoles show this in the end.
+/// Lets the save of an event fail as `save` says, and then the group go on. Returns true if all
+/// consoles show `shown` in the end.
 fn stops_at(
     alloc: Global,
     program: &Program,
@@ -265,6 +266,9 @@ fn stops_at(
     Ok(group.shows(shown))
 }
 
+/// Shows World::apply (step, refused, learned_agree, consoles_agree), World::new (begun),
+/// World::node, World::console: each of twelve saves fails once with the old record and once with
+/// the changed one. The group goes on, and no nodes contradict each other.
 #[test]
 fn each_save_fails(rt: HostRuntime) -> Result<(), Fail> {
     let program = reading_program(rt.alloc())?;
@@ -277,7 +281,7 @@ fn each_save_fails(rt: HostRuntime) -> Result<(), Fail> {
     Ok(())
 }
 
-/// The script itself: twelve of its events save, and no others.
+/// Shows World::apply (step), World::sent: the script itself, of whose events twelve save.
 #[test]
 fn no_save_fails(rt: HostRuntime) -> Result<(), Fail> {
     let program = reading_program(rt.alloc())?;

@@ -2,28 +2,30 @@
 ghost use Rattle.std.specs.Prelude.{◌≡◌, ◌≤◌, length, IfSome};
 
 use crate::program::reading_program;
-use crate::seat::Seat;
-use group_wire::Wire;
+use group_node::{Config, NodeFault};
+use group_wire::{Host, Wire};
+use paxos_acceptor::MemoryStore;
+use paxos_msg::Record;
 use pcode_ops::Program;
 use std::alloc::{AllocError, Global};
 use std::collections::VecDeque;
 use std::test::Fail;
 
-/// How many turns each node has.
+/// The number of turns of each node.
 const TURNS: u32 = 40;
 
-/// How many sends fail, and how many receives, each in a run of its own.
+/// The number of sends that fail, and of receives, each in a run of its own.
 const FAILURES: u32 = 200;
 
-/// What fails: the send of this number, and the receive of this number, counted from 1. Number 0 is
-/// none.
+/// The failure: the send of this number, and the receive of this number, counted from 1. Number 0
+/// is none.
 #[derive(Clone, Copy, Debug)]
 struct Failure {
     send: u32,
     receive: u32,
 }
 
-/// What lies between the nodes.
+/// The network between the nodes.
 #[derive(Drop)]
 struct Network {
     alloc: Global,
@@ -49,7 +51,7 @@ impl Network {
         })
     }
 
-    /// A datagram is on its way.
+    /// Puts a datagram on its way.
     fn put(&mut self, to: u8, bytes: &[u8]) -> Result<bool, AllocError> {
         let Some(queue) = self.queues.get_mut(usize::from(to.saturating_sub(1))) else {
             return Ok(false);
@@ -58,7 +60,7 @@ impl Network {
         Ok(true)
     }
 
-    /// The oldest datagram on its way to a node.
+    /// Takes the oldest datagram on its way to a node.
     fn take(&mut self, node: u8) -> Option<Vec<u8>> {
         self.queues
             .get_mut(usize::from(node.saturating_sub(1)))?
@@ -73,7 +75,8 @@ struct Port<'a> {
     node: u8,
 }
 
-/// Copies a datagram to the front of a buffer, cut to its length. How many bytes it has there.
+/// Copies a datagram to the front of a buffer, cut to its length. Returns the number of bytes
+/// there.
 fn copied(buffer: &mut [u8], bytes: &[u8]) -> usize
     ensures within { result ≤ length buffer.new }
 {
@@ -105,9 +108,22 @@ impl Wire for Port<'_> {
     }
 }
 
+/// Starts node `node` of the group for the first time.
+fn started_host<'a>(
+    alloc: Global,
+    program: &'a Program,
+    node: u8,
+) -> Result<Host<'a, MemoryStore>, NodeFault> {
+    let config = Config::new(node, 3, 7)?;
+    match Host::start(alloc, program, config, MemoryStore::new(Record::new(alloc))) {
+        Ok(host) => Ok(host),
+        Err(refused) => Err(refused.fault),
+    }
+}
+
 /// A node of the group, and what it has released.
 struct Player<'a> {
-    seat: Seat<'a>,
+    host: Host<'a, MemoryStore>,
     node: u8,
     console: Vec<u8>,
 }
@@ -115,7 +131,7 @@ struct Player<'a> {
 impl Drop for Player<'_> {
     fn drop(self) {
         let Player {
-            seat: _seat,
+            host: _host,
             node: _node,
             console: _console,
         } = self;
@@ -124,28 +140,29 @@ impl Drop for Player<'_> {
 
 impl<'a> Player<'a> {
     fn start(alloc: Global, program: &'a Program, node: u8) -> Result<Player<'a>, Fail> {
-        let seat = Seat::fresh(alloc, program, node)?;
+        let host = started_host(alloc, program, node)?;
         Ok(Player {
-            seat,
+            host,
             node,
             console: Vec::new(alloc),
         })
     }
 
-    /// The node campaigns, and two keys are typed at it.
-    fn lead(&mut self) -> Result<(), Fail> {
-        self.seat.campaign()?;
+    /// Lets the node campaign, and types two keys at it.
+    fn lead(&mut self, network: &mut Network) -> Result<(), Fail> {
+        let node = self.node;
+        self.host.campaign(&mut Port { network, node })?;
         let mut typed: &[u8] = b"\x48\x51";
-        self.seat.press_some(&mut typed)?;
+        self.host.press(&mut typed)?;
         Ok(())
     }
 
-    /// A turn of the node, and then all that waits is released.
+    /// Makes a turn of the node, and then releases all that waits.
     fn play(&mut self, network: &mut Network) -> Result<(), Fail> {
         let node = self.node;
-        self.seat.turn(&mut Port { network, node })?;
-        for _ in 0..self.seat.unreleased() {
-            if let Some((_, byte)) = self.seat.release() {
+        self.host.turn(&mut Port { network, node })?;
+        for _ in 0..self.host.unreleased() {
+            if let Some((_, byte)) = self.host.release() {
                 self.console.push(byte)?;
             }
         }
@@ -153,7 +170,7 @@ impl<'a> Player<'a> {
     }
 }
 
-/// The three nodes, in order.
+/// Starts the three nodes, in order.
 fn started<'a>(alloc: Global, program: &'a Program) -> Result<Vec<Player<'a>>, Fail> {
     let mut players = Vec::new(alloc);
     for node in 1..=3 {
@@ -162,16 +179,20 @@ fn started<'a>(alloc: Global, program: &'a Program) -> Result<Vec<Player<'a>>, F
     Ok(players)
 }
 
-/// The three nodes, of which the first one leads.
-fn players<'a>(alloc: Global, program: &'a Program) -> Result<Vec<Player<'a>>, Fail> {
+/// Starts the three nodes, of which the first one leads.
+fn players<'a>(
+    alloc: Global,
+    program: &'a Program,
+    network: &mut Network,
+) -> Result<Vec<Player<'a>>, Fail> {
     let mut players = started(alloc, program)?;
     if let Some(first) = players.as_mut_slice().first_mut() {
-        first.lead()?;
+        first.lead(network)?;
     }
     Ok(players)
 }
 
-/// A turn of each node.
+/// Makes a turn of each node.
 fn play_all(players: &mut [Player<'_>], network: &mut Network) -> Result<(), Fail> {
     for player in players.iter_mut() {
         player.play(network)?;
@@ -179,11 +200,11 @@ fn play_all(players: &mut [Player<'_>], network: &mut Network) -> Result<(), Fai
     Ok(())
 }
 
-/// A group plays its turns while this fails, and no console shows what it must not. Whether all of
-/// them show all.
+/// Plays a group's turns with this failure. Fails if a console shows what it must not. Returns true
+/// if all consoles show all keys.
 fn shows_all(alloc: Global, program: &Program, failure: Failure) -> Result<bool, Fail> {
     let mut network = Network::new(alloc, failure)?;
-    let mut players = players(alloc, program)?;
+    let mut players = players(alloc, program, &mut network)?;
     for _ in 0..TURNS {
         play_all(players.as_mut_slice(), &mut network)?;
     }
@@ -201,7 +222,8 @@ fn shows_all(alloc: Global, program: &Program, failure: Failure) -> Result<bool,
     )
 }
 
-/// Where nothing fails, all consoles show all.
+/// Shows Host::turn (turned, runs), Host::press (pressed), Host::release (some, none), Wire::send
+/// (handed), Wire::receive (within, given, idle): if nothing fails, all consoles show all keys.
 #[test]
 fn no_wire_fails(rt: HostRuntime) -> Result<(), Fail> {
     let program = reading_program(rt.alloc())?;
@@ -213,7 +235,8 @@ fn no_wire_fails(rt: HostRuntime) -> Result<(), Fail> {
     Ok(())
 }
 
-/// One send fails.
+/// Shows Host::turn (turned, runs): if one of the first 200 sends fails, no console shows what it
+/// must not.
 #[test]
 fn a_send_fails(rt: HostRuntime) -> Result<(), Fail> {
     let program = reading_program(rt.alloc())?;
@@ -223,7 +246,8 @@ fn a_send_fails(rt: HostRuntime) -> Result<(), Fail> {
     Ok(())
 }
 
-/// One receive gives nothing.
+/// Shows Host::turn (turned, runs): if one of the first 200 receives gives nothing, no console
+/// shows what it must not.
 #[test]
 fn a_receive_gives_nothing(rt: HostRuntime) -> Result<(), Fail> {
     let program = reading_program(rt.alloc())?;

@@ -4,7 +4,7 @@ use group_world::{Event, Line, RunFault, WorldFault, read_script, run};
 use std::alloc::{AllocError, Global};
 use std::test::Fail;
 
-/// The text of lines that are parted by commas.
+/// Returns the text of lines that are separated by commas.
 fn text_of(alloc: Global, lines: &str) -> Result<String, AllocError> {
     let mut text = String::new(alloc);
     for line in lines.split(", ") {
@@ -14,7 +14,8 @@ fn text_of(alloc: Global, lines: &str) -> Result<String, AllocError> {
     Ok(text)
 }
 
-/// The events of lines that are parted by commas. None of them is a `settle` or a `show`.
+/// Returns the events of lines that are separated by commas. None of them is a `settle` or a
+/// `show`.
 fn events_of(alloc: Global, lines: &str) -> Result<Vec<Event>, Fail> {
     let text = format!(in alloc; "size 3 session 7, {lines}")?;
     let text = text_of(alloc, text.as_str())?;
@@ -29,7 +30,7 @@ fn events_of(alloc: Global, lines: &str) -> Result<Vec<Event>, Fail> {
     Ok(events)
 }
 
-/// Whether a list of events ends early at this event, by this refusal.
+/// Returns true if a list of events ends early at this event, by this refusal.
 fn ends_at(
     alloc: Global,
     size: u8,
@@ -52,7 +53,7 @@ const ENDS: [(u8, &str, usize, WorldFault); 6] = [
     (3, "deliver 0 1", 0, WorldFault::NoMessage),
     (3, "tick 1", 0, WorldFault::NodeDown),
     (3, "start 1, start 1", 1, WorldFault::NodeUp),
-    // A release where nothing waits is none; and a message that is not there is reported before a
+    // A release when nothing waits does nothing. A message that does not exist is reported before a
     // node that is down.
     (
         3,
@@ -62,6 +63,7 @@ const ENDS: [(u8, &str, usize, WorldFault); 6] = [
     ),
 ];
 
+/// Shows running::run (size, refused): where a list of events ends early, and why.
 #[test]
 fn lists_that_end_early(rt: HostRuntime) -> Result<(), Fail> {
     for (size, lines, event, fault) in ENDS {
@@ -71,11 +73,13 @@ fn lists_that_end_early(rt: HostRuntime) -> Result<(), Fail> {
 }
 
 /// A key is typed at node 1, and the saves of nodes 2 and 3 fail. They start again, and the key is
-/// learned and shown at node 1. Then node 2 falls, a save of its start fails with the changed
+/// learned and shown at node 1. Then node 2 crashes, the save of its start fails with the changed
 /// record, and it starts once more: four starts are counted.
 const STARTS: &str =
     "start 1, start 2, start 3, campaign 1, deliver 0 1, deliver 0 2, deliver 0 3, deliver 1 1, deliver 2 1, deliver 3 1, type 1 48, tick 1, deliver 4 1, deliver 6 2 failnew, deliver 6 3 failold, start 2, start 3, deliver 6 2, deliver 6 3, deliver 7 1, deliver 8 1, run 1 1000, release 1, crash 2, start 2 failnew, start 2";
 
+/// Shows running::run (happens), World::record: four starts of node 2, of which the save of one
+/// fails, are counted.
 #[test]
 fn starts_are_counted(rt: HostRuntime) -> Result<(), Fail> {
     let program = reading_program(rt.alloc())?;

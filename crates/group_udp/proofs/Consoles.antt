@@ -6,7 +6,8 @@ use Rattle.pcode_file.specs.Parts.{Parts}
 use Rattle.pcode_machine.specs.Prefixes.{AreComparable}
 use Rattle.pcode_machine.specs.Runs.{IsOutput, out}
 use Rattle.group_node.specs.Output.{IsReplay, Progress}
-use Rattle.group_udp.specs.Output.{AreFirst, released_of, shown_of}
+use Rattle.group_wire.specs.Output.{released_of}
+use Rattle.group_udp.specs.Output.{AreFirst, shown_of}
 
 -- outputs on comparable inputs are comparable
 abbrev pub Compared : Type 0

@@ -1,6 +1,4 @@
 mod Releasing
-mod Learning
-mod Going
 mod Consoles
 mod Writing
 mod Rounding

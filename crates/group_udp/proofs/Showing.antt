@@ -9,8 +9,9 @@ use Rattle.pcode_file.specs.Parts.{Parts}
 use Rattle.pcode_machine.specs.Runs.{after_steps, out, LeadsIn}
 use Rattle.group_node.specs.Output.{IsReplay, Progress, no_progress}
 use Rattle.group_node.specs.States.{NodeState, input}
-use Rattle.group_udp.specs.declared.ended.Ended.{Ended}
-use Rattle.group_udp.specs.Output.{WritesOutput, released_by}
+use Rattle.group_udp.specs.declared.fault.GroupFault.{GroupFault}
+use Rattle.group_wire.specs.Output.{released_by}
+use Rattle.group_udp.specs.Output.{WritesOutput}
 use Rattle.group_udp.specs.Refusals.{IsCampaignRefusal, IsOpenRefusal, IsRoundRefusal, no_memory, write_failed}
 use Rattle.group_udp.specs.Runs.{HasRunNode, HasRunOverFile, HasShown, filed_loads, filed_state}
 use Rattle.group_udp.proofs.Writing.{no_write}
@@ -63,18 +64,17 @@ shown_from p seen first last fails c d start program replay (wrote, h, appends) 
 
 -- ---- refusals that are no failed write
 
-pub no_campaign_write : (e : Ended) → IsRoundRefusal e ⊎ IsCampaignRefusal e → e ≢ write_failed
+pub no_campaign_write : (e : GroupFault) → IsRoundRefusal e ⊎ IsCampaignRefusal e → e ≢ write_failed
 no_campaign_write e (inl h) = no_write e h
 no_campaign_write e (inr (inl is)) = λ w. absurd cc
 no_campaign_write e (inr (inr (inl is))) = λ w. absurd cc
-no_campaign_write e (inr (inr (inr (inl is)))) = λ w. absurd cc
-no_campaign_write e (inr (inr (inr (inr is)))) = λ w. absurd cc
+no_campaign_write e (inr (inr (inr is))) = λ w. absurd cc
 
-pub no_open_write : (e : Ended) → IsOpenRefusal e → e ≢ write_failed
+pub no_open_write : (e : GroupFault) → IsOpenRefusal e → e ≢ write_failed
 no_open_write e (inl is) = λ w. absurd cc
 no_open_write e (inr is) = λ w. absurd cc
 
-pub no_memory_write : (r : Result (Unit {0}) Ended) (e : Ended) → r ≡ Err e → e ≡ no_memory
+pub no_memory_write : (r : Result (Unit {0}) GroupFault) (e : GroupFault) → r ≡ Err e → e ≡ no_memory
     → ¬ IsErrOf r write_failed
 no_memory_write r e is same = λ f. absurd cc
 
@@ -82,7 +82,7 @@ no_memory_write r e is same = λ f. absurd cc
 
 pub run_over_file : (me : Me) (program : Parts) (store : Filed) (campaigns : Bool)
     (seen turns : ℕ) (from to : Option (List ℕ))
-    (r : Result (Unit {0}) Ended) → store ≡ record { me = me; found = None; faults = 0 }
+    (r : Result (Unit {0}) GroupFault) → store ≡ record { me = me; found = None; faults = 0 }
     → HasRunNode ⊥ ⊥ filed_state filed_loads me program store campaigns seen turns from to r
     → HasRunOverFile me program campaigns seen turns from to r
 run_over_file me program store campaigns seen turns from to r is h =
@@ -92,7 +92,7 @@ run_over_file me program store campaigns seen turns from to r is h =
 -- the same of a node of that number, and of what its writer held
 pub file_run : (me config : Me) (program : Parts) (campaigns : Bool) (seen turns : ℕ)
     (from held to : Option (List ℕ))
-    (r : Result (Unit {0}) Ended) (fails rest : Type 0) → config ≡ me → held ≡ from
+    (r : Result (Unit {0}) GroupFault) (fails rest : Type 0) → config ≡ me → held ≡ from
     → HasRunOverFile config program campaigns seen turns held to r
     → HasShown program seen fails held to
     → ((p : Parts) × (now : Option (List ℕ))

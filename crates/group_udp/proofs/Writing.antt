@@ -6,8 +6,9 @@ use Rattle.std.proofs.KnownBytes.{Appends-nil, Appends-trans}
 use Rattle.pcode_machine.specs.Runs.{out}
 use Rattle.group_node.specs.Output.{IsReplay, Progress, unreleased_of}
 use Rattle.group_node.specs.States.{Protocol, NodeState, input}
-use Rattle.group_udp.specs.declared.ended.Ended.{Ended}
-use Rattle.group_udp.specs.Output.{ReleasesBytes, WritesOutput, all_released, released_by, released_of}
+use Rattle.group_udp.specs.declared.fault.GroupFault.{GroupFault}
+use Rattle.group_wire.specs.Output.{released_by, released_of}
+use Rattle.group_udp.specs.Output.{ReleasesBytes, WritesOutput, all_released}
 use Rattle.group_udp.specs.Refusals.{IsRoundRefusal, write_failed}
 use Rattle.group_udp.proofs.Releasing.{released_many, released_on}
 
@@ -24,7 +25,7 @@ drop_both (suc n) (x ∷ a) b =
     drop_both n a b ∙ ap (λ (k : ℕ). drop n a ++ drop k b) same
 
 -- a refusal of the node is no failed write
-pub no_write : (e : Ended) → IsRoundRefusal e → e ≢ write_failed
+pub no_write : (e : GroupFault) → IsRoundRefusal e → e ≢ write_failed
 no_write e (inl is) = λ w. absurd cc
 no_write e (inr (inl is)) = λ w. absurd cc
 no_write e (inr (inr is)) = λ w. absurd cc

@@ -1,5 +1,4 @@
 pub mod Output
-pub mod Members
 pub mod Refusals
 pub mod Rounds
 pub mod Runs

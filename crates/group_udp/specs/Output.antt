@@ -3,41 +3,37 @@ use Rattle.std.specs.Prelude.{◌≡◌, ℕ, ◌+◌, ◌-◌, List, [], ◌++�
 use Rattle.pcode_file.specs.Parts.{Parts}
 use Rattle.pcode_machine.specs.Runs.{out}
 use Rattle.group_node.specs.Output.{Progress, unreleased_of}
-use Rattle.group_node.specs.States.{NodeState, input}
+use Rattle.group_node.specs.States.{NodeState}
+use Rattle.group_wire.specs.Output.{released_by, released_of}
 
--- the bytes that were released: the first ones of the output after that many steps on the input x
-abbrev pub released_of : List ℕ → Progress → List ℕ
-released_of x q = take q.released (out q.program x q.steps)
-
--- of the bytes that were released, those with a number from `seen` on
+-- The released bytes with a number from `seen` on.
+-- Allows: no byte, if all were seen.
 abbrev pub shown_of : ℕ → List ℕ → Progress → List ℕ
 shown_of seen x q = drop seen (released_of x q)
 
--- of the bytes that wait, those with a number from `seen` on
+-- The waiting bytes with a number from `seen` on.
 abbrev pub unseen_of : ℕ → List ℕ → Progress → List ℕ
 unseen_of seen x q = drop (seen - q.released) (unreleased_of x q)
 
--- the progress once all bytes that wait are released
+-- The progress of a node once all bytes that wait are released.
 abbrev pub all_released : List ℕ → Progress → Progress
 all_released x q = record q { released = q.released + length (unreleased_of x q) }
 
--- these bytes were released, the first of those that waited
+-- A release of these bytes, the first of those that waited.
 pub record ReleasesBytes (x : List ℕ) (old new : Progress) (gone : List ℕ) : Type 0 where
   pub waited : unreleased_of x old ≡ gone ++ unreleased_of x new
   pub progress : new ≡ record old { released = old.released + length gone }
 
--- these are the first k bytes of a program's output on the input z, and there are so many
+-- The first `k` bytes of a program's output on the input `z`.
 pub record AreFirst (p : Parts) (z : List ℕ) (k : ℕ) (bytes : List ℕ) : Type 0 where
   pub steps : ℕ
   pub first : bytes ≡ take k (out p z steps)
   pub many : length bytes ≡ k
 
--- the bytes that a node has released
-abbrev pub released_by : {S : Type 0} → NodeState S → List ℕ
-released_by n = released_of (input n.protocol.known) n.progress
-
--- Between two moments of a node these bytes of its output were written: what it released, but for
--- bytes with a number below `seen`. Where a write failed, the last of them is lost.
+-- The bytes that were written between two moments of a node: what it released from byte `seen` on.
+-- If a write failed, the last of them is lost.
+-- Allows: nothing, if all was seen.
+-- Forbids: a byte left out, or written twice.
 pub record WritesOutput {S : Type 0} (seen : ℕ) (old new : NodeState S) (fails : Type 0)
     (wrote : List ℕ) : Type 0 where
   pub lost : List ℕ

@@ -6,24 +6,26 @@ use Rattle.group_log.specs.Drops.{reason_of}
 use Rattle.group_log.specs.declared.drops.DropReason.{DropReason}
 use Rattle.group_log.specs.declared.drops.DropReason.TheVariants.{Source}
 
--- at which index of a datagram the number of its sender is
+-- The index in a datagram of its sender's number.
 abbrev pub sender_index : ℕ
 sender_index = 4
 
--- The datagram came from the address of the node that it names as its sender. The addresses are
+-- A datagram that came from the address of the node that it names as its sender. The addresses are
 -- those of the nodes, node 1 first.
+-- Forbids: a source that is no node's, or another node's.
 pub record IsFromSender (addresses : List SocketAddr) (source : SocketAddr) (bytes : List ℕ)
     : Type 0 where
   pub index : ℕ
   pub named : slice_get bytes sender_index ≡ Some (suc index)
   pub address : slice_get addresses index ≡ Some source
 
--- the reason that reading gives, or else, of a datagram from elsewhere, its source
+-- The reason that reading gives, or otherwise, for a datagram from elsewhere, its source.
 abbrev pub or_source : Option DropReason → Bool → Option DropReason
 or_source (Some reason) is_from_sender = Some reason
 or_source None true = None
 or_source None false = Some Source
 
--- why a node of the group drops these bytes, which may come from the sender that they name or not
+-- Why a node of the group drops these bytes, which come from the sender that they name, or do not.
+-- Allows: no reason, for a message from its sender.
 abbrev pub drop_of : Group → Bool → List ℕ → Option DropReason
 drop_of g is_from_sender bytes = or_source (reason_of g bytes) is_from_sender

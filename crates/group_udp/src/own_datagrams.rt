@@ -1,15 +1,11 @@
 //! The datagrams that a node has sent to itself.
 ghost use Rattle.std.specs.Prelude.{◌≡◌, ◌==◌, ◌↔◌, ◌+◌, ◌<◌, ◌≤◌, [], ◌∷◌, ◌++◌, false, drop, length, min, option_map, slice_get, sum_by, take, IfOk, IfSome, IsTrue, MatchOption};
+ghost use Rattle.group_udp.specs.declared.limits.TheConstants.{MOST_OWN, OWN_BYTES};
 
+use crate::limits::{MOST_OWN, OWN_BYTES};
 use circular_buffer::HeapCircularBuffer;
 use std::alloc::{AllocError, Global};
 use std::marker::Model;
-
-/// How many datagrams are kept at most.
-const DATAGRAMS: usize = 256;
-
-/// How many bytes they have at most, all together.
-const BYTES: usize = 65_536;
 
 /// The datagrams that a node has sent to itself and not yet received, the oldest first. Contracts
 /// see their list. There is room for 256 datagrams with 65,536 bytes in all; an outbox holds 64.
@@ -33,39 +29,39 @@ impl Model for OwnDatagrams {
 }
 
 impl OwnDatagrams {
-    /// No datagrams, with all the room.
+    /// Makes an empty list of datagrams, with all the room.
     pub fn new(alloc: Global) -> Result<OwnDatagrams, AllocError>
         ensures { IfOk result (λ kept. kept ≡ []) }
     {
         Ok(OwnDatagrams {
-            bytes: HeapCircularBuffer::with_capacity(alloc, BYTES)?,
-            lengths: HeapCircularBuffer::with_capacity(alloc, DATAGRAMS)?,
+            bytes: HeapCircularBuffer::with_capacity(alloc, OWN_BYTES)?,
+            lengths: HeapCircularBuffer::with_capacity(alloc, MOST_OWN)?,
         })
     }
 
-    /// Whether no datagram is kept.
+    /// Returns true if no datagram is kept.
     pub fn is_empty(&self) -> bool
         ensures { result ≡ (length self.now == 0) }
     {
         self.lengths.is_empty()
     }
 
-    /// Whether there is room for a datagram with this many bytes.
+    /// Returns true if there is room for a datagram of `count` bytes.
     fn has_room(&self, count: usize) -> bool
         ensures { IsTrue result
-            ↔ (length self.now < 256) × (sum_by (λ d. length d) self.now + count ≤ 65536) }
+            ↔ (length self.now < MOST_OWN) × (sum_by (λ d. length d) self.now + count ≤ OWN_BYTES) }
     {
-        let has_length = self.lengths.len() < DATAGRAMS;
-        let has_bytes = count <= BYTES - self.bytes.len();
+        let has_length = self.lengths.len() < MOST_OWN;
+        let has_bytes = count <= OWN_BYTES - self.bytes.len();
         has_length && has_bytes
     }
 
-    /// Keeps a datagram after the others, if there is room for it. Returns whether there was. Where
-    /// there was none, nothing has changed.
+    /// Keeps a datagram after the others, if there is room for it. Returns true if there was;
+    /// otherwise nothing has changed.
     pub fn push(&mut self, datagram: &[u8]) -> bool
         ensures room { IsTrue result
-            ↔ (length self.old < 256)
-            × (sum_by (λ d. length d) self.old + length datagram.now ≤ 65536) }
+            ↔ (length self.old < MOST_OWN)
+            × (sum_by (λ d. length d) self.old + length datagram.now ≤ OWN_BYTES) }
         ensures kept { IsTrue result → self.new ≡ self.old ++ datagram.now ∷ [] }
         ensures full { result ≡ false → self.new ≡ self.old }
     {
@@ -77,9 +73,9 @@ impl OwnDatagrams {
         true
     }
 
-    /// Takes the oldest datagram out, to the front of the buffer, and returns how many bytes it has
-    /// there. Of a datagram that is longer than the buffer the rest is lost. Where none is kept,
-    /// nothing changes.
+    /// Takes the oldest datagram out, to the front of `buffer`. Returns the number of its bytes
+    /// there. The rest of a datagram that is longer than the buffer is lost. If none is kept,
+    /// returns None and nothing changes.
     pub fn pop_into(&mut self, buffer: &mut [u8]) -> Option<usize>
         ensures count { result
             ≡ option_map (λ d. min (length d) (length buffer.old)) (slice_get self.old 0) }

@@ -5,10 +5,10 @@ ghost use Rattle.group_udp.specs.Sources.{IsFromSender};
 
 use std::net::SocketAddr;
 
-/// At which index of a datagram the number of its sender is.
+/// The index in a datagram of its sender's number.
 const SENDER: usize = 4;
 
-/// Returns whether a datagram came from the address of the node that it names as its sender.
+/// Returns true if a datagram came from the address of the node that it names as its sender.
 /// `addresses` are those of the nodes, node 1 first.
 pub fn is_from_sender(addresses: &[SocketAddr], source: SocketAddr, datagram: &[u8]) -> bool
     ensures { IsTrue result ↔ IsFromSender addresses.now source datagram.now }

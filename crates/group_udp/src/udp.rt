@@ -1,9 +1,11 @@
 //! UDP sockets as wires.
 ghost use Rattle.std.specs.Prelude.{◌≡◌, ◌+◌, ◌-◌, ◌≤◌, min, length, IfErr, IfSome};
+ghost use Rattle.group_udp.specs.declared.limits.TheConstants.{LONG_REST, SHORT_REST, SHORT_RESTS};
 ghost use Rattle.group_udp.specs.Refusals.{IsOpenRefusal};
 ghost use Rattle.group_udp.specs.Sources.{drop_of};
 
-use crate::ended::Ended;
+use crate::fault::GroupFault;
+use crate::limits::{LONG_REST, SHORT_REST, SHORT_RESTS};
 use crate::own_datagrams::OwnDatagrams;
 use crate::sources::is_from_sender;
 use group_log::{DropReason, Drops, reason_of};
@@ -14,45 +16,35 @@ use paxos_msg::Group;
 use std::net::{Net, SocketAddr};
 use std::time::{Clock, Duration, Instant};
 
-/// How long a node rests between two turns, in milliseconds, while something happens.
-const SHORT_REST: u64 = 10;
-
-/// How long it rests at most, in milliseconds, where nothing has happened for long.
-const LONG_REST: u64 = 100;
-
-/// How many rests without an event are short: they take a second. Each further one is a millisecond
-/// longer than the one before.
-const SHORT_RESTS: u64 = 100;
-
-/// The byte of a datagram that tells its kind, and the kind of an Ask.
+/// The index in a datagram of its kind.
 const KIND: usize = 3;
 
+/// The kind of an Ask.
 const ASK: u8 = 7;
 
-/// Returns how long a rest is after this many rests without an event, in milliseconds.
+/// Returns the time of a rest in milliseconds, after `quiet` rests without an event.
 fn rest_after(quiet: u64) -> u64
-    ensures { result ≡ min (10 + (quiet - 100)) 100 }
+    ensures { result ≡ min (SHORT_REST + (quiet - SHORT_RESTS)) LONG_REST }
 {
     LONG_REST.min(SHORT_REST + quiet.saturating_sub(SHORT_RESTS))
 }
 
-/// A socket at this address, whose calls never wait.
-pub fn bind<H: Net>(rt: &H, address: SocketAddr) -> Result<UdpSocket, Ended>
-    ensures others { IfErr result (λ e. e ≡ Ended.Socket) }
+/// Binds a socket at this address, whose calls never wait.
+pub fn bind<H: Net>(rt: &H, address: SocketAddr) -> Result<UdpSocket, GroupFault>
+    ensures others { IfErr result (λ e. e ≡ GroupFault.Socket) }
 {
-    UdpSocket::bind(rt, address).or(Err(Ended::Socket))
+    UdpSocket::bind(rt, address).or(Err(GroupFault::Socket))
 }
 
-/// Receives the next datagram of a socket to the front of the buffer, cut to its length. Returns
-/// its length and its source; nothing where none is there or the receive failed.
+/// Receives the next datagram of a socket to the front of `buffer`, cut to its length. Returns its
+/// length and its source, or None if none is there or the receive failed.
 pub fn receive_from(socket: &UdpSocket, buffer: &mut [u8]) -> Option<(usize, SocketAddr)>
     ensures within { IfSome result (λ r. r.0 ≤ length buffer.new) }
 {
     socket.recv_from(buffer).ok()
 }
 
-/// Returns why a node of the group drops a datagram, if it does. Whether the datagram came from the
-/// sender that it names is asked last.
+/// Returns why a node of the group drops a datagram, if it does. The source is checked last.
 fn drop_of(group: Group, is_from_sender: bool, datagram: &[u8]) -> Option<DropReason>
     ensures { result ≡ drop_of group is_from_sender datagram.now }
 {
@@ -76,36 +68,36 @@ const OWN: Token = Token(0);
 const TYPED: Token = Token(1);
 
 impl Watch {
-    /// Watches nothing yet.
-    pub fn new<H: Net + AllocGlobal>(rt: &H) -> Result<Watch, Ended>
+    /// Makes a watch of no socket.
+    pub fn new<H: Net + AllocGlobal>(rt: &H) -> Result<Watch, GroupFault>
         ensures others { IfErr result (λ e. IsOpenRefusal e) }
     {
         let Ok(poll) = Poll::new(rt) else {
-            return Err(Ended::Socket);
+            return Err(GroupFault::Socket);
         };
         let events = Events::with_capacity(rt.alloc(), 2)?;
         Ok(Watch { poll, events })
     }
 
     /// Watches a socket.
-    fn add(&self, socket: &mut UdpSocket, token: Token) -> Result<(), Ended>
-        ensures others { IfErr result (λ e. e ≡ Ended.Socket) }
+    fn add(&self, socket: &mut UdpSocket, token: Token) -> Result<(), GroupFault>
+        ensures others { IfErr result (λ e. e ≡ GroupFault.Socket) }
     {
         self.poll
             .registry()
             .register(socket, token, Interest::READABLE)
-            .or(Err(Ended::Socket))
+            .or(Err(GroupFault::Socket))
     }
 
     /// Watches the socket of typed bytes.
-    pub fn add_typed(&self, socket: &mut UdpSocket) -> Result<(), Ended>
-        ensures others { IfErr result (λ e. e ≡ Ended.Socket) }
+    pub fn add_typed(&self, socket: &mut UdpSocket) -> Result<(), GroupFault>
+        ensures others { IfErr result (λ e. e ≡ GroupFault.Socket) }
     {
         self.add(socket, TYPED)
     }
 
-    /// Waits until a datagram has come, at most so long. Whether one has come to the socket of
-    /// typed bytes: that is told only once.
+    /// Waits up to `most` for a datagram. Returns true if typed bytes came; each arrival is
+    /// reported once.
     fn wait(&mut self, most: Duration) -> bool {
         match self.poll.poll(&mut self.events, Some(most)) {
             Ok(()) => self.events.iter().any(|event| event.token() == TYPED),
@@ -115,8 +107,8 @@ impl Watch {
 }
 
 /// A node's socket, and the addresses of all nodes in order. Its receives don't wait; the node
-/// waits between its turns. What the node sends to itself does not pass the socket, as long as
-/// there is room for it here.
+/// waits between its turns. What the node sends to itself does not pass the socket while there is
+/// room for it here.
 pub struct UdpWire<'a, H> {
     clock: &'a H,
     /// The node's number.
@@ -125,17 +117,17 @@ pub struct UdpWire<'a, H> {
     watch: Watch,
     addresses: &'a [SocketAddr],
     own: OwnDatagrams,
-    /// Whether the next receive takes one of the node's own first. While both have some, they and
+    /// True if the next receive takes one of the node's own first. While both have some, they and
     /// the socket's come in turn, so that neither many datagrams of others nor a long answer of the
     /// node to itself holds the rest back.
     is_own_next: bool,
-    /// Until when it is waited for a datagram.
+    /// The end of the rest.
     until: Option<Instant>,
-    /// How many rests were begun since something happened.
+    /// The number of rests that were begun since something happened.
     quiet: u64,
-    /// Of which group's datagrams it counts why they are dropped; None where it counts none.
+    /// The group for which dropped datagrams are counted, or None if none are.
     counted: Option<Group>,
-    /// How many datagrams were dropped since these counts were last emptied.
+    /// The number of datagrams that were dropped since these counts were set to 0.
     pub drops: Drops,
 }
 
@@ -158,9 +150,9 @@ impl<'a, H> Drop for UdpWire<'a, H> {
 }
 
 impl<'a, H: Clock> UdpWire<'a, H> {
-    /// The wire of the node `node` with this socket. Typed bytes end its waiting too, where the
-    /// watch has a socket for them. `own` keeps what it sends to itself. It counts the datagrams
-    /// that a node of the group `counted` drops.
+    /// Makes the wire of node `node` with this socket. Typed bytes end its waiting too, if the
+    /// watch has a socket for them. `own` keeps what the node sends to itself. The wire counts the
+    /// datagrams that a node of the group `counted` drops.
     pub fn new(
         clock: &'a H,
         node: u8,
@@ -169,8 +161,8 @@ impl<'a, H: Clock> UdpWire<'a, H> {
         addresses: &'a [SocketAddr],
         own: OwnDatagrams,
         counted: Option<Group>,
-    ) -> Result<UdpWire<'a, H>, Ended>
-        ensures others { IfErr result (λ e. e ≡ Ended.Socket) }
+    ) -> Result<UdpWire<'a, H>, GroupFault>
+        ensures others { IfErr result (λ e. e ≡ GroupFault.Socket) }
     {
         watch.add(&mut socket, OWN)?;
         Ok(UdpWire {
@@ -188,7 +180,7 @@ impl<'a, H: Clock> UdpWire<'a, H> {
         })
     }
 
-    /// Counts a datagram that a node drops, if it drops this one and such datagrams are counted.
+    /// Counts a datagram, if the node drops it and dropped datagrams are counted.
     fn count_drop(&mut self, is_from_sender: bool, datagram: &[u8]) {
         let Some(group) = self.counted else {
             return;
@@ -203,8 +195,8 @@ impl<'a, H: Clock> UdpWire<'a, H> {
         self.quiet = 0;
     }
 
-    /// Begins a rest. It takes 10 milliseconds. Where the last 100 rests were without an event it
-    /// takes longer, and 100 at most.
+    /// Begins a rest of 10 milliseconds. If the last 100 rests were without an event it is longer,
+    /// up to 100 milliseconds.
     pub fn begin_rest(&mut self) {
         let length = Duration::from_millis(rest_after(self.quiet));
         self.quiet = self.quiet.saturating_add(1);
@@ -214,7 +206,7 @@ impl<'a, H: Clock> UdpWire<'a, H> {
         };
     }
 
-    /// How long it may still be waited.
+    /// Returns the time that is left of the rest.
     fn left(&self) -> Option<Duration> {
         let now = Instant::now(self.clock).ok()?;
         self.until?.checked_duration_since(now)
@@ -231,8 +223,8 @@ impl<'a, H: Clock> UdpWire<'a, H> {
         }
     }
 
-    /// Receives the next datagram of the socket, if one is there. One that another than its sender
-    /// sent is handed on as an empty one, which spells no message.
+    /// Receives the next datagram of the socket, if one is there. A datagram that another than its
+    /// sender sent is handed on as an empty one, which spells no message.
     fn receive_in(&mut self, buffer: &mut [u8]) -> Option<usize>
         ensures within { IfSome result (λ count. count ≤ length buffer.new) }
     {
@@ -243,8 +235,8 @@ impl<'a, H: Clock> UdpWire<'a, H> {
     }
 
     /// Waits for a datagram, unless one of the node's own is there. All that were in the socket
-    /// have been received. Returns whether there may be one: not where the rest is over, or where
-    /// bytes were typed and `is_ended_by_keys`.
+    /// have been received. Returns true if there may be one: not if the rest is over, or if bytes
+    /// were typed and `is_ended_by_keys`.
     pub fn wait(&mut self, is_ended_by_keys: bool) -> bool {
         if !self.own.is_empty() {
             return true;
@@ -259,7 +251,7 @@ impl<'a, H: Clock> UdpWire<'a, H> {
 impl<H: Clock> Wire for UdpWire<'_, H> {
     ghost use Rattle.std.specs.Prelude.{None};
 
-    // What the system does with it is not known.
+    // Nothing is known of what the system does with a datagram.
     ghost traffic = { λ _. None };
 
     // A node that has nothing to do sends Asks alone.

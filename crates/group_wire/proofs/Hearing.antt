@@ -1,23 +1,25 @@
 -- Messages that a node hears one after the other.
-use Rattle.std.proofs.Common.{◌≡◌, ◌≢◌, ◌∙◌, ◌+◌, ◌<◌, ◌⊎◌, ℕ, Bool, true, List, [], ◌∷◌, ◌++◌, All, length, map, Option, Some, Result, Ok, Err, IsErrOf, inl, inr, refl, ap, sym, subst, arith, append-nil, append_assoc, length-append}
+use Rattle.std.proofs.Common.{◌≡◌, ◌≢◌, ◌∙◌, ◌+◌, ◌<◌, ◌⊎◌, ◌↔◌, ℕ, Bool, true, false, List, [], ◌∷◌, ◌++◌, All, length, map, Option, Some, Result, Ok, Err, IfErr, IsErrOf, inl, inr, refl, ap, sym, subst, arith, append-nil, append_assoc, length-append}
 use Rattle.std.proofs.lemmas.List.{map-append}
 use Rattle.std.proofs.lemmas.List.Elements.{All-append, All-cons, All-nil, filter_map-append}
 use Rattle.std.proofs.lemmas.List.Sums.{sum_by-append}
 use Rattle.paxos_msg.specs.declared.message.Group.{Group}
 use Rattle.paxos_msg.specs.Batches.{Msg}
-use Rattle.paxos_acceptor.specs.Stores.{IsOneOf, StoreState}
+use Rattle.paxos_acceptor.specs.Stores.{HasCause, IsOneOf, StoreState}
 use Rattle.paxos_acceptor.specs.declared.me.Me.{Me}
 use Rattle.group_node.specs.declared.fault.NodeFault.{NodeFault}
-use Rattle.group_node.specs.declared.fault.NodeFault.TheVariants.{Stopped, Store}
+use Rattle.group_node.specs.declared.fault.NodeFault.TheVariants.{Memory, OutboxFull, Stopped, Store}
 use Rattle.group_node.specs.Protocol.{on_message}
 use Rattle.group_node.specs.Known.{Known}
 use Rattle.group_node.specs.Packets.{Datagram, Packet, datagram_of, datagrams_of}
-use Rattle.group_node.specs.States.{NodeState}
+use Rattle.group_node.specs.Calls.{IsLetIn}
+use Rattle.group_node.specs.States.{NodeState, Protocol}
 use Rattle.group_wire.specs.declared.answers.Heard.{Heard}
 use Rattle.group_wire.specs.declared.answers.Heard.TheVariants as answer
-use Rattle.group_wire.specs.Traffic.{Letter, Traffic, grown, letters_of}
-use Rattle.group_wire.specs.Turns.{Arrival, Ending, FailsAtEnd, Fate, Hears, Loses, TooLong, NoMessage, GoesOn, Refuses, HearsSome, IsFateOf, IsOne, IsSpelledEnding, IsWireTurn, IsUnheard, Spells, TellsOfOne, after_heard, answer_of, heard_of, last_receive, loss_of, lost_of, heard_message, posted, received, sent_at, ticked_if}
-use Rattle.group_wire.proofs.Carrying.{grown_twice, letters_then}
+use Rattle.group_wire.specs.Traffic.{Letter, Traffic, grown, letters_of, posted}
+use Rattle.group_wire.specs.Arrivals.{Arrival, Ending, Fate, Hears, Loses, TooLong, NoMessage, GoesOn, Refuses, IsFateOf, IsSpelledEnding, IsUnheard, Spells, heard_of, last_receive, loss_of, lost_of, heard_message, received}
+use Rattle.group_wire.specs.Turns.{FailsAtEnd, HearsSome, IsHearingRefused, IsOne, IsWireTurn, TellsOfOne, after_heard, answer_of, sent_at, ticked_if}
+use Rattle.group_wire.proofs.Carrying.{grown_by_nothing, grown_twice, letters_then}
 
 -- some messages, and then others
 heard_then : (n : Known) (ms more : List Msg) → after_heard n (ms ++ more) ≡ after_heard (after_heard n ms) more
@@ -189,17 +191,16 @@ is_not_of x e is = absurd cc
 pub is_not_refused : {T : Type 0} (x : T) → ¬ IsErrOf (Ok x) Stopped
 is_not_refused x is = is_not_of x Stopped is
 
--- what was to be sent before, the messages that are heard, and then a tick or none
-pub turn_is : {S : Type 0} (g : Group) (came : List Arrival) (ending : Ending) (ticks : Bool) (before : List Datagram)
-    (old mid new : NodeState S) (from begun via to : Option Traffic)
-    → begun ≡ grown from (letters_of g.size before) [] → HearsSome g came ending old mid begun via
+-- the messages that are heard, and then a tick or none
+pub turn_is : {S : Type 0} (g : Group) (came : List Arrival) (ending : Ending) (ticks : Bool)
+    (old mid new : NodeState S) (from via to : Option Traffic)
+    → HearsSome g came ending old mid from via
     → new.protocol.known ≡ (ticked_if ticks mid.protocol.known).node
     → to ≡ grown via (posted mid.protocol.known (ticked_if ticks mid.protocol.known).sends) []
-    → IsWireTurn g came ending before old new from to ticks
-turn_is g came ending ticks before old mid new from begun via to first h rules last =
+    → IsWireTurn g came ending old new from to ticks
+turn_is g came ending ticks old mid new from via to h rules last =
     let n : Known = old.protocol.known in
     let heard : List Msg = heard_of came in
-    let waited : List Letter = letters_of g.size before in
     let here : List Letter = posted n (sent_at n heard) in
     let then : List Letter = posted mid.protocol.known (ticked_if ticks mid.protocol.known).sends in
     let got : List (Option (List ℕ)) = received came ending in
@@ -213,10 +214,17 @@ turn_is g came ending ticks before old mid new from begun via to first h rules l
       last = h.last;
       deaf = h.deaf;
       known = rules ∙ ap (λ (m : Known). (ticked_if ticks m).node) h.known;
-      traffic = last ∙ ap (λ (t : Option Traffic). grown t then []) (h.traffic ∙ ap (λ (t : Option Traffic). grown t here got) first)
-          ∙ grown_twice (grown from waited []) here then got [] ∙ grown_twice from waited (here ++ then) [] (got ++ [])
-          ∙ ap (grown from (waited ++ (here ++ then))) (append-nil got) ∙ ap (λ (xs : List Letter). grown from (waited ++ xs) got) both;
+      traffic = last ∙ ap (λ (t : Option Traffic). grown t then []) h.traffic
+          ∙ grown_twice from here then got []
+          ∙ ap (grown from (here ++ then)) (append-nil got) ∙ ap (λ (xs : List Letter). grown from xs got) both;
     }
+
+-- hearing that ends the turn, without a tick
+pub turn_ends : {S : Type 0} (g : Group) (came : List Arrival) (ending : Ending)
+    (old new : NodeState S) (from to : Option Traffic)
+    → HearsSome g came ending old new from to → IsWireTurn g came ending old new from to false
+turn_ends g came ending old new from to h =
+    turn_is g came ending false old new new from to to h refl (sym (grown_by_nothing to))
 
 -- how many messages an answer calls lost
 abbrev pub loss_in : Heard → ℕ
@@ -258,21 +266,104 @@ no_loss h (inr message) = (ap loss_in message, λ none. absurd cc)
 pub one_loss : (h : Heard) → h ≡ answer.Lost → (loss_in h ≡ 1) × (h ≢ answer.Nothing)
 one_loss h lost = (ap loss_in lost, λ none. absurd cc)
 
+-- hearing that goes on in the same group
+pub hears_on : {S : Type 0} (came later : List Arrival) (ending : Ending) (old mid new : NodeState S)
+    (from via to : Option Traffic)
+    → (old.protocol.is_stopped ≡ true → mid.protocol.is_stopped ≡ true)
+    → HearsSome old.protocol.known.me.group came GoesOn old mid from via
+    → HearsSome mid.protocol.known.me.group later ending mid new via to
+    → HearsSome old.protocol.known.me.group (came ++ later) ending old new from to
+hears_on came later ending old mid new from via to stays first second =
+    hears_then old.protocol.known.me.group came later ending old mid new from via to stays first
+    (subst (λ (me : Me). HearsSome me.group later ending mid new via to) first.me second)
+
 -- a datagram came at each receive, and then one more
-pub hears_one_more : {S : Type 0} {F : List Arrival → Ending → Type 0} (g : Group) (count lost loss now : ℕ)
+pub hears_one_more : {S : Type 0} {F : List Arrival → Ending → Type 0} (count lost loss now : ℕ)
     (old mid new : NodeState S) (from via to : Option Traffic) (h : Heard)
     → (old.protocol.is_stopped ≡ true → mid.protocol.is_stopped ≡ true)
-    → (came : List Arrival) × HearsSome g came GoesOn old mid from via × (length came ≡ count) × (lost_of came ≡ lost)
-    → (later : List Arrival) × (ending : Ending) × HearsSome g later ending mid new via to × TellsOfOne (Ok h) later ending × F later ending
+    → (came : List Arrival) × HearsSome old.protocol.known.me.group came GoesOn old mid from via
+    × (length came ≡ count) × (lost_of came ≡ lost)
+    → (later : List Arrival) × (ending : Ending) × HearsSome mid.protocol.known.me.group later ending mid new via to
+    × TellsOfOne (Ok h) later ending × F later ending
     → (loss_in h ≡ loss) × (h ≢ answer.Nothing) → now ≡ lost + loss
-    → (all : List Arrival) × HearsSome g all GoesOn old new from to × (length all ≡ count + 1) × (lost_of all ≡ now)
-hears_one_more g count lost loss now old mid new from via to h stays (came, first, many, losses)
+    → (all : List Arrival) × HearsSome old.protocol.known.me.group all GoesOn old new from to
+    × (length all ≡ count + 1) × (lost_of all ≡ now)
+hears_one_more count lost loss now old mid new from via to h stays (came, first, many, losses)
     (later, ending, second, told, _) (lossy, some) sum =
     let (a, one, goes_on, said) = one_came h later ending some told in
     let (longer, lossier) = one_more_of came later a count lost h one said many losses in (
       came ++ later,
-      subst (λ (e : Ending). HearsSome g (came ++ later) e old new from to) goes_on
-          (hears_then g came later ending old mid new from via to stays first second),
+      subst (λ (e : Ending). HearsSome old.protocol.known.me.group (came ++ later) e old new from to) goes_on
+          (hears_on came later ending old mid new from via to stays first second),
       longer,
       omega (arith, lossier, lossy, sum),
     )
+
+-- ---- hearing of a host, whose node is one with what contracts see
+
+-- what one receive leaves, over the node's own group
+abbrev pub HearsThere : {S : Type 0} → Type 0 → (S → StoreState) → NodeState S → NodeState S
+    → Option Traffic → Option Traffic → Result Heard NodeFault → Type 0
+HearsThere honest state old new from to result = (came : List Arrival) × (ending : Ending)
+    × HearsSome old.protocol.known.me.group came ending old new from to
+    × TellsOfOne result came ending × FailsAtEnd honest state ending new result
+
+-- the same over the group that the host has
+pub hears_of : {S : Type 0} (honest : Type 0) (state : S → StoreState) (g : Group) (inside now new : NodeState S)
+    (from to : Option Traffic) (result : Result Heard NodeFault)
+    → inside.protocol.known.me.group ≡ g → inside ≡ now
+    → (came : List Arrival) × (ending : Ending) × HearsSome g came ending inside new from to
+    × TellsOfOne result came ending × FailsAtEnd honest state ending new result
+    → HearsThere honest state now new from to result
+hears_of {S} honest state g inside now new from to result same view (came, ending, h, tells, fails) =
+    subst (λ (n : NodeState S). HearsThere honest state n new from to result) view
+    (came, ending, subst (λ (of : Group). HearsSome of came ending inside new from to) (sym same) h, tells, fails)
+
+-- ---- a refusal of hearing
+
+-- what is not true is false
+is_false : (b : Bool) → ¬ (b ≡ true) → b ≡ false
+is_false true not = absurd (not refl)
+is_false false not = refl
+
+-- a cause that is one with another
+same_cause : (P Q : Type 0) (a b : ℕ) → (P → Q) → (Q → P) → HasCause P a b → HasCause Q a b
+same_cause P Q a b to from h = record { once = λ q. h.once (from q); quiet = λ no. h.quiet (λ p. no (to p)) }
+
+-- why a call of the node was refused, if not for want of memory: nothing waits to be sent
+pub refused_others : {S : Type 0} (fault : NodeFault) (old : Protocol S) (before : List Datagram)
+    → before ≡ [] → fault ≢ Memory
+    → (fault ≡ Stopped) ⊎ (fault ≡ OutboxFull) ⊎ (fault ≡ Memory) ⊎ (fault ≡ Store)
+    → IsLetIn {T = Unit {0}} old before (Err fault) → (fault ≡ Stopped) ⊎ (fault ≡ Store)
+refused_others fault old before empty not (inl is) h = inl is
+refused_others fault old before empty not (inr (inl is)) h =
+    let full = h.full.0 (ap Err is) in
+    let none : length before ≡ 0 = ap length empty in
+    absurd (omega (arith, full.1, none))
+refused_others fault old before empty not (inr (inr (inl is))) h = absurd (not is)
+refused_others fault old before empty not (inr (inr (inr is))) h = inr is
+
+-- an answer that is a refusal where the call of the node was refused
+pub refused_as : {S : Type 0} (state : S → StoreState) (inside now new : NodeState S) (before : List Datagram)
+    (done : Result (Unit {0}) NodeFault) (result : Result Heard NodeFault)
+    → inside ≡ now → IsLetIn inside.protocol before done
+    → (new.protocol.is_stopped ≡ true) ↔ ((inside.protocol.is_stopped ≡ true) ⊎ IsErrOf done Store)
+    → HasCause (IsErrOf done Store) (state inside.protocol.store).faults (state new.protocol.store).faults
+    → (IsErrOf done Store → IsErrOf result Store) → (IsErrOf result Store → IsErrOf done Store)
+    → (IsErrOf result Stopped → IsErrOf done Stopped) → IfErr result (λ e. (e ≡ Stopped) ⊎ (e ≡ Store))
+    → IsHearingRefused state now new result
+refused_as {S} state inside now new before done result view let_in stops cause to from closed others =
+    subst (λ (n : NodeState S). IsHearingRefused state n new result) view (record {
+      others = others;
+      stopped = λ is. let_in.stopped.0 (closed is);
+      was_open = λ is. is_false inside.protocol.is_stopped (λ stopped.
+          let one = let_in.stopped.1 stopped in
+          let two = from is in
+          absurd cc);
+      stops = (
+        λ is. elim (stops.0 is) [ inl was ↦ inl was | inr failed ↦ inr (to failed) ],
+        λ is. elim is [ inl was ↦ stops.1 (inl was) | inr failed ↦ stops.1 (inr (from failed)) ],
+      );
+      cause = same_cause (IsErrOf done Store) (IsErrOf result Store) (state inside.protocol.store).faults
+          (state new.protocol.store).faults to from cause;
+    })

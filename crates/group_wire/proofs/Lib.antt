@@ -1,2 +1,4 @@
 pub mod Carrying
 pub mod Hearing
+pub mod Learning
+pub mod Going

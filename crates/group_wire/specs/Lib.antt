@@ -1,3 +1,7 @@
 pub mod Traffic
+pub mod Arrivals
 pub mod Turns
-pub mod Typing
+pub mod Presses
+pub mod Campaigns
+pub mod Starts
+pub mod Output

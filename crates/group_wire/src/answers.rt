@@ -1,26 +1,26 @@
-//! What a node's turn and its hearing answer.
+//! The answers of a node's turn and of one receive.
 use group_node::Ran;
 
-/// What came of one receive.
+/// The result of one receive.
 #[derive(Clone, Copy, Debug, PartialEq, Eq)]
 pub enum Heard {
     /// No datagram was there.
     Nothing,
     /// The datagram has more than 1,400 bytes, or spells no message of the group.
     Dropped,
-    /// The datagram spells a message, for which there was no memory. The node is as it was.
+    /// The datagram spells a message, and memory ran out. The node is as it was.
     Lost,
     /// The node took the message that the datagram spells.
     Message,
 }
 
-/// What a node did in a turn.
+/// The result of a turn.
 #[derive(Clone, Copy, Debug, PartialEq, Eq)]
 pub struct Turned {
-    /// Why its machine's run was over.
+    /// Why the run of the machine ended.
     pub ran: Ran,
-    /// Whether it ticked. False where there was no memory for a tick.
+    /// True if the node ticked, and false if memory ran out at the tick.
     pub ticked: bool,
-    /// How many messages were lost because there was no memory for them.
+    /// The number of messages that were lost because memory ran out.
     pub lost: u32,
 }

@@ -1,12 +1,26 @@
-//! A node's turns on a wire, which carries its datagrams.
+//! A node of a group on a wire, for programs that run nodes over a network.
+//!
+//! `Wire` is what carries datagrams; implement it for a socket, or for queues in a test. Then three
+//! calls do most of the work:
+//!
+//! - `Host::start(alloc, program, config, store)` starts a node over its store.
+//! - `host.turn(&mut wire)` takes the datagrams that are there, ticks, and runs the machine. What
+//!   the node sends goes out in the same call.
+//! - `host.release()` gives the next byte of the program's output, with its number.
+//!
+//! `host.press(&mut bytes)` types bytes at the node, `host.campaign(&mut wire)` has it ask to lead,
+//! and `host.hear(&mut wire)` takes one datagram between turns. `host.node()` lends the node, which
+//! answers what it knows.
 #![tactic(auto)]
 
 mod answers;
+mod host;
+pub mod limits;
+mod press;
+mod sending;
 mod turns;
-mod typing;
 mod wire;
 
 pub use answers::{Heard, Turned};
-pub use turns::{hear, turn};
-pub use typing::press_some;
+pub use host::Host;
 pub use wire::Wire;

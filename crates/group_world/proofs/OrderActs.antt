@@ -1,4 +1,4 @@
--- What any event leaves is ordered, and the world before all events.
+-- Any event keeps a world ordered, and the world before all events is ordered.
 use Rattle.std.proofs.Common.{◌≡◌, ◌∙◌, ℕ, zero, suc, ◌==◌, ◌<◌, ◌≤◌, Bool, true, false, if◌then◌else◌, List, [], ◌∷◌, length, replicate, Option, Some, None, IfSome, sym, subst, arith}
 use Rattle.std.proofs.lemmas.List.{get_or-replicate, length-replicate}
 use Rattle.std.proofs.lemmas.Option.{get_or_from_slice_get, slice_get_within}
@@ -20,10 +20,11 @@ use Rattle.group_node.specs.States.{input}
 use Rattle.group_world.specs.declared.event.Act.{Act}
 use Rattle.group_world.specs.declared.event.Act.TheVariants.{Press, Deliver, Campaign, Tick, Run, Release, Crash, Start}
 use Rattle.group_world.specs.declared.event.Done.{Done}
-use Rattle.group_world.specs.Goes.{Performs, at_progress, world_after_call, failing, world_after_fall, Leaves, Makes, Refuses, released, LeavesSaving, with_member}
+use Rattle.group_world.specs.Event.{Leaves, LeavesBy, Performs}
+use Rattle.group_world.specs.Group.{me_of, member_at, new_world, with_member, World, world_after_call, world_after_fall}
+use Rattle.group_world.specs.Member.{at_progress, failing, Makes, Member, Refuses, member_after_release, Running, save_outcome}
 use Rattle.group_world.specs.Ordered.{IsOrdered, IsRowOf}
 use Rattle.group_world.specs.Sound.{IsSound}
-use Rattle.group_world.specs.Worlds.{new_world, me_of, Member, member_at, Running, World}
 use Rattle.group_world.proofs.OrderEvents.{batch_due, batch_fits, fallen_world, goes_starts, goes_world, own, pressed_world, put_world, started_world}
 use Rattle.group_world.proofs.OrderLists.{none_in}
 use Rattle.group_world.proofs.OrderNodes.{campaign_goes, Goes, message_goes, tick_goes}
@@ -37,10 +38,10 @@ module _ (laws : WorldLaws) (w v : World) (plan : Option Bool) (d : Done) (sound
   fell_by kept more true e = subst IsOrdered (sym e) (fallen_world laws w sound h i m there kept more)
   fell_by kept more false e = subst IsOrdered (sym e) (fallen_world laws w sound h i m there m.kept (omega arith))
 
-  -- by whether its save fails
+  -- a call that saves, by the failure of its save
   saves_by : (made : Response) (progress : Progress) (keys : List Value) → m.kept.starts ≤ made.node.kept.starts
       → (v ≡ world_after_call w i made m.console progress keys → IsOrdered v) → (o : Option Bool)
-      → LeavesSaving w i m progress made keys o d v → IsOrdered v
+      → LeavesBy w i m progress (save_outcome m.kept made keys o) d v → IsOrdered v
   saves_by made progress keys more went None (answer, e) = went e
   saves_by made progress keys more went (Some is_kept) (answer, e) = fell_by made.node.kept more is_kept e
 
@@ -92,19 +93,19 @@ module _ (laws : WorldLaws) (w v : World) (plan : Option Bool) (d : Done) (sound
     pressed_by byte false false (answer, e) =
         subst IsOrdered (sym e) (pressed_world laws w sound h i m there q up byte m.console q.progress)
 
-    -- its machine runs
+    -- a run
     ran_by : (progress : Progress) → v ≡ with_member w i (at_progress m q progress) → IsOrdered v
     ran_by progress e =
         subst IsOrdered (sym e)
         (put_world laws w sound h i m there (at_progress m q progress) (omega arith)
         (own laws w sound h i m there q up))
 
-    -- it releases a byte, if one waits
-    released_by : (o : Option ℕ) → v ≡ with_member w i (released m q o) → IsOrdered v
+    -- a release, if a byte waits
+    released_by : (o : Option ℕ) → v ≡ with_member w i (member_after_release m q o) → IsOrdered v
     released_by None e = subst IsOrdered (sym e) (put_world laws w sound h i m there m (omega arith) (h.keys.nodes i m there))
     released_by (Some byte) e =
         subst IsOrdered (sym e)
-        (put_world laws w sound h i m there (released m q (Some byte)) (omega arith)
+        (put_world laws w sound h i m there (member_after_release m q (Some byte)) (omega arith)
         (own laws w sound h i m there q up))
 
 -- any event
@@ -132,7 +133,7 @@ acts_ordered laws w v plan (Start i) d sound after h (m, is, leaves) =
 
 -- ---- before all events
 
--- each node is as at first
+-- each node of the world before all events
 pub first_node : (p : Parts) (group : Group) (i : ℕ) (m : Member) → member_at (new_world p group).members i ≡ Some m
     → record { kept = empty_record; console = []; node = None } ≡ m
 first_node p group zero m e = absurd (cc)

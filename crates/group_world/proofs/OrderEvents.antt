@@ -1,4 +1,4 @@
--- Each event keeps a world ordered.
+-- Each kind of event keeps a world ordered.
 use Rattle.std.proofs.Common.{◌≡◌, ◌∙◌, ℕ, ◌+◌, ◌-◌, ◌≤◌, List, [], ◌∷◌, ◌++◌, take, slice_set, Option, Some, None, IfSome, refl, sym, ap, subst, inl, inr, arith}
 use Rattle.std.proofs.lemmas.List.{append-nil, length-append}
 use Rattle.std.proofs.lemmas.List.Concat.{flat_map-append}
@@ -17,10 +17,10 @@ use Rattle.group_node.specs.Known.{Response, Known, on_typed, new_key, next_seri
 use Rattle.group_node.specs.Tick.{batch_of}
 use Rattle.group_node.specs.Output.{Progress}
 use Rattle.group_node.specs.Packets.{Datagram, Packet, datagrams_of}
-use Rattle.group_world.specs.Goes.{world_after_call, world_after_fall, member_after_call, with_member}
+use Rattle.group_world.specs.Group.{me_of, member_at, message_of, messages_in, with_member, World, world_after_call, world_after_fall, world_state}
+use Rattle.group_world.specs.Member.{Member, member_after_call, Running}
 use Rattle.group_world.specs.Ordered.{AreTypedInOrder, IsDue, IsOrdered, AreTypedKeys, IsRowOf}
 use Rattle.group_world.specs.Sound.{IsRunningSound, IsSound, IsSpelling}
-use Rattle.group_world.specs.Worlds.{Member, Running, World, me_of, member_at, message_of, messages_in, world_state}
 use Rattle.group_world.proofs.OrderLists.{none_in}
 use Rattle.group_world.proofs.OrderMembers.{put_ordered, typed_ordered}
 use Rattle.group_world.proofs.OrderNodes.{Goes, read_of}
@@ -40,7 +40,7 @@ module _ (laws : WorldLaws) (w : World) (sound : IsSound w) (h : IsOrdered w) (i
   pub fallen_world : (kept : Record) → m.kept.starts ≤ kept.starts → IsOrdered (world_after_fall w i m kept)
   fallen_world kept more = put_world (record { kept = kept; console = m.console; node = None }) more tt
 
-  -- what is submitted is due, also what these packets submit
+  -- what is submitted is due, also by these packets
   module _ (packets : List Packet) (o : Option Value) (asked : AreAsked o packets)
       (spelled : (d : Datagram) → Contains (datagrams_of (me_of w i) packets) d → IsSpelling w.group d)
       (fits : (u : Value) → o ≡ Some u → Fits w.group (record { sender = i; body = Submit u }))
@@ -127,7 +127,7 @@ module _ (laws : WorldLaws) (w : World) (sound : IsSound w) (h : IsOrdered w) (i
     was_typed : (k : Key) → Contains (read_of q.known) k → Contains (world_state w).typed k
     was_typed = chosen_typed laws.choice w sound h (front_values q.known.learner.learned) front
 
-    -- a call after which keys have left that are read
+    -- a call after which keys no longer wait that are read
     goes_row : (o : Option Value) (done : Response) → Goes q.known o done → IsRowOf (world_state w).typed i done.node.kept done.node
     goes_row o done goes =
         let parted = goes.parted own.row.first in

@@ -1,5 +1,5 @@
--- A group of one node, in which three keys were typed, and chosen as the batches 1..1, 1..2 and 3..3: what was sent,
--- and how it grew.
+-- A group of one node, in which three keys were typed and chosen as the batches 1..1, 1..2 and 3..3: what was sent, and
+-- how it grew.
 use Rattle.std.proofs.Common.{◌≡◌, ◌≢◌, ℕ, zero, suc, ◌==◌, ◌<◌, ◌≤◌, Bool, IsTrue, List, [], ◌∷◌, ◌++◌, Option, Some, None, refl, sym, ap, subst, inl, inr, ◌⊎◌, arith, lit<}
 use Rattle.std.proofs.lemmas.Bool.{eqb-true}
 use Rattle.std.proofs.lemmas.List.Elements.{Contains-push}
@@ -17,10 +17,10 @@ use Rattle.paxos_msg.specs.Messages.{IsSaid, IsSent, kept_vote_at}
 use Rattle.paxos_msg.specs.Records.{changed, empty_record, IsSaved}
 use Rattle.paxos_msg.specs.Sending.{IsReport, IsUnproposed}
 use Rattle.group_node.specs.Inputs.{AreChosen}
-use Rattle.group_world.specs.Worlds.{member_at, seat_of_member}
+use Rattle.group_world.specs.Group.{member_at, seat_of_member}
 use Rattle.group_world.proofs.OrderLists.{in_cases, none_in}
 
--- each is so, as a tuple
+-- what holds of each of three, as a tuple
 abbrev pub EachOf : {X : Type 0} → (X → Type 0) → List X → Type 0
 EachOf P [] = Unit {0}
 EachOf P (x ∷ xs) = P x × EachOf P xs
@@ -57,14 +57,14 @@ ballot = record { round = 1; node = 1 }
 
 -- ---- what was sent
 
--- what the node says of a batch at a place
+-- the messages of the node about a batch at a place
 abbrev pub said_of : ℕ → Value → List Body
 said_of s v = Submit v ∷ Accept ballot s v ∷ Accepted ballot s v ∷ []
 
 abbrev pub message : Body → Msg
 message body = record { sender = 1; body = body }
 
--- up to the first batch, the second, the third, and all
+-- what was sent up to the first batch, the second, the third, and in all
 abbrev pub sent_0 : Sent
 sent_0 = message (Promise ballot 0 65536 []) ∷ []
 
@@ -115,7 +115,7 @@ kept_3 = changed kept_2 (change.Ballotted 2 ballot batch_c)
 
 -- ---- a batch is proposed, voted for and chosen
 
--- a message that proposes at a lower place, or nothing
+-- a message that proposes at a lower place, or does not propose
 abbrev IsLower : ℕ → Body → Type 0
 IsLower s (Prepare b from) = Unit {0}
 IsLower s (Promise b first upto votes) = Unit {0}
@@ -191,7 +191,7 @@ module _ (sent : Sent) (r : Record) (s : ℕ) (v : Value) (grew : Grew 1 sent (r
 
 -- ---- the three
 
--- keys of a batch were typed at the node
+-- the keys of a batch were typed at the node
 own_batch : (v : Value) → keys_of v ≢ [] → EachOf (λ (k : Key). (k.node ≡ 1) × Contains typed k) (keys_of v) → IsTyped typed 1 v
 own_batch v some each = record {
   own = record { has_key = some; at_node = λ k among. (each_of (λ (k : Key). (k.node ≡ 1) × Contains typed k) (keys_of v) k each among).0 };
@@ -251,7 +251,7 @@ grew_3 =
 
 -- ---- what is chosen
 
--- the place among the messages of what says that it is accepted
+-- the index of the message that says that it is accepted
 chosen_by : (s : ℕ) (v : Value) → Contains sent_3 (message (Accepted ballot s v)) → IsChosen 1 sent_3 s v
 chosen_by s v among = (ballot, (only_one, lit< tt, one_of (λ i. IsSent sent_3 i (Accepted ballot s v)) among))
 

@@ -1,4 +1,4 @@
--- The keys of values, each once, are in order.
+-- The keys of chosen values, each once, are in order, if each value was due.
 use Rattle.std.proofs.Common.{◌≡◌, ◌∙◌, ℕ, zero, suc, ◌+◌, ◌<◌, ◌≤◌, Bool, true, false, List, [], ◌∷◌, ◌++◌, length, get_or, map, Some, if◌then◌else◌, refl, sym, ap, subst, inl, inr, ◌⊎◌, append_assoc, arith}
 use Rattle.std.proofs.lemmas.Bool.{cases_eq, cases_lt, both_ways}
 use Rattle.std.proofs.lemmas.List.{append-nil}
@@ -22,7 +22,7 @@ use Rattle.group_world.proofs.OrderLists.{none_in, first_in, place_of, in_from_p
 use Rattle.group_world.proofs.OrderKeys.{all_keys, firsts_push, test_from_in, in_from_test, apart_same}
 use Rattle.group_world.proofs.OrderSerials.{serial_in, serial_of, has_in, own_serials, other_more}
 
--- What agreement says of what was sent: one value at most is chosen at a place, and it is a no-op or was submitted.
+-- What agreement says of what was sent: at most one value is chosen at a place, and it is a no-op or was submitted.
 pub record IsAgreed (size : ℕ) (sent : Sent) : Type 0 where
   pub one : (s : ℕ) (v u : Value) → IsChosen size sent s v → IsChosen size sent s u → v ≡ u
   pub free : (s : ℕ) (v : Value) → IsChosen size sent s v → IsFree sent v
@@ -32,14 +32,14 @@ pub record AreSubmits (size : ℕ) (sent : Sent) (typed : List Key) : Type 0 whe
   pub of_typed : (v : Value) → IsSaid sent (Submit v) → (k : Key) → Contains (keys_of v) k → Contains typed k
   pub due : (v : Value) → IsSaid sent (Submit v) → IsDue size sent v
 
--- each node, start and serial stands once, and those of each start of each node are in order
+-- each node, start and serial is there once, and those of each start of each node are in order
 pub record AreOrderly (keys : List Key) : Type 0 where
   pub once : AreApart keys
   pub order : AreInOrder keys
 
 -- ---- the firsts of keys
 
--- keys so far, with a key at the end if it isn't there yet: what is there already
+-- keys so far, with a key at the end if it is not among them: what is there already
 pub in_firsts_push : (keys : List Key) (k : Key) (there : Bool) → list_any (same_key k) keys ≡ there
     → Contains (if there then keys else keys ++ k ∷ []) k
 in_firsts_push keys k true e = in_from_test keys k e
@@ -54,7 +54,7 @@ of_firsts_push : (keys : List Key) (k x : Key) (there : Bool) → Contains (if t
 of_firsts_push keys k x true h = inl h
 of_firsts_push keys k x false h = Contains-push_cases keys k x h
 
--- the keys so far, with those that stand there once: the same elements
+-- the keys so far, with those added once: the same elements
 pub record AreFirsts (keys once : List Key) : Type 0 where
   pub all : (k : Key) → Contains keys k → Contains once k
   pub only : (k : Key) → Contains once k → Contains keys k
@@ -85,12 +85,12 @@ keys_are_firsts keys = firsts_all [] keys (record { all = λ k h. h; only = λ k
 
 -- ---- one key more keeps the order
 
--- what a key needs to come after others: its serial is 1, or one of them has the serial before
+-- what a key needs to come after others: its serial is 1, or one of the others has the serial before
 pub data Follows (keys : List Key) (node start serial : ℕ) : Type 0 where
   begins : serial ≡ 1 → Follows keys node start serial
   goes_on : (before : ℕ) → before + 1 ≡ serial → HasSerial keys node start before → Follows keys node start serial
 
--- the keys so far are in order, and a key with no equal one there follows them
+-- the keys so far are in order, and a key that is not among them follows
 module _ (keys : List Key) (k : Key) (h : AreOrderly keys) (follows : Follows keys k.node k.start k.serial)
     (new : (x : Key) → Contains keys x → HaveOneName x k → ⊥) where
   -- its serial is the one after the last
@@ -161,12 +161,12 @@ module _ (keys : List Key) (k : Key) (h : AreOrderly keys) (follows : Follows ke
 pub record AreUniform (keys : List Key) : Type 0 where
   pub same : (k other : Key) → Contains keys k → Contains keys other → HaveOneName k other → k ≡ other
 
--- the firsts of these keys are in order, and have the same elements
+-- these keys, each once, are in order, and have the same elements
 pub record AreGood (keys : List Key) : Type 0 where
   pub orderly : AreOrderly (firsts keys)
   pub firsts : AreFirsts keys (firsts keys)
 
--- what follows keys follows more
+-- a key that follows keys follows more keys
 follows_in : (keys more : List Key) (node start serial : ℕ) → ((k : Key) → Contains keys k → Contains more k)
     → Follows keys node start serial → Follows more node start serial
 follows_in keys more node start serial within (begins one) = begins one

@@ -79,7 +79,7 @@ insert_under_first x k false keys e =
     (ap (λ (rest : List Key). x ∷ rest) (filter_more x k false keys there e)
     ∙ under_first there x (filter (other_than x) keys) k)
 
--- a key more comes last, or stands there already
+-- one more key comes last, or is there already
 pub firsts_push : (keys : List Key) (k : Key) → firsts (keys ++ k ∷ []) ≡ insert_key same_key (firsts keys) k
 firsts_push [] k = refl
 firsts_push (x ∷ keys) k =
@@ -98,7 +98,7 @@ any_cases : (k x : Key) (xs : List Key) → (x ≡ k) ⊎ (list_any (same_key k)
 any_cases k x xs (inl e) = or_left (same_key k x) (list_any (same_key k) xs) (ap (same_key k) e ∙ same_itself k)
 any_cases k x xs (inr h) = or_right (same_key k x) (list_any (same_key k) xs) h
 
--- a key that stands there is found by the test
+-- a key that is there is found by the test
 pub test_from_in : (keys : List Key) (k : Key) → Contains keys k → list_any (same_key k) keys ≡ true
 test_from_in [] k h = absurd (none_in k h)
 test_from_in (x ∷ xs) k h = any_cases k x xs (elim (in_cases x xs k h) [ inl e ↦ inl e | inr later ↦ inr (test_from_in xs k later) ])

@@ -1,4 +1,4 @@
--- The facts of typed keys, where one node changes.
+-- The facts of typed keys after one node has changed.
 use Rattle.std.proofs.Common.{◌≡◌, ◌∙◌, ℕ, ◌-◌, ◌≤◌, List, [], ◌∷◌, ◌++◌, get_or, slice_set, Some, IfSome, refl, sym, ap, subst, inl, inr, arith}
 use Rattle.std.proofs.lemmas.List.Elements.{Contains-get_or, Contains-push_cases}
 use Rattle.std.proofs.lemmas.List.Quantifiers.{all_pairs_push}
@@ -7,13 +7,14 @@ use Rattle.std.specs.List.{Contains}
 use Rattle.paxos_msg.specs.Keys.{Key}
 use Rattle.group_world.specs.Order.{HaveOneName}
 use Rattle.group_world.specs.Ordered.{AreTypedInOrder, IsRowOf}
-use Rattle.group_world.specs.Worlds.{Member, member_at}
-use Rattle.group_world.proofs.States.{each_changed}
+use Rattle.group_world.specs.Group.{member_at}
+use Rattle.group_world.specs.Member.{Member}
+use Rattle.group_world.proofs.WorldAsGroup.{each_changed}
 use Rattle.group_world.proofs.OrderRows.{other_row}
 
 module _ (typed : List Key) (members : List Member) (h : AreTypedInOrder typed members) (i : ℕ) (m : Member)
     (there : member_at members i ≡ Some m) (new : Member) (more : m.kept.starts ≤ new.kept.starts) where
-  -- no start falls
+  -- no count of starts falls
   still_past : (k : Key) (x : Member) → Contains typed k → member_at (slice_set members (i - 1) new) k.node ≡ Some x
       → k.start ≤ x.kept.starts
   still_past k x among at =

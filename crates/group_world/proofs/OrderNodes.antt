@@ -1,5 +1,5 @@
--- What the calls of a node make of its start, its serials, the keys that wait and what it has learned, and which
--- Submits they send.
+-- What the calls of a node leave of its start, its serials, the keys that wait and what it has learned, and which Submits
+-- they send.
 use Rattle.std.proofs.Common.{◌≡◌, ◌∙◌, ℕ, suc, ◌+◌, ◌≤◌, ◌&&◌, not, Bool, true, false, List, [], ◌∷◌, ◌++◌, length, Option, Some, None, All, Contains, if◌then◌else◌, refl, sym, ap, arith}
 use Rattle.std.proofs.lemmas.List.{length-drop}
 use Rattle.paxos_msg.specs.declared.ballot.Ballot.{Ballot}
@@ -38,12 +38,12 @@ pub record NodeLaws : Type 0 where
   pub first : (n : Known) (k : Key) (ks : List Key) → waiting_keys (without_read n) ≡ k ∷ ks
       → ¬ Contains (keys_in_order (front_values n.learner.learned)) k
 
--- the keys that stand below the front
+-- the keys below the front
 abbrev pub read_of : Known → List Key
 read_of n = keys_in_order (front_values n.learner.learned)
 
--- A call that counts no start and types no key: keys that wait stay, and what was learned; of Submits it sends that of
--- this value at most.
+-- A call that counts no start and types no key: the keys that wait and what was learned stay, and at most the Submit of
+-- this value is sent.
 pub record Stays (n : Known) (o : Option Value) (done : Response) : Type 0 where
   pub starts : done.node.kept.starts ≡ n.kept.starts
   pub next : next_serial done.node ≡ next_serial n
@@ -51,7 +51,7 @@ pub record Stays (n : Known) (o : Option Value) (done : Response) : Type 0 where
   pub learns : HasLearnedMore n.learner.learned done.node.learner.learned
   pub asked : AreAsked o done.sends
 
--- The same, but keys leave from the front that stand below the front.
+-- The same, but keys that are below the known front no longer wait.
 pub record Goes (n : Known) (o : Option Value) (done : Response) : Type 0 where
   pub starts : done.node.kept.starts ≡ n.kept.starts
   pub next : next_serial done.node ≡ next_serial n
@@ -63,13 +63,13 @@ pub record Goes (n : Known) (o : Option Value) (done : Response) : Type 0 where
 same_learned : (n : Known) → HasLearnedMore n.learner.learned n.learner.learned
 same_learned n = record { stays = λ s v e. e }
 
--- a call that leaves all that is asked for as it is, but for the packets
+-- a call that leaves all of this as it is, but for the packets
 quiet_stays : (n : Known) (o : Option Value) → Stays n o (quiet n)
 quiet_stays n o = record { starts = refl; next = refl; waiting = refl; learns = same_learned n; asked = none_asked o }
 
 -- ---- an acceptor's answers
 
--- it counts no start and is no Submit
+-- the call counts no start and sends no Submit
 record IsPlain (r : Record) (answer : Answer) : Type 0 where
   pub starts : (after r answer.saves).starts ≡ r.starts
   pub says : IsAsked None answer.says
@@ -216,7 +216,7 @@ message_goes laws n j body =
 
 -- ---- calls after which all keys wait that waited
 
--- all wait, and the same keys are read
+-- all keys still wait, and the same keys are read
 still_parted : (n : Known) → IsFirstUnread (read_of n) (waiting_keys n) → IsParted (read_of n) (waiting_keys n) (waiting_keys n)
 still_parted n first = record { gone = []; parts = refl; below = λ k d less. absurd (omega arith); first = first }
 

@@ -28,7 +28,7 @@ IsAsked o (Submit v) = o ≡ Some v
 IsAsked o (Ask from) = Unit {0}
 IsAsked o (Tell s v) = Unit {0}
 
--- so of each of these packets
+-- the same of each of these packets
 abbrev pub AreAsked : Option Value → List Packet → Type 0
 AreAsked o packets = All (λ packet. IsAsked o packet.body) packets
 
@@ -107,7 +107,7 @@ submits_asked : (o : Option Value) → AreAsked o (submits o)
 submits_asked None = none_asked None
 submits_asked (Some v) = one_asked (Some v) (to_all (Submit v)) refl
 
--- of a tick the batch alone is a Submit
+-- of the packets of a tick only the batch is a Submit
 pub asks_asked : (n : Known) → AreAsked (batch_of n n.waiting) (asks n)
 asks_asked n =
     both_asked (batch_of n n.waiting) (submits (batch_of n n.waiting)) (to_all (Ask (front n)) ∷ [])

@@ -1,4 +1,4 @@
--- A sound and ordered world in which overlapping batches are chosen.
+-- A sound and ordered world in which overlapping batches are chosen, for the law `possible`.
 use Rattle.std.proofs.Common.{◌≡◌, ◌≢◌, ℕ, zero, suc, List, [], ◌∷◌, ◌++◌, get_or, map, Option, Some, None, IfSome, refl, sym, subst, inl, inr, arith, lit<}
 use Rattle.std.proofs.lemmas.List.Elements.{Contains-get_or}
 use Rattle.std.proofs.lemmas.List.Quantifiers.{all_pairs_push}
@@ -20,13 +20,14 @@ use Rattle.group_node.specs.Steps.{AllChosen, AllTyped}
 use Rattle.group_world.specs.Order.{AreApart, HaveOneName}
 use Rattle.group_world.specs.Ordered.{IsDue, IsOrdered, IsRowOf}
 use Rattle.group_world.specs.Sound.{IsMemberSound, IsSound}
-use Rattle.group_world.specs.Worlds.{Member, me_of, member_at, world_state, World}
+use Rattle.group_world.specs.Group.{me_of, member_at, World, world_state}
+use Rattle.group_world.specs.Member.{Member}
 use Rattle.group_world.proofs.OrderExample.{all_chosen, ballot, batch_a, batch_ab, batch_c, chosen_values, each_of, EachOf, grew_3, kept_3, key_a, key_b, key_c, records_of, sent_3, two_chosen, typed, typed_a, typed_ab, typed_c}
 use Rattle.group_world.proofs.OrderReadable.{all_spelled, ballot_fits, ExampleLaws, fits_a, fits_ab, fits_c, group, me, packets, sent_is}
 
 -- ---- what each message says
 
--- the third batch is due behind the first two
+-- the third batch is due after the first two
 due_c : IsDue 1 sent_3 batch_c
 due_c = inr (record {
   below = batch_a ∷ batch_ab ∷ [];
@@ -39,7 +40,7 @@ due_c = inr (record {
       ((λ e. absurd (omega arith)), ((λ e. absurd (omega arith)), tt)) has.among has.serial_is;
 })
 
--- its ballot is the one; what it submits was typed and is due; it tells nothing
+-- each message has the one ballot; what is submitted was typed and is due; nothing is told
 abbrev Says : ℕ → Body → Type 0
 Says i (Prepare b from) = b ≡ ballot
 Says i (Promise b first upto votes) = Unit {0}
@@ -175,7 +176,7 @@ example_sound laws p = record {
 
 -- ---- it is ordered
 
--- a key of another serial is apart from these
+-- a key of another serial has not the name of one of these
 push_apart : (keys : List Key) (key : Key) → AreApart keys → EachOf (λ (k : Key). k.serial ≢ key.serial) keys → AreApart (keys ++ key ∷ [])
 push_apart keys key apart each =
     all_pairs_push (λ (x y : Key). ¬ HaveOneName x y) keys key apart

@@ -19,7 +19,7 @@ use Rattle.paxos_acceptor.specs.declared.me.Me.{Me}
 use Rattle.group_node.specs.Packets.{datagram_of, datagrams_of, Packet, to_all}
 use Rattle.group_node.specs.Steps.{messages_handed_out}
 use Rattle.group_world.specs.Sound.{IsSpelling}
-use Rattle.group_world.specs.Worlds.{message_of, messages_in}
+use Rattle.group_world.specs.Group.{message_of, messages_in}
 use Rattle.group_world.proofs.OrderExample.{ballot, batch_a, batch_ab, batch_c, EachOf, message, said_of, sent_3, typed_a, typed_ab, typed_c}
 
 -- The laws of the crates below: what is read is what was spelled, and a vote that is found is one of the votes.
@@ -39,7 +39,7 @@ packets = map to_all (Promise ballot 0 65536 [] ∷ (said_of 0 batch_a ++ (said_
 
 -- ---- each packet has a spelling, which is read
 
--- by a test of each
+-- by a test of each element
 pub are_bytes : (bytes : List ℕ) → list_all (λ b. nat_lt b 256) bytes ≡ true → AreBytes bytes
 are_bytes [] e i = lit< tt
 are_bytes (b ∷ bytes) e zero = ltb-true b 256 (and_parts (nat_lt b 256) (list_all (λ b. nat_lt b 256) bytes) e).0

@@ -1,4 +1,4 @@
--- The typed keys of one start of a node, as a row: what it says of the keys that wait, and how it goes on.
+-- The typed keys of one start of a node as a row: what follows for the keys that wait, and how the row goes on.
 use Rattle.std.proofs.Common.{◌≡◌, ◌∙◌, ℕ, zero, suc, ◌+◌, List, [], ◌∷◌, ◌++◌, length, map, refl, sym, ap, subst, inl, inr, ◌⊎◌, append_assoc, arith}
 use Rattle.std.proofs.lemmas.List.{map-append, length-map}
 use Rattle.std.proofs.lemmas.List.Elements.{Contains-append_left, Contains-append_right, All-append, All-contains, All-nil, All-weaker}
@@ -14,7 +14,7 @@ use Rattle.group_world.proofs.OrderLists.{first_in, filter_none, of_filter, of_m
 use Rattle.group_world.proofs.OrderKeys.{apart_same, one_name}
 use Rattle.group_world.proofs.OrderSerials.{not_of, of_test, other_more, own_more, own_serials, serial_in}
 
--- of these waiting keys these stay where those are read: the ones before them are read, and the first that stays isn't
+-- The keys that still wait once more keys are read: those before them are read, and the first that waits is not.
 pub record IsParted (read keys stay : List Key) : Type 0 where
   pub gone : List Key
   pub parts : keys ≡ gone ++ stay
@@ -26,7 +26,7 @@ first_more : (read keys : List Key) (k : Key) → IsFirstUnread read keys → (C
 first_more read [] k first out = out
 first_more read (key ∷ keys) k first out = first
 
--- in a start that no typed key is of
+-- the row of a start of which no key was typed
 pub fresh_row : (typed : List Key) (i start : ℕ) (read : List Key)
     → ((k : Key) → Contains typed k → k.node ≡ i → k.start ≡ start → ⊥) → AreTypedKeys typed i start 0 [] read
 fresh_row typed i start read none =
@@ -40,7 +40,7 @@ fresh_row typed i start read none =
     }
 
 module _ (typed : List Key) (i start last : ℕ) (waiting read : List Key) (h : AreTypedKeys typed i start last waiting read) where
-  -- its keys that don't wait, and those that wait, have serials in a row
+  -- the keys that do not wait and those that wait have serials in a row
   row_rows : (map (λ (k : Key). k.serial) h.gone ≡ range_with_len 1 (length (map (λ (k : Key). k.serial) h.gone)))
       × (map (λ (k : Key). k.serial) waiting
       ≡ range_with_len (1 + length (map (λ (k : Key). k.serial) h.gone)) (length (map (λ (k : Key). k.serial) waiting)))
@@ -68,7 +68,7 @@ module _ (typed : List Key) (i start last : ℕ) (waiting read : List Key) (h : 
   gone_key : (k : Key) → Contains h.gone k → Contains typed k × (k.node ≡ i) × (k.start ≡ start)
   gone_key k among = own_key k (Contains-append_left h.gone waiting k among)
 
-  -- the first that waits has the serial after those that don't
+  -- the first that waits has the serial after those that do not
   first_serial : (key : Key) (keys : List Key) → waiting ≡ key ∷ keys → key.serial ≡ 1 + length h.gone
   first_serial key keys e =
       let row : key.serial ∷ map (λ (k : Key). k.serial) keys ≡ range_with_len (1 + length h.gone) (suc (length keys)) =
@@ -76,7 +76,7 @@ module _ (typed : List Key) (i start last : ℕ) (waiting read : List Key) (h : 
       waiting_row in
       cc
 
-  -- where one key doesn't wait any more, the last of these is read
+  -- if some key no longer waits, the last of those is read
   last_gone : (n : ℕ) → length h.gone ≡ n + 1 → HasSerial read i start (length h.gone)
   last_gone n e =
       let at =

@@ -13,7 +13,7 @@ use Rattle.paxos_msg.specs.Spelling.{kind_of, Msgs, spelling}
 use Rattle.paxos_acceptor.specs.declared.me.Me.{Me}
 use Rattle.group_node.specs.Packets.{Datagram, Packet, datagram_of, datagrams_of}
 use Rattle.group_world.specs.Sound.{IsSpelling}
-use Rattle.group_world.specs.Worlds.{message_of, messages_in}
+use Rattle.group_world.specs.Group.{message_of, messages_in}
 use Rattle.group_world.proofs.OrderLists.{first_in, none_in, in_cases, of_map, rest_in}
 use Rattle.group_world.proofs.OrderPackets.{AreAsked, IsAsked}
 
@@ -21,7 +21,7 @@ use Rattle.group_world.proofs.OrderPackets.{AreAsked, IsAsked}
 pub record SpellingLaw : Type 0 where
   pub one : (group : Group) (bytes : List ℕ) (m n : Msg) → IsGroup group → Msgs group bytes m → Msgs group bytes n → m ≡ n
 
--- by what is made of the first item
+-- by the image of the first item
 of_cons : {X Y : Type 0} (f : X → Option Y) (x : X) (xs : List X) (y : Y) (o : Option Y) → f x ≡ o
     → (Contains (filter_map f xs) y → (z : X) × Contains xs z × (f z ≡ Some y))
     → Contains (cons_option o (filter_map f xs)) y
@@ -32,13 +32,13 @@ of_cons f x xs y (Some made) e later h = elim (in_cases made (filter_map f xs) y
   | inr more ↦ let found = later more in (found.0, rest_in x xs found.0 found.1, found.2)
 ]
 
--- what was made of some item
+-- an element of the images is the image of some item
 of_filter_map : {X Y : Type 0} (f : X → Option Y) (xs : List X) (y : Y) → Contains (filter_map f xs) y
     → (x : X) × Contains xs x × (f x ≡ Some y)
 of_filter_map f [] y h = absurd (none_in y h)
 of_filter_map f (x ∷ xs) y h = of_cons f x xs y (f x) refl (of_filter_map f xs y) h
 
--- by its kind
+-- by the kind of the body
 kind_asked : (o : Option Value) (body : Body) → IsAsked o body → kind_of body ≡ 6 → (u : Value) × (o ≡ Some u) × (body ≡ Submit u)
 kind_asked o (Prepare b from) h e = absurd (omega arith)
 kind_asked o (Promise b first upto votes) h e = absurd (omega arith)
@@ -58,7 +58,7 @@ spelled_asked group i j o body v h e = kind_asked o body h (ap (λ (l : List ℕ
 module _ (law : SpellingLaw) (me : Me) (packets : List Packet) (o : Option Value) (session : IsGroup me.group) (asked : AreAsked o packets)
     (spelled : (d : Datagram) → Contains (datagrams_of me packets) d → IsSpelling me.group d)
     (fits : (u : Value) → o ≡ Some u → Fits me.group (record { sender = me.node; body = Submit u })) where
-  -- a datagram of it
+  -- a datagram of a packet
   submit_at : (d : Datagram) → Contains (datagrams_of me packets) d → (j : ℕ) (v : Value)
       → message_of me.group d ≡ Some (record { sender = j; body = Submit v }) → o ≡ Some v
   submit_at d among j v read =

@@ -1,4 +1,4 @@
--- What an ordered world says of its keys, and of the values that its nodes know.
+-- In an ordered world each chosen value was due, so keys are read once and in order.
 use Rattle.std.proofs.Common.{◌≡◌, ◌∙◌, ℕ, ◌<◌, ◌≤◌, List, ◌++◌, length, Option, Some, IfSome, sym, subst, inl, inr, arith}
 use Rattle.std.proofs.lemmas.List.Elements.{Contains-append_left}
 use Rattle.std.proofs.lemmas.Option.{slice_get_within}
@@ -21,7 +21,7 @@ use Rattle.group_node.specs.Tick.{batch_of}
 use Rattle.group_node.specs.Ranges.{IsInRange}
 use Rattle.group_world.specs.Ordered.{IsDue, IsOrdered}
 use Rattle.group_world.specs.Sound.{IsLearnedChosen, IsSound}
-use Rattle.group_world.specs.Worlds.{World, world_state}
+use Rattle.group_world.specs.Group.{World, world_state}
 use Rattle.group_world.proofs.OrderFronts.{AreOrderly, AreSubmits, front_orderly, front_typed, IsAgreed, keys_are_firsts}
 use Rattle.group_world.proofs.OrderKeys.{all_keys}
 use Rattle.group_world.proofs.OrderNodes.{NodeLaws}
@@ -33,8 +33,8 @@ pub record ChoiceLaws : Type 0 where
       → IsChosen size sent s v → IsChosen size sent s u → v ≡ u
   pub free : (size s : ℕ) (sent : Sent) (records : ℕ → Record) (v : Value) → Grew size sent records → IsChosen size sent s v → IsFree sent v
 
--- And what is chosen stays chosen; the values below a front are the learned ones, and grow at their end, as their keys
--- do; a typed key waits last, and a batch of a node in its ranges fits.
+-- Further laws: the values below a front are the learned ones; they and their keys grow at the end; a typed key waits
+-- last; and a batch of a node in its ranges fits.
 pub record WorldLaws : Type 0 where
   pub choice : ChoiceLaws
   pub node : NodeLaws
@@ -91,7 +91,7 @@ due_later laws size sent more (Keys node start first bytes) (inr p) = inr (recor
   lacks = p.lacks;
 })
 
--- keys that were read are read
+-- keys that were read stay read
 pub read_more : WorldLaws → (old new : FinMap nat_cmp Value) → HasLearnedMore old new → (k : Key)
     → Contains (keys_in_order (front_values old)) k → Contains (keys_in_order (front_values new)) k
 read_more laws old new more k among =
@@ -100,7 +100,7 @@ read_more laws old new more k among =
     subst (λ (values : List Value). Contains (keys_in_order values) k) (sym grown.1)
     (subst (λ (l : List Key). Contains l k) (sym keys.1) (Contains-append_left (keys_in_order (front_values old)) keys.0 k among))
 
--- the values below a front are chosen, where what is learned is
+-- the values below a front are chosen if what is learned is
 pub front_chosen : WorldLaws → (size : ℕ) (sent : Sent) (learned : FinMap nat_cmp Value)
     → IsLearnedChosen size sent learned → AreChosen size sent (front_values learned)
 front_chosen laws size sent learned h = record {

@@ -1,4 +1,4 @@
--- Keys that aren't in order, or not apart.
+-- Keys that are not in order, or not apart, for the law `wrong_orders`.
 use Rattle.std.proofs.Common.{◌≡◌, ℕ, zero, suc, ◌+◌, [], ◌∷◌, refl, arith}
 use Rattle.std.specs.List.{range_with_len}
 use Rattle.paxos_msg.specs.declared.value.Value.TheVariants.{Keys}

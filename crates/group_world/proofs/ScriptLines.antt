@@ -1,4 +1,4 @@
--- The lines of a script, one after the other.
+-- The lines of a text and what they say, line by line, for `read_script`.
 use Rattle.std.proofs.Common.{◌≡◌, ℕ, ◌+◌, ◌<◌, ◌==◌, List, [], ◌∷◌, ◌++◌, length, take, drop, refl, ap, append_assoc, length-append, arith, subst, sym, ◌∙◌, Bool, true, false, suc, ◌-◌}
 use Rattle.std.specs.Prelude.{Option, Some, None, Result, Ok, Err, IsOk}
 use Rattle.std.specs.List.{position_or_len, before_first, after_first}
@@ -7,14 +7,14 @@ use Rattle.std.proofs.Math.Seq.{take-append_seam}
 use Rattle.group_world.specs.declared.script.Line.{Line}
 use Rattle.group_world.specs.Scripts.{IsReached, begins_with, header_of, in_front, line_of, lines_of, lines_say, script_behind, script_in, script_of}
 
--- the line that a text begins with, and what stands behind it
+-- the line that a text begins with, and the text after it
 abbrev pub line_in : List ℕ → List ℕ
 line_in text = before_first (λ b. b == 10) text
 
 abbrev pub rest_of : List ℕ → List ℕ
 rest_of text = after_first (λ b. b == 10) text
 
--- a byte that is no line feed stands before the first
+-- a byte that is not a line feed is put before the first line
 position-cons : (b : ℕ) (bs : List ℕ) → (b == 10) ≡ false
     → position_or_len (λ c. c == 10) (b ∷ bs) ≡ suc (position_or_len (λ c. c == 10) bs)
 position-cons b bs e = rw e (omega arith)
@@ -31,7 +31,7 @@ rest_of-cons b bs e =
 lines_of-more : (b : ℕ) (bs : List ℕ) → (b == 10) ≡ false → lines_of (b ∷ bs) ≡ begins_with b (lines_of bs)
 lines_of-more b bs e = rw e refl
 
--- the first line of a text that is not empty, and those behind it
+-- the first line of a text that is not empty, and the lines after it
 lines_of-cons : (b : ℕ) (bs : List ℕ) (is_feed : Bool) → (b == 10) ≡ is_feed
     → lines_of (b ∷ bs) ≡ line_in (b ∷ bs) ∷ lines_of (rest_of (b ∷ bs))
 lines_of-cons b bs true e = rw e refl
@@ -48,7 +48,7 @@ lines_of-first : (text : List ℕ) → 0 < length text → lines_of text ≡ lin
 lines_of-first [] h = absurd (omega arith)
 lines_of-first (b ∷ bs) h = lines_of-cons b bs (b == 10) refl
 
--- what was read, and then what the lines behind it say
+-- the items that were read, and then what the lines after them say
 abbrev pub after : List Line → Result (List Line) ℕ → Result (List Line) ℕ
 after xs (Ok ys) = Ok (xs ++ ys)
 after xs (Err bad) = Err bad
@@ -61,7 +61,7 @@ pub after-nil : (r : Result (List Line) ℕ) → after [] r ≡ r
 after-nil (Ok ys) = refl
 after-nil (Err bad) = refl
 
--- a line that was read stands behind those that were read before
+-- a line that was read comes after those that were read before
 pub one_more : (xs : List Line) (n : ℕ) (rest : List ℕ) (l : Line) → 0 < length rest → line_of (line_in rest) ≡ Some l
     → after xs (lines_say n (lines_of rest)) ≡ after (xs ++ l ∷ []) (lines_say (n + 1) (lines_of (rest_of rest)))
 one_more xs n rest l h e =
@@ -80,12 +80,12 @@ pub all_read : (xs : List Line) (n : ℕ) (rest : List ℕ) → length rest ≡ 
 all_read xs n [] h = ap (λ zs. Ok zs) (append-nil xs)
 all_read xs n (b ∷ bs) h = absurd (omega arith)
 
--- a script is its first line and those behind it
+-- a script is its first line and the lines after it
 pub script_of-first : (text : List ℕ) → script_of text ≡ script_behind (header_of (line_in text)) (lines_say 2 (lines_of (rest_of text)))
 script_of-first [] = refl
 script_of-first (b ∷ bs) = ap script_in (lines_of-cons b bs (b == 10) refl)
 
--- what a script says whose first line says nothing, and of a good first line with what is behind it
+-- a script whose first line says nothing; and a good first line with the lines after it
 pub no_group : (text : List ℕ) → header_of (line_in text) ≡ None → script_of text ≡ Err 1
 no_group text e = script_of-first text ∙ ap (λ o. script_behind o (lines_say 2 (lines_of (rest_of text)))) e
 
@@ -141,7 +141,7 @@ said_more n (r ∷ rs) xs line l e f =
     (ap (λ o. in_front o n (lines_say (n + 1) (rs ++ line ∷ []))) first
     ∙ ap (in_front (Some k) n) later) ∙ ap (λ zs. Ok (zs ++ l ∷ [])) (sym whole)
 
--- of all these lines the first say these items, and those are left
+-- the first of all these lines say these items, and the others are left
 pub record IsReadTo (all : List (List ℕ)) (xs : List Line) (left : List (List ℕ)) : Type 0 where
   pub read : List (List ℕ)
   pub whole : all ≡ read ++ left
@@ -169,7 +169,7 @@ take_first : (first : List ℕ) (read left : List (List ℕ))
     → take (suc (length read)) (first ∷ (read ++ left)) ≡ first ∷ read
 take_first first read left = ap (λ ls. first ∷ ls) (take-append_seam read left)
 
--- the next line is reached where others were read before it
+-- the next line is reached after others were read
 pub reached : (text : List ℕ) (group : ℕ × ℕ) (xs : List Line) (rest : List ℕ) (n : ℕ)
     → header_of (line_in text) ≡ Some group
     → IsReadTo (lines_of (rest_of text)) xs (lines_of rest) → 0 < length rest → n ≡ length xs + 2

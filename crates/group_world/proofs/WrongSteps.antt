@@ -1,4 +1,4 @@
--- Steps that no event makes.
+-- Steps that no event makes, for the law `wrong_steps`.
 use Rattle.std.proofs.Common.{◌≡◌, ◌≢◌, ◌∙◌, ℕ, List, [], ◌∷◌, Option, None, Some, inl, inr, sym, ap, subst, arith}
 use Rattle.std.specs.FinMap.{empty, get, get-empty, insert}
 use Rattle.std.specs.Ordering.{nat_cmp}
@@ -39,7 +39,7 @@ pub unproposed : ¬ WorldStep (first_node (runs_with empty_record empty) []) (gr
     (first_node (runs_with empty_record empty) (accepted_message 1 1 0 Noop ∷ []))
 unproposed h = no_vote (get h.now.learned) h.bodies h.rest.sent h.sends
 
--- nothing is chosen where nothing was sent
+-- nothing is chosen if nothing was sent
 none_chosen : (v : Value) → ¬ IsChosen 5 [] 0 v
 none_chosen v (b, (members, majority, each)) =
     few (members 1) (members 2) (members 3) (members 4) (members 5) (λ e. none_in _ (each 1 e))
@@ -91,7 +91,7 @@ no_way_back saved (inl none) call =
 no_way_back saved (inr some) call =
     elim (subst (CallOrFall hears gone_back 1) some call) [
       | inl made ↦ not_below made.saves
-      | inr fallen ↦ not_below fallen.1.saves
+      | inr member_after_fall ↦ not_below member_after_fall.1.saves
     ]
 
 pub lower : ¬ WorldStep hears (group.Deliver 0 1) gone_back

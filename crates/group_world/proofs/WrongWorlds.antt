@@ -1,4 +1,4 @@
--- Worlds that break the promises.
+-- Worlds that break the promises, for the law `wrong_worlds`.
 use Rattle.std.proofs.Common.{◌≡◌, ◌≢◌, ◌∙◌, ℕ, zero, suc, ◌+◌, ◌*◌, ◌<◌, Bool, true, false, IsTrue, List, [], ◌∷◌, ◌++◌, Contains, slice_get, Some, if◌then◌else◌, inl, inr, ◌⊎◌, refl, sym, ap, subst, arith, lit<}
 use Rattle.pcode_machine.specs.Prefixes.{AreComparable}
 use Rattle.pcode_machine.specs.Configuration.{Configuration}
@@ -118,7 +118,7 @@ who b i among =
       ),
     ) among b refl
 
--- where 1 and 2 are no members, and 3 is none beside 4 or 5, the members are no majority of five
+-- members without 1 and 2, and without 3 beside 4 or 5, are not a majority of five
 pub few : (a b c d e : Bool) → (a ≡ true → ⊥) → (b ≡ true → ⊥) → (c ≡ true → d ≡ true → ⊥)
     → (c ≡ true → e ≡ true → ⊥)
     → 5 < 2 * ((if e then 1 else

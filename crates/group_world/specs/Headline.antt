@@ -1,4 +1,4 @@
--- What holds of a group whatever happened to it.
+-- The claims of the main theorem: what holds of a group whatever happened to it.
 use Rattle.std.specs.Prelude.{◌≡◌, ◌≢◌, ℕ, List, Contains, Some, slice_get}
 use Rattle.std.specs.FinMap.{get}
 use Rattle.pcode_machine.specs.Prefixes.{AreComparable, IsPrefix}
@@ -11,33 +11,46 @@ use Rattle.group_node.specs.Console.{offer_answer}
 use Rattle.group_node.specs.Inputs.{IsInput}
 use Rattle.group_node.specs.World.{Up, WorldState}
 
--- node i is up, and has learned this value at this place
+-- A node `i` that is up and has learned the value `v` at place `s`.
 pub record HasLearned (w : WorldState) (i s : ℕ) (v : Value) : Type 0 where
   pub node : Up
   pub up : (w.seats i).up ≡ Some node
   pub learned : get node.learned s ≡ Some v
 
 -- No two nodes have learned different values for one place.
+-- Source: Simple 2.1, only a single value is chosen.
+-- Allows: nodes that have learned less than others.
+-- Forbids: two values at one place.
 abbrev pub LearnedAgree : WorldState → Type 0
 LearnedAgree w = (i j s : ℕ) (v u : Value) → HasLearned w i s v → HasLearned w j s u → v ≡ u
 
--- What is learned is chosen, and each of its keys was typed. (A no-op has none.)
+-- What is learned is chosen, and each of its keys was typed.
+-- Source: Simple 2.1, a value is learned only if it is chosen, and chosen only if it was proposed.
+-- Allows: a no-op, which has no key.
+-- Forbids: a key that nobody typed.
 abbrev pub LearnedChosen : WorldState → Type 0
 LearnedChosen w =
     (i s : ℕ) (v : Value) → HasLearned w i s v
     → IsChosen w.size w.sent s v × ((k : Key) → Contains (keys_of v) k → Contains w.typed k)
 
 -- Each console holds a prefix of the program's output on the chosen input.
+-- Source: Simple 3, all servers produce the same sequences of states and outputs.
+-- Allows: a console that shows nothing.
+-- Forbids: a byte that the program does not write.
 abbrev pub ConsolesHoldOutput : WorldState → Type 0
 ConsolesHoldOutput w =
     (x : List ℕ) (i : ℕ) → IsInput w.size w.sent x → IsOutput w.program x (w.seats i).console
 
 -- Of two consoles one holds a prefix of the other.
+-- Source: Simple 3, all servers produce the same sequences of states and outputs.
+-- Forbids: two histories.
 abbrev pub ConsolesAgree : WorldState → Type 0
 ConsolesAgree w = (i j : ℕ) → AreComparable (w.seats i).console (w.seats j).console
 
--- No byte that a node releases next comes too early for its console; and one that the console has
--- shown is the one that stands there.
+-- No byte that a node releases next comes too early for its console.
+-- If the console has shown a byte of that number, it is the same byte.
+-- Allows: a byte that is released again after a restart.
+-- Forbids: another byte with the same number.
 abbrev pub HasNoGap : WorldState → Type 0
 HasNoGap w =
     (i byte : ℕ) (node : Up) → (w.seats i).up ≡ Some node
@@ -48,11 +61,14 @@ HasNoGap w =
 
 -- ---- two moments of a group, the second after the first
 
--- What a node has learned for a place at the first moment, and what a node, the same or another,
--- has learned for it at the second, is one value.
+-- A value that a node has learned for a place stays the value of that place.
+-- `w` and `v` are two moments of a group, `v` the later one. In `v` the node may be the same or
+-- another.
 abbrev pub LearnedStays : WorldState → WorldState → Type 0
 LearnedStays w v = (i j s : ℕ) (a b : Value) → HasLearned w i s a → HasLearned v j s b → a ≡ b
 
--- What each console has shown at the second moment begins with what it had shown at the first.
+-- Each console shows in `v` all that it had shown in `w`, and perhaps more.
+-- `w` and `v` are two moments of a group, `v` the later one.
+-- Forbids: a byte that a console loses.
 abbrev pub ConsolesGrow : WorldState → WorldState → Type 0
 ConsolesGrow w v = (i : ℕ) → IsPrefix (w.seats i).console (v.seats i).console

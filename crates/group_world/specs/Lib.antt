@@ -1,14 +1,11 @@
-pub mod Worlds
-pub mod Events
-pub mod Goes
+pub mod Member
+pub mod Group
+pub mod Event
 pub mod Headline
 pub mod Sound
 pub mod Order
 pub mod Ordered
-pub mod Asks
-pub mod Seats
 pub mod Refusals
-pub mod Held
 pub mod Scripts
 pub mod WrongWorlds
 pub mod Witness

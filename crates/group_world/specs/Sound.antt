@@ -1,4 +1,4 @@
--- What always holds of a world, from which the claims about it follow.
+-- What always holds of a world, from which the claims about learned values and consoles follow.
 use Rattle.std.specs.Prelude.{◌≡◌, ℕ, ◌≤◌, All, List, length, Some, IfSome}
 use Rattle.std.specs.FinMap.{FinMap, get}
 use Rattle.std.specs.Ordering.{nat_cmp}
@@ -21,28 +21,30 @@ use Rattle.group_node.specs.Packets.{Datagram}
 use Rattle.group_node.specs.Ranges.{IsInRange}
 use Rattle.group_node.specs.States.{input, IsSize}
 use Rattle.group_node.specs.Steps.{AllChosen, AllTyped}
-use Rattle.group_world.specs.Worlds.{Member, Running, World, member_at, message_of, me_of, world_state}
+use Rattle.group_world.specs.Group.{me_of, member_at, message_of, World, world_state}
+use Rattle.group_world.specs.Member.{Member, Running}
 
--- a datagram that spells a message
+-- A datagram that spells a message.
 pub record IsSpelling (group : Group) (datagram : Datagram) : Type 0 where
   pub message : Msg
   pub spells : Msgs group datagram.bytes message
   pub read : message_of group datagram ≡ Some message
 
--- each learned value is chosen
+-- Learned values of which each is chosen.
 pub record IsLearnedChosen (size : ℕ) (sent : Sent) (learned : FinMap nat_cmp Value) : Type 0 where
   pub chosen : (s : ℕ) (v : Value) → get learned s ≡ Some v → IsChosen size sent s v
 
--- a console has shown output on the input of values that are chosen
+-- A console that has shown output on the input of chosen values.
 pub record IsShown (p : Parts) (size : ℕ) (sent : Sent) (console : List ℕ) : Type 0 where
   pub values : List Value
   pub chosen : AreChosen size sent values
   pub output : IsOutput p (input_of values) console
 
--- A node that is up, in a group in which that was sent and typed, with this stored record and this
--- console: it is in its ranges and backed, and has its record; what it has learned is chosen; its
--- machine runs the group's program on its learned input, and its console has shown all that it
--- released.
+-- What always holds of a node that is up.
+-- The node has its stored record `kept`, which is in its ranges and backed. What it has learned is
+-- chosen. Its machine runs the group's program on its learned input, and its console has shown all
+-- that it released.
+-- Forbids: a record that has forgotten a vote.
 pub record IsRunningSound (p : Parts) (me : Me) (sent : Sent) (typed : List Key) (kept : Record)
     (console : List ℕ) (q : Running) : Type 0 where
   pub me_is : q.known.me ≡ me
@@ -54,8 +56,8 @@ pub record IsRunningSound (p : Parts) (me : Me) (sent : Sent) (typed : List Key)
   pub replay : IsReplay (input q.known) q.progress
   pub shown : q.progress.released ≤ length console
 
--- a node, up or down: its stored record is in its ranges and backed, and its console has shown
--- output
+-- What always holds of a node, up or down.
+-- Its stored record is in its ranges and backed, and its console has shown output.
 pub record IsMemberSound (p : Parts) (me : Me) (sent : Sent) (typed : List Key)
     (m : Member) : Type 0 where
   pub ranges : IsRecord me.group.size m.kept
@@ -63,9 +65,12 @@ pub record IsMemberSound (p : Parts) (me : Me) (sent : Sent) (typed : List Key)
   pub shown : IsShown p me.group.size sent m.console
   pub running : IfSome m.node (IsRunningSound p me sent typed m.kept m.console)
 
--- A world: it has a node for each number up to its size; each datagram spells a message; what was
--- sent and the stored records grew from nothing; what was told is chosen, and what was submitted
--- was typed; and each node is sound.
+-- What always holds of a world.
+-- It has a node for each number up to its size. Each datagram spells a message. What was sent and
+-- the stored records grew from nothing. What a Tell tells is chosen, and what was submitted was
+-- typed. Each node is sound.
+-- Allows: a world in which nothing has happened.
+-- Forbids: a record that has forgotten a vote.
 pub record IsSound (w : World) : Type 0 where
   pub size : IsSize w.group.size
   pub session : IsGroup w.group

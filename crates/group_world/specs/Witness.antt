@@ -6,13 +6,12 @@ use Rattle.paxos_msg.specs.declared.message.Group.{Group}
 use Rattle.paxos_msg.specs.declared.value.Value.{Value}
 use Rattle.paxos_msg.specs.declared.value.Value.TheVariants.{Keys}
 use Rattle.paxos_msg.specs.Keys.{Key}
-use Rattle.group_world.specs.declared.event.Act.{Act}
 use Rattle.group_world.specs.declared.event.Act.TheVariants.{Press, Deliver, Campaign, Tick, Run, Release, Crash, Start}
 use Rattle.group_world.specs.declared.event.Event.{Event}
-use Rattle.group_world.specs.declared.event.Outcome.TheVariants.{FailedOld, Kept}
-use Rattle.group_world.specs.Worlds.{kept_event}
+use Rattle.group_world.specs.declared.event.Outcome.TheVariants.{FailedOld}
+use Rattle.group_world.specs.Event.{kept_event}
 
--- a program that reads one byte from unit 1, which writes it there too
+-- A program that reads one byte from unit 1, which echoes it.
 abbrev pub echoes : Parts
 echoes = record {
   name = [];
@@ -32,17 +31,19 @@ echoes = record {
       }) ∷ [];
 }
 
--- a group of one node
+-- A group of one node.
 abbrev pub one : Group
 one = record { size = 1; session = 0 }
 
--- the letter A, typed first in the second start of node 1, and as a batch
+-- The letter A, typed first in the second start of node 1.
 abbrev pub letter : Key
 letter = record { node = 1; start = 2; serial = 1; byte = 65 }
 
+-- The same key as a batch of one.
 abbrev pub letter_batch : Value
 letter_batch = Keys 1 2 1 (65 ∷ [])
 
+-- Events by which a typed key is chosen, learned and shown.
 -- The save of the first start fails. The node starts, crashes and starts again; it campaigns and
 -- hears its own Prepare and Promise; a byte is typed; it submits, proposes, accepts and learns the
 -- key; its machine reads the key and echoes it, and the byte is released.

@@ -1,5 +1,5 @@
-//! The laws of a world, over the definitions alone. Each is the contract of a function that does
-//! nothing.
+//! The laws of a world, as facts about the definitions alone. Each law is the contract of a
+//! function that does nothing.
 mod order;
 mod sound;
 mod worlds;

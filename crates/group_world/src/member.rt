@@ -1,33 +1,137 @@
-//! A node of the group: its place, and its console.
-ghost use Rattle.std.specs.Prelude.{◌≡◌, [], false, true, None, Some, IfErr, IsErrOf, OnOk, OnErr, option_map, slice_get};
+//! A node of the group: its place, up or down, and its console.
+ghost use Rattle.std.specs.Prelude.{◌≡◌, [], ◌∷◌, Bool, None, Option, Some, IfErr, IfOk, IsErrOf, MatchResult, OnOk, OnErr, option_map, slice_get, Err};
 ghost use Rattle.paxos_msg.specs.Records.{empty_record};
 ghost use Rattle.paxos_acceptor.specs.Records.{IsRecord};
 ghost use Rattle.group_node.specs.Output.{no_progress, unreleased_of};
 ghost use Rattle.group_node.specs.States.{input};
-ghost use Rattle.group_world.specs.Asks.{ask_outcome, IsOfMember, running, TakesUnlessMemory};
-ghost use Rattle.group_world.specs.Goes.{released, start_outcome};
-ghost use Rattle.group_world.specs.Seats.{PressesMember, RunsMember};
-ghost use Rattle.group_world.specs.Worlds.{Running};
+ghost use Rattle.group_world.specs.declared.event.Done.TheVariants.{Applied, Refused};
+ghost use Rattle.group_world.specs.declared.member.Place.TheVariants.{Down};
+ghost use Rattle.group_world.specs.Member.{call_of_ask, call_outcome, CallEnds, IsDone, IsOfMember, IsSettled, kept_of, call_of_press, member_after_release, Running, running, running_of, RunsMember, call_of_start, store_of};
 
-use crate::ask::Ask;
-use crate::seat::Seat;
-use group_node::{Config, Console, Node, NodeFault, Outbox};
-use paxos_acceptor::MemoryStore;
-use paxos_msg::{Record, Value};
+use crate::event::Done;
+use crate::fault::WorldFault;
+use group_node::{Config, Console, Node, NodeFault, Outbox, StartRefused};
+use paxos_acceptor::{MemoryStore, Store};
+use paxos_msg::{Record, Value, View};
 use pcode_ops::Program;
 use std::alloc::Global;
 use std::marker::Model;
+use std::mem;
+
+/// A call of a node that may send.
+#[derive(Drop)]
+pub(crate) enum Ask<'a> {
+    /// Takes this message.
+    Hear(View<'a>),
+    /// Begins its own ballot.
+    Campaign,
+    /// Does what it does from time to time.
+    Tick,
+}
+
+/// The store of a node that is down, or the node.
+pub(crate) enum Place<'a> {
+    Down(MemoryStore),
+    Up(Node<'a, MemoryStore>),
+}
+
+impl<'a> Drop for Place<'a> {
+    fn drop(self) {
+        match self {
+            Place::Down(_store) => (),
+            Place::Up(_node) => (),
+        }
+    }
+}
+
+impl<'a> Place<'a> {
+    /// Returns the node, if it is up.
+    fn node(&self) -> Option<&Node<'a, MemoryStore>>
+        ensures { option_map (λ n. running n.now) result ≡ running_of self.now }
+    {
+        match self {
+            Place::Up(node) => Some(node),
+            Place::Down(_) => None,
+        }
+    }
+
+    /// Returns the record that the next start finds.
+    fn record(&self) -> &Record
+        ensures { result.now ≡ kept_of self.now }
+    {
+        match self {
+            Place::Up(node) => node.record(),
+            Place::Down(store) => store.stored(),
+        }
+    }
+
+    /// Takes what is here, and leaves an empty store for a moment. It takes no memory.
+    fn taken(&mut self, alloc: Global) -> Place<'a>
+        ensures { result ≡ self.old }
+    {
+        mem::replace(self, Place::Down(MemoryStore::new(Record::new(alloc))))
+    }
+
+    /// Returns the store of the place.
+    fn into_store(self) -> MemoryStore
+        ensures { result ≡ store_of self.entry }
+    {
+        match self {
+            Place::Up(node) => node.into_store(),
+            Place::Down(store) => store,
+        }
+    }
+
+    /// Puts `place` here.
+    fn put(&mut self, place: Place<'a>)
+        ensures { self.new ≡ place.entry }
+    {
+        *self = place;
+    }
+
+    /// Takes the node down. Its store stays.
+    fn crash(&mut self, alloc: Global)
+        ensures { self.new ≡ Down (store_of self.old) }
+    {
+        let store = self.taken(alloc).into_store();
+        self.put(Place::Down(store));
+    }
+
+    /// Ends a call that the node answered with `answer`: after a failed save it takes the node
+    /// down. Returns what the event did. Fails with `Memory` if the call ran out of memory.
+    fn settle(&mut self, alloc: Global, answer: Result<(), NodeFault>) -> Result<Done, WorldFault>
+        ensures fell { IsErrOf answer NodeFault.Store → self.new ≡ Down (store_of self.old) }
+        ensures stays { ¬ IsErrOf answer NodeFault.Store → self.new ≡ self.old }
+        ensures settled { (¬ IsErrOf answer NodeFault.Store → IsSettled self.old)
+            → IsSettled self.new }
+        ensures done { IfOk result (λ d. IsDone answer d) }
+        ensures memory { OnErr result (answer ≡ Err NodeFault.Memory) }
+        ensures fault { IfErr result (λ e. e ≡ WorldFault.Memory) }
+    {
+        match answer {
+            Ok(()) => Ok(Done::Applied),
+            Err(fault) => match fault {
+                NodeFault::Memory => Err(WorldFault::Memory),
+                NodeFault::Store => {
+                    self.crash(alloc);
+                    Ok(Done::Fell)
+                }
+                _ => Ok(Done::Refused(fault)),
+            },
+        }
+    }
+}
 
 /// A node of the group, up or down, and its console, which outlives it.
 pub(crate) struct Member<'a> {
-    seat: Seat<'a>,
+    place: Place<'a>,
     console: Console,
 }
 
 impl<'a> Drop for Member<'a> {
     fn drop(self) {
         let Member {
-            seat: _seat,
+            place: _place,
             console: _console,
         } = self;
     }
@@ -36,60 +140,52 @@ impl<'a> Drop for Member<'a> {
 impl<'a> Model for Member<'a> {
     ghost use Rattle.std.specs.Coded.{codes};
     ghost use Rattle.paxos_learner.specs.Codes.{learner_code};
-    ghost use Rattle.group_world.specs.Seats.{IsSettled, member_of};
-    ghost use Rattle.group_world.specs.Worlds as worlds;
+    ghost use Rattle.group_world.specs.Member as state;
 
-    ghost Value = { worlds.Member };
+    ghost Value = { state.Member };
 
     ghost coded = { Prim.hlevel (codes, learner_code) };
 
-    ghost view = { λ m. member_of m.seat m.console.bytes };
+    ghost view = { λ m. state.member_of m.place m.console.bytes };
 
-    ghost invariant = { λ m. IsSettled m.seat };
-}
-
-/// Whether a save has failed.
-fn is_device(answer: &Result<(), NodeFault>) -> bool
-    ensures yes { result ≡ true → IsErrOf answer.now NodeFault.Store }
-    ensures no { result ≡ false → ¬ IsErrOf answer.now NodeFault.Store }
-{
-    matches!(answer, Err(NodeFault::Store))
+    ghost invariant = { λ m. state.IsSettled m.place };
 }
 
 impl<'a> Member<'a> {
-    /// A node that is down, with the empty record, and a console that has shown nothing. It takes
-    /// no memory.
+    /// Makes a node that is down, with the empty record, and a console that has shown nothing. It
+    /// takes no memory.
     pub(crate) fn new(alloc: Global) -> Member<'a>
         ensures { result ≡ record { kept = empty_record; console = []; node = None } }
     {
         Member {
-            seat: Seat::Down(MemoryStore::new(Record::new(alloc))),
+            place: Place::Down(MemoryStore::new(Record::new(alloc))),
             console: Console::new(alloc),
         }
     }
 
-    /// The node, where it is up.
+    /// Returns the node, if it is up.
     pub(crate) fn node(&self) -> Option<&Node<'a, MemoryStore>>
         ensures { option_map (λ n. running n.now) result ≡ self.now.node }
     {
-        self.seat.node()
+        self.place.node()
     }
 
-    /// The record that a start finds.
+    /// Returns the record that the next start finds.
     pub(crate) fn record(&self) -> &Record
         ensures { result.now ≡ self.now.kept }
     {
-        self.seat.record()
+        self.place.record()
     }
 
-    /// What its console has shown.
+    /// Returns what its console has shown.
     pub(crate) fn console(&self) -> &[u8]
         ensures { result.now ≡ self.now.console }
     {
         self.console.bytes()
     }
 
-    /// Starts the node, which is down. Its save is to fail so, if at all.
+    /// Starts the node, which is down. `plan` says whether its save fails, and what the store then
+    /// keeps. Fails with `Memory` if memory runs out; then nothing has changed.
     #[tactic(none)]
     pub(crate) fn start(
         &mut self,
@@ -97,42 +193,64 @@ impl<'a> Member<'a> {
         program: &'a Program,
         config: Config,
         plan: Option<bool>,
-    ) -> Result<(), NodeFault>
+    ) -> Result<Done, WorldFault>
         requires down { self.old.node ≡ None }
         requires ranges { IsRecord config.group.size self.old.kept }
-        ensures takes { TakesUnlessMemory plan config (no_progress program.now) self.old self.new
-            (start_outcome config self.old.kept) [] result }
+        ensures ends { IfOk result (λ d. CallEnds config self.old (no_progress program.now)
+            (call_outcome plan self.old.kept (call_of_start config self.old.kept))
+            d self.new [] []) }
+        ensures err { OnErr result (self.new ≡ self.old) }
+        ensures memory { IfErr result (λ e. e ≡ WorldFault.Memory) }
     {
-        self.seat.start(alloc, program, config, plan)
+        let mut store = self.place.taken(alloc).into_store();
+        store.fail_next(plan);
+        match Node::start(alloc, program, config, store) {
+            Ok(node) => {
+                self.place.put(Place::Up(node));
+                Ok(Done::Applied)
+            }
+            Err(StartRefused { fault, store }) => {
+                self.place.put(Place::Down(store));
+                self.place.settle(alloc, Err(fault))
+            }
+        }
     }
 
-    /// The node falls. Its record and its console stay.
+    /// Takes the node down. Its record and its console stay.
     #[tactic(none)]
     pub(crate) fn crash(&mut self, alloc: Global)
         ensures { self.new ≡ record self.old { node = None } }
     {
-        self.seat.crash(alloc);
+        self.place.crash(alloc);
     }
 
-    /// A byte is typed at the node, which is up. It answers the key.
+    /// Types `byte` at the node, which is up, and returns the key. Fails with `Busy` or
+    /// `SerialSpent`; then nothing has changed.
     #[tactic(none)]
     pub(crate) fn press(&mut self, byte: u8) -> Result<Value, NodeFault>
         requires up { (q : Running) × (self.old.node ≡ Some q) }
-        ensures presses { (q : Running) → self.old.node ≡ Some q
-            → PressesMember self.old q byte self.new result }
+        ensures ends { (q : Running) → self.old.node ≡ Some q → (plan : Option Bool)
+            → MatchResult result
+            (λ v. CallEnds q.known.me self.old q.progress
+            (call_outcome plan self.old.kept (call_of_press q.known byte))
+            Applied self.new [] (v ∷ []))
+            (λ f. CallEnds q.known.me self.old q.progress
+            (call_outcome plan self.old.kept (call_of_press q.known byte))
+            (Refused f) self.new [] []) }
     {
-        match &mut self.seat {
-            Seat::Up(node) => {
+        match &mut self.place {
+            Place::Up(node) => {
                 // At most 256 keys wait.
                 let _waiting = node.waiting();
                 node.typed(byte)
             }
-            Seat::Down(_) => unreachable!(),
+            Place::Down(_) => unreachable!(),
         }
     }
 
-    /// The node, which is up, is asked, and its save, if it makes one, fails so, if at all. After a
-    /// save that failed it is down.
+    /// Makes a call of the node, which is up. `plan` says whether its save fails, and what the
+    /// store then keeps; after a failed save the node is down. Fails with `Memory` if memory runs
+    /// out; then nothing has changed.
     #[tactic(none)]
     pub(crate) fn ask(
         &mut self,
@@ -140,60 +258,77 @@ impl<'a> Member<'a> {
         ask: &Ask<'_>,
         plan: Option<bool>,
         outbox: &mut Outbox,
-    ) -> Result<(), NodeFault>
+    ) -> Result<Done, WorldFault>
         requires up { (q : Running) × (self.old.node ≡ Some q) × IsOfMember q.known ask.now }
         requires empty { outbox.old.packets ≡ [] }
-        ensures takes { (q : Running) → self.old.node ≡ Some q
-            → TakesUnlessMemory plan q.known.me q.progress self.old self.new
-            (ask_outcome q.known ask.now) outbox.new.packets result }
+        ensures ends { (q : Running) → self.old.node ≡ Some q
+            → IfOk result (λ d. CallEnds q.known.me self.old q.progress
+            (call_outcome plan self.old.kept (call_of_ask q.known ask.now))
+            d self.new outbox.new.packets []) }
+        ensures err { OnErr result ((self.new ≡ self.old) × (outbox.new.packets ≡ [])) }
+        ensures memory { IfErr result (λ e. e ≡ WorldFault.Memory) }
     {
-        let answer = match &mut self.seat {
-            Seat::Up(node) => ask.planned(node, plan, outbox),
-            Seat::Down(_) => unreachable!(),
-        };
-        if is_device(&answer) {
-            self.seat.crash(alloc);
+        match &mut self.place {
+            Place::Up(node) => {
+                node.fail_next(plan);
+                match ask {
+                    Ask::Hear(view) => {
+                        let answer = node.on_message(view, outbox);
+                        self.place.settle(alloc, answer)
+                    }
+                    Ask::Campaign => {
+                        let answer = node.campaign(outbox);
+                        self.place.settle(alloc, answer)
+                    }
+                    Ask::Tick => {
+                        let answer = node.tick(outbox);
+                        self.place.settle(alloc, answer)
+                    }
+                }
+            }
+            Place::Down(_) => unreachable!(),
         }
-        answer
     }
 
-    /// The machine of the node, which is up, makes so many steps at most.
+    /// Runs the machine of the node, which is up, for at most `steps` steps.
     #[tactic(none)]
     pub(crate) fn run(&mut self, steps: u32)
         requires up { (q : Running) × (self.old.node ≡ Some q) }
         ensures runs { (q : Running) → self.old.node ≡ Some q
             → RunsMember self.old q steps self.new }
     {
-        match &mut self.seat {
-            Seat::Up(node) => {
+        match &mut self.place {
+            Place::Up(node) => {
                 let _ran = node.run(steps);
                 let _waits = node.unreleased();
             }
-            Seat::Down(_) => unreachable!(),
+            Place::Down(_) => unreachable!(),
         }
     }
 
-    /// The node, which is up, releases a byte to its console, if one waits. For want of memory
-    /// nothing changes.
+    /// Releases a byte of the node, which is up, to its console, if one waits. Fails with `Memory`
+    /// if memory runs out; then nothing has changed.
     #[tactic(none)]
-    pub(crate) fn release(&mut self) -> Result<(), NodeFault>
+    pub(crate) fn release(&mut self) -> Result<Done, WorldFault>
         requires up { (q : Running) × (self.old.node ≡ Some q) }
         ensures ok { (q : Running) → self.old.node ≡ Some q
             → OnOk result (self.new
-            ≡ released self.old q (slice_get (unreleased_of (input q.known) q.progress) 0)) }
+            ≡ member_after_release self.old q
+            (slice_get (unreleased_of (input q.known) q.progress) 0)) }
+        ensures done { IfOk result (λ d. d ≡ Applied) }
         ensures err { OnErr result (self.new ≡ self.old) }
-        ensures memory { IfErr result (λ e. e ≡ NodeFault.Memory) }
+        ensures memory { IfErr result (λ e. e ≡ WorldFault.Memory) }
     {
         if self.console.reserve().is_err() {
-            return Err(NodeFault::Memory);
+            return Err(WorldFault::Memory);
         }
-        let next = match &mut self.seat {
-            Seat::Up(node) => node.release(),
-            Seat::Down(_) => unreachable!(),
+        let next = match &mut self.place {
+            Place::Up(node) => node.release(),
+            Place::Down(_) => unreachable!(),
         };
         if let Some((number, byte)) = next {
             let _shown = self.console.offer(number, byte);
         }
-        Ok(())
+        Ok(Done::Applied)
     }
 }

@@ -1,11 +1,11 @@
 //! Lists of events.
 ghost use Rattle.std.specs.Prelude.{IfErr, IfOk};
 ghost use Rattle.group_node.specs.States.{IsSize};
-ghost use Rattle.group_world.specs.Goes.{LeadsBy};
+ghost use Rattle.group_world.specs.Event.{LeadsBy};
+ghost use Rattle.group_world.specs.Group.{new_world, world_state};
+ghost use Rattle.group_world.specs.Refusals.{IsRunRefused};
 ghost use Rattle.group_world.specs.Headline.{ConsolesAgree, ConsolesHoldOutput, HasNoGap, LearnedAgree, LearnedChosen};
 ghost use Rattle.group_world.specs.Order.{KeysOnce, SerialsInOrder};
-ghost use Rattle.group_world.specs.Refusals.{IsRunRefused};
-ghost use Rattle.group_world.specs.Worlds.{new_world, world_state};
 
 use crate::event::Event;
 use crate::fault::RunFault;
@@ -14,15 +14,17 @@ use crate::world::World;
 use pcode_ops::Program;
 use std::alloc::Global;
 
-/// What comes of a list of events that happen, one after the other, to a group in which nothing has
-/// happened. The main theorem stands here: whatever the events, no two nodes have learned different
-/// values for one place; what is learned is chosen, and was typed or is a no-op; each console holds
+/// Performs a list of events, one after the other, on a group in which nothing has happened, and
+/// returns the group after them.
+///
+/// The contract is the main theorem. Whatever the events, no two nodes have learned different
+/// values for one place. What is learned is chosen, and was typed or is a no-op. Each console holds
 /// a prefix of the program's output on the chosen input; so of two consoles one holds a prefix of
-/// the other; no released byte comes too early; each typed key is read once, and the keys of a
+/// the other. No released byte comes too early. Each typed key is read once, and the keys of a
 /// start in the order in which they were typed.
 ///
-/// It ends at the first event that is refused, with its number and refusal. `Size` where the size
-/// is even or above 9, and `Memory` where there is none for the group; then the number is 0.
+/// Fails at the first event that is refused, with its number and refusal. Fails at number 0 with
+/// `Size` if the size is even or above 9, and with `Memory` if memory runs out for the group.
 pub fn run<'a>(
     alloc: Global,
     program: &'a Program,

@@ -1,4 +1,4 @@
-//! Scripts: what happens to a group, as text.
+//! Scripts: events of a group as text.
 ghost use Rattle.std.specs.Prelude.{◌≡◌, IfErr, IfOk, Ok, Err, false, true};
 ghost use Rattle.group_world.specs.Scripts.{IsReached, script_of};
 
@@ -9,15 +9,15 @@ use reading::{first_line, read_header, read_line};
 use std::alloc::Global;
 use thiserror::Error;
 
-/// A line of a script but for its first.
+/// A line of a script other than its first.
 #[derive(Clone, Copy, Debug, PartialEq, Eq)]
 pub enum Line {
     /// An event of the group.
     Act(Event),
-    /// All messages that no earlier `settle` passed are delivered, with those that they cause; then
-    /// all nodes that are up run and release.
+    /// Delivers all messages that no earlier `settle` has delivered, with those that they cause;
+    /// then runs and releases all nodes that are up.
     Settle,
-    /// The state of the group is printed.
+    /// Prints the state of the group.
     Show,
 }
 
@@ -27,7 +27,7 @@ pub struct Script {
     pub size: u8,
     /// The group's session.
     pub session: u32,
-    /// What happens, in order: the item `i` is line `i + 2` of the text.
+    /// What happens, in order. Item `i` is line `i + 2` of the text.
     pub lines: Vec<Line>,
 }
 
@@ -45,25 +45,25 @@ impl Drop for Script {
 #[derive(Clone, Copy, Debug, PartialEq, Eq, Error)]
 #[error("line {line}")]
 pub struct ScriptFault {
-    /// The first line that is none of a script, or that there was no memory for. Lines are counted
-    /// from 1.
+    /// The number, counted from 1, of the first line that is not a line of a script, or at which
+    /// memory ran out.
     pub line: usize,
-    /// Whether there was no memory for the line.
+    /// True if memory ran out at the line.
     pub memory: bool,
 }
 
-/// The script that a text spells.
+/// Reads the script that `text` spells.
 ///
 /// Line 1 is `size N session K`. Each further line is `start N`, `crash N`, `campaign N`, `tick N`,
-/// `type N HH`, `deliver M N`, `run N STEPS` or `release N`, each with ` failold` or ` failnew`
-/// behind it where its save is to fail; `settle`; or `show`. One space stands between two words.
+/// `type N HH`, `deliver M N`, `run N STEPS` or `release N`, each followed by ` failold` or
+/// ` failnew` if its save is to fail; `settle`; or `show`. One space separates two words.
 /// Numbers are decimal digits, which may begin with zeros: N up to 255, K and STEPS up to
 /// 4,294,967,295, M up to `usize::MAX`. HH is a byte in two hexadecimal digits of either case. Each
-/// line ends in a line feed, which the last may lack. Whether there is such a node or message is
-/// for the world to say.
+/// line ends in a line feed, which the last may lack. A line may name a node or message that does
+/// not exist: `World::apply` refuses it.
 ///
-/// The fault is of the first line that is none of these, which is line 1 of an empty text, or of a
-/// line that there was no memory for: then the text has this line, and the lines before it are a
+/// Fails at the first line that is none of these, which is line 1 of an empty text. Fails also at a
+/// line for which memory runs out: then the text has this line, and the lines before it are a
 /// script.
 pub fn read_script(alloc: Global, text: &str) -> Result<Script, ScriptFault>
     ensures read { IfOk result

@@ -1,19 +1,19 @@
-//! A group and what happened to it.
+//! A group whose invariant is known: after each event the claims of the main theorem hold.
 ghost use Rattle.std.specs.Prelude.{◌≡◌, ◌↔◌, ◌⊎◌, [], None, length, option_and_then, option_map, slice_get, IfErr, IfOk, IsErrOf, OnErr, OnOk};
 ghost use Rattle.group_node.specs.States.{IsSize};
-ghost use Rattle.group_world.specs.Asks.{running};
-ghost use Rattle.group_world.specs.Goes.{Goes, LeadsBy, IsStep};
+ghost use Rattle.group_world.specs.Event.{Goes, IsStep};
+ghost use Rattle.group_world.specs.Group.{member_at, new_world, world_state};
+ghost use Rattle.group_world.specs.Member.{running};
+ghost use Rattle.group_world.specs.Refusals.{IsRefused, refusal};
 ghost use Rattle.group_world.specs.Headline.{ConsolesAgree, ConsolesGrow, ConsolesHoldOutput, HasNoGap, LearnedAgree, LearnedChosen, LearnedStays};
 ghost use Rattle.group_world.specs.Order.{KeysOnce, SerialsInOrder};
-ghost use Rattle.group_world.specs.Refusals.{IsFirstRefused, IsRefused, refusal};
-ghost use Rattle.group_world.specs.Worlds.{new_world, member_at, world_state};
 
 use crate::event::{Done, Event};
-use crate::fault::{RunFault, WorldFault};
+use crate::fault::WorldFault;
+use crate::group::GroupState;
 use crate::laws::{
     events_keep_it_sound, events_keep_order, ordered_worlds_are_orderly, sound_worlds_agree,
 };
-use crate::table::Table;
 use group_node::{Node, Packet};
 use paxos_acceptor::MemoryStore;
 use paxos_msg::laws::{agreement, sent_only_grows};
@@ -23,37 +23,39 @@ use std::alloc::Global;
 use std::marker::Model;
 
 /// A group of 1, 3, 5, 7 or 9 nodes that run one program, all that they have sent, and all that was
-/// typed. Its nodes are real ones, each over a store in memory, and what they send are datagrams,
-/// which a delivery reads again.
+/// typed. Each node is a real one over a store in memory. What nodes send are datagrams, which a
+/// delivery reads again.
 pub struct World<'a> {
-    table: Table<'a>,
+    group: GroupState<'a>,
 }
 
 impl<'a> Drop for World<'a> {
     fn drop(self) {
-        let World { table: _table } = self;
+        let World { group: _group } = self;
     }
 }
 
 impl<'a> Model for World<'a> {
     ghost use Rattle.std.specs.Coded.{codes};
     ghost use Rattle.paxos_learner.specs.Codes.{learner_code};
-    ghost use Rattle.group_world.specs.Held.{Holds};
-    ghost use Rattle.group_world.specs.Worlds as worlds;
+    ghost use Rattle.group_world.specs.Ordered.{Holds};
+    ghost use Rattle.group_world.specs.Group as state;
 
-    ghost Value = { worlds.World };
+    ghost Value = { state.World };
 
     ghost coded = { Prim.hlevel (codes, learner_code) };
 
-    ghost view = { λ w. w.table };
+    ghost view = { λ w. w.group };
 
-    ghost invariant = { λ w. Holds w.table };
+    ghost invariant = { λ w. Holds w.group };
 }
 
 impl<'a> World<'a> {
-    /// A group of so many nodes in which nothing has happened: all are down, with empty records,
-    /// and their consoles have shown nothing. The session is a number that tells groups apart.
-    /// `Size` where the size is even or above 9, and else `Memory`.
+    /// Makes a group of `size` nodes in which nothing has happened: all are down, with empty
+    /// records, and their consoles have shown nothing. `session` is a number that distinguishes
+    /// groups.
+    ///
+    /// Fails with `Size` if `size` is even or above 9, and else with `Memory` if memory runs out.
     pub fn new(
         alloc: Global,
         program: &'a Program,
@@ -71,18 +73,18 @@ impl<'a> World<'a> {
         if size % 2 == 0 || size > 9 {
             return Err(WorldFault::Size);
         }
-        match Table::new(alloc, program, Group { size, session }) {
-            Ok(table) => Ok(World { table }),
+        match GroupState::new(alloc, program, Group { size, session }) {
+            Ok(group) => Ok(World { group }),
             Err(_) => Err(WorldFault::Memory),
         }
     }
 
-    /// One event happens. Each but a crash is that call of its node, and the node's save, if it
-    /// makes one, goes as the event says.
+    /// Performs one event. Each event but a crash is that call of its node. If the node saves, the
+    /// save succeeds or fails as the event says.
     ///
-    /// `NoNode` where the group has no such node; else `NoMessage` where no message of that number
-    /// was sent; else `NodeDown` where the node is down, or at a start `NodeUp` where it is up;
-    /// else `Memory` for want of memory. After a refusal nothing has changed.
+    /// Fails with `NoNode` if the group has no such node; else with `NoMessage` if no message of
+    /// that number was sent; else with `NodeDown` if the node is down, or at a start with `NodeUp`
+    /// if it is up; else with `Memory` if memory runs out. Then nothing has changed.
     #[tactic(none)]
     pub fn apply(&mut self, event: &Event) -> Result<Done, WorldFault>
         ensures goes { IfOk result (λ d. Goes self.old event.now d self.new) }
@@ -107,53 +109,53 @@ impl<'a> World<'a> {
         ordered_worlds_are_orderly();
         agreement();
         sent_only_grows();
-        self.table.apply(event)
+        self.group.apply(event)
     }
 
-    /// How many messages were sent.
+    /// Returns how many messages were sent.
     pub fn sent(&self) -> usize
         ensures { result ≡ length self.now.sent }
     {
-        self.table.sent.len()
+        self.group.sent.len()
     }
 
-    /// The message with this number, counted from 0 in the order in which they were sent: its
-    /// datagram, and to whom it goes.
+    /// Returns the message with the number `number`: its datagram, and to whom it goes. Messages
+    /// are counted from 0 in the order in which they were sent.
     pub fn message(&self, number: usize) -> Option<&Packet>
         ensures { option_map (λ packet. packet.now) result ≡ slice_get self.now.sent number }
     {
-        self.table.sent.get(number)
+        self.group.sent.get(number)
     }
 
-    /// The typed key with this number, counted from 0 in the order in which they were typed, as a
-    /// batch of one.
+    /// Returns the typed key with the number `number`, as a batch of one. Keys are counted from 0
+    /// in the order in which they were typed.
     pub fn typed(&self, number: usize) -> Option<Value>
         ensures { result ≡ slice_get self.now.typed number }
     {
-        self.table.typed.get(number).copied()
+        self.group.typed.get(number).copied()
     }
 
-    /// What the node's console has shown, if there is such a node.
+    /// Returns the bytes that the console of `node` has shown, if there is such a node.
     pub fn console(&self, node: u8) -> Option<&[u8]>
         ensures { option_map (λ bytes. bytes.now) result
             ≡ option_map (λ m. m.console) (member_at self.now.members node) }
     {
-        Some(self.table.member(node)?.console())
+        Some(self.group.member(node)?.console())
     }
 
-    /// The node, if there is one and it is up.
+    /// Returns the node with the number `node`, if there is one and it is up.
     pub fn node(&self, node: u8) -> Option<&Node<'a, MemoryStore>>
         ensures { option_map (λ n. running n.now) result
             ≡ option_and_then (λ m. m.node) (member_at self.now.members node) }
     {
-        self.table.member(node)?.node()
+        self.group.member(node)?.node()
     }
 
-    /// The record that the node's next start finds, if there is such a node.
+    /// Returns the record that the next start of `node` finds, if there is such a node.
     pub fn record(&self, node: u8) -> Option<&Record>
         ensures { option_map (λ r. r.now) result
             ≡ option_map (λ m. m.kept) (member_at self.now.members node) }
     {
-        Some(self.table.member(node)?.record())
+        Some(self.group.member(node)?.record())
     }
 }

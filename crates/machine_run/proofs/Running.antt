@@ -15,7 +15,7 @@ use Rattle.machine_run.specs.declared.run.Finish.TheVariants as finish
 use Rattle.machine_run.specs.Streams.{Streams, HasMoved, HasNoFault, HasReadFault, HasWriteFault}
 use Rattle.machine_run.specs.Run.{LosesByte, HaltsFor, HasRunOn, IsRunOver, Rests, RunsProgram, Turns, Reached}
 
--- the laws of runs that a run stands on
+-- the laws of runs that a run rests on
 pub record Laws : Type 0 where
   pub longer : (p : Parts) (x y : List ℕ) (n : ℕ) (c : Configuration) → LeadsIn p x n c → LeadsIn p (x ++ y) n c
   pub there : (p : Parts) (x : List ℕ) (n : ℕ) (c : Configuration) → LeadsIn p x n c → after_steps p x n ≡ c
@@ -91,7 +91,7 @@ reached_on {p} {q} {from} {to} {n} {s} {t} k laws e r h =
       faultless = r.faultless;
     }
 
--- ---- what was reached, as the run tells it
+-- ---- what was reached, as the run says
 
 run_of : {p : Parts} {from to : Streams} {n : ℕ} {s : State} → Laws → (r : Reached p from to n s) → HasRunOn p r.input n
 run_of {p} {from} {to} {n} {s} laws r =

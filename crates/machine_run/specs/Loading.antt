@@ -7,7 +7,8 @@ use Rattle.pcode_ops.specs.Reach.{IsRefusal}
 use Rattle.machine_run.specs.declared.refusal.MachineRefusal.{MachineRefusal}
 use Rattle.machine_run.specs.declared.refusal.MachineRefusal.TheVariants.{CodeFile, Load}
 
--- why these bytes are no program: they are no code file, or one that is not loaded
+-- The refusal of bytes that are no program: they are no code file, or one that is not loaded.
+-- Forbids: a refusal that is not of the file itself, such as of a read.
 abbrev pub IsNoProgram : List ℕ → MachineRefusal → Type 0
 IsNoProgram bytes (CodeFile fault) = GivesUnlessMemory {X = Parts} (Err fault) (read_from bytes)
 IsNoProgram bytes (Load fault) = (p : Parts) × InFile bytes p × IsRefusal p fault

@@ -15,12 +15,12 @@ use Rattle.machine_run.specs.declared.run.RunIo.{RunIo}
 use Rattle.machine_run.specs.declared.run.RunIo.TheVariants as io
 use Rattle.machine_run.specs.Streams.{Streams, HasMoved, HasNoFault, HasReadFault, HasWriteFault}
 
--- n steps on an input, each of which exists, have taken all of it
+-- A run of n steps on an input, which exist and have taken all of it.
 pub record HasRunOn (p : Parts) (input : List ℕ) (n : ℕ) : Type 0 where
   pub made : LeadsIn p input n (after_steps p input n)
   pub taken : (after_steps p input n).read ≡ length input
 
--- why a run of at most so many steps was over after n of them
+-- Why a run of at most `steps` steps was over after n of them.
 abbrev pub IsRunOver : Parts → Option (List ℕ) → List ℕ → ℕ → ℕ → Finish → Type 0
 IsRunOver p r input n steps finish.Steps = n ≡ steps
 IsRunOver p r input n steps finish.Normal =
@@ -30,8 +30,8 @@ IsRunOver p r input n steps (finish.Error e) =
 IsRunOver p r input n steps finish.Waits =
     (n < steps) × (outcome p input (after_steps p input n) ≡ Waiting) × IsAtEnd r
 
--- The run is over: n steps took all bytes that were read, their output was written, and nothing
--- failed.
+-- A run that is over and met no fault.
+-- Its n steps took all bytes that were read, and their output was written.
 pub record Finishes (p : Parts) (from to : Streams) (steps : ℕ) (f : Finish) : Type 0 where
   pub input : List ℕ
   pub n : ℕ
@@ -40,8 +40,8 @@ pub record Finishes (p : Parts) (from to : Streams) (steps : ℕ) (f : Finish) :
   pub faultless : HasNoFault from to
   pub over : IsRunOver p to.reader input n steps f
 
--- A read failed: fewer steps than were allowed took all bytes that were read, their output was
--- written, and the machine waits.
+-- A run that ended at a failed read, while the machine waited.
+-- Fewer steps than were allowed took all bytes that were read, and their output was written.
 pub record FailsToRead (p : Parts) (from to : Streams) (steps : ℕ) : Type 0 where
   pub input : List ℕ
   pub n : ℕ
@@ -51,9 +51,9 @@ pub record FailsToRead (p : Parts) (from to : Streams) (steps : ℕ) : Type 0 wh
   pub waits : outcome p input (after_steps p input n) ≡ Waiting
   pub fault : HasReadFault from to
 
--- A write failed: of fewer steps than were allowed the output was written, and not the byte that
--- the next step writes. All bytes that were read were taken by these steps, or are the one that the
--- next step takes.
+-- A run that ended at a failed write, of the byte that the next step writes.
+-- Fewer steps than were allowed were made, and their output was written. They took all bytes that
+-- were read, except one that the next step takes.
 pub record FailsToWrite (p : Parts) (from to : Streams) (steps : ℕ) : Type 0 where
   pub input : List ℕ
   pub n : ℕ
@@ -68,7 +68,9 @@ pub record FailsToWrite (p : Parts) (from to : Streams) (steps : ℕ) : Type 0 w
   pub moved : HasMoved from to (input ++ option_to_list took) (out p input n)
   pub fault : HasWriteFault from to
 
--- what a run of at most so many steps does; without memory it does nothing
+-- What a run of at most `steps` steps does to a reader and a writer, for each answer.
+-- Allows: that memory runs out; then nothing has happened.
+-- Forbids: output that is not of the steps, and a finish that the machine has not reached.
 abbrev pub RunsProgram : Parts → Streams → Streams → ℕ → Result Finish RunIo → Type 0
 RunsProgram p from to steps (Ok f) = Finishes p from to steps f
 RunsProgram p from to steps (Err io.Memory) = to ≡ from
@@ -77,21 +79,21 @@ RunsProgram p from to steps (Err io.Write) = FailsToWrite p from to steps
 
 -- ---- one turn of the run, as the machine's state sees it
 
--- no step is made, for this reason of the machine's
+-- The reason of the machine's why no step is made.
 abbrev pub HaltsFor : Parts → State → Option (List ℕ) → Finish → Type 0
 HaltsFor p s r finish.Normal = EndsBy p s ends.Normal
 HaltsFor p s r (finish.Error e) = EndsBy p s e × (e ≢ ends.Normal)
 HaltsFor p s r finish.Waits = WaitsOn p s × IsAtEnd r
 HaltsFor p s r finish.Steps = ⊥
 
--- a turn of at most so many steps is over after n of them: all were made, or the machine makes none
+-- A turn of at most `most` steps that is over after n: all were made, or the machine makes none.
 abbrev pub Rests : Parts → ℕ → ℕ → State → Option (List ℕ) → Finish → Type 0
 Rests p most n s r finish.Steps = n ≡ most
 Rests p most n s r finish.Normal = (n < most) × HaltsFor p s r finish.Normal
 Rests p most n s r (finish.Error e) = (n < most) × HaltsFor p s r (finish.Error e)
 Rests p most n s r finish.Waits = (n < most) × HaltsFor p s r finish.Waits
 
--- a byte could not be written: that of a step which takes the byte that was read, if one was
+-- A byte that could not be written, of a step that takes the byte that was read, if one was.
 pub record LosesByte (p : Parts) (old new : State) (from to : Streams) : Type 0 where
   pub took : Option ℕ
   pub byte : ℕ
@@ -99,8 +101,9 @@ pub record LosesByte (p : Parts) (old new : State) (from to : Streams) : Type 0 
   pub moved : HasMoved from to (option_to_list took) []
   pub fault : HasWriteFault from to
 
--- One turn of the run, of at most so many steps: some that read and write nothing, and then one
--- that takes or writes a byte, a finish, or a fault.
+-- One turn of the run, of at most `most` steps.
+-- Some steps read and write nothing. Then one takes or writes a byte, or the run is over, or a
+-- fault ends it.
 abbrev pub Turns : Parts → ℕ → State → State → Streams → Streams → Result (ℕ × Option Finish) RunIo
     → Type 0
 Turns p most old new from to (Ok (n, None)) =
@@ -117,7 +120,7 @@ Turns p most old new from to (Err io.Read) =
 Turns p most old new from to (Err io.Write) =
     (k : ℕ) × (mid : State) × (k < most) × AreQuiet p k old mid × LosesByte p mid new from to
 
--- n steps were made, on some input, up to this state of the machine, and nothing has failed
+-- The state after n steps on some input, without a fault.
 pub record Reached (p : Parts) (from to : Streams) (n : ℕ) (s : State) : Type 0 where
   pub input : List ℕ
   pub output : List ℕ
@@ -125,7 +128,7 @@ pub record Reached (p : Parts) (from to : Streams) (n : ℕ) (s : State) : Type 
   pub moved : HasMoved from to input output
   pub faultless : HasNoFault from to
 
--- how a run is over where the program has ended
+-- The finish of a run whose program has ended.
 abbrev pub finish_of : End → Finish
 finish_of ends.Normal = finish.Normal
 finish_of (ends.Error number procedure at) = finish.Error (ends.Error number procedure at)

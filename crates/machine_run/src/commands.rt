@@ -1,4 +1,4 @@
-//! What the commands `check`, `list` and `run` do with a code file.
+//! The work of the commands `check`, `list` and `run` on a code file.
 use crate::files::read_file;
 use crate::loading::load;
 use crate::refusal::MachineRefusal;
@@ -9,7 +9,7 @@ use std::alloc::Global;
 use std::io::{self, BufWriter, Read, Write};
 use std::rt::Files;
 
-/// Runs the program of a code file's bytes.
+/// Runs the program of a code file's bytes, for at most `steps` steps.
 pub fn run_bytes<R: Read, W: Write>(
     alloc: Global,
     bytes: &[u8],
@@ -23,7 +23,7 @@ pub fn run_bytes<R: Read, W: Write>(
     Ok(run_program(alloc, &mut reader, &mut writer, &program, steps)?)
 }
 
-/// Runs the program of a code file for at most this many steps.
+/// Runs the program of a code file for at most `steps` steps.
 pub fn run_file<H: Files + AllocGlobal, R: Read, W: Write>(
     rt: &H,
     file: &str,
@@ -35,7 +35,7 @@ pub fn run_file<H: Files + AllocGlobal, R: Read, W: Write>(
     run_bytes(rt.alloc(), bytes.as_slice(), steps, reader, writer)
 }
 
-/// The program of a code file.
+/// Returns the program of a code file.
 pub fn load_file<H: Files + AllocGlobal>(rt: &H, file: &str) -> Result<Program, MachineRefusal> {
     let bytes = read_file(rt, file)?;
     load(rt.alloc(), bytes.as_slice())
@@ -52,8 +52,8 @@ fn write_checked<W: Write>(writer: &mut W, program: &Program) -> io::Result<()> 
     )
 }
 
-/// Checks a code file, and writes the segment's number and how many procedures and reached offsets
-/// it has.
+/// Checks a code file. Writes the segment's number, and the numbers of its procedures and reached
+/// offsets.
 pub fn check_file<H: Files + AllocGlobal, W: Write>(
     rt: &H,
     file: &str,
@@ -63,13 +63,13 @@ pub fn check_file<H: Files + AllocGlobal, W: Write>(
     write_checked(writer, &program).or(Err(MachineRefusal::Run(RunIo::Write)))
 }
 
-/// Writes the listing of a program, all of it.
+/// Writes the whole listing of a program.
 fn write_listing<W: Write + Drop>(program: &Program, pieces: &mut BufWriter<W>) -> io::Result<()> {
     program.write_listing(pieces)?;
     pieces.flush()
 }
 
-/// Lists the program of a code file, in pieces of some kilobytes.
+/// Lists the program of a code file, in pieces of 8,192 bytes.
 pub fn list_file<H: Files + AllocGlobal, W: Write>(
     rt: &H,
     file: &str,
@@ -80,7 +80,7 @@ pub fn list_file<H: Files + AllocGlobal, W: Write>(
         RunIo::Memory,
     )))?;
     let written = write_listing(&program, &mut pieces);
-    // What a failed write has left behind is not tried again.
+    // What a failed write did not write is not tried again.
     let _ = pieces.into_parts();
     written.or(Err(MachineRefusal::Run(RunIo::Write)))
 }

@@ -10,7 +10,7 @@ use std::fs;
 use std::io::Read;
 use std::rt::Files;
 
-/// How many bytes a file has at most.
+/// The most bytes of a file that is read.
 pub const LONGEST_FILE: usize = 67_108_864;
 
 /// Why a file is not read.
@@ -22,8 +22,9 @@ pub enum FileError {
     Memory,
 }
 
-/// Reads all bytes that a reader has left, at most `LONGEST_FILE`. After a refusal what was read
-/// until then is gone from the reader; memory runs out only once there is a byte to hold.
+/// Reads all bytes that a reader has left. Fails with `Unreadable` if a read fails or there are
+/// more than `LONGEST_FILE`, and with `Memory` only once there is a byte to hold. After a refusal
+/// what was read is gone from the reader.
 pub fn read_whole<R: Read>(alloc: Global, reader: &mut R) -> Result<Vec<u8>, FileError>
     ensures whole { IfOk result
         (λ bytes. Consumes (R.remaining reader.old) (R.remaining reader.new) bytes.items) }
@@ -52,7 +53,7 @@ pub fn read_whole<R: Read>(alloc: Global, reader: &mut R) -> Result<Vec<u8>, Fil
     Err(FileError::Unreadable)
 }
 
-/// The bytes of a file.
+/// Reads a file, as `read_whole` does. Fails with `Unreadable` if it can't be opened.
 pub fn read_file<H: Files + AllocGlobal>(rt: &H, path: &str) -> Result<Vec<u8>, FileError> {
     match fs::open(rt, path) {
         Ok(mut file) => read_whole(rt.alloc(), &mut file),
@@ -60,8 +61,8 @@ pub fn read_file<H: Files + AllocGlobal>(rt: &H, path: &str) -> Result<Vec<u8>, 
     }
 }
 
-/// Reads all of an input that is not a file, as `read_whole` does. A failed read, and an input of
-/// more than `LONGEST_FILE` bytes, is `RunIo::Read`.
+/// Reads all of an input that is not a file, as `read_whole` does. Fails with `RunIo::Read` if a
+/// read fails or the input has more than `LONGEST_FILE` bytes.
 pub fn read_input<R: Read>(alloc: Global, reader: &mut R) -> Result<Vec<u8>, RunIo>
     ensures whole { IfOk result
         (λ bytes. Consumes (R.remaining reader.old) (R.remaining reader.new) bytes.items) }

@@ -16,7 +16,7 @@ pub enum HexError {
     Memory,
 }
 
-/// Returns the bytes that the digits of a text spell, two for each, the high one first.
+/// Returns the bytes that the digits of `text` spell, two for each, the high one first.
 pub fn bytes_of(alloc: Global, text: &str) -> Result<Vec<u8>, HexError>
     ensures bytes { IfOk result (λ bytes. hex_bytes_of text.now ≡ Some bytes.items) }
     ensures bad { result ≡ Err Bad → hex_bytes_of text.now ≡ None }

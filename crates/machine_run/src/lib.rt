@@ -1,10 +1,15 @@
-//! One machine, from files, readers and writers: a code file is checked, listed and run, and a
-//! datagram is printed as text.
+//! One machine over files, readers and writers: it checks, lists and runs a code file, and prints a
+//! datagram as text.
+//!
+//! It is for programs that run p-code on their own input and output. Call first:
+//!
+//! - `load`, which makes a program of a code file's bytes, or says why they are none;
+//! - `run_program`, which runs a program over a `ByteReader` and a `ByteWriter`, and whose contract
+//!   says exactly what was read and written. `CountingReader` and `CountingWriter` make these of
+//!   any `Read` and `Write`;
+//! - `show`, which prints a datagram.
 //!
 //! `check_file`, `list_file` and `run_file` do the work of the commands `check`, `list` and `run`.
-//! They stand on `load`, which makes a program of a code file's bytes, and on `run_program`, which
-//! runs a program over a `ByteReader` and a `ByteWriter` and says exactly what was read and
-//! written. `show` prints a datagram.
 #![tactic(auto)]
 
 mod built_in;

@@ -9,7 +9,8 @@ use pcode_file::CodeFile;
 use pcode_ops::Program;
 use std::alloc::Global;
 
-/// The program of a code file's bytes, or why they are none.
+/// Returns the program of a code file's bytes. Fails with the first fault of the file or of its
+/// loading.
 pub fn load(alloc: Global, bytes: &[u8]) -> Result<Program, MachineRefusal>
     ensures ok { IfOk result (λ program. InFile bytes.now program × IsLoadable program) }
     ensures err { IfErr result (IsNoProgram bytes.now) }

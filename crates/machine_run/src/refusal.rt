@@ -1,4 +1,4 @@
-//! What the commands of one machine refuse.
+//! The refusals of the commands of one machine.
 use crate::files::FileError;
 use crate::run::RunIo;
 use paxos_msg::WireFault;
@@ -6,7 +6,7 @@ use pcode_file::FileFault;
 use pcode_ops::LoadFault;
 use thiserror::Error;
 
-/// What a command of one machine refuses. Its text follows the word `refused`.
+/// Why a command of one machine is refused. The text follows the word `refused`.
 #[derive(Clone, Copy, Debug, Error)]
 pub enum MachineRefusal {
     /// The file can't be opened or read, or is too long.
@@ -18,7 +18,7 @@ pub enum MachineRefusal {
     /// The code file is no program.
     #[error("{0}")]
     Load(LoadFault),
-    /// There is no memory, or a read or a write failed.
+    /// Memory ran out, or a read or a write failed.
     #[error(transparent)]
     Run(RunIo),
     /// The bytes are no datagram of the group.

@@ -1,4 +1,4 @@
-//! A program over a reader and a writer.
+//! A run of a program over a reader and a writer.
 ghost use Rattle.std.specs.Prelude.{◌≡◌, ◌≤◌, ℕ, List, [], ◌∷◌, IfOk, MatchResult};
 ghost use Rattle.std.specs.Io.KnownBytes.{Keeps, Appends};
 ghost use Rattle.base.specs.Faults.{HasRisen};
@@ -12,23 +12,23 @@ use pcode_ops::Program;
 use std::alloc::Global;
 use thiserror::Error;
 
-/// How a run was over.
+/// How a run ended.
 #[derive(Clone, Copy, Debug, PartialEq, Eq)]
 pub enum Finish {
     /// The program ended.
     Normal,
     /// The program met an execution error.
     Error(End),
-    /// The machine waits, and the reader has ended.
+    /// The machine waits for a byte, and the reader is at its end.
     Waits,
     /// The steps are spent.
     Steps,
 }
 
-/// What went wrong around the machine. Its text is the refusal's code.
+/// What went wrong around the machine. The text is the refusal's code.
 #[derive(Clone, Copy, Debug, PartialEq, Eq, Error)]
 pub enum RunIo {
-    /// There is no memory. No step was made.
+    /// Memory ran out. No step was made.
     #[error("E1")]
     Memory,
     /// A read failed.
@@ -39,7 +39,7 @@ pub enum RunIo {
     Write,
 }
 
-/// The finish of a program that ended so.
+/// Returns the finish of a program that ended by `end`.
 fn finish_by(end: End) -> Finish
     ensures { result ≡ finish_of end }
 {
@@ -49,7 +49,7 @@ fn finish_by(end: End) -> Finish
     }
 }
 
-/// Gives a byte to a machine that waits for one, and writes its echo.
+/// Gives a byte to a machine that waits for one, and writes its echo, if it has one.
 fn feed<W: ByteWriter>(
     writer: &mut W,
     machine: &mut Machine<'_>,
@@ -72,8 +72,8 @@ fn feed<W: ByteWriter>(
     }
 }
 
-/// Makes steps, at most `most`, until one takes or writes a byte, or the run is over. Returns how
-/// many steps it made, and how the run was over if it is.
+/// Runs at most `most` steps, until one takes or writes a byte or the run is over. Returns how many
+/// it ran, and the finish if the run is over.
 fn turn<R: ByteReader, W: ByteWriter>(
     reader: &mut R,
     writer: &mut W,
@@ -115,8 +115,9 @@ fn turn<R: ByteReader, W: ByteWriter>(
     }
 }
 
-/// Runs a program for at most this many steps. Before each step it looks first whether the steps
-/// are spent. It reads a byte only where the machine waits for it, and writes each byte by itself.
+/// Runs a program for at most `steps` steps. Before each step it checks first whether the steps are
+/// spent. It reads a byte only when the machine waits for it, and writes each byte by itself. Fails
+/// with `Memory` before the first step if the machine finds no room.
 pub fn run_program<R: ByteReader, W: ByteWriter>(
     alloc: Global,
     reader: &mut R,
@@ -139,8 +140,8 @@ pub fn run_program<R: ByteReader, W: ByteWriter>(
         }) steps
         result }
 {
-    // Steps on an input are steps on each longer input, and lead to what is after so many; quiet
-    // ones go on from there.
+    // These laws say that steps on an input are steps on each longer input, that they lead to the
+    // state after as many steps, and that quiet steps go on from there.
     same_run_on_longer_input();
     run_is_after();
     quiet_steps_lead_on();

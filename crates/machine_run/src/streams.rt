@@ -1,8 +1,8 @@
 //! Readers and writers of single bytes, which count their faults.
 //!
-//! std's `Read` and `Write` have no word for "this call failed", so that no clause can say that a
-//! fault was really met. These two traits have a count of faults for it; the wrappers below make
-//! one of any `Read` or `Write`, and raise the count where a call of theirs answers an error.
+//! The contracts of std's `Read` and `Write` cannot say that a call failed, so no clause can say
+//! that a fault was really met. These two traits count faults. The wrappers below make one of any
+//! `Read` or `Write`, and raise the count when its call returns an error.
 ghost use Rattle.std.specs.Prelude.{◌≡◌, ℕ, List, [], ◌∷◌, Option, IsNone, MatchResult};
 ghost use Rattle.std.specs.Option.{option_to_list};
 ghost use Rattle.std.specs.Io.KnownBytes.{Keeps, Appends, Consumes, IsAtEnd};
@@ -19,15 +19,16 @@ pub struct ReadFault;
 #[derive(Clone, Copy, Debug, PartialEq, Eq)]
 pub struct WriteFault;
 
-/// What gives one byte after another.
+/// A source of bytes, one after another.
 pub trait ByteReader {
     /// The bytes that it has left, where they are known.
     ghost remaining: { Self → Option (List ℕ) };
 
-    /// How many of its reads failed.
+    /// The number of its reads that failed.
     ghost read_faults: { Self → ℕ };
 
-    /// The next byte, or nothing at the end.
+    /// Reads the next byte. Returns `None` at the end. A read that fails takes no byte and counts
+    /// one more fault.
     fn read_byte(&mut self) -> Result<Option<u8>, ReadFault>
         ensures bytes { MatchResult result
             (λ found. Consumes (remaining self.old) (remaining self.new) (option_to_list found)
@@ -38,15 +39,15 @@ pub trait ByteReader {
             (λ _. HasRisen (read_faults self.old) (read_faults self.new)) };
 }
 
-/// What takes one byte after another.
+/// A sink of bytes, one after another.
 pub trait ByteWriter {
     /// The bytes that it holds, where they are known.
     ghost contents: { Self → Option (List ℕ) };
 
-    /// How many of its writes failed or took nothing.
+    /// The number of its writes that failed or took nothing.
     ghost write_faults: { Self → ℕ };
 
-    /// Takes a byte.
+    /// Writes a byte. A write that fails, or takes nothing, counts one more fault.
     fn write_byte(&mut self, byte: u8) -> Result<(), WriteFault>
         ensures bytes { MatchResult result
             (λ _. Appends (contents self.old) (contents self.new) (byte ∷ []))
@@ -64,6 +65,7 @@ pub struct CountingReader<R: Read> {
 }
 
 impl<R: Read> CountingReader<R> {
+    /// Wraps a reader, with no fault counted.
     pub fn new(inner: R) -> CountingReader<R>
         ensures inner { result.inner ≡ inner }
         ensures faults { result.faults ≡ 0 }
@@ -98,6 +100,7 @@ pub struct CountingWriter<W: Write> {
 }
 
 impl<W: Write> CountingWriter<W> {
+    /// Wraps a writer, with no fault counted.
     pub fn new(inner: W) -> CountingWriter<W>
         ensures inner { result.inner ≡ inner }
         ensures faults { result.faults ≡ 0 }

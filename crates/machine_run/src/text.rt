@@ -8,7 +8,7 @@ use paxos_msg::{BodyView, Group, View, Vote, decode};
 use std::alloc::Global;
 use std::io::{self, Write};
 
-/// Writes the bytes of a console in hexadecimal digits, or a dash for none.
+/// Writes the bytes of a console in hexadecimal digits, or `-` for none.
 pub fn write_bytes<W: Write>(writer: &mut W, bytes: &[u8]) -> io::Result<()> {
     if bytes.is_empty() {
         return write!(writer, "-");
@@ -27,7 +27,7 @@ fn write_vote<W: Write>(writer: &mut W, vote: Vote) -> io::Result<()> {
     writeln!(writer, "vote {place} {ballot} {value}")
 }
 
-/// Writes the line of a message, and one for each vote of a promise.
+/// Writes the line of a message, and a line for each vote of a promise.
 pub fn write_message<W: Write>(writer: &mut W, view: &View<'_>) -> io::Result<()>
     requires { HasUpTo 8 (view.now).body }
 {
@@ -82,7 +82,8 @@ pub fn write_message<W: Write>(writer: &mut W, view: &View<'_>) -> io::Result<()
     }
 }
 
-/// Writes the datagram that these hexadecimal digits spell in the group.
+/// Writes the datagram of `group` that the hexadecimal digits spell. Fails with `BadHex` before any
+/// other fault of the digits or the datagram.
 pub fn show<W: Write>(
     alloc: Global,
     group: Group,

@@ -8,7 +8,7 @@ use Rattle.paxos_acceptor.specs.Log.{LogIn, log_header}
 use Rattle.paxos_acceptor.specs.Records.{Rec, record_bytes}
 use Rattle.paxos_acceptor.specs.Version1.{Rec1, record_bytes_v1}
 
--- the byte that tells the version
+-- the byte of the version
 pub records : (me : Me) (bytes : List ℕ) (r old : Record) → Rec me bytes r → ¬ Rec1 me bytes old
 records me bytes r old h k =
     let version : slice_index (record_bytes me r) 2 ≡ slice_index (record_bytes_v1 me old) 2 =

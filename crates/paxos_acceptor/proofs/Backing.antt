@@ -166,7 +166,7 @@ module _ (size i : ℕ) (typed : List Key) (learned : ℕ → Option Value) (sen
       backed = vote_backed sent r h law b s v said rises;
     }
 
-    -- the vote that stands there under the same ballot is told again
+    -- the vote there under the same ballot is reported again
     told_again : (w : Value) (vote : Vote) → IfSome r.promised (λ p. IsAtMost p b) → kept_vote_at r.votes s ≡ Some vote
         → vote.ballot ≡ b → vote.value ≡ w
         → MayAnswer size i typed learned sent r (record { saves = None; says = Accepted b s w })

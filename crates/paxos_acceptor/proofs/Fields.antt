@@ -21,7 +21,7 @@ pub record Fields : Type 0 where
       (votes_at size b 0 65536 0 n bytes ≡ Ok (votes, rest))
       ↔ (AreVotes size b 0 65536 votes × (length votes ≡ n) × (bytes ≡ votes_bytes votes ++ rest))
 
--- the bytes behind some bytes
+-- the bytes after some bytes
 pub others : (front rest : List ℕ) → AreBytes (front ++ rest) → AreBytes rest
 others [] rest h = h
 others (x ∷ front) rest h = others front rest (λ i. h (suc i))

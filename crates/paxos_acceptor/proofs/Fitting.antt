@@ -1,4 +1,5 @@
--- What an acceptor answers over a record in its ranges is in its ranges, and so is the record after its save.
+-- What an acceptor answers over a record in its ranges is in its ranges, and so is the record after
+-- its save.
 use Rattle.std.proofs.Common.{◌≡◌, ℕ, zero, suc, ◌+◌, ◌-◌, ◌==◌, ◌<◌, ◌≤◌, nat_le, nat_lt, Bool, true, false, if◌then◌else◌, List, [], ◌∷◌, Option, Some, None, IfSome, length, take, min, slice_get, refl, subst, arith}
 use Rattle.std.specs.Option.{option_map_or}
 use Rattle.std.proofs.lemmas.List.{length-take}
@@ -12,7 +13,7 @@ use Rattle.paxos_msg.specs.Ballots.{IsAtMost, IsBelow}
 use Rattle.paxos_msg.specs.Fits.{IsBallot, IsPlace, IsValue, IsVote, AreVotes, IsBody}
 use Rattle.paxos_msg.specs.Messages.{kept_vote_at}
 use Rattle.paxos_msg.specs.Records.{changed}
-use Rattle.paxos_acceptor.specs.Answers.{Answer, accept_of, accepted, after, behind_last, part_of, prepare_of, prepared, voted}
+use Rattle.paxos_acceptor.specs.Answers.{Answer, accept_of, accepted, after, place_after, part_of, prepare_of, prepared, voted}
 use Rattle.paxos_msg.specs.Places.{votes_from}
 use Rattle.paxos_acceptor.specs.Cases.{greater_promise, is_promised, value_under}
 use Rattle.paxos_acceptor.specs.Records.{AreKept, IsRecord}
@@ -62,7 +63,7 @@ module _ (size upto : ℕ) (b : Ballot) where
   value_fits [] s low vote h e = absurd cc
   value_fits (x ∷ xs) s low vote h e = found_fits x xs s low vote h.0 (x.place == s) e (λ k. value_fits xs s (x.place + 1) vote h.1 k)
 
--- the place behind the last vote, by recursion
+-- the place after the last vote, by recursion
 behind : Vote → List Vote → ℕ
 behind x [] = x.place + 1
 behind x (y ∷ ys) = behind y ys
@@ -72,7 +73,7 @@ unfolding behind
 last_get x [] = refl
 last_get x (y ∷ ys) = last_get y ys
 
-behind_is : (x : Vote) (xs : List Vote) → behind_last (x ∷ xs) ≡ behind x xs
+behind_is : (x : Vote) (xs : List Vote) → place_after (x ∷ xs) ≡ behind x xs
 behind_is x xs = let e : suc (length xs) - 1 ≡ length xs = omega arith in rw e (last_get x xs)
 
 module _ (size upto : ℕ) (b : Ballot) where
@@ -109,7 +110,7 @@ module _ (size upto : ℕ) (b : Ballot) where
       )
 
   first_part : (votes : List Vote) (low : ℕ) → 0 < length votes → upto ≤ 65536 → AreVotes size b low upto votes
-      → (behind_last votes ≤ 65536) × (low < behind_last votes) × AreVotes size b low (behind_last votes) votes
+      → (place_after votes ≤ 65536) × (low < place_after votes) × AreVotes size b low (place_after votes) votes
   first_part [] low more few h = absurd (omega arith)
   first_part (x ∷ xs) low more few h =
       let within : behind x xs ≤ upto = behind_within x xs low h in
@@ -118,9 +119,9 @@ module _ (size upto : ℕ) (b : Ballot) where
 -- the bounds of a part, by whether it has all votes
 part_if : (size : ℕ) (b : Ballot) (from : ℕ) (votes : List Vote) (t : Bool) → nat_lt 8 (length votes) ≡ t → IsPlace from
     → AreVotes size b from 65536 votes
-    → ((if t then behind_last (take 8 votes) else 65536) ≤ 65536)
-    × (from < (if t then behind_last (take 8 votes) else 65536))
-    × AreVotes size b from (if t then behind_last (take 8 votes) else 65536) (take 8 votes)
+    → ((if t then place_after (take 8 votes) else 65536) ≤ 65536)
+    × (from < (if t then place_after (take 8 votes) else 65536))
+    × AreVotes size b from (if t then place_after (take 8 votes) else 65536) (take 8 votes)
 part_if size b from votes true e place h =
     let more : 0 < length (take 8 votes) = few (length votes) (length-take 8 votes) (grind (arith, nat_tests)) in
     first_part size 65536 b (take 8 votes) from more (omega arith) (first_ones size 65536 b 8 votes from h)

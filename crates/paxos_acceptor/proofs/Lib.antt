@@ -1,7 +1,7 @@
 pub mod ByCases
 pub mod Ranges
 pub mod Fitting
-pub mod Parts
+pub mod VotesFromPlace
 pub mod Reports
 pub mod Backing
 mod Fields

@@ -7,7 +7,7 @@ use Rattle.paxos_msg.specs.Batches.{Vote}
 use Rattle.paxos_msg.specs.declared.fault.WireFault.{WireFault}
 use Rattle.paxos_acceptor.specs.RecordReading.{vote_at_v1, votes_at_v1}
 
--- these votes, and behind them what is read
+-- these votes, followed by what is read
 abbrev pub behind : List Vote → Result (List Vote × List ℕ) WireFault → Result (List Vote × List ℕ) WireFault
 behind votes read = read >>= λ x. Ok (votes ++ x.0, x.1)
 
@@ -15,7 +15,7 @@ behind votes read = read >>= λ x. Ok (votes ++ x.0, x.1)
 abbrev pub LeadsTo : ℕ → Ballot → ℕ → List ℕ → List Vote → ℕ → ℕ → List ℕ → Type 0
 LeadsTo size b count bytes votes low left rest = votes_at_v1 size b 0 count bytes ≡ behind votes (votes_at_v1 size b low left rest)
 
--- behind no votes it is what is read
+-- after no votes it is what is read
 behind_none : (read : Result (List Vote × List ℕ) WireFault) → read ≡ behind [] read
 behind_none (Ok x) = refl
 behind_none (Err e) = refl

@@ -35,7 +35,8 @@ pub at_most_itself : (b : Ballot) → IsAtMost b b
 at_most_itself b = grind arith
 
 module _ (size upto : ℕ) (p b : Ballot) (rises : IsAtMost p b) where
-  -- a vote that may stand under a ballot may stand under each greater one, and from each smaller place on
+  -- a vote that is in its range under a ballot is so under each greater one, and from each smaller
+  -- place on
   pub raised : (low under : ℕ) (x : Vote) → under ≤ x.place → IsVote size p low upto x → IsVote size b under upto x
   raised low under x le h = record {
     from_low = le;
@@ -98,7 +99,7 @@ record_in_order size r h = in_order size r.promised r.votes h.kept
 
 -- ---- what a change leaves
 
--- a ballot that is promised leaves each vote where it may stand
+-- a promised ballot leaves each vote in its range
 kept_promised : (size : ℕ) (b : Ballot) (promised : Option Ballot) (votes : List Vote)
     → IfSome promised (λ p. IsAtMost p b) → IsBallot size b → AreKept size promised votes → AreKept size (Some b) votes
 kept_promised size b None votes rises ballot h = (ballot, subst (AreVotes size b 0 65536) (sym h) tt)

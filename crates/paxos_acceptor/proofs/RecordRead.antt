@@ -40,7 +40,7 @@ no_text : (version : Version) → votes_text version [] ≡ []
 no_text One = refl
 no_text Two = refl
 
--- the parts of a record one behind the other
+-- the parts of a record in order
 abbrev text : Version → Me → Record → List ℕ
 text version me r =
     record_header (version_byte version) me

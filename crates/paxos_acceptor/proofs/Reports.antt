@@ -9,9 +9,9 @@ use Rattle.paxos_msg.specs.Batches.{Record, Vote}
 use Rattle.paxos_msg.specs.declared.value.Value.TheVariants.{Noop}
 use Rattle.paxos_msg.specs.Messages.{AreAbove, IsAscending, kept_vote_at}
 use Rattle.paxos_msg.specs.Sending.{IsReport}
-use Rattle.paxos_acceptor.specs.Answers.{behind_last, upto_of}
+use Rattle.paxos_acceptor.specs.Answers.{place_after, upto_of}
 use Rattle.paxos_msg.specs.Places.{votes_from}
-use Rattle.paxos_acceptor.proofs.Parts.{rise}
+use Rattle.paxos_acceptor.proofs.VotesFromPlace.{rise}
 
 -- ---- the votes from a place on
 
@@ -44,7 +44,7 @@ ascending_from (x ∷ xs) from h =
     ascending_if x (votes_from from xs) (above_from xs from x.place h.0) (ascending_from xs from h.1)
     (nat_le from x.place)
 
--- each is at the place or behind it
+-- each is at the place or after it
 places_from : (xs : List Vote) (from : ℕ) (vote : Vote) → Contains (votes_from from xs) vote → from ≤ vote.place
 places_from xs from vote h =
     leb-true from vote.place
@@ -80,8 +80,8 @@ cut n [] d s up h k = absurd (omega arith)
 cut zero (x ∷ xs) d s up h k = cut_step x [] xs s (sym (none_above xs x.place s k up.0))
 cut (suc n) (x ∷ xs) d s up h k = cut_step x (take (suc n) xs) xs s (cut n xs d s up.1 (omega arith) k)
 
--- the place behind the last of the first votes
-behind_first : (n : ℕ) (xs : List Vote) (d : Vote) → n < length xs → behind_last (take (suc n) xs) ≡ (get_or xs n d).place + 1
+-- the place after the last of the first votes
+behind_first : (n : ℕ) (xs : List Vote) (d : Vote) → n < length xs → place_after (take (suc n) xs) ≡ (get_or xs n d).place + 1
 behind_first n xs d h =
     let long : length (take (suc n) xs) ≡ suc n = omega (arith, length-take (suc n) xs) in
     let last : length (take (suc n) xs) - 1 ≡ n = omega arith in
@@ -102,7 +102,7 @@ before_last n xs vote up h (k, below, is) =
 -- ---- up to where they speak
 
 whole_by : (n : ℕ) (xs : List Vote) (s : ℕ) (t : Bool) → nat_lt (suc n) (length xs) ≡ t → IsAscending xs
-    → s < (if t then behind_last (take (suc n) xs) else 65536) → kept_vote_at (take (suc n) xs) s ≡ kept_vote_at xs s
+    → s < (if t then place_after (take (suc n) xs) else 65536) → kept_vote_at (take (suc n) xs) s ≡ kept_vote_at xs s
 whole_by n xs s true e up below =
     let many : suc n < length xs = ltb-true (suc n) (length xs) e in
     let d : Vote = record { place = 0; ballot = record { round = 0; node = 0 }; value = Noop } in
@@ -112,7 +112,7 @@ whole_by n xs s false e up below = let few : length xs ≤ suc n = grind (arith,
 
 within_by : (n : ℕ) (xs : List Vote) (vote : Vote) (t : Bool) → nat_lt (suc n) (length xs) ≡ t → IsAscending xs
     → vote.place ≤ 65535 → Contains (take (suc n) xs) vote
-    → vote.place < (if t then behind_last (take (suc n) xs) else 65536)
+    → vote.place < (if t then place_after (take (suc n) xs) else 65536)
 within_by n xs vote true e up place h =
     let many : suc n < length xs = ltb-true (suc n) (length xs) e in
     let behind = behind_first n xs vote (omega arith) in

@@ -1,4 +1,4 @@
--- What an acceptor answers, and what it saves before.
+-- The answers of an acceptor, and the changes that it saves before them.
 use Rattle.std.specs.Prelude.{ℕ, ◌+◌, ◌-◌, nat_le, nat_lt, List, length, take, filter, slice_get, Option, Some, None, if◌then◌else◌}
 use Rattle.std.specs.Option.{option_map_or}
 use Rattle.paxos_msg.specs.declared.ballot.Ballot.{Ballot}
@@ -10,33 +10,36 @@ use Rattle.paxos_msg.specs.Messages.{kept_vote_at}
 use Rattle.paxos_msg.specs.Records.{changed}
 use Rattle.paxos_acceptor.specs.Cases.{greater_promise, is_promised, value_under}
 use Rattle.paxos_msg.specs.Places.{votes_from}
+use Rattle.paxos_msg.specs.declared.limits.TheConstants.{MOST_VOTES, PLACES}
 
--- the change that is saved, if any, and then the answer
+-- An answer, and the change that is saved before it, if any.
 pub record Answer : Type 0 where
   pub saves : Option Change
   pub says : Body
 
--- the record after a change, if there is one
+-- The record after a change; without a change it stays.
 abbrev pub after : Record → Option Change → Record
 after r None = r
 after r (Some c) = changed r c
 
--- the place behind the last of these votes
-abbrev pub behind_last : List Vote → ℕ
-behind_last votes = option_map_or (λ vote. vote.place + 1) (slice_get votes (length votes - 1)) 0
+-- The place after the last of these votes.
+abbrev pub place_after : List Vote → ℕ
+place_after votes = option_map_or (λ vote. vote.place + 1) (slice_get votes (length votes - 1)) 0
 
--- up to where a part speaks that reports the first 8 of these votes: over all places, unless there
--- are more
+-- The place up to which a part reports that has the first 8 of these votes: all places, unless
+-- there are more.
 abbrev pub upto_of : List Vote → ℕ
-upto_of votes = if nat_lt 8 (length votes) then behind_last (take 8 votes) else 65536
+upto_of votes =
+    if nat_lt MOST_VOTES (length votes) then place_after (take MOST_VOTES votes) else PLACES
 
--- the part of a promise that speaks of the places from this one on
+-- The part of a promise for the places from `from` on: at most 8 votes.
+-- Source: Simple 2.2, phase 1(b).
 abbrev pub part_of : Record → Ballot → ℕ → Body
 part_of r b from =
-    Promise b from (upto_of (votes_from from r.votes)) (take 8 (votes_from from r.votes))
+    Promise b from (upto_of (votes_from from r.votes)) (take MOST_VOTES (votes_from from r.votes))
 
--- by the greater promised ballot, if there is one, which refuses; where it is this ballot that is
--- promised nothing is saved
+-- The answer to a Prepare, by the greater promised ballot, if there is one, which refuses it. If
+-- the ballot is promised already, nothing is saved.
 abbrev pub prepared : Option Ballot → Record → Ballot → ℕ → Answer
 prepared (Some p) r b from = record { saves = None; says = Refused b p }
 prepared None r b from =
@@ -45,20 +48,28 @@ prepared None r b from =
       says = part_of r b from;
     }
 
--- the answer to a Prepare of ballot b for the places from this one on
+-- The answer to a Prepare of ballot `b` for the places from `from` on, and the change saved before:
+-- a part of at most 8 votes, or a refusal.
+-- Source: Simple 2.2, phase 1(b).
+-- Allows: The same promise given again, without a save.
+-- Forbids: A promise below the promised ballot.
 abbrev pub prepare_of : Record → Ballot → ℕ → Answer
 prepare_of r b from = prepared (greater_promise r.promised b) r b from
 
--- by the value voted for under this very ballot, if there is one, which is told again
+-- The answer to an Accept that is not refused, by the value voted for under this very ballot, if
+-- there is one.
 abbrev pub voted : Option Value → Ballot → ℕ → Value → Answer
 voted (Some w) b s v = record { saves = None; says = Accepted b s w }
 voted None b s v = record { saves = Some (change.Ballotted s b v); says = Accepted b s v }
 
--- by the greater promised ballot, if there is one, which refuses
+-- The answer to an Accept, by the greater promised ballot, if there is one, which refuses it.
 abbrev pub accepted : Option Ballot → Record → Ballot → ℕ → Value → Answer
 accepted (Some p) r b s v = record { saves = None; says = Refused b p }
 accepted None r b s v = voted (value_under (kept_vote_at r.votes s) b) b s v
 
--- the answer to an Accept of v at s under ballot b
+-- The answer to an Accept of `v` at place `s` under ballot `b`, and the change saved before.
+-- Source: Simple 2.2, phase 2(b).
+-- Allows: A vote under the same ballot reported again.
+-- Forbids: A vote below the promised ballot.
 abbrev pub accept_of : Record → Ballot → ℕ → Value → Answer
 accept_of r b s v = accepted (greater_promise r.promised b) r b s v

@@ -1,4 +1,4 @@
--- A store in a file: what it has in memory of it.
+-- A store in a file: the form of the file, and the store's knowledge of it.
 use Rattle.std.specs.Prelude.{◌≡◌, ℕ, ◌+◌, ◌<◌, ◌⊎◌, min, List, ◌++◌, length, take, Option, Some, None, IsSomeAnd, Result, IfOk, OnErr, OnOk, IsErrOf}
 use Rattle.paxos_msg.specs.Batches.{Change, Record}
 use Rattle.paxos_msg.specs.Records.{changed, empty_record}
@@ -14,17 +14,17 @@ use Rattle.paxos_acceptor.specs.Records.{Rec, record_bytes}
 use Rattle.paxos_acceptor.specs.Stores.{HasCause}
 use Rattle.paxos_acceptor.specs.Version1.{Rec1}
 
--- the bytes are of a file whose next save writes a whole record: they are its spelling, in version
--- 2 or in version 1, or a log of version 1
+-- The bytes of a file whose next save writes a whole record: its spelling in version 2 or 1, or a
+-- log of version 1.
 abbrev pub IsWholeForm : Me → List ℕ → Record → Type 0
 IsWholeForm me bytes r = Rec me bytes r ⊎ Rec1 me bytes r ⊎ (n : ℕ) × LogIn One me bytes r n
 
--- the bytes of a file are the record's, in one of the four forms
+-- The bytes of a file with the record, in one of the four forms.
 abbrev pub IsWritten : Me → List ℕ → Record → Type 0
 IsWritten me bytes r = IsWholeForm me bytes r ⊎ (n : ℕ) × LogIn Two me bytes r n
 
--- a file with these bytes has the record, in that form; a log whose last entry was cut has it
--- without that entry
+-- The form of a file with these bytes and this record. A log whose last entry was cut has the
+-- record without that entry.
 abbrev pub IsFormIn : Me → List ℕ → Record → Form → Type 0
 IsFormIn me bytes r Missing = ⊥
 IsFormIn me bytes r (Cut kept) =
@@ -32,15 +32,16 @@ IsFormIn me bytes r (Cut kept) =
 IsFormIn me bytes r (Log n) = LogIn Two me bytes r n × (n ≡ length bytes)
 IsFormIn me bytes r Whole = IsWholeForm me bytes r
 
--- a file of that form can have the record
+-- The forms that a file with the record can have.
 abbrev pub IsFormOf : Me → Record → Form → Type 0
 IsFormOf me r Missing = r ≡ empty_record
 IsFormOf me r (Cut bytes) = IsUncut me bytes.items r
 IsFormOf me r (Log n) = Unit {0}
 IsFormOf me r Whole = Unit {0}
 
--- What a save of the change writes: behind a log its entry; where an entry was cut, or no file is,
--- the log with its entry; and in whole form the changed record.
+-- The bytes that a save of the change writes. After a log they are its entry. Where an entry was
+-- cut, or no file exists, they are the log with the entry. In whole form they are the changed
+-- record.
 abbrev pub IsPatch : Me → Record → Change → Form → Patch → Type 0
 IsPatch me r c Missing patch =
     (patch.at ≡ None) × (patch.bytes.items ≡ log_header Two me ++ entry_bytes Two c)
@@ -49,15 +50,15 @@ IsPatch me r c (Cut bytes) patch =
 IsPatch me r c (Log n) patch = (patch.at ≡ Some n) × (patch.bytes.items ≡ entry_bytes Two c)
 IsPatch me r c Whole patch = (patch.at ≡ None) × (patch.bytes.items ≡ record_bytes me (changed r c))
 
--- what a file with these bytes has after the patch
+-- The bytes of a file after the patch.
 abbrev pub patched : List ℕ → Patch → List ℕ
 patched bytes patch = by patch.at where
   by : Option ℕ → List ℕ
   by None = patch.bytes.items
   by (Some n) = bytes ++ patch.bytes.items
 
--- the form of a file that had the first form and got the patch; a length stops at the greatest that
--- there is
+-- The form of a file that had the first form and got the patch. A length stops at the greatest that
+-- exists.
 abbrev pub IsFormAfter : Form → Patch → Form → Type 0
 IsFormAfter Missing patch after = after ≡ Log (length patch.bytes.items)
 IsFormAfter (Cut bytes) patch after = after ≡ Log (length patch.bytes.items)
@@ -65,23 +66,27 @@ IsFormAfter (Log n) patch after =
     after ≡ Log (min (n + length patch.bytes.items) 18446744073709551615)
 IsFormAfter Whole patch after = after ≡ Whole
 
--- whose record it is, the record that the file is known to have, if any, and how often the device
--- failed
+-- The knowledge of a store in a file: its node, the record in the file, if it is known, and the
+-- number of the device's faults.
 pub record Filed : Type 0 where
   pub me : Me
   pub found : Option Record
   pub faults : ℕ
 
--- After a load the record that it gave is known, and after a load that failed none is. A fault of
--- the device is counted.
+-- The store after a load. The record of the load is known, and after a load that failed none is. A
+-- fault of the device is counted.
+-- Allows: A file with a record of version 1.
+-- Forbids: A record that is known after a failed load.
 pub record Finds (old new : Filed) (answer : Result Record StoreFault) : Type 0 where
   pub me : new.me ≡ old.me
   pub found : IfOk answer (λ r. new.found ≡ Some r)
   pub lost : OnErr answer (new.found ≡ None)
   pub cause : HasCause (IsErrOf answer fault.Device) old.faults new.faults
 
--- A save is built on what is known, and is known then itself. After a fault of the device nothing
--- is known; where memory is wanted all is as it was.
+-- The store after a save. The save is built on the known record, and its record is known after it.
+-- After a fault of the device nothing is known. If memory runs out, nothing changes.
+-- Allows: The changed record, where a fault came after the writing.
+-- Forbids: A second save built on the record that was loaded.
 pub record Notes {T : Type 0} (old new : Filed) (change : Change)
     (result : Result T StoreFault) : Type 0 where
   pub made : OnOk result (IsSomeAnd old.found (λ r. new.found ≡ Some (changed r change)))

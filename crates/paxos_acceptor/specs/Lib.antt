@@ -3,7 +3,6 @@ pub mod Records
 pub mod Version1
 pub mod RecordReading
 pub mod Stores
-pub mod States
 pub mod Follows
 pub mod Backed
 pub mod Memories

@@ -1,4 +1,4 @@
--- How a store in memory saves, and how it fails at will.
+-- Saves, loads and planned faults of a store in memory.
 use Rattle.std.specs.Prelude.{◌≡◌, ◌+◌, min, if◌then◌else◌, None, IsSomeAnd, Result, IfErr, IfOk, OnOk, IsErrOf}
 use Rattle.paxos_msg.specs.Batches.{Change, Record}
 use Rattle.paxos_msg.specs.Records.{changed}
@@ -6,14 +6,18 @@ use Rattle.paxos_acceptor.specs.Stores.{StoreState}
 use Rattle.paxos_acceptor.specs.declared.store.StoreFault.{StoreFault}
 use Rattle.paxos_acceptor.specs.declared.store.StoreFault.TheVariants as fault
 
--- A load gives the stored record, or memory runs out; it changes nothing.
+-- A load of a store in memory, which returns the stored record or runs out of memory, and changes
+-- nothing.
 pub record Loads (old new : StoreState) (answer : Result Record StoreFault) : Type 0 where
   pub found : IfOk answer (λ found. found ≡ old.stored)
   pub memory : IfErr answer (λ e. e ≡ fault.Memory)
   pub same : new ≡ old
 
--- With no plan a save makes the change. With one the device fails, which leaves the changed record
--- or the old one, uses up the plan and is counted. Where memory is wanted all is as it was.
+-- A save of a store in memory. Without a plan it makes the change. With one the device fails, which
+-- leaves the changed record or the old one, uses up the plan and is counted. If memory runs out,
+-- nothing changes.
+-- Allows: A planned fault that leaves the changed record.
+-- Forbids: A plan that is used twice.
 pub record SavesByPlan {T : Type 0} (old new : StoreState) (change : Change)
     (result : Result T StoreFault) : Type 0 where
   pub ok : OnOk result

@@ -1,5 +1,4 @@
--- Reading a record from left to right. Which fault it has does not matter: whatever it is, the
--- bytes are no record.
+-- Reading a record from left to right. Which fault it has does not matter: the bytes are no record.
 use Rattle.std.specs.Prelude.{◌≡◌, ℕ, zero, suc, ◌+◌, ◌==◌, nat_lt, not, ◌&&◌, List, [], ◌∷◌, length, Option, Some, None, Result, Ok, Err, IsErr, if◌then◌else◌}
 use Rattle.paxos_msg.specs.declared.ballot.Ballot.{Ballot}
 use Rattle.paxos_msg.specs.Batches.{Record, Vote}
@@ -14,18 +13,19 @@ use Rattle.paxos_acceptor.specs.declared.version.Version.{Version}
 use Rattle.paxos_acceptor.specs.declared.version.Version.TheVariants.{One, Two}
 use Rattle.paxos_acceptor.specs.declared.store.StoreFault.{StoreFault}
 use Rattle.paxos_acceptor.specs.declared.store.StoreFault.TheVariants as store
+use Rattle.paxos_msg.specs.declared.limits.TheConstants.{LAST_PLACE, PLACES}
 
--- the bytes behind this one, which has to stand at their front
+-- The bytes after `byte`, which has to be the first one.
 abbrev pub behind_byte : ℕ → List ℕ → Result (List ℕ) WireFault
 behind_byte byte [] = Err fault.Short
 behind_byte byte (b ∷ bytes) = if b == byte then Ok bytes else Err fault.Magic
 
--- the byte that tells the version
+-- The byte of a version.
 abbrev pub version_byte : Version → ℕ
 version_byte One = 1
 version_byte Two = 2
 
--- the bytes behind a header of this record in that version
+-- The bytes after a header of this record in that version.
 unfoldable pub record_header_at : Version → Me → List ℕ → Result (List ℕ) WireFault
 record_header_at version me bytes = do
   p ← behind_byte 80 bytes
@@ -36,32 +36,32 @@ record_header_at version me bytes = do
   session ← number_at size
   unless fault.Group (not (session.0 == me.group.session)) session.1
 
--- no ballot, behind a round of 0: one more zero
+-- No ballot, after a round of 0: one more zero.
 abbrev pub zero_at : List ℕ → Result (Option Ballot × List ℕ) WireFault
 zero_at bytes = behind_byte 0 bytes >>= λ rest. Ok (None, rest)
 
--- a ballot
+-- A ballot at the front of bytes, and the bytes after it.
 abbrev pub some_ballot_at : ℕ → List ℕ → Result (Option Ballot × List ℕ) WireFault
 some_ballot_at size bytes = ballot_at size bytes >>= λ b. Ok (Some b.0, b.1)
 
--- the promised ballot, or zeros for none
+-- The promised ballot, or zeros for none, and the bytes after it.
 unfoldable pub promised_at : ℕ → List ℕ → Result (Option Ballot × List ℕ) WireFault
 promised_at size bytes =
     number_at bytes >>= λ round. if round.0 == 0 then zero_at round.1 else some_ballot_at size bytes
 
--- a vote of version 1 at a place from low on, not above ballot b; low is one above the place of the
--- vote before
+-- A vote of version 1 at a place from `low` on, not above ballot `b`; `low` is one above the place
+-- of the vote before.
 unfoldable pub vote_at_v1 : ℕ → Ballot → ℕ → List ℕ → Result (Vote × List ℕ) WireFault
 vote_at_v1 size b low bytes = do
   place ← number_at bytes
   above ← unless fault.Order (nat_lt place.0 low) place
-  there ← unless fault.Place (nat_lt 65535 above.0) above
+  there ← unless fault.Place (nat_lt LAST_PLACE above.0) above
   ballot ← ballot_at size there.1
   not_above ← unless fault.Ballot (ballot_lt b ballot.0) ballot
   value ← value_at_v1 size not_above.1
   Ok (record { place = there.0; ballot = not_above.0; value = value.0 }, value.1)
 
--- so many of them
+-- The first `n` votes of version 1, and the bytes after them.
 unfoldable pub votes_at_v1 : ℕ → Ballot → ℕ → ℕ → List ℕ → Result (List Vote × List ℕ) WireFault
 votes_at_v1 size b low zero bytes = Ok ([], bytes)
 votes_at_v1 size b low (suc n) bytes = do
@@ -69,19 +69,19 @@ votes_at_v1 size b low (suc n) bytes = do
   others ← votes_at_v1 size b (vote.0.place + 1) n vote.1
   Ok (vote.0 ∷ others.0, others.1)
 
--- so many votes under ballot b in that version
+-- The first `n` votes under ballot `b` in that version, and the bytes after them.
 abbrev pub votes_in : Version → ℕ → Ballot → ℕ → List ℕ → Result (List Vote × List ℕ) WireFault
 votes_in One size b n bytes = votes_at_v1 size b 0 n bytes
-votes_in Two size b n bytes = votes_at size b 0 65536 0 n bytes
+votes_in Two size b n bytes = votes_at size b 0 PLACES 0 n bytes
 
--- so many votes that are all of the bytes; without a promise there are none
+-- `n` votes that are all of the bytes; without a promise there are none.
 abbrev pub votes_of : Version → ℕ → Option Ballot → ℕ → List ℕ → Result (List Vote) WireFault
 votes_of version size None n bytes = unless fault.Ballot (not ((n == 0) && (length bytes == 0))) []
 votes_of version size (Some b) n bytes =
     votes_in version size b n bytes
     >>= λ votes. unless fault.Trailing (not (length votes.1 == 0)) votes.0
 
--- what stands before the votes: starts, promised ballot and number of votes
+-- The fields before the votes: starts, promised ballot and number of votes.
 unfoldable pub head_at : Version → Me → List ℕ → Result ((ℕ × Option Ballot × ℕ) × List ℕ) WireFault
 head_at version me bytes = do
   behind ← record_header_at version me bytes
@@ -90,14 +90,15 @@ head_at version me bytes = do
   count ← number_at promised.1
   Ok ((starts.0, promised.0, count.0), count.1)
 
--- the record that is all of the bytes, in that version
+-- The record that is all of the bytes, in that version.
 unfoldable pub record_at : Version → Me → List ℕ → Result Record WireFault
 record_at version me bytes = do
   head ← head_at version me bytes
   votes ← votes_of version me.group.size head.0.1 head.0.2 head.1
   Ok (record { starts = head.0.0; promised = head.0.1; votes = votes })
 
--- what is read is this; or the answer is Bad, and there is nothing to read; or memory ran out
+-- The answer of a call that reads: the result of reading, `Bad` where reading fails, or out of
+-- memory.
 abbrev pub ReadsAs : {X Y : Type 0} → (X → Y) → Result X StoreFault → Result Y WireFault → Type 0
 ReadsAs view (Ok x) read = read ≡ Ok (view x)
 ReadsAs view (Err store.Memory) read = Unit {0}

@@ -5,34 +5,38 @@ use Rattle.paxos_msg.specs.Batches.{Record, Vote}
 use Rattle.paxos_msg.specs.Fits.{IsBallot, AreVotes}
 use Rattle.paxos_msg.specs.Spelling.{number_bytes, ballot_bytes, votes_bytes}
 use Rattle.paxos_acceptor.specs.declared.me.Me.{Me}
+use Rattle.paxos_msg.specs.declared.limits.TheConstants.{PLACES}
 
--- no vote without a promise; else they ascend by place, none above the promised ballot
+-- Votes beside a promised ballot: without one none, else in ascending order of place, none above
+-- it.
 abbrev pub AreKept : ℕ → Option Ballot → List Vote → Type 0
 AreKept size None votes = votes ≡ []
-AreKept size (Some b) votes = IsBallot size b × AreVotes size b 0 65536 votes
+AreKept size (Some b) votes = IsBallot size b × AreVotes size b 0 PLACES votes
 
--- a record of an acceptor in a group of that size
+-- A record of an acceptor in a group of `size` nodes, in its ranges.
+-- Allows: 0 starts.
+-- Forbids: A vote above the promised ballot.
 pub record IsRecord (size : ℕ) (r : Record) : Type 0 where
   pub starts : r.starts < 2 ^ 32
   pub kept : AreKept size r.promised r.votes
 
--- a ballot, or zeros for none
+-- The bytes of a ballot, or zeros for none.
 abbrev pub promised_bytes : Option Ballot → List ℕ
 promised_bytes None = 0 ∷ 0 ∷ 0 ∷ 0 ∷ 0 ∷ []
 promised_bytes (Some b) = ballot_bytes b
 
--- `PR`, the version, and whose record it is
+-- The header of a record: `PR`, the version, the node, and the group's size and session.
 abbrev pub record_header : ℕ → Me → List ℕ
 record_header version me =
     80 ∷ 82 ∷ version ∷ me.node ∷ me.group.size ∷ number_bytes me.group.session
 
--- the header of version 2 and the record
+-- The bytes of a record in version 2.
 abbrev pub record_bytes : Me → Record → List ℕ
 record_bytes me r =
     record_header 2 me ++ number_bytes r.starts ++ promised_bytes r.promised
     ++ number_bytes (length r.votes) ++ votes_bytes r.votes
 
--- the bytes are the spelling of the record, all of them
+-- Bytes that are the spelling of a record in its ranges, in version 2.
 pub record Rec (me : Me) (bytes : List ℕ) (r : Record) : Type 0 where
   pub ranges : IsRecord me.group.size r
   pub spelled : bytes ≡ record_bytes me r

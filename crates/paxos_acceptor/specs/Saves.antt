@@ -1,13 +1,13 @@
--- What a change leaves that is saved.
+-- The state after a change that is saved.
 use Rattle.std.specs.Prelude.{◌≡◌, ◌↔◌, ◌⊎◌, Bool, true, None, Result, Err, OnOk, OnErr, IsErrOf}
 use Rattle.paxos_msg.specs.Batches.{Record}
 use Rattle.paxos_acceptor.specs.Stores.{StoreState, FailsAsTold, HasCause, IsOneOf}
 use Rattle.paxos_acceptor.specs.declared.fault.AcceptorFault.{AcceptorFault}
 use Rattle.paxos_acceptor.specs.declared.fault.AcceptorFault.TheVariants.{Memory, Store}
 
--- At Ok the store has this record, and where memory was wanted the old one. After a device's fault,
--- which is counted, it has the old or the new one, as it was told to if it fails at will, and is
--- given up.
+-- The store and the acceptor after a save of the record `next`. At Ok the store has it. If memory
+-- runs out it has the old one. A fault of the device is counted and closes the acceptor. Then the
+-- store has the old or the new record, and the planned one if it fails at will.
 pub record SavesRecord {T : Type 0} (honest at_will : Type 0) (old new : StoreState)
     (is_closed : Bool) (result : Result T AcceptorFault) (next : Record) : Type 0 where
   pub saved : honest → OnOk result (new.stored ≡ next)

@@ -10,6 +10,7 @@ ghost use Rattle.paxos_acceptor.specs.Follows.{Follows};
 ghost use Rattle.paxos_acceptor.specs.Opening.{Opens, fault_of_load};
 ghost use Rattle.paxos_acceptor.specs.Records.{IsRecord};
 ghost use Rattle.paxos_acceptor.specs.Stores.{HasCause};
+ghost use Rattle.paxos_msg.specs.declared.limits.TheConstants.{LAST_START};
 
 use crate::cases::{greater_promise, is_promised, value_under};
 use crate::codec::record_fits;
@@ -18,6 +19,7 @@ use crate::me::Me;
 use crate::part::part_from;
 use crate::saving::{save_to, save_vote};
 use crate::store::{Store, StoreFault};
+use paxos_msg::limits::LAST_START;
 use paxos_msg::{Ballot, Body, Change, Record, Value, Vote, Votes, find_vote};
 use std::alloc::Global;
 use std::marker::Model;
@@ -45,7 +47,7 @@ impl<S: Store + Drop> Drop for Acceptor<S> {
 }
 
 impl<S: Store> Model for Acceptor<S> {
-    ghost use Rattle.paxos_acceptor.specs.States.{AcceptorState, IsAcceptorInStep};
+    ghost use Rattle.paxos_acceptor.specs.Follows.{AcceptorState, IsAcceptorInStep};
 
     ghost Value = { AcceptorState S };
 
@@ -61,14 +63,14 @@ impl<S: Store> Model for Acceptor<S> {
         (record { me = a.me; kept = a.record; is_closed = a.is_closed; store = a.store }) };
 }
 
-/// A store that an acceptor was not opened over, and why.
+/// The refusal to open an acceptor, with the store.
 #[derive(Drop)]
 pub struct OpenRefused<S> {
     pub fault: AcceptorFault,
     pub store: S,
 }
 
-/// The acceptor's fault for the fault of a load.
+/// Returns the acceptor's fault for the fault of a load.
 fn fault_of_load(fault: StoreFault) -> AcceptorFault
     ensures { result ≡ fault_of_load fault }
 {
@@ -79,8 +81,8 @@ fn fault_of_load(fault: StoreFault) -> AcceptorFault
     }
 }
 
-/// An acceptor over the store, of which this record was loaded, if that is in its ranges. It takes
-/// no memory.
+/// Returns an acceptor over `store`, whose loaded record is `kept`. Fails with `BadRecord` if the
+/// record is out of its ranges. It takes no memory.
 fn over<S: Store>(
     alloc: Global,
     store: S,
@@ -108,7 +110,7 @@ fn over<S: Store>(
     })
 }
 
-/// The answer that tells a vote.
+/// Returns the answer that reports `vote`.
 fn accepted(vote: &Vote) -> Body
     ensures { result ≡ Accepted vote.now.ballot vote.now.place vote.now.value }
 {
@@ -120,9 +122,9 @@ fn accepted(vote: &Vote) -> Body
 }
 
 impl<S: Store> Acceptor<S> {
-    /// Loads the store's record. `Memory`, `Store` and `BadRecord` are what the load met;
-    /// `BadRecord`, which comes last, is also a record out of its ranges. A refusal gives the store
-    /// back.
+    /// Loads the store's record and opens an acceptor over it. Fails with `Memory`, `Store` or
+    /// `BadRecord` if the load does, and then with `BadRecord` if the record is out of its ranges.
+    /// A refusal gives the store back.
     pub fn open(alloc: Global, store: S, me: Me) -> Result<Acceptor<S>, OpenRefused<S>>
         ensures loads { (answer : Result Kept StoreFault) × (left : S) × S.loads store answer left
             × Opens me answer left result }
@@ -156,7 +158,8 @@ impl<S: Store> Acceptor<S> {
         }
     }
 
-    /// The record, which is in its ranges. An honest store has the same one, unless it has failed.
+    /// Returns the record, which is in its ranges. An honest store has the same one, unless it has
+    /// failed.
     pub fn record(&self) -> &Record
         ensures same { result.now ≡ self.now.kept }
         ensures ranges { IsRecord self.now.me.group.size self.now.kept }
@@ -166,27 +169,27 @@ impl<S: Store> Acceptor<S> {
         &self.record
     }
 
-    /// Whether the store has failed, so that each further call is `Closed`.
+    /// Returns true if the store has failed. Then each further call fails with `Closed`.
     pub fn is_closed(&self) -> bool
         ensures { result ≡ self.now.is_closed }
     {
         self.is_closed
     }
 
-    /// Counts one more start, and answers how many there were with it. `StartsSpent` after
-    /// 4,294,967,295.
+    /// Counts one more start, and returns the number of starts with it. Fails with `StartsSpent`
+    /// after 4,294,967,295.
     pub fn new_start(&mut self) -> Result<u32, AcceptorFault>
         ensures answer { IfOk result (λ starts. starts ≡ self.new.kept.starts) }
         ensures follows { Follows S.honest S.fails_at_will S.state self.old self.new
             (Some Start) result }
         ensures spent { IsErrOf result AcceptorFault.StartsSpent
-            ↔ ((self.old.is_closed ≡ false) × (self.old.kept.starts ≡ 4294967295)) }
+            ↔ ((self.old.is_closed ≡ false) × (self.old.kept.starts ≡ LAST_START)) }
         ensures others { ¬ IsErrOf result AcceptorFault.BadRecord }
     {
         if self.is_closed {
             return Err(AcceptorFault::Closed);
         }
-        if self.record.starts == u32::MAX {
+        if self.record.starts == LAST_START {
             return Err(AcceptorFault::StartsSpent);
         }
         save_to(&mut self.store, &mut self.is_closed, Change::Start)?;
@@ -195,8 +198,8 @@ impl<S: Store> Acceptor<S> {
     }
 
     /// Answers a Prepare: promises the ballot, unless a greater one is promised, and reports the
-    /// votes at places from `from` on, at most 8 of them. A promise that is new is saved before it
-    /// is answered. A refusal takes no memory.
+    /// votes at places from `from` on, at most 8. A new promise is saved before it is answered. A
+    /// refusal takes no memory.
     pub fn prepare(&mut self, ballot: Ballot, from: u32) -> Result<Body, AcceptorFault>
         requires ballot { IsBallot self.old.me.group.size ballot }
         ensures answer { IfOk result (λ body. body ≡ (prepare_of self.old.kept ballot from).says) }
@@ -227,8 +230,8 @@ impl<S: Store> Acceptor<S> {
     }
 
     /// Answers an Accept: votes for the value at the place, unless a greater ballot is promised. A
-    /// vote that is new is saved before it is answered; one under the same ballot is told again.
-    /// What saves nothing takes no memory.
+    /// new vote is saved before it is answered. A vote under the same ballot is reported again. An
+    /// answer that saves nothing takes no memory.
     pub fn accept(
         &mut self,
         ballot: Ballot,
@@ -275,7 +278,7 @@ impl<S: Store> Acceptor<S> {
         Ok(accepted(&vote))
     }
 
-    /// The store as it is.
+    /// Returns the store as it is.
     pub fn into_store(self) -> S
         ensures { result ≡ self.store }
     {
@@ -289,7 +292,7 @@ impl<S: Store> Acceptor<S> {
         store
     }
 
-    /// Passed on to the store: how its next save is to fail, if at all.
+    /// Passes a plan on to the store: how its next save is to fail, or `None`.
     pub fn fail_next(&mut self, plan: Option<bool>)
         ensures same { S.honest
             → (S.state self.new.store).stored ≡ (S.state self.old.store).stored }

@@ -1,4 +1,4 @@
-//! A change as the next entry of a log.
+//! Appends a change to a log as its next entry.
 ghost use Rattle.std.specs.Prelude.{◌≡◌, ◌+◌, ◌++◌, ◌≤◌, ℕ, length, vec_capacity, vec_len, OnErr, OnOk};
 ghost use Rattle.paxos_msg.specs.Records.{changed};
 ghost use Rattle.paxos_msg.specs.declared.record.Change.{Change};
@@ -12,15 +12,16 @@ use crate::me::Me;
 use paxos_msg::{Change, Record, put_ballot, put_number, put_value};
 use std::alloc::AllocError;
 
-/// How many bytes an entry has at most: its tag, a place, a ballot, and a batch of 32 characters.
+/// The length in bytes of the longest entry: its tag, a place, a ballot, and a batch of 32
+/// characters.
 const MOST_BYTES: usize = 53;
 
-/// An entry is short.
+/// An entry that can be made has at most 53 bytes.
 fn entries_are_short()
     ensures { (size : ℕ) (c : Change Value) → IsInRanges size c → length (entry_bytes Two c) ≤ 53 }
 {}
 
-/// Writes the entry of the change, in version 2.
+/// Appends the entry of the change, in version 2.
 fn put_entry(change: &Change, out: &mut Vec<u8>)
     requires room { vec_len out.old + length (entry_bytes Two change.now) ≤ vec_capacity out.old }
     ensures { out.new.items ≡ out.old.items ++ entry_bytes Two change.now }
@@ -40,8 +41,8 @@ fn put_entry(change: &Change, out: &mut Vec<u8>)
     }
 }
 
-/// Makes a change that can be made, and writes its entry behind the bytes. The room for both is
-/// made first: after an error nothing has changed.
+/// Makes a change that can be made, and appends its entry to the bytes. The room for both is made
+/// first, so after an error nothing has changed.
 pub(crate) fn append(
     kept: &mut Record,
     change: Change,

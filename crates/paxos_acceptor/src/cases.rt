@@ -4,7 +4,7 @@ ghost use Rattle.paxos_acceptor.specs.Cases as cases;
 
 use paxos_msg::{Ballot, Value, Vote};
 
-/// The promised ballot, where it is greater than this one.
+/// Returns the promised ballot, if it is greater than `ballot`.
 pub fn greater_promise(promised: Option<Ballot>, ballot: Ballot) -> Option<Ballot>
     ensures { result ≡ cases.greater_promise promised ballot }
 {
@@ -14,7 +14,7 @@ pub fn greater_promise(promised: Option<Ballot>, ballot: Ballot) -> Option<Ballo
     }
 }
 
-/// Whether it is this ballot that is promised.
+/// Returns true if `ballot` is the promised ballot.
 pub(crate) fn is_promised(promised: Option<Ballot>, ballot: Ballot) -> bool
     ensures { result ≡ cases.is_promised promised ballot }
 {
@@ -24,7 +24,7 @@ pub(crate) fn is_promised(promised: Option<Ballot>, ballot: Ballot) -> bool
     }
 }
 
-/// The value of the vote, where that is under this ballot.
+/// Returns the value of the vote, if it is under `ballot`.
 pub(crate) fn value_under(vote: Option<Vote>, ballot: Ballot) -> Option<Value>
     ensures { result ≡ cases.value_under vote ballot }
 {

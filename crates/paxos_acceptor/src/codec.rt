@@ -11,6 +11,7 @@ ghost use Rattle.paxos_acceptor.specs.declared.version.Version.TheVariants.{One,
 ghost use Rattle.paxos_acceptor.specs.Records.{AreKept, IsRecord, Rec, record_header, promised_bytes, record_bytes};
 ghost use Rattle.paxos_acceptor.specs.RecordReading.{record_at};
 ghost use Rattle.paxos_acceptor.specs.Version1.{Rec1};
+ghost use Rattle.paxos_msg.specs.declared.limits.TheConstants.{PLACES};
 
 use crate::me::Me;
 use crate::reading::record_of;
@@ -20,36 +21,37 @@ use paxos_msg::grammar::{
     ballot_is_spelling, number_is_spelling, value_v1_is_spelling, votes_are_short,
     votes_are_spelling,
 };
+use paxos_msg::limits::PLACES;
 use paxos_msg::{Ballot, Record, Vote, fits_ballot, fits_votes, put_ballot, put_number, put_votes};
 use std::alloc::Global;
 
-/// Whether the votes may stand beside the promised ballot: without one there are none, and else
+/// Returns true if the votes may be kept with the promised ballot. Without one there are none. Else
 /// their places ascend and none is above it.
 fn are_kept(size: u8, promised: Option<Ballot>, votes: &[Vote]) -> bool
     ensures { IsTrue result ↔ AreKept size promised votes.now }
 {
     match promised {
         None => votes.is_empty(),
-        Some(ballot) => fits_ballot(size, ballot) && fits_votes(size, ballot, 0, 65536, votes),
+        Some(ballot) => fits_ballot(size, ballot) && fits_votes(size, ballot, 0, PLACES, votes),
     }
 }
 
-/// Whether the record is in its ranges: no vote is above the promised ballot, and their places
-/// ascend.
+/// Returns true if the record is in its ranges: no vote is above the promised ballot, and their
+/// places ascend.
 pub fn record_fits(kept: &Record, me: Me) -> bool
     ensures { IsTrue result ↔ IsRecord me.group.size kept.now }
 {
-    // Read for the prover, which then knows that it fits four bytes.
+    // The prover knows the range of a field once it is read.
     let _starts = kept.starts;
     are_kept(me.group.size, kept.promised, kept.votes.as_slice())
 }
 
-/// The record that the bytes are the spelling of in version 2, all of them. `Bad` where they are
-/// the spelling of none in that version; where there is no memory, `Memory`.
+/// Reads the record whose spelling in version 2 is all of the bytes. Fails with `Bad` if they are
+/// the spelling of none in that version, and with `Memory` if memory runs out.
 pub fn record_decode(alloc: Global, bytes: &[u8], me: Me) -> Result<Record, StoreFault>
-    // What is read is spelled so.
+    // The record that is read has this spelling.
     ensures found { IfOk result (λ kept. Rec me bytes.now kept) }
-    // What is spelled so is read.
+    // Each spelling is read.
     ensures only { (r : Record Value) → Rec me bytes.now r → IfOk result (λ kept. kept ≡ r) }
     ensures bad { IsErrOf result StoreFault.Bad → (r : Record Value) → ¬ Rec me bytes.now r }
     ensures others { ¬ IsErrOf result StoreFault.Device }
@@ -58,13 +60,13 @@ pub fn record_decode(alloc: Global, bytes: &[u8], me: Me) -> Result<Record, Stor
     record_of(alloc, Version::Two, bytes, me)
 }
 
-/// The record that the bytes are the spelling of in version 1, all of them: each of its votes is
-/// for one key at most, a batch of one. `Bad` where they are the spelling of none in that version;
-/// where there is no memory, `Memory`.
+/// Reads the record whose spelling in version 1 is all of the bytes. Each of its votes is for one
+/// key at most, a batch of one. Fails with `Bad` if they are the spelling of none in that version,
+/// and with `Memory` if memory runs out.
 pub fn record_migrate(alloc: Global, bytes: &[u8], me: Me) -> Result<Record, StoreFault>
-    // What is read is spelled so.
+    // The record that is read has this spelling.
     ensures found { IfOk result (λ kept. Rec1 me bytes.now kept) }
-    // What is spelled so is read.
+    // Each spelling is read.
     ensures only { (r : Record Value) → Rec1 me bytes.now r → IfOk result (λ kept. kept ≡ r) }
     ensures bad { IsErrOf result StoreFault.Bad → (r : Record Value) → ¬ Rec1 me bytes.now r }
     ensures others { ¬ IsErrOf result StoreFault.Device }
@@ -73,8 +75,8 @@ pub fn record_migrate(alloc: Global, bytes: &[u8], me: Me) -> Result<Record, Sto
     record_of(alloc, Version::One, bytes, me)
 }
 
-/// Bytes are read as a record in a version just where they are its spelling in that version and it
-/// is in its ranges.
+/// Bytes are read as a record in a version exactly where they are its spelling in that version and
+/// it is in its ranges.
 fn record_is_spelling()
     ensures two { (me : Me) (bytes : List ℕ) (r : Record Value) → me.group.session < 2 ^ 32
         → AreBytes bytes → (record_at Two me bytes ≡ Ok r) ↔ Rec me bytes r }
@@ -87,7 +89,7 @@ fn record_is_spelling()
     votes_are_spelling();
 }
 
-/// Writes the bytes that stand before a record of version 2.
+/// Appends the header of a record of version 2.
 fn put_header(me: Me, out: &mut Vec<u8>)
     requires room { vec_len out.old + 9 ≤ vec_capacity out.old }
     ensures items { out.new.items ≡ out.old.items ++ record_header 2 me }
@@ -102,7 +104,7 @@ fn put_header(me: Me, out: &mut Vec<u8>)
     put_number(me.group.session, out);
 }
 
-/// Writes the promised ballot, or zeros.
+/// Appends the promised ballot, or zeros.
 fn put_promised(promised: Option<Ballot>, out: &mut Vec<u8>)
     requires room { vec_len out.old + 5 ≤ vec_capacity out.old }
     ensures items { out.new.items ≡ out.old.items ++ promised_bytes promised }
@@ -118,7 +120,7 @@ fn put_promised(promised: Option<Ballot>, out: &mut Vec<u8>)
     }
 }
 
-/// Writes how many votes there are, and the votes.
+/// Appends the number of votes, and the votes.
 fn put_kept(votes: &[Vote], out: &mut Vec<u8>)
     requires few { length votes.now < 2 ^ 32 }
     requires room { vec_len out.old + 4 + length (votes_bytes votes.now) ≤ vec_capacity out.old }
@@ -129,15 +131,15 @@ fn put_kept(votes: &[Vote], out: &mut Vec<u8>)
     put_votes(votes, out);
 }
 
-/// How many bytes the spelling of a record with so many votes takes at most.
+/// Returns the length in bytes of the longest spelling of a record with this many votes.
 pub(crate) fn most_bytes(votes: usize) -> usize
-    requires { votes ≤ 65537 }
+    requires { votes ≤ PLACES + 1 }
     ensures { result ≡ 22 + 52 * votes }
 {
     22 + 52 * votes
 }
 
-/// Writes the one spelling of the record in version 2. The record has to be in its ranges.
+/// Appends the spelling of the record in version 2. The record is in its ranges.
 pub(crate) fn put_record(kept: &Record, me: Me, out: &mut Vec<u8>)
     requires ranges { IsRecord me.group.size kept.now }
     requires room { vec_len out.old + (22 + 52 * length kept.now.votes) ≤ vec_capacity out.old }
@@ -150,8 +152,8 @@ pub(crate) fn put_record(kept: &Record, me: Me, out: &mut Vec<u8>)
     put_kept(kept.votes.as_slice(), out);
 }
 
-/// The one spelling of the record in version 2. The record has to be in its ranges. Only `Memory`
-/// is an error.
+/// Returns the spelling of the record in version 2. The record is in its ranges. Fails with
+/// `Memory` if memory runs out, and with nothing else.
 pub fn record_encode(alloc: Global, kept: &Record, me: Me) -> Result<Vec<u8>, StoreFault>
     requires { IsRecord me.group.size kept.now }
     ensures ok { IfOk result (λ bytes. bytes.items ≡ record_bytes me kept.now) }
@@ -163,10 +165,10 @@ pub fn record_encode(alloc: Global, kept: &Record, me: Me) -> Result<Vec<u8>, St
     Ok(out)
 }
 
-/// A record has at most 65,536 votes, each of which is spelled with at most 52 bytes. A change puts
-/// one vote more at most.
+/// A record has at most 65,536 votes, each spelled with at most 52 bytes. A change adds at most one
+/// vote.
 pub(crate) fn kept_votes_are_few()
-    ensures few { (size : ℕ) (r : Record Value) → IsRecord size r → length r.votes ≤ 65536 }
+    ensures few { (size : ℕ) (r : Record Value) → IsRecord size r → length r.votes ≤ PLACES }
     ensures short { (size : ℕ) (r : Record Value) → IsRecord size r
         → length (votes_bytes r.votes) ≤ 52 * length r.votes }
     ensures one_more { (r : Record Value) (c : Change Value)

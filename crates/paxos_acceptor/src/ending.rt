@@ -3,8 +3,9 @@ ghost use Rattle.std.specs.Prelude.{◌≡◌, ◌↔◌, IsTrue};
 ghost use Rattle.paxos_acceptor.specs.Log.{IsCutBatch, IsCutVote, IsEnd};
 
 use crate::version::Version;
+use paxos_msg::limits::MOST_CHARACTERS;
 
-/// Whether some bytes of a batch are missing, behind its tag: in version 2 its count tells how many
+/// Returns true if bytes of a batch are missing after its tag. In version 2 its count says how many
 /// it has.
 fn is_cut_batch(version: Version, bytes: &[u8]) -> bool
     ensures { IsTrue result ↔ IsCutBatch version bytes.now }
@@ -16,20 +17,22 @@ fn is_cut_batch(version: Version, bytes: &[u8]) -> bool
         Version::One => false,
         Version::Two => {
             let count = bytes[9];
-            0 < count && count <= 32 && bytes.len() < 10 + usize::from(count)
+            0 < count
+                && usize::from(count) <= MOST_CHARACTERS
+                && bytes.len() < 10 + usize::from(count)
         }
     }
 }
 
-/// Whether some bytes of a vote are missing, behind its tag.
+/// Returns true if bytes of a vote are missing after its tag.
 fn is_cut_vote(version: Version, bytes: &[u8]) -> bool
     ensures { IsTrue result ↔ IsCutVote version bytes.now }
 {
     bytes.len() < 10 || (bytes[9] == 1 && is_cut_batch(version, &bytes[10..]))
 }
 
-/// Whether no whole entry stands in the bytes, nor one that cannot be told: they are nothing, or an
-/// entry that was cut.
+/// Returns true if the bytes are the end of a log: nothing, or an entry that was cut. They have no
+/// whole entry and no unknown tag.
 pub(crate) fn is_end(version: Version, bytes: &[u8]) -> bool
     ensures { IsTrue result ↔ IsEnd version bytes.now }
 {

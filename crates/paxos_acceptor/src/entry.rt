@@ -7,10 +7,11 @@ ghost use Rattle.paxos_acceptor.specs.Log.{IsEntry, IsInRanges, IsNext};
 ghost use Rattle.paxos_acceptor.specs.Records.{IsRecord};
 
 use crate::me::Me;
+use paxos_msg::limits::{LAST_START, PLACES};
 use paxos_msg::{Ballot, Change, Record, Value, Vote, fits_ballot, fits_votes};
 use std::alloc::AllocError;
 
-/// Whether the ballot is not below the promised one, if there is one.
+/// Returns true if `ballot` is not below the promised ballot, or none is promised.
 fn is_not_below(promised: Option<Ballot>, ballot: Ballot) -> bool
     ensures { IsTrue result ↔ IfSome promised (λ p. IsAtMost p ballot) }
 {
@@ -20,7 +21,7 @@ fn is_not_below(promised: Option<Ballot>, ballot: Ballot) -> bool
     }
 }
 
-/// Whether the fields of a vote are in their ranges.
+/// Returns true if the fields of a vote are in their ranges.
 fn fits_vote(size: u8, place: u32, ballot: Ballot, value: Value) -> bool
     ensures { IsTrue result ↔ (IsPlace place × IsBallot size ballot × IsValue size value) }
 {
@@ -29,10 +30,10 @@ fn fits_vote(size: u8, place: u32, ballot: Ballot, value: Value) -> bool
         ballot,
         value,
     };
-    fits_votes(size, ballot, 0, 65536, &[vote])
+    fits_votes(size, ballot, 0, PLACES, &[vote])
 }
 
-/// Whether the fields of a change are in their ranges.
+/// Returns true if the fields of a change are in their ranges.
 fn is_in_ranges(size: u8, change: Change) -> bool
     ensures { IsTrue result ↔ IsInRanges size change }
 {
@@ -43,20 +44,20 @@ fn is_in_ranges(size: u8, change: Change) -> bool
     }
 }
 
-/// Whether a change whose fields are in their ranges can be made to the record: there is a start to
-/// spare, and no ballot is below the promised one.
+/// Returns true if a change whose fields are in their ranges can be made to the record. There is a
+/// start to spare, and no ballot is below the promised one.
 pub(crate) fn is_next(kept: &Record, change: &Change) -> bool
     ensures { IsTrue result ↔ IsNext kept.now change.now }
 {
     match change {
-        Change::Start => kept.starts < u32::MAX,
+        Change::Start => kept.starts < LAST_START,
         Change::Promise(ballot) => is_not_below(kept.promised, *ballot),
         Change::Ballotted(_, ballot, _) => is_not_below(kept.promised, *ballot),
     }
 }
 
-/// Whether the change can be made to the record. Its own fields, the starts and the promised ballot
-/// tell it, so that the answer takes as long with many votes as with none.
+/// Returns true if the change can be made to the record. Only its own fields, the starts and the
+/// promised ballot matter. So the answer takes as long with many votes as with none.
 pub(crate) fn is_entry(kept: &Record, change: &Change, me: Me) -> bool
     ensures { IsTrue result ↔ IsEntry me.group.size kept.now change.now }
 {

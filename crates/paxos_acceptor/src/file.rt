@@ -17,12 +17,15 @@ use std::io;
 use std::marker::Model;
 use std::rt::Files;
 
-/// A record in a file. A new file is a log of changes, to which each save appends one, whatever the
-/// record's size. A file that has a whole record is loaded too, in version 2 or in version 1, and
-/// so is a log of version 1: each save then writes the whole record of version 2 to a second file,
-/// which gets its name. A load changes nothing. What can be known of the record is what was found
-/// or saved last, and how often the device has failed. After a fault nothing is saved until it is
-/// loaded again.
+/// A record in a file. A new file is a log of changes. Each save appends one change, whatever the
+/// record's size.
+///
+/// A file with a whole record, of version 2 or 1, is loaded too, and so is a log of version 1. Each
+/// save then writes the whole record of version 2 to a second file, which gets the first one's
+/// name. A load changes nothing.
+///
+/// Contracts see the record that was found or saved last, and how often the device has failed.
+/// After a fault nothing is saved until the record is loaded again.
 pub struct FileStore<R> {
     rt: R,
     path: String,
@@ -61,7 +64,7 @@ impl<R> Model for FileStore<R> {
 }
 
 impl<R> FileStore<R> {
-    /// Counts a fault of the device, after which it is not known what the file has.
+    /// Counts a fault of the device. The content of the file is not known after it.
     fn give_up(&mut self) -> StoreFault
         ensures device { result ≡ StoreFault.Device }
         ensures me { self.new.me ≡ self.old.me }
@@ -75,7 +78,7 @@ impl<R> FileStore<R> {
 }
 
 impl<R: Files + AllocGlobal + Copy + Drop> FileStore<R> {
-    /// A store in the file of that path, for the record of that node. It touches no file yet.
+    /// Returns a store in the file at `path`, for the record of node `me`. It touches no file yet.
     pub fn new(rt: R, path: &str, me: Me) -> Result<FileStore<R>, AllocError>
         ensures { IfOk result (λ store. store ≡ record { me = me; found = None; faults = 0 }) }
     {
@@ -104,7 +107,7 @@ impl<R: Files + AllocGlobal + Copy + Drop> Store for FileStore<R> {
     fn load(&mut self) -> Result<Record, StoreFault>
         ensures { Finds self.old self.new result }
     {
-        // Until it is read nothing is known of it.
+        // Nothing is known of the file until it is read.
         self.found.take();
         let read = match read_synced(&self.rt, self.path.as_str()) {
             Ok(read) => read,

@@ -1,4 +1,4 @@
-//! What a file holds, and what the next save writes.
+//! The form of a file, and the bytes that the next save writes.
 ghost use Rattle.std.specs.Prelude.{◌≡◌, ◌++◌, ◌≤◌, ℕ, List, None, Some, IfOk, IfSome, IsErrOf, IsNone, IsOk, OnErr, OnOk, length};
 ghost use Rattle.paxos_msg.specs.declared.record.Record.{Record};
 ghost use Rattle.paxos_msg.specs.declared.value.Value.{Value};
@@ -20,29 +20,29 @@ use crate::version::Version;
 use paxos_msg::{Change, Record};
 use std::alloc::{AllocError, Global};
 
-/// What a file holds, by which the next save goes.
+/// The form of a file, which decides how the next save writes.
 #[derive(Drop)]
 pub(crate) enum Form {
     /// There is no file.
     Missing,
-    /// A log whose last entry was cut: these are its header and its whole entries.
+    /// A log whose last entry was cut. The bytes are its header and its whole entries.
     Cut(Vec<u8>),
-    /// A log of that many bytes, without a cut entry.
+    /// A log of this many bytes, without a cut entry.
     Log(usize),
-    /// A record, or a log of version 1.
+    /// A whole record, or a log of version 1.
     Whole,
 }
 
-/// What a save writes to a file.
+/// The bytes that a save writes to a file.
 #[derive(Drop)]
 pub(crate) struct Patch {
-    /// The bytes go behind these many, which are all that the file has; `None` where they go to
-    /// another file, which then gets its name.
+    /// The length of the file, after which the bytes go. `None`: they go to another file, which
+    /// then gets its name.
     pub(crate) at: Option<usize>,
     pub(crate) bytes: Vec<u8>,
 }
 
-/// The record of a file in whole form, or with a log of version 1.
+/// Returns the record of a file in whole form, or with a log of version 1.
 fn record_of_whole(alloc: Global, bytes: &[u8], me: Me) -> Result<Record, StoreFault>
     ensures found { IfOk result (λ r. IsWholeForm me bytes.now r) }
     ensures only { (r : Record Value) → IsWholeForm me bytes.now r
@@ -65,8 +65,8 @@ fn record_of_whole(alloc: Global, bytes: &[u8], me: Me) -> Result<Record, StoreF
     Ok(record)
 }
 
-/// The record of a file with these bytes, and of a log of version 2 how many of them its header and
-/// its whole entries take.
+/// Returns the record of a file with these bytes, and for a log of version 2 the length of its
+/// header and its whole entries.
 fn record_of_bytes(
     alloc: Global,
     bytes: &[u8],
@@ -90,8 +90,8 @@ fn record_of_bytes(
     }
 }
 
-/// The form of a file with these bytes, of which the header and the whole entries of a log of
-/// version 2 take `log`.
+/// Returns the form of a file with these bytes. `log` is the length of the header and the whole
+/// entries of a log of version 2.
 fn form_of_bytes(mut bytes: Vec<u8>, log: Option<usize>) -> Form
     requires { IfSome log (λ n. n ≤ length bytes.items) }
     ensures { (me : Me) (r : Record Value) → IfSome log (LogIn Two me bytes.items r)
@@ -132,7 +132,7 @@ pub(crate) fn form_of(
     Ok((record, form_of_bytes(bytes, log)))
 }
 
-/// The header of a new log.
+/// Returns the header of a new log.
 fn new_log(alloc: Global, me: Me) -> Result<Vec<u8>, AllocError>
     ensures { IfOk result (λ bytes. bytes.items ≡ log_header Two me) }
 {
@@ -141,8 +141,8 @@ fn new_log(alloc: Global, me: Me) -> Result<Vec<u8>, AllocError>
     Ok(bytes)
 }
 
-/// Makes a change that can be made, and gives the spelling of the record that it leaves. The room
-/// for both is made first: after an error nothing has changed.
+/// Makes a change that can be made, and returns the spelling of the changed record. The room for
+/// both is made first, so after an error nothing has changed.
 fn spell_changed(
     alloc: Global,
     kept: &mut Record,
@@ -164,8 +164,8 @@ fn spell_changed(
     Ok(bytes)
 }
 
-/// Makes a change that can be made, and gives what a file of that form needs to have the changed
-/// record. After an error nothing has changed.
+/// Makes a change that can be made, and returns the bytes that a file of that form needs to have
+/// the changed record. After an error nothing has changed.
 pub(crate) fn patch_of(
     alloc: Global,
     form: &Form,
@@ -193,7 +193,7 @@ pub(crate) fn patch_of(
     Ok(Patch { at, bytes })
 }
 
-/// The form of a file that had the first form and got the patch.
+/// Returns the form of a file that had the first form and got the patch.
 pub(crate) fn form_after(form: &Form, patch: &Patch) -> Form
     ensures after { IsFormAfter form.now patch.now result }
     ensures fits { (me : Me) (r : Record Value) → IsFormOf me r result }

@@ -1,5 +1,5 @@
-//! The laws of an acceptor, over the definitions alone: what it answers may be sent, over the
-//! record after its save.
+//! The laws of an acceptor, over the definitions alone: its answer may be sent, over the record
+//! after its save. Each function is empty: its contract is the law.
 ghost use Rattle.std.specs.Prelude.{◌≡◌, ◌≢◌, ◌+◌, ◌^◌, ◌++◌, ◌<◌, ◌⊎◌, ℕ, List, Option, Some, IfSome, length, take};
 ghost use Rattle.paxos_msg.specs.declared.ballot.Ballot.{Ballot};
 ghost use Rattle.paxos_msg.specs.declared.message.Body.TheVariants.{Accept};
@@ -24,10 +24,11 @@ ghost use Rattle.paxos_acceptor.specs.Log.{IsEntry, IsUncut, LogIn, entry_bytes,
 ghost use Rattle.paxos_acceptor.specs.Records.{IsRecord, Rec};
 ghost use Rattle.paxos_acceptor.specs.Stores.{IsOneOf};
 ghost use Rattle.paxos_acceptor.specs.Version1.{Rec1};
+ghost use Rattle.paxos_msg.specs.declared.limits.TheConstants.{LAST_START};
 
 use paxos_msg::laws::votes_are_by_place;
 
-/// The empty record is backed by whatever was sent. A record stays backed as more is sent, after a
+/// The empty record is backed by any messages. A record stays backed as more is sent, after a
 /// start, and after any change that may be saved.
 pub fn backing()
     ensures empty { (sent : Sent) → HasBackedVotes sent empty_record }
@@ -41,16 +42,16 @@ pub fn backing()
     votes_are_by_place();
 }
 
-/// A Prepare under a ballot that is above the promised one, or where none is promised, is answered
-/// after a save of its promise.
+/// A Prepare under a ballot above the promised one, or where none is promised, is answered after a
+/// save of its promise.
 pub fn greater_ballots_are_promised()
     ensures { (r : Record) (b : Ballot) (from : ℕ) → IfSome r.promised (λ p. IsBelow p b)
         → (prepare_of r b from).saves ≡ Some (Promise b) }
 {}
 
-/// The answer to a Prepare may be sent over the record after its save, which may be saved and keeps
-/// the record backed. The record has to be in its ranges: a part that speaks of all places speaks
-/// of those below 65,536.
+/// The answer to a Prepare may be sent over the record after its save. That save is allowed, and
+/// keeps the record backed. The record is in its ranges: a part for all places covers only those
+/// below 65,536.
 pub fn promises_may_be_sent()
     ensures saves { (sent : Sent) (r : Record) (b : Ballot) (from : ℕ)
         → IfSome (prepare_of r b from).saves (MaySave sent r) }
@@ -62,7 +63,8 @@ pub fn promises_may_be_sent()
         → HasBackedVotes sent (after r (prepare_of r b from).saves) }
 {}
 
-/// The answer to an Accept that was sent, likewise.
+/// The answer to an Accept that was sent may be sent over the record after its save. That save is
+/// allowed, and keeps the record backed.
 pub fn votes_may_be_sent()
     ensures saves { (sent : Sent) (r : Record) (b : Ballot) (s : ℕ) (v : Value)
         → IsSaid sent (Accept b s v) → IfSome (accept_of r b s v).saves (MaySave sent r) }
@@ -77,9 +79,9 @@ pub fn votes_may_be_sent()
     votes_are_by_place();
 }
 
-/// A log grows by its next entry. Where that was cut, it is a log of the record before it: so a
-/// save that was cut short while it appended leaves the old record or the changed one. What is kept
-/// of a log whose last entry was cut is a log without that entry.
+/// A log grows by its next entry. If that entry was cut, it is a log of the record before it. So a
+/// save that was cut short while it appended leaves the old record or the changed one. The whole
+/// entries of a log whose last entry was cut are a log.
 pub fn logs_grow()
     ensures new { (me : Me) → IsUncut me (log_header Two me) empty_record }
     ensures grown { (me : Me) (bytes : List ℕ) (r : Record) (c : Change) → IsUncut me bytes r
@@ -91,8 +93,8 @@ pub fn logs_grow()
         → IsUncut me (take n bytes) r }
 {}
 
-/// What goes out fits: over a record in its ranges the answer to a Prepare is in its ranges,
-/// whichever node sends it, and so is the record after its save.
+/// Over a record in its ranges the answer to a Prepare is in its ranges, whichever node sends it.
+/// So is the record after its save.
 pub fn promises_fit()
     ensures says { (size i from : ℕ) (r : Record) (b : Ballot) → IsRecord size r → IsBallot size b
         → IsPlace from → IsBody size i (prepare_of r b from).says }
@@ -100,7 +102,8 @@ pub fn promises_fit()
         → IsPlace from → IsRecord size (after r (prepare_of r b from).saves) }
 {}
 
-/// The answer to an Accept, likewise.
+/// Over a record in its ranges the answer to an Accept is in its ranges, whichever node sends it.
+/// So is the record after its save.
 pub fn votes_fit()
     ensures says { (size i s : ℕ) (r : Record) (b : Ballot) (v : Value) → IsRecord size r
         → IsBallot size b → IsPlace s → IsValue size v → IsBody size i (accept_of r b s v).says }
@@ -109,21 +112,21 @@ pub fn votes_fit()
         → IsRecord size (after r (accept_of r b s v).saves) }
 {}
 
-/// A start is counted once, where there is one to spare, and nothing else counts as one. After a
-/// save of it that failed the stored starts are those before, or one more.
+/// A start is counted once, if there is one to spare, and nothing else is counted. After a failed
+/// save of a start the stored starts are those before, or one more.
 pub fn starts_are_counted()
     ensures one_more { (r : Record) → (changed r Start).starts ≡ r.starts + 1 }
     ensures others { (r : Record) (change : Change) → change ≢ Start
         → (changed r change).starts ≡ r.starts }
     ensures failed { (r left : Record) → IsOneOf left r (changed r Start)
         → (left.starts ≡ r.starts) ⊎ (left.starts ≡ r.starts + 1) }
-    ensures fits { (size : ℕ) (r : Record) → IsRecord size r → r.starts < 4294967295
+    ensures fits { (size : ℕ) (r : Record) → IsRecord size r → r.starts < LAST_START
         → IsRecord size (changed r Start) }
 {}
 
-/// What a store in a file knows of its file stays so at each save, as long as nothing else writes
-/// there: the file has the changed record, in the form that the store notes. The length of a log is
-/// below 2 to the power of 64.
+/// The knowledge that a store has of its file stays right at each save, as long as nothing else
+/// writes there. The file has the changed record, in the form that the store notes. The length of a
+/// log is below 2 to the power of 64.
 pub(crate) fn files_are_known()
     ensures first { (me : Me) (c : Change) (patch : Patch) (form : Form)
         → IsEntry me.group.size empty_record c → IsPatch me empty_record c Missing patch
@@ -138,7 +141,7 @@ pub(crate) fn files_are_known()
         → IsFormOf me r form }
 {}
 
-/// No bytes are of two forms: of a record and of a log, or of two versions.
+/// No bytes have two forms: of a record and of a log, or of two versions.
 pub fn forms_are_apart()
     ensures records { (me : Me) (bytes : List ℕ) (r old : Record) → Rec me bytes r
         → ¬ Rec1 me bytes old }

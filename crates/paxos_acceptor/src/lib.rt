@@ -1,4 +1,14 @@
-//! The acceptor: what a node promises and votes for, over a store that outlives it.
+//! The acceptor of a node: its promises and votes, over a store that outlives it.
+//!
+//! For who writes a node over a network and a disk of their own. Open first: `Acceptor::open(alloc,
+//! store, me)?` loads the record of the store, a `FileStore`, a `MemoryStore` or a `Store` of your
+//! own. A refusal gives the store back. `new_start` counts the start, and is called once after each
+//! open. Then `prepare(ballot, from)?` and `accept(ballot, place, value)?` return the body of the
+//! answer. Each saves before it answers. After `AcceptorFault::Store` the acceptor is closed: open
+//! another one over the store.
+//!
+//! `record_decode`, `record_encode`, `record_migrate` and `log_decode` read and write the bytes of
+//! a record. `laws` has empty functions: the contract of each is a law.
 #![tactic(auto)]
 
 mod acceptor;

@@ -21,10 +21,11 @@ use paxos_msg::grammar::{
     ballot_is_spelling, number_is_spelling, value_is_spelling, value_v1_is_spelling,
     votes_are_spelling,
 };
+use paxos_msg::limits::LAST_PLACE;
 use paxos_msg::{Change, Group, Record, Value, WireFault, read_ballot, read_value, read_value_v1};
 use std::alloc::Global;
 
-/// The bytes that stand before the entries of this node's log in that version.
+/// Returns the header of this node's log in that version.
 pub(crate) fn log_header(version: Version, me: Me) -> [u8; 9]
     ensures { result ≡ log_header version me }
 {
@@ -42,7 +43,7 @@ pub(crate) fn log_header(version: Version, me: Me) -> [u8; 9]
     ]
 }
 
-/// The bytes behind the header, if they begin with it.
+/// Returns the bytes after the header, if they begin with it.
 fn entries_of(version: Version, me: Me, bytes: &[u8]) -> Option<&[u8]>
     ensures some { IfSome result (λ entries. bytes.now ≡ log_header version me ++ entries.now) }
     ensures none { IsNone result → (entries : List ℕ)
@@ -52,7 +53,7 @@ fn entries_of(version: Version, me: Me, bytes: &[u8]) -> Option<&[u8]>
     bytes.strip_prefix(header.as_slice())
 }
 
-/// The value at the front of the bytes, in that version, and how many bytes it takes.
+/// Reads the value at the front of the bytes in that version, and the number of its bytes.
 fn value_of(version: Version, group: Group, bytes: &[u8]) -> Result<(Value, usize), WireFault>
     ensures { GivesField bytes.now result (value_in version group.size bytes.now) }
 {
@@ -62,7 +63,7 @@ fn value_of(version: Version, group: Group, bytes: &[u8]) -> Result<(Value, usiz
     }
 }
 
-/// The promise at the front of the bytes, behind its tag, and the bytes behind it.
+/// Reads a promise after its tag. Returns it and the bytes after it.
 fn promise_of(group: Group, bytes: &[u8]) -> Result<(Change, &[u8]), WireFault>
     ensures { Gives (λ x. (x.0, x.1.now)) result (log_promise_at group.size bytes.now) }
 {
@@ -70,13 +71,13 @@ fn promise_of(group: Group, bytes: &[u8]) -> Result<(Change, &[u8]), WireFault>
     Ok((Change::Promise(ballot), &bytes[taken..]))
 }
 
-/// The vote at the front of the bytes, behind its tag, and the bytes behind it.
+/// Reads a vote after its tag. Returns it and the bytes after it.
 #[tactic(auto, unfolding(crate::specs::LogReading::log_vote_at, paxos_msg::specs::Reading::place_at))]
 fn vote_of(version: Version, group: Group, bytes: &[u8]) -> Result<(Change, &[u8]), WireFault>
     ensures { Gives (λ x. (x.0, x.1.now)) result (log_vote_at version group.size bytes.now) }
 {
     let (place, rest) = number_of(bytes)?;
-    if place > 65_535 {
+    if place > LAST_PLACE {
         return Err(WireFault::Place);
     }
     let (ballot, taken) = read_ballot(rest, group)?;
@@ -85,7 +86,7 @@ fn vote_of(version: Version, group: Group, bytes: &[u8]) -> Result<(Change, &[u8
     Ok((Change::Ballotted(place, ballot, value), &rest[taken..]))
 }
 
-/// The change behind this tag, and the bytes behind it.
+/// Reads the change after this tag. Returns it and the bytes after it.
 fn tagged(
     version: Version,
     group: Group,
@@ -102,7 +103,7 @@ fn tagged(
     }
 }
 
-/// The first entry, and the bytes behind it.
+/// Reads the first entry. Returns it and the bytes after it.
 #[tactic(auto, unfolding(crate::specs::LogReading::entry_at))]
 fn entry_of(version: Version, group: Group, bytes: &[u8]) -> Result<(Change, &[u8]), WireFault>
     ensures { Gives (λ x. (x.0, x.1.now)) result (entry_at version group.size bytes.now) }
@@ -113,7 +114,7 @@ fn entry_of(version: Version, group: Group, bytes: &[u8]) -> Result<(Change, &[u
     }
 }
 
-/// An entry is read just where the bytes begin with its spelling.
+/// An entry is read exactly where the bytes begin with its spelling.
 fn entry_is_spelling()
     ensures { (version : Version) (size : ℕ) (bytes : List ℕ) (c : Change Value) (rest : List ℕ)
         → AreBytes bytes → (entry_at version size bytes ≡ Ok (c, rest))
@@ -126,7 +127,8 @@ fn entry_is_spelling()
     votes_are_spelling();
 }
 
-/// The first entry, and the bytes behind it. An error is that the bytes begin with none.
+/// Reads the first entry. Returns it and the bytes after it. Fails if the bytes begin with no
+/// entry.
 fn first_entry(version: Version, group: Group, bytes: &[u8]) -> Result<(Change, &[u8]), WireFault>
     ensures found { IfOk result (λ x. BeginsEntry version group.size bytes.now x.0 x.1.now) }
     ensures only { (c : Change Value) (rest : List ℕ)
@@ -139,8 +141,8 @@ fn first_entry(version: Version, group: Group, bytes: &[u8]) -> Result<(Change, 
     entry_of(version, group, bytes)
 }
 
-/// Makes the change of the first entry, and answers the bytes behind it. `Bad` where it can't be
-/// made, or where there is none.
+/// Makes the change of the first entry. Returns the bytes after it. Fails with `Bad` if the change
+/// cannot be made, or there is no entry.
 fn enter_first<'a>(
     version: Version,
     me: Me,
@@ -167,8 +169,7 @@ fn enter_first<'a>(
     Ok(behind)
 }
 
-/// Makes the changes of all entries, one after the other, and answers the bytes behind the last
-/// whole one.
+/// Makes the changes of all entries, one after another. Returns the bytes after the last whole one.
 fn enter_all<'a>(
     version: Version,
     me: Me,
@@ -194,8 +195,8 @@ fn enter_all<'a>(
     Ok(rest)
 }
 
-/// The record that the bytes are a log of in that version, and how many of them its header and
-/// whole entries take.
+/// Returns the record whose log in that version the bytes are, and the length of its header and
+/// whole entries.
 pub(crate) fn log_of(
     alloc: Global,
     version: Version,
@@ -218,13 +219,13 @@ pub(crate) fn log_of(
     Ok((kept, bytes.len() - end.len()))
 }
 
-/// The record that the bytes are a log of, in version 2 or in version 1, and how many of them its
-/// header and whole entries take: an entry that was cut at the end is left out. `Bad` where they
-/// are a log of none; where there is no memory, `Memory`.
+/// Returns the record whose log the bytes are, in version 2 or 1, and the length of its header and
+/// whole entries. An entry that was cut at the end is left out. Fails with `Bad` if they are no
+/// log, and with `Memory` if memory runs out.
 pub fn log_decode(alloc: Global, bytes: &[u8], me: Me) -> Result<(Record, usize), StoreFault>
-    // What is read is a log of it.
+    // The bytes are a log of the record that is read.
     ensures found { IfOk result (λ x. Log me bytes.now x.0 x.1) }
-    // What is a log of it is read.
+    // Each log is read.
     ensures only { (r : Record Value) (n : ℕ) → Log me bytes.now r n
         → IfOk result (λ x. (x.0 ≡ r) × (x.1 ≡ n)) }
     ensures bad { IsErrOf result StoreFault.Bad → (r : Record Value) (n : ℕ)

@@ -1,4 +1,4 @@
-//! Whose record it is.
+//! The node of a record.
 use paxos_msg::Group;
 
 /// A node of a group.

@@ -4,13 +4,14 @@ ghost use Rattle.paxos_msg.specs.declared.record.Change.TheVariants.{Start};
 ghost use Rattle.paxos_msg.specs.Messages.{IsAscending};
 ghost use Rattle.paxos_acceptor.specs.Memories.{Loads, SavesByPlan};
 ghost use Rattle.paxos_acceptor.specs.Stores.{HasCause};
+ghost use Rattle.paxos_msg.specs.declared.limits.TheConstants.{LAST_START};
 
 use crate::store::{Store, StoreFault};
 use base::count_fault;
 use paxos_msg::{Change, Record};
 use std::marker::Model;
 
-/// A record in memory, and the fault that the next save is to have, if any.
+/// A record in memory, and the planned fault of the next save, if any.
 pub struct MemoryStore {
     record: Record,
     plan: Option<bool>,
@@ -36,7 +37,7 @@ impl Model for MemoryStore {
 }
 
 impl MemoryStore {
-    /// A store that has the record, and no fault.
+    /// Returns a store that has the record, and no planned fault.
     pub fn new(kept: Record) -> MemoryStore
         ensures { (result.stored ≡ kept) × (result.plan ≡ None) × (result.faults ≡ 0) }
     {
@@ -47,7 +48,7 @@ impl MemoryStore {
         }
     }
 
-    /// The record that a load finds.
+    /// Returns the record that a load finds.
     pub fn stored(&self) -> &Record
         ensures { result.now ≡ self.now.stored }
     {
@@ -71,7 +72,7 @@ impl Store for MemoryStore {
     }
 
     fn save(&mut self, change: &Change) -> Result<(), StoreFault>
-        requires starts { change.now ≡ Start → self.old.stored.starts < 4294967295 }
+        requires starts { change.now ≡ Start → self.old.stored.starts < LAST_START }
         requires ascending { IsAscending self.old.stored.votes }
         ensures by_plan { SavesByPlan self.old self.new change.now result }
         ensures good { ¬ IsErrOf result StoreFault.Bad }

@@ -1,4 +1,4 @@
-//! Reading the bytes of a record, in either version.
+//! Reads the bytes of a record, in either version.
 ghost use Rattle.std.specs.Prelude.{◌≡◌, ◌≤◌, length, IfOk, Some};
 ghost use Rattle.paxos_msg.specs.Reading.{Gives, number_at};
 ghost use Rattle.paxos_acceptor.specs.RecordReading.{behind_byte, head_at, record_header_at, promised_at, ReadsAs, record_at, votes_of};
@@ -13,7 +13,7 @@ use paxos_msg::{
 };
 use std::alloc::Global;
 
-/// The number at the front of the bytes, and the bytes behind it.
+/// Reads the number at the front of the bytes. Returns it and the bytes after it.
 pub(crate) fn number_of(bytes: &[u8]) -> Result<(u32, &[u8]), WireFault>
     ensures { Gives (λ x. (x.0, x.1.now)) result (number_at bytes.now) }
 {
@@ -21,7 +21,7 @@ pub(crate) fn number_of(bytes: &[u8]) -> Result<(u32, &[u8]), WireFault>
     Ok((number, &bytes[taken..]))
 }
 
-/// The bytes behind this one, which has to stand at their front.
+/// Returns the bytes after `byte`, which has to be the first one.
 fn after_byte(byte: u8, bytes: &[u8]) -> Result<&[u8], WireFault>
     ensures { Gives (λ rest. rest.now) result (behind_byte byte bytes.now) }
 {
@@ -32,7 +32,7 @@ fn after_byte(byte: u8, bytes: &[u8]) -> Result<&[u8], WireFault>
     }
 }
 
-/// The bytes behind a header of this node's record in that version.
+/// Returns the bytes after a header of this node's record in that version.
 #[tactic(auto, unfolding(crate::specs::RecordReading::record_header_at))]
 fn after_header(version: Version, me: Me, bytes: &[u8]) -> Result<&[u8], WireFault>
     ensures { Gives (λ rest. rest.now) result (record_header_at version me bytes.now) }
@@ -49,7 +49,7 @@ fn after_header(version: Version, me: Me, bytes: &[u8]) -> Result<&[u8], WireFau
     Ok(rest)
 }
 
-/// The promised ballot, which is zeros where there is none, and the bytes behind it.
+/// Reads the promised ballot, which is zeros if there is none. Returns it and the bytes after it.
 #[tactic(auto, unfolding(crate::specs::RecordReading::promised_at))]
 fn promised_of(me: Me, bytes: &[u8]) -> Result<(Option<Ballot>, &[u8]), WireFault>
     ensures { Gives (λ x. (x.0, x.1.now)) result (promised_at me.group.size bytes.now) }
@@ -62,7 +62,7 @@ fn promised_of(me: Me, bytes: &[u8]) -> Result<(Option<Ballot>, &[u8]), WireFaul
     Ok((Some(ballot), &bytes[taken..]))
 }
 
-/// What stands before the votes of a record.
+/// The fields of a record before its votes.
 #[derive(Clone, Copy)]
 struct Head {
     starts: u32,
@@ -70,7 +70,7 @@ struct Head {
     count: u32,
 }
 
-/// What stands before the votes, and the bytes behind it.
+/// Reads the fields before the votes. Returns them and the bytes after them.
 #[tactic(auto, unfolding(crate::specs::RecordReading::head_at))]
 fn head_of(version: Version, me: Me, bytes: &[u8]) -> Result<(Head, &[u8]), WireFault>
     ensures { Gives (λ x. ((x.0.starts, x.0.promised, x.0.count), x.1.now)) result
@@ -88,8 +88,7 @@ fn head_of(version: Version, me: Me, bytes: &[u8]) -> Result<(Head, &[u8]), Wire
     Ok((head, rest))
 }
 
-/// The votes under the ballot, so many of them, which have to be all of the bytes. They stay in the
-/// bytes.
+/// Reads `count` votes under the ballot, which have to be all of the bytes. They stay in the bytes.
 fn lent_votes(
     group: Group,
     ballot: Ballot,
@@ -106,7 +105,7 @@ fn lent_votes(
     Ok(votes)
 }
 
-/// The votes under the ballot in that version, so many of them, which have to be all of the bytes.
+/// Reads `count` votes under the ballot in that version, which have to be all of the bytes.
 fn votes_under(
     alloc: Global,
     version: Version,
@@ -127,7 +126,8 @@ fn votes_under(
     }
 }
 
-/// The votes of a record, which have to be all of the bytes. Without a promise there are none.
+/// Reads the votes of a record, which have to be all of the bytes. Without a promise there are
+/// none.
 fn kept_votes(
     alloc: Global,
     version: Version,
@@ -145,7 +145,7 @@ fn kept_votes(
     }
 }
 
-/// The record that is all of the bytes, in that version.
+/// Reads the record that is all of the bytes, in that version.
 #[tactic(auto, unfolding(crate::specs::RecordReading::record_at))]
 pub(crate) fn record_of(
     alloc: Global,

@@ -1,22 +1,23 @@
-//! Saving a change before it is answered.
+//! Saves a change before it is answered.
 ghost use Rattle.std.specs.Prelude.{◌≡◌, ◌<◌, false, OnErr, OnOk};
 ghost use Rattle.paxos_msg.specs.declared.record.Change.TheVariants.{Ballotted, Start};
 ghost use Rattle.paxos_msg.specs.Messages.{IsAscending};
 ghost use Rattle.paxos_msg.specs.Records.{changed, with_vote};
 ghost use Rattle.paxos_acceptor.specs.Saves.{SavesRecord};
+ghost use Rattle.paxos_msg.specs.declared.limits.TheConstants.{LAST_START};
 
 use crate::fault::AcceptorFault;
 use crate::store::{Store, StoreFault};
 use paxos_msg::{Change, Vote, insert_vote};
 
-/// Saves a change, and notes where the store is to be used no more.
+/// Saves a change. Sets `is_closed` if the device fails.
 pub(crate) fn save_to<S: Store>(
     store: &mut S,
     is_closed: &mut bool,
     change: Change,
 ) -> Result<(), AcceptorFault>
     requires open { is_closed.old ≡ false }
-    requires starts { S.honest → change ≡ Start → (S.state store.old).stored.starts < 4294967295 }
+    requires starts { S.honest → change ≡ Start → (S.state store.old).stored.starts < LAST_START }
     requires ascending { S.honest → IsAscending (S.state store.old).stored.votes }
     ensures { SavesRecord S.honest S.fails_at_will (S.state store.old)
         (S.state store.new) is_closed.new result (changed (S.state store.old).stored change) }
@@ -32,8 +33,8 @@ pub(crate) fn save_to<S: Store>(
     }
 }
 
-/// Saves a vote and puts it among the votes. The room for it is made before the save, so that
-/// nothing can fail behind it. After an error the votes are as they were.
+/// Saves a vote and puts it among the votes. The room for it is made before the save, so nothing
+/// can fail after it. After an error the votes are as they were.
 pub(crate) fn save_vote<S: Store>(
     store: &mut S,
     is_closed: &mut bool,

@@ -1,18 +1,19 @@
-//! A place that keeps a record.
+//! Stores, which keep a record over restarts.
 ghost use Rattle.std.specs.Prelude.{◌≡◌, ◌<◌, None, Result, IfOk, OnOk, IsErrOf};
 ghost use Rattle.paxos_msg.specs.declared.record.Change.TheVariants.{Start};
 ghost use Rattle.paxos_msg.specs.Messages.{IsAscending};
 ghost use Rattle.paxos_msg.specs.Records.{changed};
 ghost use Rattle.paxos_acceptor.specs.declared.store.StoreFault.TheVariants.{Memory, Device, Bad};
 ghost use Rattle.paxos_acceptor.specs.Stores.{StoreState, FailsAsTold, HasCause, IsOneOf};
+ghost use Rattle.paxos_msg.specs.declared.limits.TheConstants.{LAST_START};
 
 use paxos_msg::{Change, Record};
 use std::alloc::{AllocError, AllocFailed};
 
-/// Why a store gives up.
+/// The fault of a store.
 #[derive(Clone, Copy, Debug, PartialEq, Eq)]
 pub enum StoreFault {
-    /// There is no memory. What is stored is as it was.
+    /// Out of memory. The stored record is as it was.
     Memory,
     /// The device failed, and the count of faults rose. After a save that failed, a restart finds
     /// the old record or the changed one.
@@ -37,27 +38,28 @@ impl<T: Drop> From<AllocFailed<T>> for StoreFault {
     }
 }
 
-/// What keeps a record, over restarts too. Of an honest store it is known which record.
+/// A keeper of a record, over restarts too. Contracts know the record of an honest store.
 pub trait Store {
     ghost use Rattle.paxos_msg.specs.Batches.{Record as Kept};
     ghost use Rattle.paxos_acceptor.specs.declared.store.StoreFault.{StoreFault};
 
-    /// The record that a load finds, also after a restart; the fault that the next save is told to
-    /// have, if any; and how often the device has failed.
+    /// The record that a load finds, also after a restart; the planned fault of the next save, if
+    /// any; and how often the device has failed.
     ghost state: { Self → StoreState };
 
-    /// That such a store gives back what was saved. Where that can't be shown, as of a file,
-    /// nothing is known of the record.
+    /// The proposition that such a store returns the saved record. Where it cannot be shown, as for
+    /// a file, contracts know nothing of the record.
     ghost honest: { Type 0 };
 
-    /// That the device of such a store fails as `fail_next` told it to, and else not.
+    /// The proposition that the device of such a store fails exactly as `fail_next` planned.
     ghost fails_at_will: { Type 0 };
 
-    /// That a load of the first store gives this answer and leaves the second. Only a load shows
-    /// it. So a promise can name what was loaded from any store, honest or not.
+    /// The proposition that a load of the first store returns this answer and leaves the second
+    /// store. Only a load shows it. So a contract can name the answer of a load of any store,
+    /// honest or not.
     ghost loads: { Self → Result Kept StoreFault → Self → Type 0 };
 
-    /// The record that is stored.
+    /// Returns the stored record.
     fn load(&mut self) -> Result<Record, StoreFault>
         ensures loads { loads self.old result self.new }
         ensures found { honest → IfOk result (λ found. found ≡ (state self.old).stored) }
@@ -68,12 +70,12 @@ pub trait Store {
         ensures cause { HasCause (IsErrOf result Device) (state self.old).faults
             (state self.new).faults };
 
-    /// Changes the record that is stored. The record has to have its votes in order, and a start to
-    /// spare. A save that fails by the device leaves the old record or the changed one, and uses up
-    /// the plan; one that fails at will leaves what it was told to.
+    /// Changes the stored record. Its votes are in order, and it has a start to spare. A save that
+    /// fails by the device leaves the old record or the changed one, and uses up the plan. A store
+    /// that fails at will leaves the one that was planned.
     fn save(&mut self, change: &Change) -> Result<(), StoreFault>
         requires starts { honest → change.now ≡ Start
-            → (state self.old).stored.starts < 4294967295 }
+            → (state self.old).stored.starts < LAST_START }
         requires ascending { honest → IsAscending (state self.old).stored.votes }
         ensures saved { honest
             → OnOk result ((state self.new).stored ≡ changed (state self.old).stored change.now) }
@@ -92,14 +94,14 @@ pub trait Store {
         ensures cause { HasCause (IsErrOf result Device) (state self.old).faults
             (state self.new).faults };
 
-    /// How often the device has failed. The count stops at its greatest value, where it counts as
-    /// risen.
+    /// Returns how often the device has failed. The count stops at its greatest value, where it
+    /// counts as risen.
     fn faults(&self) -> u64
         ensures { result ≡ (state self.now).faults };
 
-    /// Plans a fault of the device for the next save of a store that can fail at will, which then
-    /// leaves the changed record (`Some(true)`) or the old one (`Some(false)`); `None` takes that
-    /// back. A save that finds no memory leaves the plan.
+    /// Plans a fault of the device for the next save of a store that can fail at will. That save
+    /// leaves the changed record (`Some(true)`) or the old one (`Some(false)`). `None` takes the
+    /// plan back. A save that runs out of memory leaves the plan.
     fn fail_next(&mut self, plan: Option<bool>)
         ensures same { honest → (state self.new).stored ≡ (state self.old).stored }
         ensures plan { fails_at_will → (state self.new).plan ≡ plan }

@@ -2,17 +2,17 @@
 ghost use Rattle.std.specs.Prelude.{◌≡◌};
 ghost use Rattle.paxos_acceptor.specs.RecordReading.{version_byte};
 
-/// How the votes of a record are spelled.
+/// The spelling of a record's votes.
 #[derive(Clone, Copy)]
 pub(crate) enum Version {
-    /// A vote is for a single key, or for none. Records are written so no more.
+    /// A vote is for a single key or a no-op. No record is written in this version any more.
     One,
-    /// A vote is for a batch of keys, or for none.
+    /// A vote is for a batch of keys or a no-op.
     Two,
 }
 
 impl Version {
-    /// The byte that tells the version.
+    /// Returns the byte of the version.
     pub(crate) fn byte(self) -> u8
         ensures { result ≡ version_byte self }
     {

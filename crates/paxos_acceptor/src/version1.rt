@@ -3,14 +3,16 @@ ghost use Rattle.std.specs.Prelude.{◌≡◌, ◌≤◌, IfOk, Some};
 ghost use Rattle.paxos_msg.specs.Reading.{Gives};
 ghost use Rattle.paxos_acceptor.specs.RecordReading.{ReadsAs, vote_at_v1, votes_of};
 ghost use Rattle.paxos_acceptor.specs.declared.version.Version.TheVariants.{One};
+ghost use Rattle.paxos_msg.specs.declared.limits.TheConstants.{LAST_PLACE};
 
 use crate::reading::number_of;
 use crate::store::StoreFault;
+use paxos_msg::limits::LAST_PLACE;
 use paxos_msg::{Ballot, Group, Vote, WireFault, read_ballot, read_value_v1};
 use std::alloc::Global;
 
-/// The vote at the front of the bytes, and the bytes behind it. Its place is `low` at least, and
-/// its ballot is `most` at most.
+/// Reads the vote at the front of the bytes. Returns it and the bytes after it. Its place is at
+/// least `low`, and its ballot at most `most`.
 #[tactic(auto, unfolding(crate::specs::RecordReading::vote_at_v1))]
 fn vote_of_v1(
     group: Group,
@@ -19,13 +21,13 @@ fn vote_of_v1(
     bytes: &[u8],
 ) -> Result<(Vote, &[u8]), WireFault>
     ensures exact { Gives (λ x. (x.0, x.1.now)) result (vote_at_v1 group.size most low bytes.now) }
-    ensures place { IfOk result (λ x. x.0.place ≤ 65535) }
+    ensures place { IfOk result (λ x. x.0.place ≤ LAST_PLACE) }
 {
     let (place, rest) = number_of(bytes)?;
     if place < low {
         return Err(WireFault::Order);
     }
-    if place > 65_535 {
+    if place > LAST_PLACE {
         return Err(WireFault::Place);
     }
     let (ballot, taken) = read_ballot(rest, group)?;
@@ -42,7 +44,7 @@ fn vote_of_v1(
     Ok((vote, &rest[taken..]))
 }
 
-/// The votes under the ballot, so many of them, which have to be all of the bytes.
+/// Reads `count` votes under the ballot, which have to be all of the bytes.
 pub(crate) fn votes_of_v1(
     alloc: Global,
     group: Group,

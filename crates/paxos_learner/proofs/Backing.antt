@@ -13,7 +13,7 @@ use Rattle.paxos_learner.specs.Tallies.{Tally, begun_tally, has_node, no_nodes, 
 use Rattle.paxos_learner.specs.Learner.{Learner, learn, new_learner, heard_accepted, heard_tell}
 use Rattle.paxos_learner.specs.Backed.{IsLearnerBacked, IsTallied, MayLearn, Stays}
 use Rattle.paxos_learner.proofs.OnePlace.{each_put, get_left}
-use Rattle.paxos_learner.proofs.Hearing.{accepted_by, told_by, tallied_by}
+use Rattle.paxos_learner.proofs.HeardByCases.{accepted_by, told_by, tallied_by}
 
 -- ---- a tally
 

@@ -13,7 +13,7 @@ use Rattle.paxos_learner.specs.Learner.{front_of}
 use Rattle.paxos_learner.specs.Input.{same_key, firsts, front_values, keys_in_order, input_of, learned_input, values_below}
 use Rattle.paxos_learner.specs.Growth.{HasLearnedMore}
 use Rattle.paxos_learner.proofs.Fronts.{IsFront-front_of}
-use Rattle.paxos_learner.proofs.Growing.{front_rises, some_from_test}
+use Rattle.paxos_learner.proofs.LearnedStays.{front_rises, some_from_test}
 use Rattle.paxos_learner.proofs.ValuesBelow.{range_parts, same_below}
 
 -- ---- the value at each place

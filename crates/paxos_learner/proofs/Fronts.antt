@@ -22,12 +22,12 @@ has ks i = list_any (nat_eq i) ks
 
 -- ---- ascending places
 
--- a place below the start of ascending ones is none of them
+-- a place below the start of ascending ones is not among them
 none_below : (s i : ℕ) (ks : List ℕ) → Ascend s ks → i < s → has ks i ≡ false
 none_below s i [] h low = refl
 none_below s i (k ∷ ks) h low = or_from _ _ (ne_eqb i k (λ e. omega (arith, h.0))) (none_below (k + 1) i ks h.1 (omega (arith, h.0)))
 
--- where place s is the first of them, the search goes on behind it
+-- where place s is the first of them, the search goes on after it
 goes_on : (s k : ℕ) (ks : List ℕ) → k ≡ s → first_missing s (k ∷ ks) ≡ first_missing (s + 1) ks
 goes_on s k ks e = rw (eq-eqb k s e) refl
 
@@ -86,7 +86,7 @@ less_from x k Less e h = ranked x k Less e
 less_from x k Equal e h = absurd h
 less_from x k Greater e h = absurd h
 
--- the places of sorted entries behind place x ascend
+-- the places of sorted entries after place x ascend
 ascend_after : (x : ℕ) (es : List (ℕ × Value)) → T (below_all nat_cmp x es) → T (is_sorted nat_cmp es) → Ascend (x + 1) (map (λ e. e.0) es)
 ascend_after x [] below sorted = tt
 ascend_after x (e ∷ es) below sorted =
@@ -110,7 +110,7 @@ any_tied i (k ∷ ks) = λ j. unsigned_tied i k j || any_tied i ks j
 is_some-has : (m : FinMap nat_cmp Value) (i : ℕ) → is_some (get m i) ≡ has (keys m) i
 is_some-has m i = contains_key-keys m i ∙ any_tied i (keys m)
 
--- what is found behind place x is at a place above it
+-- what is found after place x is at a place above it
 pub found_above : (x q : ℕ) (es : List (ℕ × Value)) (v : Value) → T (below_all nat_cmp x es) → T (is_sorted nat_cmp es)
     → find nat_cmp q es ≡ Some v → x < q
 found_above x q es v below sorted e =

@@ -19,7 +19,7 @@ use Rattle.paxos_learner.proofs.OnePlace.{get_other}
 
 -- ---- a place is learned
 
--- what isn't learned stands behind the places so far
+-- what is not learned comes after the places so far
 pub not_below : (learned : FinMap nat_cmp Value) (e : Entered) (s : ℕ) → IsInputOf learned e → get learned s ≡ None → length e.ends ≤ s
 not_below learned e s h none =
     elim (cases_lt s (length e.ends)) [

@@ -17,7 +17,7 @@ use Rattle.paxos_learner.specs.Entered.{keys_with}
 -- ---- keys that are the same
 
 -- keys that the test finds to be the same are equal
-same_from_test : (k other : Key) → same_key k other ≡ true → k ≡ other
+pub same_from_test : (k other : Key) → same_key k other ≡ true → k ≡ other
 same_from_test k other h =
     let a = and_parts (k.node == other.node) ((k.start == other.start) && ((k.serial == other.serial) && (k.byte == other.byte))) h in
     let b = and_parts (k.start == other.start) ((k.serial == other.serial) && (k.byte == other.byte)) a.1 in
@@ -59,7 +59,7 @@ nothing_more : (there : Bool) (keys : List Key) → (if there then keys else key
 nothing_more true keys = refl
 nothing_more false keys = append-nil keys
 
--- one more behind the first key
+-- one more after the first key
 under_first : (there : Bool) (x : Key) (keys : List Key) (k : Key)
     → x ∷ (if there then keys else keys ++ k ∷ []) ≡ (if there then x ∷ keys else (x ∷ keys) ++ k ∷ [])
 under_first true x keys k = refl
@@ -86,8 +86,8 @@ insert_under_first x k false keys e =
     (ap (λ (rest : List Key). x ∷ rest) (filter_more x k false keys there e)
     ∙ under_first there x (filter (other_than x) keys) k)
 
--- a key more comes last, or stands there already
-firsts_push : (keys : List Key) (k : Key) → firsts (keys ++ k ∷ []) ≡ insert_key same_key (firsts keys) k
+-- one more key is the last, or is there already
+pub firsts_push : (keys : List Key) (k : Key) → firsts (keys ++ k ∷ []) ≡ insert_key same_key (firsts keys) k
 firsts_push [] k = refl
 firsts_push (x ∷ keys) k =
     ap (λ (rest : List Key). x ∷ filter (other_than x) rest) (firsts_push keys k) ∙ insert_under_first x k (same_key x k) (firsts keys) refl
@@ -112,7 +112,7 @@ keys_entered values v =
 pub found_there : (keys : List Key) (k : Key) → list_any (same_key k) keys ≡ true → Contains keys k
 found_there keys k e = Contains-from_any same_from_test k keys e
 
-same_itself : (k : Key) → same_key k k ≡ true
+pub same_itself : (k : Key) → same_key k k ≡ true
 same_itself k = rw (eq-eqb k.node k.node refl, eq-eqb k.start k.start refl, eq-eqb k.serial k.serial refl, eq-eqb k.byte k.byte refl) refl
 
 -- an element of a longer list is the first or one of the rest

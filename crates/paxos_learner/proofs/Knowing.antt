@@ -11,7 +11,7 @@ use Rattle.paxos_learner.specs.Kept.{AreKnown, IsKept}
 use Rattle.paxos_learner.specs.Learner.{front_of}
 use Rattle.paxos_learner.proofs.Backing.{none_in}
 use Rattle.paxos_learner.proofs.Fronts.{front_found}
-use Rattle.paxos_learner.proofs.Growing.{begun_in_window, insert_more}
+use Rattle.paxos_learner.proofs.LearnedStays.{begun_in_window, insert_more}
 use Rattle.paxos_learner.proofs.Keeping.{front_is_here, input_of_none}
 use Rattle.paxos_learner.proofs.KeysOnce.{entered_from, entered_new, entered_old}
 use Rattle.paxos_learner.proofs.OnePlace.{each_put, get_here}

@@ -4,12 +4,12 @@ pub mod OnePlace
 pub mod Stored
 pub mod Fronts
 pub mod KeysOnce
-pub mod Standing
+pub mod LearnedKeys
 pub mod ValuesBelow
 pub mod Ends
 pub mod Keeping
-pub mod Hearing
+pub mod HeardByCases
 pub mod Backing
-pub mod Growing
+pub mod LearnedStays
 pub mod FrontValues
 pub mod Knowing

@@ -25,7 +25,7 @@ pub same_stored : (a b : TypedKey)
     && ((a.start == b.start) && ((a.node == b.node) && (a.byte == b.byte))) ≡ same_key (key_of a) (key_of b)
 same_stored a b = any_order (a.node == b.node) (a.start == b.start) (a.serial == b.serial) (a.byte == b.byte)
 
--- a test that tells stored keys apart as they are told apart where they are seen
+-- a test that distinguishes stored keys as their models are distinguished
 module _ (test : TypedKey → TypedKey → Bool) (alike : (a b : TypedKey) → test a b ≡ same_key (key_of a) (key_of b)) where
   -- a key is stored exactly if it is seen
   pub any_stored : (keys : List TypedKey) (k : TypedKey) → list_any (test k) keys ≡ list_any (same_key (key_of k)) (map key_of keys)

@@ -1,4 +1,4 @@
--- How tallies and what a learner is seen as are stored, so that they may be seen values.
+-- Codes of tallies and of a learner's view, so that they can be views of types.
 use Rattle.std.specs.Prelude.{ℕ, Bool, List, refl}
 use Rattle.std.specs.Coded.{Coded, code_by, coded×, coded_ℕ, coded_bool, coded_list}
 use Rattle.std.specs.Ordering.{nat_cmp}
@@ -9,6 +9,7 @@ use Rattle.paxos_msg.specs.Codes.{ballot_code, value_code}
 use Rattle.paxos_learner.specs.Tallies.{Tally}
 use Rattle.paxos_learner.specs.Learner.{Learner}
 
+-- The code of a tally: its three fields.
 abbrev tally_code : Coded Tally
 tally_code =
     code_by (Ballot × (Value × List Bool))
@@ -16,6 +17,7 @@ tally_code =
     (λ t. (t.ballot, (t.value, t.nodes)))
     (λ p. record { ballot = p.0; value = p.1.0; nodes = p.1.1 }) (λ _. refl)
 
+-- The code of a learner's view: its three fields.
 abbrev pub learner_code : Coded Learner
 learner_code =
     code_by (ℕ × (FinMap nat_cmp Value × FinMap nat_cmp Tally))

@@ -1,4 +1,4 @@
--- What a learner keeps beside what it has learned.
+-- The fields of a learner beside its learned values.
 use Rattle.std.specs.Prelude.{◌≡◌, ℕ, ◌+◌, ◌*◌, ◌<◌, ◌≤◌, IsTrue, List, length, take, slice_index, Contains, Some, None, is_some}
 use Rattle.std.specs.Ordering.{nat_cmp}
 use Rattle.std.specs.FinMap.{FinMap, get}
@@ -7,9 +7,10 @@ use Rattle.paxos_msg.specs.Keys.{Key, keys_of}
 use Rattle.paxos_learner.specs.Entered.{Entered}
 use Rattle.paxos_learner.specs.Growth.{AreInWindow}
 use Rattle.paxos_learner.specs.Input.{StandsIn, keys_in_order, values_below}
+use Rattle.paxos_msg.specs.declared.limits.TheConstants.{MOST_CHARACTERS, MOST_NODES, PLACES}
 
--- The input has the keys of the places so far, all of which are learned, and there is room for each
--- place that is learned, and for 32 keys at each place up to it.
+-- The input has the keys of the places so far, all of which are learned. There is room for each
+-- learned place, and for 32 keys at each place up to it.
 pub record IsInputOf (learned : FinMap nat_cmp Value) (e : Entered) : Type 0 where
   pub below : (s : ℕ) → s < length e.ends → IsTrue (is_some (get learned s))
   pub keys : e.keys ≡ keys_in_order (values_below learned (length e.ends))
@@ -18,20 +19,20 @@ pub record IsInputOf (learned : FinMap nat_cmp Value) (e : Entered) : Type 0 whe
       → take (slice_index e.ends s) e.keys ≡ keys_in_order (values_below learned (s + 1))
   pub room : (s : ℕ) → IsTrue (is_some (get learned s)) → s < length e.ends + e.room
   pub key_room : (s : ℕ) → IsTrue (is_some (get learned s))
-      → 32 * (s + 1) ≤ e.key_room + 32 * length e.ends
-  pub small : (s : ℕ) → IsTrue (is_some (get learned s)) → s < 65536
+      → MOST_CHARACTERS * (s + 1) ≤ e.key_room + MOST_CHARACTERS * length e.ends
+  pub small : (s : ℕ) → IsTrue (is_some (get learned s)) → s < PLACES
 
--- the keys that stand in learned values are these
+-- These keys are those of the learned values.
 pub record AreKnown (learned : FinMap nat_cmp Value) (keys : List Key) : Type 0 where
   pub stand : (k : Key) → Contains keys k → StandsIn learned k
   pub all : (s : ℕ) (v : Value) → get learned s ≡ Some v → (k : Key) → Contains (keys_of v) k
       → Contains keys k
 
--- The input goes up to the front, which isn't learned; the known keys are those of all learned
--- values.
+-- The invariant of a learner. The input goes up to the front, which is not learned, and the known
+-- keys are those of all learned values.
 pub record IsKept (size : ℕ) (learned : FinMap nat_cmp Value) (e : Entered)
     (known : List Key) : Type 0 where
-  pub size_small : size ≤ 9
+  pub size_small : size ≤ MOST_NODES
   pub input : IsInputOf learned e
   pub here : get learned (length e.ends) ≡ None
   pub window : AreInWindow learned

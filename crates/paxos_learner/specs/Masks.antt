@@ -1,23 +1,25 @@
--- Nodes as the bits of one word.
+-- Sets of nodes as the bits of one word.
 use Rattle.std.specs.Prelude.{◌≡◌, ℕ, zero, suc, ◌+◌, ◌*◌, ◌/◌, ◌%◌, ◌<◌, ◌^◌, ◌==◌, Bool, List, [], ◌∷◌, cond}
 use Rattle.std.proofs.Common.{refl, arith}
 use Rattle.std.proofs.Math.Nat.{pow-suc}
 
--- whether each of the lowest k bits is set, from the lowest on
+-- True for each of the lowest `k` bits that is set, from the lowest on.
 unfoldable pub low_bits : ℕ → ℕ → List Bool
 low_bits zero mask = []
 low_bits (suc k) mask = (mask % 2 == 1) ∷ low_bits k (mask / 2)
 
--- whether each node, 0 to 9, is one of those whose bits are set
+-- True for each node, 0 to 9, whose bit is set.
+-- Allows: Node 3, at bit value 8.
+-- Forbids: A word of 1,024 or more.
 unfoldable pub nodes_of : ℕ → List Bool
 nodes_of mask = low_bits 10 mask
 
--- the word with these bits, from the lowest on
+-- The word with these bits, from the lowest on.
 unfoldable pub mask_of : List Bool → ℕ
 mask_of [] = 0
 mask_of (b ∷ bs) = cond b 1 0 + 2 * mask_of bs
 
--- the nodes alone tell the word
+-- The nodes alone determine the word.
 
 bit_back : (r : ℕ) → r < 2 → cond (r == 1) 1 0 ≡ r
 bit_back zero h = refl

@@ -1,17 +1,16 @@
--- What a map from places is seen as.
+-- The view of a map from places.
 use Rattle.std.specs.Prelude.{ℕ, List, refl}
 use Rattle.std.specs.Coded.{Coded, code_by, coded×, coded_ℕ, coded_list}
 use Rattle.std.specs.Ordering.{nat_cmp}
 use Rattle.std.specs.FinMap.{FinMap, code}
 
--- a map from places, its places in the order of their indices, and how many places more there is
--- room for
+-- A map from places, its places in the order of their indices, and how many more places have room.
 pub record Places (V : Type 0) : Type 0 where
   pub map : FinMap nat_cmp V
   pub places : List ℕ
   pub room : ℕ
 
--- stored as the tuple of its fields
+-- The code of such a view: the tuple of its fields.
 abbrev pub places_code : {V : Type 0} → Coded V → Coded (Places V)
 places_code {V} v =
     code_by (FinMap nat_cmp V × (List ℕ × ℕ))

@@ -1,25 +1,25 @@
-//! What a learner answers.
+//! The answers of a learner.
 ghost use Rattle.std.specs.Prelude.{◌≡◌};
 ghost use Rattle.paxos_learner.specs.declared.heard.LearnerFault.TheVariants.{Memory};
 
 use std::alloc::AllocError;
 use thiserror::Error;
 
-/// What a message has told a learner.
+/// The effect of a message on a learner.
 #[derive(Clone, Copy, Debug, PartialEq, Eq)]
 pub enum Heard {
-    /// Nothing new: nothing has changed.
+    /// Nothing has changed.
     Passed,
-    /// The tally of its place has changed, and nothing else.
+    /// Only the tally of its place has changed.
     Counted,
-    /// Its place is learned.
+    /// Its place is learned now.
     Learned,
 }
 
-/// Why a learner gives up. Its text is the refusal's code.
+/// The fault of a learner. Its text is the refusal's code.
 #[derive(Clone, Copy, Debug, PartialEq, Eq, Error)]
 pub enum LearnerFault {
-    /// There is no memory. Nothing has changed.
+    /// Out of memory. Nothing has changed.
     #[error("N1")]
     Memory,
 }

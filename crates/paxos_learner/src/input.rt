@@ -1,18 +1,19 @@
 //! The input: the bytes of the keys of the places below the front, each key once.
 ghost use Rattle.std.specs.Prelude.{◌≡◌, ◌↔◌, ◌+◌, ◌*◌, ◌<◌, ◌≤◌, [], ◌∷◌, ◌++◌, IsTrue, OnOk, Contains, length, drop, map, option_map, slice_get};
 ghost use Rattle.paxos_learner.specs.Entered.{keys_with, count_below, key_of};
+ghost use Rattle.paxos_msg.specs.declared.limits.TheConstants.{MOST_CHARACTERS, PLACES};
 
 use crate::keys::{KeySet, TypedKey};
 use paxos_msg::Value;
+use paxos_msg::limits::MOST_CHARACTERS;
 use std::alloc::{AllocError, Global};
 use std::marker::Model;
 
-/// The keys that the places so far have, each once, in order. Places come one after another, from 0
-/// on.
+/// The keys of the places so far, each once, in order. Places come one after another, from 0 on.
 #[derive(Drop)]
 pub struct Input {
     keys: KeySet,
-    // How many keys there were after each place.
+    // The number of keys after each place.
     ends: Vec<u32>,
 }
 
@@ -33,7 +34,7 @@ impl Model for Input {
 }
 
 impl Input {
-    /// The input of no place. It takes no memory.
+    /// Returns the input of no place. It takes no memory.
     pub fn new(alloc: Global) -> Input
         ensures keys { result.keys ≡ [] }
         ensures ends { result.ends ≡ [] }
@@ -44,45 +45,45 @@ impl Input {
         }
     }
 
-    /// How many places there are so far.
+    /// Returns the number of places so far.
     pub fn places(&self) -> u32
         ensures places { result ≡ length self.now.ends }
-        ensures few { result ≤ 65536 }
+        ensures few { result ≤ PLACES }
     {
         self.ends.len() as u32
     }
 
-    /// Makes room for so many places more, of which each may have 32 keys. After an error nothing
-    /// has changed.
+    /// Makes room for `places` more places, each with up to 32 keys. After an error nothing has
+    /// changed.
     pub fn reserve(&mut self, places: usize) -> Result<(), AllocError>
-        requires { places ≤ 65536 }
+        requires { places ≤ PLACES }
         ensures keys { self.new.keys ≡ self.old.keys }
         ensures ends { self.new.ends ≡ self.old.ends }
         ensures ok { OnOk result (places ≤ self.new.room) }
-        ensures keys_ok { OnOk result (32 * places ≤ self.new.key_room) }
+        ensures keys_ok { OnOk result (MOST_CHARACTERS * places ≤ self.new.key_room) }
         ensures room { self.old.room ≤ self.new.room }
         ensures key_room { self.old.key_room ≤ self.new.key_room }
     {
-        self.keys.reserve(32 * places)?;
+        self.keys.reserve(MOST_CHARACTERS * places)?;
         self.ends.reserve(places)
     }
 
-    /// Puts the value of the next place in, at most 32 keys, for which there is room.
+    /// Appends the value of the next place, at most 32 keys. There is room for them.
     pub fn enter(&mut self, value: Value)
         requires room { 0 < self.old.room }
-        requires key_room { 32 ≤ self.old.key_room }
-        requires few { length self.old.ends < 65536 }
+        requires key_room { MOST_CHARACTERS ≤ self.old.key_room }
+        requires few { length self.old.ends < PLACES }
         ensures keys { self.new.keys ≡ keys_with self.old.keys value }
         ensures ends { self.new.ends ≡ self.old.ends ++ length self.new.keys ∷ [] }
         ensures room { self.old.room ≤ self.new.room + 1 }
-        ensures key_room { self.old.key_room ≤ self.new.key_room + 32 }
+        ensures key_room { self.old.key_room ≤ self.new.key_room + MOST_CHARACTERS }
     {
         self.keys.insert(value);
         let count = self.keys.len() as u32;
         self.ends.push(count).unwrap();
     }
 
-    /// How many keys the places below this one have. The place may be any number.
+    /// Returns the number of keys of the places below `place`, which may be any number.
     fn count_below(&self, place: u32) -> usize
         ensures count { result ≡ count_below self.now place }
         ensures within { result ≤ length self.now.keys }
@@ -96,7 +97,7 @@ impl Input {
         }
     }
 
-    /// The bytes of the keys that the places from this one on have added.
+    /// Returns the bytes of the keys that the places from `place` on have added.
     pub fn after(&self, place: u32) -> InputAfter<'_>
         ensures { result ≡ map (λ k. k.byte) (drop (count_below self.now place) self.now.keys) }
     {
@@ -105,21 +106,21 @@ impl Input {
         }
     }
 
-    /// How many bytes the input has.
+    /// Returns the length of the input in bytes.
     pub fn len(&self) -> usize
         ensures { result ≡ length self.now.keys }
     {
         self.keys.len()
     }
 
-    /// The byte of the input at the index.
+    /// Returns the byte of the input at `index`.
     pub fn byte_at(&self, index: usize) -> Option<u8>
         ensures { result ≡ option_map (λ k. k.byte) (slice_get self.now.keys index) }
     {
         self.keys.byte_at(index)
     }
 
-    /// Whether the key is one of the input's.
+    /// Returns true if the key is one of the input's.
     pub fn contains(&self, key: TypedKey) -> bool
         ensures { IsTrue result ↔ Contains self.now.keys (key_of key) }
     {
@@ -127,8 +128,8 @@ impl Input {
     }
 }
 
-/// Bytes of the input, in order: an iterator. A clone goes over the same bytes once more, from the
-/// next one on.
+/// Bytes of the input, in order: an iterator. A clone goes over the same bytes again, from the next
+/// one on.
 #[derive(Drop)]
 pub struct InputAfter<'a> {
     keys: &'a [TypedKey],

@@ -4,20 +4,21 @@ ghost use Rattle.indexmap.specs.IndexSet.{insert_all, insert_key};
 ghost use Rattle.paxos_msg.specs.Keys.{keys_from};
 ghost use Rattle.paxos_learner.specs.Entered.{keys_with, key_of};
 ghost use Rattle.paxos_learner.specs.Input.{same_key};
+ghost use Rattle.paxos_msg.specs.declared.limits.TheConstants.{MOST_CHARACTERS};
 
 use indexmap::IndexSet;
 use paxos_msg::Value;
 use std::alloc::{AllocError, Global};
 use std::marker::Model;
 
-/// A typed character: the node, which of its starts, which key of that start, and the character.
-/// The widest field comes first, so that a key takes 16 bytes.
+/// A typed character: its node, the number of that node's start, its serial in that start, and the
+/// character. The widest field comes first, so that a key takes 16 bytes.
 #[derive(Clone, Copy, Debug, PartialEq, Eq, Hash)]
 pub struct TypedKey {
-    /// Which key of that start it is, from 1 on: at most 4,294,967,295 in a value that is in its
-    /// ranges.
+    /// The number of the key in that start, from 1 on. It is at most 4,294,967,295 in a value that
+    /// is in its ranges.
     pub serial: u64,
-    /// Which start of that node it was, from 1 on.
+    /// The number of that start of the node, from 1 on.
     pub start: u32,
     /// The node at which it was typed, 1 to the group's size.
     pub node: u8,
@@ -47,7 +48,7 @@ impl Model for KeySet {
 }
 
 impl KeySet {
-    /// No keys. It takes no memory.
+    /// Returns a set without keys. It takes no memory.
     pub fn new(alloc: Global) -> KeySet
         ensures { result.keys ≡ [] }
     {
@@ -56,7 +57,7 @@ impl KeySet {
         }
     }
 
-    /// Makes room for so many keys more. After an error nothing has changed.
+    /// Makes room for `additional` more keys. After an error nothing has changed.
     pub fn reserve(&mut self, additional: usize) -> Result<(), AllocError>
         ensures keys { self.new.keys ≡ self.old.keys }
         ensures ok { OnOk result (additional ≤ self.new.room) }
@@ -65,7 +66,7 @@ impl KeySet {
         self.keys.reserve(additional)
     }
 
-    /// Puts a key in, for which there is room: at the end, if it is not there yet.
+    /// Appends a key, if the set does not have it. There is room for it.
     fn insert_key(&mut self, key: TypedKey)
         requires { 0 < self.old.room }
         ensures keys { self.new.keys ≡ insert_key same_key self.old.keys (key_of key) }
@@ -75,10 +76,10 @@ impl KeySet {
         self.keys.insert(key).unwrap();
     }
 
-    /// Puts the keys with these characters in, whose serials go on from `first`, one after another.
+    /// Inserts the keys with these characters, whose serials go on from `first`, one after another.
     fn insert_batch(&mut self, node: u8, start: u32, first: u32, bytes: &[u8])
         requires room { length bytes.now ≤ self.old.room }
-        requires few { length bytes.now ≤ 32 }
+        requires few { length bytes.now ≤ MOST_CHARACTERS }
         ensures keys { self.new.keys
             ≡ insert_all same_key self.old.keys (keys_from node start first bytes.now) }
         ensures room { self.old.room ≤ self.new.room + length bytes.now }
@@ -96,13 +97,12 @@ impl KeySet {
         }
     }
 
-    /// Puts the keys of a value in, at most 32, for which there is room: each that is not there
-    /// yet, at the end.
+    /// Inserts the keys of a value, at most 32: each new one at the end. There is room for them.
     pub fn insert(&mut self, value: Value)
-        requires { 32 ≤ self.old.room }
+        requires { MOST_CHARACTERS ≤ self.old.room }
         ensures keys { self.new.keys ≡ keys_with self.old.keys value }
-        ensures room { self.old.room ≤ self.new.room + 32 }
-        ensures few { length self.new.keys ≤ length self.old.keys + 32 }
+        ensures room { self.old.room ≤ self.new.room + MOST_CHARACTERS }
+        ensures few { length self.new.keys ≤ length self.old.keys + MOST_CHARACTERS }
     {
         if let Value::Keys {
             node,
@@ -115,7 +115,7 @@ impl KeySet {
         }
     }
 
-    /// Takes all keys out, and keeps the room.
+    /// Removes all keys, and keeps the room.
     pub fn clear(&mut self)
         ensures keys { self.new.keys ≡ [] }
         ensures room { self.old.room ≤ self.new.room }
@@ -123,21 +123,21 @@ impl KeySet {
         self.keys.clear();
     }
 
-    /// How many keys there are.
+    /// Returns the number of keys.
     pub fn len(&self) -> usize
         ensures { result ≡ length self.now.keys }
     {
         self.keys.len()
     }
 
-    /// Whether the key is there.
+    /// Returns true if the set has the key.
     pub fn contains(&self, key: TypedKey) -> bool
         ensures { IsTrue result ↔ Contains self.now.keys (key_of key) }
     {
         self.keys.contains(&key)
     }
 
-    /// The character of the key at the index.
+    /// Returns the character of the key at `index`.
     pub fn byte_at(&self, index: usize) -> Option<u8>
         ensures { result ≡ option_map (λ k. k.byte) (slice_get self.now.keys index) }
     {
@@ -145,7 +145,7 @@ impl KeySet {
         Some(key.byte)
     }
 
-    /// The keys from the index on.
+    /// Returns the keys from `index` on.
     pub fn from_index(&self, index: usize) -> &[TypedKey]
         requires { index ≤ length self.now.keys }
         ensures { map key_of result.now ≡ drop index self.now.keys }

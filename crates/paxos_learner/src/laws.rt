@@ -1,8 +1,9 @@
-//! The laws of a learner, over the definitions alone: what it hears keeps what it has learned, and
-//! the input only grows at its end.
-ghost use Rattle.std.specs.Prelude.{◌≡◌, ◌↔◌, ◌<◌, ◌≤◌, ◌++◌, ℕ, Contains, IsTrue, List, Some, is_some, length, slice_get};
+//! The laws of a learner, over the definitions alone: a message keeps what is learned, and the
+//! input only grows at its end. Each function is empty: its contract is the law.
+ghost use Rattle.std.specs.Prelude.{◌≡◌, ◌↔◌, ◌<◌, ◌≤◌, ◌++◌, ◌∷◌, [], ℕ, Contains, IsTrue, List, Some, is_some, length, slice_get, true};
 ghost use Rattle.std.specs.FinMap.{empty, FinMap, get};
 ghost use Rattle.std.specs.Ordering.{nat_cmp};
+ghost use Rattle.indexmap.specs.IndexSet.{insert_key};
 ghost use Rattle.paxos_msg.specs.declared.ballot.Ballot.{Ballot};
 ghost use Rattle.paxos_msg.specs.declared.message.Body.TheVariants.{Accepted, Tell};
 ghost use Rattle.paxos_msg.specs.declared.value.Value.{Value};
@@ -12,12 +13,13 @@ ghost use Rattle.paxos_msg.specs.Messages.{IsSaid, IsSent};
 ghost use Rattle.paxos_msg.specs.Batches.{Sent};
 ghost use Rattle.paxos_learner.specs.Backed.{IsLearnerBacked, Stays};
 ghost use Rattle.paxos_learner.specs.Growth.{AreInWindow, HasLearnedMore, IsLearnerInRange};
-ghost use Rattle.paxos_learner.specs.Input.{front_values, has_key, input_of, is_learned, keys_in_order, learned_input, StandsIn, values_below};
+ghost use Rattle.paxos_learner.specs.Input.{firsts, front_values, has_key, input_of, is_learned, keys_in_order, learned_input, same_key, StandsIn, values_below};
 ghost use Rattle.paxos_learner.specs.Learner.{front_of, IsFront, Learner, new_learner, heard_accepted, heard_tell};
+ghost use Rattle.paxos_msg.specs.declared.limits.TheConstants.{LAST_PLACE, PLACES};
 
-/// A learner that has heard nothing is backed. One that is backed is so after it hears an Accepted
-/// or a Tell that was sent: so what it learns by that is backed by what was sent before. It stays
-/// backed as more is sent.
+/// A learner that has heard nothing is backed. It stays backed after it hears an Accepted or a Tell
+/// that was sent, so the value that it learns then is backed by earlier messages. It stays backed
+/// as more is sent.
 pub fn stays_backed()
     ensures begins { (sent : Sent) (size : ℕ) → IsLearnerBacked sent (new_learner size) }
     ensures accepted { (sent : Sent) (l : Learner) (i s : ℕ) (b : Ballot) (v : Value)
@@ -29,7 +31,7 @@ pub fn stays_backed()
         → IsLearnerBacked next l }
 {}
 
-/// What was learned stays learned, at the same value; and the size stays.
+/// A learned value stays learned, and the size stays.
 pub fn learned_stays()
     ensures accepted { (l : Learner) (i s : ℕ) (b : Ballot) (v : Value) →
         HasLearnedMore l.learned (heard_accepted l i b s v).learner.learned }
@@ -41,8 +43,8 @@ pub fn learned_stays()
         → (heard_tell l s v).learner.size ≡ l.size }
 {}
 
-/// There is one front, and the definition finds it. It does not fall when more is learned, and is
-/// at most 65,536 if each learned place is at most 65,535.
+/// There is one front, and the definition finds it. It does not fall when more is learned. It is at
+/// most 65,536 if each learned place is at most 65,535.
 pub fn one_front()
     ensures there { (learned : FinMap nat_cmp Value) → IsFront learned (front_of learned) }
     ensures one { (learned : FinMap nat_cmp Value) (front : ℕ) → IsFront learned front
@@ -50,10 +52,10 @@ pub fn one_front()
     ensures rises { (old new : FinMap nat_cmp Value) → HasLearnedMore old new
         → front_of old ≤ front_of new }
     ensures few { (learned : FinMap nat_cmp Value) → AreInWindow learned
-        → front_of learned ≤ 65536 }
+        → front_of learned ≤ PLACES }
 {}
 
-/// Up to the front there is a value for each place, and the one at a place is the learned one.
+/// Up to the front there is a value for each place, the learned one.
 pub fn values_are_learned()
     ensures many { (learned : FinMap nat_cmp Value) (n : ℕ) → n ≤ front_of learned
         → length (values_below learned n) ≡ n }
@@ -61,15 +63,24 @@ pub fn values_are_learned()
         slice_get (values_below learned n) s ≡ get learned s }
 {}
 
-/// The tests of keys hold exactly where their sentences do.
+/// The tests of keys hold exactly where their propositions do.
 pub fn key_tests_are_exact()
     ensures has { (keys : List Key) (k : Key) → IsTrue (has_key keys k) ↔ Contains keys k }
     ensures learned { (learned : FinMap nat_cmp Value) (k : Key)
         → IsTrue (is_learned learned k) ↔ StandsIn learned k }
 {}
 
-/// The input of more values begins with that of fewer; so when more is learned the learned input
-/// only grows, at its end.
+/// Each key is read once, at its first place. After one more key the keys that are read are those
+/// before and this one, unless it is among them. Two keys are the same if all four fields are
+/// equal.
+pub fn keys_are_read_once()
+    ensures more { (keys : List Key) (k : Key)
+        → firsts (keys ++ k ∷ []) ≡ insert_key same_key (firsts keys) k }
+    ensures same { (k other : Key) → (same_key k other ≡ true) ↔ (k ≡ other) }
+{}
+
+/// The input of more values begins with that of fewer. So when more is learned, the learned input
+/// only grows at its end.
 pub fn input_grows()
     ensures keys { (values more : List Value)
         → (rest : List Key) × (keys_in_order (values ++ more) ≡ keys_in_order values ++ rest) }
@@ -85,13 +96,13 @@ pub fn input_grows()
 /// call for such a place.
 pub fn window_holds()
     ensures begins { (size : ℕ) → AreInWindow (new_learner size).learned }
-    ensures accepted { (l : Learner) (i s : ℕ) (b : Ballot) (v : Value) → s ≤ 65535
+    ensures accepted { (l : Learner) (i s : ℕ) (b : Ballot) (v : Value) → s ≤ LAST_PLACE
         → AreInWindow l.learned → AreInWindow (heard_accepted l i b s v).learner.learned }
-    ensures told { (l : Learner) (s : ℕ) (v : Value) → s ≤ 65535 → AreInWindow l.learned →
+    ensures told { (l : Learner) (s : ℕ) (v : Value) → s ≤ LAST_PLACE → AreInWindow l.learned →
         AreInWindow (heard_tell l s v).learner.learned }
 {}
 
-/// What is learned and tallied is in its ranges, if all that was heard is.
+/// The learned and tallied values are in their ranges, if all heard values are.
 pub fn values_fit()
     ensures begins { (size : ℕ) → IsLearnerInRange (new_learner size) }
     ensures accepted { (l : Learner) (i s : ℕ) (b : Ballot) (v : Value) → IsValue l.size v

@@ -7,12 +7,15 @@ ghost use Rattle.paxos_learner.specs.Input.{StandsIn, front_values, input_of, ke
 ghost use Rattle.paxos_learner.specs.Kept.{IsInputOf};
 ghost use Rattle.paxos_learner.specs.declared.heard.Heard.TheVariants.{Passed};
 ghost use Rattle.paxos_learner.specs.Learner.{IsFront, front_of, is_open, learn, new_learner, heard_accepted, heard_tell};
+ghost use Rattle.paxos_msg.specs.declared.limits.TheConstants.{LAST_PLACE, MOST_NODES, PLACES};
+ghost use Rattle.paxos_learner.specs.declared.learner.TheConstants.{WINDOW};
 
 use crate::heard::{Heard, LearnerFault};
 use crate::input::{Input, InputAfter};
 use crate::keys::{KeySet, TypedKey};
 use crate::place_map::PlaceMap;
 use crate::tally::{Tally, tallied};
+use paxos_msg::limits::MOST_CHARACTERS;
 use paxos_msg::{Ballot, Value};
 use std::alloc::{AllocError, Global};
 use std::marker::Model;
@@ -21,20 +24,20 @@ use std::marker::Model;
 /// it is less than `WINDOW` above the front.
 pub const WINDOW: u32 = 1_024;
 
-/// Learns the value of each place, 0 to 65,535, in a group of `size` nodes, from what its acceptors
-/// say.
+/// Learns the value of each place, 0 to 65,535, in a group of `size` nodes, from the messages of
+/// its nodes.
 ///
-/// A look, and what is heard of one place, take a search; a learned place takes one more for each
-/// of its keys, at most 32, and for each key of the places that the front then rises by. No call
-/// goes over all places.
+/// A call that only reads, and a message about one place, take a search. A learned place takes one
+/// more for each of its keys, at most 32, and for each key of the places by which the front then
+/// rises. No call goes over all places.
 pub struct Learner {
     size: u8,
     learned: PlaceMap<Value>,
-    // What was heard of places that are not learned.
+    // The tallies of places that are not learned.
     tallies: PlaceMap<Tally>,
     // The input of the places below the front.
     input: Input,
-    // The keys of the values that are learned, above a hole too.
+    // The keys of the learned values, also above a hole.
     known: KeySet,
 }
 
@@ -69,7 +72,8 @@ impl Model for Learner {
     ghost invariant = { λ l. IsKept l.size l.learned.map l.input l.known.keys };
 }
 
-/// Enters the values at the places from the end of the input on, up to one that is not learned.
+/// Enters the values at the places from the end of the input on, up to the first that is not
+/// learned.
 fn raise_front(learned: &PlaceMap<Value>, input: &mut Input)
     requires { IsInputOf learned.now.map input.old }
     ensures input { IsInputOf learned.now.map input.new }
@@ -81,9 +85,10 @@ fn raise_front(learned: &PlaceMap<Value>, input: &mut Input)
 }
 
 impl Learner {
-    /// A learner that has heard nothing. It takes no memory. A group has at most 9 nodes.
+    /// Returns a learner that has heard nothing, for a group of at most 9 nodes. It takes no
+    /// memory.
     pub fn new(alloc: Global, size: u8) -> Learner
-        requires { size ≤ 9 }
+        requires { size ≤ MOST_NODES }
         ensures { result ≡ new_learner size }
     {
         Learner {
@@ -95,24 +100,24 @@ impl Learner {
         }
     }
 
-    /// Whether the place is not learned, and less than 1,024 places above the front.
+    /// Returns true if `place` is not learned, and less than 1,024 places above the front.
     fn is_open(&self, place: u32) -> bool
         ensures { result ≡ is_open self.now place }
     {
         place < self.known_front() + WINDOW && self.learned(place).is_none()
     }
 
-    /// Learns the value at the place, which is open. The room for it, and for what the front may
-    /// rise by, at most 32 keys a place, is made first, so that after an error nothing has changed.
+    /// Learns the value at `place`, which is open. It first makes the room for it and for the rise
+    /// of the front, at most 32 keys a place. So after an error nothing has changed.
     fn learn(&mut self, place: u32, value: &Value) -> Result<(), AllocError>
         requires open { IsTrue (is_open self.old place) }
-        requires place { place ≤ 65535 }
+        requires place { place ≤ LAST_PLACE }
         ensures ok { OnOk result (self.new ≡ (learn self.old place value.now).learner) }
         ensures err { OnErr result (self.new ≡ self.old) }
     {
         let places = place + 1 - self.input.places();
         self.learned.make_room()?;
-        self.known.reserve(32)?;
+        self.known.reserve(MOST_CHARACTERS)?;
         self.input.reserve(places as usize)?;
         self.learned.insert(place, *value);
         self.known.insert(*value);
@@ -121,19 +126,20 @@ impl Learner {
         Ok(())
     }
 
-    /// Hears that the node, 0 to 9, has accepted the value at the place under the ballot.
+    /// Hears that node `sender`, 0 to 9, has accepted the value at `place` under `ballot`.
     ///
     /// A place counts if it is not learned, and less than 1,024 above the front. There a greater
-    /// ballot than before begins anew, and a node counts once. `Learned`: more than half of the
-    /// nodes 1 to `size` have accepted the value under one ballot. `Counted`: so many have not yet,
-    /// but this one is new. `Passed`: nothing has changed. `Memory` comes where there is no room
-    /// for what is new, reckoned with 32 keys at each place up to a learned one, and then nothing
-    /// has changed.
+    /// ballot than before begins a new tally, and a node counts once.
     ///
-    /// A message takes a search of the learned places, and where the place is open one of the
-    /// tallies: a tally that changes is written where that search has found it. A second one puts
-    /// the first tally of a place, and takes out the tally of a place that is learned. A place that
-    /// has a tally takes no memory before that.
+    /// Returns `Learned` if more than half of the nodes 1 to `size` have now accepted the value
+    /// under one ballot, `Counted` if this node is new but no majority yet, and `Passed` if nothing
+    /// has changed. Fails with `Memory` if there is no room for the change, counted with 32 keys at
+    /// each place up to a learned one. Then nothing has changed.
+    ///
+    /// A message takes a search of the learned places, and for an open place one of the tallies. A
+    /// tally that changes is written where that search has found it. A second search puts the first
+    /// tally of a place, or takes out the tally of a learned place. A place that has a tally takes
+    /// no memory before it is learned.
     pub fn on_accepted(
         &mut self,
         sender: u8,
@@ -141,8 +147,8 @@ impl Learner {
         place: u32,
         value: Value,
     ) -> Result<Heard, LearnerFault>
-        requires sender { sender ≤ 9 }
-        requires place { place ≤ 65535 }
+        requires sender { sender ≤ MOST_NODES }
+        requires place { place ≤ LAST_PLACE }
         ensures ok { OnOk result
             (self.new ≡ (heard_accepted self.old sender ballot place value).learner) }
         ensures answer { IfOk result
@@ -169,12 +175,11 @@ impl Learner {
         Ok(Heard::Counted)
     }
 
-    /// Hears that a node has learned the value at the place.
-    ///
-    /// `Learned`: so has this learner now. `Passed`: the place is learned already, or 1,024 or more
-    /// above the front, and nothing has changed. After `Memory` nothing has changed.
+    /// Hears that a node has learned the value at `place`. Returns `Learned` if this learner has
+    /// now learned it, or `Passed` if the place was learned before, or is 1,024 or more above the
+    /// front; then nothing has changed. After `Memory` nothing has changed.
     pub fn on_tell(&mut self, place: u32, value: Value) -> Result<Heard, LearnerFault>
-        requires { place ≤ 65535 }
+        requires { place ≤ LAST_PLACE }
         ensures ok { OnOk result (self.new ≡ (heard_tell self.old place value).learner) }
         ensures answer { IfOk result (λ heard. heard ≡ (heard_tell self.old place value).answer) }
         ensures needs { OnErr result ((heard_tell self.old place value).answer ≢ Passed) }
@@ -187,28 +192,28 @@ impl Learner {
         Ok(Heard::Passed)
     }
 
-    /// The value that is learned at the place, which may be any number.
+    /// Returns the value that is learned at `place`, if any. The place may be any number.
     pub fn learned(&self, place: u32) -> Option<Value>
         ensures value { result ≡ get self.now.learned place }
-        ensures place { IsSome result → place ≤ 65535 }
-        ensures window { IsSome result → place < front_of self.now.learned + 1024 }
+        ensures place { IsSome result → place ≤ LAST_PLACE }
+        ensures window { IsSome result → place < front_of self.now.learned + WINDOW }
     {
         self.learned.get(place)
     }
 
-    /// The known front: the least place that is not learned, 0 to 65,536.
+    /// Returns the known front: the least place that is not learned, 0 to 65,536.
     pub fn known_front(&self) -> u32
         ensures front { result ≡ front_of self.now.learned }
         ensures least { IsFront self.now.learned result }
-        ensures few { result ≤ 65536 }
+        ensures few { result ≤ PLACES }
         ensures window { AreInWindow self.now.learned }
     {
         self.input.places()
     }
 
-    /// The input bytes that the places from this one up to the front add, none from the front on. A
-    /// key that stands at several places is read at the first, so of a batch that overlaps an
-    /// earlier one the new keys alone are added. The place may be any number.
+    /// Returns the input bytes that the places from `place` up to the front add, none from the
+    /// front on. A key at several places is read at the first. So of a batch that overlaps an
+    /// earlier one only the new keys are added. The place may be any number.
     pub fn input_after(&self, place: u32) -> InputAfter<'_>
         ensures { input_of (values_below self.now.learned (min place (front_of self.now.learned)))
             ++ result ≡ learned_input self.now.learned }
@@ -216,21 +221,21 @@ impl Learner {
         self.input.after(place)
     }
 
-    /// How many bytes the learned input has.
+    /// Returns the length in bytes of the learned input.
     pub fn input_len(&self) -> usize
         ensures { result ≡ length (learned_input self.now.learned) }
     {
         self.input.len()
     }
 
-    /// The byte of the learned input at the index, counted from 0.
+    /// Returns the byte of the learned input at `index`, from 0 on.
     pub fn input_at(&self, index: usize) -> Option<u8>
         ensures { result ≡ slice_get (learned_input self.now.learned) index }
     {
         self.input.byte_at(index)
     }
 
-    /// Whether the key is read in the learned input: it stands at a place below the front.
+    /// Returns true if the key is read in the learned input: it is at a place below the front.
     pub fn has_read(&self, key: TypedKey) -> bool
         ensures { IsTrue result
             ↔ Contains (keys_in_order (front_values self.now.learned)) (key_of key) }
@@ -238,7 +243,7 @@ impl Learner {
         self.input.contains(key)
     }
 
-    /// Whether the key stands in a learned value at any place, one above the front among them.
+    /// Returns true if the key is in a learned value at any place, also above the front.
     pub fn has_learned(&self, key: TypedKey) -> bool
         ensures { IsTrue result ↔ StandsIn self.now.learned (key_of key) }
     {

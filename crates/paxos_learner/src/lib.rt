@@ -1,5 +1,13 @@
-//! The learner: what is learned at each place, from what the acceptors say that they have accepted
-//! and what other nodes tell, and the input that the keys below the front are.
+//! The learner of a node: the chosen value of each place, and the input that the learned keys make.
+//!
+//! For who writes a node over a network of their own. Make it first: `Learner::new(alloc, size)`
+//! for a group of `size` nodes. Then `on_accepted(sender, ballot, place, value)?` hears an
+//! Accepted, and `on_tell(place, value)?` a Tell. Each says if the place is now learned. After
+//! `known_front()` has risen from `place`, `input_after(place)` gives the bytes that the places
+//! from there on have added to the input.
+//!
+//! `learned`, `has_learned` and `has_read` look up places and keys. `laws` has empty functions: the
+//! contract of each is a law.
 #![tactic(auto)]
 
 mod heard;

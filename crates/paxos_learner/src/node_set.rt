@@ -2,10 +2,11 @@
 ghost use Rattle.std.specs.Prelude.{◌≡◌, ◌≤◌};
 ghost use Rattle.paxos_msg.specs.Ballots.{count_of};
 ghost use Rattle.paxos_learner.specs.Tallies.{has_node, no_nodes, with_node};
+ghost use Rattle.paxos_msg.specs.declared.limits.TheConstants.{MOST_NODES};
 
 use std::marker::Model;
 
-/// Some of the nodes 0 to 9. A node is in the set if the bit of its number is set.
+/// A set of nodes 0 to 9. A node is in the set if the bit of its number is set.
 #[derive(Clone, Copy)]
 pub struct NodeSet {
     bits: u16,
@@ -27,32 +28,32 @@ impl Model for NodeSet {
 }
 
 impl NodeSet {
-    /// No nodes.
+    /// Returns a set without nodes.
     pub fn new() -> NodeSet
         ensures { result ≡ no_nodes }
     {
         NodeSet { bits: 0 }
     }
 
-    /// Whether the node is in the set.
+    /// Returns true if the node is in the set.
     pub fn contains(&self, node: u8) -> bool
-        requires { node ≤ 9 }
+        requires { node ≤ MOST_NODES }
         ensures { result ≡ has_node self.now node }
     {
         (self.bits >> node) & 1 == 1
     }
 
-    /// Puts the node in.
+    /// Adds the node.
     pub fn insert(&mut self, node: u8)
-        requires { node ≤ 9 }
+        requires { node ≤ MOST_NODES }
         ensures { self.new ≡ with_node self.old node }
     {
         self.bits |= 1 << node;
     }
 
-    /// How many of the nodes 1 to `size` are in the set.
+    /// Returns how many of the nodes 1 to `size` are in the set.
     pub fn count(&self, size: u8) -> u32
-        requires { size ≤ 9 }
+        requires { size ≤ MOST_NODES }
         ensures count { result ≡ count_of (has_node self.now) size }
         ensures few { result ≤ 16 }
     {

@@ -6,8 +6,8 @@ use indexmap::IndexMap;
 use std::alloc::{AllocError, Global};
 use std::marker::Model;
 
-/// Values by place. Contracts see a finite map, which index each place has, and how many places
-/// more there is room for.
+/// Values by place. Contracts see a finite map, the index of each place, and how many more places
+/// have room.
 #[derive(Drop)]
 pub struct PlaceMap<V: Copy> {
     entries: IndexMap<u32, V>,
@@ -31,7 +31,7 @@ impl<V: Copy> Model for PlaceMap<V> {
 }
 
 impl<V: Copy> PlaceMap<V> {
-    /// A map without a place. It takes no memory.
+    /// Returns a map without a place. It takes no memory.
     pub fn new(alloc: Global) -> PlaceMap<V>
         ensures { result.map ≡ empty }
     {
@@ -40,14 +40,14 @@ impl<V: Copy> PlaceMap<V> {
         }
     }
 
-    /// The value at a place.
+    /// Returns the value at `place`.
     pub fn get(&self, place: u32) -> Option<V>
         ensures { result ≡ get self.now.map place }
     {
         self.entries.get(&place).copied()
     }
 
-    /// The index of a place, and its value.
+    /// Returns the index of `place`, and its value.
     pub fn find(&self, place: u32) -> Option<(usize, V)>
         ensures value { option_map (λ found. found.1) result ≡ get self.now.map place }
         ensures within { IfSome result (λ found. found.0 < length self.now.places) }
@@ -57,7 +57,7 @@ impl<V: Copy> PlaceMap<V> {
         Some((index, *value))
     }
 
-    /// Puts a value at the place that has this index. It takes no search.
+    /// Puts `value` at the place that has this index. It takes no search.
     pub fn put_at(&mut self, index: usize, value: V)
         requires { index < length self.old.places }
         ensures { self.new.map ≡ insert self.old.map (slice_index self.old.places index) value }
@@ -66,7 +66,7 @@ impl<V: Copy> PlaceMap<V> {
         *old = value;
     }
 
-    /// Makes room for one place more. After an error nothing has changed.
+    /// Makes room for one more place. After an error nothing has changed.
     pub fn make_room(&mut self) -> Result<(), AllocError>
         ensures map { self.new.map ≡ self.old.map }
         ensures room { OnOk result (0 < self.new.room) }
@@ -74,7 +74,7 @@ impl<V: Copy> PlaceMap<V> {
         self.entries.reserve(1)
     }
 
-    /// Puts a value at a place, for which there is room.
+    /// Puts `value` at `place`. There is room for it.
     pub fn insert(&mut self, place: u32, value: V)
         requires { 0 < self.old.room }
         ensures { self.new.map ≡ insert self.old.map place value }
@@ -82,8 +82,8 @@ impl<V: Copy> PlaceMap<V> {
         self.entries.insert(place, value).unwrap();
     }
 
-    /// Puts a value at a place. A place that has one already takes no memory. After an error
-    /// nothing has changed.
+    /// Puts `value` at `place`. A place that has a value takes no memory. After an error nothing
+    /// has changed.
     pub fn put(&mut self, place: u32, value: V) -> Result<(), AllocError>
         ensures ok { OnOk result (self.new.map ≡ insert self.old.map place value) }
         ensures err { OnErr result (self.new.map ≡ self.old.map) }
@@ -92,7 +92,7 @@ impl<V: Copy> PlaceMap<V> {
         Ok(())
     }
 
-    /// Takes the value at a place out, if there is one.
+    /// Removes the value at `place`, if there is one.
     pub fn remove(&mut self, place: u32)
         ensures { self.new.map ≡ remove self.old.map place }
     {

@@ -1,13 +1,14 @@
-//! What was heard of a place that is not learned.
+//! Tallies of places that are not learned.
 ghost use Rattle.std.specs.Prelude.{◌≡◌, ◌≤◌};
 ghost use Rattle.paxos_msg.specs.Tests.{is_majority};
 ghost use Rattle.paxos_learner.specs.Tallies.{begun_tally, joined_tally, tallied, has_node};
+ghost use Rattle.paxos_msg.specs.declared.limits.TheConstants.{MOST_NODES};
 
 use crate::node_set::NodeSet;
 use paxos_msg::{Ballot, Value};
 use std::marker::Model;
 
-/// The nodes that were heard to accept a value at one place under a ballot.
+/// The nodes that accepted a value at one place under a ballot.
 #[derive(Clone, Copy)]
 pub struct Tally {
     ballot: Ballot,
@@ -26,9 +27,9 @@ impl Model for Tally {
 }
 
 impl Tally {
-    /// A tally of one node alone.
+    /// Returns a tally of one node alone.
     fn begun(node: u8, ballot: Ballot, value: Value) -> Tally
-        requires { node ≤ 9 }
+        requires { node ≤ MOST_NODES }
         ensures { result ≡ begun_tally node ballot value }
     {
         let mut nodes = NodeSet::new();
@@ -40,9 +41,9 @@ impl Tally {
         }
     }
 
-    /// The tally with this node as well, if that is new.
+    /// Returns the tally with this node as well, or `None` if it has the node.
     fn joined(self, node: u8) -> Option<Tally>
-        requires { node ≤ 9 }
+        requires { node ≤ MOST_NODES }
         ensures { result ≡ joined_tally self node }
     {
         let Tally {
@@ -61,26 +62,26 @@ impl Tally {
         })
     }
 
-    /// The value that was accepted.
+    /// Returns the accepted value.
     pub fn value(&self) -> Value
         ensures { result ≡ self.now.value }
     {
         self.value
     }
 
-    /// Whether the nodes that were heard are more than half of the nodes 1 to `size`.
+    /// Returns true if the nodes of the tally are more than half of the nodes 1 to `size`.
     pub fn is_majority(&self, size: u8) -> bool
-        requires { size ≤ 9 }
+        requires { size ≤ MOST_NODES }
         ensures { result ≡ is_majority size (has_node self.now.nodes) }
     {
         u32::from(size) < 2 * self.nodes.count(size)
     }
 }
 
-/// The tally at a place, where it changes, after the node was heard to accept the value under the
-/// ballot. A node is 0 to 9.
+/// Returns the tally at a place after `node`, 0 to 9, has accepted the value under the ballot.
+/// Returns `None` if nothing changes.
 pub fn tallied(old: Option<Tally>, node: u8, ballot: Ballot, value: Value) -> Option<Tally>
-    requires { node ≤ 9 }
+    requires { node ≤ MOST_NODES }
     ensures { result ≡ tallied old node ballot value }
 {
     match old {

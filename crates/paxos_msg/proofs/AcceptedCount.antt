@@ -8,13 +8,13 @@ use Rattle.paxos_msg.specs.Batches.{Msg, Sent}
 use Rattle.paxos_msg.specs.Messages.{IsSent}
 use Rattle.paxos_msg.specs.Chosen.{IsChosen, IsChosenBy}
 use Rattle.paxos_msg.proofs.Meeting.{majorities_meet}
-use Rattle.paxos_msg.proofs.Counting.{IsCounted, count_grows}
+use Rattle.paxos_msg.proofs.CountingNodes.{IsCounted, count_grows}
 
 -- node i has sent that it accepted v at s under b
 abbrev pub HasAccepted : Sent → Ballot → ℕ → Value → ℕ → Type 0
 HasAccepted sent b s v i = IsSent sent i (Accepted b s v)
 
--- none of the messages below n is m
+-- no message below n is m
 abbrev pub IsAway : Sent → ℕ → Msg → Type 0
 IsAway sent n m = (k : ℕ) → k < n → ¬ (slice_index_or sent k m ≡ m)
 

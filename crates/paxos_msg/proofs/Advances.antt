@@ -94,7 +94,8 @@ module _ (sent : Sent) (old : Record) where
         | inr ne ↦ rw (vote_at-with_vote_other old.votes vote s ne) h
       ]
 
--- A fact of each node's record holds after a save, if it holds of a record that is the same, and of one that changed.
+-- A fact of each node's record holds after a save, if it holds of a record that is the same, and of
+-- one that changed.
 pub after_save : (sent : Sent) (records : ℕ → Record) (i : ℕ) (change : Change) (next : ℕ → Record) (j : ℕ)
     (Q : Record → Type 0) → MaySave sent (records i) change → IsSaved records i change next
     → (MaySave sent (records j) change → Q (changed (records j) change)) → Q (records j) → Q (next j)

@@ -92,7 +92,7 @@ gap_behind x xs s i h = record {
   after = λ j d le lt. h.after (suc j) d (omega arith) (omega arith);
 }
 
--- the vote where the place stands is the one at the place
+-- the vote at the index of the place is the one at the place
 pub vote_there : (votes : List Vote) (s i : ℕ) (d : Vote) → IsPlaceIn votes s i → kept_vote_at votes s ≡ Some (get_or votes i d)
 vote_there [] s i d h = absurd (omega (arith, h.in_range))
 vote_there (x ∷ xs) s zero d h = rw (eq-eqb x.place s (h.same d)) refl
@@ -100,7 +100,7 @@ vote_there (x ∷ xs) s (suc i) d h =
     rw (ne_eqb x.place s (λ e. omega (arith, h.before 0 d (omega arith))))
     (vote_there xs s i d (place_behind x xs s i h))
 
--- where the place would stand there is no vote at it
+-- at the index where the place would be there is no vote for it
 pub none_there : (votes : List Vote) (s i : ℕ) → IsGapIn votes s i → kept_vote_at votes s ≡ None
 none_there [] s i h = refl
 none_there (x ∷ xs) s zero h =

@@ -1,4 +1,5 @@
--- What goes on with a growth: more messages, a call of a node, and a restart; and which rules still hold after it.
+-- What goes on with a growth: more messages, a call of a node, and a restart; and which rules still
+-- hold after it.
 use Rattle.std.proofs.Common.{◌≡◌, ◌≢◌, ◌↔◌, ℕ, inl, inr, List, [], ◌∷◌, ◌++◌, Option, Contains, subst, sym}
 use Rattle.std.proofs.lemmas.Bool.{cases_eq}
 use Rattle.std.proofs.lemmas.List.{append-nil, append_assoc}

@@ -14,7 +14,7 @@ pub record Takes (bytes text rest : List ℕ) : Type 0 where
 pub takes_then : (a x b y c : List ℕ) → Takes a x b → Takes b y c → Takes a (x ++ y) c
 takes_then a x b y c p q = record { parts = p.parts ∙ ap (λ (t : List ℕ). x ++ t) q.parts ∙ sym (append_assoc x y c); others = q.others }
 
--- ---- bytes in front of others, and behind them
+-- ---- bytes before others, and after them
 
 pub bytes_before : (n : ℕ) (bytes : List ℕ) → AreBytes bytes → (i : ℕ) → slice_index (take n bytes) i < 256
 bytes_before zero bytes h i = omega arith

@@ -8,7 +8,8 @@ use Rattle.paxos_msg.specs.declared.message.Body.TheVariants.{Accept, Accepted}
 use Rattle.paxos_msg.specs.Messages.{IsSent, IsSaid, IsPromised, kept_vote_at}
 use Rattle.paxos_msg.proofs.Advances.{HasPromised, HasVoted, IsRight}
 
--- what node i accepted at s below b is under no greater ballot than the reported vote's, which was proposed
+-- what node i accepted at s below b is under no greater ballot than the reported vote's, which was
+-- proposed
 pub record IsTrueReport (sent : Sent) (i : ℕ) (b : Ballot) (s : ℕ) (reported : Option Vote) : Type 0 where
   pub latest : (c : Ballot) (v : Value) → IsSent sent i (Accepted c s v) → IsBelow c b → IsSomeAnd reported (λ vote. IsAtMost c vote.ballot)
   pub proposed : IfSome reported (λ vote. IsSaid sent (Accept vote.ballot s vote.value))

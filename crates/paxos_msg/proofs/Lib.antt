@@ -12,7 +12,7 @@ pub mod Agreement
 pub mod GoesOn
 pub mod Migration
 pub mod Witness
-pub mod Counting
+pub mod CountingNodes
 pub mod AcceptedCount
 pub mod Guards
 pub mod Numbers

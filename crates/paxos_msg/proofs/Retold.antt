@@ -1,4 +1,5 @@
--- A growth of a group of five, written out, in which a greater ballot is told of a vote and proposes its value again.
+-- A growth of a group of five, written out: a greater ballot gets a vote reported and proposes its
+-- value again.
 use Rattle.std.proofs.Common.{◌≡◌, ℕ, zero, suc, ◌==◌, inl, inr, Bool, ◌||◌, IsTrue, ◌<◌, List, [], ◌∷◌, ◌++◌, Option, None, Some, IfSome, Contains, if◌then◌else◌, sym, ap, refl, arith, lit<}
 use Rattle.std.proofs.lemmas.Bool.{eqb-true, or_cases}
 use Rattle.paxos_msg.specs.declared.ballot.Ballot.{Ballot}

@@ -45,8 +45,9 @@ safe_submitted size sent records c s w inv safe = by_best safe.best safe.is_best
     by_best None silent free = free
     by_best (Some vote) great e = rw e (inv.submitted vote.ballot s vote.value (great_proposed size sent records c s w inv safe vote great))
 
--- a member of a silent majority accepted nothing below the ballot that it promised, and one of another nothing
--- above the greatest vote that was reported. So a proposal that is safe is all that is left to the ballots below it.
+-- a member of a silent majority accepted nothing below the ballot that it promised, and one of
+-- another nothing above the greatest vote that was reported. So a proposal that is safe is all that
+-- is left to the ballots below it.
 module _ (size : ℕ) (sent : Sent) (records : ℕ → Record) (c : Ballot) (s : ℕ) (w : Value)
     (inv : Invariant size sent records) (safe : IsSafe size sent c s w) (b : Ballot) (below : IsBelow b c) where
   passed : (i : ℕ) → IsTrue (safe.members i) → IsSomeAnd (records i).promised (λ p. IsBelow b p)

@@ -14,7 +14,7 @@ unfolding votes_left
 none_left zero bytes e = refl
 none_left (suc n) bytes e = absurd (omega (arith, e))
 
--- the first vote that is left, and those behind it
+-- the first vote that is left, and those after it
 pub first_left : (n : ℕ) (bytes rest : List ℕ) (v : Vote) → 0 < n → raw_vote_at bytes ≡ Ok (v, rest)
     → votes_left n bytes ≡ v ∷ votes_left (n - 1) rest
 unfolding votes_left
@@ -53,7 +53,7 @@ unfolding votes_at
 fault_at size b first upto low zero bytes e lt h = absurd (omega (arith, lt))
 fault_at size b first upto low (suc n) bytes e lt h = rw h refl
 
--- a vote and those behind it are no more than are wanted
+-- a vote and those after it are no more than are wanted
 few_more : (read : Result (Vote × List ℕ) WireFault) (n : ℕ) → ((bytes : List ℕ) → length (votes_left n bytes) ≤ n)
     → length (then_votes read (votes_left n)) ≤ suc n
 few_more (Ok x) n h = omega (arith, h x.1)
@@ -92,7 +92,7 @@ goes_on size b first upto count bytes low left less rest behind v one_less h raw
       err = λ fault k. so_far.err fault (rw (first_at size b first upto low left rest behind v lt h, e) (ap (with_first v) k));
     }
 
--- ---- what a value takes behind the place and the ballot of its vote
+-- ---- the bytes of a value, after the place and the ballot of its vote
 
 pub behind_ballot : (bytes a b : List ℕ) (n : ℕ) → Takes 4 bytes a → Takes 5 a b → drop n b ≡ drop (9 + n) bytes
 behind_ballot bytes a b n place ballot =

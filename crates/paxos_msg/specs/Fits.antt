@@ -1,4 +1,4 @@
--- Which messages have a spelling: the ranges of each field.
+-- The ranges of each field. A message has a spelling if all its fields are in their ranges.
 use Rattle.std.specs.Prelude.{◌≡◌, ℕ, ◌+◌, ◌^◌, ◌<◌, ◌≤◌, List, [], ◌∷◌, length}
 use Rattle.paxos_msg.specs.declared.ballot.Ballot.{Ballot}
 use Rattle.paxos_msg.specs.declared.value.Value.{Value}
@@ -9,33 +9,39 @@ use Rattle.paxos_msg.specs.declared.message.Body.TheVariants as body
 use Rattle.paxos_msg.specs.Ballots.{IsBelow, IsAtMost}
 use Rattle.paxos_msg.specs.Grammar.{AreBytes}
 use Rattle.paxos_msg.specs.Keys.{AreOwnKeys, batches}
+use Rattle.paxos_msg.specs.declared.limits.TheConstants.{LAST_PLACE, MOST_CHARACTERS, MOST_VOTES, PLACES}
 
--- a node of a group of that size
+-- A node of a group of `size` nodes.
 abbrev pub IsNode : ℕ → ℕ → Type 0
 IsNode size node = (0 < node) × (node ≤ size)
 
--- a number from 1 on that fits four bytes
+-- A number from 1 on that fits four bytes.
 abbrev pub IsCount : ℕ → Type 0
 IsCount n = (0 < n) × (n < 2 ^ 32)
 
+-- A ballot of a node of the group, with a round from 1 on.
+-- Forbids: A ballot of round 0.
 abbrev pub IsBallot : ℕ → Ballot → Type 0
 IsBallot size b = IsCount b.round × IsNode size b.node
 
+-- A place of the group, 0 to 65,535.
+-- Allows: Place 65,535.
 abbrev pub IsPlace : ℕ → Type 0
-IsPlace s = s ≤ 65535
+IsPlace s = s ≤ LAST_PLACE
 
--- 1 to 32 characters, whose keys' serials, from this one on, are from 1 on and fit four bytes
+-- One to 32 characters, whose keys have the serials from `first` on, 1 to 4,294,967,295.
 abbrev pub IsBatch : ℕ → List ℕ → Type 0
 IsBatch first bytes =
-    (0 < first) × (0 < length bytes) × (length bytes ≤ 32) × (first + length bytes ≤ 2 ^ 32)
-    × AreBytes bytes
+    (0 < first) × (0 < length bytes) × (length bytes ≤ MOST_CHARACTERS)
+    × (first + length bytes ≤ 2 ^ 32) × AreBytes bytes
 
+-- A no-op, or a batch of keys of a node of the group, in its ranges.
 abbrev pub IsValue : ℕ → Value → Type 0
 IsValue size value.Noop = Unit {0}
 IsValue size (value.Keys node start first bytes) =
     IsNode size node × IsCount start × IsBatch first bytes
 
--- a vote at a place from low up to upto, under a ballot that is not above b
+-- A vote at a place from `low` up to and without `upto`, under a ballot that is not above `b`.
 pub record IsVote (size : ℕ) (b : Ballot) (low upto : ℕ) (vote : Vote) : Type 0 where
   pub from_low : low ≤ vote.place
   pub below_upto : vote.place < upto
@@ -43,26 +49,32 @@ pub record IsVote (size : ℕ) (b : Ballot) (low upto : ℕ) (vote : Vote) : Typ
   pub not_above : IsAtMost vote.ballot b
   pub value : IsValue size vote.value
 
--- votes whose places ascend from low on, up to upto
+-- Votes in their ranges at ascending places from `low` up to and without `upto`, under ballots not
+-- above `b`.
+-- Allows: No vote.
+-- Forbids: Two votes at one place.
 abbrev pub AreVotes : ℕ → Ballot → ℕ → ℕ → List Vote → Type 0
 AreVotes size b low upto [] = Unit {0}
 AreVotes size b low upto (vote ∷ votes) =
     IsVote size b low upto vote × AreVotes size b (vote.place + 1) upto votes
 
--- the ranges of a body that node i sends
+-- The ranges of a body that node `i` sends.
 abbrev pub IsBody : ℕ → ℕ → Body → Type 0
 IsBody size i (body.Prepare b from) = IsBallot size b × (b.node ≡ i) × IsPlace from
 IsBody size i (body.Promise b first upto votes) =
-    IsBallot size b × IsPlace first × (upto ≤ 65536) × (first < upto) × (length votes ≤ 8)
+    IsBallot size b × IsPlace first × (upto ≤ PLACES) × (first < upto) × (length votes ≤ MOST_VOTES)
     × AreVotes size b first upto votes
 IsBody size i (body.Accept b s v) = IsBallot size b × (b.node ≡ i) × IsPlace s × IsValue size v
 IsBody size i (body.Accepted b s v) = IsBallot size b × IsPlace s × IsValue size v
 IsBody size i (body.Refused b promised) =
     IsBallot size b × IsBallot size promised × IsBelow b promised
 IsBody size i (body.Submit v) = IsValue size v × AreOwnKeys batches i v
-IsBody size i (body.Ask from) = from ≤ 65536
+IsBody size i (body.Ask from) = from ≤ PLACES
 IsBody size i (body.Tell s v) = IsPlace s × IsValue size v
 
--- whether the message has a spelling in the group
+-- The message has a spelling in the group: its sender is a node of it, and its body is in its
+-- ranges.
+-- Allows: A Promise whose `upto` is 65,536.
+-- Forbids: A vote at place 65,536.
 abbrev pub Fits : Group → Msg → Type 0
 Fits group m = IsNode group.size m.sender × IsBody group.size m.sender m.body

@@ -1,4 +1,4 @@
--- How what was sent and the records of the nodes grow.
+-- The growth of messages and records.
 use Rattle.std.specs.Prelude.{◌≡◌, ℕ, List, [], ◌∷◌, ◌++◌, Option}
 use Rattle.paxos_msg.specs.declared.record.Record.{Record}
 use Rattle.paxos_msg.specs.declared.record.Change.{Change}
@@ -8,9 +8,12 @@ use Rattle.paxos_msg.specs.Messages.{Sent}
 use Rattle.paxos_msg.specs.Records.{empty_record, MaySave, IsSaved}
 use Rattle.paxos_msg.specs.Sending.{MaySend}
 
--- What was sent and the records, as they grow from nothing: node after node, in any order, sends
--- what it may or saves what it may. Each sending is for some typed keys and some learned values,
--- whichever they are: a law of all growths holds whatever was typed and learned.
+-- The messages and the records, grown from nothing by allowed messages and saves, node after node
+-- in any order. Each message is for some typed keys and some learned values, whichever they are. So
+-- a law of all growths holds whatever was typed and learned.
+-- Source: Simple 2.2.
+-- Allows: Any interleaving; nodes that never take a step.
+-- Forbids: A message that its sender was not allowed to send at that time.
 pub data Grew {V : Type 0} (values : Values V) (size : ℕ) : Sent V → (ℕ → Record V) → Type 0 where
   nothing : (records : ℕ → Record V) → ((i : ℕ) → records i ≡ empty_record)
       → Grew values size [] records

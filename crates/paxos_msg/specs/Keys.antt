@@ -3,35 +3,41 @@ use Rattle.std.specs.Prelude.{◌≡◌, ◌≢◌, ℕ, ◌+◌, List, [], ◌�
 use Rattle.paxos_msg.specs.declared.value.Value.{Value}
 use Rattle.paxos_msg.specs.declared.value.Value.TheVariants as value
 
--- a typed character: the node, which of its starts, which key of that start, and the character
+-- A typed character: its node, the number of that node's start, its serial in that start, and the
+-- character.
+-- Allows: A no-op, which has no key.
+-- Forbids: Two characters under one serial as one key.
 pub record Key : Type 0 where
   pub node : ℕ
   pub start : ℕ
   pub serial : ℕ
   pub byte : ℕ
 
--- the keys with these characters, whose serials go on from this one
+-- The keys with these characters, with serials from `serial` on.
 abbrev pub keys_from : ℕ → ℕ → ℕ → List ℕ → List Key
 keys_from node start serial [] = []
 keys_from node start serial (byte ∷ bytes) =
     record { node = node; start = start; serial = serial; byte = byte }
     ∷ keys_from node start (serial + 1) bytes
 
--- the keys of a value, in order of serial
+-- The keys of a value, in order of serial.
 abbrev pub keys_of : Value → List Key
 keys_of value.Noop = []
 keys_of (value.Keys node start first bytes) = keys_from node start first bytes
 
--- what the rules ask of a type of values: which of them is no key, and the keys of each, in order
+-- The demands of the rules on a type of values: a no-op, and the keys of each value in order.
+-- Allows: Values of an earlier version.
 pub record Values (V : Type 0) : Type 0 where
   pub noop : V
   pub keys : V → List Key
 
--- the values of today: each is a batch of keys, or none
+-- The values of today: each is a batch of keys or a no-op.
 abbrev pub batches : Values Value
 batches = record { noop = value.Noop; keys = keys_of }
 
--- the value has a key, and each of its keys was typed at node i
+-- The value has a key, and each of its keys was typed at node `i`.
+-- Allows: A batch of 32 keys.
+-- Forbids: A no-op, or a key of another node.
 pub record AreOwnKeys {V : Type 0} (values : Values V) (i : ℕ) (v : V) : Type 0 where
   pub has_key : values.keys v ≢ []
   pub at_node : (key : Key) → Contains (values.keys v) key → key.node ≡ i

@@ -16,6 +16,5 @@ pub mod Chosen
 pub mod Growth
 pub mod Batches
 pub mod Migration
-pub mod Nodes
 pub mod Grammar
 pub mod Codes

@@ -1,4 +1,4 @@
--- Values as version 1 spelled them: a value was a single key, or none.
+-- Values as version 1 spelled them: a value was a single key or a no-op.
 use Rattle.std.specs.Prelude.{ℕ, ◌≤◌, ◌==◌, not, List, [], ◌∷◌, ◌++◌, length, Result, Ok, Err, if◌then◌else◌}
 use Rattle.base.specs.Steps.{◌>>=◌, unless}
 use Rattle.paxos_msg.specs.declared.value.Value.{Value}
@@ -9,17 +9,19 @@ use Rattle.paxos_msg.specs.Keys.{keys_of}
 use Rattle.paxos_msg.specs.Reading.{first_byte, is_node, number_at}
 use Rattle.paxos_msg.specs.Spelling.{number_bytes}
 
--- no key, or a single one
+-- A value with at most one key, as all were in version 1.
+-- Allows: A no-op.
+-- Forbids: A batch of two keys.
 abbrev pub IsSingle : Value → Type 0
 IsSingle v = length (keys_of v) ≤ 1
 
--- The spelling of such a value in version 1: that of today without the count.
+-- The spelling of such a value in version 1, which has no number of keys.
 abbrev pub value_bytes_v1 : Value → List ℕ
 value_bytes_v1 Noop = 0 ∷ []
 value_bytes_v1 (Keys node start first bytes) =
     1 ∷ node ∷ (number_bytes start ++ number_bytes first ++ bytes)
 
--- the fields of a key behind its node: its start, its serial and its character
+-- The fields of a key after its node: its start, its serial and its character.
 unfoldable pub key_rest_at_v1 : ℕ → List ℕ → Result (Value × List ℕ) WireFault
 key_rest_at_v1 node bytes = do
   start ← number_at bytes
@@ -29,18 +31,19 @@ key_rest_at_v1 node bytes = do
   byte ← first_byte counted.1
   Ok (Keys node started.0 counted.0 (byte.0 ∷ []), byte.1)
 
--- the fields of a key behind its tag
+-- The fields of a key after its tag.
 unfoldable pub key_at_v1 : ℕ → List ℕ → Result (Value × List ℕ) WireFault
 key_at_v1 size bytes = do
   node ← first_byte bytes
   there ← unless fault.Value (not (is_node size node.0)) node
   key_rest_at_v1 there.0 there.1
 
+-- The value of version 1 after its tag.
 abbrev pub tagged_v1 : ℕ → ℕ → List ℕ → Result (Value × List ℕ) WireFault
 tagged_v1 size tag bytes =
     if tag == 0 then Ok (Noop, bytes)
     else (if tag == 1 then key_at_v1 size bytes else Err fault.Value)
 
--- a value of version 1, a key as a batch of one
+-- A value of version 1 at the front of bytes, a key as a batch of one, and the bytes after it.
 unfoldable pub value_at_v1 : ℕ → List ℕ → Result (Value × List ℕ) WireFault
 value_at_v1 size bytes = first_byte bytes >>= λ tag. tagged_v1 size tag.0 tag.1

@@ -1,4 +1,4 @@
--- What a message that lies in a datagram says, and a field that is read alone.
+-- The message that lies in a datagram, and fields that are read alone.
 use Rattle.std.specs.Prelude.{◌≡◌, ◌≤◌, ℕ, List, length, drop, Result, Ok, Err}
 use Rattle.paxos_msg.specs.Batches.{Body}
 use Rattle.paxos_msg.specs.declared.message.Body.TheVariants.{Prepare, Promise, Accept, Accepted, Refused, Submit, Ask, Tell}
@@ -6,7 +6,7 @@ use Rattle.paxos_msg.specs.declared.view.BodyView.{BodyView}
 use Rattle.paxos_msg.specs.declared.view.BodyView.TheVariants as body
 use Rattle.paxos_msg.specs.declared.fault.WireFault.{WireFault}
 
--- the body that a body in a datagram is
+-- The body that a body in a datagram stands for.
 abbrev pub said : BodyView → Body
 said (body.Prepare b from) = Prepare b from
 said (body.Promise b first upto votes) = Promise b first upto votes
@@ -17,7 +17,8 @@ said (body.Submit key) = Submit key
 said (body.Ask from) = Ask from
 said (body.Tell s v) = Tell s v
 
--- a body reports at most so many votes
+-- A body that reports at most `most` votes.
+-- Allows: A body without votes.
 abbrev pub HasUpTo : ℕ → Body → Type 0
 HasUpTo most (Prepare b from) = Unit {0}
 HasUpTo most (Promise b first upto votes) = length votes ≤ most
@@ -28,8 +29,10 @@ HasUpTo most (Submit key) = Unit {0}
 HasUpTo most (Ask from) = Unit {0}
 HasUpTo most (Tell s v) = Unit {0}
 
--- an answer of a field at the front of the bytes, and of how many bytes it takes, is what reading
--- gives
+-- The answer of a call that reads one field, with the number of its bytes, is the result of
+-- reading.
+-- Allows: The same fault.
+-- Forbids: Another fault.
 abbrev pub GivesField : {A : Type 0} → List ℕ → Result (A × ℕ) WireFault
     → Result (A × List ℕ) WireFault → Type 0
 GivesField bytes (Ok x) read = (x.1 ≤ length bytes) × (read ≡ Ok (x.0, drop x.1 bytes))

@@ -1,18 +1,17 @@
-//! What is a majority and what is chosen, computed.
+//! Majorities and chosen values, computed.
 
 ghost use Rattle.std.specs.Prelude.{◌≡◌, ◌↔◌, ◌≤◌, IsTrue};
 ghost use Rattle.paxos_msg.specs.declared.message.Body.TheVariants.{Accepted};
 ghost use Rattle.paxos_msg.specs.Ballots.{count_of, IsMajority};
-ghost use Rattle.paxos_msg.specs.Chosen.{IsChosen, IsChosenBy};
+ghost use Rattle.paxos_msg.specs.Chosen.{IsChosen, IsChosenBy, is_listed};
 ghost use Rattle.paxos_msg.specs.Messages.{IsSent};
-ghost use Rattle.paxos_msg.specs.Nodes.{is_listed};
 
 use crate::ballot::Ballot;
 use crate::message::{Body, Msg};
 use crate::value::Value;
 
-/// How many of the nodes 1 to `size` stand in the list.
-#[tactic(auto, using(crate::proofs::Counting::count_next))]
+/// Returns how many of the nodes 1 to `size` are listed.
+#[tactic(auto, using(crate::proofs::CountingNodes::count_next))]
 fn count_nodes(size: u8, members: &[u8]) -> usize
     ensures count { result ≡ count_of (is_listed members.now) size }
     ensures few { result ≤ size }
@@ -26,22 +25,22 @@ fn count_nodes(size: u8, members: &[u8]) -> usize
     count
 }
 
-/// Whether the nodes that stand in the list are a majority of the nodes 1 to `size`. A node that
-/// stands there twice counts once, and one above `size` not at all.
+/// Returns true if the listed nodes are a majority of the nodes 1 to `size`. A node that is listed
+/// twice counts once, and one above `size` does not count.
 pub fn is_majority(size: u8, members: &[u8]) -> bool
     ensures { IsTrue result ↔ IsMajority size (is_listed members.now) }
 {
     usize::from(size) < 2 * count_nodes(size, members)
 }
 
-/// Whether two values are the same.
+/// Returns true if the two values are equal.
 fn is_same(value: Value, other: Value) -> bool
     ensures { IsTrue result ↔ (value ≡ other) }
 {
     value == other
 }
 
-/// Whether by this message the node says that it has accepted the value at the place under the
+/// Returns true if by `m` the node says that it has accepted the value at the place under the
 /// ballot.
 fn says_accepted(m: &Msg, node: u8, ballot: Ballot, place: u32, value: &Value) -> bool
     ensures { IsTrue result
@@ -57,7 +56,7 @@ fn says_accepted(m: &Msg, node: u8, ballot: Ballot, place: u32, value: &Value) -
     }
 }
 
-/// Whether the node has sent that it has accepted the value at the place under the ballot.
+/// Returns true if the node has sent that it accepted the value at the place under the ballot.
 fn has_accepted(sent: &[Msg], node: u8, ballot: Ballot, place: u32, value: &Value) -> bool
     ensures { IsTrue result ↔ IsSent sent.now node (Accepted ballot place value.now) }
 {
@@ -69,8 +68,8 @@ fn has_accepted(sent: &[Msg], node: u8, ballot: Ballot, place: u32, value: &Valu
     false
 }
 
-/// Whether the ballot has chosen the value at the place, by these messages.
-#[tactic(auto, using(crate::proofs::Counting::none_counted))]
+/// Returns true if the messages in `sent` show that the ballot has chosen the value at the place.
+#[tactic(auto, using(crate::proofs::CountingNodes::none_counted))]
 fn is_chosen_by(size: u8, sent: &[Msg], ballot: Ballot, place: u32, value: &Value) -> bool
     ensures { IsTrue result ↔ IsChosenBy size sent.now ballot place value.now }
 {
@@ -83,7 +82,7 @@ fn is_chosen_by(size: u8, sent: &[Msg], ballot: Ballot, place: u32, value: &Valu
     usize::from(size) < 2 * accepted
 }
 
-/// Whether the value is chosen at the place, by these messages.
+/// Returns true if the messages in `sent` show that the value is chosen at the place.
 pub fn is_chosen(size: u8, sent: &[Msg], place: u32, value: Value) -> bool
     ensures { IsTrue result ↔ IsChosen size sent.now place value }
 {

@@ -1,14 +1,16 @@
-//! Reading a datagram.
+//! Reads datagrams.
 ghost use Rattle.std.specs.Prelude.{◌≡◌, ◌≤◌, ◌<◌, IfErr, IfOk, Err, Ok, length};
 ghost use Rattle.paxos_msg.specs.Reading.{Gives, number_at, ballot_at, value_at, vote_at, votes_at, prepare_at, promise_at, accept_at, accepted_at, refused_at, submit_at, ask_at, tell_at, body_at, header_at, message_at};
 ghost use Rattle.paxos_msg.specs.Batches.{Msg};
 ghost use Rattle.paxos_msg.specs.Raw.{PassesVote, votes_left};
 ghost use Rattle.paxos_msg.specs.Spelling.{Msgs};
 ghost use Rattle.paxos_msg.specs.Views.{GivesField, HasUpTo, said};
+ghost use Rattle.paxos_msg.specs.declared.limits.TheConstants.{MOST_VOTES, PLACES};
 
 use crate::ballot::Ballot;
 use crate::fault::WireFault;
 use crate::lent::LentVotes;
+use crate::limits::{LAST_PLACE, MOST_VOTES, PLACES};
 use crate::message::Group;
 use crate::reading::{
     Part, ballot_of, byte_of, number_of, own_ballot_of, own_keys_of, place_of, value_of, vote_of,
@@ -17,7 +19,7 @@ use crate::value::Value;
 use crate::view::{BodyView, View};
 use byteorder::{BigEndian, ByteOrder};
 
-/// Goes over one vote, and answers its place and the bytes behind it. The faults are the vote's.
+/// Checks one vote. Returns its place and the bytes after it. Fails as `vote_of` does.
 fn pass_vote(part: Part, low: u32, bytes: &[u8]) -> Result<(u32, &[u8]), WireFault>
     ensures read { IfOk result
         (λ x. PassesVote part.size part.ballot part.first part.upto low bytes.now x.0 x.1.now) }
@@ -31,11 +33,11 @@ fn pass_vote(part: Part, low: u32, bytes: &[u8]) -> Result<(u32, &[u8]), WireFau
     }
 }
 
-/// Goes over that many votes of a promise, and answers the bytes behind them. The faults are those
-/// of the first vote that has one.
+/// Checks `count` votes of a promise. Returns the bytes after them. Fails as the first vote that
+/// has a fault.
 #[tactic(auto, using(crate::proofs::VotesLeft::few_left))]
 fn after_votes(part: Part, count: u32, bytes: &[u8]) -> Result<&[u8], WireFault>
-    requires { part.upto ≤ 65536 }
+    requires { part.upto ≤ PLACES }
     ensures exact { Gives (λ rest. (votes_left count bytes.now, rest.now)) result
         (votes_at part.size part.ballot part.first part.upto 0 count bytes.now) }
     ensures few { length (votes_left count bytes.now) ≤ count }
@@ -50,32 +52,32 @@ fn after_votes(part: Part, count: u32, bytes: &[u8]) -> Result<&[u8], WireFault>
     Ok(rest)
 }
 
-/// The body of a Prepare: a ballot of the sender's own, and the place from which on.
+/// Reads the body of a Prepare: a ballot of the sender's own, and the first place asked for.
 #[tactic(auto, unfolding(crate::specs::Reading::prepare_at))]
 fn prepare_of(size: u8, sender: u8, bytes: &[u8]) -> Result<(BodyView<'_>, &[u8]), WireFault>
     ensures exact { Gives (λ x. (said x.0, x.1.now)) result (prepare_at size sender bytes.now) }
-    ensures few { IfOk result (λ x. HasUpTo 8 (said x.0)) }
+    ensures few { IfOk result (λ x. HasUpTo MOST_VOTES (said x.0)) }
 {
     let (ballot, rest) = own_ballot_of(size, sender, bytes)?;
-    let (from, rest) = place_of(65_535, rest)?;
+    let (from, rest) = place_of(LAST_PLACE, rest)?;
     Ok((BodyView::Prepare { ballot, from }, rest))
 }
 
-/// The body of a Promise. Place where `upto` is above 65,536 or not above `first`, Count where
-/// there are more than 8 votes.
+/// Reads the body of a Promise. Fails with `Place` if `upto` is above 65,536 or not above `first`,
+/// and with `Count` if there are more than 8 votes.
 #[tactic(auto, unfolding(crate::specs::Reading::promise_at))]
 fn promise_of(size: u8, bytes: &[u8]) -> Result<(BodyView<'_>, &[u8]), WireFault>
     ensures exact { Gives (λ x. (said x.0, x.1.now)) result (promise_at size bytes.now) }
-    ensures few { IfOk result (λ x. HasUpTo 8 (said x.0)) }
+    ensures few { IfOk result (λ x. HasUpTo MOST_VOTES (said x.0)) }
 {
     let (ballot, rest) = ballot_of(size, bytes)?;
-    let (first, rest) = place_of(65_535, rest)?;
-    let (upto, rest) = place_of(65_536, rest)?;
+    let (first, rest) = place_of(LAST_PLACE, rest)?;
+    let (upto, rest) = place_of(PLACES, rest)?;
     if upto <= first {
         return Err(WireFault::Place);
     }
     let (count, rest) = byte_of(rest)?;
-    if count > 8 {
+    if usize::from(count) > MOST_VOTES {
         return Err(WireFault::Count);
     }
     let part = Part {
@@ -95,14 +97,14 @@ fn promise_of(size: u8, bytes: &[u8]) -> Result<(BodyView<'_>, &[u8]), WireFault
     Ok((body, behind))
 }
 
-/// The body of an Accept: a ballot of the sender's own, a place and a value.
+/// Reads the body of an Accept: a ballot of the sender's own, a place and a value.
 #[tactic(auto, unfolding(crate::specs::Reading::accept_at))]
 fn accept_of(size: u8, sender: u8, bytes: &[u8]) -> Result<(BodyView<'_>, &[u8]), WireFault>
     ensures exact { Gives (λ x. (said x.0, x.1.now)) result (accept_at size sender bytes.now) }
-    ensures few { IfOk result (λ x. HasUpTo 8 (said x.0)) }
+    ensures few { IfOk result (λ x. HasUpTo MOST_VOTES (said x.0)) }
 {
     let (ballot, rest) = own_ballot_of(size, sender, bytes)?;
-    let (place, rest) = place_of(65_535, rest)?;
+    let (place, rest) = place_of(LAST_PLACE, rest)?;
     let (value, taken) = value_of(size, rest)?;
     let body = BodyView::Accept {
         ballot,
@@ -112,14 +114,14 @@ fn accept_of(size: u8, sender: u8, bytes: &[u8]) -> Result<(BodyView<'_>, &[u8])
     Ok((body, &rest[taken..]))
 }
 
-/// The body of an Accepted: a ballot, a place and a value.
+/// Reads the body of an Accepted: a ballot, a place and a value.
 #[tactic(auto, unfolding(crate::specs::Reading::accepted_at))]
 fn accepted_of(size: u8, bytes: &[u8]) -> Result<(BodyView<'_>, &[u8]), WireFault>
     ensures exact { Gives (λ x. (said x.0, x.1.now)) result (accepted_at size bytes.now) }
-    ensures few { IfOk result (λ x. HasUpTo 8 (said x.0)) }
+    ensures few { IfOk result (λ x. HasUpTo MOST_VOTES (said x.0)) }
 {
     let (ballot, rest) = ballot_of(size, bytes)?;
-    let (place, rest) = place_of(65_535, rest)?;
+    let (place, rest) = place_of(LAST_PLACE, rest)?;
     let (value, taken) = value_of(size, rest)?;
     let body = BodyView::Accepted {
         ballot,
@@ -129,11 +131,12 @@ fn accepted_of(size: u8, bytes: &[u8]) -> Result<(BodyView<'_>, &[u8]), WireFaul
     Ok((body, &rest[taken..]))
 }
 
-/// The body of a Refused. Ballot also where what was promised is not above the refused ballot.
+/// Reads the body of a Refused. Fails with `Ballot` also if the promised ballot is not above the
+/// refused one.
 #[tactic(auto, unfolding(crate::specs::Reading::refused_at))]
 fn refused_of(size: u8, bytes: &[u8]) -> Result<(BodyView<'_>, &[u8]), WireFault>
     ensures exact { Gives (λ x. (said x.0, x.1.now)) result (refused_at size bytes.now) }
-    ensures few { IfOk result (λ x. HasUpTo 8 (said x.0)) }
+    ensures few { IfOk result (λ x. HasUpTo MOST_VOTES (said x.0)) }
 {
     let (ballot, rest) = ballot_of(size, bytes)?;
     let (promised, rest) = ballot_of(size, rest)?;
@@ -143,42 +146,42 @@ fn refused_of(size: u8, bytes: &[u8]) -> Result<(BodyView<'_>, &[u8]), WireFault
     Ok((BodyView::Refused { ballot, promised }, rest))
 }
 
-/// The body of a Submit: keys that were typed at the sender.
+/// Reads the body of a Submit: keys that were typed at the sender.
 #[tactic(auto, unfolding(crate::specs::Reading::submit_at))]
 fn submit_of(size: u8, sender: u8, bytes: &[u8]) -> Result<(BodyView<'_>, &[u8]), WireFault>
     ensures exact { Gives (λ x. (said x.0, x.1.now)) result (submit_at size sender bytes.now) }
-    ensures few { IfOk result (λ x. HasUpTo 8 (said x.0)) }
+    ensures few { IfOk result (λ x. HasUpTo MOST_VOTES (said x.0)) }
 {
     let (key, taken) = own_keys_of(size, sender, bytes)?;
     Ok((BodyView::Submit { key }, &bytes[taken..]))
 }
 
-/// The body of an Ask: a place, which is at most 65,536.
+/// Reads the body of an Ask: a place, at most 65,536.
 #[tactic(auto, unfolding(crate::specs::Reading::ask_at))]
 fn ask_of(bytes: &[u8]) -> Result<(BodyView<'_>, &[u8]), WireFault>
     ensures exact { Gives (λ x. (said x.0, x.1.now)) result (ask_at bytes.now) }
-    ensures few { IfOk result (λ x. HasUpTo 8 (said x.0)) }
+    ensures few { IfOk result (λ x. HasUpTo MOST_VOTES (said x.0)) }
 {
-    let (from, rest) = place_of(65_536, bytes)?;
+    let (from, rest) = place_of(PLACES, bytes)?;
     Ok((BodyView::Ask { from }, rest))
 }
 
-/// The body of a Tell: a place and a value.
+/// Reads the body of a Tell: a place and a value.
 #[tactic(auto, unfolding(crate::specs::Reading::tell_at))]
 fn tell_of(size: u8, bytes: &[u8]) -> Result<(BodyView<'_>, &[u8]), WireFault>
     ensures exact { Gives (λ x. (said x.0, x.1.now)) result (tell_at size bytes.now) }
-    ensures few { IfOk result (λ x. HasUpTo 8 (said x.0)) }
+    ensures few { IfOk result (λ x. HasUpTo MOST_VOTES (said x.0)) }
 {
-    let (place, rest) = place_of(65_535, bytes)?;
+    let (place, rest) = place_of(LAST_PLACE, bytes)?;
     let (value, taken) = value_of(size, rest)?;
     Ok((BodyView::Tell { place, value }, &rest[taken..]))
 }
 
-/// The body of a message of that kind from that sender, and the bytes behind it.
+/// Reads the body of a message of kind `kind` from `sender`. Returns it and the bytes after it.
 #[tactic(auto, unfolding(crate::specs::Reading::body_at))]
 fn body_of(size: u8, kind: u8, sender: u8, bytes: &[u8]) -> Result<(BodyView<'_>, &[u8]), WireFault>
     ensures exact { Gives (λ x. (said x.0, x.1.now)) result (body_at size kind sender bytes.now) }
-    ensures few { IfOk result (λ x. HasUpTo 8 (said x.0)) }
+    ensures few { IfOk result (λ x. HasUpTo MOST_VOTES (said x.0)) }
 {
     match kind {
         1 => prepare_of(size, sender, bytes),
@@ -192,8 +195,9 @@ fn body_of(size: u8, kind: u8, sender: u8, bytes: &[u8]) -> Result<(BodyView<'_>
     }
 }
 
-/// The kind and the sender of a datagram of the group, and the bytes behind the header, which is 10
-/// bytes long. Short where there are fewer, then Magic, Version, Kind, Group and Sender.
+/// Reads the header of a datagram of the group, 10 bytes. Returns kind, sender and the bytes after
+/// it. Fails with `Short` if there are fewer bytes, then with `Magic`, `Version`, `Kind`, `Group`
+/// and `Sender`, in this order.
 #[tactic(auto, unfolding(crate::specs::Reading::header_at))]
 fn header_of(group: Group, bytes: &[u8]) -> Result<((u8, u8), &[u8]), WireFault>
     ensures { Gives (λ x. (x.0, x.1.now)) result (header_at group bytes.now) }
@@ -219,12 +223,12 @@ fn header_of(group: Group, bytes: &[u8]) -> Result<((u8, u8), &[u8]), WireFault>
     Ok(((bytes[3], bytes[4]), &bytes[10..]))
 }
 
-/// The message that is all of the datagram, or the first fault from the left; Trailing where bytes
-/// are left over.
+/// Reads the message that is all of the datagram. Fails with the first fault from the left, or with
+/// `Trailing` if bytes are left over.
 #[tactic(auto, unfolding(crate::specs::Reading::message_at))]
 fn message_of(bytes: &[u8], group: Group) -> Result<View<'_>, WireFault>
     ensures exact { Gives (λ view. view) result (message_at group bytes.now) }
-    ensures few { IfOk result (λ view. HasUpTo 8 view.body) }
+    ensures few { IfOk result (λ view. HasUpTo MOST_VOTES view.body) }
 {
     let ((kind, sender), rest) = header_of(group, bytes)?;
     // No `?`: the prover has no rule for one on a value and a reference together.
@@ -235,23 +239,23 @@ fn message_of(bytes: &[u8], group: Group) -> Result<View<'_>, WireFault>
     }
 }
 
-/// The message that is all of the datagram, or the first fault from the left. Its votes stay in the
-/// datagram, at most 8. No memory is taken, so Memory is never answered.
+/// Reads the message that is all of the datagram. Fails with the first fault from the left. Its
+/// votes, at most 8, stay in the datagram. It takes no memory, so it never fails with `Memory`.
 pub fn decode(bytes: &[u8], group: Group) -> Result<View<'_>, WireFault>
-    // What is read is spelled so.
+    // The datagram is the spelling of the message that is read.
     ensures found { IfOk result (λ view. Msgs group bytes.now view) }
-    // What is spelled is read.
+    // Each spelling is read.
     ensures only { (m : Msg) → Msgs group bytes.now m → Gives (λ view. view) result (Ok m) }
-    // Which check is the first that fails.
+    // The fault is the first check that fails.
     ensures exact { Gives (λ view. view) result (message_at group bytes.now) }
-    // At most 8 votes may be counted or collected.
-    ensures few { IfOk result (λ view. HasUpTo 8 view.body) }
+    // Callers may count or collect the votes: at most 8.
+    ensures few { IfOk result (λ view. HasUpTo MOST_VOTES view.body) }
 {
     message_of(bytes, group)
 }
 
-/// The ballot at the front of the bytes, and how many bytes it takes: 5. Ballot where the round is
-/// 0 or the node is not of the group, Short where it ends too soon.
+/// Reads the ballot at the front of the bytes, and the number of its bytes, 5. Fails with `Ballot`
+/// if the round is 0 or the node is not of the group, and with `Short` if it ends too soon.
 pub fn read_ballot(bytes: &[u8], group: Group) -> Result<(Ballot, usize), WireFault>
     ensures exact { GivesField bytes.now result (ballot_at group.size bytes.now) }
 {
@@ -259,19 +263,21 @@ pub fn read_ballot(bytes: &[u8], group: Group) -> Result<(Ballot, usize), WireFa
     Ok((ballot, 5))
 }
 
-/// The value at the front of the bytes, and how many bytes it takes: 1 where it is no key, and 11
-/// and one for each of its 1 to 32 characters else. Value where its tag is neither 0 nor 1, its
-/// node is not of the group, its start is 0, or, at the count, the first serial is 0, the count is
-/// 0 or above 32, or the last serial is above 4,294,967,295; Short where it ends too soon.
+/// Reads the value at the front of the bytes, and the number of its bytes: 1 for a no-op, else 11
+/// and one for each of its 1 to 32 characters. Fails with `Value` if its tag is neither 0 nor 1,
+/// its node is not of the group, or its start is 0. Fails with `Value` at the count if the first
+/// serial is 0, the count is 0 or above 32, or the last serial is above 4,294,967,295. Fails with
+/// `Short` if it ends too soon.
 pub fn read_value(bytes: &[u8], group: Group) -> Result<(Value, usize), WireFault>
     ensures exact { GivesField bytes.now result (value_at group.size bytes.now) }
 {
     value_of(group.size, bytes)
 }
 
-/// The votes at the front of the bytes, so many of them, and the bytes behind them: at places that
-/// ascend, none under a greater ballot than this one. Place, Order, Ballot and Value as in a
-/// Promise of all places; Short where they end too soon. The votes stay in the bytes.
+/// Reads `count` votes at the front of the bytes, and returns the bytes after them. Their places
+/// ascend, and none is under a ballot above `ballot`. Fails with `Place`, `Order`, `Ballot` and
+/// `Value` as in a Promise of all places, and with `Short` if they end too soon. The votes stay in
+/// the bytes.
 pub fn read_votes(
     bytes: &[u8],
     group: Group,
@@ -279,21 +285,21 @@ pub fn read_votes(
     count: u32,
 ) -> Result<(LentVotes<'_>, &[u8]), WireFault>
     ensures exact { Gives (λ x. (x.0, x.1.now)) result
-        (votes_at group.size ballot 0 65536 0 count bytes.now) }
+        (votes_at group.size ballot 0 PLACES 0 count bytes.now) }
     ensures few { IfOk result (λ x. length x.0 ≤ count) }
 {
     let part = Part {
         size: group.size,
         ballot,
         first: 0,
-        upto: 65_536,
+        upto: PLACES,
     };
     let behind = after_votes(part, count, bytes)?;
     Ok((LentVotes::new(bytes, count), behind))
 }
 
-/// The number at the front of the bytes, and how many bytes it takes: 4. Short where there are
-/// fewer.
+/// Reads the number at the front of the bytes, and the number of its bytes, 4. Fails with `Short`
+/// if there are fewer.
 pub fn read_number(bytes: &[u8]) -> Result<(u32, usize), WireFault>
     ensures exact { GivesField bytes.now result (number_at bytes.now) }
 {

@@ -1,20 +1,22 @@
-//! Datagrams of messages.
+//! Writes messages as datagrams.
 ghost use Rattle.std.specs.Prelude.{◌≡◌, ◌+◌, ◌≤◌, ◌++◌, [], length, vec_len, vec_capacity, IfOk, IfErr};
 ghost use Rattle.paxos_msg.specs.declared.fault.WireFault.TheVariants as fault;
 ghost use Rattle.paxos_msg.specs.Fits.{Fits};
 ghost use Rattle.paxos_msg.specs.Spelling.{body_bytes, spelling};
 ghost use Rattle.paxos_msg.specs.Views.{HasUpTo};
+ghost use Rattle.paxos_msg.specs.declared.limits.TheConstants.{LONGEST_DATAGRAM, MOST_VOTES};
 
 use crate::fault::WireFault;
+use crate::limits::LONGEST_DATAGRAM;
 use crate::message::{Body, Group, Msg};
 use crate::spelling::{
     kind, put_ballot, put_header, put_number, put_promise, put_proposal, put_value,
 };
 use std::alloc::Global;
 
-/// Writes a body behind what the vector holds. A promise has at most 8 votes.
+/// Appends a body. A promise has at most 8 votes.
 fn put_body(body: &Body, out: &mut Vec<u8>)
-    requires few { HasUpTo 8 body.now }
+    requires few { HasUpTo MOST_VOTES body.now }
     requires room { vec_len out.old + length (body_bytes body.now) ≤ vec_capacity out.old }
     ensures items { out.new.items ≡ out.old.items ++ body_bytes body.now }
     ensures capacity { vec_capacity out.new ≡ vec_capacity out.old }
@@ -58,7 +60,7 @@ fn put_body(body: &Body, out: &mut Vec<u8>)
 pub fn encode_into(message: &Msg, group: Group, out: &mut Vec<u8>)
     requires fits { Fits group message.now }
     requires empty { vec_len out.old ≡ 0 }
-    requires room { 1400 ≤ vec_capacity out.old }
+    requires room { LONGEST_DATAGRAM ≤ vec_capacity out.old }
     ensures items { out.new.items ≡ spelling group message.now }
     ensures capacity { vec_capacity out.new ≡ vec_capacity out.old }
 {
@@ -66,14 +68,14 @@ pub fn encode_into(message: &Msg, group: Group, out: &mut Vec<u8>)
     put_body(&message.body, out);
 }
 
-/// The datagram of a message that fits, at most 440 bytes. The refusal is `Memory`, and comes where
-/// there is no memory for 1,400 bytes.
+/// Returns the datagram of a message that fits, at most 440 bytes. Fails with `Memory` if there is
+/// no memory for 1,400 bytes.
 pub fn encode(alloc: Global, message: &Msg, group: Group) -> Result<Vec<u8>, WireFault>
     requires fits { Fits group message.now }
     ensures ok { IfOk result (λ bytes. bytes.items ≡ spelling group message.now) }
     ensures err { IfErr result (λ e. e ≡ fault.Memory) }
 {
-    let Ok(mut out) = Vec::with_capacity(alloc, 1400) else {
+    let Ok(mut out) = Vec::with_capacity(alloc, LONGEST_DATAGRAM) else {
         return Err(WireFault::Memory);
     };
     encode_into(message, group, &mut out);

@@ -1,4 +1,4 @@
-//! Why a datagram is refused.
+//! Faults of a datagram.
 use thiserror::Error;
 
 /// The first check that a datagram fails, from the left. Its text is the refusal's code.
@@ -7,32 +7,32 @@ pub enum WireFault {
     /// The datagram has fewer than 10 bytes, or ends before a field does.
     #[error("G1")]
     Short,
-    /// It does not begin with the bytes `PG`.
+    /// The datagram does not begin with the bytes `PG`.
     #[error("G2")]
     Magic,
-    /// Its version is not 2.
+    /// The version is not 2.
     #[error("G3")]
     Version,
-    /// Its kind is not 1 to 8.
+    /// The kind is not 1 to 8.
     #[error("G4")]
     Kind,
-    /// Its size or its session is not the group's.
+    /// The size or the session is not the group's.
     #[error("G5")]
     Group,
-    /// Its sender is 0 or above the group's size.
+    /// The sender is 0 or above the group's size.
     #[error("G6")]
     Sender,
-    /// A ballot is out of range, is not the sender's where it has to be, or stands in the wrong
-    /// order to another.
+    /// A ballot is out of range, is not the sender's where it has to be, or is in the wrong order
+    /// to another.
     #[error("G7")]
     Ballot,
     /// A place is out of range.
     #[error("G8")]
     Place,
-    /// A value is out of range, or a submitted one has no keys of the sender.
+    /// A value is out of range, or a submitted value has no keys, or keys of another node.
     #[error("G9")]
     Value,
-    /// A vote's place is not above the one before.
+    /// A vote's place is not above the place of the vote before.
     #[error("G10")]
     Order,
     /// A promise has more than 8 votes.
@@ -41,7 +41,7 @@ pub enum WireFault {
     /// Bytes are left over.
     #[error("G12")]
     Trailing,
-    /// There is no memory.
+    /// Out of memory.
     #[error("G13")]
     Memory,
 }

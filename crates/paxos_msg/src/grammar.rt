@@ -10,14 +10,15 @@ ghost use Rattle.paxos_msg.specs.Spelling.{Msgs, ballot_bytes, number_bytes, val
 ghost use Rattle.paxos_msg.specs.Reading.{ballot_at, number_at, value_at, votes_at, message_at};
 ghost use Rattle.paxos_msg.specs.Grammar.{AreBytes, IsGroup};
 ghost use Rattle.paxos_msg.specs.Version1.{IsSingle, value_at_v1, value_bytes_v1};
+ghost use Rattle.paxos_msg.specs.declared.limits.TheConstants.{PLACES};
 
-/// A datagram is read as a message just where the message fits and the datagram is its spelling.
+/// A datagram is read as a message exactly where the message fits and the datagram is its spelling.
 pub fn reading_is_spelling()
     ensures read { (group : Group) (bytes : List ℕ) (m : Msg) → IsGroup group → AreBytes bytes
         → (message_at group bytes ≡ Ok m) ↔ Msgs group bytes m }
 {}
 
-/// What is spelled is read again, whatever else is known of the bytes.
+/// The spelling of a message is read as that message. No premise says that the numbers are bytes.
 #[tactic(auto, using(crate::proofs::MessagesRead::message_again))]
 pub fn spelling_is_read()
     ensures read { (group : Group) (bytes : List ℕ) (m : Msg) → IsGroup group → Msgs group bytes m
@@ -31,21 +32,21 @@ pub fn one_message()
         → Msgs group bytes n → m ≡ n }
 {}
 
-/// A ballot is read from the front of bytes just where it fits and they begin with its spelling.
+/// A ballot is read from the front of bytes exactly where it fits and they begin with its spelling.
 pub fn ballot_is_spelling()
     ensures read { (size : ℕ) (bytes : List ℕ) (b : Ballot) (rest : List ℕ) → AreBytes bytes
         → (ballot_at size bytes ≡ Ok (b, rest))
         ↔ (IsBallot size b × (bytes ≡ ballot_bytes b ++ rest)) }
 {}
 
-/// A value is read from the front of bytes just where it fits and they begin with its spelling.
+/// A value is read from the front of bytes exactly where it fits and they begin with its spelling.
 pub fn value_is_spelling()
     ensures read { (size : ℕ) (bytes : List ℕ) (v : Value) (rest : List ℕ) → AreBytes bytes
         → (value_at size bytes ≡ Ok (v, rest))
         ↔ (IsValue size v × (bytes ≡ value_bytes v ++ rest)) }
 {}
 
-/// A value of version 1 is read from the front of bytes just where it fits, has at most one key,
+/// A value of version 1 is read from the front of bytes exactly where it fits, has at most one key,
 /// and they begin with its spelling.
 pub fn value_v1_is_spelling()
     ensures read { (size : ℕ) (bytes : List ℕ) (v : Value) (rest : List ℕ) → AreBytes bytes
@@ -63,18 +64,18 @@ pub fn value_is_short()
     ensures short { (size : ℕ) (v : Value) → IsValue size v → length (value_bytes v) ≤ 43 }
 {}
 
-/// A number is read from the front of bytes just where they begin with its spelling.
+/// A number is read from the front of bytes exactly where they begin with its spelling.
 pub fn number_is_spelling()
     ensures read { (bytes : List ℕ) (n : ℕ) (rest : List ℕ) → AreBytes bytes
         → (number_at bytes ≡ Ok (n, rest)) ↔ ((n < 2 ^ 32) × (bytes ≡ number_bytes n ++ rest)) }
 {}
 
-/// So many votes are read from the front of bytes just where they fit, under the ballot, and the
+/// `n` votes are read from the front of bytes exactly where they fit, under the ballot, and the
 /// bytes begin with their spelling.
 pub fn votes_are_spelling()
     ensures read { (size n : ℕ) (b : Ballot) (bytes : List ℕ) (votes : List Vote) (rest : List ℕ)
-        → AreBytes bytes → (votes_at size b 0 65536 0 n bytes ≡ Ok (votes, rest))
-        ↔ (AreVotes size b 0 65536 votes × (length votes ≡ n)
+        → AreBytes bytes → (votes_at size b 0 PLACES 0 n bytes ≡ Ok (votes, rest))
+        ↔ (AreVotes size b 0 PLACES votes × (length votes ≡ n)
         × (bytes ≡ votes_bytes votes ++ rest)) }
 {}
 

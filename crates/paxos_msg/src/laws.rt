@@ -1,4 +1,5 @@
-//! The laws of the protocol, over its definitions alone.
+//! The laws of the protocol, over its definitions alone. A function without a result is empty: its
+//! contract is the law.
 
 ghost use Rattle.std.specs.Prelude.{◌≡◌, ◌≢◌, ◌↔◌, ◌⊎◌, ◌<◌, ◌≤◌, ◌+◌, ◌*◌, ◌++◌, ◌∷◌, [], ℕ, Bool, true, false, IsTrue, IsSomeAnd, List, Option, Some, Contains};
 ghost use Rattle.paxos_msg.specs.declared.ballot.Ballot.{Ballot};
@@ -23,9 +24,9 @@ ghost use Rattle.paxos_msg.specs.Tests.{ballot_lt, is_majority, same_ballot, sam
 
 use crate::ballot::Ballot;
 
-/// Ballots are in order: no ballot is below itself, one that is below another is below all that the
-/// other is below, and of two ballots exactly one is below the other, or they are the same. One is
-/// at most another if it is below it or the same.
+/// Ballots are totally ordered. No ballot is below itself, and a ballot below another is below all
+/// that the other is below. Of two ballots exactly one is below the other, or they are equal. A
+/// ballot is at most another if it is below it or equal to it.
 pub fn ballots_are_ordered()
     ensures irreflexive { (a : Ballot) → ¬ IsBelow a a }
     ensures transitive { (a b c : Ballot) → IsBelow a b → IsBelow b c → IsBelow a c }
@@ -35,21 +36,21 @@ pub fn ballots_are_ordered()
     ensures at_most { (a b : Ballot) → IsAtMost a b ↔ (IsBelow a b ⊎ (a ≡ b)) }
 {}
 
-/// Whether the first ballot is below the second.
+/// Returns true if `a` is below `b`.
 pub fn is_below(a: Ballot, b: Ballot) -> bool
     ensures { IsTrue result ↔ IsBelow a b }
 {
     a < b
 }
 
-/// Whether the first ballot is not above the second.
+/// Returns true if `a` is not above `b`.
 pub fn is_at_most(a: Ballot, b: Ballot) -> bool
     ensures { IsTrue result ↔ IsAtMost a b }
 {
     a <= b
 }
 
-/// The tests that the rules are written with hold exactly where their sentences do.
+/// The tests that the rules use hold exactly where their propositions do.
 pub fn tests_are_exact()
     ensures below { (a b : Ballot) → (ballot_lt a b ≡ true) ↔ IsBelow a b }
     ensures not_below { (a b : Ballot) → (ballot_lt a b ≡ false) ↔ IsAtMost b a }
@@ -59,14 +60,14 @@ pub fn tests_are_exact()
         → (is_majority size members ≡ true) ↔ IsMajority size members }
 {}
 
-/// Two majorities of a group have a node of the group in common.
+/// Two majorities of a group share a node of the group.
 pub fn majorities_meet()
     ensures { (size : ℕ) (p q : ℕ → Bool) → IsMajority size p → IsMajority size q →
         (i : ℕ) × (0 < i) × (i ≤ size) × IsTrue (p i) × IsTrue (q i) }
 {}
 
-/// In a group of an even size a majority is more than half, and half is none. In a group of an odd
-/// size it is at least the half of one node more.
+/// In a group of an even size a majority is more than half, so half is no majority. In a group of
+/// an odd size it is at least half of one node more.
 pub fn half_is_no_majority()
     ensures count { (size : ℕ) (members : ℕ → Bool)
         → IsMajority size members ↔ (size < 2 * count_of members size) }
@@ -78,8 +79,8 @@ pub fn half_is_no_majority()
         IsMajority (2 * half + 1) members ↔ (half + 1 ≤ count_of members (2 * half + 1)) }
 {}
 
-/// Votes by place: what is put at a place is found there, and nothing else changes; votes that
-/// ascend do so after it. A vote that is found is one of the votes, at that place.
+/// A vote that is put at a place is found there, and no other place changes. Votes that ascend
+/// still ascend after it. A vote that is found is one of the votes, at that place.
 pub fn votes_are_by_place()
     ensures there { (votes : List Vote) (vote : Vote)
         → kept_vote_at (with_vote votes vote) vote.place ≡ Some vote }
@@ -91,11 +92,11 @@ pub fn votes_are_by_place()
         Contains votes vote × (vote.place ≡ s) }
 {}
 
-/// What a node may send of its own, with its record r: a Prepare under a ballot of its own that is
-/// not above the promised one; a Refused with the promised ballot; a Submit of keys that were typed
-/// at it; an Ask always; a Tell of what it has learned. A value is free to be proposed if it is a
-/// no-op or was submitted. The rules of Promise, Accept and Accepted are those that agreement
-/// stands on.
+/// The rules for messages of a node with record `r`. It may send a Prepare under a ballot of its
+/// own that is not above the promised one; a Refused with the promised ballot; a Submit of keys
+/// that were typed at it; an Ask always; a Tell of a value that it has learned. A value is free to
+/// be proposed if it is a no-op or was submitted. The rules of Promise, Accept and Accepted are the
+/// premises of `agreement`.
 pub fn sending_rules()
     ensures prepare { (size i from : ℕ) (typed : List Key) (learned : ℕ → Option Value)
         (sent : Sent) (r : Record) (b : Ballot)
@@ -119,9 +120,10 @@ pub fn sending_rules()
         → IsFree sent v ↔ ((v ≡ Value.Noop) ⊎ ((i : ℕ) × IsSent sent i (Submit v))) }
 {}
 
-/// What a node may save, with its record r: a start always; a promise of a ballot greater than the
-/// promised one; a vote for what was proposed, under a ballot that is not below the promised one. A
-/// restart finds the record that was saved, or that record with a change whose save has failed.
+/// The rules for saves of a node with record `r`. It may save a start always; a promise of a ballot
+/// greater than the promised one; a vote for a proposed value, under a ballot that is not below the
+/// promised one. A restart finds the record that was saved, or that record with one change whose
+/// save failed.
 pub fn saving_rules()
     ensures start { (sent : Sent) (r : Record) → MaySave sent r Start }
     ensures promise { (sent : Sent) (r : Record) (b : Ballot) →
@@ -137,8 +139,8 @@ pub fn saving_rules()
         × (found ≡ changed saved change)) }
 {}
 
-/// A save that is allowed never lowers a promise, and of all changes a start alone changes the
-/// number of starts, which it raises by 1.
+/// A save that is allowed never lowers a promise. Only a start changes the number of starts, and
+/// raises it by 1.
 pub fn saves_only_raise()
     ensures promise { (sent : Sent) (r : Record) (change : Change) (p : Ballot)
         → MaySave sent r change → r.promised ≡ Some p
@@ -148,8 +150,8 @@ pub fn saves_only_raise()
         → (changed r change).starts ≡ r.starts }
 {}
 
-/// Growth begins with nothing sent and empty records, in a group of any size, and goes on with each
-/// sending and each save that is allowed.
+/// Growth begins with nothing sent and empty records, in a group of any size. It goes on with each
+/// message and each save that is allowed.
 pub fn growth()
     ensures begins { (size : ℕ) (records : ℕ → Record) → ((i : ℕ) → records i ≡ empty_record)
         → Grew size [] records }
@@ -162,9 +164,9 @@ pub fn growth()
         → Grew size sent next }
 {}
 
-/// As more is sent, what is chosen stays chosen, and what may be saved may still be saved. What may
-/// be sent may still be sent, also when more was typed and learned, but for a new proposal: that
-/// asks that nothing else was proposed under its ballot.
+/// As more is sent, a chosen value stays chosen, and a change that may be saved may still be saved.
+/// A message that may be sent may still be sent, also when more was typed and learned. The
+/// exception is a new proposal: it needs that nothing else was proposed under its ballot.
 pub fn sent_only_grows()
     ensures chosen { (size s : ℕ) (sent more : Sent) (v : Value) →
         IsChosen size sent s v → IsChosen size (sent ++ more) s v }
@@ -176,9 +178,9 @@ pub fn sent_only_grows()
         → MaySend size newer now (sent ++ more) i r body }
 {}
 
-/// Agreement: if what was sent and the records grew from nothing, at most one value is chosen at a
-/// place, and no other value is proposed there under the ballot of that choice or a greater one.
-/// What is chosen is a no-op or was submitted.
+/// Agreement. If the messages and the records grew from nothing, at most one value is chosen at a
+/// place. No other value is proposed there under the ballot of that choice or a greater one. A
+/// chosen value is a no-op or was submitted.
 pub fn agreement()
     ensures one_value { (size s : ℕ) (sent : Sent) (records : ℕ → Record) (v w : Value) →
         Grew size sent records → IsChosen size sent s v → IsChosen size sent s w → v ≡ w }
@@ -189,8 +191,8 @@ pub fn agreement()
         Grew size sent records → IsChosen size sent s v → IsFree sent v }
 {}
 
-/// What a node may send in one call, one message after another, goes on with the growth. It may be
-/// sent in two halves, the second after the first.
+/// The messages of one call, one after another, extend the growth. They may be sent in two halves,
+/// the second after the first.
 pub fn calls()
     ensures grew { (size i : ℕ) (typed : List Key) (learned : ℕ → Option Value) (sent : Sent)
         (records : ℕ → Record) (bodies : List Body) → Grew size sent records
@@ -203,8 +205,8 @@ pub fn calls()
         × MaySendAll size typed learned (sent ++ messages_of i bodies) i r more) }
 {}
 
-/// A restart goes on with the growth: whichever record it finds, if the node might save each change
-/// whose save has failed.
+/// A restart extends the growth, whichever record it finds, if the node was allowed to save each
+/// change whose save failed.
 pub fn restarts()
     ensures { (size i : ℕ) (sent : Sent) (records next : ℕ → Record) (failed : List Change)
         → Grew size sent records
@@ -213,10 +215,10 @@ pub fn restarts()
         → Grew size sent next }
 {}
 
-/// A migration goes on with the growth. In version 1 a value was a key, or none. With each key as a
-/// batch of one, what grew then by the same rules of sending and saving has grown now, and what was
-/// chosen is chosen, so that agreement reaches over the migration. A batch of one has its key; and
-/// the values that fit and have at most one key are those of version 1, each as a batch of one.
+/// A migration extends the growth. In version 1 a value was a key or a no-op. With each key as a
+/// batch of one, messages and records that grew then have grown now, and a value chosen then is
+/// chosen now, so `agreement` covers the migration. A batch of one has its key. The values that fit
+/// and have at most one key are those of version 1.
 pub fn migration()
     ensures grew { (size : ℕ) (sent : v1.Sent (Option Key))
         (records : ℕ → v1_record.Record (Option Key)) → v1_growth.Grew single_keys size sent records
@@ -228,9 +230,9 @@ pub fn migration()
         → IsSingle v ↔ ((old : Option Key) × (v ≡ as_batch old)) }
 {}
 
-/// The law of agreement is not empty. In a group of three a key that was typed can be chosen. In a
-/// group of five a greater ballot can be told of a vote under a smaller one, at a place above 0,
-/// and the key of that vote be chosen by the greater ballot.
+/// The law of agreement is not empty. In a group of three a typed key can be chosen. In a group of
+/// five an acceptor can report to a greater ballot a vote under a smaller one, at a place above 0,
+/// and the greater ballot choose the key of that vote.
 pub fn possible()
     ensures chosen { (sent : Sent) × (records : ℕ → Record) × Grew 3 sent records
         × IsChosen 3 sent 0 (Value.Keys 2 1 1 (65 ∷ [])) }

@@ -4,8 +4,8 @@ use crate::value::Vote;
 use std::alloc::AllocError;
 use std::marker::Model;
 
-/// Votes that lie in a datagram, in ascending order of place: an iterator that reads each as it
-/// gives it. `iter` goes over the same votes again.
+/// The votes in a datagram, in ascending order of place: an iterator that reads each vote when it
+/// returns it.
 #[derive(Drop)]
 pub struct LentVotes<'a> {
     bytes: &'a [u8],
@@ -26,14 +26,14 @@ impl<'a> LentVotes<'a> {
     ghost use Rattle.std.specs.Prelude.{◌≡◌};
     ghost use Rattle.paxos_msg.specs.Raw.{votes_left};
 
-    /// The votes at the front of the bytes, that many.
+    /// Returns the `count` votes at the front of the bytes.
     pub(crate) fn new(bytes: &'a [u8], count: u32) -> LentVotes<'a>
         ensures { result ≡ votes_left count bytes.now }
     {
         LentVotes { bytes, count }
     }
 
-    /// The same votes once more, from the first one that is still to be given.
+    /// Returns an iterator over the same votes, from the next one on.
     pub fn iter(&self) -> LentVotes<'a>
         ensures { result ≡ self.now }
     {

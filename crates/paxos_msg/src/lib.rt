@@ -1,5 +1,15 @@
-//! The messages of the group and the records of its acceptors: their types, the bytes of a
-//! datagram, and the laws of the protocol.
+//! Messages of a group, their bytes as datagrams, the records of its acceptors, and the laws of the
+//! protocol.
+//!
+//! For who writes a node, or a tool that reads its traffic. Encode first: `encode(alloc, &message,
+//! group)?` gives the datagram of a message for which `fits(&message, group)` holds; `encode_into`
+//! writes it into a vector that has the room. Then `decode(bytes, group)?` reads a datagram as a
+//! `View`. Its votes stay in the datagram, and it takes no memory. `insert_vote` and `find_vote`
+//! keep votes in ascending order of place, and `Record::change` makes one change of an acceptor's
+//! record.
+//!
+//! `laws` and `grammar` have empty functions: the contract of each is a law of the definitions.
+//! `limits` names each limit of the protocol.
 #![tactic(auto)]
 
 mod ballot;

@@ -8,11 +8,11 @@ use crate::votes::Votes;
 pub struct Group {
     /// Its nodes are 1 to `size`.
     pub size: u8,
-    /// A number that tells groups apart.
+    /// A number that distinguishes groups.
     pub session: u32,
 }
 
-/// What a message says. Places are 0 to 65,535.
+/// The body of a message. Places are 0 to 65,535.
 #[derive(Drop)]
 pub enum Body<V = Value> {
     /// The proposer asks for promises under its ballot, for places from `from` on.
@@ -20,8 +20,8 @@ pub enum Body<V = Value> {
         ballot: Ballot,
         from: u32,
     },
-    /// An acceptor promises to accept nothing below the ballot, and reports its votes at the places
-    /// from `first` up to, and without, `upto`, which is at most 65,536.
+    /// An acceptor promises to accept nothing below the ballot. It reports its votes at the places
+    /// from `first` up to and without `upto`, which is at most 65,536.
     Promise {
         ballot: Ballot,
         first: u32,
@@ -34,7 +34,7 @@ pub enum Body<V = Value> {
         place: u32,
         value: V,
     },
-    /// An acceptor has accepted it.
+    /// An acceptor has accepted the value.
     Accepted {
         ballot: Ballot,
         place: u32,
@@ -53,7 +53,7 @@ pub enum Body<V = Value> {
     Ask {
         from: u32,
     },
-    /// A node tells what it has learned at a place.
+    /// A node reports the value that it has learned at a place.
     Tell {
         place: u32,
         value: V,
@@ -62,7 +62,7 @@ pub enum Body<V = Value> {
 
 /// A message and the node that sent it.
 pub struct Msg<V = Value> {
-    /// From 1 to the group's size.
+    /// 1 to the group's size.
     pub sender: u8,
     pub body: Body<V>,
 }

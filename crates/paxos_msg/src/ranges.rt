@@ -1,4 +1,4 @@
-//! Whether a message has a spelling.
+//! Tests of the ranges of a message, which say if it has a spelling.
 ghost use Rattle.std.specs.Prelude.{◌≡◌, ◌↔◌, ◌≤◌, ◌<◌, IsTrue};
 ghost use Rattle.paxos_msg.specs.declared.message.Body.TheVariants as body;
 ghost use Rattle.paxos_msg.specs.Ballots.{IsBelow, IsAtMost};
@@ -6,34 +6,36 @@ ghost use Rattle.paxos_msg.specs.Keys.{AreOwnKeys, batches};
 ghost use Rattle.paxos_msg.specs.Fits.{IsNode, IsBallot, IsBatch, IsValue, IsVote, AreVotes, IsBody, Fits};
 
 use crate::ballot::Ballot;
+use crate::limits::{LAST_PLACE, MOST_CHARACTERS, MOST_VOTES, PLACES};
 use crate::message::{Body, Group, Msg};
 use crate::reading::is_batch;
 use crate::value::{Value, Vote};
 
-/// Whether a group of that size has the node.
+/// Returns true if a group of `size` nodes has the node.
 fn is_node(size: u8, node: u8) -> bool
     ensures { IsTrue result ↔ IsNode size node }
 {
     0 < node && node <= size
 }
 
-/// Whether a ballot's round is at least 1 and its node is one of a group of that size.
+/// Returns true if the round of `ballot` is at least 1 and its node is one of a group of `size`
+/// nodes.
 pub fn fits_ballot(size: u8, ballot: Ballot) -> bool
     ensures { IsTrue result ↔ IsBallot size ballot }
 {
     0 < ballot.round && is_node(size, ballot.node)
 }
 
-/// Whether there are 1 to 32 characters, and the serials of their keys, from this one on, are 1 to
-/// 4,294,967,295.
+/// Returns true if there are 1 to 32 characters, and the serials of their keys, from `first` on,
+/// are 1 to 4,294,967,295.
 fn fits_batch(first: u32, bytes: &[u8]) -> bool
     ensures { IsTrue result ↔ IsBatch first bytes.now }
 {
-    bytes.len() <= 32 && is_batch(first, bytes.len() as u8)
+    bytes.len() <= MOST_CHARACTERS && is_batch(first, bytes.len() as u8)
 }
 
-/// Whether a value is no key, or keys of a node of a group of that size, whose start is at least 1
-/// and whose serials are 1 to 4,294,967,295.
+/// Returns true if `value` is a no-op, or a batch of keys in its ranges: its node is one of a group
+/// of `size` nodes, its start is at least 1, and its serials are 1 to 4,294,967,295.
 fn fits_value(size: u8, value: Value) -> bool
     ensures { IsTrue result ↔ IsValue size value }
 {
@@ -48,7 +50,7 @@ fn fits_value(size: u8, value: Value) -> bool
     }
 }
 
-/// Whether a value has keys, all of which were typed at the node.
+/// Returns true if `value` has keys, all of which were typed at `node`.
 fn are_own_keys(node: u8, value: Value) -> bool
     ensures { IsTrue result ↔ AreOwnKeys batches node value }
 {
@@ -65,22 +67,22 @@ fn are_own_keys(node: u8, value: Value) -> bool
     }
 }
 
-/// Whether a ballot is below another.
+/// Returns true if `ballot` is below `other`.
 fn is_below(ballot: Ballot, other: Ballot) -> bool
     ensures { IsTrue result ↔ IsBelow ballot other }
 {
     ballot.round < other.round || (ballot.round == other.round && ballot.node < other.node)
 }
 
-/// Whether a ballot is not above another.
+/// Returns true if `ballot` is not above `other`.
 fn is_at_most(ballot: Ballot, other: Ballot) -> bool
     ensures { IsTrue result ↔ IsAtMost ballot other }
 {
     ballot.round < other.round || (ballot.round == other.round && ballot.node <= other.node)
 }
 
-/// Whether a vote may stand in a promise under the ballot, at a place from `low` up to, and
-/// without, `upto`.
+/// Returns true if `vote` may be part of a promise under `ballot`, at a place from `low` up to and
+/// without `upto`.
 fn fits_vote(size: u8, ballot: Ballot, low: u32, upto: u32, vote: Vote) -> bool
     ensures { IsTrue result ↔ IsVote size ballot low upto vote }
 {
@@ -91,8 +93,8 @@ fn fits_vote(size: u8, ballot: Ballot, low: u32, upto: u32, vote: Vote) -> bool
         && fits_value(size, vote.value)
 }
 
-/// Whether votes are in their ranges, at places that ascend from `first` on up to, and without,
-/// `upto`, and under ballots that are not above this one.
+/// Returns true if `votes` are in their ranges, under ballots that are not above `ballot`. Their
+/// places ascend from `first` on, up to and without `upto`.
 pub fn fits_votes(size: u8, ballot: Ballot, first: u32, upto: u32, votes: &[Vote]) -> bool
     ensures { IsTrue result ↔ AreVotes size ballot first upto votes.now }
 {
@@ -106,26 +108,26 @@ pub fn fits_votes(size: u8, ballot: Ballot, first: u32, upto: u32, votes: &[Vote
     true
 }
 
-/// Whether a promise is in its ranges: `upto` is at most 65,536, `first` is below it, and there are
-/// at most 8 votes, each in order.
+/// Returns true if a promise is in its ranges: `upto` is at most 65,536, `first` is below it, and
+/// there are at most 8 votes, each in order.
 fn fits_promise(size: u8, ballot: Ballot, first: u32, upto: u32, votes: &[Vote]) -> bool
     ensures { IsTrue result ↔ IsBody size 0 (body.Promise ballot first upto votes.now) }
 {
     fits_ballot(size, ballot)
-        && first <= 65535
-        && upto <= 65536
+        && first <= LAST_PLACE
+        && upto <= PLACES
         && first < upto
-        && votes.len() <= 8
+        && votes.len() <= MOST_VOTES
         && fits_votes(size, ballot, first, upto, votes)
 }
 
-/// Whether a body that the node sends is in its ranges.
+/// Returns true if a body that `sender` sends is in its ranges.
 fn fits_body(size: u8, sender: u8, body: &Body) -> bool
     ensures { IsTrue result ↔ IsBody size sender body.now }
 {
     match body {
         Body::Prepare { ballot, from } => {
-            fits_ballot(size, *ballot) && ballot.node == sender && *from <= 65535
+            fits_ballot(size, *ballot) && ballot.node == sender && *from <= LAST_PLACE
         }
         Body::Promise {
             ballot,
@@ -140,27 +142,27 @@ fn fits_body(size: u8, sender: u8, body: &Body) -> bool
         } => {
             fits_ballot(size, *ballot)
                 && ballot.node == sender
-                && *place <= 65535
+                && *place <= LAST_PLACE
                 && fits_value(size, *value)
         }
         Body::Accepted {
             ballot,
             place,
             value,
-        } => fits_ballot(size, *ballot) && *place <= 65535 && fits_value(size, *value),
+        } => fits_ballot(size, *ballot) && *place <= LAST_PLACE && fits_value(size, *value),
         Body::Refused { ballot, promised } => {
             fits_ballot(size, *ballot)
                 && fits_ballot(size, *promised)
                 && is_below(*ballot, *promised)
         }
         Body::Submit { key } => fits_value(size, *key) && are_own_keys(sender, *key),
-        Body::Ask { from } => *from <= 65536,
-        Body::Tell { place, value } => *place <= 65535 && fits_value(size, *value),
+        Body::Ask { from } => *from <= PLACES,
+        Body::Tell { place, value } => *place <= LAST_PLACE && fits_value(size, *value),
     }
 }
 
-/// Whether a message has a spelling in the group: its sender is a node of it, and its body is in
-/// its ranges.
+/// Returns true if `message` has a spelling in the group: its sender is a node of it, and its body
+/// is in its ranges.
 pub fn fits(message: &Msg, group: Group) -> bool
     ensures { IsTrue result ↔ Fits group message.now }
 {

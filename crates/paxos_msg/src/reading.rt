@@ -1,28 +1,31 @@
-//! The fields of a datagram. Each function reads the field at the front of the bytes, and answers
-//! it and the bytes behind it, or, where it has a value, how many bytes it takes.
+//! Reads the fields of a datagram. Each function reads the field at the front of the bytes. It
+//! returns the field and the bytes after it, or, where it has a value, the number of bytes that it
+//! takes.
 ghost use Rattle.std.specs.Prelude.{◌≡◌, ◌≤◌, ◌<◌, IfOk, Ok, drop};
 ghost use Rattle.paxos_msg.specs.Reading.{Gives, first_byte, bytes_at, number_at, ballot_at, own_ballot_at, place_at, is_batch, characters_at, value_at, own_keys_at, vote_at};
 ghost use Rattle.paxos_msg.specs.Raw.{Takes, raw_ballot_at, raw_characters_at, raw_keys_at, raw_value_at, raw_vote_at, keys_rest_at};
 ghost use Rattle.paxos_msg.specs.Views.{GivesField};
+ghost use Rattle.paxos_msg.specs.declared.limits.TheConstants.{MOST_CHARACTERS};
 
 use crate::ballot::Ballot;
 use crate::characters::Characters;
 use crate::fault::WireFault;
+use crate::limits::{LAST_SERIAL, MOST_CHARACTERS};
 use crate::value::{Value, Vote};
 use byteorder::{BigEndian, ByteOrder};
 
-/// Of which places a promise speaks, and under which ballot.
+/// The places of a promise, and its ballot.
 #[derive(Clone, Copy)]
 pub(crate) struct Part {
     /// The group's size.
     pub(crate) size: u8,
     pub(crate) ballot: Ballot,
     pub(crate) first: u32,
-    /// One above the last place.
+    /// The place after the last one.
     pub(crate) upto: u32,
 }
 
-/// One byte. Short where there is none.
+/// Reads one byte. Fails with `Short` if there is none.
 #[inline]
 pub(crate) fn byte_of(bytes: &[u8]) -> Result<(u8, &[u8]), WireFault>
     ensures exact { Gives (λ x. (x.0, x.1.now)) result (first_byte bytes.now) }
@@ -34,7 +37,7 @@ pub(crate) fn byte_of(bytes: &[u8]) -> Result<(u8, &[u8]), WireFault>
     }
 }
 
-/// A number of four bytes, the high byte first. Short where there are fewer.
+/// Reads a number of four bytes, high byte first. Fails with `Short` if there are fewer.
 #[inline]
 pub(crate) fn number_of(bytes: &[u8]) -> Result<(u32, &[u8]), WireFault>
     ensures exact { Gives (λ x. (x.0, x.1.now)) result (number_at bytes.now) }
@@ -46,7 +49,7 @@ pub(crate) fn number_of(bytes: &[u8]) -> Result<(u32, &[u8]), WireFault>
     Ok((BigEndian::read_u32(bytes), &bytes[4..]))
 }
 
-/// A ballot as it stands, of which nothing is tested. Short where it ends too soon.
+/// Reads a ballot without a test of its fields. Fails with `Short` if it ends too soon.
 #[inline]
 #[tactic(auto, unfolding(crate::specs::Raw::raw_ballot_at))]
 fn raw_ballot_of(bytes: &[u8]) -> Result<(Ballot, &[u8]), WireFault>
@@ -58,8 +61,8 @@ fn raw_ballot_of(bytes: &[u8]) -> Result<(Ballot, &[u8]), WireFault>
     Ok((Ballot { round, node }, rest))
 }
 
-/// A ballot of a group of that size. Ballot where the round is 0 or the node is not of the group;
-/// Short where it ends too soon.
+/// Reads a ballot of a group of `size` nodes. Fails with `Ballot` if the round is 0 or the node is
+/// not of the group, and with `Short` if it ends too soon.
 #[inline]
 #[tactic(auto, unfolding(crate::specs::Reading::ballot_at, crate::specs::Raw::raw_ballot_at))]
 pub(crate) fn ballot_of(size: u8, bytes: &[u8]) -> Result<(Ballot, &[u8]), WireFault>
@@ -78,7 +81,8 @@ pub(crate) fn ballot_of(size: u8, bytes: &[u8]) -> Result<(Ballot, &[u8]), WireF
     Ok((Ballot { round, node }, rest))
 }
 
-/// A ballot that the sender began: Ballot also where its node is another one.
+/// Reads a ballot of the sender's own. Fails as `ballot_of` does, and with `Ballot` if its node is
+/// another one.
 #[inline]
 #[tactic(auto, unfolding(crate::specs::Reading::own_ballot_at))]
 pub(crate) fn own_ballot_of(
@@ -95,7 +99,7 @@ pub(crate) fn own_ballot_of(
     Ok((ballot, rest))
 }
 
-/// A place, which is at most `most`. Place where it is above; Short where it ends too soon.
+/// Reads a place. Fails with `Place` if it is above `most`, and with `Short` if it ends too soon.
 #[inline]
 #[tactic(auto, unfolding(crate::specs::Reading::place_at))]
 pub(crate) fn place_of(most: u32, bytes: &[u8]) -> Result<(u32, &[u8]), WireFault>
@@ -109,11 +113,11 @@ pub(crate) fn place_of(most: u32, bytes: &[u8]) -> Result<(u32, &[u8]), WireFaul
     Ok((place, rest))
 }
 
-/// So many characters, 1 to 32. Short where there are fewer.
+/// Reads `count` characters, 1 to 32. Fails with `Short` if there are fewer.
 #[inline]
 fn characters_in(count: u8, bytes: &[u8]) -> Result<(Characters, usize), WireFault>
     requires some { 0 < count }
-    requires few { count ≤ 32 }
+    requires few { count ≤ MOST_CHARACTERS }
     ensures { GivesField bytes.now result (bytes_at count bytes.now) }
 {
     let count = usize::from(count);
@@ -123,32 +127,35 @@ fn characters_in(count: u8, bytes: &[u8]) -> Result<(Characters, usize), WireFau
     Ok((Characters::new(&bytes[..count]).unwrap(), count))
 }
 
-/// Characters behind their count. Value where they are none or above 32; Short where they end too
-/// soon.
+/// Reads characters after their number. Fails with `Value` if the number is 0 or above 32, and with
+/// `Short` if they end too soon.
 #[inline]
 #[tactic(auto, unfolding(crate::specs::Raw::raw_characters_at))]
 fn raw_characters_of(bytes: &[u8]) -> Result<(Characters, usize), WireFault>
     ensures { GivesField bytes.now result (raw_characters_at bytes.now) }
 {
     let (count, rest) = byte_of(bytes)?;
-    if count == 0 || count > 32 {
+    if count == 0 || usize::from(count) > MOST_CHARACTERS {
         return Err(WireFault::Value);
     }
     let (characters, taken) = characters_in(count, rest)?;
     Ok((characters, 1 + taken))
 }
 
-/// Whether so many keys whose serials go on from this one are a batch: 1 to 32 keys with serials of
-/// 1 to 4,294,967,295.
+/// Returns true if `count` keys with the serials from `first` on are a batch: 1 to 32 keys, whose
+/// serials are 1 to 4,294,967,295.
 #[inline]
 pub(crate) fn is_batch(first: u32, count: u8) -> bool
     ensures { result ≡ is_batch first count }
 {
-    0 < first && 0 < count && count <= 32 && first - 1 <= u32::MAX - u32::from(count)
+    0 < first
+        && 0 < count
+        && usize::from(count) <= MOST_CHARACTERS
+        && first - 1 <= LAST_SERIAL - u32::from(count)
 }
 
-/// The characters of a batch behind their count, whose first key has this serial. Value where they
-/// are no batch; Short where they end too soon.
+/// Reads the characters of a batch after their number. `first` is the serial of the first key.
+/// Fails with `Value` if they are no batch, and with `Short` if they end too soon.
 #[inline]
 #[tactic(auto, unfolding(crate::specs::Reading::characters_at, crate::specs::Raw::raw_characters_at))]
 fn characters_of(first: u32, bytes: &[u8]) -> Result<(Characters, usize), WireFault>
@@ -163,7 +170,7 @@ fn characters_of(first: u32, bytes: &[u8]) -> Result<(Characters, usize), WireFa
     Ok((characters, 1 + taken))
 }
 
-/// The fields of a batch behind its node, as they stand.
+/// Reads the fields of a batch after its node, without a test of its start and serials.
 #[inline]
 #[tactic(auto, unfolding(crate::specs::Raw::raw_keys_at))]
 fn raw_keys_of(node: u8, bytes: &[u8]) -> Result<(Value, usize), WireFault>
@@ -181,8 +188,8 @@ fn raw_keys_of(node: u8, bytes: &[u8]) -> Result<(Value, usize), WireFault>
     Ok((keys, 8 + taken))
 }
 
-/// A value as it stands. Value where its tag is neither 0 nor 1, or it has no characters or more
-/// than 32; Short where it ends too soon.
+/// Reads a value without a test of its node, start and serials. Fails with `Value` if its tag is
+/// neither 0 nor 1, or it has no characters or more than 32, and with `Short` if it ends too soon.
 #[inline]
 #[tactic(auto, unfolding(crate::specs::Raw::raw_value_at))]
 fn raw_value_of(bytes: &[u8]) -> Result<(Value, usize), WireFault>
@@ -200,7 +207,7 @@ fn raw_value_of(bytes: &[u8]) -> Result<(Value, usize), WireFault>
     Ok((keys, 2 + taken))
 }
 
-/// A vote as it stands.
+/// Reads a vote without a test of its numbers.
 #[inline]
 #[tactic(auto, using(crate::proofs::VotesLeft::behind_ballot), unfolding(crate::specs::Raw::raw_vote_at))]
 pub(crate) fn raw_vote_of(bytes: &[u8]) -> Result<(Vote, usize), WireFault>
@@ -217,8 +224,8 @@ pub(crate) fn raw_vote_of(bytes: &[u8]) -> Result<(Vote, usize), WireFault>
     Ok((vote, 9 + taken))
 }
 
-/// The fields of a batch behind its node. Value where its start is 0 or its characters are no
-/// batch; Short where it ends too soon.
+/// Reads the fields of a batch after its node. Fails with `Value` if its start is 0 or its
+/// characters are no batch, and with `Short` if it ends too soon.
 #[inline]
 #[tactic(auto, unfolding(crate::specs::Raw::keys_rest_at, crate::specs::Raw::raw_keys_at))]
 fn keys_rest_of(node: u8, bytes: &[u8]) -> Result<(Value, usize), WireFault>
@@ -240,9 +247,9 @@ fn keys_rest_of(node: u8, bytes: &[u8]) -> Result<(Value, usize), WireFault>
     Ok((keys, 8 + taken))
 }
 
-/// A value, and how many bytes it takes: no key, or a batch of keys of a node of a group of that
-/// size. Value where its tag is neither 0 nor 1, its node is not of the group, its start is 0 or
-/// its characters are no batch; Short where it ends too soon.
+/// Reads a value, a no-op or a batch of keys of a node of a group of `size` nodes, and the number
+/// of its bytes. Fails with `Value` if its tag is neither 0 nor 1, its node is not of the group,
+/// its start is 0, or its characters are no batch. Fails with `Short` if it ends too soon.
 #[inline]
 #[tactic(auto, unfolding(crate::specs::Reading::value_at, crate::specs::Reading::keys_at, crate::specs::Raw::keys_rest_at, crate::specs::Raw::raw_value_at))]
 pub(crate) fn value_of(size: u8, bytes: &[u8]) -> Result<(Value, usize), WireFault>
@@ -264,9 +271,9 @@ pub(crate) fn value_of(size: u8, bytes: &[u8]) -> Result<(Value, usize), WireFau
     Ok((keys, 2 + taken))
 }
 
-/// Keys that were typed at the sender, and how many bytes they take. Value where the tag is not 1,
-/// the node is not of the group or not the sender, the start is 0 or the characters are no batch;
-/// Short where they end too soon.
+/// Reads keys that were typed at the sender, and the number of their bytes. Fails with `Value` if
+/// the tag is not 1, the node is not of the group or not the sender, the start is 0, or the
+/// characters are no batch. Fails with `Short` if they end too soon.
 #[inline]
 #[tactic(auto, unfolding(crate::specs::Reading::own_keys_at, crate::specs::Reading::keys_at, crate::specs::Raw::keys_rest_at))]
 pub(crate) fn own_keys_of(size: u8, sender: u8, bytes: &[u8]) -> Result<(Value, usize), WireFault>
@@ -284,9 +291,9 @@ pub(crate) fn own_keys_of(size: u8, sender: u8, bytes: &[u8]) -> Result<(Value, 
     Ok((keys, 2 + taken))
 }
 
-/// A vote at a place from `low` on, which is one above the vote before. Order where its place is
-/// below `low`, Place where the promise does not speak of it, Ballot where its ballot is out of
-/// range or above the promise's, and the faults of a value.
+/// Reads a vote at a place from `low` on, which is one above the place of the vote before. Fails
+/// with `Order` if its place is below `low`, with `Place` if the promise does not report on it,
+/// with `Ballot` if its ballot is out of range or above the promise's, and as `value_of` does.
 #[inline]
 #[tactic(auto, using(crate::proofs::VotesLeft::behind_ballot), unfolding(crate::specs::Reading::vote_at, crate::specs::Raw::raw_vote_at))]
 pub(crate) fn vote_of(part: Part, low: u32, bytes: &[u8]) -> Result<(Vote, usize), WireFault>

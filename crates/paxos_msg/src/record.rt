@@ -1,18 +1,19 @@
-//! What an acceptor keeps, and how it changes.
+//! The record of an acceptor, and its changes.
 ghost use Rattle.std.specs.Prelude.{◌≡◌, ◌<◌, OnOk, OnErr};
 ghost use Rattle.paxos_msg.specs.declared.record.Change.TheVariants.{Start};
 ghost use Rattle.paxos_msg.specs.Messages.{IsAscending};
 ghost use Rattle.paxos_msg.specs.Records.{changed, empty_record};
+ghost use Rattle.paxos_msg.specs.declared.limits.TheConstants.{LAST_START};
 
 use crate::ballot::Ballot;
 use crate::value::{Value, Vote};
 use crate::votes::Votes;
 use std::alloc::{AllocError, Global};
 
-/// What an acceptor keeps in its store.
+/// The part of an acceptor that its store keeps.
 #[derive(Clone)]
 pub struct Record<V = Value> {
-    /// How often the node was started.
+    /// The number of starts of the node.
     pub starts: u32,
     /// The greatest ballot that it has promised.
     pub promised: Option<Ballot>,
@@ -42,7 +43,7 @@ pub enum Change<V = Value> {
 }
 
 impl Record {
-    /// The record before the first start. It takes no memory.
+    /// Returns the record before the first start. It takes no memory.
     pub fn new(alloc: Global) -> Record
         ensures { result ≡ empty_record }
     {
@@ -53,10 +54,10 @@ impl Record {
         }
     }
 
-    /// Makes the change. There may be no start after 4,294,967,295 of them, and the votes have to
-    /// ascend by place. After an error nothing has changed.
+    /// Makes `change`. There is a start to spare below 4,294,967,295, and the votes ascend by
+    /// place. After an error nothing has changed.
     pub fn change(&mut self, change: Change) -> Result<(), AllocError>
-        requires starts { change ≡ Start → self.old.starts < 4294967295 }
+        requires starts { change ≡ Start → self.old.starts < LAST_START }
         requires ascending { IsAscending self.old.votes }
         ensures ok { OnOk result (self.new ≡ changed self.old change) }
         ensures err { OnErr result (self.new ≡ self.old) }

@@ -1,7 +1,8 @@
-//! Writing the parts of a datagram behind what a vector holds. Each needs the room to be there, and
-//! so takes no memory and cannot fail.
+//! Writes the parts of a datagram at the end of a vector. Each function needs the room to be made
+//! before, so it takes no memory and cannot fail.
 ghost use Rattle.std.specs.Prelude.{◌≡◌, ◌+◌, ◌≤◌, ◌++◌, ◌∷◌, [], length, vec_len, vec_capacity};
 ghost use Rattle.paxos_msg.specs.Spelling.{number_bytes, ballot_bytes, value_bytes, vote_bytes, votes_bytes, kind_of, header_bytes};
+ghost use Rattle.paxos_msg.specs.declared.limits.TheConstants.{MOST_VOTES};
 
 use crate::ballot::Ballot;
 use crate::characters::Characters;
@@ -12,7 +13,7 @@ use std::mem;
 /// The version of the datagrams.
 const VERSION: u8 = 2;
 
-/// Writes a byte.
+/// Appends a byte.
 #[inline(always)]
 fn put_byte(byte: u8, out: &mut Vec<u8>)
     requires room { vec_len out.old + 1 ≤ vec_capacity out.old }
@@ -23,9 +24,9 @@ fn put_byte(byte: u8, out: &mut Vec<u8>)
     out.push_reserved(byte);
 }
 
-/// Writes bytes, one after the other. Where the vector is a local one of the caller, whose length
-/// and pointer no store of a byte can change, the loop becomes one copy of a block. That is why
-/// this is inlined.
+/// Appends bytes. Where the vector is a local one of the caller, no store of a byte can change its
+/// length and pointer, and the loop becomes one copy of a block. That is why this function is
+/// inlined.
 #[inline(always)]
 fn put_bytes(bytes: &[u8], out: &mut Vec<u8>)
     requires room { vec_len out.old + length bytes.now ≤ vec_capacity out.old }
@@ -38,8 +39,7 @@ fn put_bytes(bytes: &[u8], out: &mut Vec<u8>)
     }
 }
 
-/// Writes a number behind what the vector holds: four bytes, its high byte first, for which it has
-/// to have room.
+/// Appends a number: four bytes, high byte first. The vector has room for them.
 #[inline(always)]
 pub fn put_number(number: u32, out: &mut Vec<u8>)
     requires room { vec_len out.old + 4 ≤ vec_capacity out.old }
@@ -54,8 +54,7 @@ pub fn put_number(number: u32, out: &mut Vec<u8>)
     out.push_reserved(fourth);
 }
 
-/// Writes a ballot behind what the vector holds: its round and its node, five bytes, for which it
-/// has to have room.
+/// Appends a ballot: its round and its node, five bytes. The vector has room for them.
 pub fn put_ballot(ballot: Ballot, out: &mut Vec<u8>)
     requires room { vec_len out.old + 5 ≤ vec_capacity out.old }
     ensures items { out.new.items ≡ out.old.items ++ ballot_bytes ballot }
@@ -66,7 +65,7 @@ pub fn put_ballot(ballot: Ballot, out: &mut Vec<u8>)
     put_byte(ballot.node, out);
 }
 
-/// Writes characters: how many there are, in a byte, and each of them.
+/// Appends characters: their number, in one byte, and each of them.
 #[inline(always)]
 fn put_characters(characters: Characters, out: &mut Vec<u8>)
     requires room { vec_len out.old + 1 + length characters ≤ vec_capacity out.old }
@@ -78,9 +77,8 @@ fn put_characters(characters: Characters, out: &mut Vec<u8>)
     put_bytes(characters.as_slice(), out);
 }
 
-/// Writes a value behind what the vector holds: a 0 for no key; or a 1, and the keys' node, start,
-/// first serial, count, in a byte, and characters, 12 to 43 bytes. The vector has to have room for
-/// them.
+/// Appends a value: a 0 for a no-op, and else a 1, the node, start, first serial, number of keys in
+/// one byte, and characters, 12 to 43 bytes. The vector has room for them.
 pub fn put_value(value: Value, out: &mut Vec<u8>)
     requires room { vec_len out.old + length (value_bytes value) ≤ vec_capacity out.old }
     ensures items { out.new.items ≡ out.old.items ++ value_bytes value }
@@ -95,8 +93,8 @@ pub fn put_value(value: Value, out: &mut Vec<u8>)
             first,
             bytes,
         } => {
-            // Behind a reference, each byte that is stored might change the vector's length and
-            // pointer. In a local vector they stay in registers. Neither step takes memory.
+            // Through a reference each store of a byte might change the vector's length and
+            // pointer. Those of a local vector stay in registers. Neither step takes memory.
             let empty = Vec::new(*out.allocator());
             let mut own = mem::replace(out, empty);
             put_byte(1, &mut own);
@@ -109,7 +107,7 @@ pub fn put_value(value: Value, out: &mut Vec<u8>)
     }
 }
 
-/// Writes a vote: its place, ballot and value.
+/// Appends a vote: its place, ballot and value.
 fn put_vote(vote: Vote, out: &mut Vec<u8>)
     requires room { vec_len out.old + length (vote_bytes vote) ≤ vec_capacity out.old }
     ensures items { out.new.items ≡ out.old.items ++ vote_bytes vote }
@@ -121,8 +119,7 @@ fn put_vote(vote: Vote, out: &mut Vec<u8>)
     put_value(vote.value, out);
 }
 
-/// Writes votes behind what the vector holds, one after the other: each its place, ballot and
-/// value. The vector has to have room for them.
+/// Appends votes, each as its place, ballot and value. The vector has room for them.
 pub fn put_votes(votes: &[Vote], out: &mut Vec<u8>)
     requires room { vec_len out.old + length (votes_bytes votes.now) ≤ vec_capacity out.old }
     ensures items { out.new.items ≡ out.old.items ++ votes_bytes votes.now }
@@ -134,10 +131,10 @@ pub fn put_votes(votes: &[Vote], out: &mut Vec<u8>)
     }
 }
 
-/// Writes what is in a promise: its ballot, the places from `first` up to `upto`, how many votes
-/// there are, in a byte, and the votes.
+/// Appends the fields of a promise: its ballot, the places from `first` up to `upto`, the number of
+/// votes in one byte, and the votes.
 pub(crate) fn put_promise(ballot: Ballot, first: u32, upto: u32, votes: &[Vote], out: &mut Vec<u8>)
-    requires few { length votes.now ≤ 8 }
+    requires few { length votes.now ≤ MOST_VOTES }
     requires room { vec_len out.old + 14 + length (votes_bytes votes.now) ≤ vec_capacity out.old }
     ensures items { out.new.items
         ≡ out.old.items ++ (ballot_bytes ballot ++ number_bytes first ++ number_bytes upto
@@ -152,7 +149,7 @@ pub(crate) fn put_promise(ballot: Ballot, first: u32, upto: u32, votes: &[Vote],
     put_votes(votes, out);
 }
 
-/// Writes a ballot, a place and a value.
+/// Appends a ballot, a place and a value.
 pub(crate) fn put_proposal(ballot: Ballot, place: u32, value: Value, out: &mut Vec<u8>)
     requires room { vec_len out.old + 9 + length (value_bytes value) ≤ vec_capacity out.old }
     ensures items { out.new.items
@@ -165,7 +162,7 @@ pub(crate) fn put_proposal(ballot: Ballot, place: u32, value: Value, out: &mut V
     put_value(value, out);
 }
 
-/// Writes the header of a datagram, ten bytes. The kind is 1 to 8.
+/// Appends the header of a datagram, ten bytes. `kind` is 1 to 8.
 pub(crate) fn put_header(group: Group, kind: u8, sender: u8, out: &mut Vec<u8>)
     requires room { vec_len out.old + 10 ≤ vec_capacity out.old }
     ensures items { out.new.items ≡ out.old.items ++ header_bytes group kind sender }
@@ -181,7 +178,7 @@ pub(crate) fn put_header(group: Group, kind: u8, sender: u8, out: &mut Vec<u8>)
     put_number(group.session, out);
 }
 
-/// The number of a body's kind, 1 to 8.
+/// Returns the number of a body's kind, 1 to 8.
 pub(crate) fn kind(body: &Body) -> u8
     ensures { result ≡ kind_of body.now }
 {

@@ -1,9 +1,9 @@
-//! What is put at places, and votes for it.
+//! Values of places, and votes for them.
 use crate::ballot::Ballot;
 use crate::characters::Characters;
 use std::fmt;
 
-/// What is put at a place.
+/// The value of a place.
 #[derive(Clone, Copy, Debug, PartialEq, Eq, Hash)]
 pub enum Value {
     /// No key: it fills a place.
@@ -12,17 +12,17 @@ pub enum Value {
     Keys {
         /// The node at which they were typed, 1 to the group's size.
         node: u8,
-        /// Which start of that node it was, from 1 on.
+        /// The number of that start of the node, from 1 on.
         start: u32,
-        /// The serial of the first, which tells the how-many-th key of that start it is, from 1 on.
-        /// The others have the serials behind it, of which the last is at most 4,294,967,295.
+        /// The serial of the first key. A serial is the number of a key in its start, from 1 on.
+        /// The other keys have the serials after it, at most 4,294,967,295.
         first: u32,
         /// The characters, one for each key.
         bytes: Characters,
     },
 }
 
-/// A value is written `noop` or `key NODE START FIRST HH..`, with two hexadecimal digits for each
+/// Writes a value as `noop` or `key NODE START FIRST HH..`, with two hexadecimal digits for each
 /// character.
 impl fmt::Display for Value {
     fn fmt<W: fmt::Write>(&self, f: &mut fmt::Formatter<W>) -> fmt::Result {
@@ -40,11 +40,11 @@ impl fmt::Display for Value {
 
 /// A vote for a value at a place under a ballot.
 ///
-/// Votes, messages and records are over any type of values, so that the laws can speak of those of
-/// an earlier version. Where none is named it is [`Value`].
+/// Votes, messages and records take any type of values, so that the laws can speak of the values of
+/// an earlier version. The default is [`Value`].
 #[derive(Clone, Copy, Debug, PartialEq, Eq, Hash)]
 pub struct Vote<V = Value> {
-    /// From 0 to 65,535.
+    /// 0 to 65,535.
     pub place: u32,
     pub ballot: Ballot,
     pub value: V,

@@ -1,4 +1,4 @@
-//! Values of version 1.
+//! Values of version 1, in which a value was one key or a no-op.
 ghost use Rattle.std.specs.Prelude.{◌≡◌, ◌∷◌, [], Ok};
 ghost use Rattle.paxos_msg.specs.Version1.{key_rest_at_v1, value_at_v1};
 ghost use Rattle.paxos_msg.specs.Views.{GivesField};
@@ -9,8 +9,8 @@ use crate::message::Group;
 use crate::reading::{byte_of, number_of};
 use crate::value::Value;
 
-/// The fields of a key behind its node. Value where its start or its serial is 0; Short where it
-/// ends too soon.
+/// Reads the fields of a key after its node. Fails with `Value` if its start or its serial is 0,
+/// and with `Short` if it ends too soon.
 #[tactic(auto, unfolding(crate::specs::Version1::key_rest_at_v1))]
 fn key_rest_of_v1(node: u8, bytes: &[u8]) -> Result<(Value, usize), WireFault>
     ensures { GivesField bytes.now result (key_rest_at_v1 node bytes.now) }
@@ -33,9 +33,10 @@ fn key_rest_of_v1(node: u8, bytes: &[u8]) -> Result<(Value, usize), WireFault>
     Ok((key, 9))
 }
 
-/// The value of version 1 at the front of the bytes, a key as a batch of one, and how many bytes it
-/// takes: 1 where it is no key, 11 for a key. Value where its tag is neither 0 nor 1, its node is
-/// not of the group, or its start or its serial is 0; Short where it ends too soon.
+/// Reads the value of version 1 at the front of the bytes, a key as a batch of one, and the number
+/// of its bytes: 1 for a no-op, 11 for a key. Fails with `Value` if its tag is neither 0 nor 1, its
+/// node is not of the group, or its start or its serial is 0. Fails with `Short` if it ends too
+/// soon.
 #[tactic(auto, unfolding(crate::specs::Version1::value_at_v1, crate::specs::Version1::key_at_v1))]
 pub fn read_value_v1(bytes: &[u8], group: Group) -> Result<(Value, usize), WireFault>
     ensures exact { GivesField bytes.now result (value_at_v1 group.size bytes.now) }

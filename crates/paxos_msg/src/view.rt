@@ -1,10 +1,11 @@
-//! A message that lies in a datagram.
+//! Messages that lie in a datagram.
 use crate::ballot::Ballot;
 use crate::lent::LentVotes;
 use crate::value::Value;
 use std::marker::Model;
 
-/// What a message in a datagram says: [`Body`](crate::Body), its votes still in the datagram.
+/// The body of a message in a datagram: a [`Body`](crate::Body) whose votes are still in the
+/// datagram.
 #[derive(Drop)]
 pub enum BodyView<'a> {
     /// The proposer asks for promises under its ballot, for places from `from` on.
@@ -12,7 +13,7 @@ pub enum BodyView<'a> {
         ballot: Ballot,
         from: u32,
     },
-    /// An acceptor promises, and reports its votes at the places from `first` up to, and without,
+    /// An acceptor promises, and reports its votes at the places from `first` up to and without
     /// `upto`: at most 8.
     Promise {
         ballot: Ballot,
@@ -26,7 +27,7 @@ pub enum BodyView<'a> {
         place: u32,
         value: Value,
     },
-    /// An acceptor has accepted it.
+    /// An acceptor has accepted the value.
     Accepted {
         ballot: Ballot,
         place: u32,
@@ -45,7 +46,7 @@ pub enum BodyView<'a> {
     Ask {
         from: u32,
     },
-    /// A node tells what it has learned at a place.
+    /// A node reports the value that it has learned at a place.
     Tell {
         place: u32,
         value: Value,
@@ -55,7 +56,7 @@ pub enum BodyView<'a> {
 /// A message that lies in a datagram, and the node that sent it.
 #[derive(Drop)]
 pub struct View<'a> {
-    /// From 1 to the group's size.
+    /// 1 to the group's size.
     pub sender: u8,
     pub body: BodyView<'a>,
 }

@@ -1,4 +1,4 @@
-//! Looking up and putting in a list of votes that ascend by place.
+//! Search and insertion in a list of votes in ascending order of place.
 ghost use Rattle.std.specs.Prelude.{◌≡◌, ◌+◌, ◌<◌, ◌≤◌, IfOk, IfErr, OnOk, OnErr, IsOk, vec_len, vec_capacity};
 ghost use Rattle.paxos_msg.specs.Messages.{IsAscending, kept_vote_at};
 ghost use Rattle.paxos_msg.specs.Places.{IsGapIn, IsPlaceIn};
@@ -7,7 +7,7 @@ ghost use Rattle.paxos_msg.specs.Records.{with_vote};
 use crate::value::Vote;
 use std::alloc::AllocError;
 
-/// Where the vote at the place stands, or else where it would.
+/// Returns the index of the vote at `place`, or as an error the index at which it would be.
 fn search(votes: &[Vote], place: u32) -> Result<usize, usize>
     requires { IsAscending votes.now }
     ensures found { IfOk result (IsPlaceIn votes.now place) }
@@ -16,7 +16,7 @@ fn search(votes: &[Vote], place: u32) -> Result<usize, usize>
     votes.binary_search_by_key(&place, |vote| vote.place)
 }
 
-/// The vote at the place, if there is one, among votes in ascending order of place: by one search.
+/// Returns the vote at `place`, if there is one, by one search. The votes ascend by place.
 pub fn find_vote(votes: &[Vote], place: u32) -> Option<Vote>
     requires { IsAscending votes.now }
     ensures { result ≡ kept_vote_at votes.now place }
@@ -27,8 +27,9 @@ pub fn find_vote(votes: &[Vote], place: u32) -> Option<Vote>
     }
 }
 
-/// Puts a vote among votes in ascending order of place, instead of the one at its place, if there
-/// is one. It takes no memory where there is room for one more. After an error nothing has changed.
+/// Puts `vote` in the place of the one at its place, or between its neighbours. The votes ascend by
+/// place, before and after. It takes no memory where there is room for one more. After an error
+/// nothing has changed.
 pub fn insert_vote(votes: &mut Vec<Vote>, vote: Vote) -> Result<(), AllocError>
     requires { IsAscending votes.old.items }
     ensures ok { OnOk result (votes.new.items ≡ with_vote votes.old.items vote) }

@@ -8,8 +8,8 @@ use crate::voted::insert_vote;
 use std::alloc::AllocError;
 use std::marker::Model;
 
-/// A list of votes, in ascending order of place. It is made from a `Vec` and gives it back; neither
-/// takes memory.
+/// A list of votes, in ascending order of place. It is made from a `Vec` and turned back into one
+/// without memory.
 #[derive(Clone)]
 pub struct Votes<V = Value> {
     items: Vec<Vote<V>>,
@@ -31,14 +31,14 @@ impl<V> Model for Votes<V> {
 }
 
 impl Votes {
-    /// The votes of a vector.
+    /// Wraps a vector of votes.
     pub fn new(items: Vec<Vote>) -> Votes
         ensures { result ≡ items.items }
     {
         Votes { items }
     }
 
-    /// The vector of the votes.
+    /// Returns the vector of the votes.
     pub fn into_vec(self) -> Vec<Vote>
         ensures { result.items ≡ self }
     {
@@ -46,15 +46,15 @@ impl Votes {
         items
     }
 
-    /// The votes as a slice.
+    /// Returns the votes as a slice.
     pub fn as_slice(&self) -> &[Vote]
         ensures { result.now ≡ self.now }
     {
         self.items.as_slice()
     }
 
-    /// Puts a vote among votes that ascend by place, instead of the one at its place, if there is
-    /// one. After an error nothing has changed.
+    /// Puts `vote` in the place of the one at its place, or between its neighbours. The votes
+    /// ascend by place. After an error nothing has changed.
     pub fn insert(&mut self, vote: Vote) -> Result<(), AllocError>
         requires { IsAscending self.old }
         ensures ok { OnOk result (self.new ≡ with_vote self.old vote) }

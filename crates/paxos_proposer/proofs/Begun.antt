@@ -10,7 +10,7 @@ use Rattle.paxos_msg.specs.Batches.{Sent}
 use Rattle.paxos_proposer.specs.Proposer.{new_proposer, is_covered_by}
 use Rattle.paxos_proposer.specs.Backed.{IsProposerBacked}
 
--- the same number everywhere is at most that number, and 0 behind the end
+-- the same number everywhere is at most that number, and 0 past the end
 pub replicated : (n i from : ℕ) → slice_index (replicate n from) i ≤ from
 replicated n i from =
     elim (cases_lt i n) [

@@ -71,7 +71,7 @@ any_from : (n : ℕ) (votes : List Vote) → All (λ vote. n ≤ vote.place) vot
 any_from n [] h = refl
 any_from n (x ∷ xs) h = rw (le-leb n x.place (All-head (λ vote. n ≤ vote.place) x xs h), le-leb 0 x.place (omega arith)) refl
 
--- behind the greatest place none is left
+-- after the greatest place no vote is left
 pub greatest-passed : (votes : List Vote) (greatest : Option ℕ) (place : ℕ)
     → option_eq nat_eq greatest (Some place) ≡ true → IsGreatestPlace votes greatest
     → IsGreatestPlace (votes_from (place + 1) votes) None
@@ -82,7 +82,7 @@ greatest-passed votes (Some g) place e h =
       upto = λ s. is_kept_from-votes_from votes (place + 1) s ∙ h.upto (max (place + 1) s) ∙ lt-leb (max (place + 1) s) g (omega arith);
     }
 
--- behind another place the greatest one is left
+-- after another place the greatest one is left
 pub greatest-left : (votes : List Vote) (greatest : Option ℕ) (place : ℕ)
     → option_eq nat_eq greatest (Some place) ≡ false → All (λ vote. place ≤ vote.place) votes
     → IsGreatestPlace votes greatest → IsGreatestPlace (votes_from (place + 1) votes) greatest

@@ -15,7 +15,7 @@ use Rattle.paxos_proposer.specs.Proposer.{Proposer, proposer_after_part, new_pro
 use Rattle.paxos_proposer.specs.Ranges.{IsProposerInRange}
 use Rattle.paxos_proposer.specs.States.{AreInRange}
 use Rattle.paxos_proposer.proofs.Begun.{none_proposed, replicated}
-use Rattle.paxos_proposer.proofs.Counting.{covered_below, set_reach}
+use Rattle.paxos_proposer.proofs.CountingCoverage.{covered_below, set_reach}
 use Rattle.paxos_proposer.proofs.Passing.{found_all, heard_all}
 use Rattle.paxos_proposer.proofs.Proposals.{if_some, proposed_there}
 use Rattle.paxos_proposer.proofs.Proposals as proposals

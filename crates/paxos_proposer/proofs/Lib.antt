@@ -1,11 +1,11 @@
-pub mod Counting
+pub mod CountingCoverage
 pub mod Passing
 pub mod Reported
 pub mod ByPlace
 pub mod GreatestPlace
-pub mod Growing
-pub mod Parts
+pub mod BackedAsMoreIsSent
+pub mod PartsHeard
 pub mod Begun
 pub mod Proposals
 pub mod InRange
-pub mod Staying
+pub mod ProposalsStay

@@ -13,12 +13,12 @@ use Rattle.paxos_msg.specs.Messages.{IsSent, IsSaid, kept_vote_at}
 use Rattle.paxos_msg.specs.Sending.{IsUnproposed}
 use Rattle.paxos_proposer.specs.Proposer.{Proposer, is_covered_by, is_covered, is_kept_from, value_or, next_of, next_value, proposed_at, proposing}
 use Rattle.paxos_proposer.specs.Backed.{IsProposerBacked}
-use Rattle.paxos_proposer.proofs.Growing.{stays_with, heard_stays}
+use Rattle.paxos_proposer.proofs.BackedAsMoreIsSent.{stays_with, heard_stays}
 use Rattle.paxos_proposer.proofs.Passing.{left_at}
 
 -- ---- the values that are proposed, after one more
 
--- a value that is pushed is found behind the others
+-- a value that is pushed is found after the others
 pushed_here : (values : List Value) (v : Value) (i : ℕ) → i ≡ length values → slice_get (values ++ v ∷ []) i ≡ Some v
 pushed_here [] v zero e = refl
 pushed_here [] v (suc i) e = absurd (omega arith)

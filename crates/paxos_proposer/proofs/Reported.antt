@@ -39,7 +39,7 @@ are_ascending size b low upto [] h = tt
 are_ascending size b low upto (x ∷ xs) h =
     (all_above size b (x.place + 1) upto x.place xs (omega arith) h.1, are_ascending size b (x.place + 1) upto xs h.1)
 
--- none of them is at or above the part's end
+-- each is below the part's end
 pub none_upto : (size : ℕ) (b : Ballot) (low upto s : ℕ) (votes : List Vote) → upto ≤ s → AreVotes size b low upto votes
     → kept_vote_at votes s ≡ None
 none_upto size b low upto s [] le h = refl

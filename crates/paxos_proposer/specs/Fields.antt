@@ -1,10 +1,10 @@
--- What contracts see of a proposer's fields.
+-- The view of a proposer's fields.
 use Rattle.std.specs.Prelude.{◌-◌, vec_len, vec_capacity}
 use Rattle.paxos_proposer.specs.Proposer.{Proposer}
 use Rattle.paxos_proposer.specs.States.{IsProposer, ProposerState}
 use Rattle.paxos_proposer.specs.declared.proposer.Proposer.TheInside.{Inside}
 
--- what a proposer of these fields knows
+-- The knowledge of a proposer with these fields.
 abbrev pub rules_of : Inside → Proposer
 rules_of p =
     record {
@@ -16,10 +16,10 @@ rules_of p =
       values = p.values.items;
     }
 
--- and how many more proposals are sure to find room
+-- The view of a proposer with these fields.
 abbrev pub proposer_state : Inside → ProposerState
 proposer_state p = record { known = rules_of p; room = vec_capacity p.values - vec_len p.values }
 
--- what always holds of them
+-- The invariant of these fields.
 abbrev pub AreWhole : Inside → Type 0
 AreWhole p = IsProposer (rules_of p)

@@ -1,4 +1,4 @@
--- One ballot: what was promised for it, and what is proposed under it.
+-- A proposer under one ballot: the promises that it has heard, and its proposals.
 use Rattle.std.specs.Prelude.{◌≡◌, ℕ, ◌+◌, ◌-◌, max, nat_le, nat_lt, ◌&&◌, Bool, List, [], ◌∷◌, ◌++◌, filter, length, replicate, slice_get, slice_index, slice_set, Option, Some, None, if◌then◌else◌}
 use Rattle.std.specs.List.{list_any}
 use Rattle.paxos_msg.specs.declared.ballot.Ballot.{Ballot}
@@ -10,11 +10,13 @@ use Rattle.paxos_msg.specs.Messages.{kept_vote_at}
 use Rattle.paxos_msg.specs.Records.{with_vote}
 use Rattle.paxos_msg.specs.Tests.{ballot_lt, is_majority}
 use Rattle.paxos_msg.specs.Places.{votes_from}
+use Rattle.paxos_msg.specs.declared.limits.TheConstants.{PLACES}
 
--- Of a proposer in a group of that size: below which place each acceptor's promises reach, by the
--- acceptor's number, which is 1 to 9; of the votes that they reported, the one to keep for each
--- place from the next one on, in ascending order of place; and the values that are proposed, at the
--- first place and on, one after another.
+-- The knowledge of a proposer in a group of `size` nodes. `coverages` has the place up to which
+-- each acceptor's promises reach, by its number, 1 to 9. `kept` has the vote to keep for each place
+-- from the next one on, in ascending order. `values` has the proposed values, at place `first` and
+-- on.
+-- Source: Simple 2.2 and 3.
 pub record Proposer : Type 0 where
   pub ballot : Ballot
   pub size : ℕ
@@ -23,7 +25,7 @@ pub record Proposer : Type 0 where
   pub first : ℕ
   pub values : List Value
 
--- a proposer that has heard nothing
+-- A proposer that has heard nothing.
 abbrev pub new_proposer : Ballot → ℕ → ℕ → Proposer
 new_proposer b from size =
     record {
@@ -35,51 +37,59 @@ new_proposer b from size =
       values = [];
     }
 
--- the next place to propose at
+-- The next place to propose at.
+-- Source: Simple 3.
 abbrev pub next_of : Proposer → ℕ
 next_of p = p.first + length p.values
 
--- what is proposed at a place
+-- The value that is proposed at a place, if any.
+-- Source: Simple 3.
 abbrev pub proposed_at : Proposer → ℕ → Option Value
 proposed_at p s = if nat_lt s p.first then None else slice_get p.values (s - p.first)
 
--- below which place the promises of acceptor i reach
+-- The place up to which the promises of acceptor `i` reach.
+-- Source: Simple 3.
 abbrev pub coverage_of : Proposer → ℕ → ℕ
 coverage_of p i = slice_index p.coverages i
 
--- whether the promises of acceptor i reach above place s
+-- True if the promises of acceptor `i` reach beyond place `s`.
 abbrev pub is_covered_by : List ℕ → ℕ → ℕ → Bool
 is_covered_by coverages s i = nat_lt s (slice_index coverages i)
 
--- whether those of a majority do
+-- True if the promises of a majority reach beyond place `s`.
+-- Source: Simple 2.2, phase 2(a); section 3.
 abbrev pub is_covered : Proposer → ℕ → Bool
 is_covered p s = is_majority p.size (is_covered_by p.coverages s)
 
 -- ---- a part of a promise
 
--- whether acceptor j's part, from its first place up to the other, raises the coverage
+-- True if acceptor `j`'s part, for the places from `first` up to `upto`, raises its coverage.
 abbrev pub rises : Proposer → ℕ → ℕ → ℕ → Bool
 rises p j first upto = nat_le first (coverage_of p j) && nat_lt (coverage_of p j) upto
 
--- the vote to keep, where one was kept: the one with the greater ballot, and of equal ballots the
--- first
+-- The vote to keep at a place: the one with the greater ballot, and of equal ballots the first.
+-- Source: Simple 2.2, P2c.
 abbrev pub greater : Option Vote → Vote → Vote
 greater None vote = vote
 greater (Some kept) vote = if ballot_lt kept.ballot vote.ballot then vote else kept
 
--- the kept votes after one that is reported at a place from low on
+-- The kept votes after one that is reported at a place from `low` on.
 abbrev pub heard_one : ℕ → List Vote → Vote → List Vote
 heard_one low kept vote =
     if nat_le low vote.place then with_vote kept (greater (kept_vote_at kept vote.place) vote)
     else kept
 
--- after these, one after another
+-- The kept votes after these, one after another: at each place the one of the greatest ballot.
+-- Source: Simple 2.2, phase 2(a).
 abbrev pub heard : ℕ → List Vote → List Vote → List Vote
 heard low kept [] = kept
 heard low kept (vote ∷ votes) = heard low (heard_one low kept vote) votes
 
--- The proposer after a part of acceptor j: unless it raises the coverage it is passed over. The
--- votes count that it reports at places from the old coverage on, where nothing is proposed yet.
+-- The proposer after a part of acceptor `j`. A part that does not raise the coverage is ignored. Of
+-- its votes those count that are at places from the old coverage on, where nothing is proposed yet.
+-- Source: Simple 2.2, phase 2(a); section 3, phase 1 for many places at once.
+-- Allows: A part that comes late or again, which is ignored.
+-- Forbids: A change at a place that has its proposal.
 abbrev pub proposer_after_part : Proposer → ℕ → ℕ → ℕ → List Vote → Proposer
 proposer_after_part p j first upto votes =
     if rises p j first upto
@@ -89,11 +99,12 @@ proposer_after_part p j first upto votes =
     }
     else p
 
--- the place from which to ask the acceptor on: its new coverage, if it rose and is not the last
+-- The place from which to ask the acceptor for more: its new coverage, if it rose and is not the
+-- last.
 abbrev pub asks_on : Proposer → ℕ → ℕ → ℕ → Option ℕ
-asks_on p j first upto = if rises p j first upto && nat_lt upto 65536 then Some upto else None
+asks_on p j first upto = if rises p j first upto && nat_lt upto PLACES then Some upto else None
 
--- the body is a promise, or a part of one, under the ballot
+-- A body that is a promise, or a part of one, under the ballot.
 abbrev pub IsPromisePart : Ballot → Body → Type 0
 IsPromisePart b (body.Prepare ballot from) = ⊥
 IsPromisePart b (body.Promise ballot first upto votes) = ballot ≡ b
@@ -104,7 +115,9 @@ IsPromisePart b (body.Submit v) = ⊥
 IsPromisePart b (body.Ask from) = ⊥
 IsPromisePart b (body.Tell s v) = ⊥
 
--- what a part makes of the proposer, and no other body anything
+-- The proposer after a body: a part of a promise counts, and no other body changes anything.
+-- Source: Simple 2.2, phase 2(a).
+-- Forbids: A body of another kind that changes anything.
 abbrev pub heard_promise : Proposer → ℕ → Body → Proposer
 heard_promise p j (body.Prepare ballot from) = p
 heard_promise p j (body.Promise ballot first upto votes) = proposer_after_part p j first upto votes
@@ -115,7 +128,7 @@ heard_promise p j (body.Submit v) = p
 heard_promise p j (body.Ask from) = p
 heard_promise p j (body.Tell s v) = p
 
--- the place from which to ask on after it
+-- The place from which to ask for more after a body, if any.
 abbrev pub asks_after : Proposer → ℕ → Body → Option ℕ
 asks_after p j (body.Prepare ballot from) = None
 asks_after p j (body.Promise ballot first upto votes) = asks_on p j first upto
@@ -128,18 +141,21 @@ asks_after p j (body.Tell s v) = None
 
 -- ---- proposing
 
--- whether a vote is kept at place s or above it
+-- True if a vote is kept at place `s` or above it.
 abbrev pub is_kept_from : List Vote → ℕ → Bool
 is_kept_from kept s = list_any (λ vote. nat_le s vote.place) kept
 
--- the kept vote's value, or else the other
+-- The kept vote's value, or else the other.
 abbrev pub value_or : Option Vote → Option Value → Option Value
 value_or None other = other
 value_or (Some vote) other = Some vote.value
 
--- What is proposed at the next place, if anything: once a majority's promises reach above it, the
--- value of the vote that is kept there; where none is, a no-op if one is kept above, and else what
--- is offered.
+-- The value to propose at the next place, if a majority's promises reach beyond it. It is the value
+-- of the vote that is kept there; without one a no-op if a vote is kept above; and else the offered
+-- one.
+-- Source: Simple 2.2, phase 2(a), P2c; section 3, gaps filled by no-ops.
+-- Allows: An offered value above all kept votes.
+-- Forbids: An offered value where a vote is kept.
 abbrev pub next_value : Proposer → Option Value → Option Value
 next_value p offered =
     if is_covered p (next_of p)
@@ -147,23 +163,27 @@ next_value p offered =
     (if is_kept_from p.kept (next_of p + 1) then Some Noop else offered)
     else None
 
--- the proposer after it has proposed the value, if there is one; a vote that was kept at the place
--- counts no more
+-- The proposer after it has proposed the value, if any; a vote that was kept at the place is
+-- dropped.
+-- Source: Simple 2.2, phase 2(a).
 abbrev pub proposing : Proposer → Option Value → Proposer
 proposing p None = p
 proposing p (Some v) =
     record p { values = p.values ++ v ∷ []; kept = votes_from (next_of p + 1) p.kept }
 
--- its proposal of a value, as a vote under its ballot
+-- The proposal of a value, as a vote under the proposer's ballot.
+-- Source: Simple 3.
 abbrev pub proposal : Proposer → Value → Vote
 proposal p v = record { place = next_of p; ballot = p.ballot; value = v }
 
 -- ---- the next ballot
 
+-- The round of a ballot, 0 if there is none.
 abbrev pub round_of : Option Ballot → ℕ
 round_of None = 0
 round_of (Some b) = b.round
 
--- the greater of two rounds
+-- The greater of the rounds of two ballots, 0 if there is none.
+-- Source: Simple 2.2, proposal numbers.
 abbrev pub greatest_round : Option Ballot → Option Ballot → ℕ
 greatest_round promised seen = max (round_of promised) (round_of seen)

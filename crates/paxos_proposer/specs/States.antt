@@ -1,21 +1,22 @@
--- What contracts see of a proposer, and what always holds of it.
+-- The view of a proposer, and its invariant.
 use Rattle.std.specs.Prelude.{◌≡◌, ℕ, ◌+◌, ◌≤◌, All, List, length, slice_index}
 use Rattle.paxos_proposer.specs.Proposer.{Proposer, next_of}
+use Rattle.paxos_msg.specs.declared.limits.TheConstants.{MOST_NODES, PLACES}
 
--- what it knows, and how many more proposals are sure to find room
+-- The view of a proposer: its knowledge, and how many more proposals are sure to find room.
 pub record ProposerState : Type 0 where
   pub known : Proposer
   pub room : ℕ
 
--- no promise reaches above the last place
+-- Coverages that reach at most past the last place.
 pub record AreInRange (coverages : List ℕ) : Type 0 where
-  pub upto : (i : ℕ) → slice_index coverages i ≤ 65536
+  pub upto : (i : ℕ) → slice_index coverages i ≤ PLACES
 
--- what always holds of a proposer: a group has at most nine nodes, votes are kept from the next
--- place on, and at most all places have a proposal
+-- The invariant of a proposer. A group has at most nine nodes, votes are kept from the next place
+-- on, and at most all places have a proposal.
 pub record IsProposer (p : Proposer) : Type 0 where
-  pub few : p.size ≤ 9
+  pub few : p.size ≤ MOST_NODES
   pub nodes : length p.coverages ≡ 10
   pub reach : AreInRange p.coverages
   pub ahead : All (λ vote. next_of p ≤ vote.place) p.kept
-  pub places : p.first + length p.values ≤ 65536
+  pub places : p.first + length p.values ≤ PLACES

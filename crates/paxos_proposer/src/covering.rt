@@ -1,12 +1,13 @@
-//! Counting the acceptors whose promises reach above a place.
+//! Counts the acceptors whose promises cover a place.
 ghost use Rattle.std.specs.Prelude.{◌≡◌, ◌≤◌};
 ghost use Rattle.paxos_msg.specs.Ballots.{count_of};
 ghost use Rattle.paxos_proposer.specs.Proposer.{is_covered_by};
+ghost use Rattle.paxos_msg.specs.declared.limits.TheConstants.{MOST_NODES};
 
-/// How many of the nodes 1 to `size` have promised above the place.
-#[tactic(auto, using(crate::proofs::Counting::count_next))]
+/// Returns how many of the nodes 1 to `size` have promised beyond `place`.
+#[tactic(auto, using(crate::proofs::CountingCoverage::count_next))]
 pub(crate) fn count_covering(size: u8, coverages: &[u32; 10], place: u32) -> usize
-    requires { size ≤ 9 }
+    requires { size ≤ MOST_NODES }
     ensures count { result ≡ count_of (is_covered_by coverages.now place) size }
     ensures few { result ≤ size }
 {

@@ -1,20 +1,20 @@
-//! Why a proposer gives up.
+//! Faults of a proposer.
 ghost use Rattle.paxos_proposer.specs.declared.fault.ProposerFault.TheVariants.{Memory};
 ghost use Rattle.std.specs.Prelude.{◌≡◌};
 
 use std::alloc::{AllocError, AllocFailed};
 use thiserror::Error;
 
-/// Why a proposer gives up. Its text is the refusal's code.
+/// The fault of a proposer. Its text is the refusal's code.
 #[derive(Clone, Copy, Debug, PartialEq, Eq, Error)]
 pub enum ProposerFault {
-    /// There is no memory. Nothing has changed.
+    /// Out of memory. Nothing has changed.
     #[error("P1")]
     Memory,
     /// There is no greater round than the greatest one, 4,294,967,295.
     #[error("P2")]
     RoundsSpent,
-    /// A value is offered, and the next place is 65,536: there is none behind the last, 65,535.
+    /// A value is offered, and the next place is 65,536: the last place is 65,535.
     #[error("P3")]
     PlacesSpent,
 }

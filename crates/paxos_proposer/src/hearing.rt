@@ -1,15 +1,14 @@
-//! The votes to keep, after a part of a promise reports more.
+//! The kept votes after a part of a promise.
 ghost use Rattle.std.specs.Prelude.{◌≡◌, ◌+◌, ◌<◌, ◌≤◌, OnOk, OnErr, length};
 ghost use Rattle.paxos_proposer.specs.Proposer.{greater, heard, heard_one};
+ghost use Rattle.paxos_msg.specs.declared.limits.TheConstants.{MOST_VOTES};
 
 use crate::kept::KeptVotes;
+use paxos_msg::limits::MOST_VOTES;
 use paxos_msg::{LentVotes, Vote};
 use std::alloc::AllocError;
 
-/// How many votes a part of a promise reports at most.
-const PART_VOTES: usize = 8;
-
-/// The vote of the greater ballot; of equal ballots the one that is kept.
+/// Returns the vote of the greater ballot. Of equal ballots it is the one that is kept.
 fn greater(kept: Option<Vote>, vote: Vote) -> Vote
     ensures { result ≡ greater kept vote }
 {
@@ -19,7 +18,8 @@ fn greater(kept: Option<Vote>, vote: Vote) -> Vote
     }
 }
 
-/// Keeps a vote that was reported, if it is for a place from `low` on and no kept one is greater.
+/// Keeps a reported vote if it is for a place from `low` on and no kept vote there has a greater or
+/// equal ballot.
 fn hear_one(low: u32, vote: Vote, kept: &mut KeptVotes)
     requires { 0 < kept.old.room }
     ensures votes { kept.new.votes ≡ heard_one low kept.old.votes vote }
@@ -38,11 +38,11 @@ pub(crate) fn hear_votes(
     votes: LentVotes<'_>,
     kept: &mut KeptVotes,
 ) -> Result<(), AllocError>
-    requires { length votes ≤ 8 }
+    requires { length votes ≤ MOST_VOTES }
     ensures ok { OnOk result (kept.new.votes ≡ heard low kept.old.votes votes.entry) }
     ensures err { OnErr result (kept.new.votes ≡ kept.old.votes) }
 {
-    kept.make_room(PART_VOTES)?;
+    kept.make_room(MOST_VOTES)?;
     for vote in votes {
         hear_one(low, vote, kept);
     }

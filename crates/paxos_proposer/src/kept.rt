@@ -1,4 +1,4 @@
-//! The votes to keep.
+//! The kept votes of a proposer.
 ghost use Rattle.std.specs.Prelude.{◌≡◌, ◌+◌, ◌<◌, ◌≤◌, [], All, OnOk};
 ghost use Rattle.paxos_msg.specs.Messages.{kept_vote_at};
 ghost use Rattle.paxos_msg.specs.Records.{with_vote};
@@ -10,15 +10,15 @@ use paxos_msg::{Ballot, Value, Vote};
 use std::alloc::{AllocError, Global};
 use std::marker::Model;
 
-/// A vote without its place, under which it is kept.
+/// A vote without its place, which is its key.
 #[derive(Clone, Copy)]
 pub(crate) struct Report {
     ballot: Ballot,
     value: Value,
 }
 
-/// The vote to keep for each place, seen as the votes in ascending order of place, and how many
-/// more there is room for. Each call takes one search, however many votes there are.
+/// The kept vote of each place. Contracts see the votes in ascending order of place, and how many
+/// more have room. Each call takes one search at most, however many votes are kept.
 #[derive(Drop)]
 pub(crate) struct KeptVotes {
     reports: IndexMap<u32, Report>,
@@ -41,7 +41,7 @@ impl Model for KeptVotes {
 }
 
 impl KeptVotes {
-    /// No votes. It takes no memory.
+    /// Returns no votes. It takes no memory.
     pub fn new(alloc: Global) -> KeptVotes
         ensures { result.votes ≡ [] }
     {
@@ -51,7 +51,7 @@ impl KeptVotes {
         }
     }
 
-    /// The vote that is kept at the place.
+    /// Returns the kept vote at `place`.
     pub fn at(&self, place: u32) -> Option<Vote>
         ensures { result ≡ kept_vote_at self.now.votes place }
     {
@@ -63,7 +63,7 @@ impl KeptVotes {
         })
     }
 
-    /// Whether a vote is kept at the place or above it. It takes no search.
+    /// Returns true if a vote is kept at `place` or above it. It takes no search.
     pub fn is_from(&self, place: u32) -> bool
         ensures { result ≡ is_kept_from self.now.votes place }
     {
@@ -73,7 +73,7 @@ impl KeptVotes {
         }
     }
 
-    /// Makes room for that many votes more. The votes stay, also after an error.
+    /// Makes room for `count` more votes. The votes stay, also after an error.
     pub fn make_room(&mut self, count: usize) -> Result<(), AllocError>
         ensures votes { self.new.votes ≡ self.old.votes }
         ensures room { OnOk result (count ≤ self.new.room) }
@@ -81,7 +81,7 @@ impl KeptVotes {
         self.reports.reserve(count)
     }
 
-    /// Keeps the vote instead of the one at its place, if there is one. There is room for it.
+    /// Keeps `vote` in the place of the one at its place, if there is one. There is room for it.
     pub fn put(&mut self, vote: Vote)
         requires { 0 < self.old.room }
         ensures votes { self.new.votes ≡ with_vote self.old.votes vote }
@@ -95,7 +95,7 @@ impl KeptVotes {
         self.greatest = self.greatest.max(Some(vote.place));
     }
 
-    /// Drops the vote at the place, if there is one. No vote is at a smaller place.
+    /// Drops the vote at `place`, if there is one. No vote is at a smaller place.
     pub fn pass(&mut self, place: u32)
         requires { All (λ vote. place ≤ vote.place) self.old.votes }
         ensures { self.new.votes ≡ votes_from (place + 1) self.old.votes }

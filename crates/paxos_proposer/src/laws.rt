@@ -1,5 +1,5 @@
-//! The laws of a proposer, over the definitions alone: what it has heard lets it send what it
-//! proposes.
+//! The laws of a proposer, over the definitions alone: the promises that it has heard let it send
+//! its proposals. A law's function is empty, or calls other laws: its contract is the law.
 ghost use Rattle.std.specs.Prelude.{◌≡◌, ◌≤◌, ◌++◌, [], ◌∷◌, ℕ, List, Option, Some, IfSome};
 ghost use Rattle.paxos_msg.specs.declared.ballot.Ballot.{Ballot};
 ghost use Rattle.paxos_msg.specs.Batches.{Body, IsFree, MaySend, Record, Sent, Vote};
@@ -11,6 +11,7 @@ ghost use Rattle.paxos_msg.specs.Messages.{IsSaid, IsSent};
 ghost use Rattle.paxos_proposer.specs.Backed.{IsProposerBacked, IsQuietUnder};
 ghost use Rattle.paxos_proposer.specs.Ranges.{IsProposerInRange};
 ghost use Rattle.paxos_proposer.specs.Proposer.{Proposer, proposer_after_part, new_proposer, next_of, next_value, heard_promise, proposed_at, proposing};
+ghost use Rattle.paxos_msg.specs.declared.limits.TheConstants.{MOST_NODES, PLACES};
 
 use paxos_msg::laws::votes_are_by_place;
 
@@ -21,19 +22,20 @@ pub fn begins_backed()
         → IsProposerBacked sent b.node (new_proposer b from size) }
 {}
 
-/// It is backed still after a part of a promise that was sent for its ballot, whichever part and
-/// however late.
+/// A proposer stays backed after a part of a promise that was sent for its ballot, whichever part
+/// and however late.
 pub fn parts_keep_it_backed()
     ensures { (sent : Sent) (me j first upto : ℕ) (p : Proposer) (votes : List Vote) →
-        IsProposerBacked sent me p → j ≤ 9 → IsBody p.size j (Promise p.ballot first upto votes) →
+        IsProposerBacked sent me p → j ≤ MOST_NODES
+        → IsBody p.size j (Promise p.ballot first upto votes) →
         IsSent sent j (Promise p.ballot first upto votes) →
         IsProposerBacked sent me (proposer_after_part p j first upto votes) }
 {
     votes_are_by_place();
 }
 
-/// What it proposes may be sent, if what is offered is a no-op or was submitted; once that is sent
-/// it is backed again. What it has proposed may be sent again.
+/// A proposal may be sent, if the offered value is a no-op or was submitted. Once it is sent, the
+/// proposer is backed again. An earlier proposal may be sent again.
 pub fn proposals_may_be_sent()
     ensures sends { (typed : List Key) (learned : ℕ → Option Value) (sent : Sent) (me : ℕ)
         (r : Record) (p : Proposer) (offered : Option Value) (v : Value)
@@ -47,17 +49,17 @@ pub fn proposals_may_be_sent()
         → proposed_at p s ≡ Some v → MaySend p.size typed learned sent me r (Accept p.ballot s v) }
 {}
 
-/// It stays backed as more is sent, if nothing new is proposed under its ballot.
+/// A proposer stays backed as more is sent, if nothing new is proposed under its ballot.
 pub fn stays_backed()
     ensures { (sent next : Sent) (me : ℕ) (p : Proposer) → IsQuietUnder p.ballot sent next
         → IsProposerBacked sent me p → IsProposerBacked next me p }
 {}
 
-/// What goes out fits. A proposer that has heard nothing is in its ranges; it is so after a part of
-/// a promise, and after a proposal of its own, if what is offered is. Then each Accept that it
-/// gives, or gives again, has a spelling as a message of the ballot's node.
+/// A proposer that has heard nothing is in its ranges. It stays so after a part of a promise, and
+/// after a proposal of its own, if the offered value is in its ranges. Then each Accept that it
+/// sends, or sends again, has a spelling as a message of the ballot's node.
 pub fn what_goes_out_fits()
-    ensures begins { (b : Ballot) (from size : ℕ) → IsBallot size b → from ≤ 65536
+    ensures begins { (b : Ballot) (from size : ℕ) → IsBallot size b → from ≤ PLACES
         → IsProposerInRange (new_proposer b from size) }
     ensures parts { (j first upto : ℕ) (p : Proposer) (votes : List Vote) → IsProposerInRange p
         → IsBody p.size j (Promise p.ballot first upto votes)
@@ -71,8 +73,8 @@ pub fn what_goes_out_fits()
         → proposed_at p s ≡ Some v → IsBody p.size p.ballot.node (Accept p.ballot s v) }
 {}
 
-/// Its ballot and the group's size stay, whatever it hears and proposes; and so does what it has
-/// proposed.
+/// A proposer's ballot, its group's size and its earlier proposals stay, whatever it hears and
+/// proposes.
 pub fn ballot_stays()
     ensures parts { (p : Proposer) (j : ℕ) (body : Body) →
         ((heard_promise p j body).ballot ≡ p.ballot) × ((heard_promise p j body).size ≡ p.size) }

@@ -1,4 +1,13 @@
-//! The proposer: what one ballot proposes, from what the acceptors promise for it.
+//! The proposer of a node under one ballot: its proposals, from the promises of the acceptors.
+//!
+//! For who writes a node over a network of their own. Begin first: `next_ballot(promised, seen,
+//! node)?` gives the ballot, and `Proposer::begin(alloc, ballot, from, size)` a proposer for the
+//! places from `from` on. Send a Prepare. Then `on_promise(sender, &view)?` hears each part of a
+//! promise, and returns the place from which to ask that acceptor for more. `next_accept(offered)?`
+//! returns the next proposal, once a majority's promises cover its place. `on_refused(ballot)` says
+//! if a Refused ends the proposer.
+//!
+//! `laws` has empty functions: the contract of each is a law.
 #![tactic(auto)]
 
 mod covering;

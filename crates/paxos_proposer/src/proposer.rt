@@ -2,6 +2,7 @@
 ghost use Rattle.std.specs.Prelude.{◌≡◌, ◌↔◌, ◌+◌, ◌<◌, ◌≤◌, Err, IsTrue, IsSome, IfOk, IfSome, OnOk, OnErr, IsErrOf, option_map};
 ghost use Rattle.paxos_msg.specs.Fits.{IsBody};
 ghost use Rattle.paxos_proposer.specs.Proposer.{IsPromisePart, asks_after, new_proposer, coverage_of, is_covered, is_kept_from, next_of, next_value, heard_promise, proposal, proposed_at, proposing};
+ghost use Rattle.paxos_msg.specs.declared.limits.TheConstants.{LAST_PLACE, MOST_NODES, PLACES};
 
 use crate::covering::count_covering;
 use crate::fault::ProposerFault;
@@ -11,21 +12,23 @@ use paxos_msg::{Ballot, BodyView, PLACES, Value, View, Vote};
 use std::alloc::Global;
 use std::marker::Model;
 
-/// How many proposals `reserve` makes room for.
+/// The number of proposals that `reserve` makes room for.
 const RESERVED_PROPOSALS: usize = 17;
 
-/// A proposer under one ballot: from what the acceptors promise it finds the value that it may
+/// A proposer under one ballot. From the promises of the acceptors it finds the value that it may
 /// propose at each place, one place after another. A proposal takes two searches, and a part of a
-/// promise two for each vote in it, however many votes are kept; a look takes none.
+/// promise two for each of its votes, however many votes are kept. The calls that only read take
+/// none.
 pub struct Proposer {
     ballot: Ballot,
     size: u8,
-    /// Below which place the promises reach, by the acceptor's number, which is 1 to 9.
+    /// The place up to which, and without which, the promises of an acceptor reach, by its number,
+    /// 1 to 9.
     coverages: [u32; 10],
-    /// The vote to keep for each place from the next one on, of those that were reported.
+    /// The vote to keep for each place from the next one on, of the reported ones.
     kept: KeptVotes,
     first: u32,
-    /// What is proposed, at the first place and on, one after another.
+    /// The proposed values, at the first place and on, one after another.
     values: Vec<Value>,
 }
 
@@ -55,11 +58,11 @@ impl Model for Proposer {
 }
 
 impl Proposer {
-    /// A proposer under the ballot, for places from `from` on, in a group of `size` nodes. It has
-    /// heard nothing, and takes no memory.
+    /// Returns a proposer under `ballot`, for places from `from` on, in a group of `size` nodes. It
+    /// has heard nothing, and takes no memory.
     pub fn begin(alloc: Global, ballot: Ballot, from: u32, size: u8) -> Proposer
-        requires from { from ≤ 65535 }
-        requires size { size ≤ 9 }
+        requires from { from ≤ LAST_PLACE }
+        requires size { size ≤ MOST_NODES }
         ensures { result.known ≡ new_proposer ballot from size }
     {
         Proposer {
@@ -72,45 +75,46 @@ impl Proposer {
         }
     }
 
-    /// Its ballot.
+    /// Returns its ballot.
     pub fn ballot(&self) -> Ballot
         ensures { result ≡ self.now.known.ballot }
     {
         self.ballot
     }
 
-    /// The place at which it proposes next, at most 65,536.
+    /// Returns the place at which it proposes next, at most 65,536.
     pub fn next_place(&self) -> u32
         ensures next { result ≡ next_of self.now.known }
-        ensures few { result ≤ 65536 }
+        ensures few { result ≤ PLACES }
     {
         self.first + self.values.len() as u32
     }
 
-    /// Below which place the acceptor's promises reach, at most 65,536.
+    /// Returns the place up to which, and without which, the acceptor's promises reach, at most
+    /// 65,536.
     pub fn coverage(&self, node: u8) -> u32
-        requires { node ≤ 9 }
+        requires { node ≤ MOST_NODES }
         ensures coverage { result ≡ coverage_of self.now.known node }
-        ensures few { result ≤ 65536 }
+        ensures few { result ≤ PLACES }
     {
         self.coverages[usize::from(node)]
     }
 
-    /// Whether the promises of a majority reach above the place.
+    /// Returns true if the promises of a majority reach beyond `place`.
     pub fn is_covered(&self, place: u32) -> bool
         ensures { result ≡ is_covered self.now.known place }
     {
         usize::from(self.size) < 2 * count_covering(self.size, &self.coverages, place)
     }
 
-    /// Whether a vote is kept at the place or above it.
+    /// Returns true if a vote is kept at `place` or above it.
     pub fn is_kept_from(&self, place: u32) -> bool
         ensures { result ≡ is_kept_from self.now.known.kept place }
     {
         self.kept.is_from(place)
     }
 
-    /// What is proposed at the place, which may be any number.
+    /// Returns the value that is proposed at `place`, if any. The place may be any number.
     pub fn proposed(&self, place: u32) -> Option<Value>
         ensures { result ≡ proposed_at self.now.known place }
     {
@@ -120,18 +124,18 @@ impl Proposer {
         self.values.get((place - self.first) as usize).copied()
     }
 
-    /// Hears a part of the acceptor's promise under the proposer's own ballot. The answer is the
-    /// place from which to ask that acceptor on, if its coverage rose and does not reach all
+    /// Hears a part of the acceptor's promise under the proposer's own ballot. Returns the place
+    /// from which to ask that acceptor for more, if its coverage rose and does not reach all
     /// places. After `Memory` nothing has changed.
     pub fn on_promise(&mut self, sender: u8, view: &View<'_>) -> Result<Option<u32>, ProposerFault>
-        requires sender { sender ≤ 9 }
+        requires sender { sender ≤ MOST_NODES }
         requires part { IsPromisePart self.old.known.ballot view.now.body }
         requires ranges { IsBody self.old.known.size sender view.now.body }
         ensures ok { OnOk result
             (self.new.known ≡ heard_promise self.old.known sender view.now.body) }
         ensures answer { IfOk result
             (λ from. from ≡ asks_after self.old.known sender view.now.body) }
-        ensures place { IfOk result (λ from. IfSome from (λ place. place ≤ 65535)) }
+        ensures place { IfOk result (λ from. IfSome from (λ place. place ≤ LAST_PLACE)) }
         ensures err { OnErr result (self.new.known ≡ self.old.known) }
         ensures memory { OnErr result (result ≡ Err ProposerFault.Memory) }
         ensures room { self.old.room ≤ self.new.room }
@@ -160,11 +164,11 @@ impl Proposer {
         }
     }
 
-    /// What is proposed at the next place, if anything.
-    #[tactic(auto, using(crate::proofs::Counting::covered_below))]
+    /// Returns the value to propose at the next place, if any.
+    #[tactic(auto, using(crate::proofs::CountingCoverage::covered_below))]
     fn next_value(&self, offered: Option<Value>) -> Option<Value>
         ensures value { result ≡ next_value self.now.known offered }
-        ensures below { IsSome result → next_of self.now.known ≤ 65535 }
+        ensures below { IsSome result → next_of self.now.known ≤ LAST_PLACE }
     {
         let place = self.next_place();
         if !self.is_covered(place) {
@@ -179,20 +183,20 @@ impl Proposer {
         offered
     }
 
-    /// Proposes at the next place, if it may: once a majority's promises reach above it, the value
-    /// of the vote that is kept there, a no-op where one is kept above, and else what is offered.
-    /// The answer is the proposal, and the vote that was kept there is dropped. `PlacesSpent` where
-    /// a value is offered and the next place is 65,536; it comes before `Memory`. After an error
-    /// nothing has changed.
+    /// Proposes at the next place, if a majority's promises reach beyond it. It proposes the value
+    /// of the vote that is kept there; without one a no-op if a vote is kept above; and else
+    /// `offered`. Returns the proposal, and drops the vote that was kept there. Fails with
+    /// `PlacesSpent` if a value is offered and the next place is 65,536; this comes before
+    /// `Memory`. After an error nothing has changed.
     pub fn next_accept(&mut self, offered: Option<Value>) -> Result<Option<Vote>, ProposerFault>
         ensures ok { OnOk result
             (self.new.known ≡ proposing self.old.known (next_value self.old.known offered)) }
         ensures answer { IfOk result
             (λ vote. vote ≡ option_map (proposal self.old.known)
             (next_value self.old.known offered)) }
-        ensures place { IfOk result (λ vote. IfSome vote (λ v. v.place ≤ 65535)) }
+        ensures place { IfOk result (λ vote. IfSome vote (λ v. v.place ≤ LAST_PLACE)) }
         ensures spent { IsErrOf result ProposerFault.PlacesSpent
-            ↔ (IsSome offered × (next_of self.old.known ≡ 65536)) }
+            ↔ (IsSome offered × (next_of self.old.known ≡ PLACES)) }
         ensures err { OnErr result (self.new.known ≡ self.old.known) }
         ensures others { ¬ IsErrOf result ProposerFault.RoundsSpent }
         ensures sure { 0 < self.old.room → ¬ IsErrOf result ProposerFault.Memory }
@@ -215,7 +219,7 @@ impl Proposer {
         Ok(Some(proposal))
     }
 
-    /// Makes room for 17 more proposals: none of the next 17 `next_accept` is `Memory`.
+    /// Makes room for 17 more proposals. None of the next 17 `next_accept` fails with `Memory`.
     pub fn reserve(&mut self) -> Result<(), ProposerFault>
         ensures same { self.new.known ≡ self.old.known }
         ensures ok { OnOk result (17 ≤ self.new.room) }
@@ -226,13 +230,13 @@ impl Proposer {
         Ok(())
     }
 
-    /// Whether a Refused for this ballot ends the proposer: just where it is the proposer's own.
+    /// Returns true if a Refused for `ballot` ends the proposer: it is the proposer's own.
     pub fn on_refused(&self, ballot: Ballot) -> bool
         ensures { IsTrue result ↔ (self.now.known.ballot ≡ ballot) }
     {
         ballot == self.ballot
     }
 
-    /// Gives the ballot up.
+    /// Drops the proposer and its ballot.
     pub fn drop_ballot(self) {}
 }

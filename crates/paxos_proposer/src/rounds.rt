@@ -1,11 +1,12 @@
 //! The next ballot of a node.
 ghost use Rattle.std.specs.Prelude.{◌≡◌, ◌↔◌, ◌+◌, Err, IfOk, OnErr, IsErrOf};
 ghost use Rattle.paxos_proposer.specs.Proposer.{greatest_round, round_of};
+ghost use Rattle.paxos_msg.specs.declared.limits.TheConstants.{LAST_ROUND};
 
 use crate::fault::ProposerFault;
 use paxos_msg::Ballot;
 
-/// The round of a ballot, 0 where there is none.
+/// Returns the round of a ballot, 0 if there is none.
 fn round_of(ballot: Option<Ballot>) -> u32
     ensures { result ≡ round_of ballot }
 {
@@ -15,8 +16,9 @@ fn round_of(ballot: Option<Ballot>) -> u32
     }
 }
 
-/// The next ballot of the node: its round is one more than the greatest of the ballot that the node
-/// has promised and the one that it was told of. `RoundsSpent` where that is 4,294,967,295.
+/// Returns the next ballot of `node`. Its round is one more than the greater round of the ballot
+/// that the node has promised and the one that it has seen. Fails with `RoundsSpent` if that is
+/// 4,294,967,295.
 pub fn next_ballot(
     promised: Option<Ballot>,
     seen: Option<Ballot>,
@@ -25,7 +27,7 @@ pub fn next_ballot(
     ensures ok { IfOk result
         (λ b. b ≡ record { round = greatest_round promised seen + 1; node = node }) }
     ensures spent { IsErrOf result ProposerFault.RoundsSpent
-        ↔ (greatest_round promised seen ≡ 4294967295) }
+        ↔ (greatest_round promised seen ≡ LAST_ROUND) }
     ensures others { OnErr result (result ≡ Err ProposerFault.RoundsSpent) }
 {
     let greatest = round_of(promised).max(round_of(seen));

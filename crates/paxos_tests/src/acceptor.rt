@@ -1,5 +1,4 @@
-//! What no clause says of an acceptor: parts of a promise by the numbers, and faults that are
-//! passed on.
+//! An acceptor: the parts of a promise by their numbers, and faults that are passed on.
 ghost use Rattle.std.specs.Prelude.{◌≡◌};
 
 use paxos_acceptor::{Acceptor, AcceptorFault, Me, MemoryStore, Store};
@@ -20,7 +19,7 @@ pub const FIRST: Ballot = Ballot { round: 1, node: 1 };
 
 pub const SECOND: Ballot = Ballot { round: 2, node: 2 };
 
-/// A vote for no key.
+/// Returns a vote for no key.
 pub fn vote_for_none(place: u32, ballot: Ballot) -> Vote {
     Vote {
         place,
@@ -29,7 +28,7 @@ pub fn vote_for_none(place: u32, ballot: Ballot) -> Vote {
     }
 }
 
-/// An acceptor over the store, which has to have a record in its ranges.
+/// Opens an acceptor over the store, which has to have a record in its ranges.
 pub fn opened<S: Store + Drop>(rt: &impl Abort, alloc: Global, store: S) -> Acceptor<S>
     ensures { result.me ≡ ME }
 {
@@ -39,7 +38,7 @@ pub fn opened<S: Store + Drop>(rt: &impl Abort, alloc: Global, store: S) -> Acce
     }
 }
 
-/// Of a promise: the places from the first up to the other one, and the votes there.
+/// Returns the first place of a promise's part, the place up to which it speaks, and its votes.
 fn part_of(answer: Result<Body, AcceptorFault>) -> Option<(u32, u32, Votes)> {
     match answer {
         Ok(
@@ -54,7 +53,7 @@ fn part_of(answer: Result<Body, AcceptorFault>) -> Option<(u32, u32, Votes)> {
     }
 }
 
-/// A record that has promised the first ballot, with 65 votes from place 0 on.
+/// Returns a record that has promised the first ballot, with 65 votes from place 0 on.
 fn with_votes(alloc: Global) -> Result<Record, AllocError> {
     let mut votes = Vec::new(alloc);
     for place in 0..65 {
@@ -67,7 +66,7 @@ fn with_votes(alloc: Global) -> Result<Record, AllocError> {
     })
 }
 
-/// Whether it is the answer that no key is accepted at place 70.
+/// Returns true if the answer is that no key is accepted at place 70.
 fn is_accepted(answer: &Result<Body, AcceptorFault>) -> bool {
     match answer {
         Ok(Body::Accepted { place, .. }) => *place == 70,
@@ -75,7 +74,9 @@ fn is_accepted(answer: &Result<Body, AcceptorFault>) -> bool {
     }
 }
 
-/// Of 65 votes from place 0 on a promise has nine parts.
+/// Shows Acceptor::open (loaded, open), Acceptor::prepare (answer, follows), Acceptor::accept
+/// (answer, follows), MemoryStore::new, Votes::new, Votes::as_slice: a promise for 65 votes from
+/// place 0 on has nine parts, of which three are asked for.
 #[test]
 fn promise_bytes_and_parts(rt: HostRuntime) -> Result<(), Fail> {
     let record = with_votes(rt.alloc())?;
@@ -95,7 +96,13 @@ fn promise_bytes_and_parts(rt: HostRuntime) -> Result<(), Fail> {
     Ok(())
 }
 
-/// A save that fails closes the acceptor, and a restart finds the old record or the changed one.
+/// Shows Acceptor::fail_next (same, plan, faults), Acceptor::prepare (follows), Acceptor::accept
+/// (follows), Acceptor::new_start (answer, follows), Acceptor::open (loads, loaded, same, bad),
+/// Acceptor::record (same), Acceptor::is_closed, Acceptor::into_store, MemoryStore::save (by_plan,
+/// cause), MemoryStore::load, MemoryStore::stored, MemoryStore::faults, MemoryStore::fail_next,
+/// Store::load (loads, found, same), Store::save (saved, device, told, unplanned, used_up),
+/// Store::faults, Store::fail_next (plan), Record::new: a save that fails closes the acceptor, and
+/// a restart finds the old record or the changed one.
 #[test]
 fn fails_at_will(rt: HostRuntime) -> Result<(), Fail> {
     for is_kept in [false, true] {
@@ -126,7 +133,7 @@ fn fails_at_will(rt: HostRuntime) -> Result<(), Fail> {
     Ok(())
 }
 
-/// A plan that is taken back leaves the next save as it is.
+/// Checks that a plan that is taken back leaves the next save as it is.
 fn takes_a_plan_back(rt: &impl Abort, alloc: Global) {
     let mut acceptor = opened(rt, alloc, MemoryStore::new(Record::new(alloc)));
     acceptor.fail_next(Some(false));
@@ -137,7 +144,7 @@ fn takes_a_plan_back(rt: &impl Abort, alloc: Global) {
     assert_eq!(rt; (store.stored().starts, store.faults()), (1, 0));
 }
 
-/// No record has a vote above its promise.
+/// Checks that a record with a vote above its promise is refused.
 fn refuses_records(rt: &impl Abort, alloc: Global) -> Result<(), Fail> {
     let mut votes = Vec::new(alloc);
     votes.push(vote_for_none(0, SECOND))?;

@@ -7,7 +7,7 @@ use std::test::Fail;
 
 const SECOND: Ballot = Ballot { round: 2, node: 2 };
 
-/// Node `sender` says that it has accepted the key at place 0 under a ballot.
+/// Returns the message by which `sender` says that it has accepted the key at place 0.
 fn accepted(sender: u8, ballot: Ballot) -> Msg {
     Msg {
         sender,
@@ -19,8 +19,8 @@ fn accepted(sender: u8, ballot: Ballot) -> Msg {
     }
 }
 
-/// A campaign of node 1 in a group of three that all nodes promise to follow, the key of node 2,
-/// and the leader's Accept of it, which the leader accepts.
+/// Returns what is sent in a group of three up to the leader's own acceptance. Node 1 campaigns and
+/// all nodes promise. Node 2 submits its key. The leader sends the Accept, and accepts it.
 fn led(alloc: Global) -> Result<Vec<Msg>, AllocError> {
     let mut sent = Vec::new(alloc);
     sent.push(Msg {
@@ -57,6 +57,7 @@ fn led(alloc: Global) -> Result<Vec<Msg>, AllocError> {
     Ok(sent)
 }
 
+/// Shows choosing::is_chosen: a node that says five times that it has accepted counts once.
 #[test]
 fn a_node_counts_once(rt: HostRuntime) -> Result<(), Fail> {
     let mut sent = led(rt.alloc())?;
@@ -77,6 +78,7 @@ fn a_node_counts_once(rt: HostRuntime) -> Result<(), Fail> {
     Ok(())
 }
 
+/// Shows choosing::is_chosen: what is accepted under two ballots is not added up.
 #[test]
 fn ballots_are_not_added(rt: HostRuntime) -> Result<(), Fail> {
     // Node 1 begins a second ballot of its own, and nobody accepts under either.
@@ -91,7 +93,7 @@ fn ballots_are_not_added(rt: HostRuntime) -> Result<(), Fail> {
         })?;
     }
     assert!(rt; !is_chosen(3, sent.as_slice(), 0, first_key()));
-    // Acceptances under two ballots are not added.
+    // What is accepted under two ballots is not added up.
     sent.push(accepted(1, FIRST))?;
     sent.push(accepted(2, SECOND))?;
     assert!(rt; !is_chosen(3, sent.as_slice(), 0, first_key()));
@@ -100,6 +102,8 @@ fn ballots_are_not_added(rt: HostRuntime) -> Result<(), Fail> {
     Ok(())
 }
 
+/// Shows choosing::is_majority: a majority is more than half of the group's nodes, each counted
+/// once.
 #[test]
 fn majorities(rt: HostRuntime) {
     for (size, members, answer) in [

@@ -15,7 +15,7 @@ const GROUP: Group = Group {
 /// The first ballot of node 1.
 pub const BALLOT: Ballot = Ballot { round: 1, node: 1 };
 
-/// A key of the first start of node 2.
+/// Returns a key of the first start of node 2.
 fn key(first: u32, byte: u8) -> Value {
     Value::Keys {
         node: 2,
@@ -25,7 +25,7 @@ fn key(first: u32, byte: u8) -> Value {
     }
 }
 
-/// The first key of that start, an `H`.
+/// Returns the first key of that start, an `H`.
 pub fn first_key() -> Value {
     key(1, 0x48)
 }
@@ -43,7 +43,7 @@ const ACCEPT: [u8; 32] = [
     0x00, 0x00, 0x00, 0x01, 0x02, 0x00, 0x00, 0x00, 0x01, 0x00, 0x00, 0x00, 0x01, 0x02, 0x48, 0x49,
 ];
 
-/// The same of the first of these keys alone.
+/// The same Accept of the first of these keys alone.
 const ACCEPT_ONE: [u8; 31] = [
     0x50, 0x47, 0x02, 0x03, 0x01, 0x03, 0x00, 0x00, 0x00, 0x07, 0x00, 0x00, 0x00, 0x01, 0x01, 0x00,
     0x00, 0x00, 0x00, 0x01, 0x02, 0x00, 0x00, 0x00, 0x01, 0x00, 0x00, 0x00, 0x01, 0x01, 0x48,
@@ -60,6 +60,7 @@ const PROMISE: [u8; 24] = [
     0x00, 0x00, 0x00, 0x00, 0x01, 0x00, 0x00, 0x00,
 ];
 
+/// Shows paxos_msg::decode (exact): a datagram that is cut anywhere is `Short`.
 #[test]
 fn cut_datagrams(rt: HostRuntime) -> Result<(), Fail> {
     for bytes in [PREPARE.as_slice(), ACCEPT.as_slice(), PROMISE.as_slice()] {
@@ -71,7 +72,7 @@ fn cut_datagrams(rt: HostRuntime) -> Result<(), Fail> {
     Ok(())
 }
 
-/// A promise of node 2 under 1.1 with these keys of node 2 at this many places from 0 on.
+/// Returns a promise of node 2 under 1.1 with these keys of node 2 at `count` places from 0 on.
 fn promise_with(alloc: Global, count: u32, bytes: &[u8]) -> Result<Msg, AllocError> {
     let mut votes = Vec::new(alloc);
     for place in 0..count {
@@ -92,7 +93,7 @@ fn promise_with(alloc: Global, count: u32, bytes: &[u8]) -> Result<Msg, AllocErr
     })
 }
 
-/// The first keys of the first start of node 2, or no key where these are not 1 to 32.
+/// Returns the first keys of the first start of node 2, or no key if these are not 1 to 32.
 fn batch(bytes: &[u8]) -> Value {
     match Characters::new(bytes) {
         Some(bytes) => Value::Keys {
@@ -114,6 +115,7 @@ const TWO_VOTES: [u8; 66] = [
     0x01, 0x48,
 ];
 
+/// Shows ranges::fits, encoding::encode (ok): the bytes of a promise with two votes.
 #[test]
 fn promise_bytes_and_parts(rt: HostRuntime) -> Result<(), Fail> {
     let two = promise_with(rt.alloc(), 2, b"H")?;
@@ -123,6 +125,8 @@ fn promise_bytes_and_parts(rt: HostRuntime) -> Result<(), Fail> {
     Ok(())
 }
 
+/// Shows ranges::fits, encoding::encode (ok): the longest promise has 440 bytes, and one with nine
+/// votes does not fit.
 #[test]
 fn longest_promise(rt: HostRuntime) -> Result<(), Fail> {
     let most = promise_with(rt.alloc(), 8, &[0x41; 32])?;
@@ -133,6 +137,7 @@ fn longest_promise(rt: HostRuntime) -> Result<(), Fail> {
     Ok(())
 }
 
+/// Shows Characters::new (some): a slice of 1 to 32 bytes has characters.
 #[test]
 fn characters_of_slices(rt: HostRuntime) {
     for (len, is_some) in [(0, false), (1, true), (32, true), (33, false)] {
@@ -170,7 +175,7 @@ const TELL: [u8; 26] = [
     0x00, 0x00, 0x00, 0x01, 0x00, 0x00, 0x00, 0x03, 0x01, 0x4a,
 ];
 
-/// Messages of the other kinds: the sender, the body and the bytes.
+/// Returns messages of the other kinds: the sender, the body and the bytes.
 fn messages_of_other_kinds() -> [(u8, Body, &'static [u8]); 5] {
     let value = Value::Noop;
     let promised = Ballot { round: 2, node: 3 };
@@ -205,6 +210,7 @@ fn messages_of_other_kinds() -> [(u8, Body, &'static [u8]); 5] {
     ]
 }
 
+/// Shows ranges::fits, encoding::encode (ok): the bytes of the other kinds of messages.
 #[test]
 fn other_kinds(rt: HostRuntime) -> Result<(), Fail> {
     for (sender, body, expected) in messages_of_other_kinds() {
@@ -216,6 +222,8 @@ fn other_kinds(rt: HostRuntime) -> Result<(), Fail> {
     Ok(())
 }
 
+/// Shows decoding::read_ballot (exact), decoding::read_value (exact), Characters::from: a ballot
+/// and a value at the front of bytes, with the number of their bytes.
 #[test]
 fn single_fields(rt: HostRuntime) {
     for (bytes, field) in [
@@ -230,13 +238,14 @@ fn single_fields(rt: HostRuntime) {
         (&[0], Ok((Value::Noop, 1))),
         (&[2], Err(WireFault::Value)),
         (&[1, 2], Err(WireFault::Short)),
-        // Its character stands where the count is, and is above 32.
+        // Its character is where the count is, and is above 32.
         (&KEY_V1, Err(WireFault::Value)),
     ] {
         assert_eq!(rt; read_value(bytes, GROUP), field);
     }
 }
 
+/// Shows version1::read_value_v1 (exact): a value of version 1, whole, cut and of an unknown tag.
 #[test]
 fn values_of_version_1(rt: HostRuntime) {
     assert_eq!(rt; read_value_v1(&KEY_V1, GROUP), Ok((first_key(), 11)));

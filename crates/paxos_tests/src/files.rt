@@ -7,7 +7,8 @@ use std::fs;
 use std::marker::Model;
 use std::test::Fail;
 
-/// A file of version 1 is loaded and left as it is; after a start it is one of version 2.
+/// Shows what no clause says: a file with a record of version 1 is loaded and left as it is. After
+/// a start it has the record in version 2.
 #[test]
 fn file_of_version_1(rt: HostRuntime) -> Result<(), Fail> {
     let path = "old_record_of_a_test";
@@ -25,7 +26,8 @@ fn file_of_version_1(rt: HostRuntime) -> Result<(), Fail> {
     Ok(())
 }
 
-/// Where there is no folder for a file, it is as a missing one, and no save succeeds.
+/// Shows Acceptor::new_start (follows), FileStore::faults: without a folder for it a file counts as
+/// missing, and no save succeeds.
 #[test]
 fn no_folder_for_a_file(rt: HostRuntime) -> Result<(), Fail> {
     let store = FileStore::new(rt, "no_such_folder/record", ME)?;
@@ -36,8 +38,8 @@ fn no_folder_for_a_file(rt: HostRuntime) -> Result<(), Fail> {
     Ok(())
 }
 
-/// A store in a file. What contracts see of it is nothing, so that a test does not carry a record
-/// from one call to the next.
+/// A store in a file. Contracts see nothing of it, so that a test does not carry a record from one
+/// call to the next.
 struct Kept {
     store: FileStore<HostRuntime>,
 }
@@ -64,13 +66,13 @@ impl Kept {
         self.store.load()
     }
 
-    /// How many starts the record has that is loaded.
+    /// Loads the record, and returns its number of starts.
     fn starts(&mut self) -> Result<u32, StoreFault> {
         let record = self.store.load()?;
         Ok(record.starts)
     }
 
-    /// Saves these changes, one after the other.
+    /// Saves these changes, one after another.
     fn save(&mut self, changes: &[Change]) -> Result<(), StoreFault> {
         for change in changes.iter() {
             self.store.save(change)?;
@@ -78,7 +80,7 @@ impl Kept {
         Ok(())
     }
 
-    /// Whether the device fails at a save.
+    /// Returns true if the device fails at a save.
     fn fails(&mut self) -> bool {
         self.store.save(&Change::Start) == Err(StoreFault::Device)
     }
@@ -88,14 +90,16 @@ impl Kept {
     }
 }
 
-/// Whether it has two starts, the first ballot's promise, and a vote for no key at place 3.
+/// Returns true if the record has two starts, the first ballot's promise, and a vote for no key at
+/// place 3.
 fn has_voted(record: &Record) -> bool {
     record.starts == 2
         && record.promised == Some(FIRST)
         && record.votes.as_slice() == [vote_for_none(3, FIRST)].as_slice()
 }
 
-/// A file keeps what was saved, each save built on the one before.
+/// Shows FileStore::new, FileStore::load, FileStore::save (notes): a file keeps what was saved,
+/// each save built on the one before.
 #[test]
 fn keeps_a_record_in_a_file(rt: HostRuntime) -> Result<(), Fail> {
     let path = "record_of_a_test";
@@ -117,7 +121,7 @@ fn keeps_a_record_in_a_file(rt: HostRuntime) -> Result<(), Fail> {
     Ok(())
 }
 
-/// How a store in the file of that path is refused, and how many faults it has had.
+/// Returns how a store in the file at `path` is refused, and how many faults it has counted.
 fn refusal(rt: HostRuntime, path: &str) -> Result<Option<(AcceptorFault, u64)>, Fail> {
     match Acceptor::open(rt.alloc(), FileStore::new(rt, path, ME)?, ME) {
         Ok(_) => Ok(None),
@@ -125,9 +129,9 @@ fn refusal(rt: HostRuntime, path: &str) -> Result<Option<(AcceptorFault, u64)>, 
     }
 }
 
-/// What can't be read is no missing file: a folder in the place of the file, and a path through a
-/// file. An empty file is no record. Of one without an end the first megabytes are read, and it
-/// can't be synced.
+/// Shows Acceptor::open (loads, cause), FileStore::faults: a folder in the file's place, a path
+/// through a file, and a file without an end are faults of the device, not missing files. An empty
+/// file is a bad record.
 #[test]
 fn files_that_cannot_be_read(rt: HostRuntime) -> Result<(), Fail> {
     let _ = fs::remove_dir(&rt, "folder_of_a_test");
@@ -146,8 +150,9 @@ fn files_that_cannot_be_read(rt: HostRuntime) -> Result<(), Fail> {
     Ok(())
 }
 
-/// After a save that failed a store saves no more until it is loaded: here a folder lies in the
-/// place of the file for a while.
+/// Shows FileStore::save (notes, cause), FileStore::load, FileStore::faults: after a save that
+/// failed a store saves no more until it is loaded. Here a folder takes the file's place for a
+/// while.
 #[test]
 fn saves_no_more_after_a_fault(rt: HostRuntime) -> Result<(), Fail> {
     let path = "faulty_record_of_a_test";
@@ -173,7 +178,8 @@ fn saves_no_more_after_a_fault(rt: HostRuntime) -> Result<(), Fail> {
     Ok(())
 }
 
-/// Likewise where the second file can't be written: here a folder lies in its place.
+/// Shows FileStore::save (notes, cause): a save fails if the second file can't be written. Here a
+/// folder takes its place, and the file keeps its record.
 #[test]
 fn no_second_file(rt: HostRuntime) -> Result<(), Fail> {
     let path = "whole_faulty_record_of_a_test";

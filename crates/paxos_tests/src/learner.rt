@@ -6,7 +6,7 @@ use std::test::Fail;
 
 const BALLOT: Ballot = Ballot { round: 1, node: 1 };
 
-/// Keys of the first start of node 2, from its first key on.
+/// Returns keys of the first start of node 2, from its first key on.
 fn keys(bytes: Characters) -> Value {
     Value::Keys {
         node: 2,
@@ -16,13 +16,13 @@ fn keys(bytes: Characters) -> Value {
     }
 }
 
-/// The first key, an `H`.
+/// Returns the first key, an `H`.
 fn key() -> Value {
     keys(Characters::from(0x48))
 }
 
-/// A learner that has heard of the key at places 1 and 2, and between these of no key at place 0,
-/// and its fronts.
+/// Returns a learner that has heard of the key at places 1 and 2, and between these of no key at
+/// place 0. Returns its fronts too.
 fn with_a_hole(alloc: Global) -> Result<(Learner, [u32; 3]), LearnerFault> {
     let mut learner = Learner::new(alloc, 3);
     learner.on_tell(1, key())?;
@@ -34,18 +34,21 @@ fn with_a_hole(alloc: Global) -> Result<(Learner, [u32; 3]), LearnerFault> {
     Ok((learner, [before, after, last]))
 }
 
+/// Shows Learner::on_tell (ok), Learner::known_front (front, least), Learner::input_after,
+/// InputAfter::next (next_gives): the front rises over a hole that is filled, and a key at two
+/// places is read once.
 #[test]
 fn console_and_learner_edges(rt: HostRuntime) -> Result<(), Fail> {
     let (learner, fronts) = with_a_hole(rt.alloc())?;
     assert_eq!(rt; fronts, [0, 2, 3]);
-    // The key stands at two places, and is read once.
+    // The key is at two places, and is read once.
     let mut input = learner.input_after(0);
     assert_eq!(rt; input.next(), Some(0x48));
     assert_eq!(rt; input.next(), None);
     Ok(())
 }
 
-/// A learner that has heard of the first key at place 0, and of the first two at place 1.
+/// Returns a learner that has heard of the first key at place 0, and of the first two at place 1.
 fn with_a_batch(alloc: Global) -> Result<Learner, LearnerFault> {
     let both = Characters::new(b"HI").unwrap();
     let mut learner = Learner::new(alloc, 3);
@@ -54,6 +57,8 @@ fn with_a_batch(alloc: Global) -> Result<Learner, LearnerFault> {
     Ok(learner)
 }
 
+/// Shows Learner::input_after, Learner::input_len, InputAfter::next (next_gives): of a batch whose
+/// first key was read before only the second one is read.
 #[test]
 fn a_batch_is_read_from_its_first_new_key_on(rt: HostRuntime) -> Result<(), Fail> {
     let learner = with_a_batch(rt.alloc())?;
@@ -62,14 +67,14 @@ fn a_batch_is_read_from_its_first_new_key_on(rt: HostRuntime) -> Result<(), Fail
     assert_eq!(rt; input.next(), Some(0x48));
     assert_eq!(rt; input.next(), Some(0x49));
     assert_eq!(rt; input.next(), None);
-    // What place 1 adds is the second key alone.
+    // Place 1 adds the second key alone.
     let mut added = learner.input_after(1);
     assert_eq!(rt; added.next(), Some(0x49));
     assert_eq!(rt; added.next(), None);
     Ok(())
 }
 
-/// A learner after three messages, two of one node and one of another, and its answers.
+/// Returns a learner after three messages, two of one node and one of another, and its answers.
 fn heard(alloc: Global) -> Result<(Learner, [Heard; 3]), LearnerFault> {
     let mut learner = Learner::new(alloc, 3);
     let first = learner.on_accepted(1, BALLOT, 0, key())?;
@@ -78,6 +83,8 @@ fn heard(alloc: Global) -> Result<(Learner, [Heard; 3]), LearnerFault> {
     Ok((learner, [first, repeated, second]))
 }
 
+/// Shows Learner::new, Learner::on_accepted (ok, answer), Learner::learned (value): a place is
+/// learned once two of three nodes have accepted. One node heard twice is not enough.
 #[test]
 fn two_of_three_are_a_majority(rt: HostRuntime) -> Result<(), Fail> {
     let (learner, answers) = heard(rt.alloc())?;

@@ -1,4 +1,4 @@
-//! What docs/LIBRARY.md shows of an acceptor alone.
+//! The acceptor alone that docs/LIBRARY.md shows.
 use paxos_acceptor::MemoryStore;
 use paxos_msg::{Record, Vote};
 use std::test::Fail;
@@ -32,7 +32,7 @@ pub fn vote<S: Store + Drop>(alloc: Global, store: S) -> Result<S, AcceptorFault
 }
 // docs/LIBRARY.md shows the lines up to here.
 
-/// Whether it has this number of starts, the promise and the vote.
+/// Returns true if the record has `starts` starts, the promise and the vote.
 fn has_voted(record: &Record, starts: u32) -> bool {
     let ballot = Ballot { round: 1, node: 2 };
     let vote = Vote {
@@ -45,8 +45,9 @@ fn has_voted(record: &Record, starts: u32) -> bool {
         && record.votes.as_slice() == [vote].as_slice()
 }
 
-/// The store has what was answered. Another start changes nothing else, and a save that fails is
-/// reported.
+/// Shows Acceptor::open (loaded), Acceptor::new_start (follows), Acceptor::prepare (follows),
+/// Acceptor::accept (follows), Acceptor::into_store: the store has what was answered. Another start
+/// changes nothing else, and a save that fails is reported.
 #[test]
 fn votes_alone(rt: HostRuntime) -> Result<(), Fail> {
     let store = MemoryStore::new(Record::new(rt.alloc()));

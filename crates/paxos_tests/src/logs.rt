@@ -1,5 +1,4 @@
-//! Records as logs of changes: their bytes, those that were cut or changed, and files that have
-//! one.
+//! Records as logs of changes: their bytes, logs that were cut or changed, and files with logs.
 ghost use Rattle.std.specs.Prelude.{◌≡◌, ◌<◌, ◌≤◌, length, IfOk};
 
 use super::acceptor::{FIRST, ME, opened};
@@ -25,7 +24,7 @@ const LOG_V1: [u8; 37] = [
     0x00, 0x00, 0x00, 0x01, 0x48,
 ];
 
-/// Of the first `length` bytes of either log how many are its header and its whole entries.
+/// Returns how many of the first `length` bytes of either log are its header and its whole entries.
 fn whole_of_first(length: usize) -> usize {
     match length {
         0..=9 => 9,
@@ -34,19 +33,21 @@ fn whole_of_first(length: usize) -> usize {
     }
 }
 
-/// Whether the record is what the first `length` bytes of either log have, where an entry was cut.
+/// Returns true if the record is that of the first `length` bytes of either log, of which an entry
+/// was cut.
 fn is_of_first(record: &Record, length: usize) -> bool {
     let starts = if length < 10 { 0 } else { 1 };
     let promised = if length < 16 { None } else { Some(FIRST) };
     record.starts == starts && record.promised == promised && record.votes.as_slice().is_empty()
 }
 
-/// Bytes that are no log.
+/// Returns true if the bytes are no log.
 fn are_none(alloc: Global, bytes: &[u8]) -> bool {
     log_decode(alloc, bytes, ME).err() == Some(StoreFault::Bad)
 }
 
-/// A log is what its entries make of the empty record, all of them where none was cut.
+/// Shows log_decode (found, only, bad): a log's record is the empty one after its entries, in both
+/// versions. A whole record is no log.
 #[test]
 fn log_bytes(rt: HostRuntime) -> Result<(), Fail> {
     let (record, taken) = log_decode(rt.alloc(), LOG.as_slice(), ME)?;
@@ -62,8 +63,8 @@ fn log_bytes(rt: HostRuntime) -> Result<(), Fail> {
     Ok(())
 }
 
-/// The first bytes of a log are none without the whole header, and else a log without the entry
-/// that was cut.
+/// Checks the first bytes of a log. Without the whole header they are no log, and otherwise a log
+/// without the entry that was cut.
 fn cut_at(rt: &impl Abort, alloc: Global, bytes: &[u8], count: usize) -> Result<(), Fail>
     requires few { count ≤ 36 }
     requires enough { 36 < length bytes.now }
@@ -79,7 +80,7 @@ fn cut_at(rt: &impl Abort, alloc: Global, bytes: &[u8], count: usize) -> Result<
     Ok(())
 }
 
-/// Of a log that was cut the whole entries are kept.
+/// Shows log_decode (found, only, bad): of a log that was cut the whole entries are kept.
 #[test]
 fn cut_logs(rt: HostRuntime) -> Result<(), Fail> {
     for length in 0..37 {
@@ -92,7 +93,7 @@ fn cut_logs(rt: HostRuntime) -> Result<(), Fail> {
     Ok(())
 }
 
-/// How many starts a log of version 2 with these entries has, or none where it is bad.
+/// Returns the number of starts of a log of version 2 with these entries, or `None` if it is bad.
 fn starts_of(alloc: Global, entries: &[u8]) -> Result<Option<u32>, Fail> {
     let mut bytes = Vec::new(alloc);
     bytes.extend_from_slice(&LOG[..9])?;
@@ -103,7 +104,8 @@ fn starts_of(alloc: Global, entries: &[u8]) -> Result<Option<u32>, Fail> {
     }
 }
 
-/// An entry of an unknown tag or out of its ranges makes a log bad, whatever stands before it.
+/// Shows log_decode (bad): an entry of an unknown tag or out of its ranges makes a log bad,
+/// whatever comes before it.
 #[test]
 fn entries_out_of_ranges(rt: HostRuntime) -> Result<(), Fail> {
     // Unknown tags.
@@ -120,7 +122,8 @@ fn entries_out_of_ranges(rt: HostRuntime) -> Result<(), Fail> {
     Ok(())
 }
 
-/// A ballot may be promised again, but none below it may be, nor be voted under.
+/// Shows log_decode (found, bad): a ballot may be promised again. One below it may not be, and may
+/// not be voted under.
 #[test]
 fn entries_below_the_promise(rt: HostRuntime) -> Result<(), Fail> {
     let again = [2, 0, 0, 0, 2, 2, 2, 0, 0, 0, 2, 2, 1];
@@ -132,16 +135,16 @@ fn entries_below_the_promise(rt: HostRuntime) -> Result<(), Fail> {
     Ok(())
 }
 
-/// Of each byte of the log how many of its 255 other values give another record. Those of the place
-/// up to 65,535, of a round of the vote that is not 0, of its nodes 2 and 3, of a key's nodes 1 and
-/// 3, start and serial but 0, and byte. A count of 2 to 32 tells a vote that was cut. A greater
-/// promise than the vote's ballot makes the log bad.
+/// How many of the 255 other values of each byte of the log give another record. These are those of
+/// the place up to 65,535, of a round of the vote that is not 0, of its nodes 2 and 3, of a key's
+/// nodes 1 and 3, start and serial but 0, and byte. A count of 2 to 32 means a vote that was cut. A
+/// promise greater than the vote's ballot makes the log bad.
 const OTHERS: [u32; 38] = [
     0, 0, 0, 0, 0, 0, 0, 0, 0, 0, 0, 0, 0, 0, 0, 0, 0, 0, 0, 255, 255, 255, 255, 255, 254, 2, 0, 2,
     255, 255, 255, 254, 255, 255, 255, 254, 31, 255,
 ];
 
-/// Whether the bytes are another log. Else they have to be none.
+/// Returns true if the bytes are another log. Otherwise they have to be none.
 fn are_another(rt: &impl Abort, alloc: Global, bytes: &[u8]) -> bool {
     match log_decode(alloc, bytes, ME) {
         Ok((record, _)) => {
@@ -155,7 +158,7 @@ fn are_another(rt: &impl Abort, alloc: Global, bytes: &[u8]) -> bool {
     }
 }
 
-/// How many other values of that byte give another record.
+/// Returns how many other values of that byte give another record.
 fn others_at(rt: &impl Abort, alloc: Global, index: usize) -> u32
     requires { index < 38 }
 {
@@ -170,7 +173,7 @@ fn others_at(rt: &impl Abort, alloc: Global, index: usize) -> u32
     others
 }
 
-/// A log with one byte changed has another record or none.
+/// Shows log_decode (found, bad): a log with one byte changed has another record, or is bad.
 #[test]
 fn damaged_logs(rt: HostRuntime) -> Result<(), Fail> {
     for index in 0..LOG.len() {
@@ -185,7 +188,7 @@ fn damaged_logs(rt: HostRuntime) -> Result<(), Fail> {
 
 // ---- files
 
-/// An acceptor whose record is in the file of that path.
+/// Opens an acceptor whose record is in the file at `path`.
 fn in_file(
     rt: &impl Abort,
     files: HostRuntime,
@@ -196,7 +199,7 @@ fn in_file(
     Ok(opened(rt, files.alloc(), FileStore::new(files, path, ME)?))
 }
 
-/// A new file is a log, to which each save appends its entry.
+/// Shows what no clause says: a new file is a log, to which each save appends its entry.
 #[test]
 fn new_file_is_a_log(rt: HostRuntime) -> Result<(), Fail> {
     let path = "log_of_a_test";
@@ -219,8 +222,8 @@ fn new_file_is_a_log(rt: HostRuntime) -> Result<(), Fail> {
     Ok(())
 }
 
-/// A file with the first `length` bytes of the log is opened, and a start is saved: the whole
-/// entries stand before it, and nothing of the one that was cut.
+/// Opens a file with the first `length` bytes of the log, and saves a start. The whole entries
+/// precede it, and nothing of the one that was cut.
 fn goes_on(rt: &impl Abort, files: HostRuntime, path: &str, length: usize) -> Result<(), Fail>
     requires { length ≤ 38 }
 {
@@ -244,6 +247,8 @@ fn goes_on(rt: &impl Abort, files: HostRuntime, path: &str, length: usize) -> Re
     Ok(())
 }
 
+/// Shows what no clause says: after a log that was cut anywhere the next save keeps the whole
+/// entries and appends its own.
 #[test]
 fn cut_files_go_on(rt: HostRuntime) -> Result<(), Fail> {
     let path = "cut_log_of_a_test";
@@ -254,7 +259,7 @@ fn cut_files_go_on(rt: HostRuntime) -> Result<(), Fail> {
     Ok(())
 }
 
-/// What the file has after a start was saved to it that had these bytes.
+/// Returns what a file with these bytes has after a start was saved to it.
 fn after_start(rt: &impl Abort, files: HostRuntime, bytes: &[u8]) -> Result<Vec<u8>, Fail> {
     let path = "whole_record_of_a_test";
     fs::write(&files, path, bytes)?;
@@ -267,8 +272,8 @@ fn after_start(rt: &impl Abort, files: HostRuntime, bytes: &[u8]) -> Result<Vec<
     Ok(read)
 }
 
-/// A file in whole form stays in it, and one of version 1, in either form, becomes a whole record
-/// of version 2.
+/// Shows what no clause says: a file in whole form stays in it. One of version 1, in either form,
+/// becomes a whole record of version 2.
 #[test]
 fn whole_files(rt: HostRuntime) -> Result<(), Fail> {
     let mut expected = BYTES;
@@ -288,8 +293,8 @@ fn whole_files(rt: HostRuntime) -> Result<(), Fail> {
     Ok(())
 }
 
-/// A log that grew or shrank, or is gone, is no more what the store knows: the next save is a fault
-/// of the device, and changes nothing.
+/// Shows what no clause says: a log that grew, shrank or is gone is not what the store knows. The
+/// next save is a fault of the device, and changes nothing.
 #[test]
 fn files_of_other_hands(rt: HostRuntime) -> Result<(), Fail> {
     let path = "changed_log_of_a_test";

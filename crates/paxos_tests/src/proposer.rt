@@ -1,4 +1,4 @@
-//! What a proposer proposes after worked promises, and the next ballots.
+//! What a proposer proposes after given promises, and the next ballots.
 ghost use Rattle.std.specs.Prelude.{◌≡◌, ◌≤◌};
 
 use paxos_msg::{
@@ -15,7 +15,7 @@ const GROUP: Group = Group {
     session: 7,
 };
 
-/// A key of the first start of the node.
+/// Returns a key of the first start of the node.
 fn key(node: u8, serial: u32, byte: u8) -> Value {
     Value::Keys {
         node,
@@ -25,7 +25,7 @@ fn key(node: u8, serial: u32, byte: u8) -> Value {
     }
 }
 
-/// A vote under the ballot `round.node`.
+/// Returns a vote under the ballot `round.node`.
 fn vote(place: u32, round: u32, node: u8, value: Value) -> Vote {
     Vote {
         place,
@@ -49,7 +49,7 @@ impl Drop for Leader {
 }
 
 impl Leader {
-    /// One that has heard nothing.
+    /// Begins one that has heard nothing.
     fn begin(alloc: Global, ballot: Ballot, from: u32) -> Leader
         requires { from ≤ 65535 }
     {
@@ -59,7 +59,7 @@ impl Leader {
     }
 
     /// Hears by a datagram that the node promises the ballot from a place on, and reports the
-    /// votes. No answer where the datagram cannot be written.
+    /// votes. Returns `None` if the datagram cannot be written.
     fn hear(
         &mut self,
         alloc: Global,
@@ -98,8 +98,8 @@ impl Leader {
         self.proposer.proposed(place)
     }
 
-    /// The next place, how far the third node's promise goes, and whether all places are covered up
-    /// to the last and no vote is kept from the third place on.
+    /// Returns the next place, how far the third node's promise goes, and whether it is done: all
+    /// places up to the last are covered, and no vote is kept from the third place on.
     fn state(&self) -> (u32, u32, bool) {
         let is_done = self.proposer.is_covered(65_535) && !self.proposer.is_kept_from(3);
         (
@@ -131,7 +131,7 @@ fn hear_parts(rt: &impl Abort, alloc: Global, leader: &mut Leader) {
     assert_eq!(rt; leader.hear(alloc, 2, 0, &second), Some(Ok(None)));
 }
 
-/// What is proposed after that, at each place.
+/// Returns what is proposed after that, at each place.
 fn proposals() -> [Option<Vote>; 4] {
     [
         Some(vote(0, 3, 3, key(2, 1, 0x41))),
@@ -141,14 +141,14 @@ fn proposals() -> [Option<Vote>; 4] {
     ]
 }
 
-/// Proposes that.
+/// Checks that this is proposed.
 fn propose_all(rt: &impl Abort, leader: &mut Leader) {
     for (place, proposal) in proposals().iter().enumerate() {
         assert_eq!(rt; leader.propose(None), Ok(*proposal), "at {place}");
     }
 }
 
-/// A late part changes nothing that is proposed.
+/// Checks that a late part changes nothing that is proposed.
 fn hear_late(rt: &impl Abort, alloc: Global, leader: &mut Leader) {
     let late = [vote(0, 2, 3, key(3, 1, 0x44))];
     assert_eq!(rt; leader.hear(alloc, 3, 0, &late), Some(Ok(None)));
@@ -158,7 +158,7 @@ fn hear_late(rt: &impl Abort, alloc: Global, leader: &mut Leader) {
     }
 }
 
-/// An offered key is proposed at the next place.
+/// Checks that an offered key is proposed at the next place.
 fn propose_offered(rt: &impl Abort, leader: &mut Leader) {
     let proposed = leader.propose(Some(key(3, 2, 0x45)));
     let expected = vote(3, 3, 3, key(3, 2, 0x45));
@@ -166,6 +166,11 @@ fn propose_offered(rt: &impl Abort, leader: &mut Leader) {
     assert_eq!(rt; leader.state(), (4, 65_536, true));
 }
 
+/// Shows paxos_msg::decode (found), Proposer::begin, Proposer::on_promise (ok, answer),
+/// Proposer::reserve (ok), Proposer::next_accept (ok, answer, sure), Proposer::proposed,
+/// Proposer::next_place (next), Proposer::coverage (coverage), Proposer::is_covered,
+/// Proposer::is_kept_from, Proposer::ballot, Proposer::on_refused: what is proposed after the
+/// promises of two nodes, after a late part, and of an offered key.
 #[test]
 fn worked_promises(rt: HostRuntime) {
     let alloc = rt.alloc();
@@ -179,7 +184,7 @@ fn worked_promises(rt: HostRuntime) {
     leader.drop_ballot();
 }
 
-/// The ballot after one of round 4, and after the greatest round.
+/// Checks the ballot after one of round 4, and after the greatest round.
 fn next_ballots(rt: &impl Abort) {
     let low = Ballot { round: 1, node: 1 };
     let seen = Ballot { round: 4, node: 2 };
@@ -193,7 +198,7 @@ fn next_ballots(rt: &impl Abort) {
     assert_eq!(rt; spent, Err(ProposerFault::RoundsSpent));
 }
 
-/// At the last place one value is proposed, and none after it.
+/// Checks that at the last place one value is proposed, and none after it.
 fn propose_last(rt: &impl Abort, leader: &mut Leader) {
     let proposed = leader.propose(Some(key(1, 1, 0x41)));
     let expected = vote(65_535, 5, 3, key(1, 1, 0x41));
@@ -203,6 +208,8 @@ fn propose_last(rt: &impl Abort, leader: &mut Leader) {
     assert_eq!(rt; leader.propose(None), Ok(None));
 }
 
+/// Shows rounds::next_ballot (ok, spent), Proposer::next_accept (answer, spent): the next ballots,
+/// and a proposal at the last place. No clause says the texts of the faults.
 #[test]
 fn promise_bytes_and_parts(rt: HostRuntime) -> Result<(), Fail> {
     next_ballots(&rt);

@@ -24,7 +24,7 @@ pub const BYTES_V1: [u8; 42] = [
     0x02, 0x00, 0x00, 0x00, 0x01, 0x00, 0x00, 0x00, 0x01, 0x48,
 ];
 
-/// Whether it is the record of those bytes.
+/// Returns true if it is the record of those bytes.
 pub fn is_of_bytes(record: &Record) -> bool {
     let vote = Vote {
         place: 0,
@@ -41,12 +41,13 @@ pub fn is_of_bytes(record: &Record) -> bool {
         && record.votes.as_slice() == [vote].as_slice()
 }
 
-/// Whether the bytes are no record.
+/// Returns true if the bytes are no record.
 fn are_none(alloc: Global, bytes: &[u8]) -> bool {
     record_decode(alloc, bytes, ME).err() == Some(StoreFault::Bad)
 }
 
-/// A record has one spelling, and other bytes are of none.
+/// Shows record_decode (found, only, bad), record_encode (ok), Acceptor::new_start (spent): a
+/// record has one spelling. Other bytes are none, and after 4,294,967,295 starts there is no other.
 #[test]
 fn record_bytes(rt: HostRuntime) -> Result<(), Fail> {
     let record = record_decode(rt.alloc(), BYTES.as_slice(), ME)?;
@@ -64,7 +65,7 @@ fn record_bytes(rt: HostRuntime) -> Result<(), Fail> {
     spent_starts(&rt, rt.alloc())
 }
 
-/// 4,294,967,295 starts are a record, and there is none after them.
+/// Checks that 4,294,967,295 starts are a record, and that no start follows them.
 fn spent_starts(rt: &impl Abort, alloc: Global) -> Result<(), Fail> {
     let mut spent = BYTES;
     spent[9] = 0xFF;
@@ -77,8 +78,9 @@ fn spent_starts(rt: &impl Abort, alloc: Global) -> Result<(), Fail> {
     Ok(())
 }
 
-/// A record of version 1 is read as one whose votes are for batches of one key, and written in
-/// version 2. Neither version is read as the other.
+/// Shows record_migrate (found, only, bad), record_decode (bad), record_encode (ok): a record of
+/// version 1 is read with batches of one key, and written in version 2. Neither version is read as
+/// the other.
 #[test]
 fn record_of_version_1(rt: HostRuntime) -> Result<(), Fail> {
     let record = record_migrate(rt.alloc(), BYTES_V1.as_slice(), ME)?;
@@ -93,15 +95,15 @@ fn record_of_version_1(rt: HostRuntime) -> Result<(), Fail> {
     Ok(())
 }
 
-/// Of each byte of that record how many of its 255 other values give another record: those of the
-/// starts, of a round of the promise that is not 0, of its nodes 2 and 3, of a place below 65,536,
-/// and of a key's nodes 1 and 3, start and serial but 0, and byte.
+/// How many of the 255 other values of each byte of that record give another record. These are
+/// those of the starts, of a round of the promise that is not 0, of its nodes 2 and 3, of a place
+/// below 65,536, and of a key's nodes 1 and 3, start and serial but 0, and byte.
 const OTHERS: [u32; 42] = [
     0, 0, 0, 0, 0, 0, 0, 0, 0, 255, 255, 255, 255, 255, 255, 255, 254, 2, 0, 0, 0, 0, 0, 0, 255,
     255, 0, 0, 0, 0, 0, 0, 2, 255, 255, 255, 254, 255, 255, 255, 254, 255,
 ];
 
-/// Whether the bytes are another record of version 1. Else they have to be none.
+/// Returns true if the bytes are another record of version 1. Otherwise they have to be none.
 fn are_another(rt: &impl Abort, alloc: Global, bytes: &[u8]) -> bool {
     match record_migrate(alloc, bytes, ME) {
         Ok(record) => {
@@ -115,7 +117,7 @@ fn are_another(rt: &impl Abort, alloc: Global, bytes: &[u8]) -> bool {
     }
 }
 
-/// How many other values of that byte give another record.
+/// Returns how many other values of that byte give another record.
 fn others_at(rt: &impl Abort, alloc: Global, index: usize) -> u32
     requires { index < 42 }
 {
@@ -130,8 +132,8 @@ fn others_at(rt: &impl Abort, alloc: Global, index: usize) -> u32
     others
 }
 
-/// A record of version 1 that was cut is none, and with one byte changed it is another record or
-/// none.
+/// Shows record_migrate (found, bad): a record of version 1 that was cut is none, and with one byte
+/// changed it is another record or none.
 #[test]
 fn damaged_record_of_version_1(rt: HostRuntime) -> Result<(), Fail> {
     for length in 0..BYTES_V1.len() {

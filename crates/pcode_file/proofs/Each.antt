@@ -1,4 +1,4 @@
--- What is answered for each procedure.
+-- The results for each procedure.
 use Rattle.std.proofs.Common.{◌≡◌, ℕ, zero, suc, ◌+◌, List, [], ◌∷◌, length, Some, Result, Ok, slice_get, refl, ◌∙◌, ap, subst, arith}
 use Rattle.base.proofs.Steps.{bind_ok}
 use Rattle.pcode_file.specs.declared.fault.FileFault.{FileFault}

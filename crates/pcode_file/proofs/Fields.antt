@@ -1,4 +1,4 @@
--- One procedure: what is read is there, and what is there is read.
+-- One procedure: what is read is in the bytes, and what is in them is read.
 use Rattle.std.proofs.Common.{◌≡◌, ◌≢◌, ℕ, ◌+◌, ◌-◌, ◌*◌, ◌/◌, ◌%◌, ◌<◌, ◌≤◌, inl, inr, Bool, true, false, cond, ◌&&◌, eqb, ltb, leb, List, length, Option, Some, None, Ok, slice_index, refl, ap, subst, arith}
 use Rattle.std.proofs.lemmas.Bool.Decides.{nat_tests}
 use Rattle.std.proofs.lemmas.Bool.{or_parts, not-false, ltb-false, le-ltb, eqb-true, eq-eqb, leb-false}

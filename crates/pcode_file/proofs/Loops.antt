@@ -5,9 +5,9 @@ use Rattle.std.specs.Result.{IsOk}
 use Rattle.base.specs.Steps.{◌>>=◌}
 use Rattle.pcode_file.specs.declared.fault.FileFault.{FileFault}
 use Rattle.pcode_file.specs.Parts.{word}
-use Rattle.pcode_file.specs.Checks.{used_from, table_of, behind_table, low_from, first_of, all_of}
+use Rattle.pcode_file.specs.Checks.{used_from, table_of, past_table, low_from, first_of, all_of}
 
--- an entry that is not in use is passed over
+-- an entry that is not in use is ignored
 pub used_next : (bytes : List ℕ) (k n : ℕ) (total : Option ℕ) → k < n → word bytes (4 * k + 2) ≡ 0
     → used_from bytes k (n - k) ≡ total → used_from bytes (k + 1) (n - (k + 1)) ≡ total
 unfolding used_from
@@ -16,7 +16,7 @@ used_next bytes k n total lt e h =
     let one : used_from bytes k (n - k) ≡ used_from bytes (k + 1) (n - (k + 1)) = rw (more, e) refl in
     sym one ∙ h
 
--- what procedure k + 1 and those behind it answer decides
+-- what procedure k + 1 and those after it answer decides
 abbrev pub Decides : {A : Type 0} → (ℕ → Result A FileFault) → ℕ → ℕ → Type 0
 Decides f k n = first_of f (k + 1) (n - k) ≡ first_of f 1 n
 
@@ -51,12 +51,12 @@ first_done f k n le h =
 -- one more table is looked at
 pub low_next : (segment : List ℕ) (at low k n total : ℕ) → k < n
     → max low (low_from segment at (k + 1) (n - k)) ≡ total
-    → max (max low (behind_table (table_of segment (k + 1)) at)) (low_from segment at (k + 1 + 1) (n - (k + 1)))
+    → max (max low (past_table (table_of segment (k + 1)) at)) (low_from segment at (k + 1 + 1) (n - (k + 1)))
     ≡ total
 low_next segment at low k n total lt h =
     let more : n - k ≡ suc (n - (k + 1)) = omega arith in
     let one : low_from segment at (k + 1) (n - k)
-    ≡ max (behind_table (table_of segment (k + 1)) at) (low_from segment at (k + 1 + 1) (n - (k + 1))) =
+    ≡ max (past_table (table_of segment (k + 1)) at) (low_from segment at (k + 1 + 1) (n - (k + 1))) =
     rw more refl in
     omega (arith, one)
 

@@ -1,15 +1,15 @@
--- Where a procedure's part begins: two above the greatest table below its own, or at 0.
+-- The place at which a procedure's part begins: two above the greatest table below its own, or 0.
 use Rattle.std.proofs.Common.{◌≡◌, ℕ, zero, suc, ◌+◌, ◌<◌, ◌≤◌, max, ◌⊎◌, inl, inr, Bool, true, false, cond, ltb, List, [], ◌∷◌, length, Some, slice_get, refl, subst, arith}
 use Rattle.std.proofs.lemmas.Bool.{ltb-false, ltb-true, cases_lt}
 use Rattle.pcode_file.specs.declared.file.Proc.{Proc}
-use Rattle.pcode_file.specs.Checks.{table_of, behind_table, low_from}
+use Rattle.pcode_file.specs.Checks.{table_of, past_table, low_from}
 use Rattle.pcode_file.specs.InFile.{BeginsAt}
 
 -- the dictionary's pointers from i on lead to the procedures' tables
 abbrev pub Leads : List ℕ → ℕ → List Proc → Type 0
 Leads segment i procs = (k : ℕ) (q : Proc) → slice_get procs k ≡ Some q → table_of segment (i + k) ≡ q.jtab
 
--- nothing stands below, or a procedure's table is the greatest below
+-- nothing is below, or a procedure's table is the greatest below
 abbrev IsFirst : List Proc → ℕ → ℕ → Type 0
 IsFirst procs at low = (low ≡ 0) ⊎ ((k : ℕ) × (q : Proc) × (slice_get procs k ≡ Some q) × (q.jtab < at) × (low ≡ q.jtab + 2))
 
@@ -50,7 +50,7 @@ cons_by q procs at low false e h =
     })
 
 begins_cons : (q : Proc) (procs : List Proc) (t at low : ℕ) → t ≡ q.jtab → BeginsAt procs at low
-    → BeginsAt (q ∷ procs) at (max (behind_table t at) low)
+    → BeginsAt (q ∷ procs) at (max (past_table t at) low)
 begins_cons q procs t at low e h = rw e (cons_by q procs at low (ltb q.jtab at) refl h)
 
 -- what the dictionary says of where a part begins is so

@@ -9,7 +9,7 @@ part_by : (segment : List ℕ) (procs : List Proc) (k : ℕ) (o : Option Proc) �
 part_by segment procs k None h e = tt
 part_by segment procs k (Some q) h e = let same : 1 + k ≡ suc k = omega arith in rw same at (h.each k q e)
 
--- what stands at a number is that procedure
+-- what is at a number is that procedure
 pub procedure_part : (segment : List ℕ) (procs : List Proc) (i : ℕ) → AreProcs segment procs
     → IfSome (procedure_of procs i) (HasProc segment (length procs) i)
 procedure_part segment procs zero h = tt

@@ -1,4 +1,4 @@
--- The segment of a file, and how many procedures it has.
+-- The segment of a file, and the number of its procedures.
 use Rattle.std.proofs.Common.{◌≡◌, ℕ, ◌+◌, ◌-◌, ◌*◌, ◌%◌, ◌<◌, ◌≤◌, true, false, cond, ◌||◌, eqb, ltb, List, length, Ok, Err, slice_index, slice_range, refl, sym, subst, arith}
 use Rattle.std.proofs.lemmas.Bool.{or_parts, ltb-false, le-ltb, eqb-true, eq-eqb}
 use Rattle.base.proofs.Steps.{guard_ok, pass_ok, bind_ok, last_ok}

@@ -1,4 +1,4 @@
--- The whole file: what is read is there, and what is there is read.
+-- The whole file: what is read is in the bytes, and what is in them is read.
 use Rattle.std.proofs.Common.{◌≡◌, ℕ, ◌+◌, ◌-◌, ◌*◌, ◌<◌, ◌≤◌, ◌^◌, List, length, Some, Result, Ok, Err, IfOk, slice_get, slice_index, refl, sym, ◌∙◌, subst, arith}
 use Rattle.std.specs.Result.{IsOk}
 use Rattle.base.proofs.Steps.{bind_ok}

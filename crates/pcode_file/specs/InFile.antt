@@ -1,13 +1,15 @@
--- A whole code file and its parts, by facts and without an order of checks.
+-- A whole code file and its parts, as facts without an order of checks.
 use Rattle.std.specs.Prelude.{◌≡◌, ◌≢◌, ℕ, ◌+◌, ◌-◌, ◌*◌, ◌%◌, ◌<◌, ◌≤◌, ◌^◌, ◌⊎◌, List, length, Some, slice_get, slice_index, slice_range}
+use Rattle.pcode_file.specs.declared.layout.TheConstants.{BLOCK_BYTES, ENTRIES, LAST_LEVEL}
 use Rattle.pcode_file.specs.declared.file.Proc.{Proc}
 use Rattle.pcode_file.specs.Parts.{Parts, word, end_of, name_at}
 
--- the lex level of procedure i: 0 for procedure 1, and 1 to 127 for another
+-- The lex level of procedure `i`: 0 for procedure 1, and 1 to 127 for another.
 abbrev pub IsLevel : ℕ → ℕ → Type 0
-IsLevel i level = ((i ≡ 1) × (level ≡ 0)) ⊎ ((i ≢ 1) × (0 < level) × (level ≤ 127))
+IsLevel i level = ((i ≡ 1) × (level ≡ 0)) ⊎ ((i ≢ 1) × (0 < level) × (level ≤ LAST_LEVEL))
 
--- procedure i of n has its attribute table at t
+-- The facts of procedure `i` of `n` whose attribute table is at `t`.
+-- Source: Manual, attribute tables.
 pub record HasTable (segment : List ℕ) (n i t : ℕ) : Type 0 where
   pub pointer : t + word segment (length segment - 2 - 2 * i) ≡ length segment - 2 - 2 * i
   pub even : t % 2 ≡ 0
@@ -19,20 +21,23 @@ pub record HasTable (segment : List ℕ) (n i t : ℕ) : Type 0 where
   pub params : word segment (t - 6) % 2 ≡ 0
   pub vars : word segment (t - 8) % 2 ≡ 0
 
--- the self-relative pointer at a place leads to x, which lies from low up to end
+-- The self-relative pointer at a place, which leads to `x`, from `low` up to `end`.
+-- Source: Manual, attribute tables.
 pub record Points (segment : List ℕ) (place low end x : ℕ) : Type 0 where
   pub leads : x + word segment place ≡ place
   pub above : low ≤ x
   pub below : x < end
 
--- a procedure's part begins behind the greatest table below its own, or at 0
+-- The place at which a procedure's part begins: after the greatest table below its own, or at 0.
+-- Source: Manual, attribute tables.
 pub record BeginsAt (procs : List Proc) (table low : ℕ) : Type 0 where
   pub behind : (k : ℕ) (q : Proc) → slice_get procs k ≡ Some q → q.jtab < table → q.jtab + 2 ≤ low
   pub first : (low ≡ 0)
       ⊎ ((k : ℕ) × (q : Proc) × (slice_get procs k ≡ Some q) × (q.jtab < table)
       × (low ≡ q.jtab + 2))
 
--- procedure i of n is q, whose part begins where q says
+-- The facts of procedure `i` of `n`, which is `q` and whose part begins where `q` says.
+-- Source: Manual, attribute tables.
 pub record HasProc (segment : List ℕ) (n i : ℕ) (q : Proc) : Type 0 where
   pub table : HasTable segment n i q.jtab
   pub number : q.number ≡ i
@@ -43,7 +48,8 @@ pub record HasProc (segment : List ℕ) (n i : ℕ) (q : Proc) : Type 0 where
   pub enter : Points segment (q.jtab - 2) q.low (end_of q) q.enter
   pub exit : Points segment (q.jtab - 4) q.low (end_of q) q.exit
 
--- the procedures of a segment
+-- The procedures of a segment, all of them, in the order of their numbers.
+-- Source: Manual, attribute tables.
 pub record AreProcs (segment : List ℕ) (procs : List Proc) : Type 0 where
   pub some : 0 < length procs
   pub dictionary : 2 + 2 * length procs ≤ length segment
@@ -51,33 +57,38 @@ pub record AreProcs (segment : List ℕ) (procs : List Proc) : Type 0 where
       → HasProc segment (length procs) (1 + k) q
   pub lows : (k : ℕ) (q : Proc) → slice_get procs k ≡ Some q → BeginsAt procs q.jtab q.low
 
--- entry k of block 0 is the only one in use
+-- The only entry of block 0 in use: `k`.
+-- Source: Manual, code files.
 pub record IsOnlyEntry (bytes : List ℕ) (k : ℕ) : Type 0 where
-  pub within : k < 16
+  pub within : k < ENTRIES
   pub used : 0 < word bytes (4 * k + 2)
-  pub others : (j : ℕ) → j < 16 → j ≢ k → word bytes (4 * j + 2) ≡ 0
+  pub others : (j : ℕ) → j < ENTRIES → j ≢ k → word bytes (4 * j + 2) ≡ 0
 
--- the file's entry k holds the parts
+-- The facts of a file whose entry `k` has the parts.
+-- Source: Manual, code files.
 pub record InEntry (bytes : List ℕ) (k : ℕ) (p : Parts) : Type 0 where
-  pub long : 512 ≤ length bytes
+  pub long : BLOCK_BYTES ≤ length bytes
   pub only : IsOnlyEntry bytes k
   pub linked : word bytes (192 + 2 * k) ≡ 0
   pub start : 0 < word bytes (4 * k)
-  pub ends : 512 * word bytes (4 * k) + word bytes (4 * k + 2) ≤ length bytes
+  pub ends : BLOCK_BYTES * word bytes (4 * k) + word bytes (4 * k + 2) ≤ length bytes
   pub even : word bytes (4 * k + 2) % 2 ≡ 0
   pub name : p.name ≡ name_at bytes k
   pub segment : p.segment
-      ≡ slice_range bytes (512 * word bytes (4 * k))
-      (512 * word bytes (4 * k) + word bytes (4 * k + 2))
+      ≡ slice_range bytes (BLOCK_BYTES * word bytes (4 * k))
+      (BLOCK_BYTES * word bytes (4 * k) + word bytes (4 * k + 2))
   pub number : p.number ≡ slice_index p.segment (length p.segment - 2)
   pub count : length p.procs ≡ slice_index p.segment (length p.segment - 1)
   pub procs : AreProcs p.segment p.procs
 
--- the bytes are a code file with these parts
+-- The bytes of a code file with these parts.
+-- They are facts, in no order of checks.
+-- Allows: any number of procedures.
+-- Source: Manual, code files and attribute tables.
 abbrev pub InFile : List ℕ → Parts → Type 0
 InFile bytes p = (k : ℕ) × InEntry bytes k p
 
--- what is true of the parts of every code file that was read
+-- The invariant of the parts of each code file that was read.
 pub record IsWhole (p : Parts) : Type 0 where
   pub size : length p.segment < 2 ^ 16
   pub few : length p.procs < 256

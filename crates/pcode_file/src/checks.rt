@@ -1,23 +1,25 @@
-//! The checks of a code file, in their order. None of them takes memory.
+//! The checks of a code file, in their order. None of them allocates.
 //!
 //! Block 0 is the file's first 512 bytes and has 16 entries. Of entry `k` the word at `4 * k` is
 //! the block at which the segment begins, the word at `4 * k + 2` the segment's length in bytes,
 //! and the word at `192 + 2 * k` its kind.
 //!
 //! The segment's last word has its number in the low byte and the count of its procedures in the
-//! high byte. The pointer of procedure `i` stands `2 * i` bytes below that word, and says how far
-//! below itself the procedure's attribute table stands. The table's highest word has the
-//! procedure's number and lex level; below it stand the pointers to the first instruction and to
-//! the code that leaves, and the sizes of the parameters and of the data in bytes.
+//! high byte. The pointer of procedure `i` lies `2 * i` bytes below that word. It says how far
+//! below itself the procedure's attribute table lies. The table's highest word has the procedure's
+//! number and lex level. Below it lie the pointers to the first instruction and to the code that
+//! leaves, and the sizes of the parameters and of the data in bytes.
 ghost use Rattle.std.specs.Prelude.{◌≡◌, ℕ, ◌+◌, ◌*◌, ◌-◌, ◌^◌, ◌<◌, ◌≤◌, length, IfOk, IfSome, slice_range, Some};
+ghost use Rattle.pcode_file.specs.declared.layout.TheConstants.{BLOCK_BYTES, ENTRIES};
 ghost use Rattle.pcode_file.specs.Parts.{word};
-ghost use Rattle.pcode_file.specs.Checks.{seen, used_from, entry_of, segment_of, procedure_count, table_of, table_at, behind_table, low_of, pointer_of, proc_at, first_of};
+ghost use Rattle.pcode_file.specs.Checks.{seen, used_from, entry_of, segment_of, procedure_count, table_of, table_at, past_table, low_of, pointer_of, proc_at, first_of};
 
 use crate::fault::FileFault;
 use crate::file::Proc;
+use crate::layout::{BLOCK_BYTES, ENTRIES, LAST_LEVEL};
 use byteorder::{ByteOrder, LittleEndian};
 
-/// The word of 16 bits at a place, its low byte first.
+/// Returns the word of 16 bits at `at`, its low byte first.
 fn word_at(bytes: &[u8], at: usize) -> u16
     requires { at + 1 < length bytes.now }
     ensures { result ≡ word bytes.now at }
@@ -25,16 +27,16 @@ fn word_at(bytes: &[u8], at: usize) -> u16
     LittleEndian::read_u16(&bytes[at..])
 }
 
-/// The first entry of block 0 that is in use, from entry `from` on. An entry is in use if it has a
-/// length.
+/// Returns the first entry of block 0 that is in use, from entry `from` on. An entry is in use if
+/// it has a length.
 #[tactic(auto, unfolding(crate::specs::Checks::used_from))]
-fn find_used(bytes: &[u8], from: usize) -> Option<usize>
-    requires long { 512 ≤ length bytes.now }
-    requires from { from ≤ 16 }
-    ensures value { result ≡ used_from bytes.now from (16 - from) }
-    ensures within { IfSome result (λ k. (k < 16) × (0 < word bytes.now (4 * k + 2))) }
+fn used_from(bytes: &[u8], from: usize) -> Option<usize>
+    requires long { BLOCK_BYTES ≤ length bytes.now }
+    requires from { from ≤ ENTRIES }
+    ensures value { result ≡ used_from bytes.now from (ENTRIES - from) }
+    ensures within { IfSome result (λ k. (k < ENTRIES) × (0 < word bytes.now (4 * k + 2))) }
 {
-    for k in from..16 {
+    for k in from..ENTRIES {
         if word_at(bytes, 4 * k + 2) != 0 {
             return Some(k);
         }
@@ -42,23 +44,24 @@ fn find_used(bytes: &[u8], from: usize) -> Option<usize>
     None
 }
 
-/// The one entry of block 0 that is in use.
+/// Returns the one entry of block 0 that is in use. Fails with `NoSegment` if there is none, and
+/// with `SeveralSegments` if there are more.
 #[tactic(auto, unfolding(crate::specs::Checks::entry_of))]
 fn entry(bytes: &[u8]) -> Result<usize, FileFault>
-    requires { 512 ≤ length bytes.now }
+    requires { BLOCK_BYTES ≤ length bytes.now }
     ensures value { result ≡ entry_of bytes.now }
-    ensures within { IfOk result (λ k. (k < 16) × (0 < word bytes.now (4 * k + 2))) }
+    ensures within { IfOk result (λ k. (k < ENTRIES) × (0 < word bytes.now (4 * k + 2))) }
 {
-    match find_used(bytes, 0) {
+    match used_from(bytes, 0) {
         None => Err(FileFault::NoSegment),
-        Some(k) => match find_used(bytes, k + 1) {
+        Some(k) => match used_from(bytes, k + 1) {
             None => Ok(k),
             Some(_) => Err(FileFault::SeveralSegments),
         },
     }
 }
 
-/// A number of bytes from a place on.
+/// Returns the `len` bytes from `start` on.
 fn cut(bytes: &[u8], start: usize, len: usize) -> &[u8]
     requires { start + len ≤ length bytes.now }
     ensures value { result.now ≡ slice_range bytes.now start (start + len) }
@@ -67,22 +70,23 @@ fn cut(bytes: &[u8], start: usize, len: usize) -> &[u8]
     &bytes[start..start + len]
 }
 
-/// The entry in use and the segment's bytes.
+/// Returns the entry in use and the segment's bytes, or the first of checks F1 to F5 that fails.
+/// F10 comes last, if the length is odd.
 #[tactic(auto, unfolding(crate::specs::Checks::segment_of))]
 pub(crate) fn segment(bytes: &[u8]) -> Result<(usize, &[u8]), FileFault>
     ensures value { seen (λ x. (x.0, x.1.now)) result ≡ segment_of bytes.now }
     ensures within { IfOk result
-        (λ x. (x.0 < 16) × (2 ≤ length x.1.now) × (length x.1.now < 2 ^ 16)
-        × (512 ≤ length bytes.now)) }
+        (λ x. (x.0 < ENTRIES) × (2 ≤ length x.1.now) × (length x.1.now < 2 ^ 16)
+        × (BLOCK_BYTES ≤ length bytes.now)) }
 {
-    if bytes.len() < 512 {
+    if bytes.len() < BLOCK_BYTES {
         return Err(FileFault::Short);
     }
     let k = entry(bytes)?;
     if word_at(bytes, 192 + 2 * k) != 0 {
         return Err(FileFault::Unlinked);
     }
-    let start = 512 * usize::from(word_at(bytes, 4 * k));
+    let start = BLOCK_BYTES * usize::from(word_at(bytes, 4 * k));
     let len = usize::from(word_at(bytes, 4 * k + 2));
     if start == 0 || bytes.len() < start + len {
         return Err(FileFault::SegmentRange);
@@ -93,7 +97,8 @@ pub(crate) fn segment(bytes: &[u8]) -> Result<(usize, &[u8]), FileFault>
     Ok((k, cut(bytes, start, len)))
 }
 
-/// How many procedures the segment has.
+/// Returns the number of procedures that the segment has. Fails with `DictionaryRange` if it is 0
+/// or the dictionary is longer than the segment.
 pub(crate) fn count(segment: &[u8]) -> Result<u8, FileFault>
     requires { 2 ≤ length segment.now }
     ensures value { result ≡ procedure_count segment.now }
@@ -106,8 +111,8 @@ pub(crate) fn count(segment: &[u8]) -> Result<u8, FileFault>
     Ok(n)
 }
 
-/// Where the dictionary's pointer says that the attribute table of procedure `i` stands; 0 where it
-/// leads below the segment, since no table can stand there.
+/// Returns the place of procedure `i`'s attribute table, by its pointer in the dictionary; 0 if
+/// that leads below the segment, where no table can lie.
 fn table(segment: &[u8], i: u8) -> usize
     requires { 2 + 2 * i ≤ length segment.now }
     ensures { result ≡ table_of segment.now i }
@@ -116,9 +121,9 @@ fn table(segment: &[u8], i: u8) -> usize
     place.saturating_sub(usize::from(word_at(segment, place)))
 }
 
-/// The check of the attribute table of procedure `i` of `n`, which answers the table's place.
+/// Checks the attribute table of procedure `i` of `n`. Returns the table's place.
 #[tactic(auto, unfolding(crate::specs::Checks::table_at))]
-fn checked_table(segment: &[u8], n: u8, i: u8) -> Result<usize, FileFault>
+fn table_at(segment: &[u8], n: u8, i: u8) -> Result<usize, FileFault>
     requires dictionary { 2 + 2 * n ≤ length segment.now }
     requires i { i ≤ n }
     ensures value { result ≡ table_at segment.now n i }
@@ -139,7 +144,7 @@ fn checked_table(segment: &[u8], n: u8, i: u8) -> Result<usize, FileFault>
         if level != 0 {
             return Err(FileFault::Level(i));
         }
-    } else if level == 0 || level > 127 {
+    } else if level == 0 || level > LAST_LEVEL {
         return Err(FileFault::Level(i));
     }
     if word_at(segment, at - 6) % 2 != 0 || word_at(segment, at - 8) % 2 != 0 {
@@ -148,17 +153,17 @@ fn checked_table(segment: &[u8], n: u8, i: u8) -> Result<usize, FileFault>
     Ok(at)
 }
 
-/// The place behind a table, if the table stands below a place, and otherwise 0.
-fn behind(table: usize, at: usize) -> usize
+/// Returns the place after `table`, if the table lies below `at`, and 0 otherwise.
+fn past_table(table: usize, at: usize) -> usize
     requires { at < 2 ^ 16 }
-    ensures value { result ≡ behind_table table at }
+    ensures value { result ≡ past_table table at }
     ensures within { result ≤ at + 1 }
 {
     if table < at { table + 2 } else { 0 }
 }
 
-/// Where the part of the procedure with a table begins: behind the next table below, or at 0. It
-/// goes over the dictionary again, so that no list of tables is kept.
+/// Returns the place at which the part of the procedure with its table at `at` begins: after the
+/// next table below, or at 0. It reads the dictionary again, so that no list of tables is kept.
 fn low(segment: &[u8], n: u8, at: usize) -> usize
     requires dictionary { 2 + 2 * n ≤ length segment.now }
     requires at { at < 2 ^ 16 }
@@ -167,12 +172,13 @@ fn low(segment: &[u8], n: u8, at: usize) -> usize
 {
     let mut low = 0;
     for k in 0..n {
-        low = low.max(behind(table(segment, k + 1), at));
+        low = low.max(past_table(table(segment, k + 1), at));
     }
     low
 }
 
-/// What the self-relative pointer at a place leads to, if that lies from `low` up to `end`.
+/// Returns the place to which the self-relative pointer at `place` leads, if that lies from `low`
+/// up to `end`.
 fn pointer(segment: &[u8], place: usize, low: usize, end: usize) -> Option<usize>
     requires { place + 1 < length segment.now }
     ensures value { result ≡ pointer_of segment.now place low end }
@@ -191,15 +197,15 @@ fn pointer(segment: &[u8], place: usize, low: usize, end: usize) -> Option<usize
     Some(place - back)
 }
 
-/// The check of procedure `i` of `n`, its table and its part, which answers the procedure.
+/// Checks procedure `i` of `n`, its table and its part. Returns the procedure.
 #[tactic(auto, unfolding(crate::specs::Checks::proc_at))]
-pub(crate) fn procedure(segment: &[u8], n: u8, i: u8) -> Result<Proc, FileFault>
+pub(crate) fn proc_at(segment: &[u8], n: u8, i: u8) -> Result<Proc, FileFault>
     requires dictionary { 2 + 2 * n ≤ length segment.now }
     requires size { length segment.now < 2 ^ 16 }
     requires i { i ≤ n }
     ensures { result ≡ proc_at segment.now n i }
 {
-    let at = checked_table(segment, n, i)?;
+    let at = table_at(segment, n, i)?;
     let low = low(segment, n, at);
     if at - 8 < low {
         return Err(FileFault::AttributeRange(i));
@@ -218,26 +224,26 @@ pub(crate) fn procedure(segment: &[u8], n: u8, i: u8) -> Result<Proc, FileFault>
     })
 }
 
-/// The check of the attribute tables of all procedures.
+/// Checks the attribute tables of all procedures.
 pub(crate) fn check_tables(segment: &[u8], n: u8) -> Result<(), FileFault>
     requires { 2 + 2 * n ≤ length segment.now }
     ensures { result ≡ first_of (table_at segment.now n) 1 n }
 {
     for k in 0..n {
-        checked_table(segment, n, k + 1)?;
+        table_at(segment, n, k + 1)?;
     }
     Ok(())
 }
 
-/// The check of the parts of all procedures. The procedures are not kept, so that a fault is found
-/// before memory is taken.
+/// Checks the parts of all procedures. It keeps none, so that a fault is found before memory is
+/// allocated.
 pub(crate) fn check_procedures(segment: &[u8], n: u8) -> Result<(), FileFault>
     requires dictionary { 2 + 2 * n ≤ length segment.now }
     requires size { length segment.now < 2 ^ 16 }
     ensures { result ≡ first_of (proc_at segment.now n) 1 n }
 {
     for k in 0..n {
-        procedure(segment, n, k + 1)?;
+        proc_at(segment, n, k + 1)?;
     }
     Ok(())
 }

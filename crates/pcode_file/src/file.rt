@@ -1,10 +1,11 @@
-//! Code files and procedures.
+//! Code files and their procedures.
 ghost use Rattle.std.specs.Prelude.{◌≡◌, ℕ, ◌<◌, ◌≤◌, ◌+◌, ◌*◌, ◌^◌, [], length, vec_len, vec_capacity, IfOk, IfSome, MatchResult, Ok, Err};
+ghost use Rattle.pcode_file.specs.declared.layout.TheConstants.{BLOCK_BYTES, ENTRIES};
 ghost use Rattle.pcode_file.specs.InFile.{InFile, HasProc, AreProcs};
 ghost use Rattle.pcode_file.specs.Parts.{Parts, procedure_of, name_at};
 ghost use Rattle.pcode_file.specs.Checks.{GivesUnlessMemory, IsChecked, all_of, proc_at, first_of, read_from};
 
-use crate::checks::{check_procedures, check_tables, count, procedure, segment};
+use crate::checks::{check_procedures, check_tables, count, proc_at, segment};
 use crate::fault::FileFault;
 use std::alloc::{AllocError, Global};
 use std::marker::Model;
@@ -20,7 +21,7 @@ pub struct Proc {
     pub enter: u32,
     /// The offset of the code that leaves it.
     pub exit: u32,
-    /// The offset of its attribute table's highest word. The part ends 8 bytes below.
+    /// The offset of its attribute table's highest word. Its part ends 8 bytes below.
     pub jtab: u32,
     /// The offset at which its part begins.
     pub low: u32,
@@ -72,8 +73,8 @@ impl Model for CodeFile {
         }) };
 }
 
-/// The procedure with a number from 1 on.
-fn numbered(procs: &[Proc], i: u8) -> Option<Proc>
+/// Returns the procedure of number `i`, from 1 on.
+fn procedure_of(procs: &[Proc], i: u8) -> Option<Proc>
     ensures { result ≡ procedure_of procs.now i }
 {
     if i == 0 {
@@ -82,8 +83,8 @@ fn numbered(procs: &[Proc], i: u8) -> Option<Proc>
     procs.get(usize::from(i) - 1).copied()
 }
 
-/// Room for so many procedures and so many bytes. Here alone a file that is read takes memory, and
-/// by these two numbers alone.
+/// Makes room for `procs` procedures and `bytes` bytes. A file that is read allocates here alone,
+/// and by these two numbers alone.
 fn room(alloc: Global, procs: usize, bytes: usize) -> Result<(Vec<Proc>, Vec<u8>), AllocError>
     ensures procs { IfOk result
         (λ r. (vec_len r.0 ≡ 0) × (r.0.items ≡ []) × (procs ≤ vec_capacity r.0)) }
@@ -96,8 +97,7 @@ fn room(alloc: Global, procs: usize, bytes: usize) -> Result<(Vec<Proc>, Vec<u8>
     ))
 }
 
-/// The procedures of a segment that passed the checks, in the order of their numbers, in room for
-/// them.
+/// Returns the procedures of a segment that passed the checks, in the order of their numbers.
 fn collected(room: Vec<Proc>, segment: &[u8], n: u8) -> Vec<Proc>
     requires empty { (vec_len room ≡ 0) × (room.items ≡ []) }
     requires room { n ≤ vec_capacity room }
@@ -108,7 +108,7 @@ fn collected(room: Vec<Proc>, segment: &[u8], n: u8) -> Vec<Proc>
 {
     let mut procs = room;
     for k in 0..n {
-        let Ok(found) = procedure(segment, n, k + 1) else {
+        let Ok(found) = proc_at(segment, n, k + 1) else {
             unreachable!()
         };
         procs.push(found).unwrap();
@@ -116,7 +116,7 @@ fn collected(room: Vec<Proc>, segment: &[u8], n: u8) -> Vec<Proc>
     procs
 }
 
-/// A copy of a segment's bytes, in room for them.
+/// Returns a copy of a segment's bytes.
 fn copied(room: Vec<u8>, segment: &[u8]) -> Vec<u8>
     requires empty { (vec_len room ≡ 0) × (room.items ≡ []) }
     requires room { length segment.now ≤ vec_capacity room }
@@ -127,10 +127,10 @@ fn copied(room: Vec<u8>, segment: &[u8]) -> Vec<u8>
     bytes
 }
 
-/// The name in entry `k` of block 0, where the names of 8 bytes stand from byte 64 on.
-fn name_of(bytes: &[u8], k: usize) -> [u8; 8]
-    requires long { 512 ≤ length bytes.now }
-    requires k { k < 16 }
+/// Returns the name in entry `k` of block 0. The names have 8 bytes each, from byte 64 on.
+fn name_at(bytes: &[u8], k: usize) -> [u8; 8]
+    requires long { BLOCK_BYTES ≤ length bytes.now }
+    requires k { k < ENTRIES }
     ensures { result ≡ name_at bytes.now k }
 {
     let at = 64 + 8 * k;
@@ -146,13 +146,13 @@ fn name_of(bytes: &[u8], k: usize) -> [u8; 8]
     ]
 }
 
-/// All checks of a file in their order. The answer is the entry in use, the segment's bytes, and
-/// how many procedures it has; or the first check that fails.
+/// Makes all checks of a file in their order. Returns the entry in use, the segment's bytes and the
+/// number of its procedures, or the first check that fails.
 #[tactic(auto, unfolding(crate::specs::Checks::read_from))]
 fn checked(bytes: &[u8]) -> Result<(usize, &[u8], u8), FileFault>
     ensures value { MatchResult result (λ x. IsChecked bytes.now x.0 x.1.now x.2)
         (λ fault. read_from bytes.now ≡ Err fault) }
-    ensures entry { IfOk result (λ x. (x.0 < 16) × (512 ≤ length bytes.now)) }
+    ensures entry { IfOk result (λ x. (x.0 < ENTRIES) × (BLOCK_BYTES ≤ length bytes.now)) }
     ensures size { IfOk result (λ x. (2 ≤ length x.1.now) × (length x.1.now < 2 ^ 16)) }
     ensures some { IfOk result (λ x. (0 < x.2) × (2 + 2 * x.2 ≤ length x.1.now)) }
 {
@@ -163,14 +163,14 @@ fn checked(bytes: &[u8]) -> Result<(usize, &[u8], u8), FileFault>
     Ok((k, part, n))
 }
 
-/// All checks in their order; then memory is taken.
+/// Makes all checks in their order, and then allocates memory.
 fn read_checked(alloc: Global, bytes: &[u8]) -> Result<CodeFile, FileFault>
     ensures { GivesUnlessMemory result (read_from bytes.now) }
 {
     let (k, part, n) = checked(bytes)?;
     let (procs, segment) = room(alloc, usize::from(n), part.len())?;
     Ok(CodeFile {
-        name: name_of(bytes, k),
+        name: name_at(bytes, k),
         segment: copied(segment, part),
         number: part[part.len() - 2],
         procs: collected(procs, part, n),
@@ -178,19 +178,20 @@ fn read_checked(alloc: Global, bytes: &[u8]) -> Result<CodeFile, FileFault>
 }
 
 impl CodeFile {
-    /// Reads a whole file. All checks come before memory is taken.
+    /// Reads a whole file. Fails with the first check that fails, and with `Memory` only if none
+    /// does: all checks come before memory is allocated.
     pub fn read(alloc: Global, bytes: &[u8]) -> Result<CodeFile, FileFault>
-        // What is read is in the grammar.
+        // What is read is a code file with these parts.
         ensures found { IfOk result (InFile bytes.now) }
-        // What is in the grammar is read, unless memory runs out.
+        // Every code file is read, unless memory runs out.
         ensures only { (p : Parts) → InFile bytes.now p → GivesUnlessMemory result (Ok p) }
-        // Which fault is the first.
+        // The fault is the first check that fails.
         ensures exact { GivesUnlessMemory result (read_from bytes.now) }
     {
         read_checked(alloc, bytes)
     }
 
-    /// The segment's bytes.
+    /// Returns the segment's bytes, fewer than 65,536.
     pub fn segment(&self) -> &[u8]
         ensures value { result.now ≡ self.now.segment }
         ensures size { length result.now < 2 ^ 16 }
@@ -198,21 +199,21 @@ impl CodeFile {
         self.segment.as_slice()
     }
 
-    /// The segment's name, as it stands in block 0.
+    /// Returns the segment's name, as it is in block 0.
     pub fn name(&self) -> [u8; 8]
         ensures { result ≡ self.now.name }
     {
         self.name
     }
 
-    /// The segment's number.
+    /// Returns the segment's number.
     pub fn number(&self) -> u8
         ensures { result ≡ self.now.number }
     {
         self.number
     }
 
-    /// How many procedures there are, at least one.
+    /// Returns the number of procedures, at least 1.
     pub fn count(&self) -> u8
         ensures value { result ≡ length self.now.procs }
         ensures some { 0 < result }
@@ -220,15 +221,15 @@ impl CodeFile {
         self.procs.len() as u8
     }
 
-    /// A procedure by its number, from 1 to the count.
+    /// Returns the procedure of number `i`, from 1 to the count, or `None`.
     pub fn procedure(&self, i: u8) -> Option<Proc>
         ensures value { result ≡ procedure_of self.now.procs i }
         ensures part { IfSome result (HasProc self.now.segment (length self.now.procs) i) }
     {
-        numbered(self.procs.as_slice(), i)
+        procedure_of(self.procs.as_slice(), i)
     }
 
-    /// All procedures, in the order of their numbers.
+    /// Returns all procedures, in the order of their numbers.
     pub fn procedures(&self) -> &[Proc]
         ensures value { result.now ≡ self.now.procs }
         ensures parts { AreProcs self.now.segment self.now.procs }

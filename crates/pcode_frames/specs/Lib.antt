@@ -1,4 +1,4 @@
 pub mod Words
 pub mod Blocks
-pub mod Halts
+pub mod Halt
 pub mod Frames

@@ -5,14 +5,13 @@
 pub struct Frame {
     /// The procedure's number.
     pub procedure: u8,
-    /// The address of the word below its first one, so that the word at offset k is word `base +
-    /// k`.
+    /// The address of the word below its first one: the word at offset k is word `base + k`.
     pub base: u16,
-    /// How many words it has.
+    /// Its number of words.
     pub size: u16,
-    /// The index of the static link's frame, which is below its own; the main frame has index 0 and
-    /// link 0.
+    /// The index of the frame that its static link leads to, which is below its own index. The main
+    /// frame has index 0 and link 0.
     pub link: u16,
-    /// The offset, in bytes from the segment's start, at which the caller goes on.
+    /// The offset at which the caller goes on, in bytes from the segment's start.
     pub back: u32,
 }

@@ -1,25 +1,24 @@
-//! Frames, and what a call, a return and a static link do.
+//! Frames, and how calls, returns and static links work.
 ghost use Rattle.std.specs.Prelude.{◌≡◌, ◌+◌, ◌-◌, ◌<◌, ◌≤◌, ℕ, List, [], ◌∷◌, ◌++◌, false, Some, IfOk, IfSome, MatchOption, OnErr, length, take, drop, slice_get};
 ghost use Rattle.pcode_frames.specs.declared.frame.Frame.{Frame};
+ghost use Rattle.pcode_frames.specs.declared.limits.TheConstants.{LIVE_WORDS, MOST_FRAMES};
 ghost use Rattle.pcode_frames.specs.Frames.{space, space_if_ok, space_after_call, current_of, is_full, link_at, link_up_of, space_after_ret, space_after_start};
 
 use crate::frame::Frame;
 use crate::halt::Halt;
-use crate::memory::{LIVE_WORDS, Memory};
-use crate::stack::{STACK_WORDS, Stack};
+use crate::limits::{LIVE_WORDS, MOST_FRAMES, STACK_WORDS};
+use crate::memory::Memory;
+use crate::stack::Stack;
 use std::alloc::{AllocError, Global};
 use std::marker::Model;
 
-/// How many frames there are at most below the current one: with it they are at most 1,024.
-const MAX_BELOW: usize = 1023;
-
-/// The frames, seen as a list, the main frame first and the current one last; at most 1,024. Their
-/// room is made with them, so that no other call takes memory.
+/// The frames, seen as a list, the main frame first and the current one last; at most 1,024. `new`
+/// allocates their room, and no other call allocates.
 pub struct Frames {
-    /// The frames below the current one; none where there is no current one.
+    /// The frames below the current one; empty if there is no current one.
     below: Vec<Frame>,
-    /// The current frame. It stands apart, since an interpreter reads it before each instruction:
-    /// here that is a few loads out of the struct itself, and none from the heap.
+    /// The current frame. It has a field of its own, since an interpreter reads it before each
+    /// instruction: here that is a few loads from the struct itself, and none from the heap.
     current: Option<Frame>,
 }
 
@@ -33,24 +32,25 @@ impl Drop for Frames {
 }
 
 impl Model for Frames {
-    ghost use Rattle.std.specs.Prelude.{◌≡◌, ◌≤◌, List, [], ◌++◌, IfNone, option_to_list, vec_len, vec_capacity};
+    ghost use Rattle.std.specs.Prelude.{◌≡◌, ◌+◌, ◌≤◌, List, [], ◌++◌, IfNone, option_to_list, vec_len, vec_capacity};
     ghost use Rattle.pcode_frames.specs.declared.frame.Frame.{Frame};
+    ghost use Rattle.pcode_frames.specs.declared.limits.TheConstants.{MOST_FRAMES};
     ghost use Rattle.pcode_frames.specs.Frames.{AreLinked};
 
     ghost Value = { List Frame };
 
     ghost view = { λ f. f.below.items ++ option_to_list f.current };
 
-    ghost invariant = { λ f. (vec_len f.below ≤ 1023)
-        × (1023 ≤ vec_capacity f.below)
+    ghost invariant = { λ f. (vec_len f.below + 1 ≤ MOST_FRAMES)
+        × (MOST_FRAMES ≤ vec_capacity f.below + 1)
         × IfNone f.current (f.below.items ≡ [])
         × AreLinked (f.below.items ++ option_to_list f.current) };
 }
 
-/// Moves so many words from the stack to the words above the live ones, the top first.
+/// Moves `params` words from the stack to the words above the live ones, the top first.
 fn take_parameters(memory: &mut Memory, stack: &mut Stack, params: u16)
     requires there { params ≤ length stack.old }
-    requires room { length memory.old + params ≤ 16383 }
+    requires room { length memory.old + params ≤ LIVE_WORDS }
     ensures memory { memory.new ≡ memory.old ++ take params stack.old }
     ensures stack { stack.new ≡ drop params stack.old }
 {
@@ -60,18 +60,18 @@ fn take_parameters(memory: &mut Memory, stack: &mut Stack, params: u16)
 }
 
 impl Frames {
-    /// No frame.
+    /// Allocates the room for all frames. There is no frame yet.
     pub fn new(alloc: Global) -> Result<Frames, AllocError>
         ensures { IfOk result (λ f. f ≡ []) }
     {
-        let below = Vec::with_capacity(alloc, MAX_BELOW)?;
+        let below = Vec::with_capacity(alloc, MOST_FRAMES - 1)?;
         Ok(Frames {
             below,
             current: None,
         })
     }
 
-    /// The frame at an index, if there is one; the main frame has index 0.
+    /// Returns the frame at `index`, if there is one. The main frame has index 0.
     pub fn frame(&self, index: u16) -> Option<Frame>
         ensures { result ≡ slice_get self.now index }
     {
@@ -82,7 +82,7 @@ impl Frames {
         self.below.get(index).copied()
     }
 
-    /// The frame that is executed, if there is one.
+    /// Returns the current frame, if there is one: the frame of the procedure that runs.
     #[inline(always)]
     pub fn current(&self) -> Option<Frame>
         ensures { result ≡ current_of self.now }
@@ -90,20 +90,20 @@ impl Frames {
         self.current
     }
 
-    /// Whether one more frame of so many words does not fit.
+    /// Returns true if one more frame of `size` words does not fit.
     fn is_full(&self, memory: &Memory, size: u32) -> bool
         requires { size ≤ 131070 }
         ensures value { result ≡ is_full (space memory.now [] self.now) size }
-        ensures frames { result ≡ false → length self.now < 1024 }
-        ensures words { result ≡ false → length memory.now + size ≤ 16383 }
+        ensures frames { result ≡ false → length self.now < MOST_FRAMES }
+        ensures words { result ≡ false → length memory.now + size ≤ LIVE_WORDS }
     {
         // Without a current frame there is none below either, so the count below decides alone.
-        self.below.len() >= MAX_BELOW || u32::from(memory.top()) + size > LIVE_WORDS as u32
+        self.below.len() + 1 >= MOST_FRAMES || u32::from(memory.top()) + size > LIVE_WORDS as u32
     }
 
-    /// Makes a frame the current one.
+    /// Makes `frame` the current one.
     fn enter(&mut self, frame: Frame)
-        requires room { length self.old < 1024 }
+        requires room { length self.old < MOST_FRAMES }
         requires link { frame.link ≤ length self.old - 1 }
         ensures { self.new ≡ self.old ++ frame ∷ [] }
     {
@@ -120,9 +120,9 @@ impl Frames {
         self.current = self.below.pop();
     }
 
-    /// Makes the main frame, of procedure 1, with so many words, all zero, where there is no frame
-    /// and no live word yet. If they are more than 16,383 it refuses by `Halt::Overflow`, and
-    /// changes nothing.
+    /// Makes the main frame, of procedure 1, with `words` words, all zero. There is no frame and no
+    /// live word yet. Fails with `Halt::Overflow` if `words` is more than 16,383; then nothing has
+    /// changed.
     pub fn start(&mut self, memory: &mut Memory, words: u16) -> Result<(), Halt>
         requires frames { self.old ≡ [] }
         requires words { memory.old ≡ [] }
@@ -145,12 +145,13 @@ impl Frames {
         Ok(())
     }
 
-    /// Calls a procedure: its parameters, in words, leave the stack for a new frame above all live
-    /// words, the top for offset 1 and the next for offset 2, and the words of its data follow, all
-    /// zero. The static link is the index of a frame that is there; `back` is the offset at which
-    /// the caller goes on, in bytes from the segment's start. With too few words on the stack it
-    /// refuses by `Halt::Empty`, else with 1,024 frames, or more than 16,383 words live then, by
-    /// `Halt::Overflow`. A refusal changes nothing.
+    /// Calls `procedure`. Its `params` words of parameters leave the stack for a new frame above
+    /// all live words: the top gets offset 1, and the next offset 2. The `vars` words of its data
+    /// follow, all zero. `link`, the static link, is the index of a frame that exists. `back` is
+    /// the offset at which the caller goes on, in bytes from the segment's start.
+    ///
+    /// Fails with `Halt::Empty` if the stack has too few words, else with `Halt::Overflow` if there
+    /// are 1,024 frames, or more than 16,383 words would be live. Then nothing has changed.
     pub fn call(
         &mut self,
         memory: &mut Memory,
@@ -188,11 +189,12 @@ impl Frames {
         Ok(())
     }
 
-    /// Returns from the current frame, which is not the main frame, and answers it. The frame's
-    /// first words, as many as are asked for, are pushed as results, offset 1 the last, and the
-    /// frame and all words above its base are gone. If one of the words is not live it refuses by
-    /// `Halt::BadMemory`, else if they do not fit on the stack by `Halt::Overflow`. A refusal
-    /// changes nothing.
+    /// Returns from the current frame, which is not the main frame, and returns that frame. Its
+    /// first `words` words are pushed as results, offset 1 last. The frame and all words above its
+    /// base are gone.
+    ///
+    /// Fails with `Halt::BadMemory` if one of these words is not live, else with `Halt::Overflow`
+    /// if they do not fit on the stack. Then nothing has changed.
     pub fn ret(&mut self, memory: &mut Memory, stack: &mut Stack, words: u16) -> Result<Frame, Halt>
         requires { 2 ≤ length self.old }
         ensures value { (frame : Frame) → current_of self.old ≡ Some frame →
@@ -218,7 +220,7 @@ impl Frames {
         Ok(frame)
     }
 
-    /// The static link of the frame at an index; the main frame's is not followed.
+    /// Returns the static link of the frame at `index`. That of the main frame is not followed.
     fn link_of(&self, index: u16) -> Option<u16>
         ensures value { result ≡ link_at self.now index }
         ensures below { IfSome result (λ link. link < index) }
@@ -232,7 +234,7 @@ impl Frames {
         Some(frame.link)
     }
 
-    /// The index of the current frame, if there is one.
+    /// Returns the index of the current frame, if there is one.
     fn current_index(&self) -> Option<u16>
         ensures { MatchOption result (self.now ≡ []) (λ index. index + 1 ≡ length self.now) }
     {
@@ -240,8 +242,8 @@ impl Frames {
         Some(self.below.len() as u16)
     }
 
-    /// The index of the frame n static links up from the current one, if there is one: the main
-    /// frame's link is not followed.
+    /// Returns the index of the frame `n` static links up from the current one, if there is one.
+    /// The main frame's link is not followed.
     #[tactic(auto, using(crate::proofs::Links::up_more, crate::proofs::Links::up_ends, crate::proofs::Links::up_from_last))]
     pub fn link_up(&self, n: u8) -> Option<u16>
         ensures value { result ≡ link_up_of self.now n }

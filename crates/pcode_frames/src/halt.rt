@@ -1,10 +1,10 @@
 //! Why a call, a return, a push or a pop is refused.
 ghost use Rattle.std.specs.Prelude.{◌≡◌};
-ghost use Rattle.pcode_frames.specs.Halts.{halt_number};
+ghost use Rattle.pcode_frames.specs.Halt.{halt_number};
 
 use thiserror::Error;
 
-/// Why a call, a return, a push or a pop is refused. What refuses changes nothing.
+/// Why a call, a return, a push or a pop is refused. A refusal changes nothing.
 #[derive(Clone, Copy, Debug, PartialEq, Eq, Error)]
 pub enum Halt {
     /// The evaluation stack has too few words.
@@ -19,7 +19,7 @@ pub enum Halt {
 }
 
 impl Halt {
-    /// The number of the execution error: 0, 4 or 7.
+    /// Returns the number of the execution error: 0, 4 or 7.
     pub fn number(self) -> u8
         ensures { result ≡ halt_number self }
     {

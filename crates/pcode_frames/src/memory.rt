@@ -1,15 +1,14 @@
-//! Memory: words that are live, and their bytes.
+//! Memory: its live words, and their bytes.
 ghost use Rattle.std.specs.Prelude.{◌≡◌, ◌+◌, ◌<◌, ◌≤◌, [], ◌∷◌, ◌++◌, IfOk, length, is_some, replicate, take};
+ghost use Rattle.pcode_frames.specs.declared.limits.TheConstants.{LIVE_WORDS};
 ghost use Rattle.pcode_frames.specs.Words.{live_word_at, with_word, half_of, with_half, byte_from, live_byte_at, with_byte_from, with_byte};
 
+use crate::limits::LIVE_WORDS;
 use std::alloc::{AllocError, Global};
 use std::marker::Model;
 
-/// How many words of memory may be live.
-pub(crate) const LIVE_WORDS: usize = 16383;
-
-/// Memory, seen as the list of its live words from word 1 on; word 0 is never live. Its room is
-/// made with it, so that no other call takes memory. A new one has no live word: frames make words
+/// Memory, seen as the list of its live words from word 1 on. Word 0 is never live. `new` allocates
+/// all of its room, and no other call allocates. A new one has no live word: frames make words
 /// live.
 pub struct Memory {
     pub(crate) words: Vec<u16>,
@@ -23,15 +22,16 @@ impl Drop for Memory {
 
 impl Model for Memory {
     ghost use Rattle.std.specs.Prelude.{◌≤◌, ℕ, List, vec_len, vec_capacity};
+    ghost use Rattle.pcode_frames.specs.declared.limits.TheConstants.{LIVE_WORDS};
 
     ghost Value = { List ℕ };
 
     ghost view = { λ m. m.words.items };
 
-    ghost invariant = { λ m. (vec_len m.words ≤ 16383) × (16383 ≤ vec_capacity m.words) };
+    ghost invariant = { λ m. (vec_len m.words ≤ LIVE_WORDS) × (LIVE_WORDS ≤ vec_capacity m.words) };
 }
 
-/// The byte of a word at a byte address: an even address is the low byte.
+/// Returns the byte of `word` at byte address `address`. An even address is the low byte.
 fn half_of(address: u32, word: u16) -> u8
     ensures { result ≡ half_of address word }
 {
@@ -42,7 +42,7 @@ fn half_of(address: u32, word: u16) -> u8
     }
 }
 
-/// A word with the byte at a byte address replaced.
+/// Returns `word` with its byte at byte address `address` replaced by `byte`.
 fn with_half(address: u32, word: u16, byte: u8) -> u16
     ensures { result ≡ with_half address word byte }
 {
@@ -54,7 +54,7 @@ fn with_half(address: u32, word: u16, byte: u8) -> u16
 }
 
 impl Memory {
-    /// A memory without a live word.
+    /// Allocates the room for all words. No word is live yet.
     pub fn new(alloc: Global) -> Result<Memory, AllocError>
         ensures { IfOk result (λ m. m ≡ []) }
     {
@@ -62,25 +62,25 @@ impl Memory {
         Ok(Memory { words })
     }
 
-    /// How many words are live, which is the address of the highest; at most 16,383.
+    /// Returns the number of live words, which is the address of the highest; at most 16,383.
     pub fn top(&self) -> u16
         ensures value { result ≡ length self.now }
-        ensures bound { result ≤ 16383 }
+        ensures bound { result ≤ LIVE_WORDS }
     {
         self.words.len() as u16
     }
 
-    /// Makes the word above the live ones live, with this value.
+    /// Makes the word above the live ones live, with `value`.
     pub(crate) fn push(&mut self, value: u16)
-        requires { length self.old < 16383 }
+        requires { length self.old < LIVE_WORDS }
         ensures { self.new ≡ self.old ++ value ∷ [] }
     {
         self.words.push(value).unwrap();
     }
 
-    /// Makes this many words more live, all zero.
+    /// Makes `count` more words live, all zero.
     pub(crate) fn grow(&mut self, count: u16)
-        requires { length self.old + count ≤ 16383 }
+        requires { length self.old + count ≤ LIVE_WORDS }
         ensures { self.new ≡ self.old ++ replicate count 0 }
     {
         for _ in 0..count {
@@ -88,14 +88,14 @@ impl Memory {
         }
     }
 
-    /// Leaves only the words up to this address live.
+    /// Keeps only the words up to address `top` live.
     pub(crate) fn lower(&mut self, top: u16)
         ensures { self.new ≡ take top self.old }
     {
         self.words.truncate(usize::from(top));
     }
 
-    /// The word at a word address, if it is live.
+    /// Returns the word at address `word`, if it is live.
     pub fn get(&self, word: u16) -> Option<u16>
         ensures { result ≡ live_word_at self.now word }
     {
@@ -103,7 +103,8 @@ impl Memory {
         self.words.get(index).copied()
     }
 
-    /// Stores to a word, and says whether it is live: if it is not, nothing changes.
+    /// Stores `value` at address `word`. Returns true if that word is live; if it is not, nothing
+    /// changes.
     pub fn put(&mut self, word: u16, value: u16) -> bool
         ensures value { self.new ≡ with_word self.old word value }
         ensures live { result ≡ is_some (live_word_at self.old word) }
@@ -120,7 +121,7 @@ impl Memory {
         }
     }
 
-    /// The byte at a byte address that is not negative.
+    /// Returns the byte at byte address `address`, if its word is live.
     fn byte_from(&self, address: u32) -> Option<u8>
         ensures { result ≡ byte_from self.now address }
     {
@@ -132,9 +133,9 @@ impl Memory {
         Some(half_of(address, word))
     }
 
-    /// The byte at a byte address, if its word is live: the low byte of word k has address 2 * k,
-    /// and the high byte the next. An address is not taken modulo 65,536, and none that is negative
-    /// is live.
+    /// Returns the byte at byte address `address`, if its word is live. The low byte of word k has
+    /// address 2 * k, and the high byte the next. An address is not taken modulo 65,536, and no
+    /// negative one is live.
     pub fn get_byte(&self, address: i32) -> Option<u8>
         ensures { result ≡ live_byte_at self.now address }
     {
@@ -144,7 +145,8 @@ impl Memory {
         self.byte_from(address.unsigned_abs())
     }
 
-    /// Stores a byte at a byte address that is not negative, and says whether its word is live.
+    /// Stores `value` at byte address `address`. Returns true if its word is live; if it is not,
+    /// nothing changes.
     fn put_byte_from(&mut self, address: u32, value: u8) -> bool
         ensures value { self.new ≡ with_byte_from self.old address value }
         ensures live { result ≡ is_some (byte_from self.old address) }
@@ -162,8 +164,8 @@ impl Memory {
         }
     }
 
-    /// Stores a byte at a byte address, and says whether its word is live: if it is not, nothing
-    /// changes. The other byte of the word stays.
+    /// Stores `value` at byte address `address`. Returns true if its word is live; if it is not,
+    /// nothing changes. The other byte of the word stays.
     pub fn put_byte(&mut self, address: i32, value: u8) -> bool
         ensures value { self.new ≡ with_byte self.old address value }
         ensures live { result ≡ is_some (live_byte_at self.old address) }

@@ -1,20 +1,19 @@
 //! The evaluation stack.
 ghost use Rattle.std.specs.Prelude.{◌≡◌, ◌<◌, ◌≤◌, [], ◌∷◌, IfOk, IfErr, OnOk, OnErr, length, drop, slice_get};
+ghost use Rattle.pcode_frames.specs.declared.limits.TheConstants.{STACK_WORDS};
 ghost use Rattle.pcode_frames.specs.declared.halt.Halt.TheVariants.{Empty, Overflow};
 
 use crate::halt::Halt;
+use crate::limits::STACK_WORDS;
 use std::alloc::{AllocError, Global};
 use std::marker::Model;
 
-/// How many words the stack holds at most.
-pub const STACK_WORDS: usize = 1024;
-
-/// The evaluation stack, seen as the list of its words, the top first; at most 1,024. Its room is
-/// made with it, so that no other call takes memory.
+/// The evaluation stack, seen as the list of its words, the top first; at most 1,024. `new`
+/// allocates all of its room, and no other call allocates.
 pub struct Stack {
-    /// The words of the stack are the last of these 1,024, the top first.
+    /// The 1,024 words of its room. The words on the stack are the last of them, the top first.
     room: Vec<u16>,
-    /// How many of them are free.
+    /// The number of words of the room that are free.
     free: usize,
 }
 
@@ -29,16 +28,17 @@ impl Drop for Stack {
 
 impl Model for Stack {
     ghost use Rattle.std.specs.Prelude.{◌≡◌, ◌≤◌, ℕ, List, drop, vec_len};
+    ghost use Rattle.pcode_frames.specs.declared.limits.TheConstants.{STACK_WORDS};
 
     ghost Value = { List ℕ };
 
     ghost view = { λ s. drop s.free s.room.items };
 
-    ghost invariant = { λ s. (vec_len s.room ≡ 1024) × (s.free ≤ 1024) };
+    ghost invariant = { λ s. (vec_len s.room ≡ STACK_WORDS) × (s.free ≤ STACK_WORDS) };
 }
 
 impl Stack {
-    /// An empty stack.
+    /// Allocates an empty stack.
     pub fn new(alloc: Global) -> Result<Stack, AllocError>
         ensures { IfOk result (λ s. s ≡ []) }
     {
@@ -49,23 +49,23 @@ impl Stack {
         })
     }
 
-    /// How many words it holds.
+    /// Returns the number of words on the stack.
     #[inline(always)]
     pub fn len(&self) -> usize
         ensures value { result ≡ length self.now }
-        ensures bound { result ≤ 1024 }
+        ensures bound { result ≤ STACK_WORDS }
     {
         STACK_WORDS - self.free
     }
 
-    /// The word so many below the top, if there is one; the top has depth 0.
+    /// Returns the word at `depth`, if there is one. The top has depth 0.
     pub fn get(&self, depth: u16) -> Option<u16>
         ensures { result ≡ slice_get self.now depth }
     {
         self.room.get(self.free + usize::from(depth)).copied()
     }
 
-    /// The top word.
+    /// Returns the top word.
     #[inline(always)]
     pub fn top(&self) -> u16
         requires { 1 ≤ length self.now }
@@ -75,7 +75,7 @@ impl Stack {
         self.room[top]
     }
 
-    /// Puts a word in the place of the top one.
+    /// Replaces the top word by `top`.
     #[inline(always)]
     pub fn set_top(&mut self, top: u16)
         requires { 1 ≤ length self.old }
@@ -84,12 +84,13 @@ impl Stack {
         self.room[self.free] = top;
     }
 
-    /// Puts a word on top. With 1,024 words it refuses by `Halt::Overflow`, and changes nothing.
+    /// Pushes `word`. Fails with `Halt::Overflow` if there are 1,024 words; then nothing has
+    /// changed.
     #[inline(always)]
     pub fn push(&mut self, word: u16) -> Result<(), Halt>
         ensures pushed { OnOk result (self.new ≡ word ∷ self.old) }
-        ensures room { OnOk result (length self.old < 1024) }
-        ensures full { IfErr result (λ h. (h ≡ Overflow) × (length self.old ≡ 1024)) }
+        ensures room { OnOk result (length self.old < STACK_WORDS) }
+        ensures full { IfErr result (λ h. (h ≡ Overflow) × (length self.old ≡ STACK_WORDS)) }
         ensures err { OnErr result (self.new ≡ self.old) }
     {
         if self.free == 0 {
@@ -100,7 +101,7 @@ impl Stack {
         Ok(())
     }
 
-    /// Drops this many words from the top.
+    /// Drops `words` words from the top.
     #[inline(always)]
     pub fn discard(&mut self, words: usize)
         requires { words ≤ length self.old }
@@ -109,8 +110,7 @@ impl Stack {
         self.free += words;
     }
 
-    /// Takes the top word off. Where there is none it refuses by `Halt::Empty`, and changes
-    /// nothing.
+    /// Pops the top word. Fails with `Halt::Empty` if there is none; then nothing has changed.
     #[inline(always)]
     pub fn pop(&mut self) -> Result<u16, Halt>
         ensures popped { IfOk result (λ word. self.old ≡ word ∷ self.new) }

@@ -1,4 +1,4 @@
--- What it says that an answer agrees with the relations of its effect.
+-- The claim that an answer agrees with the relations of its effect.
 use Rattle.std.proofs.Common.{◌≡◌, ℕ, ◌<◌, List, [], ◌∷◌, length, Option, Some, None, IsSome, IsNone, MatchOption, Result, Ok, Err, MatchResult, refl, arith}
 use Rattle.pcode_machine.specs.declared.turn.Stop.{Stop}
 use Rattle.pcode_machine.specs.declared.turn.Stop.TheVariants.{Normal, Error}
@@ -12,8 +12,8 @@ abbrev pub Stopped : Type 0 → (ExecutionError → Type 0) → Stop → Type 0
 Stopped N F Normal = N
 Stopped N F (Error e) = F e
 
--- An answer agrees with its relations: A holds of the state that it gives and of no other, and where it stops
--- N or F holds, F of no other error. Each effect has a lemma that says so.
+-- An answer agrees with its relations: A holds of the state that it gives and of no other, and
+-- where it stops N or F holds, F of no other error. Each effect has a lemma that says so.
 pub record Agrees (N : Type 0) (A : State → Type 0) (F : ExecutionError → Type 0) (r : Option (Result State Stop)) : Type 0 where
   pub holds : MatchOption r (Unit {0}) (λ r. MatchResult r A (Stopped N F))
   pub goes : (t : State) → A t → r ≡ Some (Ok t)

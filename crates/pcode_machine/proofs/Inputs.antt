@@ -1,4 +1,4 @@
--- The byte that is offered stands at the end of the input so far.
+-- The offered byte is the last of the input so far.
 use Rattle.std.proofs.Common.{◌≡◌, ℕ, List, [], ◌∷◌, ◌++◌, length, Option, Some, None, slice_get, refl}
 use Rattle.std.specs.Option.{option_to_list}
 

@@ -9,11 +9,11 @@ pub mod RelatedValues
 pub mod RelatedCalls
 pub mod Related
 pub mod Loaded
-pub mod Links
-pub mod Possible
-pub mod Staying
+pub mod LinksExist
+pub mod NamedExists
+pub mod StaysInCode
 pub mod Starting
-pub mod Longer
+pub mod LongerInput
 pub mod Waits
 pub mod Prefixes
 pub mod Outputs
@@ -22,6 +22,6 @@ pub mod Alone
 pub mod Numbered
 pub mod Pausing
 pub mod Quiet
-pub mod QuietStaying
+pub mod QuietStaysInCode
 pub mod Fusing
 pub mod BlockWords

@@ -8,8 +8,7 @@ use Rattle.pcode_ops.specs.declared.instr.Instr.TheVariants.{Xjp}
 use Rattle.pcode_ops.specs.Decoding.{instr_at}
 use Rattle.pcode_ops.specs.Jumps.{StaysWith, IsCaseTable, case_of}
 use Rattle.pcode_ops.specs.Loading.{owner, LeadsTo, HasNext, JumpsBy}
-use Rattle.pcode_ops.specs.Reach.{Reach, IsLoadable}
-use Rattle.pcode_ops.specs.Standing.{MayStand}
+use Rattle.pcode_ops.specs.Reach.{Reach, IsLoadable, MayStand}
 use Rattle.pcode_machine.specs.Loaded.{IsLoaded}
 
 -- the laws together

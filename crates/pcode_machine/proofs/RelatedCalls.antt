@@ -1,4 +1,4 @@
--- Calls, returns and the begin of a transfer, as relations and as functions.
+-- Calls, returns and the start of a transfer, as relations and as functions.
 use Rattle.std.proofs.Common.{◌⊎◌, ◌≡◌, ℕ, ◌+◌, ◌-◌, ◌<◌, ◌≤◌, Bool, true, false, ◌||◌, cond, ltb, List, [], ◌∷◌, ◌++◌, length, take, drop, replicate, Ok, Err, refl, arith, inl, inr}
 use Rattle.std.proofs.lemmas.Bool.{ltb-true, ltb-false, lt-ltb, le-ltb}
 use Rattle.pcode_file.specs.declared.file.Proc.{Proc}

@@ -8,7 +8,7 @@ use Rattle.pcode_machine.specs.Configuration.{State}
 use Rattle.pcode_machine.specs.Effects.{IndexField, LoadField, StoreField}
 use Rattle.pcode_machine.specs.Fields.{changed_at, field_at, field_indexed, field_loaded, field_stored, put_at}
 use Rattle.pcode_machine.specs.Operations.{put_above}
-use Rattle.pcode_machine.specs.Pointers.{behind}
+use Rattle.pcode_machine.specs.Pointers.{pointer_past}
 use Rattle.pcode_machine.specs.Step.{FailsBy}
 use Rattle.pcode_machine.proofs.Agreeing.{Meets, below_two, below_three, below_four}
 
@@ -17,7 +17,7 @@ use Rattle.pcode_machine.proofs.Agreeing.{Meets, below_two, below_three, below_f
 index_room : (e w j index pointer : ℕ) (s : State) (rest : List ℕ) (b : Bool) → s.stack ≡ index ∷ pointer ∷ rest
     → ltb index 32768 ≡ true → ltb (length rest + 2) 1024 ≡ b
     → Meets (IndexField e w) j s
-    (cond b (Ok (record s { stack = index % e * w ∷ w ∷ behind pointer (index / e) ∷ rest; next = j }))
+    (cond b (Ok (record s { stack = index % e * w ∷ w ∷ pointer_past pointer (index / e) ∷ rest; next = j }))
     (Err (Error NoRoom)))
 index_room e w j index pointer s rest true is small room =
     (index, pointer, rest, is, ltb-true index 32768 small, ltb-true (length rest + 2) 1024 room, refl)
@@ -27,7 +27,7 @@ index_room e w j index pointer s rest false is small room =
 index_by : (e w j index pointer : ℕ) (s : State) (rest : List ℕ) (b : Bool) → s.stack ≡ index ∷ pointer ∷ rest → ltb index 32768 ≡ b
     → Meets (IndexField e w) j s
     (cond b (cond (ltb (length rest + 2) 1024)
-    (Ok (record s { stack = index % e * w ∷ w ∷ behind pointer (index / e) ∷ rest; next = j }))
+    (Ok (record s { stack = index % e * w ∷ w ∷ pointer_past pointer (index / e) ∷ rest; next = j }))
     (Err (Error NoRoom))) (Err (Error OutOfRange)))
 index_by e w j index pointer s rest true is small = index_room e w j index pointer s rest (ltb (length rest + 2) 1024) is small refl
 index_by e w j index pointer s rest false is large = inr (index, pointer, rest, is, inl (refl, ltb-false index 32768 large))
@@ -39,7 +39,7 @@ index_holds e w j s (index ∷ pointer ∷ rest) is = index_by e w j index point
 
 pub index_goes : (e w j : ℕ) (s : State) (index pointer : ℕ) (rest : List ℕ) → s.stack ≡ index ∷ pointer ∷ rest
     → index < 32768 → length rest + 2 < 1024
-    → field_indexed e w j s s.stack ≡ Ok (record s { stack = index % e * w ∷ w ∷ behind pointer (index / e) ∷ rest; next = j })
+    → field_indexed e w j s s.stack ≡ Ok (record s { stack = index % e * w ∷ w ∷ pointer_past pointer (index / e) ∷ rest; next = j })
 index_goes e w j s index pointer rest is small room = rw (is, lt-ltb index 32768 small, lt-ltb (length rest + 2) 1024 room) refl
 
 pub index_fails : (n w j : ℕ) (e : ExecutionError) (s : State) → FailsBy (IndexField n w) s e

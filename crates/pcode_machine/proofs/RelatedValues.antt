@@ -1,4 +1,5 @@
--- Effects that pop what they go by: changes, operations, the check and branches, as relations and as functions.
+-- Effects that pop their operands: changes, operations, the check and branches, as relations and as
+-- functions.
 use Rattle.std.proofs.Common.{◌≡◌, ℕ, List, [], ◌∷◌, Result, Ok, Err, refl, arith, inl, inr}
 use Rattle.pcode_machine.specs.declared.operations.Change.{Change}
 use Rattle.pcode_machine.specs.declared.operations.Operation.{Operation}

@@ -6,7 +6,7 @@ use Rattle.pcode_machine.specs.declared.turn.Stop.TheVariants.{Error}
 use Rattle.pcode_machine.specs.Configuration.{State}
 use Rattle.pcode_machine.specs.Loads.{pushed, loaded_by}
 use Rattle.pcode_machine.specs.Stores.{stored}
-use Rattle.pcode_machine.specs.Pointers.{behind, pointed, fetched_by, fetched, stored_at}
+use Rattle.pcode_machine.specs.Pointers.{pointer_past, pointed, fetched_by, fetched, stored_at}
 use Rattle.pcode_machine.specs.Effects.{Push, Load, Store, Fetch, StoreAt}
 use Rattle.pcode_machine.specs.Step.{Pushes, FailsBy}
 use Rattle.pcode_machine.proofs.Agreeing.{Meets, not_some, not_none, none_is, below_one, below_two}
@@ -66,14 +66,14 @@ store_fails n j e s (v ∷ rest) same (inr h) = rw (h.2, h.0) refl
 
 -- ---- a word takes the place of a pointer
 
-fetch_by : (n j pointer : ℕ) (s : State) (rest : List ℕ) (o : Option ℕ) → s.stack ≡ pointer ∷ rest → pointed s.words (behind pointer n) ≡ o
-    → Meets (Fetch n) j s (fetched_by o j s rest)
+fetch_by : (n j pointer : ℕ) (s : State) (rest : List ℕ) (o : Option ℕ) → s.stack ≡ pointer ∷ rest
+    → pointed s.words (pointer_past pointer n) ≡ o → Meets (Fetch n) j s (fetched_by o j s rest)
 fetch_by n j pointer s rest None e f = inr (refl, pointer, rest, e, rw f refl)
 fetch_by n j pointer s rest (Some v) e f = (pointer, rest, v, e, f, refl)
 
 pub fetch_holds : (n j : ℕ) (s : State) (st : List ℕ) → s.stack ≡ st → Meets (Fetch n) j s (fetched n j s st)
 fetch_holds n j s [] e = inl (refl, rw e (omega arith))
-fetch_holds n j s (pointer ∷ rest) e = fetch_by n j pointer s rest (pointed s.words (behind pointer n)) e refl
+fetch_holds n j s (pointer ∷ rest) e = fetch_by n j pointer s rest (pointed s.words (pointer_past pointer n)) e refl
 
 pub fetch_fails : (n j : ℕ) (e : ExecutionError) (s : State) → FailsBy (Fetch n) s e → fetched n j s s.stack ≡ Err (Error e)
 fetch_fails n j e s (inl h) = rw (below_one (fetched n j s) _ refl s.stack h.1, h.0) refl

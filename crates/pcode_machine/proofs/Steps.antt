@@ -24,7 +24,7 @@ use Rattle.pcode_machine.proofs.Related.{Fails, execute_agrees}
 use Rattle.pcode_machine.specs.Errors.{error_number}
 use Rattle.pcode_machine.specs.declared.errors.ExecutionError.TheVariants.{BadAddress}
 
--- an instruction is decoded exactly where it stands
+-- an instruction is decoded exactly where it is
 abbrev pub Decodes : List ℕ → Type 0
 Decodes code = (i : ℕ) (instr : Instr) (j : ℕ) → (instr_at code i ≡ Ok (instr, j)) ↔ At code i instr j
 

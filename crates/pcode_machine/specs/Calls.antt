@@ -1,4 +1,4 @@
--- Calls and returns, and where static links lead.
+-- Calls and returns, and the frames to which static links lead.
 use Rattle.std.specs.Prelude.{ℕ, ◌+◌, ◌-◌, List, Option, Result, Ok, Err, slice_get}
 use Rattle.std.specs.Option.{option_and_then}
 use Rattle.pcode_file.specs.declared.file.Proc.{Proc}
@@ -12,13 +12,15 @@ use Rattle.pcode_machine.specs.declared.turn.Stop.TheVariants.{Error}
 use Rattle.pcode_machine.specs.Configuration.{State}
 use Rattle.pcode_machine.specs.Errors.{error_of}
 
--- the frame so many static links up from the current one, if there is one
+-- The frame `n` static links up from the current one, if there is one.
+-- Source: Manual, static links.
 abbrev pub frame_up : List Frame → ℕ → Option Frame
 frame_up fs n = option_and_then (λ k. slice_get fs k) (link_up_of fs n)
 
--- The index of the frame to which the procedure in frame f links procedure n: one lex level further
--- out than n, which is so many static links up from the current frame as the caller's level is
--- above that.
+-- The index of the frame to which the procedure in frame `f` links procedure `n`: one lex level
+-- further out than `n`.
+-- It is as many static links up from the current frame as the caller's level is above that one.
+-- Source: Manual, static links. For CIP it is this project's reading.
 abbrev pub link_outward : Parts → Frame → ℕ → List Frame → Option ℕ
 link_outward p f n fs =
     option_and_then (λ (caller : Proc).
@@ -26,20 +28,22 @@ link_outward p f n fs =
     (procedure_of p.procs n))
     (procedure_of p.procs f.procedure)
 
--- the state with what a call or a return made of words, stack and frames, where execution goes on
--- at an offset
+-- The state with the words, stack and frames after a call or a return, where execution goes on at
+-- an offset.
 abbrev pub with_parts : ℕ → State → Result frames.Space Halt → Result State Stop
 with_parts next s (Ok new) =
     Ok (record s { words = new.words; stack = new.stack; frames = new.frames; next = next })
 with_parts next s (Err halt) = Err (Error (error_of halt))
 
--- procedure n is called, which goes on at j when it returns
+-- The state after a call of procedure `n`, which goes on at `j` when it returns; or its error.
+-- Source: Manual, procedure calls.
 abbrev pub entered_state : ℕ → Proc → ℕ → ℕ → State → Result State Stop
 entered_state n callee link j s =
     with_parts callee.enter s
     (space_after_call n callee.params callee.vars link j (space s.words s.stack s.frames))
 
--- the procedure of the current frame returns with so many words
+-- The state after the procedure of the current frame returned with `words` words, or its error.
+-- Source: Manual, procedure calls.
 abbrev pub left : ℕ → Frame → State → Result State Stop
 left words frame s =
     with_parts frame.back s (space_after_ret words frame (space s.words s.stack s.frames))

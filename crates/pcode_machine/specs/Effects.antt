@@ -22,69 +22,72 @@ use Rattle.pcode_machine.specs.Calls.{frame_up, link_outward}
 use Rattle.pcode_machine.specs.declared.errors.ExecutionError.{ExecutionError}
 use Rattle.pcode_machine.specs.declared.errors.ExecutionError.TheVariants.{NoUnit, Halted}
 
+-- The effect of an instruction: what it does to the state, or that it is an error or the end.
 pub data Effect : Type 0 where
-  -- a word is pushed
+  -- A word is pushed.
   Push : (word : ℕ) → Effect
-  -- the word at a word address is pushed
+  -- The word at a word address is pushed.
   Load : (word : ℕ) → Effect
-  -- a word is popped to a word address
+  -- A word is popped to a word address.
   Store : (word : ℕ) → Effect
-  -- the word so many words behind a pointer takes the pointer's place
+  -- The word that many words after a pointer takes the pointer's place.
   Fetch : (words : ℕ) → Effect
-  -- a word is popped to where the pointer below it points
+  -- A word is popped to where the pointer below it points.
   StoreAt : Effect
-  -- so many words are copied, all read first, from the pointer on top to the one below it
+  -- That many words are copied, all read first, from the pointer on top to the one below it.
   MoveBlock : (words : ℕ) → Effect
-  -- so many words from a pointer on take its place, the first on top
+  -- That many words from a pointer on take its place, the first on top.
   LoadBlock : (words : ℕ) → Effect
-  -- so many words are popped to where the pointer below them points
+  -- That many words are popped to where the pointer below them points.
   StoreBlock : (words : ℕ) → Effect
-  -- the byte at an index behind a pointer takes their place
+  -- The byte at an index after a pointer takes their place.
   LoadByte : Effect
-  -- a word's low byte is popped to an index behind a pointer
+  -- A word's low byte is popped to an index after a pointer.
   StoreByte : Effect
-  -- an index and a pointer give way to the field there, where a word has so many elements of this
-  -- width
+  -- An index and a pointer are replaced by the field there, in words of that many elements of this
+  -- width.
   IndexField : (elements width : ℕ) → Effect
-  -- the bits of the field that three words name take their place
+  -- The bits of the field that three words name take their place.
   LoadField : Effect
-  -- a word's low bits are popped to the field that the three words below it name
+  -- A word's low bits are popped to the field that the three words below it name.
   StoreField : Effect
-  -- a word gives way to another
+  -- A word is replaced by another.
   Replace : (change : Change) → Effect
-  -- two words give way to one
+  -- Two words are replaced by one.
   Combine : (operation : Operation) → Effect
-  -- a word stays that lies between two others, which are popped
+  -- A word stays that lies between two others, which are popped.
   Check : Effect
-  -- execution goes on at an offset
+  -- Execution goes on at an offset.
   Go : (offset : ℕ) → Effect
-  -- execution goes on where a popped word says
+  -- Execution goes on where a popped word says.
   Branch : (to : ℕ → ℕ) → Effect
-  -- the same by two words, the lower one first
+  -- Execution goes on where two popped words say, the lower one first.
   BranchByTwo : (to : ℕ → ℕ → ℕ) → Effect
-  -- the procedure of a number is called; its static link is the frame at an index
+  -- The procedure of a number is called. Its static link is the frame at an index.
   Call : (number : ℕ) (callee : Proc) (link : ℕ) → Effect
-  -- the procedure of the current frame returns with so many words
+  -- The procedure of the current frame returns with that many words.
   Return : (words : ℕ) (frame : Frame) → Effect
-  -- a transfer is begun
+  -- A transfer starts.
   Begin : (direction : Direction) → Effect
-  -- it is an error
+  -- It is an error.
   Fail : (error : ExecutionError) → Effect
-  -- the program ends
+  -- The program ends.
   Finish : Effect
-  -- nothing is stated: a frame, a procedure or a target is named that is not there. No machine
+  -- Nothing is defined: a frame, a procedure or a target is named that does not exist. No machine
   -- meets it.
   Nowhere : Effect
 
--- the effect by what an instruction names, if it is there
+-- The effect by what an instruction names, if that exists.
 abbrev pub given : {A : Type 0} → Option A → (A → Effect) → Effect
 given None f = Nowhere
 given (Some x) f = f x
 
--- procedure n is called, with a static link
+-- The effect of a call of procedure `n` with a static link.
 abbrev pub calling : Parts → ℕ → Option ℕ → Effect
 calling p n link = given (procedure_of p.procs n) (λ q. given link (λ k. Call n q k))
 
+-- The effect of a standard procedure that ends at `j`.
+-- Source: Manual, p-machine instructions.
 abbrev pub standard : StandardProcedure → ℕ → State → Effect
 standard IoCheck j s = if s.io_result == 0 then Go j else Fail NoUnit
 standard UnitRead j s = Begin Reading
@@ -92,7 +95,8 @@ standard UnitWrite j s = Begin Writing
 standard IoResult j s = Push s.io_result
 standard Halt j s = Fail Halted
 
--- by the current frame, the offset j after the instruction, and the state before it
+-- The effect of an instruction in the current frame `f`, before offset `j` and in state `s`.
+-- Source: Manual, p-machine instructions.
 abbrev pub effect_of : Parts → Frame → Instr → ℕ → State → Effect
 effect_of p f (Sldc n) j s = Push n
 effect_of p f Ldcn j s = Push 0
@@ -162,15 +166,16 @@ effect_of p f (Rnp n) j s = Return n f
 effect_of p f (Rbp n) j s = Finish
 effect_of p f Nop j s = Go j
 
--- What an effect names is there: the frame that a call links to, and a frame below the one that
--- returns.
+-- The claim that what an effect names exists: the frame that a call links to, and a frame below the
+-- one that returns.
 abbrev pub IsPossible : Effect → State → Type 0
 IsPossible Nowhere s = ⊥
 IsPossible (Call number callee link) s = link < length s.frames
 IsPossible (Return words frame) s = 2 ≤ length s.frames
 IsPossible _ s = Unit {0}
 
--- what a case jump's table has to be
+-- The claim that the table of a case jump is one of some procedure.
+-- Allows: an instruction other than XJP.
 abbrev pub HasCaseTable : Parts → Instr → Type 0
 HasCaseTable p (Xjp low high sb table) = (q : Proc) × IsCaseTable p.segment q low high table
 HasCaseTable p _ = Unit {0}

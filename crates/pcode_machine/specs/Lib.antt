@@ -1,6 +1,5 @@
 pub mod Errors
 pub mod Configuration
-pub mod Signed
 pub mod Arithmetic
 pub mod Comparisons
 pub mod Loads

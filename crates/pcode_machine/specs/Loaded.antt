@@ -1,4 +1,4 @@
--- What loading says of a program: what its procedures are, and that execution stays in them.
+-- What loading says of a program: which procedures it has, and that execution stays in them.
 use Rattle.std.specs.Prelude.{◌≡◌, ℕ, Some, Ok, ℤ}
 use Rattle.pcode_file.specs.declared.file.Proc.{Proc}
 use Rattle.pcode_file.specs.InFile.{AreProcs}
@@ -8,12 +8,12 @@ use Rattle.pcode_ops.specs.declared.instr.Instr.TheVariants.{Xjp}
 use Rattle.pcode_ops.specs.Decoding.{instr_at}
 use Rattle.pcode_ops.specs.Jumps.{StaysWith, IsCaseTable, case_of}
 use Rattle.pcode_ops.specs.Loading.{owner, LeadsTo, HasNext, JumpsBy}
-use Rattle.pcode_ops.specs.Reach.{Reach}
-use Rattle.pcode_ops.specs.Standing.{MayStand}
+use Rattle.pcode_ops.specs.Reach.{Reach, MayStand}
 
--- The procedures are those of a file. What is at a reached offset may stand there. Each ENTER, what
--- stands behind an instruction that goes on there, and each target of a jump is reached, and lies
--- in the part of the procedure that it belongs to.
+-- The facts that loading says of a program, as the machine uses them.
+-- The procedures are those of a file. An instruction at a reached offset may be there. Each ENTER,
+-- each offset after an instruction that goes on there, and each target of a jump is reached, and
+-- lies in the part of the procedure that it belongs to.
 pub record IsLoaded (p : Parts) : Type 0 where
   pub procs : AreProcs p.segment p.procs
   pub stands : (i : ℕ) (q : Proc) (x : Instr) (j : ℕ) → Reach p i → owner p.procs i ≡ Ok q

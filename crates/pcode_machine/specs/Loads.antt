@@ -1,26 +1,28 @@
 -- Instructions that push a word: constants, words of frames, and pointers to them.
 use Rattle.std.specs.Prelude.{ℕ, ◌*◌, ◌%◌, nat_lt, if◌then◌else◌, ◌∷◌, length, Option, Some, None, Result, Ok, Err}
+use Rattle.pcode_frames.specs.declared.limits.TheConstants.{STACK_WORDS}
 use Rattle.pcode_frames.specs.Words.{live_word_at}
 use Rattle.pcode_machine.specs.declared.turn.Stop.{Stop}
 use Rattle.pcode_machine.specs.declared.turn.Stop.TheVariants.{Error}
 use Rattle.pcode_machine.specs.Configuration.{State}
 use Rattle.pcode_machine.specs.declared.errors.ExecutionError.TheVariants.{NoRoom, BadAddress}
 
--- a word is pushed, and execution goes on at j; the stack has at most 1,024 words
+-- The state with a word pushed, where execution goes on at `j`; or error 4.
+-- The stack has at most 1,024 words.
 abbrev pub pushed : ℕ → ℕ → State → Result State Stop
 pushed word j s =
-    if nat_lt (length s.stack) 1024 then Ok (record s { stack = word ∷ s.stack; next = j })
+    if nat_lt (length s.stack) STACK_WORDS then Ok (record s { stack = word ∷ s.stack; next = j })
     else Err (Error NoRoom)
 
--- the address of a word, in bytes: twice the word, modulo 65,536
+-- The address of a word in bytes: twice its number, modulo 65,536.
 abbrev pub address_of : ℕ → ℕ
 address_of n = 2 * n % 65536
 
--- the word is pushed, if it is live
+-- The state with a word pushed if it is live, or the error.
 abbrev pub loaded_by : Option ℕ → ℕ → State → Result State Stop
 loaded_by None j s = Err (Error BadAddress)
 loaded_by (Some v) j s = pushed v j s
 
--- the word at a word address is pushed
+-- The state with the word at a word address pushed, or the error.
 abbrev pub loaded : ℕ → ℕ → State → Result State Stop
 loaded word j s = loaded_by (live_word_at s.words word) j s

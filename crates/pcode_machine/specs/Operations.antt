@@ -1,5 +1,4 @@
--- Instructions that make words of words: arithmetic, logic, comparisons, pointers that move, and
--- CHK.
+-- Instructions that compute words: arithmetic, logic, comparisons, pointers that move, and CHK.
 use Rattle.std.specs.Prelude.{ℕ, List, [], ◌∷◌, Result, Ok, Err}
 use Rattle.pcode_machine.specs.declared.operations.Change.{Change}
 use Rattle.pcode_machine.specs.declared.operations.Change.TheVariants.{Absolute, Negation, Square, Complement, Behind}
@@ -10,19 +9,21 @@ use Rattle.pcode_machine.specs.declared.turn.Stop.TheVariants.{Error}
 use Rattle.pcode_machine.specs.Configuration.{State}
 use Rattle.pcode_machine.specs.Arithmetic.{sum_of, difference_of, product_of, quotient_of, remainder_of, absolute_of, negation_of, square_of, both_of, either_of, complement_of, checked_of, element_of}
 use Rattle.pcode_machine.specs.Comparisons.{compared, compared_bits}
-use Rattle.pcode_machine.specs.Pointers.{behind}
+use Rattle.pcode_machine.specs.Pointers.{pointer_past}
 use Rattle.pcode_machine.specs.declared.errors.ExecutionError.{ExecutionError}
 use Rattle.pcode_machine.specs.declared.errors.ExecutionError.TheVariants.{StackUnderflow}
 
--- what a change makes of a word
+-- The result of a change of one word.
+-- Source: Manual, p-machine arithmetic.
 abbrev pub changed_of : Change → ℕ → ℕ
 changed_of Absolute a = absolute_of a
 changed_of Negation a = negation_of a
 changed_of Square a = square_of a
 changed_of Complement a = complement_of a
-changed_of (Behind words) a = behind a words
+changed_of (Behind words) a = pointer_past a words
 
--- what an operation makes of two words, or its error
+-- The result of an operation on two words, or its error.
+-- Source: Manual, p-machine arithmetic.
 abbrev pub value_of : Operation → ℕ → ℕ → Result ℕ ExecutionError
 value_of Sum a b = Ok (sum_of a b)
 value_of Difference a b = Ok (difference_of a b)
@@ -35,22 +36,26 @@ value_of (Compare c) a b = Ok (compared c a b)
 value_of (CompareBits c) a b = Ok (compared_bits c a b)
 value_of (Element words) a b = Ok (element_of a b words)
 
--- the word on top of this stack gives way to another
+-- The state after the word on top of this stack was changed, or error 0.
 abbrev pub replaced : Change → ℕ → State → List ℕ → Result State Stop
 replaced change j s [] = Err (Error StackUnderflow)
 replaced change j s (a ∷ rest) = Ok (record s { stack = changed_of change a ∷ rest; next = j })
 
--- a word is put above these, or it is an error
+-- The state with a word above these, or the error.
 abbrev pub put_above : Result ℕ ExecutionError → ℕ → State → List ℕ → Result State Stop
 put_above (Ok word) j s rest = Ok (record s { stack = word ∷ rest; next = j })
 put_above (Err error) j s rest = Err (Error error)
 
--- the two words on top of this stack, the first operand below the second, give way to one
+-- The state after the two words on top of this stack were combined, or the error.
+-- The first operand is below the second.
 abbrev pub combined : Operation → ℕ → State → List ℕ → Result State Stop
 combined operation j s (b ∷ a ∷ rest) = put_above (value_of operation a b) j s rest
 combined operation j s _ = Err (Error StackUnderflow)
 
--- of the three words on top of this stack the lowest stays, if it lies from the next one to the top
+-- The state after CHK, or its error.
+-- Of the three words on top of this stack the lowest stays, if it lies from the next one to the
+-- top.
+-- Source: Manual, CHK.
 abbrev pub checked : ℕ → State → List ℕ → Result State Stop
 checked j s (high ∷ low ∷ v ∷ rest) = put_above (checked_of v low high) j s rest
 checked j s _ = Err (Error StackUnderflow)

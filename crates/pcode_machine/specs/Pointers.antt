@@ -6,25 +6,28 @@ use Rattle.pcode_machine.specs.declared.turn.Stop.TheVariants.{Error}
 use Rattle.pcode_machine.specs.Configuration.{State}
 use Rattle.pcode_machine.specs.declared.errors.ExecutionError.TheVariants.{StackUnderflow, BadAddress}
 
--- so many words behind a pointer, modulo 65,536
-abbrev pub behind : ℕ → ℕ → ℕ
-behind pointer words = (pointer + 2 * words) % 65536
+-- The pointer `words` words after a pointer, modulo 65,536.
+abbrev pub pointer_past : ℕ → ℕ → ℕ
+pointer_past pointer words = (pointer + 2 * words) % 65536
 
--- the word at a pointer, which has to be even, if it is live
+-- The word at a pointer, if the pointer is even and the word is live.
 abbrev pub pointed : List ℕ → ℕ → Option ℕ
 pointed live pointer = if pointer % 2 == 0 then live_word_at live (pointer / 2) else None
 
--- the word takes the place of the pointer above these words
+-- The state with a word above these, if it is live, or error 7.
 abbrev pub fetched_by : Option ℕ → ℕ → State → List ℕ → Result State Stop
 fetched_by None j s rest = Err (Error BadAddress)
 fetched_by (Some v) j s rest = Ok (record s { stack = v ∷ rest; next = j })
 
--- the pointer on top of this stack gives way to the word so many words behind it
+-- The state after the pointer on top of this stack was replaced by the word `words` words after it,
+-- or its error.
 abbrev pub fetched : ℕ → ℕ → State → List ℕ → Result State Stop
 fetched words j s [] = Err (Error StackUnderflow)
-fetched words j s (pointer ∷ rest) = fetched_by (pointed s.words (behind pointer words)) j s rest
+fetched words j s (pointer ∷ rest) =
+    fetched_by (pointed s.words (pointer_past pointer words)) j s rest
 
--- the word popped from this stack goes to the live word that the pointer below it points to
+-- The state after the word on top of this stack went to where the pointer below it points, or its
+-- error.
 abbrev pub stored_at : ℕ → State → List ℕ → Result State Stop
 stored_at j s [] = Err (Error StackUnderflow)
 stored_at j s (v ∷ []) = Err (Error StackUnderflow)

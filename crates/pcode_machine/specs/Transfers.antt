@@ -1,4 +1,4 @@
--- Transfers between memory and a unit: the call that begins one, and each byte.
+-- Transfers between memory and a unit: the call that starts one, and each byte.
 use Rattle.std.specs.Prelude.{ℕ, ◌-◌, nat_lt, ◌==◌, ◌||◌, if◌then◌else◌, Bool, List, ◌∷◌, Option, Some, None, Result, Ok, Err, pos, ◌+ℤ◌}
 use Rattle.pcode_machine.specs.declared.turn.Direction.{Direction}
 use Rattle.pcode_machine.specs.declared.turn.Transfer.{Transfer}
@@ -8,12 +8,12 @@ use Rattle.pcode_machine.specs.Configuration.{State}
 use Rattle.pcode_machine.specs.Bytes.{byte_address}
 use Rattle.pcode_machine.specs.declared.errors.ExecutionError.TheVariants.{StackUnderflow}
 
--- units 1 (CONSOLE:) and 2 (SYSTERM:)
+-- The test that a unit is the console: unit 1 (CONSOLE:) or unit 2 (SYSTERM:).
 abbrev pub is_console : ℕ → Bool
 is_console unit = (unit == 1) || (unit == 2)
 
--- the transfer that a call begins, if there is a byte to move: a length is signed, a byte address
--- is the base plus the signed index
+-- The transfer that a call starts, if there is a byte to move.
+-- The length is signed. The byte address is the base plus the signed index.
 abbrev pub begun_transfer : Direction → ℕ → ℕ → ℕ → ℕ → ℕ → Option Transfer
 begun_transfer direction unit base index len at =
     if is_console unit then
@@ -30,8 +30,10 @@ begun_transfer direction unit base index len at =
     else None
     else None
 
--- the call pops mode, block, length, index, base and unit, the last pushed first; mode and block
--- are ignored
+-- The state after a call of UNITREAD or UNITWRITE, or error 0.
+-- It pops mode, block, length, index, base and unit, the last pushed first. Mode and block are
+-- ignored.
+-- Source: Manual, UNITREAD and UNITWRITE.
 abbrev pub unit_call : Direction → ℕ → State → List ℕ → Result State Stop
 unit_call direction j s (mode ∷ block ∷ len ∷ index ∷ base ∷ unit ∷ rest) =
     Ok (record s {
@@ -42,7 +44,7 @@ unit_call direction j s (mode ∷ block ∷ len ∷ index ∷ base ∷ unit ∷ 
     })
 unit_call direction j s _ = Err (Error StackUnderflow)
 
--- what is left of a transfer after one byte
+-- The rest of a transfer after one byte, if there is one.
 abbrev pub rest_of : Transfer → Option Transfer
 rest_of t =
     if nat_lt 1 t.left then Some (record t { address = t.address +ℤ pos 1; left = t.left - 1 })

@@ -4,29 +4,29 @@ ghost use Rattle.pcode_machine.specs.Arithmetic.{absolute_of, both_of, checked_o
 
 use crate::errors::ExecutionError;
 
-/// The sum of two words, modulo 65,536.
+/// Returns the sum of two words, modulo 65,536.
 pub fn sum(a: u16, b: u16) -> u16
     ensures { result ≡ sum_of a b }
 {
     a.wrapping_add(b)
 }
 
-/// The first word less the second, modulo 65,536.
+/// Returns the first word less the second, modulo 65,536.
 pub fn difference(a: u16, b: u16) -> u16
     ensures { result ≡ difference_of a b }
 {
     a.wrapping_sub(b)
 }
 
-/// The product of two words, modulo 65,536.
+/// Returns the product of two words, modulo 65,536.
 pub fn product(a: u16, b: u16) -> u16
     ensures { result ≡ product_of a b }
 {
     a.wrapping_mul(b)
 }
 
-/// The quotient of two signed words, rounded towards zero, modulo 65,536: -32,768 by -1 is
-/// -32,768. Refused with error 6 where the divisor is 0.
+/// Returns the quotient of two signed words, rounded towards zero, modulo 65,536: -32,768 by -1 is
+/// -32,768. Fails with error 6 if the divisor is 0.
 pub fn quotient(a: u16, b: u16) -> Result<u16, ExecutionError>
     ensures { result ≡ quotient_of a b }
 {
@@ -37,8 +37,8 @@ pub fn quotient(a: u16, b: u16) -> Result<u16, ExecutionError>
     Ok(whole.cast_unsigned())
 }
 
-/// What that quotient leaves, which has the sign of the dividend: -32,768 by -1 leaves 0. Refused
-/// with error 6 where the divisor is 0.
+/// Returns the remainder of that division, with the sign of the dividend: 0 for -32,768 by -1.
+/// Fails with error 6 if the divisor is 0.
 pub fn remainder(a: u16, b: u16) -> Result<u16, ExecutionError>
     ensures { result ≡ remainder_of a b }
 {
@@ -49,50 +49,50 @@ pub fn remainder(a: u16, b: u16) -> Result<u16, ExecutionError>
     Ok(left.cast_unsigned())
 }
 
-/// The absolute value of a signed word; that of -32,768 is the same word.
+/// Returns the absolute value of a signed word. For -32,768 it is the same word.
 pub fn absolute(a: u16) -> u16
     ensures { result ≡ absolute_of a }
 {
     a.cast_signed().unsigned_abs()
 }
 
-/// The word of the other sign; that of -32,768 is the same word.
+/// Returns the word of the other sign. For -32,768 it is the same word.
 pub fn negation(a: u16) -> u16
     ensures { result ≡ negation_of a }
 {
     0u16.wrapping_sub(a)
 }
 
-/// The product of a word with itself, modulo 65,536.
+/// Returns the product of a word with itself, modulo 65,536.
 pub fn square(a: u16) -> u16
     ensures { result ≡ square_of a }
 {
     a.wrapping_mul(a)
 }
 
-/// The bits that are set in both words.
+/// Returns the bits that are set in both words.
 pub fn both(a: u16, b: u16) -> u16
     ensures { result ≡ both_of a b }
 {
     a & b
 }
 
-/// The bits that are set in either word.
+/// Returns the bits that are set in either word.
 pub fn either(a: u16, b: u16) -> u16
     ensures { result ≡ either_of a b }
 {
     a | b
 }
 
-/// The bits that are not set in a word.
+/// Returns the bits that are not set in a word.
 pub fn complement(a: u16) -> u16
     ensures { result ≡ complement_of a }
 {
     !a
 }
 
-/// The word itself. Refused with error 1 where, all three signed, it lies below the low bound or
-/// above the high one.
+/// Returns `value` itself. Fails with error 1 if, all three signed, it is below `low` or above
+/// `high`.
 pub fn checked(value: u16, low: u16, high: u16) -> Result<u16, ExecutionError>
     ensures { result ≡ checked_of value low high }
 {
@@ -103,8 +103,8 @@ pub fn checked(value: u16, low: u16, high: u16) -> Result<u16, ExecutionError>
     }
 }
 
-/// The address, in bytes, of the element at an index behind a pointer, where each element has so
-/// many words; modulo 65,536.
+/// Returns the address in bytes, modulo 65,536, of element `index` after a pointer. Each element
+/// has `words` words.
 pub fn element(pointer: u16, index: u16, words: u16) -> u16
     ensures { result ≡ element_of pointer index words }
 {

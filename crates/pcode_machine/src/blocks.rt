@@ -8,8 +8,8 @@ use crate::parts::MachineParts;
 use crate::turn::Stop;
 use pcode_frames::{Memory, STACK_WORDS};
 
-/// Whether so many words from a pointer on, which has to be even, are live. Nothing is asked of a
-/// pointer to no words.
+/// Returns true if `words` words from `pointer` on are live. The pointer has to be even, unless
+/// there are no words.
 fn is_block(memory: &Memory, pointer: u16, words: u16) -> bool
     ensures { result ≡ is_block memory.now pointer words }
 {
@@ -23,8 +23,8 @@ fn is_block(memory: &Memory, pointer: u16, words: u16) -> bool
 }
 
 impl MachineParts {
-    /// Pops two pointers, copies so many words from the one on top to the other, and goes on at an
-    /// offset. All are read before any is written.
+    /// Pops two pointers, copies `words` words from the one on top to the other, and goes on at
+    /// `next`. All are read before any is written.
     pub fn move_block(&mut self, words: u16, next: u32) -> Result<(), Stop>
         ensures value { block_moved words next (state_of self.old) self.old.stack
             ≡ state_if_ok result (state_of self.new) }
@@ -49,8 +49,8 @@ impl MachineParts {
         Ok(())
     }
 
-    /// Replaces the pointer on top by so many words from it on, the first on top, and goes on at an
-    /// offset.
+    /// Replaces the pointer on top by the `words` words from it on, the first on top, and goes on
+    /// at `next`.
     pub fn load_block(&mut self, words: u16, next: u32) -> Result<(), Stop>
         ensures value { block_loaded words next (state_of self.old) self.old.stack
             ≡ state_if_ok result (state_of self.new) }
@@ -71,8 +71,8 @@ impl MachineParts {
         Ok(())
     }
 
-    /// Pops so many words to where the pointer below them points, the top to the first, pops the
-    /// pointer, and goes on at an offset.
+    /// Pops `words` words to where the pointer below them points, the top to the first. Then it
+    /// pops the pointer, and goes on at `next`.
     #[tactic(auto, using(base::proofs::Lists::drop_next))]
     pub fn store_block(&mut self, words: u16, next: u32) -> Result<(), Stop>
         ensures value { block_stored words next (state_of self.old)

@@ -1,4 +1,4 @@
-//! Bytes behind a pointer: LDB, STB.
+//! Bytes at an index after a pointer: LDB, STB.
 ghost use Rattle.std.specs.Prelude.{◌≡◌, OnErr, ◌≤ℤ◌, pos, neg_ℤ};
 ghost use Rattle.pcode_machine.specs.Bytes.{byte_address, byte_loaded, byte_stored};
 ghost use Rattle.pcode_machine.specs.Ready.{state_of, state_if_ok};
@@ -7,8 +7,8 @@ use crate::errors::ExecutionError;
 use crate::parts::MachineParts;
 use crate::turn::Stop;
 
-/// The byte address at an index behind a base, which is not taken modulo 65,536: the index is
-/// signed, the base is not.
+/// Returns the byte address at `index` after `base`, not modulo 65,536. The index is signed, the
+/// base is not.
 pub fn byte_address(base: u16, index: u16) -> i32
     ensures { result ≡ byte_address base index }
 {
@@ -16,7 +16,7 @@ pub fn byte_address(base: u16, index: u16) -> i32
 }
 
 impl MachineParts {
-    /// Replaces index and base on top by the byte there, and goes on at an offset.
+    /// Replaces index and base on top by the byte there, and goes on at `next`.
     pub fn load_byte(&mut self, next: u32) -> Result<(), Stop>
         ensures value { byte_loaded next (state_of self.old) self.old.stack
             ≡ state_if_ok result (state_of self.new) }
@@ -41,8 +41,7 @@ impl MachineParts {
         }
     }
 
-    /// Pops a word, an index and a base, stores the word's low byte there, and goes on at an
-    /// offset.
+    /// Pops a word, an index and a base, stores the word's low byte there, and goes on at `next`.
     pub fn store_byte(&mut self, next: u32) -> Result<(), Stop>
         ensures value { byte_stored next (state_of self.old) self.old.stack
             ≡ state_if_ok result (state_of self.new) }

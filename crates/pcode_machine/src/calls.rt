@@ -1,4 +1,4 @@
-//! Calls and returns: CLP, CGP, CIP, RNP; and the frames that static links lead to.
+//! Calls and returns: CLP, CGP, CIP, RNP; and the frames to which static links lead.
 ghost use Rattle.std.specs.Prelude.{◌≡◌, ◌≤◌, IsSome, MatchOption, OnErr, Some, length};
 ghost use Rattle.pcode_frames.specs.declared.frame.Frame.{Frame};
 ghost use Rattle.pcode_frames.specs.Frames.{current_of};
@@ -13,8 +13,8 @@ use pcode_frames::Frame;
 use pcode_ops::Program;
 
 impl MachineParts {
-    /// The word address below the frame so many static links up from the current one, which is
-    /// there.
+    /// Returns the word address below the frame `levels` static links up from the current one. That
+    /// frame exists.
     pub fn base_up(&self, levels: u8) -> u16
         requires { IsSome (frame_up self.now.frames levels) }
         ensures { MatchOption (frame_up self.now.frames levels) ⊥ (λ frame. result ≡ frame.base) }
@@ -28,8 +28,8 @@ impl MachineParts {
         }
     }
 
-    /// The index of the frame to which the procedure in the current frame links another one, which
-    /// may be one around it: one lex level further out than that other.
+    /// Returns the index of the frame to which the procedure in the current frame links procedure
+    /// `number`: one lex level further out than that one.
     pub fn link_outward(&self, program: &Program, frame: Frame, number: u8) -> Option<u16>
         ensures { result ≡ link_outward program.now frame number self.now.frames }
     {
@@ -42,8 +42,8 @@ impl MachineParts {
             .link_up(levels.saturating_sub(u16::from(callee.level)) as u8)
     }
 
-    /// Calls a procedure, whose static link is the frame at an index; it goes on at an offset when
-    /// it returns.
+    /// Calls a procedure, whose static link is the frame at index `link`. When it returns,
+    /// execution goes on at `next`.
     pub fn call_procedure(
         &mut self,
         program: &Program,
@@ -73,7 +73,7 @@ impl MachineParts {
         Ok(())
     }
 
-    /// Returns from the procedure of the current frame, which is not the main frame, with so many
+    /// Returns from the procedure of the current frame, which is not the main frame, with `words`
     /// words.
     pub fn leave(&mut self, words: u8) -> Result<(), Stop>
         requires { 2 ≤ length self.old.frames }

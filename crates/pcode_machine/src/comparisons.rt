@@ -1,4 +1,4 @@
-//! Comparisons of words, signed or of their low bits, whose answer is a word: 1 or 0.
+//! Comparisons of words, signed or of their low bits, whose result is the word 1 or 0.
 ghost use Rattle.std.specs.Prelude.{◌≡◌};
 ghost use Rattle.pcode_machine.specs.Comparisons.{compared, compared_bits, holds_of};
 
@@ -13,7 +13,7 @@ pub enum Comparison {
     Greater,
 }
 
-/// Whether the comparison holds of two numbers.
+/// Returns true if the comparison holds of two numbers.
 fn holds(comparison: Comparison, a: i16, b: i16) -> bool
     ensures { result ≡ holds_of comparison a b }
 {
@@ -27,7 +27,7 @@ fn holds(comparison: Comparison, a: i16, b: i16) -> bool
     }
 }
 
-/// 1 if the comparison holds of two signed words, else 0.
+/// Returns 1 if the comparison holds of two signed words, and 0 otherwise.
 pub fn compared(comparison: Comparison, a: u16, b: u16) -> u16
     ensures { result ≡ compared comparison a b }
 {
@@ -38,7 +38,7 @@ pub fn compared(comparison: Comparison, a: u16, b: u16) -> u16
     }
 }
 
-/// 1 if the comparison holds of the low bits of two words, as numbers, else 0.
+/// Returns 1 if the comparison holds of the low bits of two words, as numbers, and 0 otherwise.
 pub fn compared_bits(comparison: Comparison, a: u16, b: u16) -> u16
     ensures { result ≡ compared_bits comparison a b }
 {

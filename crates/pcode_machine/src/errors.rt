@@ -5,8 +5,8 @@ ghost use Rattle.pcode_machine.specs.Errors.{error_of, error_number};
 
 use pcode_frames::Halt;
 
-/// Why an instruction or a transfer cannot be executed. Where several errors apply,
-/// `StackUnderflow` comes first and `NoRoom` last.
+/// Why an instruction or a transfer cannot be executed. If several errors apply, `StackUnderflow`
+/// comes first and `NoRoom` last.
 #[derive(Clone, Copy, Debug, PartialEq, Eq)]
 pub enum ExecutionError {
     /// Number 0: the stack has fewer words than the instruction takes.
@@ -17,9 +17,9 @@ pub enum ExecutionError {
     NoRoom,
     /// Number 6: the divisor is 0.
     DivisionByZero,
-    /// Number 7: a word or byte is addressed that is not live.
+    /// Number 7: an addressed word or byte is not live.
     BadAddress,
-    /// Number 10: the last transfer named no unit.
+    /// Number 10: the last transfer named a unit that does not exist.
     NoUnit,
     /// Number 14: the program called HALT.
     Halted,

@@ -16,7 +16,7 @@ use pcode_frames::Frame;
 use pcode_ops::{Instr, Program, StandardProcedure};
 
 impl MachineParts {
-    /// Calls a standard procedure, and goes on at an offset.
+    /// Calls a standard procedure, and goes on at `next`.
     fn standard(&mut self, procedure: StandardProcedure, next: u32) -> Result<(), Stop>
         ensures value { made (standard procedure next (state_of self.old)) next (state_of self.old)
             ≡ Some (state_if_ok result (state_of self.new)) }
@@ -39,7 +39,7 @@ impl MachineParts {
 
     /// Executes an instruction of the program in the current frame, and goes on at the offset after
     /// it or where it leads. A stop changes nothing.
-    #[tactic(auto, using(crate::proofs::Possible::some_given))]
+    #[tactic(auto, using(crate::proofs::NamedExists::some_given))]
     pub fn execute(
         &mut self,
         program: &Program,

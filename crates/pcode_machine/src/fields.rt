@@ -5,12 +5,12 @@ ghost use Rattle.pcode_machine.specs.Ready.{state_of, state_if_ok};
 
 use crate::errors::ExecutionError;
 use crate::parts::MachineParts;
-use crate::pointers::{behind, pointed};
+use crate::pointers::{pointed, pointer_past};
 use crate::turn::Stop;
 use pcode_frames::{Memory, STACK_WORDS};
 
-/// Returns whether there is a bit at least, and all lie in one word: bits are counted from 0, the
-/// lowest.
+/// Returns true if the field has at least one bit, and all its bits lie in one word. Bits are
+/// counted from 0, the lowest.
 fn is_field(width: u16, right: u16) -> bool
     ensures { result ≡ is_field width right }
 {
@@ -49,8 +49,8 @@ fn with_field(word: u16, width: u16, right: u16, value: u16) -> u16
     (word % low + low * field + above * (word / above)) as u16
 }
 
-/// Returns the field of the word at a pointer. Refused where the bits are no field, or else the
-/// word is not live.
+/// Returns the field of the word at a pointer. Fails with error 1 if the bits are no field, and
+/// then with error 7 if the word is not live.
 fn field_at(memory: &Memory, pointer: u16, width: u16, right: u16) -> Result<u16, ExecutionError>
     ensures { result ≡ field_at memory.now pointer width right }
 {
@@ -63,8 +63,8 @@ fn field_at(memory: &Memory, pointer: u16, width: u16, right: u16) -> Result<u16
     }
 }
 
-/// Returns the word at a pointer with `value` in the field. Refused where the bits are no field, or
-/// else the word is not live.
+/// Returns the word at a pointer with `value` in the field. Fails with error 1 if the bits are no
+/// field, and then with error 7 if the word is not live.
 fn changed_at(
     memory: &Memory,
     pointer: u16,
@@ -84,9 +84,9 @@ fn changed_at(
 }
 
 impl MachineParts {
-    /// Replaces an index and a pointer by the field at that index, three words: a pointer to the
-    /// word, the width, and the place of the lowest bit. Each word has `elements` fields of `width`
-    /// bits.
+    /// Replaces an index and a pointer by the three words that name the field at that index: a
+    /// pointer to its word, its width, and the place of its lowest bit. Each word has `elements`
+    /// fields of `width` bits.
     pub fn index_field(&mut self, elements: u8, width: u8, next: u32) -> Result<(), Stop>
         requires { 1 ≤ elements }
         ensures value { field_indexed elements width next (state_of self.old) self.old.stack
@@ -106,14 +106,14 @@ impl MachineParts {
         let width = u16::from(width);
         let index = self.stack.pop()?;
         let pointer = self.stack.top();
-        self.stack.set_top(behind(pointer, index / elements));
+        self.stack.set_top(pointer_past(pointer, index / elements));
         self.stack.push(width).unwrap();
         self.stack.push(index % elements * width).unwrap();
         self.next = next;
         Ok(())
     }
 
-    /// Replaces the three words that name a field by its bits, and goes on at an offset.
+    /// Replaces the three words that name a field by its bits, and goes on at `next`.
     pub fn load_field(&mut self, next: u32) -> Result<(), Stop>
         ensures value { field_loaded next (state_of self.old) self.old.stack
             ≡ state_if_ok result (state_of self.new) }
@@ -140,7 +140,7 @@ impl MachineParts {
     }
 
     /// Pops a word and the three words that name a field, stores the word's low bits there, and
-    /// goes on at an offset.
+    /// goes on at `next`.
     pub fn store_field(&mut self, next: u32) -> Result<(), Stop>
         ensures value { field_stored next (state_of self.old) self.old.stack
             ≡ state_if_ok result (state_of self.new) }

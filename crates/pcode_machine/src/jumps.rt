@@ -21,7 +21,7 @@ impl MachineParts {
         Ok(())
     }
 
-    /// Pops a word, and goes on at a target if its low bit is 0, else at the next offset.
+    /// Pops a word, and goes on at `target` if its low bit is 0, and at `next` otherwise.
     #[inline(always)]
     pub fn jump_unless(&mut self, target: u32, next: u32) -> Result<(), Stop>
         ensures value { branched (λ v. if v % 2 == 0 then target else next)
@@ -33,7 +33,7 @@ impl MachineParts {
         Ok(())
     }
 
-    /// Pops two words, and goes on at one offset if they are equal, else at the other.
+    /// Pops two words, and goes on at `equal` if they are equal, and at `unequal` otherwise.
     #[inline(always)]
     pub fn jump_by_equal(&mut self, equal: u32, unequal: u32) -> Result<(), Stop>
         ensures value { branched_by_two (λ a b. if a == b then equal else unequal)
@@ -49,8 +49,8 @@ impl MachineParts {
         Ok(())
     }
 
-    /// Pops a word, and goes on at its entry in a case table from `low` to `high`, or at the UJP in
-    /// front of the table.
+    /// Pops a word, and goes on at its entry in a case table from `low` to `high`, or at the UJP
+    /// before the table.
     pub fn jump_by_case(
         &mut self,
         program: &Program,

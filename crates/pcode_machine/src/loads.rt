@@ -8,14 +8,14 @@ use crate::errors::ExecutionError;
 use crate::parts::MachineParts;
 use crate::turn::Stop;
 
-/// The address of a word in bytes, modulo 65,536.
+/// Returns the address of a word in bytes, modulo 65,536.
 pub fn address_of(word: u16) -> u16
     ensures { result ≡ address_of word }
 {
     word.wrapping_mul(2)
 }
 
-/// The address in bytes, modulo 65,536, of the word at an offset from a base.
+/// Returns the address in bytes, modulo 65,536, of the word at `offset` from a base.
 pub fn address_from(base: u16, offset: u16) -> u16
     ensures { result ≡ address_of (base + offset) }
 {
@@ -23,7 +23,7 @@ pub fn address_from(base: u16, offset: u16) -> u16
 }
 
 impl MachineParts {
-    /// The word at an offset from a base, if it is live.
+    /// Returns the word at `offset` from a base, if it is live.
     #[inline(always)]
     pub fn word(&self, base: u16, offset: u16) -> Option<u16>
         ensures { result ≡ live_word_at self.now.memory (base + offset) }
@@ -33,7 +33,7 @@ impl MachineParts {
         self.memory.get(base.checked_add(offset)?)
     }
 
-    /// Pushes a word, and goes on at an offset. There is room for 1,024 words.
+    /// Pushes a word, and goes on at `next`. The stack has at most 1,024 words.
     #[inline(always)]
     pub fn push(&mut self, word: u16, next: u32) -> Result<(), Stop>
         ensures value { pushed word next (state_of self.old)
@@ -45,7 +45,7 @@ impl MachineParts {
         Ok(())
     }
 
-    /// Pushes the word at an offset from a base, and goes on at an offset of the code.
+    /// Pushes the word at `offset` from a base, and goes on at `next`.
     #[inline(always)]
     pub fn load(&mut self, base: u16, offset: u16, next: u32) -> Result<(), Stop>
         ensures value { loaded (base + offset) next (state_of self.old)

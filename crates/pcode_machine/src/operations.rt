@@ -1,5 +1,4 @@
-//! Instructions that make words of words: arithmetic, logic, comparisons, pointers that move, and
-//! CHK.
+//! Instructions that compute words: arithmetic, logic, comparisons, pointers that move, and CHK.
 ghost use Rattle.std.specs.Prelude.{◌≡◌, OnErr};
 ghost use Rattle.pcode_machine.specs.Operations.{changed_of, checked, combined, replaced, value_of};
 ghost use Rattle.pcode_machine.specs.Ready.{state_of, state_if_ok};
@@ -8,21 +7,21 @@ use crate::arithmetic as words;
 use crate::comparisons::{Comparison, compared, compared_bits};
 use crate::errors::ExecutionError;
 use crate::parts::MachineParts;
-use crate::pointers::behind;
+use crate::pointers::pointer_past;
 use crate::turn::Stop;
 
-/// What an instruction makes of one word.
+/// A change of one word.
 #[derive(Clone, Copy, Debug, PartialEq, Eq)]
 pub enum Change {
     Absolute,
     Negation,
     Square,
     Complement,
-    /// A pointer so many words on.
+    /// A pointer that many words further on.
     Behind(u16),
 }
 
-/// What an instruction makes of two words.
+/// A combination of two words.
 #[derive(Clone, Copy, Debug, PartialEq, Eq)]
 pub enum Operation {
     Sum,
@@ -36,11 +35,11 @@ pub enum Operation {
     Compare(Comparison),
     /// A comparison of low bits.
     CompareBits(Comparison),
-    /// The pointer to an element, where each has so many words.
+    /// The pointer to an element, each of that many words.
     Element(u16),
 }
 
-/// What a change makes of a word.
+/// Returns the result of a change.
 #[inline(always)]
 fn changed(change: Change, a: u16) -> u16
     ensures { result ≡ changed_of change a }
@@ -50,11 +49,11 @@ fn changed(change: Change, a: u16) -> u16
         Change::Negation => words::negation(a),
         Change::Square => words::square(a),
         Change::Complement => words::complement(a),
-        Change::Behind(words) => behind(a, words),
+        Change::Behind(words) => pointer_past(a, words),
     }
 }
 
-/// What an operation makes of two words, or the number of its error.
+/// Returns the result of an operation, or its error.
 #[inline(always)]
 fn value(operation: Operation, a: u16, b: u16) -> Result<u16, ExecutionError>
     ensures { result ≡ value_of operation a b }
@@ -74,7 +73,7 @@ fn value(operation: Operation, a: u16, b: u16) -> Result<u16, ExecutionError>
 }
 
 impl MachineParts {
-    /// Changes the word on top, and goes on at an offset.
+    /// Changes the word on top, and goes on at `next`.
     #[inline(always)]
     pub fn replace(&mut self, change: Change, next: u32) -> Result<(), Stop>
         ensures value { replaced change next (state_of self.old) self.old.stack
@@ -90,7 +89,7 @@ impl MachineParts {
         Ok(())
     }
 
-    /// Replaces the two words on top by one, and goes on at an offset.
+    /// Replaces the two words on top by one, and goes on at `next`.
     #[inline(always)]
     pub fn combine(&mut self, operation: Operation, next: u32) -> Result<(), Stop>
         ensures value { combined operation next (state_of self.old) self.old.stack
@@ -116,7 +115,7 @@ impl MachineParts {
     }
 
     /// Leaves the lowest of the three words on top if it lies from the next one to the top, and
-    /// goes on at an offset.
+    /// goes on at `next`.
     pub fn check(&mut self, next: u32) -> Result<(), Stop>
         ensures value { checked next (state_of self.old) self.old.stack
             ≡ state_if_ok result (state_of self.new) }

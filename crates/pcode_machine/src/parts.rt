@@ -1,5 +1,6 @@
-//! What a machine keeps beside its program.
+//! The parts of a machine besides its program.
 ghost use Rattle.std.specs.Prelude.{◌≡◌, ◌+◌, IfOk, nat_le, if◌then◌else◌};
+ghost use Rattle.pcode_frames.specs.declared.limits.TheConstants.{LIVE_WORDS};
 ghost use Rattle.pcode_machine.specs.Configuration.{framed, unframed};
 ghost use Rattle.pcode_machine.specs.Ready.{state_of};
 
@@ -8,24 +9,24 @@ use pcode_file::Proc;
 use pcode_frames::{Frames, Memory, Stack};
 use std::alloc::{AllocError, Global};
 
-/// What a machine keeps beside its program. Instructions and transfers change these parts, and
-/// their contracts speak of the state that the parts stand for.
+/// The parts of a machine besides its program. Instructions and transfers change them. Their
+/// contracts are about the state that the parts are.
 #[derive(Drop)]
 pub struct MachineParts {
     pub memory: Memory,
     pub stack: Stack,
-    /// The frames, none if the main frame does not fit.
+    /// The frames; none if the main frame does not fit.
     pub frames: Frames,
     /// The offset of the next instruction, in bytes from the segment's start.
     pub next: u32,
-    /// The result of the last transfer that was begun: 0, or 2 where the unit is none.
+    /// The result of the last transfer: 0, or 2 if the unit does not exist.
     pub io_result: u16,
     /// The bytes that are still to be moved.
     pub transfer: Option<Transfer>,
 }
 
 impl MachineParts {
-    /// Room for a machine over any program: no word is live, and there is no frame.
+    /// Makes room for a machine over any program: no word is live, and there is no frame.
     pub fn new(alloc: Global) -> Result<MachineParts, AllocError>
         ensures { IfOk result (λ m. state_of m ≡ unframed 0) }
     {
@@ -43,14 +44,14 @@ impl MachineParts {
     pub fn start(&mut self, main: Proc)
         requires { state_of self.old ≡ unframed 0 }
         ensures state { state_of self.new
-            ≡ (if nat_le (main.params + main.vars) 16383
+            ≡ (if nat_le (main.params + main.vars) LIVE_WORDS
             then framed main.enter (main.params + main.vars) else unframed main.enter) }
         ensures next { self.new.next ≡ main.enter }
     {
         self.next = main.enter;
         // Parameters and data together may exceed 16 bits.
         if let Ok(size) = u16::try_from(u32::from(main.params) + u32::from(main.vars)) {
-            // A refusal leaves no frame, which is what a main frame that does not fit leaves.
+            // A refusal leaves no frame, as for a main frame that does not fit.
             let _fits = self.frames.start(&mut self.memory, size);
         }
     }

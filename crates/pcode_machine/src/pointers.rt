@@ -1,6 +1,6 @@
 //! Instructions that read and write at pointers, which are addresses in bytes: STO, SIND, IND.
 ghost use Rattle.std.specs.Prelude.{◌≡◌, OnErr};
-ghost use Rattle.pcode_machine.specs.Pointers.{behind, fetched, pointed, stored_at};
+ghost use Rattle.pcode_machine.specs.Pointers.{pointer_past, fetched, pointed, stored_at};
 ghost use Rattle.pcode_machine.specs.Ready.{state_of, state_if_ok};
 
 use crate::errors::ExecutionError;
@@ -8,14 +8,14 @@ use crate::parts::MachineParts;
 use crate::turn::Stop;
 use pcode_frames::Memory;
 
-/// The pointer so many words on, modulo 65,536.
-pub fn behind(pointer: u16, words: u16) -> u16
-    ensures { result ≡ behind pointer words }
+/// Returns the pointer `words` words further on, modulo 65,536.
+pub fn pointer_past(pointer: u16, words: u16) -> u16
+    ensures { result ≡ pointer_past pointer words }
 {
     pointer.wrapping_add(words.wrapping_mul(2))
 }
 
-/// The word at a pointer, which has to be even, if it is live.
+/// Returns the word at a pointer, which has to be even, if it is live.
 pub fn pointed(memory: &Memory, pointer: u16) -> Option<u16>
     ensures { result ≡ pointed memory.now pointer }
 {
@@ -27,7 +27,7 @@ pub fn pointed(memory: &Memory, pointer: u16) -> Option<u16>
 }
 
 impl MachineParts {
-    /// Replaces the pointer on top by the word so many words behind it, and goes on at an offset.
+    /// Replaces the pointer on top by the word `words` words after it, and goes on at `next`.
     pub fn fetch(&mut self, words: u16, next: u32) -> Result<(), Stop>
         ensures value { fetched words next (state_of self.old) self.old.stack
             ≡ state_if_ok result (state_of self.new) }
@@ -37,7 +37,7 @@ impl MachineParts {
             return Err(Stop::Error(ExecutionError::StackUnderflow));
         }
         let pointer = self.stack.top();
-        let Some(word) = pointed(&self.memory, behind(pointer, words)) else {
+        let Some(word) = pointed(&self.memory, pointer_past(pointer, words)) else {
             return Err(Stop::Error(ExecutionError::BadAddress));
         };
         self.stack.set_top(word);
@@ -45,7 +45,7 @@ impl MachineParts {
         Ok(())
     }
 
-    /// Pops a word and a pointer, stores the word there, and goes on at an offset.
+    /// Pops a word and a pointer, stores the word there, and goes on at `next`.
     pub fn store_at(&mut self, next: u32) -> Result<(), Stop>
         ensures value { stored_at next (state_of self.old) self.old.stack
             ≡ state_if_ok result (state_of self.new) }

@@ -9,7 +9,7 @@ use crate::parts::MachineParts;
 use crate::turn::Stop;
 use pcode_frames::Memory;
 
-/// The address of the word at an offset from a base, if it is live.
+/// Returns the address of the word at `offset` from a base, if it is live.
 #[inline(always)]
 pub fn live_word(memory: &Memory, base: u16, offset: u16) -> Option<u16>
     ensures { result ≡ (if is_some (live_word_at memory.now (base + offset))
@@ -26,7 +26,7 @@ pub fn live_word(memory: &Memory, base: u16, offset: u16) -> Option<u16>
 }
 
 impl MachineParts {
-    /// Pops a word to the live word at an offset from a base, and goes on at an offset of the code.
+    /// Pops a word to the live word at `offset` from a base, and goes on at `next`.
     #[inline(always)]
     pub fn store(&mut self, base: u16, offset: u16, next: u32) -> Result<(), Stop>
         ensures value { stored (base + offset) next (state_of self.old) self.old.stack

@@ -1,4 +1,4 @@
-//! Transfers between memory and a unit: the call that begins one, and each byte.
+//! Transfers between memory and a unit: the call that starts one, and each byte.
 ghost use Rattle.std.specs.Prelude.{◌≡◌, ℕ, List, None, Some, IfErr, IsSome, OnErr, OnOk};
 ghost use Rattle.pcode_file.specs.Parts.{Parts};
 ghost use Rattle.pcode_frames.specs.Frames.{current_of};
@@ -19,15 +19,15 @@ use crate::parts::MachineParts;
 use crate::turn::{Direction, End, Pause, Stop, Transfer};
 use pcode_frames::Frame;
 
-/// Whether a unit is the console: unit 1 (CONSOLE:) or unit 2 (SYSTERM:).
+/// Returns true if a unit is the console: unit 1 (CONSOLE:) or unit 2 (SYSTERM:).
 fn is_console(unit: u16) -> bool
     ensures { result ≡ is_console unit }
 {
     unit == 1 || unit == 2
 }
 
-/// The transfer that a call at an offset begins, if there is a byte to move. The length is signed,
-/// and the byte address is the base plus the signed index.
+/// Returns the transfer that a call at an offset starts, if there is a byte to move. The length is
+/// signed. The byte address is the base plus the signed index.
 fn begun(
     direction: Direction,
     unit: u16,
@@ -56,7 +56,7 @@ fn begun(
     })
 }
 
-/// The end of a transfer whose next byte is not in a live word.
+/// Returns the end of a transfer whose next byte is not in a live word.
 fn not_live(frame: Frame, transfer: Transfer) -> End
     ensures { result ≡ Error (error_number BadAddress) frame.procedure transfer.at }
 {
@@ -69,7 +69,7 @@ fn not_live(frame: Frame, transfer: Transfer) -> End
 
 impl MachineParts {
     /// Calls UNITREAD or UNITWRITE: pops mode, block, length, index, base and unit, the last pushed
-    /// first, and goes on at an offset. Mode and block are ignored.
+    /// first, and goes on at `next`. Mode and block are ignored.
     pub fn call(&mut self, direction: Direction, next: u32) -> Result<(), Stop>
         ensures value { unit_call direction next (state_of self.old) self.old.stack
             ≡ state_if_ok result (state_of self.new) }
@@ -90,7 +90,7 @@ impl MachineParts {
         Ok(())
     }
 
-    /// Keeps what is left of a transfer after one byte, whose address was live.
+    /// Keeps the rest of a transfer after one byte, whose address was live.
     #[tactic(auto, using(crate::proofs::Live::live_address))]
     fn pass_byte(&mut self, transfer: Transfer)
         requires live { IsSome (live_byte_at self.old.memory transfer.address) }
@@ -109,7 +109,7 @@ impl MachineParts {
         };
     }
 
-    /// Stores a byte of a transfer at its live address, and keeps what is left of it.
+    /// Stores a byte of a transfer at its live address, and keeps the rest of the transfer.
     pub fn take_byte(&mut self, transfer: Transfer, byte: u8)
         requires live { IsSome (live_byte_at self.old.memory transfer.address) }
         ensures { self.new ≡ record self.old {
@@ -121,8 +121,8 @@ impl MachineParts {
         self.memory.put_byte(transfer.address, byte);
     }
 
-    /// Writes the next byte of a transfer to a unit, and returns it; or says how the program ends,
-    /// where its address is not live.
+    /// Writes the next byte of a transfer to a unit, and returns it. Fails with how the program
+    /// ends if its address is not live.
     fn write_byte(&mut self, frame: Frame, transfer: Transfer) -> Result<u8, End>
         requires { self.old.transfer ≡ Some transfer }
         ensures value { (x : List ℕ) (read : ℕ) (output : List ℕ) →
@@ -141,8 +141,8 @@ impl MachineParts {
         }
     }
 
-    /// Looks at the address of the next byte of a transfer from a unit. Refused, by how the program
-    /// ends, where it is not live.
+    /// Checks the address of the next byte of a transfer from a unit. Fails with how the program
+    /// ends if it is not live.
     fn find_place(&self, frame: Frame, transfer: Transfer) -> Result<(), End>
         ensures live { OnOk result (IsSome (live_byte_at self.now.memory transfer.address)) }
         ensures dead { IfErr result (λ e. (live_byte_at self.now.memory transfer.address ≡ None)
@@ -155,7 +155,7 @@ impl MachineParts {
     }
 
     /// Goes on with a pending transfer: writes its next byte, or waits for it. The address is
-    /// looked at first.
+    /// checked first.
     pub fn pass(&mut self, frame: Frame, transfer: Transfer) -> Pause
         requires current { current_of self.old.frames ≡ Some frame }
         requires pending { self.old.transfer ≡ Some transfer }

@@ -1,4 +1,4 @@
-//! What a machine is made of, and what its turns say.
+//! Transfers, ends, turns and pauses of a machine.
 ghost use Rattle.std.specs.Prelude.{◌≡◌};
 ghost use Rattle.pcode_machine.specs.Errors.{error_of};
 ghost use Rattle.pcode_machine.specs.declared.turn.Stop.TheVariants.{Error};
@@ -7,31 +7,32 @@ use crate::errors::ExecutionError;
 use pcode_frames::Halt;
 use thiserror::Error;
 
-/// Whether bytes come from the input to memory or go from memory to the output.
+/// The direction of a transfer: bytes come from the input to memory, or go from memory to the
+/// output.
 #[derive(Clone, Copy, Debug, PartialEq, Eq)]
 pub enum Direction {
     Reading,
     Writing,
 }
 
-/// Bytes that are still to be moved, at least one.
+/// A transfer: bytes that are still to be moved, at least one.
 #[derive(Clone, Copy, Debug, PartialEq, Eq)]
 pub struct Transfer {
     pub direction: Direction,
-    /// The unit's number; unit 1 writes what is read from it.
+    /// The unit's number. Unit 1 writes what is read from it.
     pub unit: u16,
     /// The byte address of the next byte.
     pub address: i32,
-    /// How many bytes are left.
+    /// The number of bytes that are left.
     pub left: u16,
-    /// The offset of the instruction that asked for it.
+    /// The offset of the instruction that started it.
     pub at: u32,
 }
 
 /// Why an instruction has no next one.
 #[derive(Clone, Copy, Debug, PartialEq, Eq)]
 pub enum Stop {
-    /// The program is over.
+    /// The program has ended normally.
     Normal,
     /// An execution error.
     Error(ExecutionError),
@@ -84,10 +85,10 @@ pub enum Pause {
     Ended(End),
 }
 
-/// Why a machine is not made.
+/// Why there is no machine.
 #[derive(Clone, Copy, Debug, PartialEq, Eq, Error)]
 pub enum MachineFault {
-    /// There is no memory.
+    /// Out of memory.
     #[error("M1")]
     Memory,
 }

@@ -1,4 +1,4 @@
--- What stands at a reached offset may stand in the offset's owner.
+-- An instruction at a reached offset may be in the procedure that owns the offset.
 use Rattle.std.proofs.Common.{◌≡◌, ℕ, zero, suc, true, Some, Ok, inl, subst}
 use Rattle.pcode_file.specs.declared.file.Proc.{Proc}
 use Rattle.pcode_file.specs.InFile.{AreProcs}
@@ -7,13 +7,12 @@ use Rattle.pcode_ops.specs.declared.instr.Instr.{Instr}
 use Rattle.pcode_ops.specs.declared.loading.Onward.{Onward}
 use Rattle.pcode_ops.specs.Decoding.{instr_at}
 use Rattle.pcode_ops.specs.Loading.{is_in, owner, IsFine, HasNext}
-use Rattle.pcode_ops.specs.Reach.{Reach, entered, followed}
-use Rattle.pcode_ops.specs.Standing.{MayStand}
+use Rattle.pcode_ops.specs.Reach.{Reach, entered, followed, MayStand}
 use Rattle.pcode_ops.proofs.Apart.{owned}
 use Rattle.pcode_ops.proofs.Following.{next_is}
 use Rattle.pcode_ops.proofs.Leading.{looked_inside}
 use Rattle.pcode_ops.proofs.Looking.{IsLooked, owner_is, looked_is, fine_leads}
-use Rattle.pcode_ops.proofs.Longer.{decoded_longer}
+use Rattle.pcode_ops.proofs.LongerCode.{decoded_longer}
 use Rattle.pcode_ops.proofs.Procedures.{is_inside}
 
 -- ---- where the checks of an offset let an instruction stand

@@ -1,4 +1,5 @@
--- The parts of procedures are apart, so each offset of a part has the part's procedure as its owner.
+-- The parts of procedures are apart, so each offset of a part has the part's procedure as its
+-- owner.
 use Rattle.std.proofs.Common.{if◌then◌else◌, ◌≡◌, ℕ, zero, suc, ◌<◌, ◌≤◌, Bool, true, false, IsTrue, List, [], ◌∷◌, Some, slice_get, Ok, refl, sym, ap, ◌∙◌, subst, inl, inr, arith}
 use Rattle.std.proofs.lemmas.Bool.{cases_eq, cases_lt, and_parts, leb-true, ltb-true}
 use Rattle.pcode_file.specs.declared.file.Proc.{Proc}
@@ -40,7 +41,7 @@ one_owner segment procs h a b i q r at_a at_b in_q in_r =
       ]
     ]
 
--- behind a procedure in whose part the offset does not lie
+-- after a procedure in whose part the offset does not lie
 owner_behind : (r : Proc) (rs : List Proc) (i k : ℕ) (q : Proc)
     → ((n : ℕ) → slice_get rs n ≡ Some q → owner rs i ≡ Ok q) → is_in r i ≡ false → slice_get (r ∷ rs) k ≡ Some q
     → IsTrue (is_in q i) → owner rs i ≡ Ok q

@@ -1,4 +1,4 @@
--- What stands at a reached offset, and that the next offset is reached from it.
+-- The instruction at a reached offset, from which the next offset is reached.
 use Rattle.std.proofs.Common.{◌≡◌, ℕ, List, Option, Some, None, Result, Ok, Err, inl, subst}
 use Rattle.base.specs.Steps.{◌>>=◌}
 use Rattle.base.proofs.Steps.{pass_ok}
@@ -11,7 +11,7 @@ use Rattle.pcode_ops.specs.declared.loading.Onward.{Onward}
 use Rattle.pcode_ops.specs.Decoding.{instr_at}
 use Rattle.pcode_ops.specs.Loading.{is_in, jump_to, goes_on, Flow, On, Jumps, Branches, Switches, Ends, flow_of, flows_to, onward, IsFine, HasNextBy, HasNext}
 use Rattle.pcode_ops.specs.Reach.{Reach, followed}
-use Rattle.pcode_ops.proofs.Longer.{decoded_longer}
+use Rattle.pcode_ops.proofs.LongerCode.{decoded_longer}
 use Rattle.pcode_ops.proofs.Looking.{looked_is, fine_leads}
 
 -- ---- the next offset of an instruction that has one
@@ -39,7 +39,7 @@ next_is segment q instr j o h e = next_of segment q (flow_of instr) j o h e
 
 -- ---- what was decoded at a reached offset
 
--- something stands at an offset without fault
+-- something is at an offset without fault
 pub found_there : (p : Parts) (i : ℕ) → IsFine p i → (found : Instr × ℕ) × (instr_at p.segment i ≡ Ok found)
 found_there p i fine =
     let leads = fine_leads p i fine in

@@ -1,4 +1,4 @@
--- Where a jump or a case jump leads is reached, where the jump may stand.
+-- A jump or a case jump that may be where it is leads to a reached offset.
 use Rattle.std.proofs.Common.{◌≡◌, ℕ, ◌+◌, ◌-◌, ◌*◌, ◌<◌, ◌&&◌, Bool, true, false, cond, List, Some, None, Result, Ok, Err, inl, inr, refl, subst, arith, ℤ, ◌-ℤ◌, int_le, unsigned_abs}
 use Rattle.std.proofs.lemmas.Bool.{and_parts}
 use Rattle.std.proofs.lemmas.Int.{ints}
@@ -16,10 +16,9 @@ use Rattle.pcode_ops.specs.At.{cases}
 use Rattle.pcode_ops.specs.Decoding.{instr_at}
 use Rattle.pcode_ops.specs.Jumps.{jump_in, StaysWith, pointed_by, case_of, IsCaseTable}
 use Rattle.pcode_ops.specs.Loading.{is_in, owner, jump_to, entries_in, goes_on, ends_at, Flow, On, Jumps, Branches, Switches, Ends, flow_of, flows_to, LeadsTo, JumpsWith, JumpsBy}
-use Rattle.pcode_ops.specs.Reach.{Reach}
-use Rattle.pcode_ops.specs.Standing.{MayStand}
+use Rattle.pcode_ops.specs.Reach.{Reach, MayStand}
 use Rattle.pcode_ops.proofs.Operating.{case_jump_at_is}
-use Rattle.pcode_ops.proofs.Standing.{decoded_at}
+use Rattle.pcode_ops.proofs.DecodedIsAt.{decoded_at}
 
 -- ---- jumps
 

@@ -17,7 +17,7 @@ use Rattle.pcode_ops.proofs.Looking.{IsLooked, owner_is}
 use Rattle.pcode_ops.proofs.OperandBytes.{step_has}
 use Rattle.pcode_ops.proofs.Operating.{case_jump_at_is}
 use Rattle.pcode_ops.proofs.Procedures.{is_inside}
-use Rattle.pcode_ops.proofs.Standing.{decoded_at}
+use Rattle.pcode_ops.proofs.DecodedIsAt.{decoded_at}
 
 -- ---- an offset of the part, if there is one
 

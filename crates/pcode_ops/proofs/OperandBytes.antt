@@ -1,4 +1,4 @@
--- Operands: what is read of a code stands there.
+-- Operands: what is read of a code is in it.
 use Rattle.std.proofs.Common.{◌≡◌, ℕ, ◌+◌, ◌-◌, ◌*◌, ltb, false, List, Option, Some, None, Result, Ok, Err, IfOk, slice_get, refl, ◌∙◌, ap, arith, inl, inr}
 use Rattle.std.proofs.lemmas.Bool.{ltb-true, ltb-false, cond_both}
 use Rattle.base.specs.Steps.{◌>>=◌}
@@ -26,11 +26,11 @@ word_read code i =
     (λ high. Ok (low + 256 * high)) (byte_read code (i + 1))
     (λ high h. (low, high, g, h, refl, refl)))
 
--- an operand of one or two bytes stands at i, up to the offset behind it
+-- an operand of one or two bytes is at i, up to the offset after it
 abbrev pub IsBig : List ℕ → ℕ → ℕ × ℕ → Type 0
 IsBig code i r = Big code i r.0 r.1
 
--- a first byte that is not below 128, and the one behind it
+-- a first byte that is not below 128, and the one after it
 wide_read : (code : List ℕ) (i first : ℕ) → HasByte code i first → ltb first 128 ≡ false
     → IfOk (byte_at code (i + 1) >>= λ low. Ok ((first - 128) * 256 + low, i + 2)) (IsBig code i)
 wide_read code i first e t =

@@ -1,4 +1,4 @@
--- What the operands of an instruction are that stands in a code, where loading looks at them.
+-- The operands of an instruction in a code that loading checks.
 use Rattle.std.proofs.Common.{◌≡◌, ℕ, ◌+◌, ◌%◌, true, List, length, Result, Ok, Err, IfOk, refl, sym, subst, arith, ℤ}
 use Rattle.pcode_ops.specs.declared.instr.Instr.{Instr}
 use Rattle.pcode_ops.specs.declared.instr.Instr.TheVariants.{Ixp, Xjp}
@@ -8,7 +8,7 @@ use Rattle.pcode_ops.specs.At.{FitsWord, HasElements, Cases, Stands, At}
 use Rattle.pcode_ops.specs.Decoding.{instr_at}
 use Rattle.pcode_ops.specs.Walks.{IsTableIn}
 use Rattle.pcode_ops.proofs.Rows.{is_plain, makes_plain, row_makes_plain}
-use Rattle.pcode_ops.proofs.Standing.{decoded_at}
+use Rattle.pcode_ops.proofs.DecodedIsAt.{decoded_at}
 
 -- the elements of IXP fit a word, and what XJP needs is there
 abbrev HasOperands : List ℕ → ℕ → Instr → ℕ → Type 0

@@ -12,7 +12,7 @@ one_read : (r : Result ℕ OpFault) (g : ℕ → Result (Instr × ℕ) OpFault) 
 one_read (Ok n) g = refl
 one_read (Err f) g = refl
 
--- an instruction of one operand or of two, with what was read first and with what stands there
+-- an instruction of one operand or of two, with what was read first and with what is there
 abbrev Pair : Type 0
 Pair = Result (Instr × ℕ) OpFault
 

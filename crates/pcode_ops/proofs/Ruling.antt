@@ -1,4 +1,4 @@
--- The checks of loading as functions and its rules as relations say the same.
+-- The checks of loading as functions and its rules as relations agree.
 use Rattle.std.proofs.Common.{◌≡◌, ◌≢◌, ℕ, zero, suc, ◌+◌, ◌-◌, ◌*◌, ◌%◌, ◌<◌, ◌≤◌, ◌⊎◌, inl, inr, ◌↔◌, ◌&&◌, ◌||◌, Bool, true, false, cond, leb, ltb, eqb, eq-eqb, List, Option, Some, None, Result, Ok, Err, refl, sym, ap, subst, arith, ℤ, pos, ◌≤ℤ◌, ◌<ℤ◌, int_le, unsigned_abs}
 use Rattle.std.proofs.lemmas.Bool.{and_parts, and_from, leb-true, ltb-true, ltb-false, eqb-true, eqb-false, le-leb, le-ltb, ne_eqb, cond_both}
 use Rattle.std.proofs.lemmas.Int.{ints}
@@ -12,7 +12,7 @@ use Rattle.pcode_ops.specs.declared.instr.Instr.{Instr}
 use Rattle.pcode_ops.specs.declared.instr.Instr.TheVariants.{Lod, Str, Lda, Clp, Cgp, Cip, Rnp, Rbp}
 use Rattle.pcode_ops.specs.declared.loading.Onward.{Onward}
 use Rattle.pcode_ops.specs.At.{cases}
-use Rattle.pcode_ops.specs.Loading.{is_in, callee_by, called, linked, legal, leads_in, through, jump_to, entries_in, goes_on, ends_at, cases_to, Flow, On, Jumps, Branches, Switches, Ends, flow_of, flows_to, onward, LeadsTo}
+use Rattle.pcode_ops.specs.Loading.{is_in, callee_by, legal_call, legal_links, legal, leads_in, through, jump_to, entries_in, goes_on, ends_at, cases_to, Flow, On, Jumps, Branches, Switches, Ends, flow_of, flows_to, onward, LeadsTo}
 use Rattle.pcode_ops.specs.Rules.{HasLevel, MayHold, LiesIn, PointsTo, JumpsTo, Leads, MayFlow}
 use Rattle.pcode_ops.proofs.Leading.{each_entry}
 use Rattle.pcode_ops.proofs.Procedures.{is_inside}
@@ -25,14 +25,14 @@ level_found None is_good P f e = absurd cc
 level_found (Some q) is_good P f e = let made = pass_ok (is_good q.level) CallLevel (Ok tt) tt e in (q, refl, f q.level made.0)
 
 level_called : (procs : List Proc) (n : ℕ) (is_good : ℕ → Bool) (P : ℕ → Type 0) → ((m : ℕ) → P m → is_good m ≡ true)
-    → HasLevel procs n P → called procs n is_good ≡ Ok tt
+    → HasLevel procs n P → legal_call procs n is_good ≡ Ok tt
 level_called procs n is_good P f h = rw (h.1, f h.0.level h.2) refl
 
 calls : (procs : List Proc) (n : ℕ) (is_good : ℕ → Bool) (P : ℕ → Type 0) → ((m : ℕ) → is_good m ≡ true → P m)
-    → ((m : ℕ) → P m → is_good m ≡ true) → (called procs n is_good ≡ Ok tt) ↔ HasLevel procs n P
+    → ((m : ℕ) → P m → is_good m ≡ true) → (legal_call procs n is_good ≡ Ok tt) ↔ HasLevel procs n P
 calls procs n is_good P f g = (λ e. level_found (procedure_of procs n) is_good P f e, λ h. level_called procs n is_good P g h)
 
-links : (q : Proc) (levels : ℕ) → (linked q levels ≡ Ok tt) ↔ (levels ≤ q.level)
+links : (q : Proc) (levels : ℕ) → (legal_links q levels ≡ Ok tt) ↔ (levels ≤ q.level)
 links q levels = (
   λ e. (cond_both (ltb q.level levels) (Err LinkDepth) (Ok tt)
       (λ (r : Result Unit OpFault). r ≡ Ok tt → levels ≤ q.level) (λ t g. absurd cc)

@@ -1,4 +1,4 @@
--- The search: what is marked is reached, and when it is over what is reached is marked.
+-- The search: what is marked is reached, and at its end what is reached is marked.
 use Rattle.std.proofs.Common.{◌≡◌, ℕ, ◌+◌, ◌<◌, ◌≤◌, ◌⊎◌, inl, inr, List, length, Some, Ok, Err, slice_get, sym, ◌∙◌, ap, subst, arith, get_or}
 use Rattle.std.proofs.lemmas.Bool.{cases_lt}
 use Rattle.std.proofs.lemmas.Option.{slice_get_within, slice_get-get_or}

@@ -1,4 +1,4 @@
--- Where jumps lead that loading has let pass.
+-- The targets of jumps that loading has let pass.
 use Rattle.std.proofs.Common.{◌≡◌, ℕ, zero, suc, ◌+◌, ◌*◌, ◌<◌, ◌≤◌, Bool, true, false, cond, leb, ltb, length, List, Option, Some, None, Result, Err, IsSome, is_some, refl, arith, ℤ, pos, ◌≤ℤ◌, int_le, unsigned_abs}
 use Rattle.std.proofs.lemmas.Bool.{and_parts, leb-true, ltb-true}
 use Rattle.std.proofs.lemmas.Int.{ints}

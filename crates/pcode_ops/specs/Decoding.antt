@@ -1,4 +1,4 @@
--- Decoding as a function: the first fault, or the instruction and the offset after it.
+-- Decoding as a function: the instruction and the offset after it, or the first fault.
 use Rattle.std.specs.Prelude.{ℕ, ◌+◌, ◌-◌, ◌*◌, ◌%◌, nat_lt, nat_le, ◌==◌, ◌&&◌, if◌then◌else◌, List, [], ◌∷◌, length, Option, Some, None, Result, Ok, Err, slice_get, slice_index, ℤ}
 use Rattle.std.specs.Int.{w8, w16, cast_signed}
 use Rattle.base.specs.Steps.{◌>>=◌}
@@ -14,25 +14,33 @@ use Rattle.pcode_ops.specs.declared.opcodes.Row.TheVariants as row
 use Rattle.pcode_ops.specs.At.{cases}
 use Rattle.pcode_ops.specs.Opcodes.{Form, Alone, Numbered, WithByte, WithBig, WithWord, WithLevels, WithSigned, Typed, Packed, Standard, CaseJump, opcodes, row_of, is_among, opcode_refusal}
 
--- ---- operands: the first fault, or the operand and the offset after it
+-- ---- Operands: the operand and the offset after it, or the first fault.
 
+-- A byte, or the fault that it is cut off.
 abbrev pub or_cut : Option ℕ → Result ℕ OpFault
 or_cut None = Err fault.Cut
 or_cut (Some b) = Ok b
 
+-- The byte at offset `i`.
 abbrev pub byte_at : List ℕ → ℕ → Result ℕ OpFault
 byte_at code i = or_cut (slice_get code i)
 
+-- The operand W at offset `i`.
+-- Source: Manual, p-machine instructions.
 abbrev pub word_at : List ℕ → ℕ → Result ℕ OpFault
 word_at code i = byte_at code i >>= λ low. byte_at code (i + 1) >>= λ high. Ok (low + 256 * high)
 
+-- The operand B at offset `i`, and the offset after it.
+-- Source: Manual, p-machine instructions.
 abbrev pub big_at : List ℕ → ℕ → Result (ℕ × ℕ) OpFault
 big_at code i = byte_at code i >>= λ first.
     if nat_lt first 128 then Ok (first, i + 1)
     else byte_at code (i + 1) >>= λ second. Ok ((first - 128) * 256 + second, i + 2)
 
--- ---- instructions
+-- ---- Instructions.
 
+-- The call of standard procedure `n`, which ends at `j`, or its refusal.
+-- Source: Manual, p-machine instructions.
 abbrev pub standard_of : ℕ → ℕ → Result (Instr × ℕ) OpFault
 standard_of j n =
     if n == 0 then Ok (Csp IoCheck, j)
@@ -43,16 +51,21 @@ standard_of j n =
     else if is_among n (1 ∷ 32 ∷ 33 ∷ []) then Err fault.Heap
     else Err (fault.StandardProcedure n)
 
+-- The instruction IXP, which ends at `j`, if its elements fit a word.
+-- Source: Manual, p-machine instructions.
 abbrev pub packed_of : ℕ → ℕ → ℕ → Result (Instr × ℕ) OpFault
 packed_of j elements width =
     if nat_le 1 elements && nat_le 1 width && nat_le (elements * width) 16
     then Ok (Ixp elements width, j)
     else Err fault.Packing
 
+-- The signed word at offset `i`.
 abbrev pub signed_word : List ℕ → ℕ → ℤ
 signed_word code i = cast_signed w16 (word code i)
 
--- a case jump whose W1 is at an even offset: W1, W2 and the UJP first, their form, then the table
+-- The case jump whose W1 is at the even offset `i`.
+-- Its checks are, in order: W1, W2 and the UJP are there; their form; the table is there.
+-- Source: Manual, p-machine instructions. The order of the checks is this project's.
 abbrev pub case_jump_at : List ℕ → ℕ → Result (Instr × ℕ) OpFault
 case_jump_at code i =
     let low = signed_word code i in
@@ -67,7 +80,7 @@ case_jump_at code i =
     ))
     else Err fault.CaseTable
 
--- the operands of an opcode with a form, and the instruction that they make
+-- The instruction of an opcode with its form, whose operands follow at `i + 1`, or the first fault.
 abbrev pub read_at : List ℕ → ℕ → ℕ → ℕ → Form → Result (Instr × ℕ) OpFault
 read_at code i op first (Alone made) = Ok (made, i + 1)
 read_at code i op first (Numbered count number make) = Ok (make (op - first + number), i + 1)
@@ -86,28 +99,34 @@ read_at code i op first Packed =
 read_at code i op first Standard = byte_at code (i + 1) >>= λ n. standard_of (i + 2) n
 read_at code i op first CaseJump = case_jump_at code (i + 1 + (i + 1) % 2)
 
--- what is at i where the table has a row for its opcode, and where it has none
+-- The instruction at offset `i` by the row of its opcode, or the refusal of an opcode without a
+-- row.
 abbrev pub by_row : List ℕ → ℕ → ℕ → Option (ℕ × Form) → Result (Instr × ℕ) OpFault
 by_row code i op None = Err (opcode_refusal op)
 by_row code i op (Some found) = read_at code i op found.0 found.1
 
+-- The instruction of the opcode `op` at offset `i`, and the offset after it.
 unfoldable pub instr_of : List ℕ → ℕ → ℕ → Result (Instr × ℕ) OpFault
 instr_of code i op = by_row code i op (row_of op opcodes)
 
+-- The instruction at offset `i`, and the offset after it, or the first check that fails.
+-- Source: Manual, p-machine instructions. The order of the checks is this project's.
 abbrev pub instr_at : List ℕ → ℕ → Result (Instr × ℕ) OpFault
 instr_at code i = byte_at code i >>= instr_of code i
 
--- ---- how the code reads: all operands first, then the row
+-- ---- How the code reads: all operands first, then the row.
 
+-- An operand, or 0 if it is cut off.
 abbrev pub or_zero : Result ℕ OpFault → ℕ
 or_zero (Ok n) = n
 or_zero (Err f) = 0
 
+-- An operand without the offset after it, or 0 if it is cut off.
 abbrev pub first_or_zero : Result (ℕ × ℕ) OpFault → ℕ
 first_or_zero (Ok n) = n.0
 first_or_zero (Err f) = 0
 
--- what follows the opcode at i, as each form reads it, and 0 where it is cut off
+-- What follows the opcode at offset `i`, as each form reads it; 0 where it is cut off.
 abbrev pub operands_at : List ℕ → ℕ → Operands
 operands_at code i = record {
   byte = or_zero (byte_at code (i + 1));
@@ -116,7 +135,7 @@ operands_at code i = record {
   offset = first_or_zero (big_at code (i + 2));
 }
 
--- the row of the code's table that a form is, with its operands
+-- The row of the code's table for a form, with its operands.
 abbrev pub row_with : Operands → ℕ → ℕ → Form → Row
 row_with o op first (Alone made) = row.Alone made
 row_with o op first (Numbered count number make) = row.Alone (make (op - first + number))
@@ -130,11 +149,12 @@ row_with o op first Packed = row.Packed
 row_with o op first Standard = row.Standard
 row_with o op first CaseJump = row.CaseJump
 
+-- The row of the code's table for an opcode, if it has one.
 abbrev pub made_by : Operands → ℕ → Option (ℕ × Form) → Option Row
 made_by o op None = None
 made_by o op (Some found) = Some (row_with o op found.0 found.1)
 
--- what is left to read of a row: whether its operands are there and are what they have to be
+-- The instruction of a row, if its operands are there and are what they have to be.
 abbrev pub finished_at : List ℕ → ℕ → ℕ → Row → Result (Instr × ℕ) OpFault
 finished_at code i op (row.Alone instr) = Ok (instr, i + 1)
 finished_at code i op (row.Byte instr) = byte_at code (i + 1) >>= λ n. Ok (instr, i + 2)

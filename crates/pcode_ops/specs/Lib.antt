@@ -8,5 +8,4 @@ pub mod Superinstructions
 pub mod Reach
 pub mod Walks
 pub mod Staying
-pub mod Standing
 pub mod Jumps

@@ -6,35 +6,38 @@ use Rattle.pcode_ops.specs.declared.instr.Instr.TheVariants.{Sldc, Ldcn, Ldci, S
 use Rattle.pcode_ops.specs.declared.fault.OpFault.{OpFault}
 use Rattle.pcode_ops.specs.declared.fault.OpFault.TheVariants as fault
 
--- ---- forms
+-- ---- Forms.
 
--- what follows an opcode, and the instruction that it makes
+-- What follows an opcode, and the instruction that it makes.
+-- Source: Manual, p-machine instructions.
 pub data Form : Type 0 where
-  -- nothing
+  -- Nothing.
   Alone : Instr → Form
-  -- nothing: a count of opcodes in a row have the numbers from one on
+  -- Nothing: a count of opcodes in a row have the numbers from one on.
   Numbered : ℕ → ℕ → (ℕ → Instr) → Form
-  -- UB or DB: one byte
+  -- UB or DB: one byte.
   WithByte : (ℕ → Instr) → Form
-  -- B: one or two bytes
+  -- B: one or two bytes.
   WithBig : (ℕ → Instr) → Form
-  -- W: a word
+  -- W: a word.
   WithWord : (ℕ → Instr) → Form
-  -- DB,B: levels, then an offset
+  -- DB,B: levels, then an offset.
   WithLevels : (ℕ → ℕ → Instr) → Form
-  -- SB: a signed byte
+  -- SB: a signed byte.
   WithSigned : (ℤ → Instr) → Form
-  -- a type byte, which has to be 6
+  -- A type byte, which has to be 6.
   Typed : Instr → Form
-  -- UB,UB: the elements of a word and their width, for IXP
+  -- UB,UB: the number of elements of a word and their width, for IXP.
   Packed : Form
-  -- UB: the number of a standard procedure, for CSP
+  -- UB: the number of a standard procedure, for CSP.
   Standard : Form
-  -- W1, W2, a UJP and a table, for XJP
+  -- W1, W2, a UJP and a table, for XJP.
   CaseJump : Form
 
--- ---- the table: each opcode with its form
+-- ---- The table: each opcode with its form.
 
+-- The rows of constants.
+-- Source: Manual, p-machine instructions.
 abbrev pub constant_rows : List (ℕ × Form)
 constant_rows =
     (0, Numbered 128 0 (λ n. Sldc n))
@@ -42,7 +45,8 @@ constant_rows =
     ∷ (199, WithWord (λ n. Ldci n))
     ∷ []
 
--- words of the current frame and of the main frame
+-- The rows of words of the current frame and of the main frame.
+-- Source: Manual, p-machine instructions.
 abbrev pub frame_rows : List (ℕ × Form)
 frame_rows =
     (216, Numbered 16 1 (λ n. Sldl n))
@@ -55,7 +59,8 @@ frame_rows =
     ∷ (165, WithBig (λ n. Lao n))
     ∷ []
 
--- words of a frame some static links up
+-- The rows of words of a frame some static links up.
+-- Source: Manual, p-machine instructions.
 abbrev pub link_rows : List (ℕ × Form)
 link_rows =
     (182, WithLevels (λ levels n. Lod levels n))
@@ -63,7 +68,8 @@ link_rows =
     ∷ (178, WithLevels (λ levels n. Lda levels n))
     ∷ []
 
--- words, bytes and packed elements at pointers
+-- The rows of words, bytes and packed elements at pointers.
+-- Source: Manual, p-machine instructions.
 abbrev pub pointer_rows : List (ℕ × Form)
 pointer_rows =
     (154, Alone Sto)
@@ -81,6 +87,8 @@ pointer_rows =
     ∷ (187, Alone Stp)
     ∷ []
 
+-- The rows of arithmetic and logic.
+-- Source: Manual, p-machine instructions.
 abbrev pub arithmetic_rows : List (ℕ × Form)
 arithmetic_rows =
     (130, Alone Adi)
@@ -97,7 +105,8 @@ arithmetic_rows =
     ∷ (147, Alone Lnot)
     ∷ []
 
--- comparisons of integers, and with a type byte of Booleans
+-- The rows of comparisons of integers, and of Booleans, which have a type byte.
+-- Source: Manual, p-machine instructions.
 abbrev pub comparison_rows : List (ℕ × Form)
 comparison_rows =
     (195, Alone Equi)
@@ -114,7 +123,8 @@ comparison_rows =
     ∷ (177, Typed Grt)
     ∷ []
 
--- jumps, calls and returns, and what does nothing
+-- The rows of jumps, calls, returns and NOP.
+-- Source: Manual, p-machine instructions.
 abbrev pub flow_rows : List (ℕ × Form)
 flow_rows =
     (185, WithSigned (λ sb. Ujp sb))
@@ -131,6 +141,8 @@ flow_rows =
     ∷ (215, Alone Nop)
     ∷ []
 
+-- The table of all opcodes, each with its form.
+-- Source: Manual, p-machine instructions.
 abbrev pub opcodes : List (ℕ × Form)
 opcodes =
     constant_rows
@@ -138,27 +150,29 @@ opcodes =
     ++ (link_rows
     ++ (pointer_rows ++ (arithmetic_rows ++ (comparison_rows ++ flow_rows)))))
 
--- the table has a row with this opcode, the first one of a form with several, and this form
+-- The opcode and the form of a row of the table.
+-- Of a form with several opcodes the row has the first.
 abbrev pub IsTableRow : ℕ → Form → Type 0
 IsTableRow opcode form = (k : ℕ) × (slice_get opcodes k ≡ Some (opcode, form))
 
--- ---- the row of an opcode
+-- ---- The row of an opcode.
 
--- an opcode is the row's, or one of the row's
+-- The test that `op` is the opcode of a row, or one of its opcodes.
 abbrev pub has_opcode : ℕ → ℕ → Form → Bool
 has_opcode op first (Numbered count number make) = nat_le first op && nat_lt op (first + count)
 has_opcode op first _ = op == first
 
--- the first row of some that has an opcode
+-- The first of these rows that has the opcode.
 abbrev pub row_of : ℕ → List (ℕ × Form) → Option (ℕ × Form)
 row_of op [] = None
 row_of op (row ∷ rows) = if has_opcode op row.0 row.1 then Some row else row_of op rows
 
+-- The test that `op` is one of these numbers.
 abbrev pub is_among : ℕ → List ℕ → Bool
 is_among op [] = false
 is_among op (x ∷ xs) = if op == x then true else is_among op xs
 
--- why an opcode without a row is refused
+-- The refusal of an opcode without a row.
 abbrev pub opcode_refusal : ℕ → OpFault
 opcode_refusal op =
     if is_among op (129 ∷ 131 ∷ 135 ∷ 137 ∷ 138 ∷ 144 ∷ 146 ∷ 150 ∷ 153 ∷ []) then fault.Real

@@ -1,4 +1,4 @@
--- An instruction and all where it leads lie in one part.
+-- Instructions that lead only into their own part.
 use Rattle.std.specs.Prelude.{◌≡◌, ℕ, ◌≤◌, IsTrue, Ok, Contains, take}
 use Rattle.pcode_file.specs.declared.file.Proc.{Proc}
 use Rattle.pcode_file.specs.Parts.{Parts, end_of}
@@ -7,8 +7,8 @@ use Rattle.pcode_ops.specs.declared.loading.Onward.{Onward}
 use Rattle.pcode_ops.specs.Decoding.{instr_at}
 use Rattle.pcode_ops.specs.Loading.{is_in, look, LeadsTo}
 
--- the offset lies in the part of procedure q, and so do its whole instruction and each offset that
--- it leads to
+-- The facts of an offset in the part of procedure `q`: its whole instruction lies in the part, and
+-- so does each offset that it leads to.
 pub record StaysInPart (p : Parts) (i : ℕ) (q : Proc) : Type 0 where
   pub owner : Contains p.procs q
   pub within : IsTrue (is_in q i)

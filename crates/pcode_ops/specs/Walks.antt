@@ -12,53 +12,60 @@ use Rattle.pcode_ops.specs.At.{cases}
 use Rattle.pcode_ops.specs.Loading.{is_in, look, LeadsTo, IsFaulty, IsFine}
 use Rattle.pcode_ops.specs.Reach.{Reach, IsLoadable}
 
--- the part and its table lie in a segment of so many bytes, ENTER and EXIT in the part
+-- The facts of a part in a segment of `size` bytes: its table lies there, and ENTER and EXIT in the
+-- part.
 pub record IsPartWithin (size : ℕ) (q : Proc) : Type 0 where
   pub above : 8 ≤ q.jtab
   pub below : q.jtab + 2 ≤ size
   pub enter : IsTrue (is_in q q.enter)
   pub exit : IsTrue (is_in q q.exit)
 
+-- The parts of procedures, all in a segment of `size` bytes.
 abbrev pub AreParts : ℕ → List Proc → Type 0
 AreParts size procs = All (IsPartWithin size) procs
 
--- where an offset leads lies in a segment of so many bytes, and so does the case table
+-- The facts of where an instruction leads in a segment of `size` bytes: its offsets and its case
+-- table lie there.
 pub record IsWithin (size : ℕ) (o : Onward) : Type 0 where
   pub next : IfSome o.next (λ j. j < size)
   pub target : IfSome o.target (λ j. j < size)
   pub table : o.table + 2 * o.count ≤ size
 
--- a case table lies in so many bytes, behind its UJP
+-- The claim that the table of a case jump lies in `size` bytes, after its UJP.
+-- Allows: an instruction other than XJP.
 abbrev pub IsTableIn : ℕ → Instr → Type 0
 IsTableIn size (Xjp low high sb table) = (2 ≤ table) × (table + 2 * cases low high ≤ size)
 IsTableIn size _ = Unit {0}
 
+-- The flags of all offsets, and the flagged offsets in the order in which they were found.
 pub record Marks : Type 0 where
   pub flags : List Bool
   pub found : List ℕ
 
--- how many flags are set
+-- The number of flags that are set.
 abbrev pub flagged : List Bool → ℕ
 flagged [] = 0
 flagged (b ∷ bs) = cond b 1 0 + flagged bs
 
+-- The flagged offsets.
 abbrev pub IsMarked : Marks → ℕ → Type 0
 IsMarked m i = slice_index_or m.flags i false ≡ true
 
--- each flagged offset is found once, and what is found is flagged
+-- The invariant that each flagged offset was found once, and each found one is flagged.
 pub record IsListing (m : Marks) : Type 0 where
   pub listed : (i : ℕ) → IsMarked m i → (k : ℕ) × (slice_get m.found k ≡ Some i)
   pub marked : (k i : ℕ) → slice_get m.found k ≡ Some i → IsMarked m i
   pub distinct : (j k i : ℕ) → slice_get m.found j ≡ Some i → slice_get m.found k ≡ Some i → j ≡ k
   pub count : flagged m.flags ≡ length m.found
 
--- what is true of each walk: there is room to find each offset
+-- The invariant of a walk: there is room to find each offset.
 pub record IsRoomy (m : Marks) (places capacity : ℕ) : Type 0 where
   pub listing : IsListing m
   pub size : places ≡ length m.flags
   pub room : places ≤ capacity
 
--- the offsets with P are marked too, no others, and found behind those found before
+-- The step from marks to those with the offsets of `P` too, found after the others.
+-- Forbids: marking any other offset.
 pub record Adds (P : ℕ → Type 0) (old new : Marks) : Type 0 where
   pub size : length new.flags ≡ length old.flags
   pub kept : (i : ℕ) → IsMarked old i → IsMarked new i
@@ -67,31 +74,32 @@ pub record Adds (P : ℕ → Type 0) (old new : Marks) : Type 0 where
   pub longer : length old.found ≤ length new.found
   pub front : (k : ℕ) → k < length old.found → slice_get new.found k ≡ slice_get old.found k
 
--- ENTER and EXIT of the first n procedures are marked, and nothing that is not reached
+-- The marks of ENTER and EXIT of the first `n` procedures, and of reached offsets alone.
 pub record IsStarted (p : Parts) (n : ℕ) (m : Marks) : Type 0 where
   pub size : length m.flags ≡ length p.segment
   pub sound : (i : ℕ) → IsMarked m i → Reach p i
   pub starts : (k : ℕ) (q : Proc) → k < n → slice_get p.procs k ≡ Some q
       → IsMarked m q.enter × IsMarked m q.exit
 
--- the search has looked at the first `done` offsets that it found: where they lead is marked
+-- The marks of a search that has looked at the first `done` offsets that it found: where they lead
+-- is marked.
 pub record IsSearch (p : Parts) (done : ℕ) (m : Marks) : Type 0 where
   pub started : IsStarted p (length p.procs) m
   pub within : done ≤ length m.found
   pub closed : (k i j : ℕ) (o : Onward) → k < done → slice_get m.found k ≡ Some i → look p i ≡ Ok o
       → LeadsTo p.segment o j → IsMarked m j
 
--- the marked offsets are the reached ones
+-- The marks of exactly the reached offsets.
 abbrev pub MarksReached : Parts → Marks → Type 0
 MarksReached p m = (i : ℕ) → IsMarked m i ↔ Reach p i
 
--- the least marked offset that is faulty, with its first fault
+-- The least marked offset that is faulty, with its first fault.
 pub record IsFirstFault (p : Parts) (m : Marks) (f : LoadFault) : Type 0 where
   pub marked : IsMarked m f.at
   pub faulty : IsFaulty p f.at f.fault
   pub least : (i : ℕ) → i < f.at → IsMarked m i → IsFine p i
 
--- what is true of the file and the marks of each program
+-- The invariant of a program's file and marks.
 pub record IsProgram (p : Parts) (m : Marks) : Type 0 where
   pub exact : MarksReached p m
   pub loadable : IsLoadable p

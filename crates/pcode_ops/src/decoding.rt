@@ -1,4 +1,4 @@
-//! Instructions in bytes.
+//! Decodes instructions.
 ghost use Rattle.std.specs.Prelude.{◌≡◌, ℕ, ◌+◌, ◌<◌, ◌≤◌, length, IfOk, Ok};
 ghost use Rattle.pcode_ops.specs.declared.instr.Instr.{Instr};
 ghost use Rattle.pcode_file.specs.Parts.{word};
@@ -10,7 +10,7 @@ use crate::fault::OpFault;
 use crate::instr::{Instr, StandardProcedure};
 use crate::opcodes::{Operands, Row, make_row, refusal};
 
-/// The byte at an offset.
+/// Returns the byte at `at`. Fails with `Cut` if the code has ended.
 fn byte(code: &[u8], at: usize) -> Result<u8, OpFault>
     ensures value { result ≡ byte_at code.now at }
     ensures within { IfOk result (λ _. at < length code.now) }
@@ -21,7 +21,7 @@ fn byte(code: &[u8], at: usize) -> Result<u8, OpFault>
     }
 }
 
-/// The word at an offset that is there, its low byte first.
+/// Returns the word at `at`, its low byte first.
 pub(crate) fn get_word(code: &[u8], at: usize) -> u16
     requires { at + 1 < length code.now }
     ensures { result ≡ word code.now at }
@@ -29,7 +29,7 @@ pub(crate) fn get_word(code: &[u8], at: usize) -> u16
     u16::from(code[at]) + 256 * u16::from(code[at + 1])
 }
 
-/// The operand of two bytes at an offset, the low one first.
+/// Returns the operand of two bytes at `at`, the low one first.
 fn word_at(code: &[u8], at: usize) -> Result<u16, OpFault>
     ensures value { result ≡ word_at code.now at }
     ensures within { IfOk result (λ _. at + 1 < length code.now) }
@@ -39,7 +39,7 @@ fn word_at(code: &[u8], at: usize) -> Result<u16, OpFault>
     Ok(u16::from(low) + 256 * u16::from(high))
 }
 
-/// The operand of one or two bytes at an offset, and the offset after it.
+/// Returns the operand of one or two bytes at `at`, and the offset after it.
 fn big(code: &[u8], at: usize) -> Result<(u16, usize), OpFault>
     ensures value { result ≡ big_at code.now at }
     ensures within { IfOk result (λ r. r.1 ≤ length code.now) }
@@ -52,7 +52,7 @@ fn big(code: &[u8], at: usize) -> Result<(u16, usize), OpFault>
     Ok((u16::from(first - 128) * 256 + u16::from(second), at + 2))
 }
 
-/// The call of a standard procedure by its number.
+/// Returns the call of standard procedure `number`, or its refusal.
 fn standard(next: usize, number: u8) -> Result<(Instr, usize), OpFault>
     ensures value { result ≡ standard_of next number }
     ensures within { IfOk result (λ r. r.1 ≡ next) }
@@ -68,7 +68,8 @@ fn standard(next: usize, number: u8) -> Result<(Instr, usize), OpFault>
     }
 }
 
-/// IXP with this number of elements of a word and this width of each in bits, if they fit.
+/// Returns IXP with `elements` elements of `width` bits in a word. Fails with `Packing` if they do
+/// not fit.
 fn packed(next: usize, elements: u8, width: u8) -> Result<(Instr, usize), OpFault>
     ensures value { result ≡ packed_of next elements width }
     ensures within { IfOk result (λ r. r.1 ≡ next) }
@@ -80,7 +81,7 @@ fn packed(next: usize, elements: u8, width: u8) -> Result<(Instr, usize), OpFaul
     }
 }
 
-/// How many entries a case table from W1 to W2 has; none where W1 is above W2.
+/// Returns the number of entries of a case table from `low` to `high`, 0 if `low` is above `high`.
 pub(crate) fn cases(low: i16, high: i16) -> u32
     ensures value { result ≡ cases low high }
     ensures small { result ≤ 65536 }
@@ -91,7 +92,7 @@ pub(crate) fn cases(low: i16, high: i16) -> u32
     (i32::from(high) - i32::from(low) + 1).unsigned_abs()
 }
 
-/// The signed word at an offset that is there.
+/// Returns the signed word at `at`.
 fn signed_word(code: &[u8], at: usize) -> i16
     requires { at + 1 < length code.now }
     ensures { result ≡ signed_word code.now at }
@@ -99,7 +100,7 @@ fn signed_word(code: &[u8], at: usize) -> i16
     get_word(code, at).cast_signed()
 }
 
-/// A case jump whose W1 is at an even offset.
+/// Returns the case jump whose W1 is at the even offset `at`, and the offset after its table.
 fn case_jump(code: &[u8], at: usize) -> Result<(Instr, usize), OpFault>
     ensures value { result ≡ case_jump_at code.now at }
     ensures within { IfOk result (λ r. r.1 ≤ length code.now) }
@@ -133,7 +134,7 @@ fn case_jump(code: &[u8], at: usize) -> Result<(Instr, usize), OpFault>
     ))
 }
 
-/// The operands at an offset, each as far as it is there.
+/// Returns the operands after the opcode at `at`, each 0 if the code does not have it.
 fn operands(code: &[u8], at: usize) -> Operands
     requires { at < length code.now }
     ensures { result ≡ operands_at code.now at }
@@ -146,8 +147,8 @@ fn operands(code: &[u8], at: usize) -> Operands
     }
 }
 
-/// The instruction of a row whose opcode is at an offset, and the offset after it, if its operands
-/// are there and are what they have to be.
+/// Returns the instruction of `row`, whose opcode is at `at`, and the offset after it. Fails if
+/// operands are cut off or are not what they have to be.
 fn finish(code: &[u8], at: usize, opcode: u8, row: Row) -> Result<(Instr, usize), OpFault>
     requires { at < length code.now }
     ensures value { result ≡ finished_at code.now at opcode row }
@@ -188,7 +189,7 @@ fn finish(code: &[u8], at: usize, opcode: u8, row: Row) -> Result<(Instr, usize)
     }
 }
 
-/// The instruction of an opcode, which is at an offset, and the offset after it.
+/// Returns the instruction of the opcode at `at`, and the offset after it.
 fn instruction(code: &[u8], at: usize, opcode: u8) -> Result<(Instr, usize), OpFault>
     requires { at < length code.now }
     ensures value { result ≡ instr_of code.now at opcode }
@@ -200,14 +201,14 @@ fn instruction(code: &[u8], at: usize, opcode: u8) -> Result<(Instr, usize), OpF
     }
 }
 
-/// The instruction at an offset of a code, and the offset after it. It sees the bytes up to the
-/// code's end.
+/// Returns the instruction at `at`, and the offset after it. Fails with the first check that fails.
+/// The code ends where its bytes end.
 pub fn decode(code: &[u8], at: usize) -> Result<(Instr, usize), OpFault>
-    // What is answered is there.
+    // What is decoded is in the code.
     ensures found { IfOk result (λ r. At code.now at r.0 r.1) }
-    // What is there is answered.
+    // What is in the code is decoded.
     ensures only { (instr : Instr) (j : ℕ) → At code.now at instr j → result ≡ Ok (instr, j) }
-    // Which check is the first that fails.
+    // The fault is the first check that fails.
     ensures exact { result ≡ instr_at code.now at }
     ensures within { IfOk result (λ r. r.1 ≤ length code.now) }
     ensures table { IfOk result (λ r. IsTableIn (length code.now) r.0) }

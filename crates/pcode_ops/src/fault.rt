@@ -4,10 +4,10 @@ use std::fmt;
 use thiserror::Error;
 
 /// Why an offset is faulty: the first check that it fails, in the order of the checks. Its text is
-/// the refusal's code, with the opcode or the standard procedure where there is one.
+/// the refusal's code, with the opcode or the standard procedure if it is of one.
 #[derive(Clone, Copy, Debug, PartialEq, Eq, Error)]
 pub enum OpFault {
-    /// The instruction, or the next one, does not lie in its procedure's part.
+    /// The instruction, or the next one, is not all in its procedure's part.
     #[error("O1")]
     Cut,
     /// An instruction on real numbers.
@@ -25,13 +25,13 @@ pub enum OpFault {
     /// An opcode that is not supported.
     #[error("O6 opcode {0}")]
     Unsupported(u8),
-    /// A case jump whose bounds are the wrong way round, or that has no jump after them.
+    /// A case jump whose bounds are in the wrong order, or without a jump after them.
     #[error("O7")]
     CaseTable,
     /// A jump out of the procedure's part.
     #[error("O8")]
     JumpRange,
-    /// A call of a procedure that is not there.
+    /// A call of a procedure that does not exist.
     #[error("O9")]
     NoProcedure,
     /// A call of a procedure at a lex level that the call does not allow.
@@ -49,16 +49,16 @@ pub enum OpFault {
     /// A standard procedure on the heap.
     #[error("O14")]
     Heap,
-    /// There is no memory. It is taken before anything is checked.
+    /// Out of memory. Memory is allocated before anything is checked.
     #[error("O15")]
     Memory,
     /// Packed elements that do not fit a word: their number or their width is 0, or together they
-    /// have more than 16 bits. It is checked right after the type byte.
+    /// have more than 16 bits. This is checked right after the type byte.
     #[error("O16")]
     Packing,
 }
 
-/// A faulty offset, in bytes from the segment's start, and the first of its faults; with `Memory`
+/// A faulty offset, in bytes from the segment's start, and the first of its faults. With `Memory`
 /// the offset is 0.
 #[derive(Clone, Copy, Debug, PartialEq, Eq)]
 pub struct LoadFault {
@@ -79,11 +79,11 @@ impl fmt::Display for LoadFault {
     }
 }
 
-/// A refusal, which hands the file back.
+/// A refusal, which gives the file back.
 #[derive(Drop)]
 pub struct LoadRefused {
     /// Why the file is refused.
     pub fault: LoadFault,
-    /// The file that was given.
+    /// The file that was passed.
     pub file: CodeFile,
 }

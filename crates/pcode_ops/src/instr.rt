@@ -14,14 +14,14 @@ pub enum StandardProcedure {
     UnitWrite,
     /// Number 34: pushes the result of the last transfer.
     IoResult,
-    /// Number 39: ends the program with an error.
+    /// Number 39: ends the program by an error.
     Halt,
 }
 
 impl StandardProcedure {
     ghost use Rattle.pcode_ops.specs.At.{standard_number};
 
-    /// Its number.
+    /// Returns its number.
     pub fn number(self) -> u8
         ensures { result ≡ standard_number self }
     {
@@ -78,19 +78,17 @@ pub enum Instr {
     Sto,
     /// Pops a pointer and pushes the word 0 to 7 words after it.
     Sind(u8),
-    /// Pops a pointer and pushes the word this number of words after it.
+    /// Pops a pointer and pushes the word n words after it.
     Ind(u16),
-    /// Moves the pointer on top of the stack on by this number of words.
+    /// Moves the pointer on top of the stack on by n words.
     Inc(u16),
-    /// Pops an index and moves the pointer below it on by that number of elements of this size in
-    /// words.
+    /// Pops an index and moves the pointer below it on by that number of elements of n words each.
     Ixa(u16),
-    /// Pops two pointers and copies this number of words from the upper one to the lower one.
+    /// Pops two pointers and copies n words from the upper one to the lower one.
     Mov(u16),
-    /// Pops a pointer and pushes this number of words from there on, the first one last.
+    /// Pops a pointer and pushes n words from there on, the first one last.
     Ldm(u8),
-    /// Pops this number of words and a pointer, and stores the words from there on, the top one
-    /// first.
+    /// Pops n words and a pointer, and stores the words from there on, the top one first.
     Stm(u8),
     /// Pops an index in bytes and a base, and pushes the byte there.
     Ldb,
@@ -105,7 +103,7 @@ pub enum Instr {
     /// Pops a word and a packed pointer, and stores the word's low bits there.
     Stp,
 
-    // Arithmetic and logic, on signed words unless it says otherwise.
+    // Arithmetic and logic, on signed words unless noted.
     /// Adds two words.
     Adi,
     /// Subtracts the top word from the one below it.
@@ -114,50 +112,50 @@ pub enum Instr {
     Mpi,
     /// Divides by the top word, towards zero.
     Dvi,
-    /// The remainder of dividing by the top word, with the sign of the dividend.
+    /// Pushes the remainder of dividing by the top word, with the sign of the dividend.
     Modi,
-    /// The absolute value of a word.
+    /// Replaces a word by its absolute value.
     Abi,
-    /// The negative of a word.
+    /// Negates a word.
     Ngi,
-    /// The square of a word.
+    /// Squares a word.
     Sqi,
     /// Pops an upper and a lower bound; it is an error if the word below them does not lie between
     /// them.
     Chk,
-    /// The bits that two words both have.
+    /// Pushes the bits that two words both have.
     Land,
-    /// The bits that at least one of two words has.
+    /// Pushes the bits that at least one of two words has.
     Lor,
-    /// The bits that a word does not have.
+    /// Inverts the bits of a word.
     Lnot,
 
     // Comparisons of two signed words, which push 1 or 0.
-    /// Whether they are equal.
+    /// Tests if they are equal.
     Equi,
-    /// Whether they differ.
+    /// Tests if they differ.
     Neqi,
-    /// Whether the lower one is at most the top one.
+    /// Tests if the lower one is at most the top one.
     Leqi,
-    /// Whether the lower one is less than the top one.
+    /// Tests if the lower one is less than the top one.
     Lesi,
-    /// Whether the lower one is at least the top one.
+    /// Tests if the lower one is at least the top one.
     Geqi,
-    /// Whether the lower one is greater than the top one.
+    /// Tests if the lower one is greater than the top one.
     Grti,
 
     // Comparisons of Booleans, which are the low bits of two words (type byte 6).
-    /// Whether they are equal.
+    /// Tests if they are equal.
     Equ,
-    /// Whether they differ.
+    /// Tests if they differ.
     Neq,
-    /// Whether the lower one is at most the top one.
+    /// Tests if the lower one is at most the top one.
     Leq,
-    /// Whether the lower one is less than the top one.
+    /// Tests if the lower one is less than the top one.
     Les,
-    /// Whether the lower one is at least the top one.
+    /// Tests if the lower one is at least the top one.
     Geq,
-    /// Whether the lower one is greater than the top one.
+    /// Tests if the lower one is greater than the top one.
     Grt,
 
     // Jumps.
@@ -169,8 +167,8 @@ pub enum Instr {
     Efj(i8),
     /// Pops two words and jumps if they are equal.
     Nfj(i8),
-    /// Pops an index and jumps to its entry of a table, or where the index has none, to the UJP in
-    /// front of the table.
+    /// Pops an index and jumps to its entry of a table; if the index has none, to the UJP before
+    /// the table.
     Xjp {
         /// The index of the first entry.
         low: i16,
@@ -191,15 +189,15 @@ pub enum Instr {
     Cip(u8),
     /// Calls a standard procedure.
     Csp(StandardProcedure),
-    /// Returns from a procedure and pushes this number of its words, at most 2.
+    /// Returns from a procedure and pushes n of its words, at most 2.
     Rnp(u8),
-    /// Ends the program; the operand is not looked at.
+    /// Ends the program; the operand is ignored.
     Rbp(u8),
     /// Does nothing.
     Nop,
 }
 
-/// The name and the operands, as a listing has them. Where a jump leads is not in it.
+/// The name and the operands, as in a listing. A jump's target is not in it.
 impl fmt::Display for Instr {
     fn fmt<W: fmt::Write>(&self, f: &mut fmt::Formatter<W>) -> fmt::Result {
         match *self {

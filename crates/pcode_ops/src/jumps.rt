@@ -1,4 +1,4 @@
-//! Where jumps lead that loading has let pass.
+//! The targets of jumps that loading has let pass.
 ghost use Rattle.std.specs.Prelude.{◌≡◌, ◌+◌, ◌<◌, ◌≤◌, ◌^◌, length};
 ghost use Rattle.pcode_file.specs.Parts.{word};
 ghost use Rattle.pcode_file.specs.declared.file.Proc.{Proc};
@@ -6,7 +6,7 @@ ghost use Rattle.pcode_ops.specs.Jumps.{pointed_by, case_of, IsCaseTable};
 
 use crate::decoding::get_word;
 
-/// What the self-relative pointer at a place points to.
+/// Returns the place to which the self-relative pointer at `place` leads.
 pub(crate) fn pointed_by(segment: &[u8], place: u32) -> u32
     requires inside { place + 1 < length segment.now }
     requires above { word segment.now place ≤ place }
@@ -15,7 +15,7 @@ pub(crate) fn pointed_by(segment: &[u8], place: u32) -> u32
     place - u32::from(get_word(segment, place as usize))
 }
 
-/// Where a case jump leads on a word.
+/// Returns the target of a case jump on `word`.
 pub(crate) fn case_of(segment: &[u8], low: i16, high: i16, table: usize, word: u16) -> u32
     requires size { length segment.now < 2 ^ 16 }
     requires table { (q : Proc) × IsCaseTable segment.now q low high table }

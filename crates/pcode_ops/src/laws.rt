@@ -1,4 +1,4 @@
-//! What is true of decoding and loading, as contracts of functions that do nothing.
+//! Laws of decoding and loading: contracts of functions that do nothing.
 ghost use Rattle.std.specs.Prelude.{◌≡◌, ℕ, ◌↔◌, IsTrue, List, ℤ, take, Ok, Some};
 ghost use Rattle.pcode_file.specs.declared.file.Proc.{Proc};
 ghost use Rattle.pcode_file.specs.InFile.{AreProcs};
@@ -10,9 +10,8 @@ ghost use Rattle.pcode_ops.specs.At.{At, HasElements};
 ghost use Rattle.pcode_ops.specs.Decoding.{instr_at};
 ghost use Rattle.pcode_ops.specs.Jumps.{StaysWith, case_of, IsCaseTable};
 ghost use Rattle.pcode_ops.specs.Loading.{is_in, owner, legal, jump_to, flow_of, onward, LeadsTo, HasNext, JumpsBy};
-ghost use Rattle.pcode_ops.specs.Reach.{Reach, IsLoadable};
+ghost use Rattle.pcode_ops.specs.Reach.{Reach, IsLoadable, MayStand};
 ghost use Rattle.pcode_ops.specs.Rules.{MayHold, JumpsTo, Leads, MayFlow};
-ghost use Rattle.pcode_ops.specs.Standing.{MayStand};
 ghost use Rattle.pcode_ops.specs.Staying.{StaysInPart};
 
 /// Decoding gives the instruction that is at an offset, and no other is there.
@@ -33,8 +32,8 @@ pub fn same_in_longer_code()
         instr_at (take e code) i ≡ Ok found → instr_at code i ≡ Ok found }
 {}
 
-/// What is at a reached offset of a loadable file lies in a procedure's part with all its bytes,
-/// and leads only into that part.
+/// All bytes of an instruction at a reached offset of a loadable file lie in a procedure's part,
+/// and it leads only into that part.
 pub fn reached_stays_in_part()
     ensures { (p : Parts) (i : ℕ) → IsLoadable p → Reach p i → (q : Proc) × StaysInPart p i q }
 {}
@@ -45,14 +44,14 @@ pub fn legal_may_be_held()
         (legal procs q instr ≡ Ok tt) ↔ MayHold procs q instr }
 {}
 
-/// Where a jump leads.
+/// The target of a jump, as a function and as a relation.
 pub fn jump_leads()
     ensures { (segment : List ℕ) (q : Proc) (sb : ℤ) (j t : ℕ) →
         (jump_to segment q sb j ≡ Ok t) ↔ JumpsTo segment q sb j t }
 {}
 
-/// Where an instruction leads, and that it leads nowhere out of its procedure's part exactly if the
-/// rules of its flow hold.
+/// Where an instruction leads, as a function and as a relation. It leads nowhere out of its
+/// procedure's part exactly if the rules of its flow hold.
 pub fn onward_is_led_to()
     ensures leads { (segment : List ℕ) (q : Proc) (instr : Instr) (j t : ℕ) (o : Onward) →
         onward segment q instr j ≡ Ok o →
@@ -74,8 +73,8 @@ pub fn enter_is_owned()
         procedure_of p.procs n ≡ Some q → Reach p q.enter × (owner p.procs q.enter ≡ Ok q) }
 {}
 
-/// What is decoded at a reached offset of a loadable file may stand there in the procedure that
-/// owns it.
+/// What is decoded at a reached offset of a loadable file may be there, in the procedure that owns
+/// the offset.
 pub fn reached_may_stand()
     ensures { (p : Parts) (i : ℕ) (q : Proc) (instr : Instr) (next : ℕ) →
         AreProcs p.segment p.procs → IsLoadable p → Reach p i → owner p.procs i ≡ Ok q →
@@ -89,7 +88,7 @@ pub fn next_is_owned()
         MayStand p q instr next → HasNext instr → Reach p next × (owner p.procs next ≡ Ok q) }
 {}
 
-/// A jump leads somewhere, and that offset is reached and owned by the jump's procedure.
+/// A jump leads to an offset that is reached and owned by the jump's procedure.
 pub fn jump_is_led_to()
     ensures { (p : Parts) (n : ℕ) (q : Proc) (instr : Instr) (sb : ℤ) (next : ℕ) →
         JumpsBy instr sb → MayStand p q instr next → procedure_of p.procs n ≡ Some q →

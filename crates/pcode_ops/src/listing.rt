@@ -22,7 +22,7 @@ fn write_offset<W: TextWriter>(writer: &mut W, at: Option<u32>) -> io::Result<()
     }
 }
 
-/// Writes what the entries of a case table point to.
+/// Writes the targets of a case table's entries.
 fn write_entries<W: TextWriter>(
     writer: &mut W,
     segment: &[u8],
@@ -42,7 +42,7 @@ fn write_entries<W: TextWriter>(
     Ok(())
 }
 
-/// Writes where a jump leads, and of a case jump its UJP and where its entries lead.
+/// Writes a jump's target; of a case jump its UJP and the targets of its entries.
 fn write_targets<W: TextWriter>(writer: &mut W, segment: &[u8], onward: Onward) -> io::Result<()>
     requires open { W.has_failed writer.old ≡ false }
     requires within { IsWithin (length segment.now) onward }
@@ -56,7 +56,8 @@ fn write_targets<W: TextWriter>(writer: &mut W, segment: &[u8], onward: Onward) 
     write_entries(writer, segment, onward.table, onward.count)
 }
 
-/// Where a reached offset leads. `near` is the number of the procedure in whose part it should lie.
+/// Returns where a reached offset leads. `near` is the number of the procedure in whose part it
+/// should lie.
 fn onward(program: &Program, mut near: u8, at: u32) -> Onward
     requires { Reach program.now at }
     ensures value { look program.now at ≡ Ok result }
@@ -68,8 +69,8 @@ fn onward(program: &Program, mut near: u8, at: u32) -> Onward
     }
 }
 
-/// Writes the line of a reached offset: the instruction, and where it leads if it is a jump. `near`
-/// is the number of the procedure in whose part the offset lies.
+/// Writes the line of a reached offset: the instruction, and a jump's targets. `near` is the number
+/// of the procedure in whose part the offset lies.
 fn write_line<W: TextWriter>(writer: &mut W, program: &Program, near: u8, at: u32) -> io::Result<()>
     requires open { W.has_failed writer.old ≡ false }
     requires reached { Reach program.now at }
@@ -107,7 +108,7 @@ fn write_procedure<W: TextWriter>(writer: &mut W, program: &Program, part: Proc)
     Ok(())
 }
 
-/// Writes all procedures in the order of their numbers, up to the writer's first fault.
+/// Writes all procedures in the order of their numbers. Ends at the writer's first fault.
 pub(crate) fn write_program<W: TextWriter>(writer: &mut W, program: &Program) -> io::Result<()>
     requires { W.has_failed writer.old ≡ false }
     ensures { W.has_failed writer.new ≡ is_err result }

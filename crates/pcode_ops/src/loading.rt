@@ -1,8 +1,8 @@
-//! Loading: whether what is at an offset may be there, and where it leads.
+//! Loading: the checks of an offset, and where it leads.
 ghost use Rattle.std.specs.Prelude.{◌≡◌, ◌+◌, ◌-◌, ◌*◌, ◌^◌, ◌<◌, ◌≤◌, if◌then◌else◌, IsTrue, length, Contains, Some, None, Ok, Err, IfOk};
 ghost use Rattle.pcode_file.specs.InFile.{AreProcs};
 ghost use Rattle.pcode_file.specs.Parts.{procedure_of, end_of};
-ghost use Rattle.pcode_ops.specs.Loading.{is_in, owner, called, is_callable, linked, legal, leads_in, jump_to, entries_in, goes_on, ends_at, branch_to, cases_to, onward, look};
+ghost use Rattle.pcode_ops.specs.Loading.{is_in, owner, legal_call, is_callable, legal_links, legal, leads_in, jump_to, entries_in, goes_on, ends_at, branch_to, cases_to, onward, look};
 ghost use Rattle.pcode_ops.specs.Walks.{IsPartWithin, AreParts, IsWithin, IsTableIn};
 
 use crate::decoding::{cases, decode, get_word};
@@ -21,7 +21,7 @@ pub(crate) struct Onward {
     pub count: u32,
 }
 
-/// The procedures of a file, whose parts lie in the segment.
+/// Returns the procedures of a file, whose parts lie in the segment.
 pub(crate) fn parts(file: &CodeFile) -> &[Proc]
     ensures value { result.now ≡ file.now.procs }
     ensures parts { AreParts (length file.now.segment) result.now }
@@ -30,21 +30,21 @@ pub(crate) fn parts(file: &CodeFile) -> &[Proc]
     file.procedures()
 }
 
-/// The offset at which a procedure's part ends.
+/// Returns the offset at which a procedure's part ends.
 pub(crate) fn end(part: Proc) -> u32
     ensures { result ≡ end_of part }
 {
     part.jtab.saturating_sub(8)
 }
 
-/// Whether an offset lies in a procedure's part.
+/// Returns true if an offset lies in a procedure's part.
 fn is_in(part: Proc, at: u32) -> bool
     ensures { result ≡ is_in part at }
 {
     part.low <= at && at < end(part)
 }
 
-/// The procedure in whose part an offset lies.
+/// Returns the procedure in whose part an offset lies. Fails with `Cut` if there is none.
 fn owner(procs: &[Proc], at: u32) -> Result<Proc, OpFault>
     ensures value { result ≡ owner procs.now at }
     ensures one { IfOk result (λ q. Contains procs.now q × IsTrue (is_in q at)) }
@@ -57,9 +57,9 @@ fn owner(procs: &[Proc], at: u32) -> Result<Proc, OpFault>
     Err(OpFault::Cut)
 }
 
-/// The procedure in whose part an offset lies. `near` is the number of the procedure that is asked
-/// first, and becomes that of the one found: offsets one after another then cost the same in a file
-/// of one procedure and of 255. The result does not depend on it.
+/// Returns the procedure in whose part an offset lies. `near` is the number of the procedure that
+/// is tried first, and becomes that of the one found. Offsets one after another then cost the same
+/// in a file of one procedure and of 255. The result does not depend on it.
 pub(crate) fn owner_near(file: &CodeFile, near: &mut u8, at: u32) -> Result<Proc, OpFault>
     ensures value { result ≡ owner file.now.procs at }
     ensures part { IfOk result (IsPartWithin (length file.now.segment)) }
@@ -76,7 +76,7 @@ pub(crate) fn owner_near(file: &CodeFile, near: &mut u8, at: u32) -> Result<Proc
     Ok(part)
 }
 
-/// The procedure with a number from 1 on.
+/// Returns the procedure of number `n`, from 1 on.
 fn procedure_of(procs: &[Proc], n: u8) -> Option<Proc>
     ensures { result ≡ procedure_of procs.now n }
 {
@@ -86,7 +86,7 @@ fn procedure_of(procs: &[Proc], n: u8) -> Option<Proc>
     procs.get(usize::from(n) - 1).copied()
 }
 
-/// Which lex levels a call may lead to.
+/// The lex levels to which a call may lead.
 #[derive(Clone, Copy, Debug, PartialEq, Eq)]
 enum Levels {
     /// One more than the caller's.
@@ -97,7 +97,7 @@ enum Levels {
     Reachable,
 }
 
-/// Whether a procedure may call one at a lex level.
+/// Returns true if a procedure may call one of lex level `level`.
 fn is_callable(levels: Levels, part: Proc, level: u8) -> bool
     ensures { result ≡ is_callable levels part level }
 {
@@ -108,9 +108,9 @@ fn is_callable(levels: Levels, part: Proc, level: u8) -> bool
     }
 }
 
-/// Whether a procedure may call procedure `n`.
-fn called(procs: &[Proc], part: Proc, n: u8, levels: Levels) -> Result<(), OpFault>
-    ensures { result ≡ called procs.now n (is_callable levels part) }
+/// Checks that a procedure may call procedure `n`.
+fn legal_call(procs: &[Proc], part: Proc, n: u8, levels: Levels) -> Result<(), OpFault>
+    ensures { result ≡ legal_call procs.now n (is_callable levels part) }
 {
     match procedure_of(procs, n) {
         None => Err(OpFault::NoProcedure),
@@ -124,9 +124,9 @@ fn called(procs: &[Proc], part: Proc, n: u8, levels: Levels) -> Result<(), OpFau
     }
 }
 
-/// Whether a procedure has this number of static links.
-fn linked(part: Proc, levels: u8) -> Result<(), OpFault>
-    ensures { result ≡ linked part levels }
+/// Checks that a procedure has `levels` static links above it.
+fn legal_links(part: Proc, levels: u8) -> Result<(), OpFault>
+    ensures { result ≡ legal_links part levels }
 {
     if part.level < levels {
         return Err(OpFault::LinkDepth);
@@ -134,17 +134,17 @@ fn linked(part: Proc, levels: u8) -> Result<(), OpFault>
     Ok(())
 }
 
-/// Whether a procedure may hold an instruction.
+/// Checks that a procedure may hold an instruction.
 fn legal(procs: &[Proc], part: Proc, instr: Instr) -> Result<(), OpFault>
     ensures { result ≡ legal procs.now part instr }
 {
     match instr {
-        Instr::Clp(n) => called(procs, part, n, Levels::Below),
-        Instr::Cgp(n) => called(procs, part, n, Levels::First),
-        Instr::Cip(n) => called(procs, part, n, Levels::Reachable),
-        Instr::Lod(levels, _) => linked(part, levels),
-        Instr::Str(levels, _) => linked(part, levels),
-        Instr::Lda(levels, _) => linked(part, levels),
+        Instr::Clp(n) => legal_call(procs, part, n, Levels::Below),
+        Instr::Cgp(n) => legal_call(procs, part, n, Levels::First),
+        Instr::Cip(n) => legal_call(procs, part, n, Levels::Reachable),
+        Instr::Lod(levels, _) => legal_links(part, levels),
+        Instr::Str(levels, _) => legal_links(part, levels),
+        Instr::Lda(levels, _) => legal_links(part, levels),
         Instr::Rnp(n) => {
             if part.number == 1 || n > 2 {
                 return Err(OpFault::ReturnForm);
@@ -162,7 +162,7 @@ fn legal(procs: &[Proc], part: Proc, instr: Instr) -> Result<(), OpFault>
     }
 }
 
-/// Whether the self-relative pointer at a place leads into a part.
+/// Returns true if the self-relative pointer at `place` leads into the part.
 fn leads_in(segment: &[u8], part: Proc, place: u32) -> bool
     requires place { place + 1 < length segment.now }
     ensures { result ≡ leads_in segment.now part place }
@@ -171,7 +171,8 @@ fn leads_in(segment: &[u8], part: Proc, place: u32) -> bool
     word <= place && is_in(part, place - word)
 }
 
-/// The target of a jump that ends at `next`.
+/// Returns the target of a jump that ends at `next`. Fails with `JumpRange` if it is out of the
+/// part.
 pub(crate) fn jump_to(segment: &[u8], part: Proc, sb: i8, next: u32) -> Result<u32, OpFault>
     requires part { IsPartWithin (length segment.now) part }
     requires next { next ≤ length segment.now }
@@ -207,7 +208,7 @@ pub(crate) fn jump_to(segment: &[u8], part: Proc, sb: i8, next: u32) -> Result<u
     Ok(place - word)
 }
 
-/// Whether each pointer of a case table leads into a part.
+/// Returns true if each pointer of a case table leads into the part.
 fn entries_in(segment: &[u8], part: Proc, table: u32, count: u32) -> bool
     requires table { table + 2 * count ≤ length segment.now }
     requires size { length segment.now < 2 ^ 16 }
@@ -221,7 +222,8 @@ fn entries_in(segment: &[u8], part: Proc, table: u32, count: u32) -> bool
     true
 }
 
-/// The next offset, which has to lie in the part, beside a jump's target.
+/// Returns the next offset beside a jump's target. Fails with `Cut` if the next offset is out of
+/// the part.
 fn goes_on(part: Proc, next: u32, target: Option<u32>) -> Result<Onward, OpFault>
     ensures value { result ≡ goes_on part next target }
     ensures shape { IfOk result (λ o. (o.next ≡ Some next) × (o.target ≡ target) × (o.table ≡ 0)
@@ -238,7 +240,7 @@ fn goes_on(part: Proc, next: u32, target: Option<u32>) -> Result<Onward, OpFault
     })
 }
 
-/// No offset is reached after the instruction but a jump's target.
+/// Returns a jump's target alone: no offset is reached after the instruction.
 fn ends_at(target: Option<u32>) -> Onward
     ensures { result ≡ ends_at target }
 {
@@ -250,7 +252,7 @@ fn ends_at(target: Option<u32>) -> Onward
     }
 }
 
-/// Where a jump leads that may also go on after itself.
+/// Returns the target of a jump, and the next offset.
 fn branch_to(segment: &[u8], part: Proc, sb: i8, next: u32) -> Result<Onward, OpFault>
     requires part { IsPartWithin (length segment.now) part }
     requires next { next ≤ length segment.now }
@@ -262,7 +264,7 @@ fn branch_to(segment: &[u8], part: Proc, sb: i8, next: u32) -> Result<Onward, Op
     goes_on(part, next, Some(target))
 }
 
-/// Where a case jump leads: to its UJP, and to the entries of its table.
+/// Returns where a case jump leads: to its UJP, and to the entries of its table.
 fn cases_to(segment: &[u8], part: Proc, table: u32, count: u32) -> Result<Onward, OpFault>
     requires table { table + 2 * count ≤ length segment.now }
     requires after { 2 ≤ table }
@@ -281,8 +283,7 @@ fn cases_to(segment: &[u8], part: Proc, table: u32, count: u32) -> Result<Onward
     })
 }
 
-/// Where an instruction of a procedure leads that ends at `next`: targets first, then the next
-/// offset.
+/// Returns where an instruction that ends at `next` leads: targets first, then the next offset.
 fn onward_of(segment: &[u8], part: Proc, instr: Instr, next: u32) -> Result<Onward, OpFault>
     requires part { IsPartWithin (length segment.now) part }
     requires next { next ≤ length segment.now }
@@ -307,8 +308,8 @@ fn onward_of(segment: &[u8], part: Proc, instr: Instr, next: u32) -> Result<Onwa
     }
 }
 
-/// All checks of an offset in their order: the first fault, or where the offset leads. `near` is as
-/// `owner_near` has it.
+/// Makes all checks of an offset in their order. Returns where the offset leads, or the first
+/// fault. `near` is as in `owner_near`.
 #[tactic(auto, unfolding(crate::specs::Loading::look))]
 pub(crate) fn look(file: &CodeFile, near: &mut u8, at: u32) -> Result<Onward, OpFault>
     ensures value { result ≡ look file.now at }

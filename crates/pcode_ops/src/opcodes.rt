@@ -8,7 +8,7 @@ use crate::fault::OpFault;
 use crate::instr::Instr;
 
 /// What follows an opcode, as each row reads it. What the code does not have is 0 here, and a fault
-/// once the row asks for it.
+/// once the row needs it.
 #[derive(Clone, Copy, Debug, PartialEq, Eq)]
 pub(crate) struct Operands {
     /// UB, DB or SB.
@@ -24,7 +24,7 @@ pub(crate) struct Operands {
 impl Operands {
     ghost use Rattle.std.specs.Int.{w8, cast_signed};
 
-    /// The byte as SB.
+    /// Returns the byte as SB.
     #[inline(always)]
     fn signed(self) -> i8
         ensures { result ≡ cast_signed w8 self.byte }
@@ -56,7 +56,7 @@ pub(crate) enum Row {
     CaseJump,
 }
 
-/// Constants.
+/// Returns the row of a constant.
 fn constant(opcode: u8, o: Operands) -> Option<Row>
     ensures { result ≡ made_by o opcode (row_of opcode constant_rows) }
 {
@@ -68,7 +68,7 @@ fn constant(opcode: u8, o: Operands) -> Option<Row>
     }
 }
 
-/// Words of the current frame and of the main frame.
+/// Returns the row of a word of the current frame or of the main frame.
 fn frame(opcode: u8, o: Operands) -> Option<Row>
     ensures { result ≡ made_by o opcode (row_of opcode frame_rows) }
 {
@@ -85,7 +85,7 @@ fn frame(opcode: u8, o: Operands) -> Option<Row>
     }
 }
 
-/// Words of a frame some static links up.
+/// Returns the row of a word of a frame some static links up.
 fn link(opcode: u8, o: Operands) -> Option<Row>
     ensures { result ≡ made_by o opcode (row_of opcode link_rows) }
 {
@@ -97,7 +97,7 @@ fn link(opcode: u8, o: Operands) -> Option<Row>
     }
 }
 
-/// Words, bytes and packed elements at pointers.
+/// Returns the row of words, bytes and packed elements at pointers.
 fn pointer(opcode: u8, o: Operands) -> Option<Row>
     ensures { result ≡ made_by o opcode (row_of opcode pointer_rows) }
 {
@@ -119,7 +119,7 @@ fn pointer(opcode: u8, o: Operands) -> Option<Row>
     }
 }
 
-/// Arithmetic and logic.
+/// Returns the row of arithmetic or logic.
 fn arithmetic(opcode: u8, o: Operands) -> Option<Row>
     ensures { result ≡ made_by o opcode (row_of opcode arithmetic_rows) }
 {
@@ -140,7 +140,7 @@ fn arithmetic(opcode: u8, o: Operands) -> Option<Row>
     }
 }
 
-/// Comparisons of integers, and with a type byte of Booleans.
+/// Returns the row of a comparison of integers, or of Booleans, which has a type byte.
 fn comparison(opcode: u8, o: Operands) -> Option<Row>
     ensures { result ≡ made_by o opcode (row_of opcode comparison_rows) }
 {
@@ -161,7 +161,7 @@ fn comparison(opcode: u8, o: Operands) -> Option<Row>
     }
 }
 
-/// Jumps, calls and returns, and what does nothing.
+/// Returns the row of a jump, a call, a return or NOP.
 fn flow(opcode: u8, o: Operands) -> Option<Row>
     ensures { result ≡ made_by o opcode (row_of opcode flow_rows) }
 {
@@ -182,7 +182,7 @@ fn flow(opcode: u8, o: Operands) -> Option<Row>
     }
 }
 
-/// The row of an opcode, with its operands.
+/// Returns the row of an opcode, with its operands.
 pub(crate) fn make_row(opcode: u8, o: Operands) -> Option<Row>
     ensures { result ≡ made_by o opcode (row_of opcode opcodes) }
 {
@@ -195,7 +195,7 @@ pub(crate) fn make_row(opcode: u8, o: Operands) -> Option<Row>
         .or(flow(opcode, o))
 }
 
-/// Why an opcode without a row is refused.
+/// Returns why an opcode without a row is refused.
 pub(crate) fn refusal(opcode: u8) -> OpFault
     ensures { result ≡ opcode_refusal opcode }
 {

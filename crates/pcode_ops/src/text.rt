@@ -1,25 +1,25 @@
-//! Writers of text, which are not written to once a write has failed.
+//! Writers of text. After a write has failed, nothing more is written.
 //!
-//! std's `Write` has no word for "a write failed", so that no clause over it can say that a fault
-//! was answered, or that nothing was written after it. The trait here has one; the wrapper below
-//! makes one of any `Write`.
+//! std's `Write` has no word for "a write failed", so no clause over it can say that a fault was
+//! returned, or that nothing was written after it. The trait here has one. The wrapper below makes
+//! one of any `Write`.
 ghost use Rattle.std.specs.Prelude.{◌≡◌, Bool, false, is_err};
 
 use std::fmt::Display;
 use std::io::{self, Write};
 
-/// What takes text up to its first fault.
+/// A writer of text, up to its first fault.
 pub trait TextWriter {
-    /// Whether a write has failed.
+    /// True if a write has failed.
     ghost has_failed: { Self → Bool };
 
-    /// Writes a text. Once a write has failed nothing more may be written.
+    /// Writes a text. After a write has failed nothing more may be written.
     fn write_fmt<D: Display + Drop>(&mut self, text: D) -> io::Result<()>
         requires { has_failed self.old ≡ false }
         ensures { has_failed self.new ≡ is_err result };
 }
 
-/// A writer of bytes that has not failed until now, or that failed at its last write.
+/// A writer of bytes that has not failed, or that failed at its last write.
 #[derive(Drop)]
 pub struct UpToFault<'a, W: Write> {
     inner: &'a mut W,
@@ -27,6 +27,7 @@ pub struct UpToFault<'a, W: Write> {
 }
 
 impl<'a, W: Write> UpToFault<'a, W> {
+    /// Wraps a writer, as one that has not failed.
     pub fn new(inner: &'a mut W) -> UpToFault<'a, W>
         ensures { result.failed ≡ false }
     {

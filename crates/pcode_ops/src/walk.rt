@@ -1,4 +1,4 @@
-//! The search over offsets: which are reached.
+//! The search for reached offsets.
 ghost use Rattle.std.specs.Prelude.{◌≡◌, ◌+◌, ◌*◌, ◌<◌, ◌≤◌, ◌↔◌, [], length, replicate, slice_get, Some, IsTrue, IfOk, IfSome, false};
 ghost use Rattle.pcode_ops.specs.Loading.{IsCaseEntry, LeadsTo};
 ghost use Rattle.pcode_ops.specs.Walks.{Marks, IsMarked, IsListing, IsWithin, Adds, IsStarted, MarksReached};
@@ -30,7 +30,7 @@ impl Model for Walk {
 }
 
 impl Walk {
-    /// Nothing is found yet, and there is room for as many offsets as the size.
+    /// Makes a walk that has found nothing, with room for `size` offsets.
     pub(crate) fn new(alloc: Global, size: usize) -> Result<Walk, AllocError>
         ensures { IfOk result (λ w. w ≡ record { flags = replicate size false; found = [] }) }
     {
@@ -39,7 +39,7 @@ impl Walk {
         Ok(Walk { flags, found })
     }
 
-    /// Whether an offset is found.
+    /// Returns true if an offset is found.
     pub(crate) fn has(&self, at: u32) -> bool
         ensures { IsTrue result ↔ IsMarked self.now at }
     {
@@ -49,7 +49,7 @@ impl Walk {
         }
     }
 
-    /// How many offsets are found.
+    /// Returns the number of found offsets.
     pub(crate) fn len(&self) -> usize
         ensures value { result ≡ length self.now.found }
         ensures listing { IsListing self.now }
@@ -58,7 +58,7 @@ impl Walk {
         self.found.len()
     }
 
-    /// The offset that was found after `k` others.
+    /// Returns the offset that was found after `k` others.
     pub(crate) fn get(&self, k: usize) -> u32
         requires { k < length self.now.found }
         ensures { slice_get self.now.found k ≡ Some result }
@@ -89,7 +89,7 @@ fn mark_some(walk: &mut Walk, at: Option<u32>)
     }
 }
 
-/// Marks what the entries of a case table point to.
+/// Marks the targets of a case table's entries.
 fn mark_entries(file: &CodeFile, walk: &mut Walk, table: u32, count: u32)
     requires table { table + 2 * count ≤ length file.now.segment }
     requires size { length walk.old.flags ≡ length file.now.segment }
@@ -125,7 +125,7 @@ fn mark_starts(file: &CodeFile, walk: &mut Walk)
     }
 }
 
-/// Looks at what is found until nothing more is.
+/// Looks at each offset that it finds, until it finds no more.
 fn search_on(file: &CodeFile, walk: &mut Walk)
     requires { IsStarted file.now (length file.now.procs) walk.old }
     ensures exact { MarksReached file.now walk.new }
@@ -143,7 +143,7 @@ fn search_on(file: &CodeFile, walk: &mut Walk)
     }
 }
 
-/// The reached offsets, found by a walk that has found nothing yet.
+/// Returns the reached offsets, found by a walk that has found nothing yet.
 pub(crate) fn walk_over(blank: Walk, file: &CodeFile) -> Walk
     requires { blank ≡ record { flags = replicate (length file.now.segment) false; found = [] } }
     ensures exact { MarksReached file.now result }

@@ -13,8 +13,8 @@ const INNER: Frame = Frame {
     back: 15,
 };
 
-/// Memory, a stack and frames. What contracts see of them is nothing, so that a test does not carry
-/// their words from one call to the next.
+/// Memory, a stack and frames. Contracts see nothing of them, so that a test does not carry their
+/// words from one call to the next.
 struct Room {
     memory: Memory,
     stack: Stack,
@@ -38,7 +38,7 @@ impl Model for Room {
 }
 
 impl Room {
-    /// Room with a main frame of this number of words.
+    /// Makes room with a main frame of `words` words.
     fn new(alloc: Global, words: u16) -> Result<Room, Fail> {
         let mut memory = Memory::new(alloc)?;
         let stack = Stack::new(alloc)?;
@@ -106,6 +106,10 @@ impl Room {
     }
 }
 
+/// Shows Memory::new, Stack::new, Frames::new, Frames::start (value), Frames::call (value),
+/// Frames::ret (value, frame), Frames::link_up (value), Frames::frame, Memory::get, Memory::put
+/// (value, live), Memory::put_byte (value, live), Memory::top (value), Stack::push (pushed, room),
+/// Stack::pop (popped, empty): a main frame, two calls and a return, with the words that they move.
 #[test]
 fn calls_and_returns(rt: HostRuntime) -> Result<(), Fail> {
     let mut room = Room::new(rt.alloc(), 3)?;

@@ -1,5 +1,5 @@
-//! Tests of the crates below the machine and of the machine: files, opcodes, frames and steps. This
-//! crate has nothing else.
+//! Tests of the machine and of the crates below it: files, opcodes, frames and steps. This crate
+//! has nothing else.
 #![tactic(auto)]
 
 #[cfg(test)]

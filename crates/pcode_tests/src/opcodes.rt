@@ -1,13 +1,13 @@
-//! Every opcode, with its operands at their bounds. The values stand as the table of instructions
-//! has them.
+//! Every opcode, with its operands at their bounds. The values are those of the table of
+//! instructions.
 use pcode_ops::{Instr, OpFault, StandardProcedure, decode};
 use std::process::Abort;
 use std::test::Fail;
 
-/// An instruction's bytes, how many they are, and the instruction.
+/// An instruction's bytes, their number, and the instruction.
 type Row = ([u8; 4], usize, Instr);
 
-/// What has no operand, or has it in its opcode.
+/// Instructions without an operand, or with it in their opcode.
 const SINGLE: [Row; 41] = [
     ([0x00, 0, 0, 0], 1, Instr::Sldc(0)),
     ([0x7f, 0, 0, 0], 1, Instr::Sldc(127)),
@@ -121,7 +121,7 @@ const FLOW: [Row; 20] = [
     ([0x9e, 0x27, 0, 0], 2, Instr::Csp(StandardProcedure::Halt)),
 ];
 
-/// Each row is decoded, and with one byte less it is cut.
+/// Checks that each row is decoded, and that with one byte less it is cut.
 fn check_rows(rt: &impl Abort, rows: &[Row]) -> Result<(), Fail> {
     for (bytes, length, instr) in rows {
         let whole = bytes.get(..*length).unwrap_or(&[]);
@@ -132,6 +132,8 @@ fn check_rows(rt: &impl Abort, rows: &[Row]) -> Result<(), Fail> {
     Ok(())
 }
 
+/// Shows pcode_ops::decode (found, only, exact): each opcode with its operands at their bounds, and
+/// each cut by one byte.
 #[test]
 fn instructions(rt: HostRuntime) -> Result<(), Fail> {
     check_rows(&rt, &SINGLE)?;
@@ -139,12 +141,12 @@ fn instructions(rt: HostRuntime) -> Result<(), Fail> {
     check_rows(&rt, &FLOW)
 }
 
-/// These bytes are refused with this fault.
+/// Checks that these bytes are refused with this fault.
 fn check_fault(rt: &impl Abort, bytes: &[u8], fault: OpFault) {
     assert_eq!(rt; decode(bytes, 0), Err(fault), "{bytes:?}");
 }
 
-/// Opcodes, and what they are refused with.
+/// Opcodes, and the fault that refuses them.
 const REFUSED: [(&[u8], OpFault); 4] = [
     (
         &[129, 131, 135, 137, 138, 144, 146, 150, 153],
@@ -155,6 +157,8 @@ const REFUSED: [(&[u8], OpFault); 4] = [
     (&[157, 167, 205, 209], OpFault::Segment),
 ];
 
+/// Shows pcode_ops::decode (exact): opcodes on real numbers, sets, strings and other segments, and
+/// unknown ones, are refused.
 #[test]
 fn opcodes_that_are_refused(rt: HostRuntime) {
     for (opcodes, fault) in REFUSED {
@@ -170,6 +174,7 @@ fn opcodes_that_are_refused(rt: HostRuntime) {
     }
 }
 
+/// Shows pcode_ops::decode (exact): packed elements that do not fit a word are refused.
 #[test]
 fn packed_elements_that_do_not_fit(rt: HostRuntime) {
     for [elements, width] in [[0, 1], [1, 0], [0, 0], [1, 17], [17, 1], [5, 4], [255, 255]] {
@@ -178,6 +183,7 @@ fn packed_elements_that_do_not_fit(rt: HostRuntime) {
     }
 }
 
+/// Shows pcode_ops::decode (exact): standard procedures of the heap, and unknown ones, are refused.
 #[test]
 fn standard_procedures_that_are_refused(rt: HostRuntime) {
     for number in [1, 32, 33] {
@@ -188,18 +194,18 @@ fn standard_procedures_that_are_refused(rt: HostRuntime) {
     }
 }
 
-/// XJP at 0 over 1 to 2: its bounds stand at 2 and 4, its UJP at 6, and the table at 8 and 10.
+/// XJP at 0 from 1 to 2: its bounds are at 2 and 4, its UJP at 6, and the table at 8 and 10.
 const CASE_JUMP: [u8; 12] = [
     0xac, 0x00, 0x01, 0x00, 0x02, 0x00, 0xb9, 0x04, 0x0d, 0x00, 0x0c, 0x00,
 ];
 
-/// XJP at 0 over -32768 alone, whose table is one word.
+/// XJP at 0 for -32768 alone, whose table is one word.
 const LEAST: [u8; 12] = [
     0xac, 0x00, 0x00, 0x80, 0x00, 0x80, 0xb9, 0x04, 0x0d, 0x00, 0x0c, 0x00,
 ];
 
-/// Bounds the wrong way round, whole and cut, and another instruction in the UJP's place: the
-/// faults come before the table is looked at.
+/// Bounds in the wrong order, whole and cut, and another instruction in the UJP's place. These
+/// faults come before the table is read.
 const FAULTY: [(&[u8], OpFault); 4] = [
     (
         &[
@@ -220,6 +226,7 @@ const FAULTY: [(&[u8], OpFault); 4] = [
     ),
 ];
 
+/// Shows pcode_ops::decode (found, only, table): an XJP is decoded with its bounds and its table.
 #[test]
 fn case_jumps(rt: HostRuntime) {
     for (code, low, high, length) in [(CASE_JUMP, 1, 2, 12), (LEAST, -32768, -32768, 10)] {
@@ -233,6 +240,8 @@ fn case_jumps(rt: HostRuntime) {
     }
 }
 
+/// Shows pcode_ops::decode (exact): an XJP that is cut, whose bounds are in the wrong order, or
+/// without its UJP, is refused.
 #[test]
 fn faulty_case_jumps(rt: HostRuntime) {
     for length in 0..12 {

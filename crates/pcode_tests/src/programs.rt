@@ -1,4 +1,4 @@
-//! A code file that is read, the program of it, and the turns of a machine on it.
+//! A code file, its program, and the turns of a machine on it.
 use pcode_file::CodeFile;
 use pcode_machine::{End, Machine, Pause, Turn};
 use pcode_ops::Program;
@@ -11,7 +11,7 @@ const PRINTS_A: [u8; 28] = [
     0x04, 0x00, 0x06, 0x00, 0x14, 0x00, 0x01, 0x00, 0x02, 0x00, 0x01, 0x01,
 ];
 
-/// A code file with this name, this segment as its entry 1, and zeros up to 1,024 bytes.
+/// Returns a code file with this name, this segment as its entry 1, and zeros up to 1,024 bytes.
 fn code_file(alloc: Global, name: &[u8; 8], segment: &[u8]) -> Result<Vec<u8>, AllocError> {
     let [low, high] = u16::try_from(segment.len()).unwrap_or(0).to_le_bytes();
     let mut file = Vec::new(alloc);
@@ -30,7 +30,7 @@ fn code_file(alloc: Global, name: &[u8; 8], segment: &[u8]) -> Result<Vec<u8>, A
     Ok(file)
 }
 
-/// The file that prints A, with a name.
+/// Returns the file that prints A, with a name.
 fn letter(alloc: Global) -> Result<CodeFile, Fail> {
     let bytes = code_file(alloc, b"LETTER  ", &PRINTS_A)?;
     let file = CodeFile::read(alloc, bytes.as_slice())
@@ -39,6 +39,8 @@ fn letter(alloc: Global) -> Result<CodeFile, Fail> {
     Ok(file)
 }
 
+/// Shows CodeFile::read (found), CodeFile::name, CodeFile::segment (value), CodeFile::number,
+/// CodeFile::count (value, some), CodeFile::procedure (value): the parts of a code file.
 #[test]
 fn looks_at_a_file(rt: HostRuntime) -> Result<(), Fail> {
     let file = letter(rt.alloc())?;
@@ -48,7 +50,7 @@ fn looks_at_a_file(rt: HostRuntime) -> Result<(), Fail> {
     Ok(())
 }
 
-/// The program of the file that prints A.
+/// Returns the program of the file that prints A.
 fn program(alloc: Global) -> Result<Program, Fail> {
     let program = Program::check(alloc, letter(alloc)?)
         .ok()
@@ -56,6 +58,8 @@ fn program(alloc: Global) -> Result<Program, Fail> {
     Ok(program)
 }
 
+/// Shows Program::check (ok), Program::reached, Program::is_start: the reached offsets of a
+/// program.
 #[test]
 fn looks_at_a_program(rt: HostRuntime) -> Result<(), Fail> {
     let program = program(rt.alloc())?;
@@ -66,7 +70,8 @@ fn looks_at_a_program(rt: HostRuntime) -> Result<(), Fail> {
     Ok(())
 }
 
-/// The bytes that are offered to a machine, and its turns. One that is not wanted is not taken.
+/// The bytes that are offered to a machine, and its turns. A byte that it does not want is not
+/// taken.
 const TURNS: [(Option<u8>, Turn); 12] = [
     (None, Turn::Went),
     (None, Turn::Went),
@@ -82,11 +87,13 @@ const TURNS: [(Option<u8>, Turn); 12] = [
     (Some(7), Turn::Ended(End::Normal)),
 ];
 
-/// Whether a machine that is offered a byte takes this turn.
+/// Returns true if a machine that is offered a byte takes this turn.
 fn takes_turn(machine: &mut Machine<'_>, offered: Option<u8>, turn: Turn) -> bool {
     machine.step(offered) == turn
 }
 
+/// Shows Machine::new (start), Machine::step (step, taken, still): the turns of a program that
+/// writes a byte. A byte that it does not want is not taken.
 #[test]
 fn steps_through_a_program(rt: HostRuntime) -> Result<(), Fail> {
     let program = program(rt.alloc())?;
@@ -103,6 +110,8 @@ const READS_ONE: [u8; 26] = [
     0x06, 0x00, 0x12, 0x00, 0x01, 0x00, 0x02, 0x00, 0x01, 0x01,
 ];
 
+/// Shows Machine::run (most, pauses), Machine::step (step): a run pauses at a read, and goes on
+/// after a byte.
 #[test]
 fn runs_and_takes_a_byte(rt: HostRuntime) -> Result<(), Fail> {
     let bytes = code_file(rt.alloc(), b"READER  ", &READS_ONE)?;
@@ -118,6 +127,8 @@ fn runs_and_takes_a_byte(rt: HostRuntime) -> Result<(), Fail> {
     Ok(())
 }
 
+/// Shows Machine::run (most, pauses): a run pauses after a byte that it wrote, after no step, and
+/// at the end.
 #[test]
 fn pauses_at_a_byte(rt: HostRuntime) -> Result<(), Fail> {
     let program = program(rt.alloc())?;

@@ -1,17 +1,13 @@
-//! The command `pgroup`.
+//! The program `pgroup`: the command line on the streams of its process.
 #![tactic(auto)]
 
-mod command;
-mod refusal;
-
-use command::{command, explain};
-use command_line::words_of;
+use command_line::{answer, explain, words_of};
 use std::io;
 use std::process::ExitCode;
 
 fn main(rt: HostRuntime) -> ExitCode {
     let status = match words_of(&rt) {
-        Ok(words) => command(
+        Ok(words) => answer(
             &rt,
             words.as_slice(),
             &mut rt.reader(),

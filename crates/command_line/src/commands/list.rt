@@ -1,11 +1,14 @@
 //! `list FILE`.
-use crate::command_words::{FILE, on_file};
+use crate::refusal::done_status;
+use crate::shared_words::{FILE, on_file};
 use crate::value::{WordFault, text_of};
-use crate::words::Asked;
 use clap::{ArgMatches, Command};
+use machine_run::list_file;
 use std::alloc::{AllocError, Global};
+use std::io::{Read, Write};
+use std::rt::Files;
 
-/// What help says after the words.
+/// The end of the command's help.
 const HELP: &str = "Example:
   pgroup list examples/echo.code
 
@@ -15,14 +18,26 @@ Exit status:
   2  a fault of the command line
 docs/FORMATS.md explains the codes and the instructions.";
 
+/// Returns the word that names the command.
+pub fn word() -> &'static str {
+    "list"
+}
+
 /// Returns the command's words, as clap reads them.
 pub fn words<'a>(alloc: Global, name: &'static str) -> Result<Command<'a>, AllocError> {
     let about = "Lists the reached instructions of a code file";
     on_file(alloc, name, about, HELP)
 }
 
-/// Returns what the words ask for, or what is wrong with them.
-pub fn read<'a>(matches: &ArgMatches<'a>) -> Result<Asked<'a>, WordFault<'a>> {
+/// Does what the words ask for. Returns the status, or what is wrong with the words.
+pub fn perform<'a, H: Files + AllocGlobal, R: Read, W: Write, E: Write>(
+    rt: &H,
+    matches: &ArgMatches<'a>,
+    _reader: &mut R,
+    writer: &mut W,
+    errors: &mut E,
+) -> Result<u8, WordFault<'a>> {
     let file = text_of(matches, FILE)?;
-    Ok(Asked::List { file })
+    let done = list_file(rt, file, writer);
+    Ok(done_status(errors, done))
 }

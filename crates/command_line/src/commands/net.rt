@@ -1,11 +1,16 @@
 //! `net FILE SIZE TURNS`.
-use crate::command_words::{FILE, SIZE, TURNS, on_file, size_arg, value_arg};
+use crate::refusal::done_status;
+use crate::shared_words::{FILE, SIZE, TURNS, on_file, size_arg, value_arg};
 use crate::value::{WordFault, byte_of, count_of, text_of};
-use crate::words::Asked;
 use clap::{ArgMatches, Command};
+use group_udp::net_file;
 use std::alloc::{AllocError, Global};
+use std::io::{Read, Write};
+use std::net::Net;
+use std::rt::Files;
+use std::time::Clock;
 
-/// What help says after the words.
+/// The end of the command's help.
 const HELP: &str = "Standard input is read whole, and typed at node 1. At the end a line tells of
 each node how much it knows, and what its console shows.
 
@@ -19,11 +24,9 @@ Exit status:
   2  a fault of the command line
 docs/FORMATS.md explains the codes.";
 
-/// What `net` asks for.
-#[derive(Clone, Copy, Drop)]
-pub struct NetWords {
-    pub size: u8,
-    pub turns: u32,
+/// Returns the word that names the command.
+pub fn word() -> &'static str {
+    "net"
 }
 
 /// Returns the command's words, as clap reads them.
@@ -34,11 +37,17 @@ pub fn words<'a>(alloc: Global, name: &'static str) -> Result<Command<'a>, Alloc
         .arg(value_arg(alloc, TURNS, "How many turns each node has"))
 }
 
-/// Returns what the words ask for, or what is wrong with them.
-pub fn read<'a>(matches: &ArgMatches<'a>) -> Result<Asked<'a>, WordFault<'a>> {
+/// Does what the words ask for. Returns the status, or what is wrong with the words.
+pub fn perform<'a, H: Files + Net + Clock + AllocGlobal, R: Read, W: Write, E: Write>(
+    rt: &H,
+    matches: &ArgMatches<'a>,
+    reader: &mut R,
+    writer: &mut W,
+    errors: &mut E,
+) -> Result<u8, WordFault<'a>> {
     let file = text_of(matches, FILE)?;
     let size = byte_of(matches, SIZE)?;
     let turns = count_of(matches, TURNS)?;
-    let net = NetWords { size, turns };
-    Ok(Asked::Net { file, net })
+    let done = net_file(rt, file, size, turns, reader, writer);
+    Ok(done_status(errors, done))
 }

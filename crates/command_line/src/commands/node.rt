@@ -1,15 +1,21 @@
 //! `node FILE ID SIZE SESSION RECORD TURNS ADDR.. [--seen N] [--campaign] [--keys ADDR]`.
-use crate::command_words::{
+use crate::refusal::done_status;
+use crate::shared_words::{
     FILE, SESSION, SIZE, TURNS, on_file, option_arg, size_arg, text_arg, value_arg,
 };
 use crate::value::{
     SENDABLE, Word, WordFault, address_in, byte_of, count_of, large_in, path_of, refused_value,
     text_of,
 };
-use crate::words::Asked;
 use clap::{Arg, ArgAction, ArgMatches, Command};
+use group_udp::{NodePlan, node_file};
+use paxos_msg::Group;
 use std::alloc::{AllocError, Global};
-use std::net::SocketAddr;
+use std::env;
+use std::io::{Read, Write};
+use std::net::{Net, SocketAddr};
+use std::rt::{Env, Files};
+use std::time::Clock;
 
 const ID: Word = Word {
     name: "ID",
@@ -40,7 +46,7 @@ const KEYS: Word = Word {
 const USAGE: &str = "pgroup node [OPTIONS] <FILE> <ID> <SIZE> <SESSION> <RECORD> <TURNS>
                    <ADDR>...";
 
-/// What help says after the words.
+/// The end of the command's help.
 const HELP: &str = "The output of the program is written to standard output. docs/GROUP.md tells
 how a group is run. With PGROUP_LOG=1 in the environment the node says what it
 does, line by line, on standard error.
@@ -67,40 +73,8 @@ Exit status:
   2  a fault of the command line
 docs/FORMATS.md explains the codes.";
 
-/// What `node` asks for.
-pub struct NodeWords<'a> {
-    /// The node's number, its group's size, and the session, as the words have them.
-    pub node: u8,
-    pub size: u8,
-    pub session: u32,
-    /// The path of the record.
-    pub record: &'a str,
-    pub turns: u32,
-    /// The address of each node, in order: as many as `size` says.
-    pub addresses: Vec<SocketAddr>,
-    /// Released bytes with a smaller number are not written.
-    pub seen: u64,
-    /// Whether the node campaigns before its first turn.
-    pub campaigns: bool,
-    /// Where datagrams of typed bytes come, if not from the standard input.
-    pub keys: Option<SocketAddr>,
-}
-
-impl<'a> Drop for NodeWords<'a> {
-    fn drop(self) {
-        let NodeWords {
-            node: _node,
-            size: _size,
-            session: _session,
-            record: _record,
-            turns: _turns,
-            addresses: _addresses,
-            seen: _seen,
-            campaigns: _campaigns,
-            keys: _keys,
-        } = self;
-    }
-}
+/// The variable of the environment that asks for a log, by the value 1.
+const LOG: &str = "PGROUP_LOG";
 
 /// Adds the options to the command.
 fn with_options<'a>(alloc: Global, node: Command<'a>) -> Result<Command<'a>, AllocError> {
@@ -117,6 +91,11 @@ an empty one has the node ask to lead
     node.arg(option_arg(alloc, SEEN, "N", seen))?
         .arg(campaign)?
         .arg(option_arg(alloc, KEYS, "ADDR", keys))
+}
+
+/// Returns the word that names the command.
+pub fn word() -> &'static str {
+    "node"
 }
 
 /// Returns the command's words, as clap reads them.
@@ -196,32 +175,54 @@ fn read_keys<'a>(
     Ok(Some(address))
 }
 
-/// Returns what `node` asks for beside its file, or what is wrong with its words.
-fn read_node<'a>(alloc: Global, matches: &ArgMatches<'a>) -> Result<NodeWords<'a>, WordFault<'a>> {
+/// Reads the number of the node, and its group.
+fn read_group<'a>(matches: &ArgMatches<'a>) -> Result<(u8, Group), WordFault<'a>> {
     let node = byte_of(matches, ID)?;
     let size = byte_of(matches, SIZE)?;
     let session = count_of(matches, SESSION)?;
+    Ok((node, Group { size, session }))
+}
+
+/// Returns true if the environment asks for a log.
+fn is_log_asked<H: Env + AllocGlobal>(rt: &H) -> bool {
+    match env::var(rt, LOG) {
+        Ok(value) => value.as_str() == "1",
+        Err(_) => false,
+    }
+}
+
+/// Does what the words ask for. Returns the status, or what is wrong with the words.
+pub fn perform<
+    'a,
+    H: Files + Net + Clock + Env + AllocGlobal + Copy + Drop,
+    R: Read,
+    W: Write,
+    E: Write,
+>(
+    rt: &H,
+    matches: &ArgMatches<'a>,
+    reader: &mut R,
+    writer: &mut W,
+    errors: &mut E,
+) -> Result<u8, WordFault<'a>> {
+    let file = text_of(matches, FILE)?;
+    let (node, group) = read_group(matches)?;
     let record = path_of(matches, RECORD)?;
     let turns = count_of(matches, TURNS)?;
-    let addresses = read_addresses(alloc, matches, size)?;
+    let addresses = read_addresses(rt.alloc(), matches, group.size)?;
     let seen = read_seen(matches)?;
     let keys = read_keys(matches, addresses.as_slice())?;
-    Ok(NodeWords {
+    let plan = NodePlan {
         node,
-        size,
-        session,
+        group,
         record,
         turns,
-        addresses,
+        addresses: addresses.as_slice(),
         seen,
         campaigns: matches.get_flag("campaign"),
         keys,
-    })
-}
-
-/// Returns what the words ask for, or what is wrong with them.
-pub fn read<'a>(alloc: Global, matches: &ArgMatches<'a>) -> Result<Asked<'a>, WordFault<'a>> {
-    let file = text_of(matches, FILE)?;
-    let node = read_node(alloc, matches)?;
-    Ok(Asked::Node { file, node })
+        is_logged: is_log_asked(rt),
+    };
+    let done = node_file(rt, file, &plan, reader, writer, errors);
+    Ok(done_status(errors, done))
 }

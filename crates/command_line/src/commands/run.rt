@@ -1,16 +1,22 @@
 //! `run FILE [--steps N]`.
-use crate::command_words::{FILE, on_file, option_arg};
+use crate::refusal::run_status;
+use crate::shared_words::{FILE, on_file, option_arg};
 use crate::value::{Word, WordFault, count_in, text_of};
-use crate::words::{Asked, DEFAULT_STEPS};
 use clap::{ArgMatches, Command};
+use machine_run::run_file;
 use std::alloc::{AllocError, Global};
+use std::io::{Read, Write};
+use std::rt::Files;
+
+/// The most steps of a run, if the words do not say it.
+pub const DEFAULT_STEPS: u32 = 1_000_000;
 
 const STEPS: Word = Word {
     name: "steps",
     shown: "--steps <N>",
 };
 
-/// What help says after the words.
+/// The end of the command's help.
 const HELP: &str = "Example:
   pgroup run examples/echo.code --steps 5000
 
@@ -22,6 +28,11 @@ Exit status:
   4  N steps were made, and the program has not ended: `steps`
 docs/FORMATS.md explains the codes and the errors.";
 
+/// Returns the word that names the command.
+pub fn word() -> &'static str {
+    "run"
+}
+
 /// Returns the command's words, as clap reads them.
 pub fn words<'a>(alloc: Global, name: &'static str) -> Result<Command<'a>, AllocError> {
     let about = "Runs a code file on standard input and output";
@@ -29,12 +40,19 @@ pub fn words<'a>(alloc: Global, name: &'static str) -> Result<Command<'a>, Alloc
     on_file(alloc, name, about, HELP)?.arg(option_arg(alloc, STEPS, "N", steps))
 }
 
-/// Returns what the words ask for, or what is wrong with them.
-pub fn read<'a>(matches: &ArgMatches<'a>) -> Result<Asked<'a>, WordFault<'a>> {
+/// Does what the words ask for. Returns the status, or what is wrong with the words.
+pub fn perform<'a, H: Files + AllocGlobal, R: Read, W: Write, E: Write>(
+    rt: &H,
+    matches: &ArgMatches<'a>,
+    reader: &mut R,
+    writer: &mut W,
+    errors: &mut E,
+) -> Result<u8, WordFault<'a>> {
     let file = text_of(matches, FILE)?;
     let steps = match matches.get_str(STEPS.name) {
         None => DEFAULT_STEPS,
         Some(text) => count_in(STEPS, text)?,
     };
-    Ok(Asked::Run { file, steps })
+    let ran = run_file(rt, file, steps, reader, writer);
+    Ok(run_status(errors, ran))
 }

@@ -1,16 +1,19 @@
 //! `show SIZE SESSION HEX`.
-use crate::command_words::{SESSION, SIZE, value_arg};
+use crate::refusal::shown_status;
+use crate::shared_words::{SESSION, SIZE, value_arg};
 use crate::value::{Word, WordFault, byte_of, count_of, text_of};
-use crate::words::Asked;
 use clap::{ArgMatches, Command};
+use machine_run::show;
+use paxos_msg::Group;
 use std::alloc::{AllocError, Global};
+use std::io::{Read, Write};
 
 const HEX: Word = Word {
     name: "HEX",
     shown: "<HEX>",
 };
 
-/// What help says after the words.
+/// The end of the command's help.
 const HELP: &str = "Example, which prints `prepare from 1 ballot 1.1 place 0`:
   pgroup show 3 7 50470201010300000007000000010100000000
 
@@ -19,6 +22,11 @@ Exit status:
   1  refused: `refused` and a code, G1 to G12, E1 or E3
   2  a fault of the command line, among them `bad hex`
 docs/FORMATS.md explains the codes, and what is printed.";
+
+/// Returns the word that names the command.
+pub fn word() -> &'static str {
+    "show"
+}
 
 /// Returns the command's words, as clap reads them.
 pub fn words<'a>(alloc: Global, name: &'static str) -> Result<Command<'a>, AllocError> {
@@ -33,14 +41,17 @@ pub fn words<'a>(alloc: Global, name: &'static str) -> Result<Command<'a>, Alloc
         .arg(value_arg(alloc, HEX, hex))
 }
 
-/// Returns what the words ask for, or what is wrong with them.
-pub fn read<'a>(matches: &ArgMatches<'a>) -> Result<Asked<'a>, WordFault<'a>> {
+/// Does what the words ask for. Returns the status, or what is wrong with the words.
+pub fn perform<'a, H: AllocGlobal, R: Read, W: Write, E: Write>(
+    rt: &H,
+    matches: &ArgMatches<'a>,
+    _reader: &mut R,
+    writer: &mut W,
+    errors: &mut E,
+) -> Result<u8, WordFault<'a>> {
     let size = byte_of(matches, SIZE)?;
     let session = count_of(matches, SESSION)?;
     let digits = text_of(matches, HEX)?;
-    Ok(Asked::Show {
-        size,
-        session,
-        digits,
-    })
+    let shown = show(rt.alloc(), Group { size, session }, digits, writer);
+    Ok(shown_status(errors, shown))
 }

@@ -1,16 +1,19 @@
 //! `sim FILE SCRIPT`.
-use crate::command_words::{FILE, on_file, text_arg};
+use crate::refusal::done_status;
+use crate::shared_words::{FILE, on_file, text_arg};
 use crate::value::{Word, WordFault, text_of};
-use crate::words::Asked;
 use clap::{ArgMatches, Command};
+use group_sim::sim_file;
 use std::alloc::{AllocError, Global};
+use std::io::{Read, Write};
+use std::rt::Files;
 
 const SCRIPT: Word = Word {
     name: "SCRIPT",
     shown: "<SCRIPT>",
 };
 
-/// What help says after the words.
+/// The end of the command's help.
 const HELP: &str = "Example:
   pgroup sim examples/echo.code examples/group/leader_falls.script
 
@@ -22,6 +25,11 @@ Exit status:
   2  a fault of the command line
 docs/FORMATS.md explains the codes, and what a script may say.";
 
+/// Returns the word that names the command.
+pub fn word() -> &'static str {
+    "sim"
+}
+
 /// Returns the command's words, as clap reads them.
 pub fn words<'a>(alloc: Global, name: &'static str) -> Result<Command<'a>, AllocError> {
     let about = "Runs a code file in a group, by a script";
@@ -29,9 +37,16 @@ pub fn words<'a>(alloc: Global, name: &'static str) -> Result<Command<'a>, Alloc
     on_file(alloc, name, about, HELP)?.arg(text_arg(alloc, SCRIPT, script))
 }
 
-/// Returns what the words ask for, or what is wrong with them.
-pub fn read<'a>(matches: &ArgMatches<'a>) -> Result<Asked<'a>, WordFault<'a>> {
+/// Does what the words ask for. Returns the status, or what is wrong with the words.
+pub fn perform<'a, H: Files + AllocGlobal, R: Read, W: Write, E: Write>(
+    rt: &H,
+    matches: &ArgMatches<'a>,
+    _reader: &mut R,
+    writer: &mut W,
+    errors: &mut E,
+) -> Result<u8, WordFault<'a>> {
     let file = text_of(matches, FILE)?;
     let script = text_of(matches, SCRIPT)?;
-    Ok(Asked::Sim { file, script })
+    let done = sim_file(rt, file, script, writer);
+    Ok(done_status(errors, done))
 }

@@ -1,4 +1,4 @@
-//! The calls of a node as events of its group, and that the law of a node is not empty.
+//! The calls of a node as events of its group, and a witness that the law of a node is not empty.
 ghost use Rattle.std.specs.Prelude.{◌≡◌, ◌≢◌, ◌<◌, [], ℕ, IsSome, IsSomeAnd, IsTrue, length, List, None, Some, slice_get};
 ghost use Rattle.std.specs.FinMap.{get};
 ghost use Rattle.pcode_machine.specs.Configuration.{Configuration};
@@ -28,8 +28,8 @@ use paxos_proposer::laws::{
     stays_backed as proposer_stays_backed, what_goes_out_fits as proposals_fit,
 };
 
-/// Each call is an event of the node's group: where what was sent and typed backs the node and it
-/// is in its ranges. So is a call whose save fails, of which nothing is sent.
+/// Each call is an event of the node's group, if what was sent and typed backs the node and it is
+/// in its ranges. So is a call whose save fails, of which nothing is sent.
 pub fn calls_are_events()
     ensures press { (w : WorldState) (n : Known) (byte k : ℕ) (c : Configuration) (console : List ℕ)
         → Sits w n c k console → IsInRange n → Backs w.sent w.typed n
@@ -77,7 +77,7 @@ pub fn calls_are_events()
     key_tests_are_exact();
 }
 
-/// The law of a node is not empty: there is a node in its ranges that is backed by what was sent
+/// The law of a node is not empty. There is a node in its ranges that is backed by what was sent
 /// and typed, and that leads, so that it may propose. It keeps a reported vote, has offered a key
 /// and tallies a place, and a key waits at it.
 pub fn possible()

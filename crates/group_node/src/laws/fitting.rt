@@ -1,5 +1,5 @@
-//! What a node sends has a spelling, and there is room for it: of a node in its ranges, whatever
-//! was sent. Each is the contract of a function that does nothing.
+//! What a node in its ranges sends has a spelling, and there is room for it, whatever was sent.
+//! Each law is the contract of a function that does nothing.
 ghost use Rattle.std.specs.Prelude.{◌≡◌, ◌-◌, ◌+◌, ◌<◌, ◌≤◌, ℕ, List, min, Option, Some, IfSome, length};
 ghost use Rattle.std.specs.FinMap.{get};
 ghost use Rattle.paxos_msg.specs.declared.ballot.Ballot.{Ballot};
@@ -10,6 +10,8 @@ ghost use Rattle.paxos_msg.specs.Fits.{IsBody, IsValue};
 ghost use Rattle.paxos_acceptor.specs.declared.me.Me.{Me};
 ghost use Rattle.paxos_acceptor.specs.Records.{IsRecord};
 ghost use Rattle.paxos_proposer.specs.Proposer.{asks_after, IsPromisePart, next_of, next_value, heard_promise, proposed_at, Proposer, proposing};
+ghost use Rattle.paxos_msg.specs.declared.limits.TheConstants.{LAST_ROUND, LAST_SERIAL, LAST_START, PLACES};
+ghost use Rattle.group_node.specs.declared.limits.TheConstants.{MESSAGE_PACKETS, MOST_TOLD, MOST_WAITING, TICK_PACKETS};
 ghost use Rattle.group_node.specs.Protocol.{on_message};
 ghost use Rattle.group_node.specs.AcceptorRows.{on_accept, on_prepare};
 ghost use Rattle.group_node.specs.Known.{on_typed, front, next_serial, Known, on_start};
@@ -27,17 +29,18 @@ use paxos_learner::laws::{learned_stays, one_front, values_fit, window_holds};
 use paxos_msg::laws::tests_are_exact;
 use paxos_proposer::laws::{ballot_stays, what_goes_out_fits as accepts_fit};
 
-/// A node stays in its ranges, and what it sends has a spelling: at a start of a record with a
-/// start to spare, at a key where fewer than 256 wait and there is a serial to spare, at a campaign
-/// where there is a round and a place to spare, at each tick and at each message that has a
+/// A node stays in its ranges, and what it sends has a spelling. This holds at a start of a record
+/// with a start to spare, at a key if fewer than 256 wait and there is a serial to spare, at a
+/// campaign if there is a round and a place to spare, at each tick, and at each message that has a
 /// spelling.
 pub fn what_goes_out_fits()
     ensures start { (me : Me) (r : Record) → IsMember me → IsRecord me.group.size r
-        → r.starts < 4294967295 → IsFit me (on_start me r) }
-    ensures typed { (n : Known) (byte : ℕ) → IsInRange n → byte < 256 → length n.waiting < 256
-        → next_serial n < 4294967296 → IsFit n.me (on_typed n byte) }
-    ensures campaign { (n : Known) → IsInRange n → (next_ballot n).round < 4294967296
-        → front n < 65536 → IsFit n.me (on_campaign n) }
+        → r.starts < LAST_START → IsFit me (on_start me r) }
+    ensures typed { (n : Known) (byte : ℕ) → IsInRange n → byte < 256
+        → length n.waiting < MOST_WAITING
+        → next_serial n < LAST_SERIAL + 1 → IsFit n.me (on_typed n byte) }
+    ensures campaign { (n : Known) → IsInRange n → (next_ballot n).round < LAST_ROUND + 1
+        → front n < PLACES → IsFit n.me (on_campaign n) }
     ensures tick { (n : Known) → IsInRange n → IsFit n.me (on_tick n) }
     ensures message { (n : Known) (j : ℕ) (body : Body) → IsInRange n → IsHeardFit n.me j body
         → IsFit n.me (on_message n j body) }
@@ -52,8 +55,7 @@ pub fn what_goes_out_fits()
     window_holds();
 }
 
-/// The same of a message by its kind, before keys that stand below the front leave, and of their
-/// leaving.
+/// The same of a message by its kind, before keys below the front leave, and of their leaving.
 pub fn rows_fit()
     ensures prepare { (n : Known) (j from : ℕ) (b : Ballot) → IsInRange n
         → IsHeardFit n.me j (Prepare b from) → IsFit n.me (on_prepare n b from) }
@@ -83,11 +85,11 @@ pub fn rows_fit()
     window_holds();
 }
 
-/// A packet by itself: a Prepare under the proposer's ballot from any place that there is, the
-/// Accept of what it has proposed at a place, the Submit of the first keys that wait, an Ask from
-/// the front, and a Tell of what is learned.
+/// The same of each packet by itself: a Prepare under the proposer's ballot from any place of the
+/// group's, the Accept of what it has proposed at a place, the Submit of the first keys that wait,
+/// an Ask from the front, and a Tell of what is learned.
 pub fn packets_fit()
-    ensures prepare { (me : Me) (p : Proposer) (s : ℕ) → IsOwnProposer me p → s < 65536
+    ensures prepare { (me : Me) (p : Proposer) (s : ℕ) → IsOwnProposer me p → s < PLACES
         → IsBody me.group.size me.node (Prepare p.ballot s) }
     ensures accept { (me : Me) (p : Proposer) (s : ℕ) (v : Value) → IsOwnProposer me p
         → proposed_at p s ≡ Some v → IsBody me.group.size me.node (Accept p.ballot s v) }
@@ -101,9 +103,9 @@ pub fn packets_fit()
     one_front();
 }
 
-/// A node's proposer: it is its own still after a part of a promise that has a spelling, and asks
-/// on from a place that there is; and so it is after a proposal, after as many as there are up to a
-/// number, and after an offer, also behind a pump.
+/// The same of a node's proposer. After a part of a promise that has a spelling it is still the
+/// node's own, and asks on from a place of the group's. So it is after a proposal, after up to a
+/// number of them, and after an offer, also after a pump.
 pub fn proposals_fit()
     ensures hears { (me : Me) (p : Proposer) (j : ℕ) (body : Body) → IsOwnProposer me p
         → IsPromisePart p.ballot body → IsHeardFit me j body
@@ -128,15 +130,16 @@ pub fn proposals_fit()
     ballot_stays();
 }
 
-/// No call sends more packets than an outbox holds: a campaign sends one, a message at most 17, a
-/// tick at most 43; an Ask is told of at most 16 places below the front. A pump makes no more
-/// proposals than it may, and an offer one at most.
+/// No call sends more packets than an outbox holds. A campaign sends one, a message at most 17, a
+/// tick at most 43. An Ask is answered by at most 16 places below the front. A pump makes no more
+/// proposals than it may, and an offer at most one.
 pub fn packets_are_few()
     ensures campaign { (n : Known) → length (on_campaign n).sends ≤ 1 }
-    ensures message { (n : Known) (j : ℕ) (body : Body) → length (on_message n j body).sends ≤ 17 }
-    ensures tick { (n : Known) → IsInRange n → length (on_tick n).sends ≤ 43 }
+    ensures message { (n : Known) (j : ℕ) (body : Body)
+        → length (on_message n j body).sends ≤ MESSAGE_PACKETS }
+    ensures tick { (n : Known) → IsInRange n → length (on_tick n).sends ≤ TICK_PACKETS }
     ensures ask { (n : Known) (j from : ℕ)
-        → length (on_ask n j from).sends ≤ min 16 (front n - from) }
+        → length (on_ask n j from).sends ≤ min MOST_TOLD (front n - from) }
     ensures pump { (n : ℕ) (p : Proposer) → length (pump n p).made ≤ n }
     ensures offer { (pumped : Proposals) (v : Value) → length (offer_after pumped v).made ≤ 1 }
 {}

@@ -10,8 +10,8 @@ use paxos_learner::laws::input_grows;
 use paxos_msg::laws::{agreement, majorities_meet, sent_only_grows, tests_are_exact};
 use pcode_machine::laws::prefixes_are_ordered;
 
-/// Whatever was sent, it chooses an input. Where it grew from nothing it chooses one alone, with
-/// which the input of any chosen values begins, and which only grows at its end as more is sent.
+/// Whatever was sent, it chooses an input. If it grew from nothing, it chooses one alone. The input
+/// of any chosen values is a prefix of it, and it only grows at its end as more is sent.
 pub fn input_is_chosen()
     ensures there { (size : ℕ) (sent : Sent) → (x : List ℕ) × IsInput size sent x }
     ensures one { (size : ℕ) (sent : Sent) (records : ℕ → Record) (x y : List ℕ)

@@ -1,6 +1,6 @@
-//! The law of each call of a node, over the definitions alone. Where what was sent and typed backs
-//! a node that is in its ranges, what the call makes of it may be saved, learned and sent, and the
-//! node is backed again. Each is the contract of a function that does nothing.
+//! The law of each call of a node, over the definitions alone. If what was sent and typed backs a
+//! node that is in its ranges, the call saves, learns and sends only what it may, and the node is
+//! backed again. Each is the contract of a function that does nothing.
 ghost use Rattle.std.specs.Prelude.{◌≡◌, ◌≢◌, ◌++◌, ◌∷◌, [], ℕ, List, Option, Some};
 ghost use Rattle.std.specs.FinMap.{empty, FinMap, get};
 ghost use Rattle.std.specs.Ordering.{nat_cmp};
@@ -93,7 +93,7 @@ pub fn prepare_is_lawful()
     promises_may_be_sent();
 }
 
-/// A Promise, or a part of one, with the pump behind it.
+/// A Promise, or a part of one, with the pump after it.
 pub fn promise_is_lawful()
     ensures { (sent : Sent) (typed : List Key) (n : Known) (j first upto : ℕ) (b : Ballot)
         (votes : List Vote) → IsInRange n → Backs sent typed n
@@ -197,10 +197,10 @@ pub fn message_is_lawful()
     ask_is_lawful();
 }
 
-// ---- the others, and the whole
+// ---- the others, and all of them together
 
-/// What other nodes send, and keys that are typed, keep a node backed, and the stored record of one
-/// that is down.
+/// What other nodes send, and keys that are typed, keep a node backed, and also the stored record
+/// of one that is down.
 pub fn others_keep_it_backed()
     ensures sends { (sent : Sent) (typed known : List Key) (n : Known) (size j : ℕ)
         (learned : ℕ → Option Value) (r : Record) (body : Body) → j ≢ n.me.node
@@ -218,8 +218,8 @@ pub fn others_keep_it_backed()
     learner_stays_backed();
 }
 
-/// What a lawful call makes of the whole. The growth goes on; if all that was told is chosen, so is
-/// what the node has learned and what it tells; what is submitted was typed. A save of which
+/// What a lawful call does to the group. The growth goes on. If all that was told is chosen, so is
+/// what the node has learned and what it tells. What is submitted was typed. A save of which
 /// nothing was sent leaves a record that is backed.
 pub fn lawful_calls_go_on()
     ensures grew { (sent : Sent) (typed : List Key) (records next : ℕ → Record)

@@ -34,7 +34,7 @@ pub fn learning_keeps_the_output()
     run_is_after();
 }
 
-/// A run, and the release of a byte, are events of the group, where the node's machine is where a
+/// A run, and the release of a byte, are events of the group, if the node's machine is where a
 /// replay on its learned input is. A run makes at most as many steps as it may.
 pub fn output_is_an_event()
     ensures run { (w : WorldState) (n : Known) (steps m made k : ℕ) (console : List ℕ)

@@ -3,6 +3,7 @@ ghost use Rattle.std.specs.Prelude.{◌≡◌, ◌++◌, ◌∷◌, [], ℕ, All
 ghost use Rattle.paxos_msg.specs.declared.value.Value.{Value};
 ghost use Rattle.paxos_msg.specs.Keys.{Key, keys_of};
 ghost use Rattle.paxos_learner.specs.Input.{front_values, keys_in_order};
+ghost use Rattle.paxos_msg.specs.declared.limits.TheConstants.{MOST_CHARACTERS};
 ghost use Rattle.group_node.specs.Known.{on_typed, new_key, Known, waiting_keys};
 ghost use Rattle.group_node.specs.Tick.{batch_of};
 ghost use Rattle.group_node.specs.WaitingKeys.{without_read};
@@ -10,13 +11,13 @@ ghost use Rattle.group_node.specs.WaitingKeys.{without_read};
 use paxos_learner::laws::key_tests_are_exact;
 
 /// A typed key is the last that waits. A tick's batch has the first that wait, at most 32, and
-/// there is one unless none waits. After a message those that wait are the ones from the first on
-/// that doesn't stand below the front.
+/// there is one unless none waits. After a message, those from the first on that is not below the
+/// front wait.
 pub fn waiting_keys_are_a_row()
     ensures typed { (n : Known) (byte : ℕ)
         → waiting_keys (on_typed n byte).node ≡ waiting_keys n ++ keys_of (new_key n byte) }
     ensures batch { (n : Known) (v : Value) → batch_of n n.waiting ≡ Some v
-        → keys_of v ≡ take 32 (waiting_keys n) }
+        → keys_of v ≡ take MOST_CHARACTERS (waiting_keys n) }
     ensures none { (n : Known) → batch_of n n.waiting ≡ None → waiting_keys n ≡ [] }
     ensures gone { (n : Known)
         → (gone : List Key) × (waiting_keys n ≡ gone ++ waiting_keys (without_read n))

@@ -1,8 +1,8 @@
-//! What a node does, or is said to be, as data: a test is a list of it.
+//! What a node does, or is expected to be, as data: a test is a list of it.
 use crate::seat::Seat;
 use group_node::{NodeFault, Ran, To};
 
-/// Whether the node did what an act says, or is as the act says; or how it refused that.
+/// True if the node did what an act says, or is as it says; or the refusal.
 type Answer = Result<bool, NodeFault>;
 
 #[derive(Clone, Copy)]
@@ -10,25 +10,25 @@ pub enum Act {
     Campaigns,
     Ticks,
     Types(u8),
-    /// This number of keys is typed.
+    /// That many keys are typed.
     TypesMany(u32),
     Hears(&'static [u8]),
-    /// It hears of each place, in order, that no key stands there.
+    /// It hears of each place, in order, that it has no key.
     HearsOfAllPlaces,
-    /// It makes at most this number of steps, and its run is over for this reason.
+    /// It makes at most that many steps, and its run is over for this reason.
     Runs(u32, Ran),
     /// It runs until it waits, and releases these bytes from number 0 on; then none waits.
     Prints(&'static [u8]),
-    /// It releases zero bytes with the numbers from the first up to the second, which is left out;
+    /// It releases zero bytes with the numbers from the first up to, but not including, the second;
     /// then none waits.
     ReleasesZeros(u64, u64),
     /// Its oldest packet goes to these, with these bytes.
     Sends(To, &'static [u8]),
     /// All its packets were named.
     HasSentAll,
-    /// This number of bytes of its output waits.
+    /// That many bytes of its output wait.
     HasOutput(usize),
-    /// Its known front, and how many of its keys wait.
+    /// Its known front, and the number of its keys that wait.
     Knows(u32, usize),
     /// Its next save fails, and leaves the changed record, or the old one.
     FailsNext(bool),
@@ -51,7 +51,7 @@ fn types_many(seat: &mut Seat<'_>, keys: u32) -> Answer {
     Ok(true)
 }
 
-/// False where it is no datagram of the group.
+/// Returns false if the bytes are no datagram of the group.
 fn hears(seat: &mut Seat<'_>, bytes: &[u8]) -> Answer {
     match seat.hear(bytes) {
         Some(answer) => done(answer),
@@ -59,7 +59,7 @@ fn hears(seat: &mut Seat<'_>, bytes: &[u8]) -> Answer {
     }
 }
 
-/// What it did.
+/// Returns what it did.
 fn done(answer: Result<(), NodeFault>) -> Answer {
     match answer {
         Ok(()) => Ok(true),
@@ -67,7 +67,7 @@ fn done(answer: Result<(), NodeFault>) -> Answer {
     }
 }
 
-/// Node 2 says that no key stands at the place.
+/// Returns the Tell of node 2 that the place has no key.
 fn tell(place: u32) -> [u8; 15] {
     let [a, b, c, d] = place.to_be_bytes();
     [
@@ -75,7 +75,7 @@ fn tell(place: u32) -> [u8; 15] {
     ]
 }
 
-/// It hears of all places, in order.
+/// Lets it hear of all places, in order.
 fn hears_of_all_places(seat: &mut Seat<'_>) -> Answer {
     for place in 0..65_536 {
         if hears(seat, &tell(place)) != Ok(true) {
@@ -92,7 +92,7 @@ fn runs(seat: &mut Seat<'_>, steps: u32, how: Ran) -> Answer {
     }
 }
 
-/// Whether the first byte that waits has this number, and is this one. It is released.
+/// Releases the first byte that waits. Returns true if it has this number, and is this one.
 fn releases_one(seat: &mut Seat<'_>, number: u64, byte: u8) -> bool {
     match seat.release() {
         Some((first, value)) => first == number && value == byte,
@@ -100,7 +100,7 @@ fn releases_one(seat: &mut Seat<'_>, number: u64, byte: u8) -> bool {
     }
 }
 
-/// It releases these bytes from number 0 on, and then none waits.
+/// Releases bytes. Returns true if they are these, from number 0 on, and then none waits.
 fn releases(seat: &mut Seat<'_>, bytes: &[u8]) -> bool {
     for (number, byte) in bytes.iter().enumerate() {
         if !releases_one(seat, number as u64, *byte) {
@@ -126,7 +126,7 @@ fn releases_zeros(seat: &mut Seat<'_>, first: u64, end: u64) -> bool {
     seat.unreleased() == 0 && seat.release().is_none()
 }
 
-/// Whether the oldest packet goes to these, with these bytes. It is taken out.
+/// Takes the oldest packet out. Returns true if it goes to these, with these bytes.
 fn sends(seat: &mut Seat<'_>, to: To, bytes: &[u8]) -> bool {
     match seat.pop() {
         Some(packet) => packet.to == to && packet.bytes.as_slice() == bytes,
@@ -139,7 +139,7 @@ fn fails_next(seat: &mut Seat<'_>, is_kept: bool) -> Answer {
     Ok(true)
 }
 
-/// The node does this, or is so.
+/// Does what the act says, or checks it.
 fn does(seat: &mut Seat<'_>, act: Act) -> Answer {
     match act {
         Act::Campaigns => done(seat.campaign()),
@@ -160,12 +160,12 @@ fn does(seat: &mut Seat<'_>, act: Act) -> Answer {
     }
 }
 
-/// Whether the node does this, or is so, and refuses nothing.
+/// Returns true if the node does this, or is so, and refuses nothing.
 pub fn is_done(seat: &mut Seat<'_>, act: Act) -> bool {
     does(seat, act) == Ok(true)
 }
 
-/// Whether the answer is this refusal, or that it was done where there is none.
+/// Returns true if the answer is this refusal, or, without one, that it was done.
 fn is_answer(answer: Answer, fault: Option<NodeFault>) -> bool {
     match answer {
         Ok(is_done) => is_done && fault.is_none(),
@@ -173,8 +173,8 @@ fn is_answer(answer: Answer, fault: Option<NodeFault>) -> bool {
     }
 }
 
-/// The node does all this, one after another, and refuses it so. The first that it answers
-/// otherwise.
+/// Lets the node do all this, one after another, with these refusals. Returns the first line that
+/// it answers otherwise.
 pub fn first_unlike(seat: &mut Seat<'_>, lines: &[(Act, Option<NodeFault>)]) -> Option<usize> {
     for (line, (what, fault)) in lines.iter().enumerate() {
         if !is_answer(does(seat, *what), *fault) {

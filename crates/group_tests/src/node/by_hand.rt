@@ -1,16 +1,34 @@
-//! A node by hand: the example of docs/ARCHITECTURE.md.
+//! What docs/LIBRARY.md shows of a node by hand.
 ghost use Rattle.std.specs.Prelude.{◌≡◌, IfOk};
 
 use crate::program::reading_program;
+use std::test::Fail;
+
+// docs/LIBRARY.md shows the lines from here on:
 use group_node::{Config, Console, Node, NodeFault, Outbox, StartRefused};
 use paxos_acceptor::MemoryStore;
 use paxos_msg::{Group, Record, decode};
 use pcode_ops::Program;
 use std::alloc::Global;
-use std::test::Fail;
 
-/// The node hears the oldest packet of its outbox. It is alone in its group, so that all packets go
-/// to itself.
+/// Starts a node that is alone in its group, for the first time.
+fn alone(
+    alloc: Global,
+    program: &Program,
+) -> Result<Node<'_, MemoryStore>, StartRefused<MemoryStore>>
+    ensures { IfOk result
+        (λ node. node.protocol.known.me.group ≡ record { size = 1; session = 7 }) }
+{
+    let store = MemoryStore::new(Record::new(alloc));
+    let Ok(config) = Config::new(1, 1, 7) else {
+        let fault = NodeFault::Id;
+        return Err(StartRefused { fault, store });
+    };
+    Node::start(alloc, program, config, store) // the start is saved
+}
+
+/// Hands the node the oldest packet of its outbox. It is alone in its group, so each packet goes to
+/// itself.
 fn hear_itself(node: &mut Node<'_, MemoryStore>, outbox: &mut Outbox) -> Result<(), NodeFault>
     requires { node.old.protocol.known.me.group ≡ record { size = 1; session = 7 } }
     ensures { node.new.protocol.known.me.group ≡ record { size = 1; session = 7 } }
@@ -28,7 +46,7 @@ fn hear_itself(node: &mut Node<'_, MemoryStore>, outbox: &mut Outbox) -> Result<
     }
 }
 
-/// The node takes a key, and leads.
+/// Types a key, and makes the node lead.
 fn lead(node: &mut Node<'_, MemoryStore>, outbox: &mut Outbox) -> Result<(), NodeFault>
     requires { node.old.protocol.known.me.group ≡ record { size = 1; session = 7 } }
 {
@@ -39,7 +57,7 @@ fn lead(node: &mut Node<'_, MemoryStore>, outbox: &mut Outbox) -> Result<(), Nod
     node.tick(outbox) // the key is submitted, and what was learned is asked for
 }
 
-/// The node's machine runs on the keys that are learned, and what it writes is shown.
+/// Runs the program on the learned keys, and shows what it writes.
 fn show(node: &mut Node<'_, MemoryStore>, console: &mut Console) -> Result<(), NodeFault> {
     let _ran = node.run(1_000)?;
     for _ in 0..node.unreleased() {
@@ -50,23 +68,9 @@ fn show(node: &mut Node<'_, MemoryStore>, console: &mut Console) -> Result<(), N
     Ok(())
 }
 
-/// A node that is alone in its group, started for the first time.
-fn alone(
-    alloc: Global,
-    program: &Program,
-) -> Result<Node<'_, MemoryStore>, StartRefused<MemoryStore>>
-    ensures { IfOk result
-        (λ node. node.protocol.known.me.group ≡ record { size = 1; session = 7 }) }
-{
-    let store = MemoryStore::new(Record::new(alloc));
-    let Ok(config) = Config::new(1, 1, 7) else {
-        let fault = NodeFault::Id;
-        return Err(StartRefused { fault, store });
-    };
-    Node::start(alloc, program, config, store) // the start is saved
-}
+// docs/LIBRARY.md shows the lines up to here.
 
-/// How many packets there is room for in the end, and how many bytes were shown.
+/// Returns the free places of the outbox in the end, and the number of shown bytes.
 fn by_hand(alloc: Global, program: &Program) -> Result<(usize, usize), Fail> {
     let mut outbox = Outbox::new(alloc)?;
     let mut console = Console::new(alloc);
@@ -81,7 +85,9 @@ fn by_hand(alloc: Global, program: &Program) -> Result<(usize, usize), Fail> {
     Ok((outbox.free(), console.bytes().len()))
 }
 
-/// The Submit and the Ask of the tick are in the outbox, and no key is learned yet.
+/// Shows Node::typed (ok, known), Node::campaign (does), Node::on_message (does), Node::tick
+/// (does), Outbox::free (free): the example of docs/LIBRARY.md. In the end the Submit and the
+/// Ask of the tick are in the outbox, and no key is learned yet.
 #[test]
 fn node_by_hand(rt: HostRuntime) -> Result<(), Fail> {
     let program = reading_program(rt.alloc())?;

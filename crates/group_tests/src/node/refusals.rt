@@ -1,4 +1,4 @@
-//! What a node refuses, and what stands after it.
+//! What a node refuses, and its state after that.
 use super::acts::Act::{
     Campaigns, FailsNext, HasSentAll, Hears, HearsOfAllPlaces, IsStopped, Knows, Runs, Sends,
     Ticks, Types, TypesMany,
@@ -15,12 +15,12 @@ use pcode_ops::Program;
 use std::alloc::{AllocError, Global};
 use std::test::Fail;
 
-/// A ballot of node 1.
+/// Returns a ballot of node 1.
 fn ballot(round: u32) -> Ballot {
     Ballot { round, node: 1 }
 }
 
-/// Node 1 does all this after its first start. The first that it answers otherwise.
+/// Lets node 1 do all this after its first start. Returns the first line that it answers otherwise.
 pub fn fresh(
     alloc: Global,
     program: &Program,
@@ -34,6 +34,9 @@ pub fn fresh(
 
 const FULL: Option<NodeFault> = Some(NodeFault::OutboxFull);
 
+/// Shows Node::on_message (let_in, does), Node::campaign (let_in), Node::tick (let_in, does),
+/// Node::run (runs), Outbox::free (free), Outbox::pop (value, packets): with fewer than 64 free
+/// places each call that may send is `OutboxFull`, and nothing has changed.
 #[test]
 fn outbox_is_full(rt: HostRuntime) -> Result<(), Fail> {
     let program = reading_program(rt.alloc())?;
@@ -56,6 +59,8 @@ fn outbox_is_full(rt: HostRuntime) -> Result<(), Fail> {
     Ok(())
 }
 
+/// Shows Node::tick (let_in, does), Outbox::pop (value, packets): once the outbox is empty a tick
+/// is taken again.
 #[test]
 fn outbox_is_ready_after_a_pop(rt: HostRuntime) -> Result<(), Fail> {
     let program = reading_program(rt.alloc())?;
@@ -75,6 +80,8 @@ fn outbox_is_ready_after_a_pop(rt: HostRuntime) -> Result<(), Fail> {
     Ok(())
 }
 
+/// Shows Node::typed (ok, known, busy), Node::waiting (count): 256 keys wait, and the next is
+/// `Busy`.
 #[test]
 fn most_keys_wait(rt: HostRuntime) -> Result<(), Fail> {
     let program = reading_program(rt.alloc())?;
@@ -91,6 +98,8 @@ fn most_keys_wait(rt: HostRuntime) -> Result<(), Fail> {
     Ok(())
 }
 
+/// Shows Node::campaign (places), Node::known_front (front): once all places are learned a campaign
+/// is `PlacesSpent`.
 #[test]
 fn places_are_spent(rt: HostRuntime) -> Result<(), Fail> {
     let program = reading_program(rt.alloc())?;
@@ -107,7 +116,7 @@ fn places_are_spent(rt: HostRuntime) -> Result<(), Fail> {
     Ok(())
 }
 
-/// A record with these counts, without votes.
+/// Returns a record with these counts, without votes.
 fn without_votes(alloc: Global, starts: u32, promised: Option<Ballot>) -> Record {
     Record {
         starts,
@@ -116,7 +125,8 @@ fn without_votes(alloc: Global, starts: u32, promised: Option<Ballot>) -> Record
     }
 }
 
-/// Whether a campaign of node 1 is refused so where it has promised a ballot of this round.
+/// Returns true if a campaign of node 1, which has promised a ballot of this round, is answered by
+/// `fault`.
 fn campaigns_above(
     alloc: Global,
     program: &Program,
@@ -130,6 +140,7 @@ fn campaigns_above(
     Ok(unlike.is_none())
 }
 
+/// Shows Node::campaign (rounds): after the greatest round a campaign is `RoundsSpent`.
 #[test]
 fn rounds_are_spent(rt: HostRuntime) -> Result<(), Fail> {
     let program = reading_program(rt.alloc())?;
@@ -145,7 +156,7 @@ fn rounds_are_spent(rt: HostRuntime) -> Result<(), Fail> {
     Ok(())
 }
 
-/// A record with a vote above its promise.
+/// Returns a record with a vote above its promise.
 fn bad(alloc: Global) -> Result<Record, AllocError> {
     let mut votes = Vec::new(alloc);
     votes.push(Vote {
@@ -160,14 +171,14 @@ fn bad(alloc: Global) -> Result<Record, AllocError> {
     })
 }
 
-/// A store without a record, whose next save fails.
+/// Returns a store without a record, whose next save fails.
 fn failing(alloc: Global, is_kept: bool) -> MemoryStore {
     let mut store = MemoryStore::new(Record::new(alloc));
     store.fail_next(Some(is_kept));
     store
 }
 
-/// Over what a node is to start.
+/// The store over which a node is to start.
 #[derive(Clone, Copy, Debug)]
 enum Over {
     AllStarts,
@@ -183,12 +194,12 @@ fn store(alloc: Global, over: Over) -> Result<MemoryStore, AllocError> {
     }
 }
 
-/// The refusal of a start, and how many starts the store has after it.
+/// Returns the refusal of a start, and the number of starts that the store has after it.
 fn left(refused: &StartRefused<MemoryStore>) -> (NodeFault, u32) {
     (refused.fault, refused.store.stored().starts)
 }
 
-/// How a start over the store is refused, and how many starts the store has then.
+/// Returns how a start over the store is refused, and the number of starts that the store has then.
 fn refusal(alloc: Global, program: &Program, store: MemoryStore) -> Option<(NodeFault, u32)> {
     match Seat::start(alloc, program, 2, store) {
         Ok(seat) => {
@@ -199,6 +210,8 @@ fn refusal(alloc: Global, program: &Program, store: MemoryStore) -> Option<(Node
     }
 }
 
+/// Shows Node::start (loads, bad, spent, device, told, same): starts over a bad record, over the
+/// last start, and over a save that fails, with what the store then has.
 #[test]
 fn refused_starts(rt: HostRuntime) -> Result<(), Fail> {
     let program = reading_program(rt.alloc())?;
@@ -220,7 +233,8 @@ fn refused_starts(rt: HostRuntime) -> Result<(), Fail> {
 
 const STOPPED: Option<NodeFault> = Some(NodeFault::Stopped);
 
-/// Whether the save that this makes fails, nothing is sent, and each further call is stopped.
+/// Returns true if the save that this makes fails, nothing is sent, and each further call is
+/// `Stopped`.
 fn is_given_up(seat: &mut Seat<'_>, saves: Act, is_kept: bool) -> bool {
     first_unlike(
         seat,
@@ -239,7 +253,7 @@ fn is_given_up(seat: &mut Seat<'_>, saves: Act, is_kept: bool) -> bool {
     .is_none()
 }
 
-/// What a store has: the promised ballot, how many starts, and how many votes.
+/// Returns what a store has: the promised ballot, the number of starts, and the number of votes.
 fn kept(store: &MemoryStore) -> (Option<Ballot>, u32, usize) {
     let record = store.stored();
     (
@@ -249,7 +263,8 @@ fn kept(store: &MemoryStore) -> (Option<Ballot>, u32, usize) {
     )
 }
 
-/// What the store of node 1 has after such a save that fails. None where the node is not given up.
+/// Returns what the store of node 1 has after such a save that fails. Returns `None` if the node is
+/// not stopped.
 fn kept_after(
     alloc: Global,
     program: &Program,
@@ -266,7 +281,10 @@ fn kept_after(
     }
 }
 
-/// The store has the old record, or the changed one with this many votes.
+/// Shows Node::fail_next (plan), Node::on_message (does, saves, let_in), Node::campaign (does,
+/// saves, let_in), Node::tick (let_in), Node::typed (stopped), Node::run (stopped),
+/// Node::is_stopped, Node::into_store: after a save that failed nothing was sent, each call is
+/// `Stopped`, and the store has the old record or the changed one.
 #[test]
 fn saves_that_fail(rt: HostRuntime) -> Result<(), Fail> {
     let program = reading_program(rt.alloc())?;

@@ -6,8 +6,9 @@ use group_node::Ran::{Ended, Full, More};
 use pcode_machine::End;
 use std::test::Fail;
 
-/// Seven steps come before the transfer, which writes one byte a step: after 263 steps 256 bytes
-/// wait, and the next step is not made.
+/// Shows Node::run (runs), Node::unreleased (count), Node::release (value, some, none): seven steps
+/// come before the transfer, which writes one byte each step. After 263 steps 256 bytes wait, and
+/// the next step is not made.
 #[test]
 fn full_after_263_steps(rt: HostRuntime) -> Result<(), Fail> {
     let program = writing_program(rt.alloc())?;
@@ -37,7 +38,8 @@ fn full_after_263_steps(rt: HostRuntime) -> Result<(), Fail> {
     Ok(())
 }
 
-/// In one call a run is over where the output is full, with steps to spare.
+/// Shows Node::run (runs), Node::release (value, some): one run ends with `Full`, with steps to
+/// spare.
 #[test]
 fn full_in_one_call(rt: HostRuntime) -> Result<(), Fail> {
     let program = writing_program(rt.alloc())?;

@@ -1,4 +1,4 @@
-//! Three nodes that hear each other's datagrams one at a time: each packet that they send, byte by
+//! Three nodes that hear each other's datagrams one by one: each packet that they send, byte by
 //! byte.
 use super::acts::Act::{Campaigns, HasSentAll, Hears, Knows, Prints, Sends, Ticks, Types};
 use super::acts::{Act, is_done};
@@ -18,7 +18,7 @@ use std::test::Fail;
 /// next call that may send.
 type Line = (usize, Act);
 
-/// Whether the node with this number does or sends what its line says.
+/// Returns true if the node of this number does or sends what its line says.
 fn comes_about(
     first: &mut Seat<'_>,
     second: &mut Seat<'_>,
@@ -33,7 +33,7 @@ fn comes_about(
     }
 }
 
-/// The nodes 1, 2 and 3 do what the lines say. The first line that does not come about.
+/// Lets the nodes 1, 2 and 3 do what the lines say. Returns the first line that does not hold.
 fn first_unlike(
     first: &mut Seat<'_>,
     second: &mut Seat<'_>,
@@ -48,7 +48,7 @@ fn first_unlike(
     None
 }
 
-/// The same, from the first start of node 3 on.
+/// Does the same, from the first start of node 3 on.
 fn with_third(
     alloc: Global,
     program: &Program,
@@ -62,7 +62,7 @@ fn with_third(
     Ok(unlike)
 }
 
-/// The same, from the first start of node 2 on.
+/// Does the same, from the first start of node 2 on.
 fn with_second(
     alloc: Global,
     program: &Program,
@@ -75,7 +75,7 @@ fn with_second(
     unlike
 }
 
-/// The same, from the first start of each on. Each node stands in a function of its own, which
+/// Does the same, from the first start of each on. Each node is in a function of its own, which
 /// keeps their proofs short.
 fn follow(alloc: Global, program: &Program, lines: &[Line]) -> Result<Option<usize>, NodeFault> {
     let mut first = Seat::fresh(alloc, program, 1)?;
@@ -86,7 +86,7 @@ fn follow(alloc: Global, program: &Program, lines: &[Line]) -> Result<Option<usi
 
 /// Node 1 leads, and then a key is typed at node 2 and learned at nodes 1 and 2. Node 3 hears of it
 /// by a Tell. A tick of the leader before it is learned sends the Accept again; a Submit that comes
-/// again is passed over. Before the promises a tick asks each node by itself.
+/// again is ignored. Before the promises a tick asks each node by itself.
 const KEY: [Line; 45] = [
     (1, Campaigns),
     (1, Sends(All, &PREPARE)),
@@ -135,6 +135,11 @@ const KEY: [Line; 45] = [
     (3, HasSentAll),
 ];
 
+/// Shows Node::start (known), Node::typed (ok, known), Node::campaign (does, saves),
+/// Node::on_message (does, saves), Node::tick (does, store), Node::run (runs), Node::release
+/// (value, some), Outbox::new, Outbox::pop (value, packets), Node::known_front (front),
+/// Node::waiting (count): a typed key is learned at all three nodes, and each prints it. No clause
+/// says that it is.
 #[test]
 fn key_is_learned_by_all(rt: HostRuntime) -> Result<(), Fail> {
     let program = reading_program(rt.alloc())?;
@@ -203,6 +208,8 @@ const BATCHES: [Line; 53] = [
     (3, HasSentAll),
 ];
 
+/// Shows Node::on_message (does), Node::typed (known), Node::tick (does), Node::known_front
+/// (front): a batch of which one key is learned, and later both, byte by byte.
 #[test]
 fn batch_with_a_learned_key(rt: HostRuntime) -> Result<(), Fail> {
     let program = reading_program(rt.alloc())?;

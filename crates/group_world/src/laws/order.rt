@@ -1,5 +1,4 @@
-//! The order of the keys that a group has chosen. Each law is the contract of a function that does
-//! nothing.
+//! Laws of the order of the keys that a group has chosen.
 ghost use Rattle.std.specs.Prelude.{◌≡◌, ◌∷◌, [], Bool, ℕ, flat_map, List, map, Option};
 ghost use Rattle.pcode_file.specs.Parts.{Parts};
 ghost use Rattle.paxos_msg.specs.declared.message.Group.{Group};
@@ -10,19 +9,19 @@ ghost use Rattle.paxos_learner.specs.Input.{input_of, keys_in_order};
 ghost use Rattle.group_node.specs.Inputs.{AreChosen};
 ghost use Rattle.group_world.specs.declared.event.Act.{Act};
 ghost use Rattle.group_world.specs.declared.event.Done.{Done};
-ghost use Rattle.group_world.specs.Goes.{Performs};
+ghost use Rattle.group_world.specs.Event.{Performs};
+ghost use Rattle.group_world.specs.Group.{new_world, World, world_state};
 ghost use Rattle.group_world.specs.Order.{AreApart, AreInOrder, KeysOnce, SerialsInOrder};
 ghost use Rattle.group_world.specs.Ordered.{IsOrdered};
 ghost use Rattle.group_world.specs.Sound.{IsSound};
-ghost use Rattle.group_world.specs.Worlds.{new_world, world_state, World};
 
 use group_node::laws::{packets_fit, waiting_keys_are_a_row};
 use paxos_learner::laws::{input_grows, learned_stays, values_are_learned};
 use paxos_msg::grammar::{one_message, reading_is_spelling};
 use paxos_msg::laws::{agreement, sent_only_grows, votes_are_by_place};
 
-/// In a sound world that is ordered each typed key is read once of any chosen values, and in the
-/// order in which the keys of its start were typed, with none left out.
+/// In a sound world that is ordered, each typed key is read once from any chosen values. The keys
+/// of a start are read in the order in which they were typed, with none left out.
 pub fn ordered_worlds_are_orderly()
     ensures once { (w : World) → IsSound w → IsOrdered w → KeysOnce (world_state w) }
     ensures order { (w : World) → IsSound w → IsOrdered w → SerialsInOrder (world_state w) }
@@ -47,9 +46,9 @@ pub fn events_keep_order()
     packets_fit();
 }
 
-/// The law of order is not empty. Whatever the program, in some sound and ordered world of it the
-/// keys 1 to 3 of a start are chosen as the batches 1, 1 to 2, and 3, in this order, so that the
-/// first key stands in two of them and is read once.
+/// The law of order is not empty. Every program has a sound and ordered world in which the keys 1
+/// to 3 of a start are chosen as the batches 1, 1 to 2, and 3, in this order. So the first key is
+/// in two of them, and is read once.
 pub fn possible()
     ensures { (p : Parts)
         → (w : World) × (values : List Value) × (w.program ≡ p) × IsSound w × IsOrdered w
@@ -61,8 +60,8 @@ pub fn possible()
     votes_are_by_place();
 }
 
-/// Keys are not in order where the second comes before the first, or the third behind the first;
-/// nor are they apart where one serial has two characters, as after two starts with one number.
+/// Keys are not in order if the second comes before the first, or the third right after the first.
+/// They are not apart if one serial has two characters, as after two starts with one number.
 pub fn wrong_orders()
     ensures early { ¬ AreInOrder
         (keys_in_order (Keys 2 1 2 (66 ∷ []) ∷ Keys 2 1 1 (65 ∷ []) ∷ [])) }

@@ -1,5 +1,4 @@
-//! What holds of every world: that events keep it sound, and what is promised of a sound one. Each
-//! law is the contract of a function that does nothing.
+//! Laws of what holds of every world: events keep it sound, and what follows for a sound one.
 ghost use Rattle.std.specs.Prelude.{Bool, Option};
 ghost use Rattle.pcode_file.specs.Parts.{Parts};
 ghost use Rattle.paxos_msg.specs.declared.message.Group.{Group};
@@ -7,10 +6,10 @@ ghost use Rattle.paxos_msg.specs.Grammar.{IsGroup};
 ghost use Rattle.group_node.specs.States.{IsSize};
 ghost use Rattle.group_world.specs.declared.event.Act.{Act};
 ghost use Rattle.group_world.specs.declared.event.Done.{Done};
-ghost use Rattle.group_world.specs.Goes.{Performs, IsStep};
+ghost use Rattle.group_world.specs.Event.{IsStep, Performs};
+ghost use Rattle.group_world.specs.Group.{new_world, World, world_state};
 ghost use Rattle.group_world.specs.Headline.{ConsolesAgree, ConsolesHoldOutput, HasNoGap, LearnedAgree, LearnedChosen};
 ghost use Rattle.group_world.specs.Sound.{IsSound};
-ghost use Rattle.group_world.specs.Worlds.{new_world, world_state, World};
 
 use group_node::laws::{
     calls_are_events, campaign_is_lawful, input_is_chosen, lawful_calls_go_on,
@@ -23,7 +22,7 @@ use paxos_msg::grammar::spelling_is_read;
 use paxos_msg::laws::{agreement, growth, restarts, sent_only_grows};
 use pcode_machine::laws::{output_only_grows, prefixes_are_ordered};
 
-/// A world is sound before all events, and each event keeps it sound. An event of a sound world
+/// A world is sound before all events, and each event keeps it sound. In a sound world, an event
 /// that is not refused is that event of its group, and one that is refused changes nothing.
 pub fn events_keep_it_sound()
     ensures begins { (p : Parts) (group : Group) → IsSize group.size → IsGroup group
@@ -56,9 +55,9 @@ pub fn events_keep_it_sound()
     prefixes_are_ordered();
 }
 
-/// What is promised of a sound world: what its nodes have learned agrees, is chosen and was typed;
-/// its consoles hold the program's output on the chosen input, so that of two of them one holds a
-/// prefix of the other; and no released byte comes too early.
+/// What a sound world's nodes have learned agrees, is chosen and was typed. Its consoles hold the
+/// program's output on the chosen input, so that of two of them one holds a prefix of the other. No
+/// released byte comes too early.
 pub fn sound_worlds_agree()
     ensures learned_agree { (w : World) → IsSound w → LearnedAgree (world_state w) }
     ensures learned_chosen { (w : World) → IsSound w → LearnedChosen (world_state w) }

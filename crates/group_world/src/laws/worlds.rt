@@ -1,16 +1,15 @@
-//! What is promised of every group, whatever happened to it. Each clause is a claim of its own; the
-//! function does nothing.
+//! Laws of every group, whatever happened to it. Each clause is one claim.
 ghost use Rattle.std.specs.Prelude.{◌≡◌, ◌∷◌, [], List};
 ghost use Rattle.pcode_file.specs.Parts.{Parts};
 ghost use Rattle.paxos_msg.specs.declared.message.Group.{Group};
 ghost use Rattle.paxos_msg.specs.Grammar.{IsGroup};
 ghost use Rattle.group_node.specs.States.{IsSize};
 ghost use Rattle.group_world.specs.declared.event.Event.{Event};
-ghost use Rattle.group_world.specs.Goes.{LeadsBy};
+ghost use Rattle.group_world.specs.Event.{LeadsBy};
+ghost use Rattle.group_world.specs.Group.{new_world, World, world_state};
 ghost use Rattle.group_world.specs.Headline.{ConsolesAgree, ConsolesGrow, ConsolesHoldOutput, HasLearned, HasNoGap, LearnedAgree, LearnedChosen, LearnedStays};
 ghost use Rattle.group_world.specs.Order.{KeysOnce, SerialsInOrder};
 ghost use Rattle.group_world.specs.Witness.{echoes, letter, letter_batch, one, shown_events};
-ghost use Rattle.group_world.specs.Worlds.{new_world, world_state, World};
 
 use crate::laws::order::{events_keep_order, ordered_worlds_are_orderly};
 use crate::laws::sound::{events_keep_it_sound, sound_worlds_agree};
@@ -18,14 +17,18 @@ use paxos_msg::grammar::reading_is_spelling;
 use paxos_msg::laws::{agreement, sent_only_grows, votes_are_by_place};
 use pcode_machine::laws::output_only_grows;
 
-/// For every program, every group of 1, 3, 5, 7 or 9 nodes and every list of keystrokes,
-/// deliveries, campaigns, ticks, runs, releases, crashes and starts, with saves that fail or not,
-/// of the world to which they lead from the one in which nothing has happened: no two nodes have
-/// learned different values for one place; what is learned is chosen, and was typed or is a no-op;
-/// each console holds a prefix of the program's output on the chosen input; so of two consoles one
-/// holds a prefix of the other; no released byte comes too early for its console, and one that it
-/// has shown is the one that stands there; each typed key is read once; and the keys of one start
-/// of one node are read in the order in which they were typed.
+/// The main theorem. It is about every program, every group of 1, 3, 5, 7 or 9 nodes and every list
+/// of keystrokes, deliveries, campaigns, ticks, runs, releases, crashes and starts, with saves that
+/// fail or not. Of the world to which they lead from the one in which nothing has happened:
+///
+/// - No two nodes have learned different values for one place.
+/// - What is learned is chosen, and was typed or is a no-op.
+/// - Each console holds a prefix of the program's output on the chosen input; so of two consoles
+/// one holds a prefix of the other.
+/// - No released byte comes too early for its console. If the console has shown a byte of that
+/// number, it is the same byte.
+/// - Each typed key is read once, and the keys of one start of one node are read in the order in
+/// which they were typed.
 pub fn headline()
     ensures learned_agree { (p : Parts) (group : Group) (events : List Event) (w : World)
         → IsSize group.size → IsGroup group → LeadsBy (new_world p group) events w
@@ -55,11 +58,11 @@ pub fn headline()
     ordered_worlds_are_orderly();
 }
 
-/// For every program, every group of 1, 3, 5, 7 or 9 nodes, every list of events that leads from a
-/// world in which nothing has happened to `w`, and every further list that leads from `w` to `v`: a
-/// value that a node has learned in `w`, and one that a node, the same or another, has learned for
-/// the same place in `v`, are equal, also where nodes have crashed and started again in between;
-/// and what a node's console has shown in `v` begins with what it had shown in `w`.
+/// What more events leave of what was learned and shown, for every program and every group of 1, 3,
+/// 5, 7 or 9 nodes. `events` lead from the world in which nothing has happened to `w`, and `more`
+/// from `w` to `v`. A value that a node has learned in `w`, and one that the same node or another
+/// has learned for the same place in `v`, are equal, also if nodes have crashed and started again
+/// in between. What a console has shown in `v` begins with what it had shown in `w`.
 pub fn later_worlds_agree()
     ensures learned_stays { (p : Parts) (group : Group) (events more : List Event) (w v : World)
         → IsSize group.size → IsGroup group → LeadsBy (new_world p group) events w
@@ -75,8 +78,8 @@ pub fn later_worlds_agree()
     sent_only_grows();
 }
 
-/// The main theorem is not empty: events lead a group of three, which runs a program that writes
-/// the letter A, to a world in which the consoles of two nodes show it.
+/// The main theorem is not empty. A group of three runs a program that writes the letter A; events
+/// lead it to a world in which the consoles of two nodes show the letter.
 pub fn consoles_may_show()
     ensures { (p : Parts) × (group : Group) × (events : List Event) × (w : World)
         × IsSize group.size × IsGroup group × LeadsBy (new_world p group) events w
@@ -86,7 +89,7 @@ pub fn consoles_may_show()
     output_only_grows();
 }
 
-/// The claims about keys are not empty: in a group of one node, whose first save fails and which
+/// The claims about keys are not empty. In a group of one node, whose first save fails and which
 /// then crashes and starts again, a typed key is learned, and the console shows it.
 pub fn keys_may_show()
     ensures { (w : World) × LeadsBy (new_world echoes one) shown_events w

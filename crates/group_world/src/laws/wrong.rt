@@ -1,5 +1,4 @@
-//! The promises say something: worlds and steps written down by hand break them. Each law is the
-//! contract of a function that does nothing.
+//! Laws that the promises can be broken: worlds and steps written down by hand break them.
 ghost use Rattle.std.specs.Prelude.{◌∷◌, [], None};
 ghost use Rattle.std.specs.FinMap.{empty, insert};
 ghost use Rattle.paxos_msg.specs.declared.value.Value.TheVariants.{Noop};
@@ -13,13 +12,13 @@ ghost use Rattle.group_world.specs.WrongWorlds.{accepted_message, chosen_two, ea
 
 use group_node::laws::input_is_chosen;
 
-/// Each promise of the headline, and of two moments of a group, is one that a group of five can
-/// break. Nodes 4 and 5 have learned two values for one place. A node has learned what only two
+/// Each promise of the main theorem, and of two moments of a group, is broken by some group of
+/// five. Nodes 4 and 5 have learned two values for one place. A node has learned what only two
 /// nodes have accepted under one ballot, or a key that is chosen and that nobody typed. Node 2
 /// shows a byte that its program never writes; nodes 2 and 5 show different bytes; node 3 releases
-/// a byte too early, or another one than its console has shown there. Two keys have one serial; a
-/// second key comes before the first; or the third comes after the first. Later a node has learned
-/// another value, or a console shows less.
+/// a byte too early, or another byte than its console has shown with that number. Two keys have one
+/// serial; a second key comes before the first; or the third comes right after the first. Later a
+/// node has learned another value, or a console shows less.
 pub fn wrong_worlds()
     ensures two_values { ¬ LearnedAgree two_values }
     ensures not_chosen { ¬ LearnedChosen not_chosen }
@@ -39,8 +38,8 @@ pub fn wrong_worlds()
 }
 
 /// No event leads to a group in which a node did what it may not. At a tick node 1 does not say
-/// that it has accepted what nobody proposed, and does not learn what nobody has accepted; it
-/// promises no lower round when it hears of one; and a start does not forget what was promised.
+/// that it has accepted what nobody proposed, and does not learn what nobody has accepted. It
+/// promises no lower round when it hears of one. A start does not forget what was promised.
 pub fn wrong_steps()
     ensures says_unproposed { ¬ WorldStep
         (first_node (runs_with empty_record empty) []) (group.Tick 1)

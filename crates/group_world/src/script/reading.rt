@@ -9,7 +9,7 @@ use super::Line;
 use crate::event::{Act, Event, Outcome};
 use digits::{decimal, hex_byte};
 
-/// The first line of a text, without its line feed, and what stands behind it.
+/// Returns the first line of `text`, without its line feed, and the text after it.
 pub fn first_line(text: &str) -> (&str, &str)
     ensures line { result.0.now ≡ before_first (λ b. b == 10) text.now }
     ensures rest { result.1.now ≡ after_first (λ b. b == 10) text.now }
@@ -18,7 +18,8 @@ pub fn first_line(text: &str) -> (&str, &str)
     text.split_once('\n').unwrap_or((text, ""))
 }
 
-/// The first word of a text, up to its first space, and what stands behind that, if there is one.
+/// Returns the first word of `text`, up to its first space, and the text after that space, if there
+/// is one.
 fn first_of(text: &str) -> (&str, Option<&str>)
     ensures word { result.0.now ≡ first_word text.now }
     ensures rest { option_copied result.1 ≡ words_behind text.now }
@@ -29,28 +30,28 @@ fn first_of(text: &str) -> (&str, Option<&str>)
     }
 }
 
-/// A node's number, or a group's size.
+/// Reads a node's number, or a group's size.
 fn number_u8(digits: &str) -> Option<u8>
     ensures { result ≡ decimal_of 8 digits.now }
 {
     u8::try_from(decimal(digits)?).ok()
 }
 
-/// A number of steps, or a session.
+/// Reads a number of steps, or a session.
 fn number_u32(digits: &str) -> Option<u32>
     ensures { result ≡ decimal_of 32 digits.now }
 {
     u32::try_from(decimal(digits)?).ok()
 }
 
-/// A message's number.
+/// Reads a message's number.
 fn number_usize(digits: &str) -> Option<usize>
     ensures { result ≡ decimal_of 64 digits.now }
 {
     usize::try_from(decimal(digits)?).ok()
 }
 
-/// How the save of an event goes, by what stands behind its act.
+/// Reads the outcome of an event's save, from the text after its act.
 fn read_outcome(rest: Option<&str>) -> Option<Outcome>
     ensures { result ≡ outcome_of (option_copied rest.entry) }
 {
@@ -62,7 +63,7 @@ fn read_outcome(rest: Option<&str>) -> Option<Outcome>
     }
 }
 
-/// The act of a word and a number.
+/// Reads the act of a word and a number.
 fn read_act_of_one(verb: &str, number: &str) -> Option<Act>
     ensures { result ≡ act_of_one verb.now number.now }
 {
@@ -76,7 +77,7 @@ fn read_act_of_one(verb: &str, number: &str) -> Option<Act>
     }
 }
 
-/// The act of a word and two more.
+/// Reads the act of a word and two more.
 fn read_act_of_two(verb: &str, first: &str, second: &str) -> Option<Act>
     ensures { result ≡ act_of_two verb.now first.now second.now }
 {
@@ -88,7 +89,7 @@ fn read_act_of_two(verb: &str, first: &str, second: &str) -> Option<Act>
     }
 }
 
-/// An event of a word, two more, and what stands behind them.
+/// Reads the event of a word, two more, and the text after them.
 fn read_event_of_two(verb: &str, first: &str, rest: Option<&str>) -> Option<Event>
     ensures { result ≡ event_of_two verb.now first.now (option_copied rest.entry) }
 {
@@ -99,7 +100,7 @@ fn read_event_of_two(verb: &str, first: &str, rest: Option<&str>) -> Option<Even
     })
 }
 
-/// An event of a word, one more, and what stands behind them.
+/// Reads the event of a word, one more, and the text after them.
 fn read_event_of_one(verb: &str, first: &str, rest: Option<&str>) -> Option<Event>
     ensures { result ≡ event_of_one verb.now first.now (option_copied rest.entry) }
 {
@@ -112,7 +113,7 @@ fn read_event_of_one(verb: &str, first: &str, rest: Option<&str>) -> Option<Even
     }
 }
 
-/// The event of a line.
+/// Reads the event of a line.
 fn read_event(line: &str) -> Option<Event>
     ensures { result ≡ event_of_words (first_word line.now) (words_behind line.now) }
 {
@@ -121,7 +122,7 @@ fn read_event(line: &str) -> Option<Event>
     read_event_of_one(verb, first, rest)
 }
 
-/// What a line but for the first says.
+/// Reads a line other than the first.
 pub fn read_line(line: &str) -> Option<Line>
     ensures { result ≡ line_of line.now }
 {
@@ -132,7 +133,7 @@ pub fn read_line(line: &str) -> Option<Line>
     }
 }
 
-/// What stands behind this word and a space, if they stand first.
+/// Returns the text after `word` and a space, if `text` begins with them.
 fn read_behind<'a>(word: &str, text: &'a str) -> Option<&'a str>
     ensures { option_copied result ≡ text_past word.now text.now }
 {
@@ -140,7 +141,7 @@ fn read_behind<'a>(word: &str, text: &'a str) -> Option<&'a str>
     if first == word { rest } else { None }
 }
 
-/// The size and the session of the line `size N session K`.
+/// Reads the size and the session of the line `size N session K`.
 pub fn read_header(line: &str) -> Option<(u8, u32)>
     ensures { result ≡ header_of line.now }
 {

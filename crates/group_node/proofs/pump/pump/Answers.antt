@@ -18,8 +18,8 @@ loop-made-preserved c =
     record {
       own = c.propose.ensures.own;
       sure = omega (arith, i.sure, c.propose.ensures.sure);
-      ready = omega (arith, i.ready, c.propose.ensures.ready);
-      room = omega (arith, i.room, c.propose.ensures.few);
+      ready = omega (arith, i.ready, c.propose.ensures.grows.ready);
+      room = omega (arith, i.room, c.propose.ensures.grows.few);
       pumping =
           pumping_more (next_value c.loop-made.proposer.known None) i.pumping c.loop-made-test.true refl
           (c.propose.ensures.some c.if-not-propose.false) c.propose.ensures.known c.propose.ensures.packets;

@@ -5,7 +5,7 @@ use Rattle.group_node.specs.Tick.{accept_again}
 use Rattle.group_node.specs.Packets.{Queue}
 use Rattle.group_node.proofs.Places.{counted_more, few_put, length_none, length_some, more_put, most_put}
 use Rattle.group_node.proofs.tick.accept_all_again.Goals as goal
-use Rattle.group_node.proofs.tick.accept_all_again.Goals.{then-accept_at, else-accept_at}
+use Rattle.group_node.proofs.tick.accept_all_again.Goals.{then-accept_again, else-accept_again}
 
 pub loop-place-preserved : goal.loop-place-preserved
 loop-place-preserved c =
@@ -17,22 +17,22 @@ loop-place-preserved c =
     let more =
     counted_more (accept_again c.args.learner.now.learned c.args.proposer.now.known) first
     (c.loop-place.place - first) c.loop-place.place (c.loop-place.place + 1 - first) here next in
-    elim c.if-accept_at.branch [
-      | then-accept_at w ↦
-          let one = length_some _ (sym c.accept_at.ensures.some ∙ w.if-accept_at.true) in
+    elim c.if-accept_again.branch [
+      | then-accept_again w ↦
+          let one = length_some _ (sym c.accept_again.ensures.some ∙ w.if-accept_again.true) in
           record {
-            put = more_put c.loop-place.place (c.loop-place.place + 1 - first) i.put here next c.accept_at.ensures.packets;
+            put = more_put c.loop-place.place (c.loop-place.place + 1 - first) i.put here next c.accept_again.ensures.packets;
             counted = omega (arith, more, one, i.counted, w.sent-is);
             few = omega (arith, i.few, w.sent-is);
             end = omega arith;
             ready = omega (arith, i.ready, w.sent-is);
             room = omega (arith, i.room, w.sent-is);
           }
-      | else-accept_at w ↦
-          let none = length_none _ (sym c.accept_at.ensures.some ∙ w.if-accept_at.false) in
-          let same = c.accept_at.ensures.none (λ t. let e : false ≡ true = rw w.if-accept_at.false at t in absurd cc) in
+      | else-accept_again w ↦
+          let none = length_none _ (sym c.accept_again.ensures.some ∙ w.if-accept_again.false) in
+          let same = c.accept_again.ensures.none (λ t. let e : false ≡ true = rw w.if-accept_again.false at t in absurd cc) in
           record {
-            put = more_put c.loop-place.place (c.loop-place.place + 1 - first) i.put here next c.accept_at.ensures.packets;
+            put = more_put c.loop-place.place (c.loop-place.place + 1 - first) i.put here next c.accept_again.ensures.packets;
             counted = omega (arith, more, none, i.counted, w.sent-is);
             few = omega (arith, i.few, w.sent-is);
             end = omega arith;
@@ -41,10 +41,11 @@ loop-place-preserved c =
           }
     ]
 
-pub returns-then-sent-eq-AGAIN-clause-packets : goal.returns-then-sent-eq-AGAIN-clause-packets
-returns-then-sent-eq-AGAIN-clause-packets c =
+pub returns-then-sent-eq-MOST_AGAIN-clause-packets : goal.returns-then-sent-eq-MOST_AGAIN-clause-packets
+returns-then-sent-eq-MOST_AGAIN-clause-packets c =
     let i = c.loop-place.invariant in
-    most_put (next_of c.args.proposer.now.known - front_of c.args.learner.now.learned) 16 i.put i.end (i.counted ∙ c.if-sent-eq-AGAIN.true)
+    most_put (next_of c.args.proposer.now.known - front_of c.args.learner.now.learned) 16 i.put i.end
+    (i.counted ∙ c.if-sent-eq-MOST_AGAIN.true)
 
 pub returns-clause-packets : goal.returns-clause-packets
 returns-clause-packets c =

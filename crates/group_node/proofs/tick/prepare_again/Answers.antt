@@ -6,7 +6,7 @@ pub loop-before-preserved : goal.loop-before-preserved
 loop-before-preserved c = record {
   put =
       more_put (c.loop-before.before + 1) (c.loop-before.before + 1) c.loop-before.invariant.put (omega arith)
-      (omega arith) c.prepare_at.ensures.packets;
+      (omega arith) c.ask_again.ensures.packets;
   ready = omega arith;
   room = omega arith;
 }

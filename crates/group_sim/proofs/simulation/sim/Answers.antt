@@ -1,6 +1,6 @@
 use Rattle.std.proofs.Common.{◌≡◌, List, length, ◌∙◌, ap, arith}
 use Rattle.group_world.specs.declared.script.Line.{Line}
-use Rattle.group_world.specs.Worlds.{World, new_world}
+use Rattle.group_world.specs.Group.{new_world, World}
 use Rattle.group_sim.proofs.Lines.{all_done, line_done, line_halts, stays_unwritten, stops}
 use Rattle.group_sim.proofs.simulation.sim.Goals as goal
 

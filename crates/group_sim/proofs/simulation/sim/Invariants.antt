@@ -1,5 +1,5 @@
 use Rattle.std.proofs.Common.{◌≡◌, ◌+◌}
-use Rattle.group_world.specs.Worlds.{new_world}
+use Rattle.group_world.specs.Group.{new_world}
 use Rattle.group_sim.specs.Moments.{AreDone, LineIsDone, first_moment, moment}
 use Rattle.group_sim.proofs.simulation.sim.Given as goal
 

@@ -1,7 +1,7 @@
 use Rattle.std.proofs.Common.{inr}
 use Rattle.paxos_msg.specs.declared.message.Group.{Group}
-use Rattle.group_world.specs.Worlds.{new_world}
-use Rattle.group_world.proofs.Happening.{first_refused, happens_all, happens_next}
+use Rattle.group_world.specs.Group.{new_world}
+use Rattle.group_world.proofs.HoldsAfterEvents.{first_refused, happens_all, happens_next}
 use Rattle.group_world.proofs.running.run.Goals as goal
 
 pub loop-event-preserved : goal.loop-event-preserved

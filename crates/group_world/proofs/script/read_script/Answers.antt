@@ -28,7 +28,7 @@ returns-in_default-read_line-clause-refused c =
     (ap (λ t. lines_say 2 (lines_of t)) (sym c.first_line.ensures.rest) ∙ lines) in
     λ _. rw c.len-number.ensures all
 
--- there was no memory for a line
+-- memory ran out at a line
 pub returns-then-is_err-clause-no_memory : goal.returns-then-is_err-clause-no_memory
 returns-then-is_err-clause-no_memory c =
     let text : List ℕ = c.args.text.now in

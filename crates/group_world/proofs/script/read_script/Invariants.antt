@@ -6,7 +6,7 @@ use Rattle.group_world.specs.Scripts.{lines_of, lines_say}
 use Rattle.group_world.proofs.ScriptLines.{IsReadTo, after}
 use Rattle.group_world.proofs.script.read_script.Given as goal
 
--- what is left of the text is text, and its lines stand behind those that were read
+-- the rest of the text is text, and its lines come after those that were read
 abbrev pub invariant-loop-rest : goal.invariant-loop-rest
 invariant-loop-rest l =
     shadow (Utf8 l.rest)

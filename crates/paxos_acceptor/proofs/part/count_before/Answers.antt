@@ -1,7 +1,7 @@
 use Rattle.std.proofs.Common.{nat_lt, rules}
 use Rattle.std.proofs.lemmas.List.Sorted.{IsPartitionPoint-from_clause, IsPartitionedBy-ltb}
 use Rattle.paxos_msg.specs.declared.value.Value.TheVariants.{Noop}
-use Rattle.paxos_acceptor.proofs.Parts.{dropped_at, places_rise}
+use Rattle.paxos_acceptor.proofs.VotesFromPlace.{dropped_at, places_rise}
 use Rattle.paxos_acceptor.proofs.part.count_before.Goals as goal
 
 -- the closure tests whether a vote's place is below

@@ -1,6 +1,6 @@
 -- The theorems of `KeysOnce` and `Standing`.
 use Rattle.paxos_learner.proofs.KeysOnce.{found_there, there_found}
-use Rattle.paxos_learner.proofs.Standing.{learned_stands, stands_learned}
+use Rattle.paxos_learner.proofs.LearnedKeys.{learned_stands, stands_learned}
 use Rattle.paxos_learner.proofs.laws.key_tests_are_exact.Goals as goal
 
 pub returns-clause-has : goal.returns-clause-has

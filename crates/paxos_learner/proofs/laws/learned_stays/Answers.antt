@@ -1,5 +1,5 @@
 -- The theorems of `Growing`.
-use Rattle.paxos_learner.proofs.Growing.{accepted_more, accepted_size, told_more, told_size}
+use Rattle.paxos_learner.proofs.LearnedStays.{accepted_more, accepted_size, told_more, told_size}
 use Rattle.paxos_learner.proofs.laws.learned_stays.Goals as goal
 
 pub returns-clause-accepted : goal.returns-clause-accepted

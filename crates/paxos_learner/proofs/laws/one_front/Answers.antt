@@ -1,6 +1,6 @@
 -- The theorems of `Fronts` and `Growing`.
 use Rattle.paxos_learner.proofs.Fronts.{IsFront-front_of, front_found}
-use Rattle.paxos_learner.proofs.Growing.{front_few, front_rises}
+use Rattle.paxos_learner.proofs.LearnedStays.{front_few, front_rises}
 use Rattle.paxos_learner.proofs.laws.one_front.Goals as goal
 
 pub returns-clause-there : goal.returns-clause-there

@@ -1,5 +1,5 @@
 -- The theorems of `Growing`.
-use Rattle.paxos_learner.proofs.Growing.{accepted_in_range, begun_in_range, told_in_range}
+use Rattle.paxos_learner.proofs.LearnedStays.{accepted_in_range, begun_in_range, told_in_range}
 use Rattle.paxos_learner.proofs.laws.values_fit.Goals as goal
 
 pub returns-clause-begins : goal.returns-clause-begins

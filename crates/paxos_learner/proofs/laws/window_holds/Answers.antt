@@ -1,5 +1,5 @@
 -- The theorems of `Growing`.
-use Rattle.paxos_learner.proofs.Growing.{accepted_in_window, begun_in_window, told_in_window}
+use Rattle.paxos_learner.proofs.LearnedStays.{accepted_in_window, begun_in_window, told_in_window}
 use Rattle.paxos_learner.proofs.laws.window_holds.Goals as goal
 
 pub returns-clause-begins : goal.returns-clause-begins

@@ -1,4 +1,4 @@
--- None of the messages up to here is the one.
+-- No message so far is the one.
 use Rattle.paxos_msg.specs.declared.message.Body.TheVariants.{Accepted}
 use Rattle.paxos_msg.proofs.AcceptedCount.{IsAway}
 use Rattle.paxos_msg.proofs.choosing.has_accepted.Given as goal

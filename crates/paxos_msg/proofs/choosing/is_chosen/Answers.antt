@@ -1,7 +1,7 @@
 -- Where no message's ballot has chosen the value, none has.
 use Rattle.std.proofs.Common.{arith}
 use Rattle.paxos_msg.proofs.AcceptedCount.{all_unchosen}
-use Rattle.paxos_msg.proofs.Counting.{not_true}
+use Rattle.paxos_msg.proofs.CountingNodes.{not_true}
 use Rattle.paxos_msg.proofs.choosing.is_chosen.Goals as goal
 
 pub returns : goal.returns

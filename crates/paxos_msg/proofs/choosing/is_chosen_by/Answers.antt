@@ -1,9 +1,9 @@
--- The count goes on, and tells whether they are a majority.
+-- The count goes on; the test says if they are a majority.
 use Rattle.std.proofs.Common.{◌≡◌, ◌∙◌, ◌↔◌, ◌*◌, ◌<◌, sym, arith}
 use Rattle.std.proofs.lemmas.Bool.Decides.{nat_tests}
 use Rattle.paxos_msg.specs.Chosen.{IsChosenBy}
 use Rattle.paxos_msg.proofs.AcceptedCount.{HasAccepted, chosen_by_count}
-use Rattle.paxos_msg.proofs.Counting.{not_true, counted_in, counted_out}
+use Rattle.paxos_msg.proofs.CountingNodes.{not_true, counted_in, counted_out}
 use Rattle.paxos_msg.proofs.choosing.is_chosen_by.Goals.{then-has_accepted, else-has_accepted}
 use Rattle.paxos_msg.proofs.choosing.is_chosen_by.Goals as goal
 

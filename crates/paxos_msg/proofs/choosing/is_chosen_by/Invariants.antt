@@ -1,6 +1,6 @@
--- So many of the nodes up to here have accepted it.
+-- The count is that of the nodes so far that have accepted it.
 use Rattle.std.proofs.Common.{◌≤◌}
-use Rattle.paxos_msg.proofs.Counting.{IsCounted}
+use Rattle.paxos_msg.proofs.CountingNodes.{IsCounted}
 use Rattle.paxos_msg.proofs.AcceptedCount.{HasAccepted}
 use Rattle.paxos_msg.proofs.choosing.is_chosen_by.Given as goal
 

@@ -1,4 +1,4 @@
--- So many of the nodes up to here have promised above the place.
+-- The count is that of the nodes so far that have promised above the place.
 use Rattle.std.proofs.Common.{◌≡◌, ◌≤◌}
 use Rattle.paxos_msg.specs.Ballots.{count_of}
 use Rattle.paxos_proposer.specs.Proposer.{is_covered_by}

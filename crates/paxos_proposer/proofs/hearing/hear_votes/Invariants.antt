@@ -1,4 +1,5 @@
--- What is kept so far leads, with the votes that are left, to what the whole leads to; and there is room for these.
+-- What is kept so far leads, with the votes that are left, to what the whole leads to; and there is
+-- room for these.
 use Rattle.std.proofs.Common.{◌≡◌, ◌≤◌, length}
 use Rattle.paxos_proposer.specs.Proposer.{heard}
 use Rattle.paxos_proposer.proofs.hearing.hear_votes.Given as goal

@@ -1,5 +1,5 @@
 -- The theorems of `Staying`.
-use Rattle.paxos_proposer.proofs.Staying.{after_ballot, after_proposed, proposed_longer, proposing_ballot}
+use Rattle.paxos_proposer.proofs.ProposalsStay.{after_ballot, after_proposed, proposed_longer, proposing_ballot}
 use Rattle.paxos_proposer.proofs.laws.ballot_stays.Goals as goal
 
 pub returns-clause-parts : goal.returns-clause-parts

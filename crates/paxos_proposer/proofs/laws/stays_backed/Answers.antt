@@ -1,5 +1,5 @@
 -- The theorem of `Growing`.
-use Rattle.paxos_proposer.proofs.Growing.{backed_later}
+use Rattle.paxos_proposer.proofs.BackedAsMoreIsSent.{backed_later}
 use Rattle.paxos_proposer.proofs.laws.stays_backed.Goals as goal
 
 pub returns : goal.returns

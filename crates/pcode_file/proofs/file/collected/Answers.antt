@@ -7,7 +7,7 @@ use Rattle.pcode_file.proofs.file.collected.Goals as goal
 pub unreachable-requires : goal.unreachable-requires
 unreachable-requires c =
     let f = proc_at c.args.segment.now c.args.n in
-    let refused : f (c.loop-k.k + 1) ≡ Err c.in_default.field-0 = sym c.procedure.ensures ∙ c.in_default.is in
+    let refused : f (c.loop-k.k + 1) ≡ Err c.in_default.field-0 = sym c.proc_at.ensures ∙ c.in_default.is in
     let fault = first_bad f c.loop-k.k c.args.n c.in_default.field-0 c.loop-k-test.true refused c.loop-k.invariant.passes in
     let none : first_of f 1 c.args.n ≡ Ok tt = c.requires.checked in
     cc

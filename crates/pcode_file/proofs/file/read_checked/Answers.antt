@@ -14,4 +14,4 @@ invariant_of-result c =
     (c.in_ok-k.ensures.some).0 (c.in_ok-k.ensures.some).1 c.collected.ensures
 
 pub returns : goal.returns
-returns c = rw (c.name_of.ensures, c.copied.ensures) (checked_read _ _ _ _ _ c.in_ok-k.ensures.value c.collected.ensures)
+returns c = rw (c.name_at.ensures, c.copied.ensures) (checked_read _ _ _ _ _ c.in_ok-k.ensures.value c.collected.ensures)

@@ -1,8 +1,8 @@
 use Rattle.std.proofs.Common.{◌≡◌, ◌∙◌, rules}
 use Rattle.pcode_ops.specs.Decoding.{instr_at}
-use Rattle.pcode_ops.proofs.Finding.{at_decoded}
+use Rattle.pcode_ops.proofs.AtIsDecoded.{at_decoded}
 use Rattle.pcode_ops.proofs.Operating.{table_found}
-use Rattle.pcode_ops.proofs.Standing.{answer_stands}
+use Rattle.pcode_ops.proofs.DecodedIsAt.{answer_stands}
 use Rattle.pcode_ops.proofs.decoding.decode.Goals as goal
 
 pub returns-clause-found : goal.returns-clause-found

@@ -1,5 +1,5 @@
-use Rattle.pcode_ops.proofs.Finding.{at_decoded}
-use Rattle.pcode_ops.proofs.Standing.{decoded_at}
+use Rattle.pcode_ops.proofs.AtIsDecoded.{at_decoded}
+use Rattle.pcode_ops.proofs.DecodedIsAt.{decoded_at}
 use Rattle.pcode_ops.proofs.laws.decoding_is_at.Goals as goal
 
 pub returns : goal.returns

@@ -1,4 +1,4 @@
-use Rattle.pcode_ops.proofs.Longer.{decoded_longer}
+use Rattle.pcode_ops.proofs.LongerCode.{decoded_longer}
 use Rattle.pcode_ops.proofs.laws.same_in_longer_code.Goals as goal
 
 pub returns : goal.returns

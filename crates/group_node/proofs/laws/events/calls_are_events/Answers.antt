@@ -8,7 +8,7 @@ use Rattle.group_node.specs.ProposerRows.{on_campaign, next_ballot}
 use Rattle.group_node.specs.Tick.{on_tick}
 use Rattle.group_node.specs.World.{after_call, MakesCall, Seat}
 use Rattle.group_node.proofs.CallEvents.{all_stay, call_alone, call_fell, call_made, call_or_fall, sent_at, start_fell, start_made}
-use Rattle.group_node.proofs.Staying.{row_saves, row_stays, SizeLaws, tick_stays}
+use Rattle.group_node.proofs.CallsKeep.{row_saves, row_stays, SizeLaws, tick_stays}
 use Rattle.group_node.proofs.WaitingKeys.{KeyLaw, keys_from-append, message_parted}
 use Rattle.group_node.proofs.laws.events.calls_are_events.Goals as goal
 

@@ -1,5 +1,5 @@
 -- The node of `Possible`, with the laws of the crates below.
-use Rattle.group_node.proofs.Possible.{a_node_leads}
+use Rattle.group_node.proofs.PossibleNode.{a_node_leads}
 use Rattle.group_node.proofs.laws.events.possible.Goals as goal
 
 pub returns : goal.returns

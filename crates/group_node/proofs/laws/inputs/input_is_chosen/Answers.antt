@@ -1,7 +1,7 @@
 use Rattle.std.proofs.Common.{◌++◌}
 use Rattle.group_node.proofs.Choosing.{chosen_begins, input_later, Laws as Choosing, one_input}
 use Rattle.group_node.proofs.Deciding.{Laws as Deciding}
-use Rattle.group_node.proofs.Finding.{input_is_there}
+use Rattle.group_node.proofs.InputExists.{input_is_there}
 use Rattle.group_node.proofs.laws.inputs.input_is_chosen.Goals as goal
 
 pub returns-clause-there : goal.returns-clause-there

@@ -1,6 +1,6 @@
 -- What another node sends is quiet, and keeps what it finds backed.
 use Rattle.std.proofs.Common.{[], ◌∷◌}
-use Rattle.group_node.proofs.Growing.{backs_later, BackingLaws, record_later}
+use Rattle.group_node.proofs.NodeBackedAsMoreIsSent.{backs_later, BackingLaws, record_later}
 use Rattle.group_node.proofs.Others.{other_quiet, typed_later}
 use Rattle.group_node.proofs.laws.lawful.others_keep_it_backed.Goals as goal
 

@@ -1,5 +1,5 @@
 use Rattle.group_node.proofs.Events.{release_event, run_event}
-use Rattle.group_node.proofs.Running.{few_steps}
+use Rattle.group_node.proofs.RunsToItsEnd.{few_steps}
 use Rattle.group_node.proofs.laws.output.output_is_an_event.Goals as goal
 
 pub returns-clause-run : goal.returns-clause-run

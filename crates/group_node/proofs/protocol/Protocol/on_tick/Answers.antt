@@ -23,7 +23,7 @@ returns-in_err-propose_again-clause-does g c =
 
 pub ask-requires-clause-batch : goal.ask-requires-clause-batch
 ask-requires-clause-batch g c =
-    let batch : c.first_batch-batch.result ≡ batch_of c.args.self.now.known c.args.self.now.known.waiting = c.first_batch-batch.ensures in
+    let batch : c.batch-batch.result ≡ batch_of c.args.self.now.known c.args.self.now.known.waiting = c.batch-batch.ensures in
     let same = rw (← c.self.view_is) at batch in
     λ v e. c.packets_fit.ensures.submit _ v c.self.invariant.1.ranges (sym same ∙ e)
 
@@ -49,7 +49,7 @@ invariant_of-self-2 g c =
 pub returns-clause-does : goal.returns-clause-does
 returns-clause-does g c =
     let i = c.self.invariant in
-    let batch : c.first_batch-batch.result ≡ batch_of c.args.self.now.known c.args.self.now.known.waiting = c.first_batch-batch.ensures in
+    let batch : c.batch-batch.result ≡ batch_of c.args.self.now.known c.args.self.now.known.waiting = c.batch-batch.ensures in
     let same = rw (← c.self.view_is) at batch in
     elim c.match-self.branch [
       | in-Some+in_ok-propose_again w ↦

@@ -1,7 +1,7 @@
 use Rattle.std.proofs.Common.{ℕ, ◌<◌, arith}
 use Rattle.group_world.specs.declared.event.Act.TheVariants.{Release}
 use Rattle.group_sim.specs.Moments.{HappensAt, waiting}
-use Rattle.group_world.specs.Worlds.{kept_event}
+use Rattle.group_world.specs.Event.{kept_event}
 use Rattle.group_sim.specs.Texts.{node_at}
 use Rattle.group_sim.proofs.Turns.{halts_within}
 use Rattle.group_sim.proofs.simulation.Simulation.release_all.Goals as goal

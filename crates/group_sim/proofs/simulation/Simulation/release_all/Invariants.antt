@@ -1,7 +1,7 @@
 use Rattle.std.proofs.Common.{◌≡◌}
 use Rattle.group_world.specs.declared.event.Act.TheVariants.{Release}
 use Rattle.group_sim.specs.Moments.{AreDone, HappensAt, moment}
-use Rattle.group_world.specs.Worlds.{kept_event}
+use Rattle.group_world.specs.Event.{kept_event}
 use Rattle.group_sim.proofs.simulation.Simulation.release_all.Given as goal
 
 abbrev pub invariant-loop : goal.invariant-loop

@@ -1,8 +1,8 @@
--- The laws of the crates below, as the lemmas take them.
-use Rattle.group_world.proofs.Beginning.{begun_sound}
-use Rattle.group_world.proofs.Sounding.{WorldLaws, acts_sound}
-use Rattle.group_world.proofs.StepActs.{acts_step}
-use Rattle.group_world.proofs.Stepping.{StepLaws}
+-- The lemmas of `SoundBegins`, `SoundAfterEvent` and `StepOfAct`, with the laws of the crates below.
+use Rattle.group_world.proofs.SoundBegins.{begun_sound}
+use Rattle.group_world.proofs.SoundAfterEvent.{WorldLaws, acts_sound}
+use Rattle.group_world.proofs.StepOfAct.{acts_step}
+use Rattle.group_world.proofs.StepOfCall.{StepLaws}
 use Rattle.group_world.proofs.laws.sound.events_keep_it_sound.Goals as goal
 
 laws : goal.After-prefixes_are_ordered → WorldLaws

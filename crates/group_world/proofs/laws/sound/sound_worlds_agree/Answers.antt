@@ -1,6 +1,6 @@
--- The laws of the crates below, as the lemmas take them.
-use Rattle.group_world.proofs.Claims.{ChosenLaws, consoles_agree, consoles_hold_output, has_no_gap, learned_agree, learned_chosen}
-use Rattle.group_world.proofs.Playing.{PlayLaws}
+-- The lemmas of `SoundWorldsAgree` and `OutputOnChosen`, with the laws of the crates below.
+use Rattle.group_world.proofs.SoundWorldsAgree.{ChosenLaws, consoles_agree, consoles_hold_output, has_no_gap, learned_agree, learned_chosen}
+use Rattle.group_world.proofs.OutputOnChosen.{PlayLaws}
 use Rattle.group_world.proofs.laws.sound.sound_worlds_agree.Goals as goal
 
 chosen : goal.After-prefixes_are_ordered → ChosenLaws

@@ -1,5 +1,5 @@
--- What holds of every world, with what follows from it.
-use Rattle.group_world.proofs.Happening.{EventLaws, always_holds}
+-- What holds of every world by `HoldsAfterEvents`, with what follows from it.
+use Rattle.group_world.proofs.HoldsAfterEvents.{EventLaws, always_holds}
 use Rattle.group_world.proofs.laws.worlds.headline.Goals as goal
 
 laws : goal.After-ordered_worlds_are_orderly → EventLaws

@@ -1,7 +1,7 @@
--- The world of `Witness`, with the laws of reading, of votes and of steps.
+-- The world of `KeysMayShow`, with the laws of reading, of votes and of steps.
 use Rattle.std.proofs.Common.{refl}
 use Rattle.group_world.proofs.OrderReadable.{ExampleLaws}
-use Rattle.group_world.proofs.Witness.{happens, is_learned, last}
+use Rattle.group_world.proofs.KeysMayShow.{happens, is_learned, last}
 use Rattle.group_world.proofs.laws.worlds.keys_may_show.Goals as goal
 
 laws : goal.After-output_only_grows → ExampleLaws

@@ -1,5 +1,5 @@
--- The lemmas of `LaterWorlds`, with the laws of events, of agreement and of what stays chosen.
-use Rattle.group_world.proofs.LaterWorlds.{LaterWorldLaws, later_grows, later_learned}
+-- The lemmas of `LaterWorldsAgree`, with the laws of events, of agreement and of what stays chosen.
+use Rattle.group_world.proofs.LaterWorldsAgree.{LaterWorldLaws, later_grows, later_learned}
 use Rattle.group_world.proofs.laws.worlds.later_worlds_agree.Goals as goal
 
 laws : goal.After-sent_only_grows → LaterWorldLaws

@@ -1,23 +1,21 @@
 use Rattle.std.proofs.Common.{◌≡◌, ◌∙◌, ℕ, List, ap, refl, rules}
-use Rattle.group_world.specs.declared.seat.Seat.TheVariants as seat
-use Rattle.group_world.specs.Asks.{IsOpen}
-use Rattle.group_world.specs.Seats.{member_of}
-use Rattle.group_world.specs.Worlds.{Member}
-use Rattle.group_world.proofs.Seating.{releases, releases_none, released_as, run_open, up_not_down}
+use Rattle.group_world.specs.declared.member.Place.TheVariants as place
+use Rattle.group_world.specs.Member.{IsOpen, Member, member_of}
+use Rattle.group_world.proofs.PlaceCalls.{releases, releases_none, released_as, run_open, up_not_down}
 use Rattle.group_world.proofs.member.Member.release.Goals as goal
 
 pub invariant_of-self : goal.invariant_of-self
 invariant_of-self c = c.self.invariant
 
 pub returns-then-is_err-clause-err : goal.returns-then-is_err-clause-err
-returns-then-is_err-clause-err c = ap (λ (bytes : List ℕ). member_of c.self.inside.seat bytes) c.reserve.ensures.bytes ∙ c.self.view_is
+returns-then-is_err-clause-err c = ap (λ (bytes : List ℕ). member_of c.self.inside.place bytes) c.reserve.ensures.bytes ∙ c.self.view_is
 
 pub returns-then-is_err-clause-memory : goal.returns-then-is_err-clause-memory
 returns-then-is_err-clause-memory c = refl
 
 pub unreachable-requires : goal.unreachable-requires
 unreachable-requires c =
-    up_not_down c.self.inside.seat c.in-Down.field-0 c.requires.up.0 c.in-Down.is
+    up_not_down c.self.inside.place c.in-Down.field-0 c.requires.up.0 c.in-Down.is
     (ap (λ (m : Member). m.node) c.self.view_is ∙ c.requires.up.1)
 
 pub unreachable-unreachable : goal.unreachable-unreachable
@@ -37,16 +35,22 @@ pub returns-in-Some-clause-ok : goal.returns-in-Some-clause-ok
 returns-in-Some-clause-ok c =
     let h = c.in-Some.ensures in
     let console = c.self.inside.console.bytes in
-    let is : member_of (seat.Up c.in-Up.node) console ≡ c.args.self.now = rw c.in-Up.is at c.self.view_is in
+    let is : member_of (place.Up c.in-Up.node) console ≡ c.args.self.now = rw c.in-Up.is at c.self.view_is in
     λ q up. released_as c.in-Up.node console c.args.self.now q _ is up
     (releases c.in-Up.node c.release-next.new.self console c.offer-shown.new.self.bytes c.in-Some.number c.in-Some.byte
     h.value h.some h.protocol
     (rw c.reserve.ensures.bytes at c.offer-shown.ensures.shown (c.offer-shown.ensures.room (search rules))))
 
+pub returns-in-Some-clause-done : goal.returns-in-Some-clause-done
+returns-in-Some-clause-done c = refl
+
+pub returns-in_default-clause-done : goal.returns-in_default-clause-done
+returns-in_default-clause-done c = refl
+
 pub returns-in_default-clause-ok : goal.returns-in_default-clause-ok
 returns-in_default-clause-ok c =
     let h = c.in_default.ensures in
     let console = c.self.inside.console.bytes in
-    let is : member_of (seat.Up c.in-Up.node) console ≡ c.args.self.now = rw c.in-Up.is at c.self.view_is in
+    let is : member_of (place.Up c.in-Up.node) console ≡ c.args.self.now = rw c.in-Up.is at c.self.view_is in
     λ q up. released_as c.in-Up.node console c.args.self.now q _ is up
     (rw c.reserve.ensures.bytes (releases_none c.in-Up.node c.release-next.new.self console h.value h.none))

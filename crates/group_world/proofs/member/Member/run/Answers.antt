@@ -1,14 +1,13 @@
 use Rattle.std.proofs.Common.{◌≡◌, ◌∙◌, ap, subst}
-use Rattle.group_world.specs.declared.seat.Seat.TheVariants as seat
-use Rattle.group_world.specs.Asks.{IsOpen}
-use Rattle.group_world.specs.Seats.{RunsMember, member_of}
-use Rattle.group_world.specs.Worlds.{Member, Running}
-use Rattle.group_world.proofs.Seating.{run_open, runs, the_same, up_not_down}
+use Rattle.group_world.specs.declared.member.Place.TheVariants as place
+use Rattle.group_world.specs.Member.{IsOpen, Member, member_of, Running, RunsMember}
+use Rattle.group_world.proofs.PlaceCalls.{run_open, runs, up_not_down}
+use Rattle.group_world.proofs.AskEnds.{the_same}
 use Rattle.group_world.proofs.member.Member.run.Goals as goal
 
 pub unreachable-requires : goal.unreachable-requires
 unreachable-requires c =
-    up_not_down c.self.inside.seat c.in-Down.field-0 c.requires.up.0 c.in-Down.is
+    up_not_down c.self.inside.place c.in-Down.field-0 c.requires.up.0 c.in-Down.is
     (ap (λ (m : Member). m.node) c.self.view_is ∙ c.requires.up.1)
 
 pub unreachable-unreachable : goal.unreachable-unreachable
@@ -24,12 +23,12 @@ returns c =
     let is_open : IsOpen c.in-Up.node = rw c.in-Up.is at c.self.invariant in
     let h = c.run-ran.ensures in
     let console = c.self.inside.console.bytes in
-    let is : member_of (seat.Up c.in-Up.node) console ≡ c.args.self.now = rw c.in-Up.is at c.self.view_is in
-    let new = member_of (seat.Up c.run-ran.new.self) console in
+    let is : member_of (place.Up c.in-Up.node) console ≡ c.args.self.now = rw c.in-Up.is at c.self.view_is in
+    let new = member_of (place.Up c.run-ran.new.self) console in
     record {
       runs = λ q up.
           subst (λ (m : Member). RunsMember m q c.args.steps new) is
-          (subst (λ (r : Running). RunsMember (member_of (seat.Up c.in-Up.node) console) r c.args.steps new)
+          (subst (λ (r : Running). RunsMember (member_of (place.Up c.in-Up.node) console) r c.args.steps new)
           (the_same (ap (λ (m : Member). m.node) is ∙ up))
           (runs c.in-Up.node c.run-ran.new.self console c.args.steps c.run-ran.result is_open h.runs h.protocol
           h.stopped.0 h.others c.unreleased-waits.ensures.replay));

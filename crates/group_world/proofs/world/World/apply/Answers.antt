@@ -1,10 +1,10 @@
 use Rattle.std.proofs.lemmas.Result.{IfOk-weaker}
-use Rattle.group_world.specs.Held.{Holds}
-use Rattle.group_world.specs.Events.{plan_of}
-use Rattle.group_world.specs.Worlds.{world_state}
-use Rattle.group_world.proofs.Growing.{Grows}
-use Rattle.group_world.proofs.Happening.{EventLaws, event_holds}
-use Rattle.group_world.proofs.LaterWorlds.{answer_grows, grown_learned}
+use Rattle.group_world.specs.Event.{plan_of}
+use Rattle.group_world.specs.Group.{world_state}
+use Rattle.group_world.specs.Ordered.{Holds}
+use Rattle.group_world.proofs.SentAndShownGrow.{Grows}
+use Rattle.group_world.proofs.HoldsAfterEvents.{EventLaws, event_holds}
+use Rattle.group_world.proofs.LaterWorldsAgree.{answer_grows, grown_learned}
 use Rattle.group_world.proofs.world.World.apply.Goals as goal
 
 laws : goal.After-apply → EventLaws
@@ -15,10 +15,10 @@ laws c = record {
   ordered = c.events_keep_order.ensures.goes_on;
 }
 
--- what held before the event holds after it
+-- the world after the event is sound and ordered
 holds : (c : goal.After-apply) → Holds c.apply.new.self
 holds c =
-    event_holds (laws c) c.self.inside.table c.apply.new.self c.args.event.now c.apply.result c.self.invariant
+    event_holds (laws c) c.self.inside.group c.apply.new.self c.args.event.now c.apply.result c.self.invariant
     c.apply.ensures.goes c.apply.ensures.same
 
 pub apply-requires : goal.apply-requires
@@ -33,7 +33,7 @@ returns-clause-goes c = rw (← c.self.view_is) c.apply.ensures.goes
 pub returns-clause-step : goal.returns-clause-step
 returns-clause-step c =
     rw (← c.self.view_is) (IfOk-weaker c.apply.result _ _
-    (λ d goes. c.events_keep_it_sound.ensures.step c.self.inside.table c.apply.new.self
+    (λ d goes. c.events_keep_it_sound.ensures.step c.self.inside.group c.apply.new.self
     (plan_of c.args.event.now.save) c.args.event.now.act d c.self.invariant.sound goes)
     c.apply.ensures.goes)
 
@@ -47,11 +47,11 @@ pub returns-clause-refused : goal.returns-clause-refused
 returns-clause-refused c = rw (← c.self.view_is) c.apply.ensures.refused
 
 -- the world has grown by it
-grows : (c : goal.After-apply) → Grows (world_state c.self.inside.table) (world_state c.apply.new.self)
+grows : (c : goal.After-apply) → Grows (world_state c.self.inside.group) (world_state c.apply.new.self)
 grows c =
-    answer_grows c.self.inside.table c.apply.new.self c.args.event.now.act c.apply.result
+    answer_grows c.self.inside.group c.apply.new.self c.args.event.now.act c.apply.result
     (IfOk-weaker c.apply.result _ _
-    (λ d goes. c.events_keep_it_sound.ensures.step c.self.inside.table c.apply.new.self
+    (λ d goes. c.events_keep_it_sound.ensures.step c.self.inside.group c.apply.new.self
     (plan_of c.args.event.now.save) c.args.event.now.act d c.self.invariant.sound goes)
     c.apply.ensures.goes) c.apply.ensures.same
 
@@ -61,7 +61,7 @@ returns-clause-learned_stays c =
       learned = c.sound_worlds_agree.ensures.learned_chosen;
       one = c.agreement.ensures.one_value;
       stays = c.sent_only_grows.ensures.chosen;
-    }) c.self.inside.table c.apply.new.self c.self.invariant.sound (holds c).sound (grows c))
+    }) c.self.inside.group c.apply.new.self c.self.invariant.sound (holds c).sound (grows c))
 
 pub returns-clause-consoles_grow : goal.returns-clause-consoles_grow
 returns-clause-consoles_grow c = rw (← c.self.view_is) (grows c).consoles

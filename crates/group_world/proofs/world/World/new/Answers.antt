@@ -1,4 +1,4 @@
-use Rattle.group_world.proofs.Beginning.{odd_when}
+use Rattle.group_world.proofs.SoundBegins.{odd_when}
 use Rattle.group_world.proofs.world.World.new.Goals as goal
 
 pub invariant_of-result : goal.invariant_of-result

@@ -1,4 +1,4 @@
--- The known keys are those that stand in learned values.
+-- The known keys are those of learned values.
 use Rattle.paxos_learner.specs.Entered.{key_of}
 use Rattle.paxos_learner.specs.Input.{StandsIn}
 use Rattle.paxos_learner.specs.Learner.{Learner}

@@ -4,7 +4,7 @@ use Rattle.std.specs.FinMap.{get, insert}
 use Rattle.paxos_msg.specs.Keys.{Key}
 use Rattle.paxos_learner.specs.Entered.{keys_with}
 use Rattle.paxos_learner.specs.Learner.{Learner, front_of}
-use Rattle.paxos_learner.proofs.Growing.{insert_in_window, open_below}
+use Rattle.paxos_learner.proofs.LearnedStays.{insert_in_window, open_below}
 use Rattle.paxos_learner.proofs.Keeping.{open_is_none, input_of_more}
 use Rattle.paxos_learner.proofs.Knowing.{known_more}
 use Rattle.paxos_learner.proofs.learner.Learner.learn.Goals as goal

@@ -1,7 +1,7 @@
 -- A learned place is in the window.
 use Rattle.std.proofs.Common.{◌+◌, ◌<◌, ◌∙◌, subst, sym}
 use Rattle.paxos_learner.specs.Learner.{Learner, front_of}
-use Rattle.paxos_learner.proofs.Growing.{some_from_test}
+use Rattle.paxos_learner.proofs.LearnedStays.{some_from_test}
 use Rattle.paxos_learner.proofs.learner.Learner.learned.Goals as goal
 
 pub returns-clause-place : goal.returns-clause-place

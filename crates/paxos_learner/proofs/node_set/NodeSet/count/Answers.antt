@@ -1,4 +1,4 @@
--- The nodes 1 to `size` are the lowest bits behind that of node 0.
+-- The nodes 1 to `size` are the lowest bits after that of node 0.
 use Rattle.std.proofs.Common.{◌∙◌, ap}
 use Rattle.paxos_msg.specs.Ballots.{count_of}
 use Rattle.paxos_learner.specs.Tallies.{has_node}

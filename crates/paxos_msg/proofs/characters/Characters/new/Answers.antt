@@ -1,4 +1,4 @@
--- The characters that were copied are those of the slice, and zeros stand behind them.
+-- The copied characters are those of the slice, followed by zeros.
 use Rattle.std.proofs.Common.{arith}
 use Rattle.std.proofs.lemmas.Bool.Decides.{nat_tests}
 use Rattle.paxos_msg.proofs.Filled.{filled, front}

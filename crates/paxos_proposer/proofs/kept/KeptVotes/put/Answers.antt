@@ -1,4 +1,5 @@
--- The reports with one more make the votes with it, and the greatest place is that of the vote where it is above.
+-- The reports with one more make the votes with it, and the greatest place is that of the vote
+-- where it is above.
 use Rattle.std.proofs.Common.{◌≡◌, ◌∙◌, ap}
 use Rattle.paxos_msg.specs.Records.{with_vote}
 use Rattle.paxos_proposer.specs.KeptVotes.{reported_votes}

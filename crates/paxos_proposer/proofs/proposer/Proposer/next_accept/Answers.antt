@@ -1,4 +1,4 @@
--- What is kept is from the place behind the new proposal on.
+-- Votes are kept from the place after the new proposal on.
 use Rattle.std.proofs.Common.{◌≡◌, ◌+◌, ◌∙◌, ap, arith, length, sym}
 use Rattle.std.specs.Prelude.{is_some}
 use Rattle.std.proofs.lemmas.List.{length_push}

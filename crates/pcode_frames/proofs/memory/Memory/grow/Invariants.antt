@@ -1,7 +1,7 @@
 use Rattle.std.proofs.Common.{◌≡◌, ◌≤◌, ◌+◌, ◌++◌, replicate, vec_len, vec_capacity}
 use Rattle.pcode_frames.proofs.memory.Memory.grow.Given as goal
 
--- so many words were added, all zero, and the room is still there
+-- this many words were added, all zero, and the room is still there
 abbrev pub invariant-loop : goal.invariant-loop
 invariant-loop l = record {
   items : l.self-inside.words.items ≡ l.initial.self-inside.words.items ++ replicate l.counter 0;

@@ -1,0 +1,62 @@
+//! What the program does with its words.
+use crate::commands::run::DEFAULT_STEPS;
+use crate::reading::{NotAsked, command_in, no_command, read_words, refused};
+use crate::refusal::{BAD_WORDS, DONE, Refusal, refuse, run_status};
+use machine_run::{MachineRefusal, RunIo, run_built_in};
+use std::io::{Read, Write};
+use std::net::Net;
+use std::rt::{Env, Files};
+use std::time::Clock;
+
+/// Writes why the words ask for nothing that is done. Returns the status.
+pub fn explain<W: Write, E: Write>(writer: &mut W, errors: &mut E, reason: NotAsked) -> u8 {
+    match reason {
+        NotAsked::Help(help) => match write!(writer, "{help}") {
+            Ok(()) => DONE,
+            Err(_) => refuse(errors, Refusal::Machine(MachineRefusal::Run(RunIo::Write))),
+        },
+        NotAsked::Fault(fault) => {
+            let _ = write!(errors, "{fault}");
+            BAD_WORDS
+        }
+        NotAsked::Memory => refuse(errors, Refusal::Machine(MachineRefusal::Run(RunIo::Memory))),
+    }
+}
+
+/// Does what the words ask for. Returns the status, or why they ask for nothing that is done.
+fn perform<H: Files + Net + Clock + Env + AllocGlobal + Copy + Drop, R: Read, W: Write, E: Write>(
+    rt: &H,
+    words: &[String],
+    reader: &mut R,
+    writer: &mut W,
+    errors: &mut E,
+) -> Result<u8, NotAsked> {
+    let matches = read_words(rt.alloc(), words)?;
+    let Some((name, own)) = command_in(&matches) else {
+        return Err(no_command(rt.alloc())?);
+    };
+    match name.perform(rt, own, reader, writer, errors) {
+        Ok(status) => Ok(status),
+        Err(fault) => Err(refused(rt.alloc(), name, fault)),
+    }
+}
+
+/// Does what the program does with these words, which are without its own name, on an input, an
+/// output and an error stream. Without words it runs the built-in program. Returns the status: 0; 1
+/// refused; 2 a fault of the command line; 3 an execution error; 4 the steps are spent. A fault of
+/// the error stream is ignored.
+pub fn answer<
+    H: Files + Net + Clock + Env + AllocGlobal + Copy + Drop,
+    R: Read,
+    W: Write,
+    E: Write,
+>(rt: &H, words: &[String], reader: &mut R, writer: &mut W, errors: &mut E) -> u8 {
+    if words.is_empty() {
+        let ran = run_built_in(rt.alloc(), DEFAULT_STEPS, writer);
+        return run_status(errors, ran);
+    }
+    match perform(rt, words, reader, writer, errors) {
+        Ok(status) => status,
+        Err(reason) => explain(writer, errors, reason),
+    }
+}

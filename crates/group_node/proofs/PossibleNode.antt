@@ -1,0 +1,324 @@
+-- A node that leads, with a key that waits and was offered, a kept vote and a tally.
+use Rattle.std.proofs.Common.{◌≡◌, ◌∙◌, ℕ, zero, suc, ◌<◌, ◌≤◌, inl, inr, List, [], ◌∷◌, ◌++◌, length, Option, None, Some, All, Contains, IfSome, IsSome, IsSomeAnd, IsTrue, refl, sym, ap, subst, arith}
+use Rattle.std.proofs.lemmas.List.Elements.{All-cons, All-contains, All-nil, Contains-append_left, Contains-push_cases}
+use Rattle.std.specs.FinMap.{empty, entries, get, get-empty, insert, len-empty, len-entries}
+use Rattle.std.specs.Ordering.{nat_cmp}
+use Rattle.paxos_msg.specs.declared.ballot.Ballot.{Ballot}
+use Rattle.paxos_msg.specs.declared.value.Value.{Value}
+use Rattle.paxos_msg.specs.declared.value.Value.TheVariants.{Keys, Noop}
+use Rattle.paxos_msg.specs.declared.message.Body.TheVariants.{Accept, Accepted, Ask, Prepare, Promise, Refused, Submit, Tell}
+use Rattle.paxos_msg.specs.Batches.{Body, Msg, Sent, Vote}
+use Rattle.paxos_msg.specs.Fits.{IsBallot, IsBody, IsValue}
+use Rattle.paxos_msg.specs.Grammar.{AreBytes}
+use Rattle.paxos_msg.specs.Keys.{Key}
+use Rattle.paxos_msg.specs.Messages.{IsSaid, IsSent}
+use Rattle.paxos_proposer.specs.Backed.{IsProposerBacked as IsProposerBacked, IsQuietUnder}
+use Rattle.paxos_proposer.specs.Proposer.{proposer_after_part, new_proposer, is_covered, next_of, next_value, Proposer, proposing}
+use Rattle.paxos_proposer.specs.Ranges.{IsProposerInRange as IsProposerInRange}
+use Rattle.paxos_learner.specs.Backed.{IsLearnerBacked as IsLearnerBacked}
+use Rattle.paxos_learner.specs.Growth.{AreInWindow, IsLearnerInRange as IsLearnerInRange}
+use Rattle.paxos_learner.specs.Learner.{Hearing, Learner, new_learner, heard_accepted}
+use Rattle.paxos_learner.specs.Tallies.{Tally, begun_tally as heard_of}
+use Rattle.paxos_learner.specs.declared.heard.Heard.TheVariants.{Counted}
+use Rattle.paxos_learner.proofs.OnePlace.{get_here}
+use Rattle.group_node.specs.Backs.{Backs, HasPromised}
+use Rattle.group_node.specs.Known.{Known}
+use Rattle.group_node.specs.Ranges.{IsInRange}
+
+-- ---- the group, and what was sent in it
+
+-- a ballot of node 2
+abbrev low : Ballot
+low = record { round = 1; node = 2 }
+
+-- a greater one of node 1
+abbrev b : Ballot
+b = record { round = 2; node = 1 }
+
+-- a key that was typed at node 1
+abbrev typed_key : Key
+typed_key = record { node = 1; start = 1; serial = 1; byte = 65 }
+
+-- it as a batch
+abbrev batch : Value
+batch = Keys 1 1 1 (65 ∷ [])
+
+-- a vote of node 3 at place 1
+abbrev vote : Vote
+vote = record { place = 1; ballot = low; value = Noop }
+
+-- node 1 asks for promises, and all give theirs; node 3 reports its vote
+abbrev asked : Sent
+asked = record { sender = 1; body = Prepare b 0 } ∷ record { sender = 1; body = Promise b 0 65536 [] }
+    ∷ record { sender = 2; body = Promise b 0 65536 [] } ∷ record { sender = 3; body = Promise b 0 65536 (vote ∷ []) } ∷ []
+
+-- node 1 proposes the key at place 0
+abbrev proposed : Sent
+proposed = asked ++ record { sender = 1; body = Accept b 0 batch } ∷ []
+
+-- and node 2 accepts it
+abbrev sent : Sent
+sent = proposed ++ record { sender = 2; body = Accepted b 0 batch } ∷ []
+
+-- ---- node 1
+
+-- its proposer: as it begins, after the promises of nodes 1 and 2, after its proposal, and after
+-- the promise of node 3
+abbrev p_1 : Proposer
+p_1 = proposer_after_part (new_proposer b 0 3) 1 0 65536 []
+
+abbrev p_2 : Proposer
+p_2 = proposer_after_part p_1 2 0 65536 []
+
+abbrev p_3 : Proposer
+p_3 = proposing p_2 (Some batch)
+
+abbrev p : Proposer
+p = proposer_after_part p_3 3 0 65536 (vote ∷ [])
+
+-- what it has heard of place 0
+abbrev tally : Tally
+tally = heard_of 2 b batch
+
+-- its learner
+abbrev l : Learner
+l = record { size = 3; learned = empty; tallies = insert empty 0 tally }
+
+-- what it knows: it leads, has offered the key that waits, keeps the vote at place 1, and has heard
+-- one node accept the key
+abbrev n : Known
+n = record {
+  me = record { node = 1; group = record { size = 3; session = 0 } };
+  kept = record { starts = 1; promised = Some b; votes = [] };
+  learner = l;
+  proposer = Some p;
+  remembered = None;
+  offered = typed_key ∷ [];
+  waiting = 65 ∷ [];
+  first = 1;
+}
+
+-- ---- the laws of the crates below
+
+-- how a proposer and a learner begin, and what they make of what they hear and propose
+pub record FirstLaws : Type 0 where
+  pub begins : (sent : Sent) (b : Ballot) (from size : ℕ) → ((s : ℕ) (v : Value) → ¬ IsSaid sent (Accept b s v))
+      → IsProposerBacked sent b.node (new_proposer b from size)
+  pub hears : (sent : Sent) (me j first upto : ℕ) (p : Proposer) (votes : List Vote) → IsProposerBacked sent me p
+      → j ≤ 9 → IsBody p.size j (Promise p.ballot first upto votes) → IsSent sent j (Promise p.ballot first upto votes)
+      → IsProposerBacked sent me (proposer_after_part p j first upto votes)
+  pub proposes : (sent : Sent) (me : ℕ) (p : Proposer) (v : Value) → IsProposerBacked sent me p
+      → IsProposerBacked (sent ++ record { sender = me; body = Accept p.ballot (next_of p) v } ∷ []) me
+      (proposing p (Some v))
+  pub later : (sent next : Sent) (me : ℕ) (p : Proposer) → IsQuietUnder p.ballot sent next → IsProposerBacked sent me p
+      → IsProposerBacked next me p
+  pub begins_fit : (b : Ballot) (from size : ℕ) → IsBallot size b → from ≤ 65536 → IsProposerInRange (new_proposer b from size)
+  pub part_fits : (j first upto : ℕ) (p : Proposer) (votes : List Vote) → IsProposerInRange p
+      → IsBody p.size j (Promise p.ballot first upto votes)
+      → IsProposerInRange (proposer_after_part p j first upto votes)
+  pub proposal_fits : (p : Proposer) (offered : Option Value) → IsProposerInRange p → IfSome offered (IsValue p.size)
+      → IsProposerInRange (proposing p (next_value p offered))
+  pub learner : (sent : Sent) (size : ℕ) → IsLearnerBacked sent (new_learner size)
+  pub learner_hears : (sent : Sent) (l : Learner) (i s : ℕ) (b : Ballot) (v : Value) → IsLearnerBacked sent l
+      → IsSent sent i (Accepted b s v) → IsLearnerBacked sent (heard_accepted l i b s v).learner
+  pub learner_fits : (size : ℕ) → IsLearnerInRange (new_learner size)
+  pub heard_fits : (l : Learner) (i s : ℕ) (b : Ballot) (v : Value) → IsValue l.size v → IsLearnerInRange l
+      → IsLearnerInRange (heard_accepted l i b s v).learner
+  pub learner_window : (size : ℕ) → AreInWindow (new_learner size).learned
+
+-- ---- what was sent
+
+-- no Accept
+abbrev IsNoProposal : Body → Type 0
+IsNoProposal (Prepare c from) = Unit {0}
+IsNoProposal (Promise c first upto votes) = Unit {0}
+IsNoProposal (Accept c s v) = ⊥
+IsNoProposal (Accepted c s v) = Unit {0}
+IsNoProposal (Refused c promised) = Unit {0}
+IsNoProposal (Submit v) = Unit {0}
+IsNoProposal (Ask from) = Unit {0}
+IsNoProposal (Tell s v) = Unit {0}
+
+-- a Prepare or an Accept under this ballot, or something else
+abbrev IsUnder : Body → Type 0
+IsUnder (Prepare c from) = c ≡ b
+IsUnder (Promise c first upto votes) = Unit {0}
+IsUnder (Accept c s v) = c ≡ b
+IsUnder (Accepted c s v) = Unit {0}
+IsUnder (Refused c promised) = Unit {0}
+IsUnder (Submit v) = Unit {0}
+IsUnder (Ask from) = Unit {0}
+IsUnder (Tell s v) = Unit {0}
+
+-- this of each message
+abbrev EachOf : (Msg → Type 0) → Sent → Type 0
+EachOf P [] = Unit {0}
+EachOf P (m ∷ ms) = P m × EachOf P ms
+
+all_of : (P : Msg → Type 0) (ms : Sent) → EachOf P ms → All P ms
+all_of P [] each = All-nil P
+all_of P (m ∷ ms) each = All-cons P m ms each.0 (all_of P ms each.1)
+
+-- before the proposal nothing was proposed
+unsaid : (s : ℕ) (v : Value) → IsSaid asked (Accept b s v) → ⊥
+unsaid s v (i, h) =
+    let P : Msg → Type 0 = λ m. IsNoProposal m.body in
+    let all : All P asked = all_of P asked (tt, (tt, (tt, (tt, tt)))) in
+    All-contains P asked (record { sender = i; body = Accept b s v }) all h
+
+-- all was asked and proposed under the one ballot
+all_under : All (λ (m : Msg). IsUnder m.body) sent
+all_under = all_of (λ (m : Msg). IsUnder m.body) sent (refl, (tt, (tt, (tt, (refl, (tt, tt))))))
+
+asked_under : (c : Ballot) (from : ℕ) → IsSaid sent (Prepare c from) → c ≡ b
+asked_under c from (i, h) = All-contains (λ (m : Msg). IsUnder m.body) sent (record { sender = i; body = Prepare c from }) all_under h
+
+proposed_under : (c : Ballot) (s : ℕ) (v : Value) → IsSaid sent (Accept c s v) → c ≡ b
+proposed_under c s v (i, h) = All-contains (λ (m : Msg). IsUnder m.body) sent (record { sender = i; body = Accept c s v }) all_under h
+
+-- the record has promised it
+is_promised : (c : Ballot) → c ≡ b → HasPromised n.kept c
+is_promised c e = rw e (inr (refl, omega arith))
+
+-- what came after the proposal proposes nothing
+quiet : IsQuietUnder b proposed sent
+quiet = record {
+  stays =
+      λ i body h. Contains-append_left proposed (record { sender = 2; body = Accepted b 0 batch } ∷ [])
+      (record { sender = i; body = body }) h;
+  quiet = λ s v said. before s v said;
+}
+  where
+    before : (s : ℕ) (v : Value) → IsSaid sent (Accept b s v) → IsSaid proposed (Accept b s v)
+    before s v (i, h) =
+        elim (Contains-push_cases proposed (record { sender = 2; body = Accepted b 0 batch })
+        (record { sender = i; body = Accept b s v }) h) [
+          | inl old ↦ (i, old)
+          | inr e ↦ let f : Accepted b 0 batch ≡ Accept b s v = ap (λ (m : Msg). m.body) e in absurd cc
+        ]
+
+-- ---- what its learner hears
+
+no_entries : {X : Type 0} (xs : List X) → length xs ≡ 0 → xs ≡ []
+no_entries [] e = refl
+no_entries (x ∷ xs) e = absurd (omega arith)
+
+entries_none : entries (empty {X = Value} {R = nat_cmp}) ≡ []
+entries_none = no_entries (entries empty) (sym (len-entries empty) ∙ len-empty nat_cmp Value)
+
+value_none : get (empty {X = Value} {R = nat_cmp}) 0 ≡ None
+value_none = get-empty nat_cmp 0
+
+tally_none : get (empty {X = Tally} {R = nat_cmp}) 0 ≡ None
+tally_none = get-empty nat_cmp 0
+
+heard_one : heard_accepted (new_learner 3) 2 b 0 batch ≡ record { learner = l; answer = Counted }
+heard_one = rw (value_none, entries_none, tally_none) refl
+
+-- ---- ranges
+
+ballot_fits : IsBallot 3 b
+ballot_fits = ((omega arith, omega arith), (omega arith, omega arith))
+
+one_byte : AreBytes (65 ∷ [])
+one_byte zero = omega arith
+one_byte (suc i) = omega arith
+
+batch_fits : IsValue 3 batch
+batch_fits = ((omega arith, omega arith), (omega arith, omega arith), (omega arith, omega arith, omega arith, omega arith, one_byte))
+
+part_body : (j : ℕ) → IsBody 3 j (Promise b 0 65536 [])
+part_body j = (ballot_fits, omega arith, omega arith, omega arith, omega arith, tt)
+
+vote_body : IsBody 3 3 (Promise b 0 65536 (vote ∷ []))
+vote_body = (
+  ballot_fits,
+  omega arith,
+  omega arith,
+  omega arith,
+  omega arith,
+  (
+    record {
+      from_low = omega arith;
+      below_upto = omega arith;
+      ballot = ((omega arith, omega arith), (omega arith, omega arith));
+      not_above = inl (omega arith);
+      value = tt;
+    },
+    tt,
+  ),
+)
+
+module _ (laws : FirstLaws) where
+  -- ---- the proposer
+
+  p_1_backed : IsProposerBacked asked 1 p_1
+  p_1_backed =
+      laws.hears asked 1 1 0 65536 (new_proposer b 0 3) [] (laws.begins asked b 0 3 unsaid) (omega arith) (part_body 1)
+      (1, omega arith, refl)
+
+  p_3_backed : IsProposerBacked proposed 1 p_3
+  p_3_backed =
+      laws.proposes asked 1 p_2 batch
+      (laws.hears asked 1 2 0 65536 p_1 [] p_1_backed (omega arith) (part_body 2) (2, omega arith, refl))
+
+  p_backed : IsProposerBacked sent 1 p
+  p_backed =
+      laws.later proposed sent 1 p quiet
+      (laws.hears proposed 1 3 0 65536 p_3 (vote ∷ []) p_3_backed (omega arith) vote_body (3, omega arith, refl))
+
+  p_3_fits : IsProposerInRange p_3
+  p_3_fits =
+      laws.proposal_fits p_2 (Some batch)
+      (laws.part_fits 2 0 65536 p_1 []
+      (laws.part_fits 1 0 65536 (new_proposer b 0 3) [] (laws.begins_fit b 0 3 ballot_fits (omega arith)) (part_body 1))
+      (part_body 2)) batch_fits
+
+  -- ---- the node
+
+  n_fits : IsInRange n
+  n_fits = record {
+    me = record { node = (omega arith, omega arith); few = omega arith };
+    kept = record { starts = omega arith; kept = (ballot_fits, tt) };
+    counted = omega arith;
+    proposer = record { size = refl; own = refl; ranges = laws.part_fits 3 0 65536 p_3 (vote ∷ []) p_3_fits vote_body };
+    learner = record {
+      size = refl;
+      ranges =
+          subst (λ (h : Hearing). IsLearnerInRange h.learner) heard_one
+          (laws.heard_fits (new_learner 3) 2 0 b batch batch_fits (laws.learner_fits 3));
+      window = laws.learner_window 3;
+    };
+    waiting = record { some = omega arith; fits = omega arith; few = omega arith; characters = one_byte };
+  }
+
+  n_backed : Backs sent (typed_key ∷ []) n
+  n_backed = record {
+    kept = record {
+      votes = record { votes = λ s. tt; in_order = tt };
+      asked = λ c from mine said. is_promised c (asked_under c from said);
+      own = λ c s v mine said. is_promised c (proposed_under c s v said);
+    };
+    proposer = record { backed = p_backed; promised = refl };
+    learner =
+        subst (λ (h : Hearing). IsLearnerBacked sent h.learner) heard_one
+        (laws.learner_hears sent (new_learner 3) 2 0 b batch (laws.learner sent 3) (5, omega arith, refl));
+    waiting = λ k has. has;
+  }
+
+  -- it leads, with all that a node may know
+  pub a_node_leads : (n : Known) × (sent : Sent) × (typed : List Key) × IsInRange n × Backs sent typed n
+      × IsSomeAnd n.proposer (λ p. IsTrue (is_covered p (next_of p)) × (0 < length p.kept))
+      × IsSome (get n.learner.tallies 0) × (0 < length n.offered) × (0 < length n.waiting)
+  a_node_leads = (
+    n,
+    sent,
+    typed_key ∷ [],
+    n_fits,
+    n_backed,
+    (refl, omega arith),
+    rw
+        (get_here {X = Tally} empty 0 tally) refl,
+    omega arith,
+    omega arith,
+  )

@@ -1,0 +1,29 @@
+//! The limits of a node, each under its name. Code, clauses and definitions cite them.
+
+/// The most packets that an outbox holds.
+pub const MOST_PACKETS: usize = 64;
+
+/// The most packets that a node sends at a message: a Prepare and 16 Accepts.
+pub const MESSAGE_PACKETS: usize = 17;
+
+/// The most packets that a node sends at a tick: 9 Prepares, 16 Accepts again, 16 Accepts of a
+/// pump, a Submit and an Ask.
+pub const TICK_PACKETS: usize = 43;
+
+/// The most packets of a tick that come from the proposer: all but the Submit and the Ask.
+pub const PROPOSER_PACKETS: usize = 41;
+
+/// The most proposals of one pump.
+pub const MOST_PUMPED: u8 = 16;
+
+/// The most Accepts that a tick sends again.
+pub const MOST_AGAIN: u8 = 16;
+
+/// The most places that are told in answer to one Ask.
+pub const MOST_TOLD: u32 = 16;
+
+/// The most typed characters that wait at a node.
+pub const MOST_WAITING: usize = 256;
+
+/// The most bytes of output that wait at a node: the length of its ring.
+pub const RING_BYTES: usize = 256;

@@ -1,0 +1,153 @@
+//! A node of a group in one process, whose output is shown on its console.
+ghost use Rattle.std.specs.Prelude.{◌≡◌, ◌<◌, ◌++◌, ◌∷◌, ◌⊎◌, ℕ, List, [], length, IfErr, OnErr, OnOk};
+ghost use Rattle.group_node.specs.Output.{unreleased_of};
+ghost use Rattle.group_node.specs.States.{input};
+ghost use Rattle.group_wire.specs.Output.{released_of};
+ghost use Rattle.group_udp.specs.Output.{ReleasesBytes, all_released};
+ghost use Rattle.group_udp.specs.Refusals.{IsCampaignRefusal, IsRoundRefusal, IsRunRefusal, IsTurnRefusal, no_memory};
+ghost use Rattle.group_udp.specs.Rounds.{HasShownAll, HasTurnedAndShown};
+
+use crate::fault::GroupFault;
+use crate::rest::own_turn;
+use crate::udp::UdpWire;
+use group_node::{Config, Console, Offer};
+use group_wire::Host;
+use machine_run::{RunIo, write_bytes};
+use paxos_acceptor::{MemoryStore, Store};
+use paxos_msg::Record;
+use pcode_ops::Program;
+use std::alloc::Global;
+use std::io::{self, Write};
+use std::time::Clock;
+
+/// A node over a store in memory, its wire, and its console, which shows what was released of the
+/// node's output.
+pub struct ShownNode<'a, H> {
+    host: Host<'a, MemoryStore>,
+    wire: UdpWire<'a, H>,
+    console: Console,
+    ghost shows: { console.bytes ≡ released_of (input host.protocol.known) host.progress },
+}
+
+impl<'a, H> Drop for ShownNode<'a, H> {
+    fn drop(self) {
+        let ShownNode {
+            host: _host,
+            wire: _wire,
+            console: _console,
+        } = self;
+    }
+}
+
+/// Puts the first byte of the output that waits on the console, which has shown those before it.
+/// Fails if memory runs out; then the byte waits still.
+fn show_next<S: Store>(host: &mut Host<'_, S>, console: &mut Console) -> Result<(), GroupFault>
+    requires waits { 0 < length (unreleased_of (input host.old.protocol.known) host.old.progress) }
+    requires shows { console.old.bytes
+        ≡ released_of (input host.old.protocol.known) host.old.progress }
+    ensures shows { console.new.bytes
+        ≡ released_of (input host.old.protocol.known) host.new.progress }
+    ensures one { OnOk result
+        ((byte : ℕ) × ReleasesBytes
+        (input host.old.protocol.known) host.old.progress host.new.progress (byte ∷ [])) }
+    ensures none { OnErr result (host.new.progress ≡ host.old.progress) }
+    ensures others { IfErr result (λ e. e ≡ no_memory) }
+    ensures rest { host.new.protocol ≡ host.old.protocol }
+{
+    if console.reserve().is_err() {
+        return Err(GroupFault::from(RunIo::Memory));
+    }
+    let Some((number, byte)) = host.release() else {
+        unreachable!()
+    };
+    match console.offer(number, byte) {
+        Offer::Fresh => Ok(()),
+        Offer::Repeat | Offer::Gap | Offer::Memory => unreachable!(),
+    }
+}
+
+/// Puts all output that waits on the console, which has shown what was released before: each byte
+/// once, in order. Fails if memory runs out for a byte; then it and those after it wait still.
+fn show_all<S: Store>(host: &mut Host<'_, S>, console: &mut Console) -> Result<(), GroupFault>
+    requires shows { console.old.bytes
+        ≡ released_of (input host.old.protocol.known) host.old.progress }
+    ensures shows { console.new.bytes
+        ≡ released_of (input host.new.protocol.known) host.new.progress }
+    ensures appended { OnOk result
+        (console.new.bytes ≡ console.old.bytes
+        ++ unreleased_of (input host.old.protocol.known) host.old.progress) }
+    ensures released { OnOk result
+        (host.new.progress ≡ all_released (input host.old.protocol.known) host.old.progress) }
+    ensures front { (gone : List ℕ)
+        × ReleasesBytes (input host.old.protocol.known) host.old.progress
+        host.new.progress gone × (console.new.bytes ≡ console.old.bytes ++ gone) }
+    ensures others { IfErr result (λ e. e ≡ no_memory) }
+    ensures rest { host.new.protocol ≡ host.old.protocol }
+{
+    for _ in 0..host.unreleased() {
+        show_next(host, console)?;
+    }
+    Ok(())
+}
+
+impl<'a, H: Clock> ShownNode<'a, H> {
+    /// Starts a node over an empty record, with an empty console.
+    pub fn start(
+        alloc: Global,
+        program: &'a Program,
+        config: Config,
+        wire: UdpWire<'a, H>,
+    ) -> Result<ShownNode<'a, H>, GroupFault>
+        ensures others { IfErr result (λ e. IsRunRefusal e) }
+    {
+        let store = MemoryStore::new(Record::new(alloc));
+        let host = Host::start(alloc, program, config, store)?;
+        let console = Console::new(alloc);
+        Ok(ShownNode {
+            host,
+            wire,
+            console,
+        })
+    }
+
+    /// Begins a ballot of the node's own.
+    pub fn campaign(&mut self) -> Result<(), GroupFault>
+        ensures others { IfErr result (λ e. IsTurnRefusal e ⊎ IsCampaignRefusal e) }
+    {
+        Ok(self.host.campaign(&mut self.wire)?)
+    }
+
+    /// Types as many of the bytes as there is room for, and takes them off the front.
+    pub fn press(&mut self, bytes: &mut &[u8]) -> Result<(), GroupFault>
+        ensures others { IfErr result (λ e. IsRoundRefusal e) }
+    {
+        Ok(self.host.press(bytes)?)
+    }
+
+    /// Puts all output that waits on the console.
+    fn show_output(&mut self) -> Result<(), GroupFault>
+        ensures shown { HasShownAll self.old.host self.new.host result }
+    {
+        show_all(&mut self.host, &mut self.console)
+    }
+
+    /// Takes a turn of the node, once a datagram is there: its last tick has left it one. Then puts
+    /// all output that waits on the console.
+    pub fn turn(&mut self) -> Result<(), GroupFault>
+        ensures turns { HasTurnedAndShown self.old.host self.new.host result }
+        ensures others { IfErr result (λ e. IsTurnRefusal e ⊎ (e ≡ no_memory)) }
+    {
+        self.wire.begin_rest();
+        self.wire.wait(true);
+        own_turn(&mut self.host, &mut self.wire)?;
+        self.show_output()
+    }
+
+    /// Writes the line of the node, whose number is `number`.
+    pub fn write_line<W: Write>(&self, writer: &mut W, number: usize) -> io::Result<()> {
+        let known = self.host.node().known_front();
+        write!(writer, "node {number} known {known} console ")?;
+        write_bytes(writer, self.console.bytes())?;
+        writeln!(writer)
+    }
+}

@@ -1,8 +1,0 @@
-use Rattle.group_wire.proofs.Carrying.{next_letter}
-use Rattle.group_wire.proofs.turns.send_to_all.Goals as goal
-
-pub loop-node-preserved : goal.loop-node-preserved
-loop-node-preserved g c =
-    next_letter (g.T.Wire.traffic c.loop-node.wire)
-    (g.T.Wire.traffic c.send.new.self) _ c.args.bytes.now c.args.size c.loop-node.node c.loop-node-test.true
-    c.send.ensures.handed c.loop-node.invariant

@@ -1,0 +1,37 @@
+-- A campaign of a node on its wire.
+use Rattle.std.specs.Prelude.{◌≡◌, ◌⊎◌, ◌↔◌, ◌<◌, true, false, [], Option, Result, IfErr, IsErrOf, OnErr, OnOk}
+use Rattle.paxos_msg.specs.declared.limits.TheConstants.{LAST_ROUND, PLACES}
+use Rattle.paxos_acceptor.specs.Stores.{StoreState}
+use Rattle.group_node.specs.declared.fault.NodeFault.{NodeFault}
+use Rattle.group_node.specs.declared.fault.NodeFault.TheVariants.{Memory, PlacesSpent, RoundsSpent, Stopped, Store}
+use Rattle.group_node.specs.Calls.{Saves}
+use Rattle.group_node.specs.Known.{front}
+use Rattle.group_node.specs.ProposerRows.{last_round, on_campaign}
+use Rattle.group_node.specs.States.{NodeState}
+use Rattle.group_wire.specs.Traffic.{Traffic, grown, posted}
+
+-- What a campaign leaves of a node and its wire, and its answer.
+-- At `Ok` the wire was handed all that the campaign sends, and at a refusal nothing.
+pub record HasCampaigned {S : Type 0} (honest at_will : Type 0) (state : S → StoreState)
+    (old new : NodeState S) (from to : Option Traffic) (result : Result (Unit {0}) NodeFault)
+    : Type 0 where
+  pub ok : OnOk result (new.protocol.known ≡ (on_campaign old.protocol.known).node)
+  pub sends : OnOk result
+      (to ≡ grown from (posted old.protocol.known (on_campaign old.protocol.known).sends) [])
+  pub err : OnErr result (new.protocol.known ≡ old.protocol.known)
+  pub unsent : OnErr result (to ≡ from)
+  pub stops :
+      (new.protocol.is_stopped ≡ true) ↔ ((old.protocol.is_stopped ≡ true) ⊎ IsErrOf result Store)
+  pub saves : Saves honest at_will state old.protocol new.protocol
+      (on_campaign old.protocol.known) result
+  pub progress : new.progress ≡ old.progress
+  pub stopped : IsErrOf result Stopped ↔ (old.protocol.is_stopped ≡ true)
+  pub rounds : IsErrOf result RoundsSpent
+      ↔ ((old.protocol.is_stopped ≡ false) × (last_round old.protocol.known ≡ LAST_ROUND))
+  pub places : IsErrOf result PlacesSpent
+      ↔ ((old.protocol.is_stopped ≡ false) × (last_round old.protocol.known < LAST_ROUND)
+      × (front old.protocol.known ≡ PLACES))
+  pub spare : OnOk result (last_round old.protocol.known < LAST_ROUND)
+  pub spare_saved : IsErrOf result Store → last_round old.protocol.known < LAST_ROUND
+  pub others : IfErr result (λ e. (e ≡ Stopped) ⊎ (e ≡ RoundsSpent) ⊎ (e ≡ PlacesSpent)
+      ⊎ (e ≡ Memory) ⊎ (e ≡ Store))

@@ -1,0 +1,31 @@
+-- Bytes that are typed at a node.
+use Rattle.std.specs.Prelude.{◌≡◌, ◌≢◌, ◌↔◌, ◌⊎◌, ◌+◌, ◌<◌, ℕ, true, false, List, [], ◌++◌, length, Result, IfErr, IsErrOf, OnErr, OnOk}
+use Rattle.paxos_msg.specs.declared.limits.TheConstants.{LAST_SERIAL}
+use Rattle.group_node.specs.declared.limits.TheConstants.{MOST_WAITING}
+use Rattle.group_node.specs.declared.fault.NodeFault.{NodeFault}
+use Rattle.group_node.specs.declared.fault.NodeFault.TheVariants.{SerialSpent, Stopped}
+use Rattle.group_node.specs.Known.{Known, next_serial}
+use Rattle.group_node.specs.States.{NodeState}
+
+-- A node after these bytes were typed at it: their keys wait, after those that waited.
+abbrev pub after_pressed : Known → List ℕ → Known
+after_pressed n bytes = record n { waiting = n.waiting ++ bytes }
+
+-- What typing leaves of a node and of the bytes `before`, of which `after` are left.
+pub record HasPressed {S : Type 0} (old new : NodeState S) (before after : List ℕ)
+    (result : Result (Unit {0}) NodeFault) : Type 0 where
+  pub typed : List ℕ
+  pub bytes : before ≡ typed ++ after
+  pub known : new.protocol.known ≡ after_pressed old.protocol.known typed
+  pub full : OnOk result ((after ≡ []) ⊎ (length new.protocol.known.waiting ≡ MOST_WAITING))
+  pub err : OnErr result (after ≢ [])
+  pub others : IfErr result (λ e. (e ≡ Stopped) ⊎ (e ≡ SerialSpent))
+  pub stopped : IsErrOf result Stopped ↔ ((old.protocol.is_stopped ≡ true) × (before ≢ []))
+  pub untyped : IsErrOf result Stopped → after ≡ before
+  pub spent : IsErrOf result SerialSpent ↔ ((old.protocol.is_stopped ≡ false)
+      × (after ≢ [])
+      × (length new.protocol.known.waiting < MOST_WAITING)
+      × (next_serial new.protocol.known ≡ LAST_SERIAL + 1))
+  pub store : new.protocol.store ≡ old.protocol.store
+  pub same_stop : new.protocol.is_stopped ≡ old.protocol.is_stopped
+  pub progress : new.progress ≡ old.progress

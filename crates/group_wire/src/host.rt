@@ -1,0 +1,132 @@
+//! A node with its outbox.
+ghost use Rattle.std.specs.Prelude.{◌≡◌, ◌⊎◌, ◌↔◌, ◌+◌, true, length, option_map, slice_get, IfErr, IfNone, IfOk, IsErrOf, OnSome};
+ghost use Rattle.group_node.specs.Known.{on_start};
+ghost use Rattle.group_node.specs.Output.{IsReplay, unreleased_of};
+ghost use Rattle.group_node.specs.States.{input};
+ghost use Rattle.group_wire.specs.Campaigns.{HasCampaigned};
+ghost use Rattle.group_wire.specs.Output.{released_by};
+ghost use Rattle.group_wire.specs.Starts.{HasStarted};
+
+use crate::sending::send_all;
+use crate::wire::Wire;
+use group_node::{Config, Node, NodeFault, Outbox, StartRefused};
+use paxos_acceptor::Store;
+use paxos_msg::Group;
+use pcode_ops::Program;
+use std::alloc::Global;
+use std::marker::Model;
+
+/// A node of a group with its outbox. Each call is handed the node's wire, if it sends or receives,
+/// and what the node sends in a call goes out in that call. So contracts see a host as its node.
+pub struct Host<'a, S: Store> {
+    pub(crate) node: Node<'a, S>,
+    // Empty between two calls.
+    pub(crate) outbox: Outbox,
+    pub(crate) group: Group,
+}
+
+impl<'a, S: Store + Drop> Drop for Host<'a, S> {
+    fn drop(self) {
+        let Host {
+            node: _node,
+            outbox: _outbox,
+            group: _group,
+        } = self;
+    }
+}
+
+impl<'a, S: Store> Model for Host<'a, S> {
+    ghost use Rattle.std.specs.Prelude.{◌≡◌, []};
+    ghost use Rattle.std.specs.Coded.{codes};
+    ghost use Rattle.paxos_learner.specs.Codes.{learner_code};
+    ghost use Rattle.group_node.specs.States.{NodeState};
+
+    ghost Value = { NodeState S };
+
+    ghost coded = { Prim.hlevel (codes, learner_code) };
+
+    ghost view = { λ h. h.node };
+
+    ghost invariant = { λ h. (h.node.protocol.known.me.group ≡ h.group)
+        × (h.outbox.packets ≡ []) };
+}
+
+impl<'a, S: Store> Host<'a, S> {
+    /// Starts the node over what its store has, as `Node::start` says. A refusal gives the store
+    /// back. Fails with `Memory` too if memory runs out for the outbox; then nothing was loaded.
+    pub fn start(
+        alloc: Global,
+        program: &'a Program,
+        config: Config,
+        store: S,
+    ) -> Result<Host<'a, S>, StartRefused<S>>
+        ensures starts { HasStarted S.honest S.state S.loads config program.now store result }
+        ensures known { S.honest
+            → IfOk result (λ h. h.protocol.known ≡ (on_start config (S.state store).stored).node) }
+        ensures others { IfErr result
+            (λ e. (e.fault ≡ NodeFault.Memory) ⊎ (e.fault ≡ NodeFault.Store)
+            ⊎ (e.fault ≡ NodeFault.BadRecord) ⊎ (e.fault ≡ NodeFault.StartsSpent)) }
+    {
+        let group = config.me().group;
+        let Ok(outbox) = Outbox::new(alloc) else {
+            let fault = NodeFault::Memory;
+            return Err(StartRefused { fault, store });
+        };
+        match Node::start(alloc, program, config, store) {
+            Ok(node) => Ok(Host {
+                node,
+                outbox,
+                group,
+            }),
+            Err(refused) => Err(refused),
+        }
+    }
+
+    /// Returns the node.
+    pub fn node(&self) -> &Node<'a, S>
+        ensures { result.now ≡ self.now }
+    {
+        &self.node
+    }
+
+    /// Begins a ballot of the node's own, as `Node::campaign` says, and hands what it sends to the
+    /// wire. After a refusal nothing was sent.
+    pub fn campaign<T: Wire>(&mut self, wire: &mut T) -> Result<(), NodeFault>
+        ensures campaigned { HasCampaigned S.honest S.fails_at_will S.state self.old self.new
+            (T.traffic wire.old) (T.traffic wire.new) result }
+        ensures stopped { IsErrOf result NodeFault.Stopped
+            ↔ (self.old.protocol.is_stopped ≡ true) }
+        ensures others { IfErr result
+            (λ e. (e ≡ NodeFault.Stopped) ⊎ (e ≡ NodeFault.RoundsSpent)
+            ⊎ (e ≡ NodeFault.PlacesSpent) ⊎ (e ≡ NodeFault.Memory) ⊎ (e ≡ NodeFault.Store)) }
+        ensures stays { released_by self.new ≡ released_by self.old }
+    {
+        self.node.campaign(&mut self.outbox)?;
+        send_all(wire, &mut self.outbox, self.group.size);
+        Ok(())
+    }
+
+    /// Releases the first byte of the output that waits. Returns it with its number, counted from 0
+    /// on since this start, or None if no byte waits.
+    pub fn release(&mut self) -> Option<(u64, u8)>
+        ensures value { result
+            ≡ option_map (λ b. (self.old.progress.released, b))
+            (slice_get (unreleased_of (input self.old.protocol.known) self.old.progress) 0) }
+        ensures some { OnSome result
+            (self.new.progress
+            ≡ record self.old.progress { released = self.old.progress.released + 1 }) }
+        ensures none { IfNone result (self.new ≡ self.old) }
+        ensures protocol { self.new.protocol ≡ self.old.protocol }
+    {
+        self.node.release()
+    }
+
+    /// Returns the number of bytes of output that wait, at most 256.
+    pub fn unreleased(&self) -> usize
+        ensures count { result
+            ≡ length (unreleased_of (input self.now.protocol.known) self.now.progress) }
+        ensures replay { IsReplay (input self.now.protocol.known) self.now.progress }
+    {
+        self.node.unreleased()
+    }
+}

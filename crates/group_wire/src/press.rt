@@ -1,0 +1,64 @@
+//! Bytes that are typed at a node.
+ghost use Rattle.std.specs.Prelude.{◌≡◌, ◌≢◌, ◌↔◌, ◌⊎◌, ◌+◌, ◌<◌, [], ◌∷◌, false, true, length, if◌then◌else◌, IfErr, IfOk, IsErrOf};
+ghost use Rattle.paxos_msg.specs.declared.limits.TheConstants.{LAST_SERIAL};
+ghost use Rattle.group_node.specs.declared.limits.TheConstants.{MOST_WAITING};
+ghost use Rattle.group_node.specs.Known.{next_serial};
+ghost use Rattle.group_wire.specs.Output.{released_by};
+ghost use Rattle.group_wire.specs.Presses.{HasPressed, after_pressed};
+
+use crate::host::Host;
+use group_node::NodeFault;
+use paxos_acceptor::Store;
+
+impl<'a, S: Store> Host<'a, S> {
+    /// Types a byte at the node. Returns true if there was room for its key. At false and at `Err`
+    /// nothing has changed.
+    fn press_one(&mut self, byte: u8) -> Result<bool, NodeFault>
+        ensures typed { IfOk result (λ has_room. self.new.protocol.known
+            ≡ (if has_room then after_pressed self.old.protocol.known (byte ∷ [])
+            else self.old.protocol.known)) }
+        ensures full { IfOk result (λ has_room.
+            has_room ≡ false → length self.old.protocol.known.waiting ≡ MOST_WAITING) }
+        ensures err { IfErr result (λ _. self.new.protocol.known ≡ self.old.protocol.known) }
+        ensures others { IfErr result
+            (λ e. (e ≡ NodeFault.Stopped) ⊎ (e ≡ NodeFault.SerialSpent)) }
+        ensures stopped { IsErrOf result NodeFault.Stopped
+            ↔ (self.old.protocol.is_stopped ≡ true) }
+        ensures spent { IsErrOf result NodeFault.SerialSpent
+            ↔ ((self.old.protocol.is_stopped ≡ false)
+            × (length self.old.protocol.known.waiting < MOST_WAITING)
+            × (next_serial self.old.protocol.known ≡ LAST_SERIAL + 1)) }
+        ensures rest { (self.new.protocol.store ≡ self.old.protocol.store)
+            × (self.new.protocol.is_stopped ≡ self.old.protocol.is_stopped)
+            × (self.new.progress ≡ self.old.progress) }
+    {
+        match self.node.typed(byte) {
+            Ok(_) => Ok(true),
+            Err(NodeFault::Busy) => Ok(false),
+            Err(fault) => Err(fault),
+        }
+    }
+
+    /// Types bytes at the node, as many as there is room for, and takes them off the front of
+    /// `bytes`. At `Ok` all of them are typed, or 256 keys wait.
+    ///
+    /// Fails with `Stopped` if a save has failed before and there is a byte; then nothing is typed.
+    /// Fails with `SerialSpent` if fewer than 256 keys wait at a byte, and the serial 4,294,967,295
+    /// is given out; the bytes before that byte are typed, and it is the first that is left.
+    pub fn press(&mut self, bytes: &mut &[u8]) -> Result<(), NodeFault>
+        ensures pressed { HasPressed self.old self.new bytes.old.now bytes.new.now result }
+        ensures stopped { IsErrOf result NodeFault.Stopped
+            ↔ ((self.old.protocol.is_stopped ≡ true) × (bytes.old.now ≢ [])) }
+        ensures others { IfErr result
+            (λ e. (e ≡ NodeFault.Stopped) ⊎ (e ≡ NodeFault.SerialSpent)) }
+        ensures stays { released_by self.new ≡ released_by self.old }
+    {
+        while let Some((byte, others)) = bytes.split_first() {
+            if !self.press_one(*byte)? {
+                return Ok(());
+            }
+            *bytes = others;
+        }
+        Ok(())
+    }
+}

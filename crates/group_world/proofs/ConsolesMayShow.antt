@@ -1,0 +1,197 @@
+-- Events lead to a world in which two consoles show a byte, for the law `consoles_may_show`.
+use Rattle.std.proofs.Common.{◌≡◌, ℕ, zero, suc, ◌&&◌, ◌-◌, ◌≤◌, Bool, true, false, List, [], ◌∷◌, ◌++◌, drop, length, slice_get, slice_set, None, Some, refl, ap, subst, length-append, arith}
+use Rattle.std.proofs.lemmas.Bool.{and_parts}
+use Rattle.pcode_file.specs.Parts.{Parts}
+use Rattle.pcode_ops.specs.Decoding.{instr_of}
+use Rattle.pcode_machine.specs.Configuration.{Configuration}
+use Rattle.pcode_machine.specs.Outcome.{Goes as Leads_to, Outcome, Stops, Stuck, Waiting, outcome}
+use Rattle.pcode_machine.specs.Prefixes.{IsPrefix}
+use Rattle.pcode_machine.specs.Runs.{LeadsIn, after_steps, led, out}
+use Rattle.paxos_msg.specs.declared.message.Group.{Group}
+use Rattle.paxos_msg.specs.Records.{empty_record}
+use Rattle.paxos_msg.specs.Grammar.{IsGroup}
+use Rattle.group_node.specs.declared.player.Ran.TheVariants as more
+use Rattle.group_node.specs.Known.{on_start}
+use Rattle.group_node.specs.Output.{IsReplay, Progress, RunsOn, no_progress, unreleased_of}
+use Rattle.group_node.specs.States.{IsSize, input}
+use Rattle.group_world.specs.declared.event.Act.TheVariants as act
+use Rattle.group_world.specs.declared.event.Done.TheVariants.{Applied}
+use Rattle.group_world.specs.declared.event.Event.{Event}
+use Rattle.group_world.specs.declared.event.Outcome.TheVariants.{Kept}
+use Rattle.group_world.specs.Event.{LeadsBy}
+use Rattle.group_world.specs.Group.{member_at, new_world, World, world_state}
+use Rattle.group_world.specs.Member.{at_progress, Member, member_after_call, member_after_release, Running}
+use Rattle.group_world.proofs.WorldAsGroup.{changed_here}
+
+-- ---- a program that writes the letter A
+
+abbrev pub writes_a : Parts
+writes_a = record {
+  name = [];
+  segment = 65 ∷ 171 ∷ 3 ∷ 1 ∷ 165 ∷ 3 ∷ 0 ∷ 1 ∷ 0 ∷ 0 ∷ 158 ∷ 6 ∷ 193 ∷ 0 ∷ 2 ∷ 0 ∷ 4 ∷ 0 ∷ 6 ∷ 0 ∷ 20 ∷ 0 ∷ 1 ∷ 0 ∷ 2 ∷ 0 ∷ 1 ∷ 1 ∷ [];
+  number = 1;
+  procs = (record { number = 1; level = 0; enter = 0; exit = 12; jtab = 22; low = 0; params = 2; vars = 1 }) ∷ [];
+}
+
+unfoldable pub is_step : Outcome → Bool
+is_step (Leads_to d) = true
+is_step (Stops e) = false
+is_step Waiting = false
+is_step Stuck = false
+
+-- n steps exist
+unfoldable pub all_go : Parts → List ℕ → ℕ → Bool
+all_go p x zero = true
+all_go p x (suc n) = all_go p x n && is_step (outcome p x (after_steps p x n))
+
+goes_by : (p : Parts) (x : List ℕ) (c : Configuration) (o : Outcome) → is_step o ≡ true → outcome p x c ≡ o
+    → outcome p x c ≡ Leads_to (led c o)
+unfolding is_step
+goes_by p x c (Leads_to d) h e = e
+goes_by p x c (Stops s) h e = absurd cc
+goes_by p x c Waiting h e = absurd cc
+goes_by p x c Stuck h e = absurd cc
+
+pub leads_by : (p : Parts) (x : List ℕ) (n : ℕ) → all_go p x n ≡ true → LeadsIn p x n (after_steps p x n)
+unfolding all_go LeadsIn after_steps
+leads_by p x zero h = refl
+leads_by p x (suc n) h =
+    let both = and_parts (all_go p x n) (is_step (outcome p x (after_steps p x n))) h in
+    (after_steps p x n, leads_by p x n both.0, goes_by p x (after_steps p x n) (outcome p x (after_steps p x n)) both.1 refl)
+
+ten_steps : (x : List ℕ) → all_go writes_a x 10 ≡ true
+unfolding all_go is_step after_steps instr_of
+ten_steps x = refl
+
+one_byte : (x : List ℕ) → out writes_a x 10 ≡ 65 ∷ []
+unfolding out after_steps instr_of
+one_byte x = refl
+
+-- ---- its runs
+
+abbrev ten : Progress
+ten = record { program = writes_a; steps = 10; released = 0 }
+
+-- output grows with the steps
+pub record StepsLaw : Type 0 where
+  pub steps : (p : Parts) (x : List ℕ) (m n : ℕ) → m ≤ n → IsPrefix (out p x m) (out p x n)
+
+pub prefix_short : (a b : List ℕ) → IsPrefix a b → length a ≤ length b
+prefix_short a b h = rw (h.whole) (omega (arith, length-append a h.rest))
+
+ten_waits : (x : List ℕ) → unreleased_of x ten ≡ 65 ∷ []
+ten_waits x = ap (drop 0) (one_byte x)
+
+ten_replay : (x : List ℕ) → IsReplay x ten
+ten_replay x = record {
+  made = leads_by writes_a x 10 (ten_steps x);
+  released = omega arith;
+  few = rw (ten_waits x) (omega arith);
+}
+
+ten_runs : StepsLaw → (x : List ℕ) → RunsOn x 10 (no_progress writes_a) ten more.More
+ten_runs laws x = record {
+  rest = refl;
+  more = omega arith;
+  room = λ n low high.
+      let short = prefix_short (out writes_a x n) (out writes_a x 10) (laws.steps writes_a x n 10 (omega arith)) in
+      let one : length (out writes_a x 10) ≡ 1 = ap length (one_byte x) in
+      omega (arith, short, one);
+  over = refl;
+}
+
+-- ---- one node starts, runs and releases the letter
+
+-- the events of one node: it starts, runs and releases a byte
+abbrev pub shows : ℕ → List Event
+shows i =
+    (record { act = act.Start i; save = Kept }) ∷ (record { act = act.Run i 10; save = Kept })
+    ∷ (record { act = act.Release i; save = Kept }) ∷ []
+
+-- a node that was never started
+abbrev first : Member
+first = record { kept = empty_record; console = []; node = None }
+
+-- a world that runs the program, in which nothing was sent or typed
+abbrev world : Group → List Member → World
+world group members = record { program = writes_a; group = group; members = members; sent = []; typed = [] }
+
+module _ (group : Group) (i : ℕ) where
+  abbrev running : Progress → Running
+  running progress = record { known = (on_start (record { node = i; group = group }) empty_record).node; progress = progress }
+
+  -- the node after its start, after its run, and after its release
+  abbrev up : Member
+  up = member_after_call (on_start (record { node = i; group = group }) empty_record) [] (no_progress writes_a)
+
+  abbrev ran : Member
+  ran = at_progress up (running (no_progress writes_a)) ten
+
+  abbrev shown : Member
+  shown = member_after_release ran (running ten) (slice_get (unreleased_of (input (running ten).known) ten) 0)
+
+  abbrev after_it : List Member → List Member
+  after_it members = slice_set (slice_set (slice_set members (i - 1) up) (i - 1) ran) (i - 1) shown
+
+  shown_letter : shown.console ≡ 65 ∷ []
+  shown_letter =
+      ap (λ (bytes : List ℕ). (member_after_release ran (running ten) (slice_get bytes 0)).console)
+      (ten_waits (input (running ten).known))
+
+  happens_there : StepsLaw → (members : List Member) → member_at members i ≡ Some first
+      → LeadsBy (world group members) (shows i) (world group (after_it members))
+  happens_there laws members there =
+      let once : member_at (slice_set members (i - 1) up) i ≡ Some up = changed_here members i first up there in
+      let twice : member_at (slice_set (slice_set members (i - 1) up) (i - 1) ran) i ≡ Some ran =
+      changed_here (slice_set members (i - 1) up) i up ran once in
+      let third : LeadsBy (world group (slice_set (slice_set members (i - 1) up) (i - 1) ran))
+      ((record { act = act.Release i; save = Kept }) ∷ []) (world group (after_it members)) =
+      (world group (after_it members), Applied, (ran, running ten, record { there = twice; up = refl }, refl, refl), refl) in
+      let second : LeadsBy (world group (slice_set members (i - 1) up))
+      ((record { act = act.Run i 10; save = Kept }) ∷ (record { act = act.Release i; save = Kept }) ∷ [])
+      (world group (after_it members)) = (
+        world group (slice_set (slice_set members (i - 1) up) (i - 1) ran),
+        Applied,
+        (
+          up,
+          running (no_progress writes_a),
+          ten,
+          more.More,
+          record { there = once; up = refl },
+          ten_runs laws
+              (input (running ten).known),
+          ten_replay (input (running ten).known),
+          refl,
+          refl,
+        ),
+        third,
+      ) in
+      (world group (slice_set members (i - 1) up), Applied, (first, record { there = there; down = refl }, (refl, refl)), second)
+
+-- a list of events after another
+happens_then : (w : World) (events more : List Event) (v u : World) → LeadsBy w events v → LeadsBy v more u → LeadsBy w (events ++ more) u
+happens_then w [] more v u h g = subst (λ (x : World). LeadsBy x more u) h g
+happens_then w (e ∷ events) more v u (mid, d, goes, rest) g = (mid, d, goes, happens_then mid events more v u rest g)
+
+-- a group of three, two of which show the letter
+abbrev three : Group
+three = record { size = 3; session = 0 }
+
+abbrev both_shown : World
+both_shown = world three (after_it three 2 (after_it three 1 (first ∷ first ∷ first ∷ [])))
+
+pub bytes_are_possible : StepsLaw → (p : Parts) × (group : Group) × (events : List Event) × (w : World) × IsSize group.size × IsGroup group
+    × LeadsBy (new_world p group) events w × (((world_state w).seats 1).console ≡ 65 ∷ []) × (((world_state w).seats 2).console ≡ 65 ∷ [])
+bytes_are_possible laws = (
+  writes_a,
+  three,
+  shows 1 ++ shows 2,
+  both_shown,
+  record { odd = refl; few = omega arith },
+  omega arith,
+  happens_then (new_world writes_a three) (shows 1) (shows 2) (world three (after_it three 1 (first ∷ first ∷ first ∷ []))) both_shown
+      (happens_there three 1 laws (first ∷ first ∷ first ∷ []) refl)
+      (happens_there three 2 laws (after_it three 1 (first ∷ first ∷ first ∷ [])) refl),
+  shown_letter three 1,
+  shown_letter three 2,
+)

@@ -1,0 +1,116 @@
+-- What a byte that a node releases leaves of its console.
+use Rattle.std.proofs.Common.{◌≡◌, ◌≢◌, ◌∙◌, ℕ, zero, suc, ◌+◌, ◌<◌, ◌≤◌, ◌⊎◌, List, [], ◌∷◌, ◌++◌, length, drop, slice_get, Some, inl, inr, refl, sym, ap, subst, append_assoc, arith}
+use Rattle.std.proofs.lemmas.Bool.{cases_eq, eq-eqb, ne_eqb, lt-ltb}
+use Rattle.std.proofs.lemmas.List.{length_push}
+use Rattle.std.proofs.lemmas.Option.{slice_get_within}
+use Rattle.pcode_machine.specs.Prefixes.{AreComparable, IsPrefix}
+use Rattle.group_node.specs.declared.console.Offer.TheVariants.{Fresh, Gap, Repeat}
+use Rattle.group_node.specs.Console.{offer_answer, offered}
+
+-- ---- elements of lists that begin others
+
+-- the first of the bytes from `k` on
+pub first_dropped : (k : ℕ) (bytes : List ℕ) → slice_get (drop k bytes) 0 ≡ slice_get bytes k
+first_dropped zero bytes = refl
+first_dropped (suc k) [] = refl
+first_dropped (suc k) (x ∷ xs) = first_dropped k xs
+
+-- the element after a prefix is the first of the rest
+first_of_rest : (a rest : List ℕ) (b : ℕ) → slice_get (a ++ rest) (length a) ≡ Some b → (more : List ℕ) × (rest ≡ b ∷ more)
+first_of_rest [] [] b e = absurd cc
+first_of_rest [] (x ∷ xs) b e = (xs, cc)
+first_of_rest (x ∷ xs) rest b e = first_of_rest xs rest b e
+
+-- a prefix with the next element is a prefix
+push_prefix : (a all : List ℕ) (b : ℕ) → IsPrefix a all → slice_get all (length a) ≡ Some b → IsPrefix (a ++ b ∷ []) all
+push_prefix a all b h e =
+    let next = first_of_rest a h.rest b (ap (λ (l : List ℕ). slice_get l (length a)) (sym h.whole) ∙ e) in
+    record { rest = next.0; whole = h.whole ∙ ap (λ (l : List ℕ). a ++ l) next.1 ∙ sym (append_assoc a (b ∷ []) next.0) }
+
+some_at : (a : List ℕ) (k : ℕ) → k < length a → (b : ℕ) × (slice_get a k ≡ Some b)
+some_at [] k low = absurd (omega arith)
+some_at (x ∷ xs) zero low = (x, refl)
+some_at (x ∷ xs) (suc k) low = some_at xs k (omega arith)
+
+front_get : (a rest : List ℕ) (k b : ℕ) → slice_get a k ≡ Some b → slice_get (a ++ rest) k ≡ Some b
+front_get [] rest k b e = absurd cc
+front_get (x ∷ xs) rest zero b e = e
+front_get (x ∷ xs) rest (suc k) b e = front_get xs rest k b e
+
+prefix_get : (a all : List ℕ) (k b : ℕ) → IsPrefix a all → slice_get a k ≡ Some b → slice_get all k ≡ Some b
+prefix_get a all k b h e = ap (λ (l : List ℕ). slice_get l k) h.whole ∙ front_get a h.rest k b e
+
+-- an element that both of two comparable lists have is the same
+compare_get : (a b : List ℕ) (k x y : ℕ) → AreComparable a b → slice_get a k ≡ Some x → slice_get b k ≡ Some y → x ≡ y
+compare_get a b k x y (inl h) e f = let there = prefix_get a b k x h e in cc
+compare_get a b k x y (inr h) e f = let there = prefix_get b a k y h f in cc
+
+-- ---- the offer
+
+-- of comparable lists the shorter begins the longer
+pub record ShorterLaw : Type 0 where
+  pub shorter : (a b : List ℕ) → AreComparable a b → length a ≤ length b → IsPrefix a b
+
+-- Byte `k` of some output is offered to a console that is comparable with the output and has shown at least `k` bytes.
+pub record IsOffer (console all : List ℕ) (k b : ℕ) : Type 0 where
+  pub compare : AreComparable console all
+  pub shown : k ≤ length console
+  pub byte : slice_get all k ≡ Some b
+
+module _ (laws : ShorterLaw) (console all : List ℕ) (k b : ℕ) (h : IsOffer console all k b) where
+  -- the console with the byte begins that output
+  fresh_prefix : k ≡ length console → IsPrefix (console ++ b ∷ []) all
+  fresh_prefix e =
+      push_prefix console all b
+      (laws.shorter console all h.compare (omega (arith, slice_get_within all k b h.byte, e)))
+      (subst (λ (n : ℕ). slice_get all n ≡ Some b) e h.byte)
+
+  -- if the console shows more than `k` bytes, byte `k` is one of them
+  same_byte : k < length console → slice_get console k ≡ Some b
+  same_byte low =
+      let there = some_at console k low in
+      there.1 ∙ ap Some (compare_get console all k there.0 b h.compare there.1 h.byte)
+
+  -- the answer if the byte comes next, and if it does not
+  answer_next : k ≡ length console → offer_answer console k ≡ Fresh
+  answer_next e = rw (eq-eqb k (length console) e) refl
+
+  answer_again : k ≢ length console → offer_answer console k ≡ Repeat
+  answer_again ne = rw (ne_eqb k (length console) ne, lt-ltb k (length console) (omega (arith, h.shown))) refl
+
+  -- it never comes too early
+  pub no_gap : offer_answer console k ≢ Gap
+  no_gap gap = elim (cases_eq k (length console)) [
+    | inl e ↦ fresh_is_no_gap (sym (answer_next e) ∙ gap)
+    | inr ne ↦ repeat_is_no_gap (sym (answer_again ne) ∙ gap)
+  ]
+    where
+      fresh_is_no_gap : Fresh ≡ Gap → ⊥
+      fresh_is_no_gap e = absurd cc
+
+      repeat_is_no_gap : Repeat ≡ Gap → ⊥
+      repeat_is_no_gap e = absurd cc
+
+  -- a byte that comes again is there
+  pub repeat_is_same : offer_answer console k ≡ Repeat → slice_get console k ≡ Some b
+  repeat_is_same again = elim (cases_eq k (length console)) [
+    | inl e ↦ fresh_is_no_repeat (sym (answer_next e) ∙ again)
+    | inr ne ↦ same_byte (omega (arith, h.shown))
+  ]
+    where
+      fresh_is_no_repeat : Fresh ≡ Repeat → slice_get console k ≡ Some b
+      fresh_is_no_repeat e = absurd cc
+
+  -- the console shows the byte after the offer
+  pub shown_then : k + 1 ≤ length (offered console k b)
+  shown_then = elim (cases_eq k (length console)) [
+    | inl e ↦ rw (eq-eqb k (length console) e) (omega (arith, length_push console b))
+    | inr ne ↦ rw (ne_eqb k (length console) ne) (omega (arith, h.shown))
+  ]
+
+  -- the console is as it was, or begins that output
+  pub same_or_prefix : (offered console k b ≡ console) ⊎ IsPrefix (offered console k b) all
+  same_or_prefix = elim (cases_eq k (length console)) [
+    | inl e ↦ inr (rw (eq-eqb k (length console) e) (fresh_prefix e))
+    | inr ne ↦ inl (rw (ne_eqb k (length console) ne) refl)
+  ]

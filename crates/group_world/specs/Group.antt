@@ -1,0 +1,124 @@
+-- A group that runs a program: its nodes, what was sent and typed, and what a call leaves of it.
+use Rattle.std.specs.Prelude.{◌≡◌, ℕ, zero, suc, ◌-◌, List, [], ◌++◌, filter_map, flat_map, replicate, slice_get, slice_set, Option, Some, None, option_map}
+use Rattle.std.specs.Result.{result_ok}
+use Rattle.pcode_file.specs.Parts.{Parts}
+use Rattle.pcode_machine.specs.Runs.{after_steps}
+use Rattle.paxos_msg.specs.declared.message.Group.{Group}
+use Rattle.paxos_msg.specs.declared.value.Value.{Value}
+use Rattle.paxos_msg.specs.Batches.{Msg, Record, Sent}
+use Rattle.paxos_msg.specs.Keys.{keys_of}
+use Rattle.paxos_msg.specs.Reading.{message_at}
+use Rattle.paxos_msg.specs.Records.{empty_record}
+use Rattle.paxos_acceptor.specs.declared.me.Me.{Me}
+use Rattle.group_node.specs.Known.{Response, waiting_keys}
+use Rattle.group_node.specs.Output.{Progress}
+use Rattle.group_node.specs.Packets.{Datagram, datagrams_of}
+use Rattle.group_node.specs.States.{input}
+use Rattle.group_node.specs.World.{Seat, Up, WorldState}
+use Rattle.group_world.specs.Member.{CallOutcome, Fell, Happened, Member, Refused, Running, member_after_fall, member_after_call}
+
+-- A program and a group that runs it: its nodes, node 1 first, and all that was sent and typed.
+-- What was sent are datagrams, and each typed key is a batch of one; the oldest are first.
+-- Source: Simple 2.1.
+-- Allows: a node that is down.
+-- Forbids: a datagram that is forgotten.
+pub record World : Type 0 where
+  pub program : Parts
+  pub group : Group
+  pub members : List Member
+  pub sent : List Datagram
+  pub typed : List Value
+
+-- The world of a program and a group in which nothing has happened: all nodes are down with empty
+-- records.
+abbrev pub new_world : Parts → Group → World
+new_world p group = record {
+  program = p;
+  group = group;
+  members = replicate group.size (record { kept = empty_record; console = []; node = None });
+  sent = [];
+  typed = [];
+}
+
+-- Node `i` of the group, by its number.
+abbrev pub me_of : World → ℕ → Me
+me_of w i = record { node = i; group = w.group }
+
+-- Node `i`, if there is one. Nodes are counted from 1.
+abbrev pub member_at : List Member → ℕ → Option Member
+member_at members zero = None
+member_at members (suc k) = slice_get members k
+
+-- Node `i` is `m`, and is up as `q`.
+pub record IsUp (w : World) (i : ℕ) (m : Member) (q : Running) : Type 0 where
+  pub there : member_at w.members i ≡ Some m
+  pub up : m.node ≡ Some q
+
+-- Node `i` is `m`, and is down.
+pub record IsDown (w : World) (i : ℕ) (m : Member) : Type 0 where
+  pub there : member_at w.members i ≡ Some m
+  pub down : m.node ≡ None
+
+-- ---- the same as a group of group_node
+
+-- A node that is up as its group sees it: its machine's configuration is that after its steps on
+-- its learned input.
+abbrev pub up_of : Running → Up
+up_of q = record {
+  learned = q.known.learner.learned;
+  configuration = after_steps q.progress.program (input q.known) q.progress.steps;
+  released = q.progress.released;
+  waiting = waiting_keys q.known;
+}
+
+-- A node as its group sees it. Where there is none, nothing was ever saved or shown.
+abbrev pub seat_of_member : Option Member → Seat
+seat_of_member None = record { kept = empty_record; console = []; up = None }
+seat_of_member (Some m) =
+    record { kept = m.kept; console = m.console; up = option_map up_of m.node }
+
+-- The message that a datagram spells, if it spells one.
+abbrev pub message_of : Group → Datagram → Option Msg
+message_of group datagram = result_ok (message_at group datagram.bytes)
+
+-- The messages that these datagrams spell.
+abbrev pub messages_in : Group → List Datagram → Sent
+messages_in group datagrams = filter_map (message_of group) datagrams
+
+-- The group that a world is.
+abbrev pub world_state : World → WorldState
+world_state w = record {
+  program = w.program;
+  size = w.group.size;
+  seats = λ i. seat_of_member (member_at w.members i);
+  sent = messages_in w.group w.sent;
+  typed = flat_map keys_of w.typed;
+}
+
+-- ---- what a call leaves
+
+-- The world in which node `i` is `m`, and all else is as in `w`.
+abbrev pub with_member : World → ℕ → Member → World
+with_member w i m = record w { members = slice_set w.members (i - 1) m }
+
+-- The world after a call of node `i` with the response `made`, at which these keys were typed.
+-- What it sends and what was typed come after all earlier.
+abbrev pub world_after_call : World → ℕ → Response → List ℕ → Progress → List Value → World
+world_after_call w i made console progress keys =
+    record (with_member w i (member_after_call made console progress)) {
+      sent = w.sent ++ datagrams_of (me_of w i) made.sends;
+      typed = w.typed ++ keys;
+    }
+
+-- The world in which node `i` is down, with the record `kept`.
+-- Forbids: a packet of a call whose save failed.
+abbrev pub world_after_fall : World → ℕ → Member → Record → World
+world_after_fall w i m kept = with_member w i (member_after_fall m kept)
+
+-- The world after a call of node `i` that ends as the outcome says; `m` is the node before it.
+-- Allows: the old record or the changed one after a failed save.
+-- Forbids: a change of another node.
+abbrev pub group_after : World → ℕ → Member → Progress → CallOutcome → World
+group_after w i m progress (Refused f) = w
+group_after w i m progress (Fell kept) = world_after_fall w i m kept
+group_after w i m progress (Happened made keys) = world_after_call w i made m.console progress keys

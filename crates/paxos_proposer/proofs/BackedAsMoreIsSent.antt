@@ -1,0 +1,53 @@
+-- What backs a proposer goes on to back it as more is sent, if that proposes nothing under its
+-- ballot.
+use Rattle.std.proofs.Common.{ℕ, ◌++◌, [], ◌∷◌, Bool, Option}
+use Rattle.std.proofs.lemmas.List.Elements.{Contains-append_left}
+use Rattle.paxos_msg.specs.declared.ballot.Ballot.{Ballot}
+use Rattle.paxos_msg.specs.Batches.{Body, Msg, Sent, Vote}
+use Rattle.paxos_msg.specs.declared.message.Body.TheVariants.{Promise, Accept}
+use Rattle.paxos_msg.specs.Messages.{IsSent, IsPromised, kept_vote_at}
+use Rattle.paxos_proposer.specs.Proposer.{Proposer, is_covered_by}
+use Rattle.paxos_proposer.specs.Backed.{HasPromises, IsProposerBacked, IsQuietUnder}
+
+-- all that was sent stays sent
+pub record Stays (sent next : Sent) : Type 0 where
+  pub stays : (i : ℕ) (body : Body) → IsSent sent i body → IsSent next i body
+
+-- what was sent is sent still after one more message
+pub stays_with : (sent : Sent) (m : Msg) → Stays sent (sent ++ m ∷ [])
+stays_with sent m = record { stays = λ i body h. Contains-append_left sent (m ∷ []) (record { sender = i; body = body }) h }
+
+module _ (sent next : Sent) (later : Stays sent next) where
+  promised_stays : (i : ℕ) (b : Ballot) (s : ℕ) (reported : Option Vote) → IsPromised sent i b s reported → IsPromised next i b s reported
+  promised_stays i b s reported h =
+      record {
+        first = h.first;
+        upto = h.upto;
+        votes = h.votes;
+        is_sent = later.stays i (Promise b h.first h.upto h.votes) h.is_sent;
+        from_first = h.from_first;
+        below_upto =
+            h.below_upto;
+        reports = h.reports;
+      }
+
+  pub heard_stays : (b : Ballot) (s : ℕ) (members : ℕ → Bool) (kept : Option Vote) → HasPromises sent b s members kept
+      → HasPromises next b s members kept
+  heard_stays b s members kept h =
+      record {
+        reported = h.reported;
+        promised = λ i member. promised_stays i b s (h.reported i) (h.promised i member);
+        is_best = h.is_best;
+      }
+
+pub backed_later : (sent next : Sent) (me : ℕ) (p : Proposer) → IsQuietUnder p.ballot sent next
+    → IsProposerBacked sent me p → IsProposerBacked next me p
+backed_later sent next me p later h =
+    let stays : Stays sent next = record { stays = later.stays } in
+    record {
+      own = h.own;
+      nodes = h.nodes;
+      heard = λ s above. heard_stays sent next stays p.ballot s (is_covered_by p.coverages s) (kept_vote_at p.kept s) (h.heard s above);
+      sent_all = λ s v e. later.stays me (Accept p.ballot s v) (h.sent_all s v e);
+      only = λ s v said. h.only s v (later.quiet s v said);
+    }
