@@ -1,0 +1,124 @@
+"""docs/DEFINITIONS.md, which is written from the comments of the definitions."""
+import os
+import re
+
+from . import tree
+from .tree import fault, text_of
+
+PATH = "docs/DEFINITIONS.md"
+HEAD = """# Definitions
+
+The definitions that public contracts cite, by crate and file. `docs/check --write` writes this page from the comments in
+`crates/*/specs`, which also say what a definition allows and forbids. "Simple" is Lamport, "Paxos Made Simple" (2001);
+"manual" is the UCSD Pascal II.0 manual.
+"""
+WORDS = r"(?:(?:abbrev|unfoldable|opaque|pub|record|data|mixfix|infix[lr]?) +)+"
+BEGINS = re.compile(rf"^({WORDS})(?:\d+ +)?([^\s:(){{}}]+)")
+LABELS = ("Source:", "Allows:", "Forbids:")
+
+
+class Definition:
+    def __init__(self, crate, path, name, comment, body):
+        self.crate, self.path, self.name, self.comment, self.body = crate, path, name, comment, body
+
+    def sentence(self):
+        """The first sentence of the comment, without what begins with a label."""
+        text = " ".join(it for it in self.comment if not it.startswith(LABELS))
+        text = re.split(r" (?:Source|Allows|Forbids): ", text)[0]
+        it = re.match(r"(.*?[.?!])(?: (?=[A-Z`(])|$)", text)
+        return it[1] if it else ""
+
+    def source(self):
+        text = " ".join(self.comment)
+        it = re.search(r"\bSource: (.*?)(?= Allows: | Forbids: |$)", text)
+        return it[1].rstrip(".") if it else ""
+
+
+def definitions_of(crate):
+    for path in tree.files_below(f"crates/{crate}/specs", ".antt"):
+        lines = text_of(path).split("\n")
+        for i, line in enumerate(lines):
+            begins = BEGINS.match(line)
+            if not begins or "pub" not in begins[1].split() or begins[2] in ("mod", "use"):
+                continue
+            first = i
+            while first > 0 and lines[first - 1].startswith("--"):
+                first -= 1
+            comment = [it.lstrip("- ").rstrip() for it in lines[first:i]]
+            end = next((j for j in range(i + 1, len(lines)) if BEGINS.match(lines[j])), len(lines))
+            yield Definition(crate, path, begins[2], comment, "\n".join(lines[i:end]))
+
+
+def imports_of(text):
+    """The definitions of the repository that a source imports: the name here, and the module with the name there."""
+    found = {}
+    own = set(tree.crates())
+    for module, names in re.findall(r"use Rattle\.(\w+\.specs\.(?!declared)[\w.]+)\.\{([^}]*)\}", text):
+        if module.split(".")[0] in own:
+            for name in filter(None, (it.strip() for it in names.split(","))):
+                there, _, here = name.partition(" as ")
+                found[here.strip() or there.strip()] = (module, there.strip())
+    return found
+
+
+def words_in(text):
+    return set(re.findall(r"(?<![.\w'-])[A-Za-z_◌][\w'-]*", text))
+
+
+def cited(functions):
+    """The definitions that the clauses of public functions name, each with a call that names it."""
+    found = {}
+    for function in functions:
+        imports = imports_of(text_of(function.path))
+        for _, clause, _ in function.clauses:
+            for word in words_in(clause) & imports.keys():
+                found.setdefault(imports[word][1], f"{function.crate}::{function.name}")
+    return found
+
+
+def listed(functions):
+    """The public definitions that public clauses cite, and the data whose cases they cite."""
+    by_name, homes = {}, {}
+    for crate in tree.crates():
+        for it in definitions_of(crate):
+            by_name.setdefault(it.name, []).append(it)
+            for case in re.findall(r"^ +(?:pub )?([A-Z]\w*) :", it.body, re.M) if " data " in f" {it.body[:20]} " else ():
+                homes.setdefault(case, []).append(it)
+    found = []
+    for name, place in sorted(cited(functions).items()):
+        homes_of_name = by_name.get(name) or homes.get(name)
+        if homes_of_name:
+            found.extend(it for it in homes_of_name if it not in found)
+        else:
+            fault(f"{place} cites {name}, which is no public definition of specs")
+    return found
+
+
+def page(definitions):
+    parts = [HEAD]
+    for crate in tree.crates():
+        of_crate = [it for it in definitions if it.crate == crate]
+        if not of_crate:
+            continue
+        parts.append(f"\n## {crate}\n")
+        for path in sorted({it.path for it in of_crate}):
+            lines = text_of(path).split("\n")
+            order = {it.name: lines.index(it.body.split("\n")[0]) for it in of_crate if it.path == path}
+            parts.append(f"\n[{os.path.basename(path)}](../{path})\n\n| Name | What it is | Source |\n|---|---|---|\n")
+            for it in sorted((it for it in of_crate if it.path == path), key=lambda it: order[it.name]):
+                sentence = it.sentence().replace("|", "\\|")
+                parts.append(f"| `{it.name}` | {sentence} | {it.source()} |\n")
+    return "".join(parts)
+
+
+def check(functions, is_write):
+    definitions = listed(functions)
+    for it in definitions:
+        if not it.sentence():
+            fault(f"{it.path}: the comment of {it.name} has no first sentence that ends with a full stop")
+    text = page(definitions)
+    if is_write:
+        with open(f"{tree.TOP}/{PATH}", "w", encoding="utf-8") as file:
+            file.write(text)
+    elif text_of(PATH) != text:
+        fault(f"{PATH}: is not what docs/check --write writes")

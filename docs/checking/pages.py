@@ -1,0 +1,62 @@
+"""Rules of the pages and of the layout: links, LIBRARY's Rust, names of definitions, widths of lines."""
+import os
+import re
+
+from . import tree
+from .tree import fault, text_of
+
+
+def check_links(path):
+    for text, target in re.findall(r"\[([^\]]*)\]\(([^)\s]+)\)", text_of(path)):
+        if "://" in target or target.startswith("#"):
+            continue
+        file = os.path.normpath(os.path.join(os.path.dirname(path), target.split("#")[0]))
+        if not os.path.exists(f"{tree.TOP}/{file}"):
+            fault(f"{path}: the link to {target} leads nowhere")
+        elif re.fullmatch(r"`\w+`", text) and file.endswith(".case"):
+            if os.path.basename(file) != f"{text.strip('`')}.case":
+                fault(f"{path}: {text} is not the name of {file}")
+        elif re.fullmatch(r"`\w+`", text) and file.endswith((".rt", ".antt")):
+            if not re.search(rf"(?<![\w-]){text.strip('`')}(?![\w-])", text_of(file)):
+                fault(f"{path}: there is no {text} in {file}")
+
+
+# The tests that compile what docs/LIBRARY.md shows, in its order.
+SHOWN = ["crates/paxos_tests/src/library.rt", "crates/group_tests/src/node/by_hand.rt"]
+
+
+def check_rust_shown():
+    marks = r"^// docs/LIBRARY\.md shows the lines from here on:\n(.*?)^// docs/LIBRARY\.md shows the lines up to here\.$"
+    tested = [re.findall(marks, text_of(path), re.M | re.S) for path in SHOWN]
+    shown = re.findall(r"^```rust\n(.*?)^```$", text_of("docs/LIBRARY.md"), re.M | re.S)
+    for path, found in zip(SHOWN, tested):
+        if len(found) != 1 or found[0].strip() not in [it.strip() for it in shown]:
+            fault(f"docs/LIBRARY.md: its Rust is not what is between the marks of {path}")
+    if len(shown) != len(SHOWN):
+        fault(f"docs/LIBRARY.md: shows Rust that no test compiles")
+
+
+# The module that has names of another on purpose.
+BATCHES = "crates/paxos_msg/specs/Batches.antt"
+
+
+def check_names():
+    homes = {}
+    for crate in tree.crates():
+        for path in tree.files_below(f"crates/{crate}/specs", ".antt"):
+            if path != BATCHES:
+                for name in re.findall(r"^(?:(?:abbrev|unfoldable|opaque|pub|record|data) +)+([A-Za-z_][\w'-]*)", text_of(path), re.M):
+                    homes.setdefault(name, set()).add(path)
+    for name, paths in sorted(homes.items()):
+        if len(paths) > 1 and name not in ("mod", "use"):
+            fault(f"{' and '.join(sorted(paths))}: both define {name}")
+
+
+def check_widths():
+    spared = re.compile(r"\s*(?:(?:pub |ghost )*use |#|\")")
+    for folder, most in (("src", 100), ("specs", 100), ("proofs", 140)):
+        for crate in tree.all_crates():
+            for path in tree.files_below(f"crates/{crate}/{folder}", ("rt", "antt")):
+                for number, line in enumerate(text_of(path).split("\n"), 1):
+                    if len(line) > most and not spared.match(line):
+                        fault(f"{path}:{number}: has {len(line)} columns, more than {most}")

@@ -1,0 +1,97 @@
+"""docs/PROMISES.md: rows that a person writes, and columns of tests and edits that are written here."""
+import re
+
+from . import tree, turns
+from .tree import cells_of, fault, text_of
+
+PATH = "docs/PROMISES.md"
+HEADER = "| Promise | Call (clauses) | Shown by | Turned by |"
+NOT_TURNED = "## Not turned"
+
+
+class Row:
+    def __init__(self, number, cells, crate, keys):
+        self.number, self.cells, self.crate, self.keys = number, cells, crate, keys
+        self.tests, self.edits = [], []
+
+    def text(self):
+        names = [", ".join(f"`{it}`" for it in sorted(set(names))) for names in (self.tests, self.edits)]
+        return f"| {self.cells[0]} | {self.cells[1]} | {' | '.join(names)} |"
+
+
+def calls_in(cell):
+    """A cell's calls as plain text: links are dropped, and so are backquotes."""
+    return re.sub(r"\[([^\]]*)\]\([^)]*\)", r"\1", cell).replace("`", "")
+
+
+def rows_of(functions):
+    """The rows of promises, and what the section of clauses that are not turned lists."""
+    rows, spared, crate = [], set(), None
+    is_promises = is_spared = False
+    for number, line in enumerate(text_of(PATH).split("\n")):
+        if line.startswith("## "):
+            crate = line[3:].strip("` ") if line[3:].strip("` ") in tree.all_crates() else crate
+            is_spared = line.startswith(NOT_TURNED)
+        if line == HEADER:
+            is_promises = True
+            continue
+        cells = cells_of(line)
+        if not cells:
+            is_promises = False
+            if line.startswith("- ") and is_spared:
+                spared |= turns.keys_of(functions, crate, calls_in(line[2:].split(": ")[0]), f"{PATH}:{number + 1}")
+            continue
+        if is_promises and set(cells[0]) != {"-"}:
+            keys = turns.keys_of(functions, crate, calls_in(cells[1]), f"{PATH}:{number + 1}") if cells[1] else set()
+            rows.append(Row(number, cells, crate, keys))
+    return rows, spared
+
+
+def place(named, rows, column):
+    """Puts an edit or a test into the rows of what it names; the first rows that name the most of it."""
+    most = max((len(row.keys & named.keys) for row in rows), default=0)
+    if most == 0:
+        if named.keys:
+            names = ", ".join(sorted({f"{it.title()} ({clause})" for it, clause in named.keys}))
+            fault(f"{PATH}: no row names what {named.path} ({named.name}) is about: {names}")
+        return
+    wanted = set(named.keys)
+    for row in sorted(rows, key=lambda row: -len(row.keys & named.keys)):
+        if row.keys & wanted:
+            getattr(row, column).append(named.name)
+            wanted -= row.keys
+
+
+def check_turned(functions, named, spared):
+    """Refuses a clause of a public call that no edit, test or law names, and that is not listed as not turned."""
+    covered = set().union(spared, *(it.keys for it in named))
+    missing = {}
+    for it in functions:
+        for clause in it.promises() if it.is_public and not it.is_law else ():
+            if (it, clause) not in covered:
+                missing.setdefault(it.crate, {}).setdefault(it.title(), []).append(clause)
+    for crate, calls in missing.items():
+        for call, clauses in calls.items():
+            fault(f"crates/{crate}: no edit or test names {call} ({', '.join(clauses)}), and {PATH} does not list it as not turned")
+
+
+def check(functions, is_write):
+    rows, spared = rows_of(functions)
+    edits = [it for crate in tree.all_crates() for it in turns.edits_of(functions, crate)]
+    tests = turns.tests_of(functions)
+    for it in edits:
+        place(it, rows, "edits")
+    for it in tests:
+        place(it, rows, "tests")
+    check_turned(functions, edits + tests, spared)
+    lines = text_of(PATH).split("\n")
+    for row in rows:
+        lines[row.number] = row.text()
+        if len(row.cells[0]) + len(row.cells[1]) > 400:
+            fault(f"{PATH}:{row.number + 1}: the row has more than 400 characters")
+    text = "\n".join(lines)
+    if is_write:
+        with open(f"{tree.TOP}/{PATH}", "w", encoding="utf-8") as file:
+            file.write(text)
+    elif text != text_of(PATH):
+        fault(f"{PATH}: its columns of tests and edits are not what docs/check --write writes")

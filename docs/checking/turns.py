@@ -1,0 +1,90 @@
+"""What edits turn and tests show: the lines `Turns CALL (CLAUSE): ..` and `Shows CALL (CLAUSE): ..`."""
+import os
+import re
+
+from . import tree
+from .tree import fault, text_of
+
+CALL = r"`?[\w:]+`?(?: \([\w, `]*\))?"
+LINE = re.compile(rf"(Turns|Shows) ({CALL}(?:, {CALL})*): (.+)", re.S)
+UNSAID = "Shows what no clause says: "
+
+
+class Named:
+    """An edit or a test, with the promises that it names: sets of a function and the name of a clause."""
+
+    def __init__(self, name, path, keys):
+        self.name, self.path, self.keys = name, path, keys
+
+
+def resolve(functions, crate, call):
+    """The functions that a call names: those of `crate` if there are some, and the public ones if there are some."""
+    *qualifiers, name = call.split("::")
+    found = [it for it in functions if it.name == name and it.is_called(qualifiers)]
+    found = [it for it in found if it.crate == crate] or found
+    return [it for it in found if it.is_public] or found
+
+
+def keys_of(functions, crate, text, place):
+    """The promises that a text `CALL (CLAUSE, ..), ..` names."""
+    keys = set()
+    for call, clauses in re.findall(r"`?([\w:]+)`?(?: \(([\w, `]*)\))?(?:, |$)", text):
+        found = resolve(functions, crate, call)
+        if not found:
+            fault(f"{place}: there is no call {call}")
+            continue
+        wanted = re.findall(r"\w+", clauses)
+        for it in found:
+            keys |= {(it, clause) for clause in wanted or it.promises() or [""] if not wanted or clause in it.promises()}
+        for clause in wanted:
+            if not any(clause in it.promises() for it in found):
+                fault(f"{place}: {call} has no clause {clause}")
+    return keys
+
+
+def edits_of(functions, crate):
+    found, old = [], []
+    for path in tree.files_below(f"crates/{crate}/must-fail", ".edit"):
+        first = text_of(path).split("\n")[0]
+        it = LINE.fullmatch(first)
+        if not it or it[1] != "Turns":
+            old.append(path)
+            continue
+        if " Here " not in it[3]:
+            fault(f"{path}: its first line does not say what happens `Here`")
+        found.append(Named(os.path.basename(path)[: -len(".edit")], path, keys_of(functions, crate, it[2], path)))
+    if old:
+        fault(f"crates/{crate}/must-fail: {len(old)} edits do not begin with `Turns CALL (CLAUSE): `, as {old[0]}")
+    return found
+
+
+def comments_of_tests(crate):
+    """The comment above each test of a crate, as (name, path, text)."""
+    for path in tree.files_below(f"crates/{crate}/src", ".rt"):
+        block = r"((?:^[ \t]*///?[^\n]*\n)*^[ \t]*#\[test\]\n(?:^[ \t]*(?:#|///?)[^\n]*\n)*)[ \t]*(?:pub )?fn (\w+)"
+        for comment, name in re.findall(block, text_of(path), re.M):
+            lines = [re.sub(r"^[ \t]*///? ?", "", it) for it in comment.split("\n") if "//" in it]
+            yield name, path, " ".join(it for it in lines if it).strip()
+
+
+def comments_of_cases():
+    for path in tree.files_below("tests/cases", ".case"):
+        lines = [re.sub(r"^#+ ?", "", it) for it in text_of(path).split("\n") if it.startswith("#")]
+        yield os.path.basename(path)[: -len(".case")], path, " ".join(lines).strip()
+
+
+def tests_of(functions):
+    found, old = [], {}
+    comments = [it for crate in tree.all_crates() for it in comments_of_tests(crate)]
+    for name, path, text in comments + list(comments_of_cases()):
+        crate = path.split("/")[1] if path.startswith("crates/") else "tests/cases"
+        if text.startswith(UNSAID):
+            continue
+        it = LINE.match(text)
+        if not it or it[1] != "Shows":
+            old.setdefault(crate, []).append(f"{path} ({name})")
+            continue
+        found.append(Named(name, path, keys_of(functions, None, it[2], f"{path} ({name})")))
+    for crate, places in sorted(old.items()):
+        fault(f"{crate}: {len(places)} tests do not begin with `Shows CALL (CLAUSE): `, as {places[0]}")
+    return found
