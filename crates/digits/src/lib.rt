@@ -7,8 +7,7 @@
 ghost use Rattle.std.specs.Prelude.{◌≡◌, ◌<◌, ◌^◌};
 ghost use Rattle.std.specs.Char.{digit_value};
 ghost use Rattle.std.specs.Option.{SomeIff};
-ghost use Rattle.digits.specs.Decimal.{decimal_of};
-ghost use Rattle.digits.specs.Hex.{hex_byte_of};
+ghost use Rattle.digits.specs.Digits.{decimal_of, hex_byte_of};
 
 /// Returns the number of decimal digits alone, which may begin with zeros. Returns `None` if `text`
 /// is empty or has a sign or another character, and if the number is above `u64::MAX`.

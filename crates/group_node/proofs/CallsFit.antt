@@ -20,9 +20,8 @@ use Rattle.paxos_acceptor.specs.declared.me.Me.{Me}
 use Rattle.paxos_acceptor.specs.Answers.{after, prepare_of}
 use Rattle.paxos_acceptor.specs.Records.{IsRecord}
 use Rattle.paxos_proposer.specs.Proposer.{new_proposer, coverage_of, is_covered, next_of, proposed_at, Proposer}
-use Rattle.paxos_proposer.specs.Ranges.{IsProposerInRange as IsProposerInRange}
-use Rattle.paxos_learner.specs.Growth.{AreInWindow, IsLearnerInRange as IsLearnerInRange}
-use Rattle.paxos_learner.specs.Learner.{front_of, new_learner}
+use Rattle.paxos_proposer.specs.States.{IsProposerInRange as IsProposerInRange}
+use Rattle.paxos_learner.specs.Learner.{AreInWindow, IsLearnerInRange as IsLearnerInRange, front_of, new_learner}
 use Rattle.group_node.specs.Known.{on_typed, front, next_serial, Known, on_start}
 use Rattle.group_node.specs.ProposerRows.{on_campaign, next_ballot}
 use Rattle.group_node.specs.Tick.{accept_again, accepts_again, asks, asks_again, on_tick, batch_of, prepares_again, submits, ticked}

@@ -8,7 +8,7 @@ use Rattle.paxos_msg.specs.Fits.{IsBallot, IsPlace}
 use Rattle.paxos_acceptor.specs.Answers.{after, prepare_of}
 use Rattle.paxos_acceptor.specs.Records.{IsRecord}
 use Rattle.paxos_proposer.specs.Proposer.{new_proposer, greatest_round}
-use Rattle.paxos_proposer.specs.Ranges.{IsProposerInRange as IsProposerInRange}
+use Rattle.paxos_proposer.specs.States.{IsProposerInRange as IsProposerInRange}
 use Rattle.group_node.specs.Known.{front, Known}
 use Rattle.group_node.specs.ProposerRows.{beginning}
 use Rattle.group_node.specs.Ranges.{IsInRange}

@@ -2,7 +2,7 @@
 -- chosen values begins.
 use Rattle.std.proofs.Common.{◌≡◌, ℕ, ◌≤◌, List, ◌++◌, length, inl, inr, sym, ap, subst, ◌∙◌}
 use Rattle.std.proofs.lemmas.Bool.{cases_lt}
-use Rattle.pcode_machine.specs.Prefixes.{IsPrefix}
+use Rattle.pcode_machine.specs.Runs.{IsPrefix}
 use Rattle.paxos_msg.specs.declared.value.Value.{Value}
 use Rattle.paxos_msg.specs.Batches.{Sent}
 use Rattle.paxos_msg.specs.Chosen.{IsChosen}

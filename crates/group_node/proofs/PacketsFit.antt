@@ -10,8 +10,7 @@ use Rattle.paxos_msg.specs.declared.message.Body.TheVariants.{Ask, Submit, Tell}
 use Rattle.paxos_msg.specs.Fits.{IsBody, IsValue}
 use Rattle.paxos_msg.specs.Grammar.{AreBytes}
 use Rattle.paxos_msg.specs.Keys.{AreOwnKeys, batches, keys_from}
-use Rattle.paxos_learner.specs.Growth.{AreInWindow}
-use Rattle.paxos_learner.specs.Learner.{front_of}
+use Rattle.paxos_learner.specs.Learner.{AreInWindow, front_of}
 use Rattle.group_node.specs.Known.{front, Known, own_batch}
 use Rattle.group_node.specs.Tick.{batch_of}
 use Rattle.group_node.specs.Ranges.{IsInRange}

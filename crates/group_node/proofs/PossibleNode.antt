@@ -14,10 +14,9 @@ use Rattle.paxos_msg.specs.Keys.{Key}
 use Rattle.paxos_msg.specs.Messages.{IsSaid, IsSent}
 use Rattle.paxos_proposer.specs.Backed.{IsProposerBacked as IsProposerBacked, IsQuietUnder}
 use Rattle.paxos_proposer.specs.Proposer.{proposer_after_part, new_proposer, is_covered, next_of, next_value, Proposer, proposing}
-use Rattle.paxos_proposer.specs.Ranges.{IsProposerInRange as IsProposerInRange}
+use Rattle.paxos_proposer.specs.States.{IsProposerInRange as IsProposerInRange}
 use Rattle.paxos_learner.specs.Backed.{IsLearnerBacked as IsLearnerBacked}
-use Rattle.paxos_learner.specs.Growth.{AreInWindow, IsLearnerInRange as IsLearnerInRange}
-use Rattle.paxos_learner.specs.Learner.{Hearing, Learner, new_learner, heard_accepted}
+use Rattle.paxos_learner.specs.Learner.{AreInWindow, IsLearnerInRange as IsLearnerInRange, Hearing, Learner, new_learner, heard_accepted}
 use Rattle.paxos_learner.specs.Tallies.{Tally, begun_tally as heard_of}
 use Rattle.paxos_learner.specs.declared.heard.Heard.TheVariants.{Counted}
 use Rattle.paxos_learner.proofs.OnePlace.{get_here}

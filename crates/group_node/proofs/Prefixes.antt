@@ -1,6 +1,6 @@
 -- Lists of which the shorter begins the longer.
 use Rattle.std.proofs.Common.{◌≡◌, ℕ, zero, suc, ◌<◌, ◌≤◌, List, [], ◌∷◌, length, slice_get, Some, refl, sym, ap, length-append, arith}
-use Rattle.pcode_machine.specs.Prefixes.{IsPrefix}
+use Rattle.pcode_machine.specs.Runs.{IsPrefix}
 
 -- a prefix is no longer than the list
 pub prefix_length : {X : Type 0} (a b : List X) → IsPrefix a b → length a ≤ length b

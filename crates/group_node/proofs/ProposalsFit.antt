@@ -9,7 +9,7 @@ use Rattle.paxos_msg.specs.Batches.{Body, Vote}
 use Rattle.paxos_msg.specs.Fits.{IsBallot, IsBody, IsValue}
 use Rattle.paxos_acceptor.specs.declared.me.Me.{Me}
 use Rattle.paxos_proposer.specs.Proposer.{proposer_after_part, asks_after, asks_on, IsPromisePart, next_of, next_value, heard_promise, proposed_at, Proposer, proposing, rises}
-use Rattle.paxos_proposer.specs.Ranges.{IsProposerInRange as IsProposerInRange}
+use Rattle.paxos_proposer.specs.States.{IsProposerInRange as IsProposerInRange}
 use Rattle.group_node.specs.ProposerRows.{leaves_room, offer_after}
 use Rattle.group_node.specs.Packets.{Packet, to_all}
 use Rattle.group_node.specs.Pump.{accepts_of, offer, Proposals, propose, pump, stop}

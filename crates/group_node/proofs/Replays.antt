@@ -8,7 +8,7 @@ use Rattle.pcode_machine.specs.Outcome.{outcome, Goes}
 use Rattle.pcode_machine.specs.Runs.{after_steps, out, LeadsIn}
 use Rattle.pcode_machine.specs.Step.{Step}
 use Rattle.paxos_msg.specs.declared.value.Value.{Value}
-use Rattle.paxos_learner.specs.Growth.{HasLearnedMore}
+use Rattle.paxos_learner.specs.Learner.{HasLearnedMore}
 use Rattle.paxos_learner.specs.Input.{learned_input}
 use Rattle.group_node.specs.declared.player.Player.{Player}
 use Rattle.group_node.specs.Output.{IsReplay, no_progress, Progress, unreleased_of}

@@ -19,9 +19,8 @@ use Rattle.paxos_acceptor.specs.Answers.{Answer, accept_of, after, prepare_of}
 use Rattle.paxos_acceptor.specs.Cases.{greater_promise}
 use Rattle.paxos_acceptor.specs.Records.{IsRecord}
 use Rattle.paxos_proposer.specs.Proposer.{proposer_after_part, asks_on, is_covered, next_of, Proposer}
-use Rattle.paxos_learner.specs.Growth.{AreInWindow, IsLearnerInRange as IsLearnerInRange}
+use Rattle.paxos_learner.specs.Learner.{AreInWindow, IsLearnerInRange as IsLearnerInRange, Learner, heard_accepted, heard_tell}
 use Rattle.paxos_learner.specs.Input.{front_values, has_key, keys_in_order}
-use Rattle.paxos_learner.specs.Learner.{Learner, heard_accepted, heard_tell}
 use Rattle.group_node.specs.declared.packet.To.{To}
 use Rattle.group_node.specs.Protocol.{without_read_keys}
 use Rattle.group_node.specs.AcceptorRows.{accept_answered_to, answering, on_accept, on_prepare, unless_passed}

@@ -2,8 +2,7 @@
 use Rattle.std.proofs.Common.{◌≡◌, ℕ, ◌+◌, ◌-◌, ◌<◌, ◌≤◌, List, length, drop, Some, None, refl, sym, ◌∙◌, ap, subst, arith}
 use Rattle.std.proofs.lemmas.List.{length-drop}
 use Rattle.pcode_file.specs.Parts.{Parts}
-use Rattle.pcode_machine.specs.Prefixes.{IsPrefix}
-use Rattle.pcode_machine.specs.Runs.{out}
+use Rattle.pcode_machine.specs.Runs.{IsPrefix, out}
 use Rattle.group_node.specs.declared.player.Player.{Player}
 use Rattle.group_node.specs.declared.player.Ran.{Ran}
 use Rattle.group_node.specs.declared.player.Ran.TheVariants as ran

@@ -6,9 +6,8 @@ use Rattle.paxos_msg.specs.Batches.{Body}
 use Rattle.paxos_acceptor.specs.declared.me.Me.{Me}
 use Rattle.paxos_acceptor.specs.Records.{IsRecord}
 use Rattle.paxos_proposer.specs.Proposer.{Proposer}
-use Rattle.paxos_proposer.specs.Ranges.{IsProposerInRange as IsProposerInRange}
-use Rattle.paxos_learner.specs.Growth.{AreInWindow, IsLearnerInRange as IsLearnerInRange}
-use Rattle.paxos_learner.specs.Learner.{Learner}
+use Rattle.paxos_proposer.specs.States.{IsProposerInRange as IsProposerInRange}
+use Rattle.paxos_learner.specs.Learner.{AreInWindow, IsLearnerInRange as IsLearnerInRange, Learner}
 use Rattle.group_node.specs.Known.{Response, Known}
 use Rattle.group_node.specs.Packets.{Packet}
 use Rattle.group_node.specs.Pump.{accepts_of, Proposals}

@@ -16,7 +16,7 @@ use Rattle.paxos_msg.specs.Records.{changed, MaySave}
 use Rattle.paxos_acceptor.specs.Answers.{after}
 use Rattle.paxos_acceptor.specs.Stores.{IsOneOf}
 use Rattle.paxos_learner.specs.Backed.{MayLearn}
-use Rattle.paxos_learner.specs.Growth.{HasLearnedMore}
+use Rattle.paxos_learner.specs.Learner.{HasLearnedMore}
 use Rattle.paxos_learner.specs.Input.{front_values, keys_in_order, learned_input}
 use Rattle.group_node.specs.Console.{offered}
 use Rattle.group_node.specs.Known.{Response, Known, waiting_keys}

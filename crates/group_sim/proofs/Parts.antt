@@ -10,7 +10,7 @@ use Rattle.std.proofs.lemmas.Grind.{flat_map-append}
 use Rattle.std.proofs.lemmas.List.{append-nil, take-append-drop, take_more}
 use Rattle.std.proofs.lemmas.List.Concat.{flat_map-cons}
 use Rattle.group_sim.specs.Groups.{console_text, hex_text, lines_below}
-use Rattle.group_sim.specs.Writing.{AppendsFront, WritesText}
+use Rattle.group_sim.specs.Texts.{AppendsFront, WritesText}
 use Rattle.group_sim.proofs.Writing.{failed, front-first, front-second}
 
 -- a text, and then these

@@ -3,7 +3,7 @@ use Rattle.std.proofs.Common.{◌≡◌, ℕ, List, [], ◌++◌, take, drop, le
 use Rattle.std.proofs.lemmas.List.{append-nil, take-append-drop, take_all}
 use Rattle.std.specs.Io.KnownBytes.{Appends, Keeps}
 use Rattle.std.proofs.KnownBytes.{Appends-nil, Appends-trans, Appends-kept}
-use Rattle.group_sim.specs.Writing.{AppendsFront, WritesText}
+use Rattle.group_sim.specs.Texts.{AppendsFront, WritesText}
 
 -- of a text all but this rest was appended
 pub record IsLeft (old new : Option (List ℕ)) (text rest : List ℕ) : Type 0 where

@@ -1,4 +1,3 @@
-pub mod Writing
 pub mod Texts
 pub mod Groups
 pub mod Moments

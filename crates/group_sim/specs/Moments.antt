@@ -24,8 +24,7 @@ use Rattle.group_sim.specs.declared.simulation.Halt.{Halt}
 use Rattle.group_sim.specs.declared.simulation.Halt.TheVariants as halt
 use Rattle.group_sim.specs.declared.simulation.Simulation.{Simulation}
 use Rattle.group_sim.specs.declared.simulation.Stopped.{Stopped}
-use Rattle.group_sim.specs.Writing.{AppendsFront}
-use Rattle.group_sim.specs.Texts.{node_at, event_text}
+use Rattle.group_sim.specs.Texts.{AppendsFront, node_at, event_text}
 use Rattle.group_sim.specs.Groups.{group_text}
 
 -- A moment of a script.

@@ -4,8 +4,7 @@ ghost use Rattle.group_sim.specs.Groups.{ballot_text, console_at, console_text, 
 ghost use Rattle.group_sim.specs.Groups.{keys_text, known_text, learned_at, learned_by, node_line};
 ghost use Rattle.group_sim.specs.Groups.{node_lines, place_line, place_lines, known_promise};
 ghost use Rattle.group_sim.specs.Groups.{promised_text, value_text};
-ghost use Rattle.group_sim.specs.Texts.{node_at};
-ghost use Rattle.group_sim.specs.Writing.{WritesText};
+ghost use Rattle.group_sim.specs.Texts.{node_at, WritesText};
 
 use crate::text::{put, put_decimal, put_hex, put_number};
 use group_world::World;

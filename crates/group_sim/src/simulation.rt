@@ -5,8 +5,7 @@ ghost use Rattle.group_node.specs.States.{IsSize};
 ghost use Rattle.group_world.specs.Event.{kept_event};
 ghost use Rattle.group_world.specs.Group.{new_world};
 ghost use Rattle.group_sim.specs.Moments.{DeliversOne, DeliversAll, HappensAt, InTurn, IsScriptDone, IsHalted, IsNoGroup, Plays, ReleasesAll, Says, Settles, Shows, halt_answer, halt_of, is_meant, moment, waiting};
-ghost use Rattle.group_sim.specs.Texts.{node_at, refusal_text, event_text};
-ghost use Rattle.group_sim.specs.Writing.{WritesText};
+ghost use Rattle.group_sim.specs.Texts.{node_at, refusal_text, event_text, WritesText};
 
 use crate::showing::write_group;
 use crate::text::{put, put_number};

@@ -2,7 +2,7 @@
 ghost use Rattle.std.specs.Prelude.{◌≡◌, ◌<◌, true, decimal};
 ghost use Rattle.std.specs.Fmt.{digit_glyph};
 ghost use Rattle.group_sim.specs.Groups.{hex_digits, hex_text, numbered};
-ghost use Rattle.group_sim.specs.Writing.{WritesText};
+ghost use Rattle.group_sim.specs.Texts.{WritesText};
 
 use machine_run::WriteFault;
 use std::io::{ErrorKind, Write};

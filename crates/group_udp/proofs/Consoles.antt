@@ -3,10 +3,9 @@ use Rattle.std.proofs.Common.{◌≡◌, ◌∙◌, ◌⊎◌, inl, inr, ℕ, �
 use Rattle.std.proofs.Math.Seq.{take-append_seam, drop-append_seam}
 use Rattle.std.proofs.lemmas.List.{drop_all, length-take-le, take-append-drop}
 use Rattle.pcode_file.specs.Parts.{Parts}
-use Rattle.pcode_machine.specs.Prefixes.{AreComparable}
-use Rattle.pcode_machine.specs.Runs.{IsOutput, out}
+use Rattle.pcode_machine.specs.Runs.{AreComparable, IsOutput, out}
 use Rattle.group_node.specs.Output.{IsReplay, Progress}
-use Rattle.group_wire.specs.Output.{released_of}
+use Rattle.group_wire.specs.Turns.{released_of}
 use Rattle.group_udp.specs.Output.{AreFirst, shown_of}
 
 -- outputs on comparable inputs are comparable

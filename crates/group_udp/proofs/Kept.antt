@@ -5,7 +5,7 @@ use Rattle.std.proofs.lemmas.List.Sums.{sum_by-append, sum_by-cons}
 use Rattle.std.proofs.Math.Seq.{take-length}
 use Rattle.std.specs.Prelude.{sum, sum_by}
 use Rattle.circular_buffer.specs.Buffer.{Buffer, buffer, keep_last}
-use Rattle.group_udp.specs.Datagrams.{IsBuffered, cut}
+use Rattle.group_udp.specs.OwnDatagrams.{IsBuffered, cut}
 
 sum-cons : (n : ℕ) (ns : List ℕ) → sum (n ∷ ns) ≡ n + sum ns
 sum-cons = sum_by-cons (λ (n : ℕ). n)

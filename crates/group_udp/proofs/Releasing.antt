@@ -7,7 +7,7 @@ use Rattle.std.specs.Io.KnownBytes.{Appends, Keeps}
 use Rattle.std.proofs.KnownBytes.{Appends-kept, Appends-nil, Appends-trans}
 use Rattle.pcode_machine.specs.Runs.{out}
 use Rattle.group_node.specs.Output.{Progress, unreleased_of}
-use Rattle.group_wire.specs.Output.{released_of}
+use Rattle.group_wire.specs.Turns.{released_of}
 use Rattle.group_udp.specs.Output.{ReleasesBytes, all_released, unseen_of}
 
 -- the first of some bytes with the number k

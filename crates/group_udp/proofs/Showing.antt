@@ -10,7 +10,7 @@ use Rattle.pcode_machine.specs.Runs.{after_steps, out, LeadsIn}
 use Rattle.group_node.specs.Output.{IsReplay, Progress, no_progress}
 use Rattle.group_node.specs.States.{NodeState, input}
 use Rattle.group_udp.specs.declared.fault.GroupFault.{GroupFault}
-use Rattle.group_wire.specs.Output.{released_by}
+use Rattle.group_wire.specs.Turns.{released_by}
 use Rattle.group_udp.specs.Output.{WritesOutput}
 use Rattle.group_udp.specs.Refusals.{IsCampaignRefusal, IsOpenRefusal, IsRoundRefusal, no_memory, write_failed}
 use Rattle.group_udp.specs.Runs.{HasRunNode, HasRunOverFile, HasShown, filed_loads, filed_state}

@@ -7,7 +7,7 @@ use Rattle.pcode_machine.specs.Runs.{out}
 use Rattle.group_node.specs.Output.{IsReplay, Progress, unreleased_of}
 use Rattle.group_node.specs.States.{Protocol, NodeState, input}
 use Rattle.group_udp.specs.declared.fault.GroupFault.{GroupFault}
-use Rattle.group_wire.specs.Output.{released_by, released_of}
+use Rattle.group_wire.specs.Turns.{released_by, released_of}
 use Rattle.group_udp.specs.Output.{ReleasesBytes, WritesOutput, all_released}
 use Rattle.group_udp.specs.Refusals.{IsRoundRefusal, write_failed}
 use Rattle.group_udp.proofs.Releasing.{released_many, released_on}

@@ -3,4 +3,4 @@ pub mod Refusals
 pub mod Rounds
 pub mod Runs
 pub mod Sources
-pub mod Datagrams
+pub mod OwnDatagrams

@@ -4,7 +4,7 @@ use Rattle.pcode_file.specs.Parts.{Parts}
 use Rattle.pcode_machine.specs.Runs.{out}
 use Rattle.group_node.specs.Output.{Progress, unreleased_of}
 use Rattle.group_node.specs.States.{NodeState}
-use Rattle.group_wire.specs.Output.{released_by, released_of}
+use Rattle.group_wire.specs.Turns.{released_by, released_of}
 
 -- The released bytes with a number from `seen` on.
 -- Allows: no byte, if all were seen.

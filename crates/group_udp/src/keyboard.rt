@@ -1,7 +1,7 @@
 //! Where the typed bytes of a node come from.
 ghost use Rattle.std.specs.Prelude.{◌≡◌, ◌≤◌, IfErr};
 ghost use Rattle.group_node.specs.declared.limits.TheConstants.{MOST_WAITING};
-ghost use Rattle.group_wire.specs.Output.{released_by};
+ghost use Rattle.group_wire.specs.Turns.{released_by};
 ghost use Rattle.group_udp.specs.Refusals.{IsRoundRefusal, IsTurnRefusal};
 ghost use Rattle.group_udp.specs.Rounds.{HasCampaignedAsAsked, HasPressedKeyboard};
 

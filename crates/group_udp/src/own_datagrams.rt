@@ -19,7 +19,7 @@ pub struct OwnDatagrams {
 
 impl Model for OwnDatagrams {
     ghost use Rattle.std.specs.Prelude.{ℕ, List};
-    ghost use Rattle.group_udp.specs.Datagrams.{IsBuffered, cut};
+    ghost use Rattle.group_udp.specs.OwnDatagrams.{IsBuffered, cut};
 
     ghost Value = { List (List ℕ) };
 

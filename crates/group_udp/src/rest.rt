@@ -1,6 +1,6 @@
 //! A node's rest between two turns, and a turn.
 ghost use Rattle.std.specs.Prelude.{◌≡◌, IfErr};
-ghost use Rattle.group_wire.specs.Output.{released_by};
+ghost use Rattle.group_wire.specs.Turns.{released_by};
 ghost use Rattle.group_udp.specs.Refusals.{IsTurnRefusal};
 ghost use Rattle.group_udp.specs.Rounds.{HasOwnTurn, HasRested, RestsUnless, is_busy_after};
 

@@ -3,7 +3,7 @@ ghost use Rattle.std.specs.Prelude.{◌≡◌, ℕ, List, [], ◌⊎◌, IfErr, 
 ghost use Rattle.std.specs.Io.KnownBytes.{Appends};
 ghost use Rattle.group_node.specs.States.{input};
 ghost use Rattle.group_node.specs.Output.{unreleased_of};
-ghost use Rattle.group_wire.specs.Output.{released_by};
+ghost use Rattle.group_wire.specs.Turns.{released_by};
 ghost use Rattle.group_udp.specs.Output.{WritesOutput};
 ghost use Rattle.group_udp.specs.Refusals.{IsCampaignRefusal, IsRoundRefusal, write_failed};
 ghost use Rattle.group_udp.specs.Rounds.{CampaignsIf, HasCampaignedAndPlayed, HasPlayed, HasRestedAndTurned, IsRound};

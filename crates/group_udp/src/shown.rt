@@ -2,7 +2,7 @@
 ghost use Rattle.std.specs.Prelude.{◌≡◌, ◌<◌, ◌++◌, ◌∷◌, ◌⊎◌, ℕ, List, [], length, IfErr, OnErr, OnOk};
 ghost use Rattle.group_node.specs.Output.{unreleased_of};
 ghost use Rattle.group_node.specs.States.{input};
-ghost use Rattle.group_wire.specs.Output.{released_of};
+ghost use Rattle.group_wire.specs.Turns.{released_of};
 ghost use Rattle.group_udp.specs.Output.{ReleasesBytes, all_released};
 ghost use Rattle.group_udp.specs.Refusals.{IsCampaignRefusal, IsRoundRefusal, IsRunRefusal, IsTurnRefusal, no_memory};
 ghost use Rattle.group_udp.specs.Rounds.{HasShownAll, HasTurnedAndShown};

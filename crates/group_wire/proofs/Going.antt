@@ -4,10 +4,9 @@ use Rattle.std.specs.Ordering.{nat_cmp}
 use Rattle.std.specs.FinMap.{FinMap}
 use Rattle.std.proofs.lemmas.List.{take-append-le}
 use Rattle.pcode_file.specs.Parts.{Parts}
-use Rattle.pcode_machine.specs.Prefixes.{IsPrefix}
-use Rattle.pcode_machine.specs.Runs.{out}
+use Rattle.pcode_machine.specs.Runs.{IsPrefix, out}
 use Rattle.paxos_msg.specs.declared.value.Value.{Value}
-use Rattle.paxos_learner.specs.Growth.{HasLearnedMore}
+use Rattle.paxos_learner.specs.Learner.{HasLearnedMore}
 use Rattle.paxos_learner.specs.Input.{learned_input}
 use Rattle.group_node.specs.Known.{Known}
 use Rattle.group_node.specs.Output.{IsReplay, Progress, RunsOn}
@@ -15,8 +14,7 @@ use Rattle.group_node.specs.States.{NodeState, input}
 use Rattle.group_node.specs.declared.fault.NodeFault.{NodeFault}
 use Rattle.group_wire.specs.declared.answers.Turned.{Turned}
 use Rattle.group_wire.specs.Arrivals.{Arrival, heard_of}
-use Rattle.group_wire.specs.Turns.{after_heard, has_ticked, ticked_if}
-use Rattle.group_wire.specs.Output.{released_by, released_of}
+use Rattle.group_wire.specs.Turns.{after_heard, has_ticked, ticked_if, released_by, released_of}
 use Rattle.group_wire.proofs.Learning.{HeardLaws, LearnsMore, heard_learns, learns_then, tick_learns}
 
 -- the laws of outputs and inputs that grow

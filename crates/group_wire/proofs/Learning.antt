@@ -6,8 +6,7 @@ use Rattle.paxos_msg.specs.declared.message.Body.TheVariants.{Prepare, Promise, 
 use Rattle.paxos_msg.specs.Batches.{Body, Msg, Vote}
 use Rattle.paxos_msg.specs.Tests.{same_ballot}
 use Rattle.paxos_proposer.specs.Proposer.{proposer_after_part, asks_on, is_covered, next_of, Proposer}
-use Rattle.paxos_learner.specs.Growth.{HasLearnedMore}
-use Rattle.paxos_learner.specs.Learner.{Learner, heard_accepted, heard_tell}
+use Rattle.paxos_learner.specs.Learner.{HasLearnedMore, Learner, heard_accepted, heard_tell}
 use Rattle.group_node.specs.Protocol.{on_message, row}
 use Rattle.group_node.specs.Known.{Response, Known, quiet}
 use Rattle.group_node.specs.ProposerRows.{is_known, offer_after, offering, prepare_from, proposing_on, submitted, taking_part}

@@ -4,4 +4,3 @@ pub mod Turns
 pub mod Presses
 pub mod Campaigns
 pub mod Starts
-pub mod Output

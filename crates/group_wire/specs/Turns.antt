@@ -1,7 +1,5 @@
 -- A turn of a node on its wire: the messages that it hears, a tick, and a run of its machine.
-use Rattle.std.specs.Prelude.{◌≡◌, ◌⊎◌, ◌↔◌, ◌≤◌, Bool, true, false, ⊤, if◌then◌else◌}
-use Rattle.std.specs.Prelude.{List, [], ◌∷◌, ◌++◌, All, length}
-use Rattle.std.specs.Prelude.{Option, Result, Ok, Err, IfErr, IfOk, IsErr, IsErrOf, OnErr, OnOk}
+use Rattle.std.specs.Prelude.{◌≡◌, ◌⊎◌, ◌↔◌, ◌≤◌, Bool, true, false, ⊤, if◌then◌else◌, List, [], ◌∷◌, ◌++◌, All, length, Option, Result, Ok, Err, IfErr, IfOk, IsErr, IsErrOf, OnErr, OnOk, ℕ, take}
 use Rattle.paxos_msg.specs.declared.message.Group.{Group}
 use Rattle.paxos_msg.specs.Batches.{Msg}
 use Rattle.paxos_acceptor.specs.Stores.{HasCause, IsOneOf, StoreState}
@@ -9,7 +7,7 @@ use Rattle.group_node.specs.declared.fault.NodeFault.{NodeFault}
 use Rattle.group_node.specs.declared.fault.NodeFault.TheVariants.{Stopped, Store}
 use Rattle.group_node.specs.Protocol.{on_message}
 use Rattle.group_node.specs.Known.{Response, Known, quiet}
-use Rattle.group_node.specs.Output.{RunsOn}
+use Rattle.group_node.specs.Output.{RunsOn, Progress}
 use Rattle.group_node.specs.Tick.{on_tick}
 use Rattle.group_node.specs.Packets.{Packet}
 use Rattle.group_node.specs.States.{NodeState, input}
@@ -19,6 +17,15 @@ use Rattle.group_wire.specs.declared.answers.Turned.{Turned}
 use Rattle.group_wire.specs.declared.limits.TheConstants.{MOST_RECEIVES, TURN_STEPS}
 use Rattle.group_wire.specs.Arrivals.{Arrival, Ending, EndsAt, Fate, GoesOn, Hears, IsFateOf, IsSpelledEnding, IsUnheard, Loses, NoMessage, NoneCame, TooLong, heard_of, lost_of, received}
 use Rattle.group_wire.specs.Traffic.{Traffic, grown, posted}
+use Rattle.pcode_machine.specs.Runs.{out}
+
+-- The bytes that were released: the first ones of the output so far on the input `x`.
+abbrev pub released_of : List ℕ → Progress → List ℕ
+released_of x q = take q.released (out q.program x q.steps)
+
+-- The bytes that a node has released, on its learned input.
+abbrev pub released_by : {S : Type 0} → NodeState S → List ℕ
+released_by n = released_of (input n.protocol.known) n.progress
 
 -- A node after it has heard these messages, one after the other.
 abbrev pub after_heard : Known → List Msg → Known

@@ -4,7 +4,7 @@ ghost use Rattle.group_node.specs.Known.{on_start};
 ghost use Rattle.group_node.specs.Output.{IsReplay, unreleased_of};
 ghost use Rattle.group_node.specs.States.{input};
 ghost use Rattle.group_wire.specs.Campaigns.{HasCampaigned};
-ghost use Rattle.group_wire.specs.Output.{released_by};
+ghost use Rattle.group_wire.specs.Turns.{released_by};
 ghost use Rattle.group_wire.specs.Starts.{HasStarted};
 
 use crate::sending::send_all;

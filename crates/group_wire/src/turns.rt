@@ -4,10 +4,8 @@ ghost use Rattle.group_node.specs.Output.{RunsOn};
 ghost use Rattle.group_node.specs.States.{input};
 ghost use Rattle.group_wire.specs.declared.limits.TheConstants.{TURN_STEPS};
 ghost use Rattle.group_wire.specs.Arrivals.{Arrival, Ending, lost_of};
-ghost use Rattle.group_wire.specs.Output.{released_by};
+ghost use Rattle.group_wire.specs.Turns.{released_by, FailsAtEnd, HasHeard, HasTurned, HearsOut, HearsSome, IsHearingRefused, TellsOfOne, ticked_if};
 ghost use Rattle.group_wire.specs.Traffic.{Traffic, grown, posted};
-ghost use Rattle.group_wire.specs.Turns.{FailsAtEnd, HasHeard, HasTurned, HearsOut, HearsSome};
-ghost use Rattle.group_wire.specs.Turns.{IsHearingRefused, TellsOfOne, ticked_if};
 
 use crate::answers::{Heard, Turned};
 use crate::host::Host;

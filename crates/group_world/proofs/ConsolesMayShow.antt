@@ -5,8 +5,7 @@ use Rattle.pcode_file.specs.Parts.{Parts}
 use Rattle.pcode_ops.specs.Decoding.{instr_of}
 use Rattle.pcode_machine.specs.Configuration.{Configuration}
 use Rattle.pcode_machine.specs.Outcome.{Goes as Leads_to, Outcome, Stops, Stuck, Waiting, outcome}
-use Rattle.pcode_machine.specs.Prefixes.{IsPrefix}
-use Rattle.pcode_machine.specs.Runs.{LeadsIn, after_steps, led, out}
+use Rattle.pcode_machine.specs.Runs.{IsPrefix, LeadsIn, after_steps, led, out}
 use Rattle.paxos_msg.specs.declared.message.Group.{Group}
 use Rattle.paxos_msg.specs.Records.{empty_record}
 use Rattle.paxos_msg.specs.Grammar.{IsGroup}

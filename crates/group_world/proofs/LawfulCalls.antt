@@ -13,7 +13,7 @@ use Rattle.paxos_msg.specs.Fits.{Fits}
 use Rattle.paxos_msg.specs.Keys.{Key, keys_of}
 use Rattle.paxos_acceptor.specs.declared.me.Me.{Me}
 use Rattle.paxos_acceptor.specs.Records.{IsRecord}
-use Rattle.paxos_learner.specs.Growth.{HasLearnedMore}
+use Rattle.paxos_learner.specs.Learner.{HasLearnedMore}
 use Rattle.paxos_learner.specs.Input.{learned_input}
 use Rattle.group_node.specs.Backs.{Backs, IsRecordBacked}
 use Rattle.group_node.specs.Protocol.{on_message}

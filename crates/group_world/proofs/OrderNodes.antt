@@ -12,9 +12,8 @@ use Rattle.paxos_msg.specs.Tests.{same_ballot}
 use Rattle.paxos_acceptor.specs.Answers.{accept_of, accepted, after, Answer, prepare_of, prepared, voted}
 use Rattle.paxos_acceptor.specs.Cases.{greater_promise, is_promised, value_under}
 use Rattle.paxos_proposer.specs.Proposer.{proposer_after_part, asks_on, is_covered, next_of, Proposer}
-use Rattle.paxos_learner.specs.Growth.{HasLearnedMore}
+use Rattle.paxos_learner.specs.Learner.{HasLearnedMore, Learner, heard_accepted, heard_tell}
 use Rattle.paxos_learner.specs.Input.{front_values, has_key, keys_in_order}
-use Rattle.paxos_learner.specs.Learner.{Learner, heard_accepted, heard_tell}
 use Rattle.paxos_msg.specs.Messages.{kept_vote_at}
 use Rattle.group_node.specs.declared.packet.To.{To}
 use Rattle.group_node.specs.Protocol.{on_message, row}

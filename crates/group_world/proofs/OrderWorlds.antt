@@ -12,9 +12,8 @@ use Rattle.paxos_msg.specs.Batches.{Grew, IsFree, Record, Sent}
 use Rattle.paxos_msg.specs.Chosen.{IsChosen}
 use Rattle.paxos_msg.specs.Fits.{IsBody}
 use Rattle.paxos_msg.specs.Keys.{Key, keys_of}
-use Rattle.paxos_learner.specs.Growth.{HasLearnedMore}
+use Rattle.paxos_learner.specs.Learner.{HasLearnedMore, front_of}
 use Rattle.paxos_learner.specs.Input.{front_values, keys_in_order, values_below}
-use Rattle.paxos_learner.specs.Learner.{front_of}
 use Rattle.group_node.specs.Inputs.{AreChosen}
 use Rattle.group_node.specs.Known.{Known, on_typed, new_key, waiting_keys}
 use Rattle.group_node.specs.Tick.{batch_of}

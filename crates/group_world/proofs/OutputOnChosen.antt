@@ -5,8 +5,7 @@ use Rattle.std.proofs.lemmas.List.{length-drop}
 use Rattle.std.specs.FinMap.{FinMap, get}
 use Rattle.std.specs.Ordering.{nat_cmp}
 use Rattle.pcode_file.specs.Parts.{Parts}
-use Rattle.pcode_machine.specs.Prefixes.{AreComparable, IsPrefix}
-use Rattle.pcode_machine.specs.Runs.{IsOutput, out}
+use Rattle.pcode_machine.specs.Runs.{AreComparable, IsPrefix, IsOutput, out}
 use Rattle.paxos_msg.specs.declared.value.Value.{Value}
 use Rattle.paxos_msg.specs.Batches.{Grew, Record, Sent}
 use Rattle.paxos_learner.specs.Input.{front_values, input_of, values_below}

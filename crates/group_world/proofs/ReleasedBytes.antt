@@ -3,7 +3,7 @@ use Rattle.std.proofs.Common.{◌≡◌, ◌≢◌, ◌∙◌, ℕ, zero, suc, �
 use Rattle.std.proofs.lemmas.Bool.{cases_eq, eq-eqb, ne_eqb, lt-ltb}
 use Rattle.std.proofs.lemmas.List.{length_push}
 use Rattle.std.proofs.lemmas.Option.{slice_get_within}
-use Rattle.pcode_machine.specs.Prefixes.{AreComparable, IsPrefix}
+use Rattle.pcode_machine.specs.Runs.{AreComparable, IsPrefix}
 use Rattle.group_node.specs.declared.console.Offer.TheVariants.{Fresh, Gap, Repeat}
 use Rattle.group_node.specs.Console.{offer_answer, offered}
 

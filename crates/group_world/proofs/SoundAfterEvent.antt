@@ -3,8 +3,7 @@ use Rattle.std.proofs.Common.{◌≡◌, ◌≢◌, ℕ, ◌<◌, ◌≤◌, Boo
 use Rattle.std.proofs.lemmas.Bool.{cases_eq, cases_lt, eq-eqb, le-ltb, lt-ltb, ne_eqb}
 use Rattle.paxos_msg.specs.declared.value.Value.{Value}
 use Rattle.paxos_msg.specs.Batches.{Change, Msg}
-use Rattle.paxos_learner.specs.Learner.{front_of}
-use Rattle.paxos_learner.specs.Growth.{AreInWindow}
+use Rattle.paxos_learner.specs.Learner.{front_of, AreInWindow}
 use Rattle.paxos_proposer.specs.Proposer.{greatest_round}
 use Rattle.std.specs.FinMap.{FinMap}
 use Rattle.std.specs.Ordering.{nat_cmp}

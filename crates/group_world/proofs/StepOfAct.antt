@@ -9,7 +9,7 @@ use Rattle.paxos_msg.specs.declared.record.Change.TheVariants as change
 use Rattle.paxos_msg.specs.Keys.{Key, keys_of}
 use Rattle.paxos_msg.specs.Records.{changed}
 use Rattle.paxos_acceptor.specs.Stores.{IsOneOf}
-use Rattle.paxos_learner.specs.Growth.{HasLearnedMore}
+use Rattle.paxos_learner.specs.Learner.{HasLearnedMore}
 use Rattle.paxos_proposer.specs.Proposer.{Proposer, greatest_round}
 use Rattle.group_node.specs.declared.player.Ran.{Ran}
 use Rattle.group_node.specs.Protocol.{on_message}

@@ -1,9 +1,8 @@
 -- Worlds that break the promises, for the law `wrong_worlds`.
 use Rattle.std.proofs.Common.{◌≡◌, ◌≢◌, ◌∙◌, ℕ, zero, suc, ◌+◌, ◌*◌, ◌<◌, Bool, true, false, IsTrue, List, [], ◌∷◌, ◌++◌, Contains, slice_get, Some, if◌then◌else◌, inl, inr, ◌⊎◌, refl, sym, ap, subst, arith, lit<}
-use Rattle.pcode_machine.specs.Prefixes.{AreComparable}
+use Rattle.pcode_machine.specs.Runs.{AreComparable, after_steps, begin, led, out}
 use Rattle.pcode_machine.specs.Configuration.{Configuration}
 use Rattle.pcode_machine.specs.Outcome.{outcome}
-use Rattle.pcode_machine.specs.Runs.{after_steps, begin, led, out}
 use Rattle.paxos_msg.specs.declared.ballot.Ballot.{Ballot}
 use Rattle.paxos_msg.specs.declared.message.Body.TheVariants.{Accepted}
 use Rattle.paxos_msg.specs.declared.value.Value.{Value}

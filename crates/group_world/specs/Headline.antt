@@ -1,8 +1,7 @@
 -- The claims of the main theorem: what holds of a group whatever happened to it.
 use Rattle.std.specs.Prelude.{◌≡◌, ◌≢◌, ℕ, List, Contains, Some, slice_get}
 use Rattle.std.specs.FinMap.{get}
-use Rattle.pcode_machine.specs.Prefixes.{AreComparable, IsPrefix}
-use Rattle.pcode_machine.specs.Runs.{IsOutput}
+use Rattle.pcode_machine.specs.Runs.{AreComparable, IsPrefix, IsOutput}
 use Rattle.paxos_msg.specs.declared.value.Value.{Value}
 use Rattle.paxos_msg.specs.Chosen.{IsChosen}
 use Rattle.paxos_msg.specs.Keys.{Key, keys_of}

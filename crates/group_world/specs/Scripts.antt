@@ -3,8 +3,7 @@ use Rattle.std.specs.Prelude.{ℕ, ◌+◌, ◌-◌, ◌≤◌, ◌==◌, nat_lt
 use Rattle.std.specs.List.{position_or_len, before_first, after_first}
 use Rattle.std.specs.Option.{option_map, option_and_then}
 use Rattle.std.specs.Str.{bytes_eq}
-use Rattle.digits.specs.Decimal.{decimal_of}
-use Rattle.digits.specs.Hex.{hex_byte_of}
+use Rattle.digits.specs.Digits.{decimal_of, hex_byte_of}
 use Rattle.group_world.specs.declared.event.Act.{Act}
 use Rattle.group_world.specs.declared.event.Act.TheVariants.{Press, Deliver, Campaign, Tick, Run, Release, Crash, Start}
 use Rattle.group_world.specs.declared.event.Outcome.{Outcome}

@@ -1,6 +1,6 @@
 -- Bytes in hexadecimal digits.
 use Rattle.std.specs.Prelude.{ℕ, List, [], ◌∷◌, Option, Some, None}
-use Rattle.digits.specs.Hex.{hex_byte_of}
+use Rattle.digits.specs.Digits.{hex_byte_of}
 
 -- The bytes with one before them, where both exist.
 abbrev pub byte_before : Option ℕ → Option (List ℕ) → Option (List ℕ)

@@ -1,6 +1,6 @@
 //! Bytes in hexadecimal digits of either case.
 ghost use Rattle.std.specs.Prelude.{◌≡◌, IsSome, IfErr, IfOk, None, Some, take};
-ghost use Rattle.digits.specs.Hex.{hex_byte_of};
+ghost use Rattle.digits.specs.Digits.{hex_byte_of};
 ghost use Rattle.machine_run.specs.declared.hex.HexError.TheVariants.{Bad, Memory};
 ghost use Rattle.machine_run.specs.Hex.{hex_bytes_of};
 

@@ -9,9 +9,8 @@ use Rattle.std.specs.Ordering.{nat_cmp}
 use Rattle.std.specs.FinMap.{FinMap, get}
 use Rattle.paxos_msg.specs.declared.value.Value.{Value}
 use Rattle.paxos_msg.specs.Keys.{Key, keys_of}
-use Rattle.paxos_learner.specs.Learner.{front_of}
+use Rattle.paxos_learner.specs.Learner.{front_of, HasLearnedMore}
 use Rattle.paxos_learner.specs.Input.{same_key, firsts, front_values, keys_in_order, input_of, learned_input, values_below}
-use Rattle.paxos_learner.specs.Growth.{HasLearnedMore}
 use Rattle.paxos_learner.proofs.Fronts.{IsFront-front_of}
 use Rattle.paxos_learner.proofs.LearnedStays.{front_rises, some_from_test}
 use Rattle.paxos_learner.proofs.ValuesBelow.{range_parts, same_below}

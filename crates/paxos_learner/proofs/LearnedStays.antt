@@ -7,8 +7,7 @@ use Rattle.paxos_msg.specs.declared.ballot.Ballot.{Ballot}
 use Rattle.paxos_msg.specs.declared.value.Value.{Value}
 use Rattle.paxos_msg.specs.Fits.{IsValue}
 use Rattle.paxos_learner.specs.Tallies.{Tally, tallied}
-use Rattle.paxos_learner.specs.Learner.{Learner, front_of, is_open, learn, new_learner, heard_accepted, heard_tell}
-use Rattle.paxos_learner.specs.Growth.{AreInWindow, HasLearnedMore, IsLearnerInRange}
+use Rattle.paxos_learner.specs.Learner.{Learner, front_of, is_open, learn, new_learner, heard_accepted, heard_tell, AreInWindow, HasLearnedMore, IsLearnerInRange}
 use Rattle.paxos_learner.proofs.OnePlace.{each_put, get_left, get_other}
 use Rattle.paxos_learner.proofs.Fronts.{IsFront-front_of}
 use Rattle.paxos_learner.proofs.Keeping.{open_is_none}

@@ -5,7 +5,7 @@ use Rattle.std.specs.FinMap.{FinMap, get}
 use Rattle.paxos_msg.specs.declared.value.Value.{Value}
 use Rattle.paxos_msg.specs.Keys.{Key, keys_of}
 use Rattle.paxos_learner.specs.Entered.{Entered}
-use Rattle.paxos_learner.specs.Growth.{AreInWindow}
+use Rattle.paxos_learner.specs.Learner.{AreInWindow}
 use Rattle.paxos_learner.specs.Input.{StandsIn, keys_in_order, values_below}
 use Rattle.paxos_msg.specs.declared.limits.TheConstants.{MOST_CHARACTERS, MOST_NODES, PLACES}
 

@@ -1,5 +1,5 @@
--- The knowledge of a learner, and its answers.
-use Rattle.std.specs.Prelude.{◌≡◌, ℕ, ◌+◌, ◌==◌, ◌<◌, nat_lt, ◌&&◌, Bool, IsTrue, List, [], ◌∷◌, Option, Some, None, is_some, is_none, if◌then◌else◌}
+-- The knowledge of a learner, its answers, and what lasts whatever it hears.
+use Rattle.std.specs.Prelude.{◌≡◌, ℕ, ◌+◌, ◌==◌, ◌<◌, nat_lt, ◌&&◌, Bool, IsTrue, List, [], ◌∷◌, Option, Some, None, is_some, is_none, if◌then◌else◌, ◌≤◌}
 use Rattle.std.specs.Ordering.{nat_cmp}
 use Rattle.std.specs.FinMap.{FinMap, empty, get, insert, remove, keys}
 use Rattle.paxos_msg.specs.declared.ballot.Ballot.{Ballot}
@@ -9,6 +9,8 @@ use Rattle.paxos_learner.specs.declared.heard.Heard.{Heard}
 use Rattle.paxos_learner.specs.declared.heard.Heard.TheVariants as heard
 use Rattle.paxos_learner.specs.Tallies.{Tally, has_node, tallied}
 use Rattle.paxos_learner.specs.declared.learner.TheConstants.{WINDOW}
+use Rattle.paxos_msg.specs.Fits.{IsValue}
+use Rattle.paxos_msg.specs.declared.limits.TheConstants.{LAST_PLACE}
 
 -- The learned value of each place, and the tallies of other places, in a group of `size` nodes.
 -- Source: Simple 2.3.
@@ -83,3 +85,26 @@ heard_accepted l i b s v =
 -- Forbids: A change of a learned place.
 abbrev pub heard_tell : Learner → ℕ → Value → Hearing
 heard_tell l s v = if is_open l s then learn l s v else passed l
+
+-- ---- properties of a learner that last, whatever it hears
+
+-- Each learned value is still learned, at its place.
+-- Source: Simple 2.3.
+-- Allows: More places.
+-- Forbids: Another value at a place.
+pub record HasLearnedMore (old new : FinMap nat_cmp Value) : Type 0 where
+  pub stays : (s : ℕ) (v : Value) → get old s ≡ Some v → get new s ≡ Some v
+
+-- Learned places that are at most 65,535, and less than 1,024 places above the front.
+-- Allows: A place above a hole.
+-- Forbids: A place 1,024 above the front.
+pub record AreInWindow (learned : FinMap nat_cmp Value) : Type 0 where
+  pub place : (s : ℕ) (v : Value) → get learned s ≡ Some v → s ≤ LAST_PLACE
+  pub window : (s : ℕ) (v : Value) → get learned s ≡ Some v → s < front_of learned + WINDOW
+
+-- A learner whose learned and tallied values are in their ranges.
+-- Allows: A no-op.
+-- Forbids: A batch whose first serial is 0.
+pub record IsLearnerInRange (l : Learner) : Type 0 where
+  pub learned : (s : ℕ) (v : Value) → get l.learned s ≡ Some v → IsValue l.size v
+  pub tallied : (s : ℕ) (t : Tally) → get l.tallies s ≡ Some t → IsValue l.size t.value

@@ -4,7 +4,6 @@ pub mod Learner
 pub mod Input
 pub mod PlaceMaps
 pub mod Entered
-pub mod Growth
 pub mod Kept
 pub mod Codes
 pub mod Backed

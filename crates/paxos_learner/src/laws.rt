@@ -12,9 +12,8 @@ ghost use Rattle.paxos_msg.specs.Keys.{Key};
 ghost use Rattle.paxos_msg.specs.Messages.{IsSaid, IsSent};
 ghost use Rattle.paxos_msg.specs.Batches.{Sent};
 ghost use Rattle.paxos_learner.specs.Backed.{IsLearnerBacked, Stays};
-ghost use Rattle.paxos_learner.specs.Growth.{AreInWindow, HasLearnedMore, IsLearnerInRange};
+ghost use Rattle.paxos_learner.specs.Learner.{AreInWindow, HasLearnedMore, IsLearnerInRange, front_of, IsFront, Learner, new_learner, heard_accepted, heard_tell};
 ghost use Rattle.paxos_learner.specs.Input.{firsts, front_values, has_key, input_of, is_learned, keys_in_order, learned_input, same_key, StandsIn, values_below};
-ghost use Rattle.paxos_learner.specs.Learner.{front_of, IsFront, Learner, new_learner, heard_accepted, heard_tell};
 ghost use Rattle.paxos_msg.specs.declared.limits.TheConstants.{LAST_PLACE, PLACES};
 
 /// A learner that has heard nothing is backed. It stays backed after it hears an Accepted or a Tell

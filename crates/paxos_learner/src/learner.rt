@@ -2,11 +2,10 @@
 ghost use Rattle.std.specs.Prelude.{◌≡◌, ◌≢◌, ◌↔◌, ◌+◌, ◌<◌, ◌≤◌, ◌++◌, IsSome, IsTrue, IfOk, None, OnOk, OnErr, Contains, length, min, slice_get};
 ghost use Rattle.std.specs.FinMap.{get};
 ghost use Rattle.paxos_learner.specs.Entered.{key_of};
-ghost use Rattle.paxos_learner.specs.Growth.{AreInWindow};
+ghost use Rattle.paxos_learner.specs.Learner.{AreInWindow, IsFront, front_of, is_open, learn, new_learner, heard_accepted, heard_tell};
 ghost use Rattle.paxos_learner.specs.Input.{StandsIn, front_values, input_of, keys_in_order, learned_input, values_below};
 ghost use Rattle.paxos_learner.specs.Kept.{IsInputOf};
 ghost use Rattle.paxos_learner.specs.declared.heard.Heard.TheVariants.{Passed};
-ghost use Rattle.paxos_learner.specs.Learner.{IsFront, front_of, is_open, learn, new_learner, heard_accepted, heard_tell};
 ghost use Rattle.paxos_msg.specs.declared.limits.TheConstants.{LAST_PLACE, MOST_NODES, PLACES};
 ghost use Rattle.paxos_learner.specs.declared.learner.TheConstants.{WINDOW};
 

@@ -12,8 +12,7 @@ use Rattle.paxos_msg.specs.Batches.{Vote}
 use Rattle.paxos_msg.specs.Fits.{AreVotes, IsBallot, IsBody, IsPlace, IsValue}
 use Rattle.paxos_msg.specs.Messages.{kept_vote_at}
 use Rattle.paxos_proposer.specs.Proposer.{Proposer, proposer_after_part, new_proposer, coverage_of, heard, is_covered, is_kept_from, next_of, next_value, proposed_at, proposing, rises, value_or}
-use Rattle.paxos_proposer.specs.Ranges.{IsProposerInRange}
-use Rattle.paxos_proposer.specs.States.{AreInRange}
+use Rattle.paxos_proposer.specs.States.{IsProposerInRange, AreInRange}
 use Rattle.paxos_proposer.proofs.Begun.{none_proposed, replicated}
 use Rattle.paxos_proposer.proofs.CountingCoverage.{covered_below, set_reach}
 use Rattle.paxos_proposer.proofs.Passing.{found_all, heard_all}

@@ -3,4 +3,3 @@ pub mod States
 pub mod KeptVotes
 pub mod Fields
 pub mod Backed
-pub mod Ranges

@@ -9,7 +9,7 @@ ghost use Rattle.paxos_msg.specs.Fits.{IsBallot, IsBody, IsValue};
 ghost use Rattle.paxos_msg.specs.Keys.{Key};
 ghost use Rattle.paxos_msg.specs.Messages.{IsSaid, IsSent};
 ghost use Rattle.paxos_proposer.specs.Backed.{IsProposerBacked, IsQuietUnder};
-ghost use Rattle.paxos_proposer.specs.Ranges.{IsProposerInRange};
+ghost use Rattle.paxos_proposer.specs.States.{IsProposerInRange};
 ghost use Rattle.paxos_proposer.specs.Proposer.{Proposer, proposer_after_part, new_proposer, next_of, next_value, heard_promise, proposed_at, proposing};
 ghost use Rattle.paxos_msg.specs.declared.limits.TheConstants.{MOST_NODES, PLACES};
 

@@ -15,7 +15,6 @@ pub mod Effects
 pub mod Execute
 pub mod Outcome
 pub mod Step
-pub mod Prefixes
 pub mod Runs
 pub mod Turns
 pub mod InCode

@@ -1,9 +1,17 @@
--- Runs of a program on a whole input, and its output after some steps.
-use Rattle.std.specs.Prelude.{◌≡◌, ℕ, zero, suc, List, []}
+-- Prefixes of lists, runs of a program on a whole input, and its output after some steps.
+use Rattle.std.specs.Prelude.{◌≡◌, ℕ, zero, suc, List, [], ◌++◌, ◌⊎◌}
 use Rattle.pcode_file.specs.Parts.{Parts}
 use Rattle.pcode_machine.specs.Configuration.{Configuration, configuration_of, start}
-use Rattle.pcode_machine.specs.Prefixes.{IsPrefix}
 use Rattle.pcode_machine.specs.Outcome.{Outcome, Goes, Stops, Waiting, Stuck, outcome}
+
+-- The relation of a list and one that begins with it.
+pub record IsPrefix {X : Type 0} (a b : List X) : Type 0 where
+  pub rest : List X
+  pub whole : b ≡ a ++ rest
+
+-- The lists of which one begins with the other.
+abbrev pub AreComparable : {X : Type 0} → List X → List X → Type 0
+AreComparable a b = IsPrefix a b ⊎ IsPrefix b a
 
 -- The configuration at which a program begins: nothing read, nothing written.
 abbrev pub begin : Parts → Configuration

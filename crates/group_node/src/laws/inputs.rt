@@ -1,6 +1,6 @@
 //! The input that a group has chosen.
 ghost use Rattle.std.specs.Prelude.{◌≡◌, ◌++◌, ℕ, List};
-ghost use Rattle.pcode_machine.specs.Prefixes.{IsPrefix};
+ghost use Rattle.pcode_machine.specs.Runs.{IsPrefix};
 ghost use Rattle.paxos_msg.specs.declared.value.Value.{Value};
 ghost use Rattle.paxos_msg.specs.Batches.{Grew, Record, Sent};
 ghost use Rattle.paxos_learner.specs.Input.{input_of};

@@ -5,7 +5,7 @@ ghost use Rattle.std.specs.Ordering.{nat_cmp};
 ghost use Rattle.pcode_file.specs.Parts.{Parts};
 ghost use Rattle.pcode_machine.specs.Runs.{after_steps, LeadsIn};
 ghost use Rattle.paxos_msg.specs.declared.value.Value.{Value};
-ghost use Rattle.paxos_learner.specs.Growth.{HasLearnedMore};
+ghost use Rattle.paxos_learner.specs.Learner.{HasLearnedMore};
 ghost use Rattle.paxos_learner.specs.Input.{learned_input};
 ghost use Rattle.group_node.specs.declared.player.Ran.{Ran};
 ghost use Rattle.group_node.specs.Console.{offered};

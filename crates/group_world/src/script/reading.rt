@@ -2,7 +2,7 @@
 ghost use Rattle.std.specs.Prelude.{◌≡◌, ◌<◌, ◌==◌, length, codes};
 ghost use Rattle.std.specs.List.{before_first, after_first};
 ghost use Rattle.std.specs.Option.{option_copied};
-ghost use Rattle.digits.specs.Decimal.{decimal_of};
+ghost use Rattle.digits.specs.Digits.{decimal_of};
 ghost use Rattle.group_world.specs.Scripts.{act_of_one, act_of_two, text_past, event_of_one, event_of_two, event_of_words, first_word, header_of, line_of, outcome_of, words_behind};
 
 use super::Line;

@@ -1,5 +1,5 @@
 use Rattle.std.proofs.Common.{◌≡◌}
-use Rattle.group_wire.specs.Output.{released_by}
+use Rattle.group_wire.specs.Turns.{released_by}
 use Rattle.group_udp.specs.Rounds.{HearsMany}
 use Rattle.group_udp.proofs.rest.rest.Given as goal
 

@@ -1,6 +1,6 @@
 use Rattle.std.proofs.Common.{◌≡◌, ◌++◌, ℕ, true, List, drop}
 use Rattle.std.specs.Io.KnownBytes.{Appends}
-use Rattle.group_wire.specs.Output.{released_by}
+use Rattle.group_wire.specs.Turns.{released_by}
 use Rattle.group_udp.specs.Rounds.{Rounds}
 use Rattle.group_udp.proofs.rounds.play.Given as goal
 

@@ -1,6 +1,6 @@
 use Rattle.std.proofs.Common.{◌∙◌, ℕ, List, ap}
 use Rattle.group_node.specs.States.{Protocol, input}
-use Rattle.group_wire.specs.Output.{released_of}
+use Rattle.group_wire.specs.Turns.{released_of}
 use Rattle.group_udp.proofs.Releasing.{shown_more}
 use Rattle.group_udp.proofs.shown.show_all.Goals as goal
 

@@ -1,6 +1,6 @@
 use Rattle.std.proofs.Common.{◌≡◌, ◌++◌, ℕ, List, length}
 use Rattle.group_node.specs.States.{input}
-use Rattle.group_wire.specs.Output.{released_of}
+use Rattle.group_wire.specs.Turns.{released_of}
 use Rattle.group_udp.specs.Output.{ReleasesBytes}
 use Rattle.group_udp.proofs.shown.show_all.Given as goal
 

@@ -1,6 +1,6 @@
 -- The datagram comes last.
 use Rattle.std.proofs.Common.{◌∙◌, ◌++◌, ◌∷◌, [], ℕ, List, ap, arith}
-use Rattle.group_udp.specs.Datagrams.{cut}
+use Rattle.group_udp.specs.OwnDatagrams.{cut}
 use Rattle.group_udp.proofs.Kept.{cut_more, is_kept_more, kept_more, room_by}
 use Rattle.group_udp.proofs.own_datagrams.OwnDatagrams.push.Goals as goal
 

@@ -1,7 +1,6 @@
 -- The places of the input are those below the front.
 use Rattle.std.proofs.Common.{◌∙◌, ap, subst}
-use Rattle.paxos_learner.specs.Growth.{AreInWindow}
-use Rattle.paxos_learner.specs.Learner.{Learner, front_of}
+use Rattle.paxos_learner.specs.Learner.{AreInWindow, Learner, front_of}
 use Rattle.paxos_learner.proofs.Knowing.{front_is}
 use Rattle.paxos_learner.proofs.learner.Learner.known_front.Goals as goal
 

@@ -1,0 +1,23 @@
+-- Numbers in decimal digits, and bytes in hexadecimal ones.
+use Rattle.std.specs.Prelude.{ℕ, ◌^◌, List, length, Option, Some, None, ◌&&◌, nat_lt, if◌then◌else◌, ◌+◌, ◌*◌, [], ◌∷◌}
+use Rattle.std.specs.Str.{all_ascii_digits}
+use Rattle.std.specs.Str.Parse.{digits_value}
+use Rattle.std.specs.Char.{digit_value}
+
+-- The number of decimal digits alone, if it has at least one digit and `bits` bits hold it.
+-- Allows: zeros in front.
+-- Forbids: a sign, and any other character.
+abbrev pub decimal_of : ℕ → List ℕ → Option ℕ
+decimal_of bits ds =
+    if nat_lt 0 (length ds) && all_ascii_digits ds && nat_lt (digits_value 10 ds) (2 ^ bits)
+    then Some (digits_value 10 ds) else None
+
+-- ---- bytes in hexadecimal digits
+
+-- The byte of exactly two hexadecimal digits of either case, the high one first.
+-- Forbids: other bytes, and fewer or more than two.
+abbrev pub hex_byte_of : List ℕ → Option ℕ
+hex_byte_of (h ∷ l ∷ []) =
+    if nat_lt (digit_value h) 16 && nat_lt (digit_value l) 16
+    then Some (digit_value h * 16 + digit_value l) else None
+hex_byte_of _ = None
