@@ -1,4 +1,4 @@
-"""docs/PROMISES.md: rows that a person writes, and columns of tests and edits that are written here."""
+"""docs/PROMISES.md: rows that a person writes. Their columns of tests and edits are written here, and so are the tables of laws."""
 import re
 
 from . import tree, turns
@@ -6,6 +6,7 @@ from .tree import cells_of, fault, text_of
 
 PATH = "docs/PROMISES.md"
 HEADER = "| Promise | Call (clauses) | Shown by | Turned by |"
+LAWS = "| Law | What it says | Turned by |"
 NOT_TURNED = "## Not turned"
 
 
@@ -75,23 +76,65 @@ def check_turned(functions, named, spared):
             fault(f"crates/{crate}: no edit or test names {call} ({', '.join(clauses)}), and {PATH} does not list it as not turned")
 
 
+class Law(Row):
+    """A law that no row names: its row is written here, from its comment."""
+
+    def __init__(self, function):
+        module = "laws" if "laws" in function.modules else min(function.modules)
+        comment = function.comment().replace("|", "\\|")
+        if not re.match(r"[A-Z`].*\.\)?$", comment):
+            fault(f"{function.path}: the comment of the law {function.name} is no sentence")
+        keys = {(function, clause) for clause in function.promises()}
+        super().__init__(None, [f"`{module}::{function.name}`", comment], function.crate, keys)
+
+    def text(self):
+        names = ", ".join(f"`{it}`" for it in sorted(set(self.tests + self.edits)))
+        return f"| {self.cells[0]} | {self.cells[1]} | {names} |"
+
+
+def laws_of(functions, rows):
+    named = {it for row in rows for it, _ in row.keys}
+    return [Law(it) for it in functions if it.is_public and it.is_law and it not in named]
+
+
+def with_laws(lines, laws):
+    """The lines with the rows of laws in the table of laws of each crate's section."""
+    texts = {}
+    for it in laws:
+        texts.setdefault(it.crate, []).append(it.text())
+    found, crate, is_table = [], None, False
+    for line in lines:
+        if line.startswith("## "):
+            crate = line[3:].strip("` ")
+        if is_table and line.startswith("| `"):
+            continue
+        is_table = line == LAWS or (is_table and line.startswith("|"))
+        found.append(line)
+        if is_table and set(line) <= set("|- "):
+            found.extend(texts.pop(crate, []))
+    for crate in texts:
+        fault(f"{PATH}: the section of {crate} has no table `{LAWS}`")
+    return found
+
+
 def check(functions, is_write):
     rows, spared = rows_of(functions)
     edits = [it for crate in tree.all_crates() for it in turns.edits_of(functions, crate)]
     tests = turns.tests_of(functions)
+    laws = laws_of(functions, rows)
     for it in edits:
-        place(it, rows, "edits")
+        place(it, rows + laws, "edits")
     for it in tests:
-        place(it, rows, "tests")
+        place(it, rows + laws, "tests")
     check_turned(functions, edits + tests, spared)
     lines = text_of(PATH).split("\n")
     for row in rows:
         lines[row.number] = row.text()
         if len(row.cells[0]) + len(row.cells[1]) > 400:
             fault(f"{PATH}:{row.number + 1}: the row has more than 400 characters")
-    text = "\n".join(lines)
+    text = "\n".join(with_laws(lines, laws))
     if is_write:
         with open(f"{tree.TOP}/{PATH}", "w", encoding="utf-8") as file:
             file.write(text)
     elif text != text_of(PATH):
-        fault(f"{PATH}: its columns of tests and edits are not what docs/check --write writes")
+        fault(f"{PATH}: its columns of tests and edits, or its laws, are not what docs/check --write writes")

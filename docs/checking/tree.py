@@ -75,6 +75,13 @@ class Function:
         module = os.path.basename(self.path)[: -len(".rt")]
         return f"{self.owner or module}::{self.name}"
 
+    def comment(self):
+        """The first paragraph of the comment above the function."""
+        line = r"(?:^[ \t]*///[^\n]*\n)"
+        it = re.search(rf"({line}+)(?:[ \t]*#\[[^\n]*\n)*[ \t]*pub (?:const )?fn {self.name}\b", text_of(self.path), re.M)
+        lines = [re.sub(r"^[ \t]*/// ?", "", line) for line in it[1].strip("\n").split("\n")] if it else []
+        return " ".join(lines[: lines.index("")] if "" in lines else lines)
+
     def promises(self):
         """The names of the clauses that say what the call does; the unnamed one is ''."""
         return [name for name, _, kind in self.clauses if kind != "requires"]

@@ -25,7 +25,7 @@ use Rattle.group_node.specs.World.{after_call, AreParted, CallOrFall, Falls, Mak
 use Rattle.group_node.proofs.Seats.{seat_alone, seat_elsewhere, seat_here}
 use Rattle.group_node.proofs.CallsKeep.{IsOf}
 
--- keys of which none leaves
+-- keys that all stay
 pub all_stay : (learned : FinMap nat_cmp Value) (keys stay : List Key) → stay ≡ keys → AreParted learned keys stay
 all_stay learned keys stay e =
     record {
@@ -123,7 +123,7 @@ module _ (w : WorldState) (n : Known) (k : ℕ) (c : Configuration) (console : L
       (subst (λ (keys : List Key). AreParted done.node.learner.learned keys (waiting_keys done.node))
       (sym (append-nil (waiting_keys n))) parted)
 
-  -- a call of which the save failed
+  -- a call whose save failed
   pub call_fell : (left new : Record) (saves : Option Change) → saves ≢ None → IsSavedBy w.sent n.kept saves new
       → IsOneOf left n.kept new
       → CallOrFall w (with_seat w n.me.node (record { kept = left; console = console; up = None })) n.me.node saves
@@ -170,7 +170,7 @@ module _ (w : WorldState) (me : Me) (r : Record) (console : List ℕ)
         rest = record { program = refl; size = refl; others = seat_elsewhere w me.node seat; sent = refl; typed = refl };
       }
 
-  -- a start of which the save failed
+  -- a start whose save failed
   pub start_fell : (left : Record) → IsOneOf left r (changed r change.Start)
       → Falls w (with_seat w me.node (record { kept = left; console = console; up = None })) me.node change.Start
   start_fell left one = record {

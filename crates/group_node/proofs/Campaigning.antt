@@ -26,7 +26,7 @@ pub record BeginLaws : Type 0 where
   pub saves : (r : Record) (b : Ballot) (from : ℕ) → IfSome r.promised (λ p. IsBelow p b) → (prepare_of r b from).saves ≡ Some (Promise b)
   pub begins : (b : Ballot) (from size : ℕ) → IsBallot size b → from ≤ 65536 → IsProposerInRange (new_proposer b from size)
 
--- a node that begins a ballot of its own, above all that it has promised, stays in its ranges
+-- a node that begins an own ballot, above all that it has promised, stays in its ranges
 pub beginning_fits : BeginLaws → (n : Known) (b : Ballot) → IsInRange n → IsBallot n.me.group.size b
     → b.node ≡ n.me.node → IfSome n.kept.promised (λ p. IsBelow p b) → front n < 65536
     → IsInRange (beginning n b).node

@@ -1,4 +1,4 @@
--- What was sent tells whether a value is chosen.
+-- Whether a value is chosen, computed from what was sent.
 use Rattle.std.proofs.Common.{◌≡◌, ℕ, zero, suc, ◌+◌, ◌*◌, ◌<◌, ◌≤◌, ◌⊎◌, ◌↔◌, Bool, true, false, IsTrue, [], ◌∷◌, Contains, if◌then◌else◌, inl, inr, refl, sym, ◌∙◌, ap, arith}
 use Rattle.std.proofs.lemmas.Bool.{cases_eq, cases_lt, cases_Bool, true≢false}
 use Rattle.paxos_msg.specs.declared.ballot.Ballot.{Ballot}
@@ -26,7 +26,7 @@ accepted i b s v = record { sender = i; body = Accepted b s v }
 
 -- ---- a message
 
--- what a test tells
+-- what the answer of a test means
 by_test : {A : Type 0} (t : Bool) → (t ≡ true) ↔ A → Decided A
 by_test t h = elim (cases_Bool t) [ inl holds ↦ inl (h.0 holds) | inr fails ↦ inr (λ a. true≢false (sym (h.1 a) ∙ fails)) ]
 

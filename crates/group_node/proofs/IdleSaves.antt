@@ -54,7 +54,7 @@ row_kept n j (Submit v) = submit_kept n n.proposer v
 row_kept n j (Ask from) = record { kept = refl }
 row_kept n j (Tell s v) = record { kept = refl }
 
--- a fault that is only missing memory is none of the device
+-- a fault that is only missing memory is no fault of the device
 pub only_memory : (r : Result (Unit {0}) NodeFault) → OnErr r (r ≡ Err Memory) → ¬ IsErrOf r Store
 only_memory (Ok x) h s = absurd cc
 only_memory (Err e) h s = absurd cc

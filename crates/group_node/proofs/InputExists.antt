@@ -1,4 +1,4 @@
--- There is an input: what was sent tells at each place what is chosen there, or that nothing is.
+-- There is an input: what was sent determines at each place what is chosen there, or that nothing is.
 use Rattle.std.proofs.Common.{◌≡◌, ℕ, zero, suc, ◌+◌, ◌<◌, ◌⊎◌, List, [], ◌∷◌, length, slice_get, Some, Contains, inl, inr, refl, sym, ap, subst, arith}
 use Rattle.paxos_msg.specs.declared.ballot.Ballot.{Ballot}
 use Rattle.paxos_msg.specs.declared.value.Value.{Value}

@@ -33,7 +33,7 @@ pub record SavingLaws : Type 0 where
   pub raising : RaisingLaw
   pub not_below : (a b : Ballot) → (ballot_lt a b ≡ false) ↔ IsAtMost b a
 
--- ---- what a save makes of a proposer
+-- ---- a proposer after a save
 
 -- two ballots that are at most one another are the same
 both_at_most : (a b : Ballot) → IsAtMost a b → IsAtMost b a → a ≡ b

@@ -10,7 +10,8 @@ use Rattle.paxos_learner.specs.Learner.{HasLearnedMore, Learner, heard_accepted,
 use Rattle.group_node.specs.declared.fault.NodeFault.{NodeFault}
 use Rattle.group_node.specs.Protocol.{row}
 use Rattle.group_node.specs.Known.{Response, Known, quiet}
-use Rattle.group_node.specs.ProposerRows.{is_known, offer_after, offering, prepare_from, proposing_on, submitted, taking_part}
+use Rattle.group_node.specs.Tick.{on_tick, ticked}
+use Rattle.group_node.specs.ProposerRows.{is_known, on_campaign, offer_after, offering, prepare_from, proposing_on, submitted, taking_part}
 use Rattle.group_node.specs.Pump.{pump}
 
 -- the laws of a learner that hears
@@ -46,7 +47,7 @@ submit_learns n (Some p) v =
     (is_covered p (next_of p) && not (is_known n v)) (record { more = same n }) (record { more = same n })
 
 -- each row of the table
-row_learns : HeardLaws → (n : Known) (j : ℕ) (body : Body) → LearnsMore n (row n j body)
+pub row_learns : HeardLaws → (n : Known) (j : ℕ) (body : Body) → LearnsMore n (row n j body)
 row_learns laws n j (Prepare b from) = record { more = same n }
 row_learns laws n j (Promise b first upto votes) = part_learns n n.proposer j first upto b votes
 row_learns laws n j (Accept b s v) = record { more = same n }
@@ -55,6 +56,18 @@ row_learns laws n j (Refused b promised) = record { more = same n }
 row_learns laws n j (Submit v) = submit_learns n n.proposer v
 row_learns laws n j (Ask from) = record { more = same n }
 row_learns laws n j (Tell s v) = record { more = laws.told n.learner s v }
+
+tick_by : (n : Known) (o : Option Proposer) → LearnsMore n (ticked n o)
+tick_by n None = record { more = same n }
+tick_by n (Some p) = record { more = same n }
+
+-- a tick
+pub tick_learns : (n : Known) → LearnsMore n (on_tick n)
+tick_learns n = tick_by n n.proposer
+
+-- a campaign
+pub campaign_learns : (n : Known) → LearnsMore n (on_campaign n)
+campaign_learns n = record { more = same n }
 
 -- What is learned after the row of a message, by its contract.
 pub row_learns_more : HeardLaws → (n m : Known) (j : ℕ) (body : Body) (r : Result (Unit {0}) NodeFault)

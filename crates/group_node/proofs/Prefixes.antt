@@ -1,4 +1,4 @@
--- Lists of which the shorter begins the longer.
+-- Two lists: the shorter begins the longer.
 use Rattle.std.proofs.Common.{◌≡◌, ℕ, zero, suc, ◌<◌, ◌≤◌, List, [], ◌∷◌, length, slice_get, Some, refl, sym, ap, length-append, arith}
 use Rattle.pcode_machine.specs.Runs.{IsPrefix}
 

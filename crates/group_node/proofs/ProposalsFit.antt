@@ -64,7 +64,7 @@ module _ (me : Me) (p : Proposer) (h : IsOwnProposer me p) where
       asks_if upto s (rises p j first upto && nat_lt upto 65536)
       (λ t. ltb-true upto 65536 (and_parts (rises p j first upto) (nat_lt upto 65536) t).1) e
 
-  -- the same of any body, of which only a part asks on
+  -- the same of any body; only a part asks on
   pub asks_after_fits : (j s : ℕ) (body : Body) → asks_after p j body ≡ Some s → IsBody me.group.size me.node (Prepare p.ballot s)
   asks_after_fits j s (Prepare b from) e = absurd cc
   asks_after_fits j s (Promise b first upto votes) e = asks_on_fits j first upto s e
@@ -89,7 +89,7 @@ module _ (me : Me) (p : Proposer) (h : IsOwnProposer me p) where
             (subst (λ (size : ℕ). IsBody size j (Promise p.ballot first upto votes)) (sym h.size) fits);
       }
 
-  -- the same of any body, of which only a part changes it
+  -- the same of any body; only a part changes it
   pub heard_own : PartLaws → (j : ℕ) (body : Body) → IsPromisePart p.ballot body → IsHeardFit me j body
       → IsOwnProposer me (heard_promise p j body)
   heard_own laws j (Prepare b from) part heard = h

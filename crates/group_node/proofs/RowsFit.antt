@@ -92,7 +92,7 @@ keys_many : (node start serial : ℕ) (bytes : List ℕ) → length (keys_from n
 keys_many node start serial [] = refl
 keys_many node start serial (x ∷ xs) = let rest = keys_many node start (serial + 1) xs in omega arith
 
--- what is left of bytes is bytes
+-- the rest of bytes is bytes
 drop_bytes : (n : ℕ) (bytes : List ℕ) → AreBytes bytes → AreBytes (drop n bytes)
 drop_bytes n bytes h i = rw (get_or-drop n bytes i 0) (h (n + i))
 
@@ -137,7 +137,7 @@ module _ (n : Known) (h : IsInRange n) where
   abbrev IsPacketFit : Packet → Type 0
   IsPacketFit packet = IsBody n.me.group.size n.me.node packet.body
 
-  -- the node with another proposer of its own
+  -- the node with another own proposer
   pub led_range : (o : Option Proposer) → IfSome o (IsOwnProposer n.me) → IsInRange (record n { proposer = o })
   led_range o own = record { me = h.me; kept = h.kept; counted = h.counted; proposer = own; learner = h.learner; waiting = h.waiting }
 
@@ -179,7 +179,7 @@ module _ (n : Known) (h : IsInRange n) where
 
   -- ---- Accepted, Tell and Refused
 
-  -- the node with another learner of its own
+  -- the node with another own learner
   learned_fits : (l : Learner) → IsOwnLearner n.me l → IsFit n.me (quiet (record n { learner = l }))
   learned_fits l own =
       quiet_fits (record n { learner = l })

@@ -21,7 +21,7 @@ HasPromised r b = IsSomeAnd r.promised (λ p. IsAtMost b p)
 -- Its votes were proposed and ascend by place, none above the promised ballot. Under ballots of the
 -- node's own nothing was asked or proposed above that one.
 -- Allows: a record that has promised more than was ever sent.
--- Forbids: a proposal of its own above the promise.
+-- Forbids: an own proposal above the promise.
 -- Source: Simple 2.2, P1a; 2.5.
 pub record IsRecordBacked (sent : Sent) (me : ℕ) (r : Record) : Type 0 where
   pub votes : IsVotesBacked sent r

@@ -34,6 +34,12 @@ pub record Does {S T : Type 0} (old new : Protocol S) (before now : List Datagra
   pub unsent : OnErr result (now ≡ before)
   pub stops : (new.is_stopped ≡ true) ↔ ((old.is_stopped ≡ true) ⊎ IsErrOf result Store)
 
+-- A node that knows `n` after a call that saves and sends nothing.
+pub record Knows {S : Type 0} (old new : Protocol S) (n : Known) : Type 0 where
+  pub known : new.known ≡ n
+  pub store : new.store ≡ old.store
+  pub stops : new.is_stopped ≡ old.is_stopped
+
 -- The store after a call with this response.
 -- At `Ok` an honest one has the response's record. After a fault of the device, which is counted,
 -- it has the old one or the response's, and after any other refusal the old one. If the response
@@ -57,13 +63,17 @@ pub record Saves {S T : Type 0} (honest at_will : Type 0) (state : S → StoreSt
       → FailsAsTold (state old.store).plan old.known.kept done.node.kept (state new.store).stored
   pub cause : HasCause (IsErrOf result Store) (state old.store).faults (state new.store).faults
 
+-- The refusals of a call without an outbox: as stopped, exactly if a save has failed.
+abbrev pub RefusesIfStopped : {S T : Type 0} → Protocol S → Result T NodeFault → Type 0
+RefusesIfStopped old result = IsErrOf result Stopped ↔ (old.is_stopped ≡ true)
+
 -- The refusals of a call with an outbox.
 -- It is `Stopped` exactly if a save has failed. Otherwise it is `OutboxFull` exactly if fewer than
 -- 64 places are free.
 -- Forbids: a call that sends into an outbox with a packet.
 pub record IsLetIn {S T : Type 0} (old : Protocol S) (before : List Datagram)
     (result : Result T NodeFault) : Type 0 where
-  pub stopped : IsErrOf result Stopped ↔ (old.is_stopped ≡ true)
+  pub stopped : RefusesIfStopped old result
   pub full : IsErrOf result OutboxFull ↔ ((old.is_stopped ≡ false) × (0 < length before))
 
 -- The facts of a call that is taken: no save has failed, and all 64 places of the outbox are free.

@@ -5,6 +5,8 @@ use Rattle.pcode_machine.specs.Configuration.{configuration_of}
 use Rattle.pcode_machine.specs.Outcome.{outcome, Stops, Waiting}
 use Rattle.pcode_machine.specs.Runs.{after_steps, LeadsIn}
 use Rattle.pcode_machine.specs.Turns.{Makes}
+use Rattle.paxos_learner.specs.Input.{learned_input}
+use Rattle.paxos_learner.specs.Learner.{Learner}
 use Rattle.group_node.specs.declared.player.Player.{Player}
 use Rattle.group_node.specs.declared.player.Ran.{Ran}
 use Rattle.group_node.specs.declared.player.Ran.TheVariants as ran
@@ -16,7 +18,7 @@ abbrev pub progress_of : Player → Progress
 progress_of q = record { program = q.machine.program; steps = q.steps; released = q.released }
 
 -- The invariant of a node's machine.
--- It has made its steps on the input `x`, each of which exists, and has read `read` bytes of it.
+-- It has made its steps on the input `x`, all of them exist, and it has read `read` bytes of it.
 -- The ring holds those bytes of the output that were not released. No more bytes were read or
 -- written than steps were made.
 pub record IsPlayed (x : List ℕ) (q : Player) : Type 0 where
@@ -29,6 +31,14 @@ pub record IsPlayed (x : List ℕ) (q : Player) : Type 0 where
   pub seldom : q.read ≤ q.steps
   pub room : length q.unreleased.items ≤ RING_BYTES
   pub capacity : q.unreleased.capacity ≡ RING_BYTES
+
+-- A machine that has played the input that the learner has learned.
+abbrev pub HasPlayedLearned : Learner → Player → Type 0
+HasPlayedLearned l q = IsPlayed (learned_input l.learned) q
+
+-- A ring with room for a byte.
+abbrev pub HasByteRoom : Player → Type 0
+HasByteRoom q = length q.unreleased.items < q.unreleased.capacity
 
 -- One step, with the ring and the counts.
 pub record PlaysStep (old new : Player) (took wrote : List ℕ) : Type 0 where
@@ -72,7 +82,7 @@ TurnsTo x most old new (n, Some ran.Waits) =
 TurnsTo x most old new (n, Some (ran.Ended e)) =
     (n < most) × Advances x n old new × MakesNoStep x new (ran.Ended e)
 
--- The run that may come to `most` steps, of which `left` are left.
+-- The run that may come to `most` steps; `left` of them are left.
 -- It is exact, and before each step that it made there was room for a byte.
 pub record RanSoFar (x : List ℕ) (most left : ℕ) (old now : Player) : Type 0 where
   pub exact : IsPlayed x now

@@ -31,7 +31,7 @@ unfoldable pub pump : ℕ → Proposer → Proposals
 pump zero p = stop p
 pump (suc n) p = propose p (next_value p None) (pump n)
 
--- The proposal of what is offered, if the proposer has none of its own to make.
+-- The proposal of what is offered, if no kept vote decides what to propose.
 -- Source: Simple 2.2, phase 2(a).
 abbrev pub offer : Proposer → Value → Proposals
 offer p v = propose p (next_value p (Some v)) stop

@@ -1,13 +1,16 @@
--- The nodes all of which is in its ranges, whatever was sent: what they send has a spelling.
-use Rattle.std.specs.Prelude.{◌≡◌, ℕ, ◌+◌, ◌^◌, ◌<◌, ◌≤◌, All, List, length, IfSome}
-use Rattle.paxos_msg.specs.Fits.{Fits, IsBody, IsNode}
+-- Nodes in their ranges. What such a node sends has a spelling, whatever was sent before.
+use Rattle.std.specs.Prelude.{◌≡◌, ℕ, ◌+◌, ◌^◌, ◌<◌, ◌≤◌, All, List, length, IfSome, Option, Some}
+use Rattle.paxos_msg.specs.declared.ballot.Ballot.{Ballot}
+use Rattle.paxos_msg.specs.declared.value.Value.{Value}
+use Rattle.paxos_msg.specs.Fits.{Fits, IsBallot, IsBody, IsNode, IsValue}
+use Rattle.paxos_msg.specs.declared.message.Body.TheVariants.{Submit}
 use Rattle.paxos_msg.specs.Grammar.{AreBytes}
 use Rattle.paxos_msg.specs.Batches.{Body}
 use Rattle.paxos_acceptor.specs.declared.me.Me.{Me}
 use Rattle.paxos_acceptor.specs.Records.{IsRecord}
 use Rattle.paxos_proposer.specs.Proposer.{Proposer}
-use Rattle.paxos_proposer.specs.States.{IsProposerInRange as IsProposerInRange}
-use Rattle.paxos_learner.specs.Learner.{AreInWindow, IsLearnerInRange as IsLearnerInRange, Learner}
+use Rattle.paxos_proposer.specs.States.{IsProposerInRange}
+use Rattle.paxos_learner.specs.Learner.{AreInWindow, IsLearnerInRange, Learner}
 use Rattle.group_node.specs.Known.{Response, Known}
 use Rattle.group_node.specs.Packets.{Packet}
 use Rattle.group_node.specs.Pump.{accepts_of, Proposals}
@@ -53,9 +56,21 @@ pub record IsInRange (n : Known) : Type 0 where
   pub learner : IsOwnLearner n.me n.learner
   pub waiting : IsWaiting n.first n.waiting
 
+-- The ballots of the node's group.
+abbrev pub IsGroupBallot : Known → Ballot → Type 0
+IsGroupBallot n b = IsBallot n.me.group.size b
+
+-- The values of the node's group.
+abbrev pub IsGroupValue : Known → Value → Type 0
+IsGroupValue n v = IsValue n.me.group.size v
+
 -- The messages of node `j` that have a spelling in the node's group.
 abbrev pub IsHeardFit : Me → ℕ → Body → Type 0
 IsHeardFit me j body = Fits me.group (record { sender = j; body = body })
+
+-- The batches, or none, that the node may submit.
+abbrev pub MaySubmit : Me → Option Value → Type 0
+MaySubmit me batch = (v : Value) → batch ≡ Some v → IsBody me.group.size me.node (Submit v)
 
 -- The packets of a node that all have a spelling.
 abbrev pub AllFit : Me → List Packet → Type 0

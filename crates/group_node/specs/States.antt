@@ -1,13 +1,23 @@
 -- What contracts see of a node, and which nodes there are.
-use Rattle.std.specs.Prelude.{◌≡◌, ℕ, ◌%◌, ◌≤◌, Bool, false, List}
+use Rattle.std.specs.Prelude.{◌≡◌, ℕ, ◌%◌, ◌≤◌, Bool, false, List, Option, option_map}
 use Rattle.paxos_msg.specs.Fits.{IsNode}
 use Rattle.paxos_acceptor.specs.declared.me.Me.{Me}
 use Rattle.paxos_acceptor.specs.Stores.{StoreState}
+use Rattle.paxos_msg.specs.declared.ballot.Ballot.{Ballot}
+use Rattle.paxos_acceptor.specs.Follows.{AcceptorState}
+use Rattle.paxos_proposer.specs.States.{ProposerState}
+use Rattle.paxos_learner.specs.Entered.{Keys}
+use Rattle.paxos_learner.specs.Learner.{Learner}
 use Rattle.paxos_learner.specs.Input.{learned_input}
 use Rattle.group_node.specs.Known.{Known}
 use Rattle.group_node.specs.Output.{Progress}
 use Rattle.group_node.specs.Ranges.{IsInRange}
 use Rattle.paxos_msg.specs.declared.limits.TheConstants.{MOST_NODES}
+
+-- The characters that wait. The first is the key with the serial `first`.
+pub record Waiting : Type 0 where
+  pub first : ℕ
+  pub bytes : List ℕ
 
 -- A node's part in the protocol: what it knows, whether a save has failed, and the store.
 pub record Protocol (S : Type 0) : Type 0 where
@@ -15,15 +25,28 @@ pub record Protocol (S : Type 0) : Type 0 where
   pub is_stopped : Bool
   pub store : S
 
+-- The state of a node in the protocol, by its parts.
+abbrev pub protocol_of : {S : Type 0} → Me → AcceptorState S → Learner → Option ProposerState
+    → Option Ballot → Keys → Waiting → Protocol S
+protocol_of me acceptor learner proposer remembered offered waiting = record {
+  known = record {
+    me = me;
+    kept = acceptor.kept;
+    learner = learner;
+    proposer = option_map (λ q. q.known) proposer;
+    remembered = remembered;
+    offered = offered.keys;
+    waiting = waiting.bytes;
+    first = waiting.first;
+  };
+  is_stopped = acceptor.is_closed;
+  store = acceptor.store;
+}
+
 -- A node: its part in the protocol, and the progress of its machine.
 pub record NodeState (S : Type 0) : Type 0 where
   pub protocol : Protocol S
   pub progress : Progress
-
--- The characters that wait, of which the first is the key with this serial.
-pub record Waiting : Type 0 where
-  pub first : ℕ
-  pub bytes : List ℕ
 
 -- The learned input of a node.
 -- Source: Simple 3.

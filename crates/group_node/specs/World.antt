@@ -160,7 +160,7 @@ pub record Delivers (w v : WorldState) (m i : ℕ) : Type 0 where
   pub cause : MayCause message.body saved
   pub call : CallOrFall w v i saved
 
--- The campaign of a node: a promise of a ballot of its own is saved.
+-- The campaign of a node: a promise of an own ballot is saved.
 -- Source: Simple 2.2; 2.5.
 pub record Campaigns (w v : WorldState) (i : ℕ) : Type 0 where
   pub round : ℕ
@@ -242,7 +242,7 @@ pub record Crashes (w v : WorldState) (i : ℕ) : Type 0 where
 -- Allows: a message delivered to any node, at any time, any number of times, or never; a crash at
 -- any time.
 -- Forbids: a start saved except at a `Start`; a promise saved except at a Prepare under its ballot
--- or a campaign of its own; a change of another node.
+-- or an own campaign; a change of another node.
 -- Source: Simple 2.1 to 2.3, 2.5 and 3.
 abbrev pub WorldStep : WorldState → Event → WorldState → Type 0
 WorldStep w (Press i byte) v = Presses w v i byte

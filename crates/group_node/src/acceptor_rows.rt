@@ -1,8 +1,9 @@
 //! What a node does at a Prepare and at an Accept: its acceptor answers.
 ghost use Rattle.std.specs.Prelude.{◌≡◌, ◌⊎◌, [], false, IfErr, option_map};
-ghost use Rattle.paxos_msg.specs.Fits.{IsBallot, IsPlace, IsValue};
+ghost use Rattle.paxos_msg.specs.Fits.{IsPlace};
 ghost use Rattle.group_node.specs.Calls.{Does, MayFailToSave, Saves};
 ghost use Rattle.group_node.specs.AcceptorRows.{accept_answered_to, on_accept, on_prepare, unless_passed};
+ghost use Rattle.group_node.specs.Ranges.{IsGroupBallot, IsGroupValue};
 
 use crate::fault::{NodeFault, node_fault};
 use crate::laws::rows_fit;
@@ -44,7 +45,7 @@ impl<S: Store> Protocol<S> {
         from: u32,
         outbox: &mut Outbox,
     ) -> Result<(), NodeFault>
-        requires ballot { IsBallot self.old.known.me.group.size ballot }
+        requires ballot { IsGroupBallot self.old.known ballot }
         requires from { IsPlace from }
         requires open { self.old.is_stopped ≡ false }
         requires empty { outbox.old.packets ≡ [] }
@@ -74,9 +75,9 @@ impl<S: Store> Protocol<S> {
         value: Value,
         outbox: &mut Outbox,
     ) -> Result<(), NodeFault>
-        requires ballot { IsBallot self.old.known.me.group.size ballot }
+        requires ballot { IsGroupBallot self.old.known ballot }
         requires place { IsPlace place }
-        requires value { IsValue self.old.known.me.group.size value }
+        requires value { IsGroupValue self.old.known value }
         requires open { self.old.is_stopped ≡ false }
         requires empty { outbox.old.packets ≡ [] }
         ensures does { Does self.old self.new outbox.old.packets outbox.new.packets

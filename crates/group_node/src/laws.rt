@@ -16,5 +16,5 @@ pub use lawful::{
     refused_is_lawful, start_is_lawful, submit_is_lawful, tell_is_lawful, tick_is_lawful,
     typed_is_lawful,
 };
-pub use output::{learning_keeps_the_output, output_is_an_event};
+pub use output::{calls_keep_what_is_learned, learning_keeps_the_output, output_is_an_event};
 pub use waiting::waiting_keys_are_a_row;

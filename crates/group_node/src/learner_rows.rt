@@ -6,10 +6,11 @@ ghost use Rattle.paxos_msg.specs.declared.message.Body.TheVariants.{Accepted, As
 ghost use Rattle.paxos_msg.specs.declared.limits.TheConstants.{PLACES};
 ghost use Rattle.group_node.specs.Protocol.{NeedsMemory};
 ghost use Rattle.paxos_msg.specs.declared.value.Value.{Value};
-ghost use Rattle.paxos_msg.specs.Fits.{IsBallot, IsBody, IsNode, IsPlace, IsValue};
+ghost use Rattle.paxos_msg.specs.Fits.{IsBody, IsNode, IsPlace};
 ghost use Rattle.group_node.specs.Calls.{Does, MayLackMemory};
 ghost use Rattle.group_node.specs.LearnerRows.{on_accepted, on_ask, on_tell, tell_packet};
 ghost use Rattle.group_node.specs.Packets.{datagrams_of, GrowsBy, HasRoom};
+ghost use Rattle.group_node.specs.Ranges.{IsGroupBallot, IsGroupValue};
 
 use crate::fault::NodeFault;
 use crate::laws::{packets_fit, rows_fit};
@@ -48,9 +49,9 @@ impl<S: Store> Protocol<S> {
         value: Value,
     ) -> Result<(), NodeFault>
         requires sender { IsNode self.old.known.me.group.size sender }
-        requires ballot { IsBallot self.old.known.me.group.size ballot }
+        requires ballot { IsGroupBallot self.old.known ballot }
         requires place { IsPlace place }
-        requires value { IsValue self.old.known.me.group.size value }
+        requires value { IsGroupValue self.old.known value }
         ensures does { Does self.old self.new [] []
             (on_accepted self.old.known sender ballot place value) result }
         ensures needs { OnErr result
@@ -66,7 +67,7 @@ impl<S: Store> Protocol<S> {
     /// Hears a Tell.
     pub(crate) fn on_tell(&mut self, place: u32, value: Value) -> Result<(), NodeFault>
         requires place { IsPlace place }
-        requires value { IsValue self.old.known.me.group.size value }
+        requires value { IsGroupValue self.old.known value }
         ensures does { Does self.old self.new [] [] (on_tell self.old.known place value) result }
         ensures needs { (j : ℕ) → OnErr result (NeedsMemory self.old.known j (Tell place value)) }
         ensures store { self.new.store ≡ self.old.store }

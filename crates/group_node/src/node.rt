@@ -11,7 +11,7 @@ ghost use Rattle.paxos_acceptor.specs.declared.store.StoreFault.{StoreFault};
 ghost use Rattle.paxos_learner.specs.Learner.{IsFront};
 ghost use Rattle.paxos_msg.specs.declared.limits.TheConstants.{LAST_ROUND, LAST_SERIAL, LAST_START, PLACES};
 ghost use Rattle.group_node.specs.declared.limits.TheConstants.{MOST_WAITING, TICK_PACKETS};
-ghost use Rattle.group_node.specs.Calls.{Does, IsLet, IsLetIn, Saves};
+ghost use Rattle.group_node.specs.Calls.{Does, IsLet, IsLetIn, RefusesIfStopped, Saves};
 ghost use Rattle.group_node.specs.Protocol.{NeedsMemory, on_message};
 ghost use Rattle.group_node.specs.Known.{on_typed, front, new_key, next_serial, on_start};
 ghost use Rattle.group_node.specs.ProposerRows.{is_leading, last_round, own_ballot, on_campaign};
@@ -201,7 +201,7 @@ impl<'a, S: Store> Node<'a, S> {
             × (self.new.protocol.is_stopped ≡ self.old.protocol.is_stopped)
             × (self.new.progress ≡ self.old.progress) }
         ensures err { IfErr result (λ _. self.new ≡ self.old) }
-        ensures stopped { IsErrOf result NodeFault.Stopped ↔ (self.old.protocol.is_stopped ≡ true) }
+        ensures stopped { RefusesIfStopped self.old.protocol result }
         ensures busy { IsErrOf result NodeFault.Busy
             ↔ ((self.old.protocol.is_stopped ≡ false)
             × (length self.old.protocol.known.waiting ≡ MOST_WAITING)) }
@@ -311,7 +311,7 @@ impl<'a, S: Store> Node<'a, S> {
             ran) }
         ensures protocol { self.new.protocol ≡ self.old.protocol }
         ensures err { OnErr result (self.new ≡ self.old) }
-        ensures stopped { IsErrOf result NodeFault.Stopped ↔ (self.old.protocol.is_stopped ≡ true) }
+        ensures stopped { RefusesIfStopped self.old.protocol result }
         ensures others { IfErr result (λ e. e ≡ NodeFault.Stopped) }
     {
         if self.protocol.is_stopped() {

@@ -5,7 +5,7 @@ ghost use Rattle.paxos_learner.specs.Input.{learned_input};
 ghost use Rattle.pcode_machine.specs.Turns.{WaitsOn};
 ghost use Rattle.group_node.specs.declared.limits.TheConstants.{RING_BYTES};
 ghost use Rattle.group_node.specs.Output.{most_of, no_progress, RunsOn, unreleased_of};
-ghost use Rattle.group_node.specs.Player.{IsPlayed, PlaysStep, TurnsTo, progress_of};
+ghost use Rattle.group_node.specs.Player.{HasByteRoom, HasPlayedLearned, IsPlayed, PlaysStep, TurnsTo, progress_of};
 
 use crate::limits::RING_BYTES;
 use circular_buffer::HeapCircularBuffer;
@@ -91,7 +91,7 @@ impl<'a> Player<'a> {
 
     /// Puts a byte after the output that waits, for which there is room.
     fn write(&mut self, byte: u8)
-        requires { length self.old.unreleased.items < self.old.unreleased.capacity }
+        requires { HasByteRoom self.old }
         ensures { self.new ≡ record self.old {
           unreleased = buffer
               (self.old.unreleased.items ++ byte ∷ []) self.old.unreleased.capacity;
@@ -106,7 +106,7 @@ impl<'a> Player<'a> {
     /// Gives the machine the byte that it waits for.
     fn feed(&mut self, byte: u8)
         requires waits { WaitsOn self.old.machine.program self.old.machine.state }
-        requires room { length self.old.unreleased.items < self.old.unreleased.capacity }
+        requires room { HasByteRoom self.old }
         requires steps { self.old.steps < 18446744073709551615 }
         requires read { self.old.read < 18446744073709551615 }
         ensures { (wrote : List ℕ) × PlaysStep self.old self.new (byte ∷ []) wrote }
@@ -128,10 +128,10 @@ impl<'a> Player<'a> {
     /// Makes at most `most` steps, until one takes a byte of the learned input or writes one, or
     /// the run is over. Returns how many it made, and why the run is over if it is.
     fn turn(&mut self, learner: &Learner, most: u32) -> (u32, Option<Ran>)
-        requires exact { IsPlayed (learned_input learner.now.learned) self.old }
+        requires exact { HasPlayedLearned learner.now self.old }
         requires room { length self.old.unreleased.items < RING_BYTES }
         requires steps { self.old.steps + most ≤ 18446744073709551615 }
-        ensures exact { IsPlayed (learned_input learner.now.learned) self.new }
+        ensures exact { HasPlayedLearned learner.now self.new }
         ensures turns { TurnsTo (learned_input learner.now.learned) most self.old self.new result }
         ensures most { result.0 ≤ most }
         ensures steps { self.new.steps ≡ self.old.steps + result.0 }
@@ -163,8 +163,8 @@ impl<'a> Player<'a> {
     /// Makes at most `steps` steps on the learned input. Before each step it checks whether the
     /// steps are spent, then whether 256 bytes wait, then the machine. It allocates nothing.
     pub(crate) fn run(&mut self, learner: &Learner, steps: u32) -> Ran
-        requires { IsPlayed (learned_input learner.now.learned) self.old }
-        ensures exact { IsPlayed (learned_input learner.now.learned) self.new }
+        requires { HasPlayedLearned learner.now self.old }
+        ensures exact { HasPlayedLearned learner.now self.new }
         ensures runs { RunsOn (learned_input learner.now.learned) steps (progress_of self.old)
             (progress_of self.new) result }
     {

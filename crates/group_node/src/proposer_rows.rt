@@ -6,7 +6,7 @@ ghost use Rattle.group_node.specs.declared.limits.TheConstants.{MOST_PUMPED};
 ghost use Rattle.group_node.specs.Protocol.{NeedsMemory, row};
 ghost use Rattle.paxos_msg.specs.declared.value.Value.{Value};
 ghost use Rattle.paxos_msg.specs.Fits.{IsBallot, IsPlace, IsValue, Fits};
-ghost use Rattle.group_node.specs.Calls.{Does, IsCampaignRefused, MayFailToSave, MayLackMemory, Saves};
+ghost use Rattle.group_node.specs.Calls.{Does, IsCampaignRefused, Knows, MayFailToSave, MayLackMemory, Saves};
 ghost use Rattle.group_node.specs.ProposerRows.{on_refused, greater_ballot, unless_refused, are_known, on_submit, is_known, is_known_key, offer_after, offered_with, prepare_from, on_campaign, beginning};
 ghost use Rattle.group_node.specs.Packets.{datagrams_of, GrowsBy, HasRoom};
 ghost use Rattle.paxos_proposer.specs.Proposer.{IsPromisePart, asks_after, greatest_round, heard_promise};
@@ -17,7 +17,7 @@ ghost use Rattle.paxos_acceptor.specs.Follows.{Follows};
 ghost use Rattle.paxos_learner.specs.Entered.{key_of};
 ghost use Rattle.group_node.specs.Known.{front};
 ghost use Rattle.group_node.specs.Pump.{accepts_of, pump};
-ghost use Rattle.group_node.specs.Ranges.{IsMember, IsOwnProposer};
+ghost use Rattle.group_node.specs.Ranges.{IsGroupBallot, IsGroupValue, IsMember, IsOwnProposer};
 
 use crate::fault::{NodeFault, node_fault};
 use crate::laws::rows_fit;
@@ -208,7 +208,7 @@ impl<S: Store> Protocol<S> {
 
     /// Begins a ballot at the known front. A buffer is ready.
     fn begin_ballot(&mut self, ballot: Ballot, outbox: &mut Outbox) -> Result<(), NodeFault>
-        requires ballot { IsBallot self.old.known.me.group.size ballot }
+        requires ballot { IsGroupBallot self.old.known ballot }
         requires own { ballot.node ≡ self.old.known.me.node }
         requires above { IfSome self.old.known.kept.promised (λ b. IsBelow b ballot) }
         requires place { front self.old.known < PLACES }
@@ -265,9 +265,7 @@ impl<S: Store> Protocol<S> {
     /// Remembers the ballot that a Refused reports, and drops the proposer if its ballot was
     /// refused.
     pub(crate) fn on_refused(&mut self, ballot: Ballot, promised: Ballot)
-        ensures known { self.new.known ≡ (on_refused self.old.known ballot promised).node }
-        ensures store { self.new.store ≡ self.old.store }
-        ensures stops { self.new.is_stopped ≡ self.old.is_stopped }
+        ensures { Knows self.old self.new (on_refused self.old.known ballot promised).node }
     {
         rows_fit();
         self.remembered = Some(greater_ballot(self.remembered, promised));
@@ -322,7 +320,7 @@ impl<S: Store> Protocol<S> {
     /// Offers the value of a Submit after a pump, if the node leads and does not know each key of
     /// the value. All room is made before.
     pub(crate) fn on_submit(&mut self, value: &Value, outbox: &mut Outbox) -> Result<(), NodeFault>
-        requires value { IsValue self.old.known.me.group.size value.now }
+        requires value { IsGroupValue self.old.known value.now }
         requires empty { outbox.old.packets ≡ [] }
         ensures does { Does self.old self.new outbox.old.packets outbox.new.packets
             (on_submit self.old.known value.now) result }

@@ -9,7 +9,7 @@ ghost use Rattle.group_node.specs.Ranges.{IsInRange};
 ghost use Rattle.group_node.specs.Known.{on_typed, new_key, next_serial, on_start, front};
 ghost use Rattle.paxos_msg.specs.Fits.{Fits};
 ghost use Rattle.paxos_proposer.specs.Proposer.{greatest_round};
-ghost use Rattle.group_node.specs.Calls.{Does, IsLetIn, MayFailToSave, Saves};
+ghost use Rattle.group_node.specs.Calls.{Does, IsLetIn, Knows, MayFailToSave, Saves};
 ghost use Rattle.group_node.specs.Protocol.{NeedsMemory, on_message, row};
 ghost use Rattle.group_node.specs.ProposerRows.{on_campaign};
 ghost use Rattle.group_node.specs.Tick.{on_tick};
@@ -57,8 +57,8 @@ impl<S: Store + Drop> Drop for Protocol<S> {
 }
 
 impl<S: Store> Model for Protocol<S> {
-    ghost use Rattle.std.specs.Prelude.{◌≡◌, option_map};
-    ghost use Rattle.group_node.specs.States.{IsInStep, Protocol as State};
+    ghost use Rattle.std.specs.Prelude.{◌≡◌};
+    ghost use Rattle.group_node.specs.States.{IsInStep, Protocol as State, protocol_of};
     ghost use Rattle.std.specs.Coded.{codes};
     ghost use Rattle.paxos_learner.specs.Codes.{learner_code};
 
@@ -66,35 +66,12 @@ impl<S: Store> Model for Protocol<S> {
 
     ghost coded = { Prim.hlevel (codes, learner_code) };
 
-    ghost view = { λ p. record {
-      known = record {
-        me = p.me;
-        kept = p.acceptor.kept;
-        learner = p.learner;
-        proposer = option_map (λ q. q.known) p.proposer;
-        remembered = p.remembered;
-        offered = p.offered.keys;
-        waiting = p.waiting.bytes;
-        first = p.waiting.first;
-      };
-      is_stopped = p.acceptor.is_closed;
-      store = p.acceptor.store;
-    } };
+    ghost view = { λ p. protocol_of p.me p.acceptor p.learner p.proposer p.remembered
+        p.offered p.waiting };
 
-    ghost invariant = { λ p. (p.acceptor.me ≡ p.me) × IsInStep S.honest S.state (record {
-      known = record {
-        me = p.me;
-        kept = p.acceptor.kept;
-        learner = p.learner;
-        proposer = option_map (λ q. q.known) p.proposer;
-        remembered = p.remembered;
-        offered = p.offered.keys;
-        waiting = p.waiting.bytes;
-        first = p.waiting.first;
-      };
-      is_stopped = p.acceptor.is_closed;
-      store = p.acceptor.store;
-    }) };
+    ghost invariant = { λ p. (p.acceptor.me ≡ p.me) × IsInStep S.honest S.state
+        (protocol_of p.me p.acceptor p.learner p.proposer p.remembered
+        p.offered p.waiting) };
 }
 
 /// A store over which a node was not started, and why.
@@ -110,9 +87,7 @@ impl<S: Store> Protocol<S> {
         requires room { length self.old.known.waiting < MOST_WAITING }
         requires serial { next_serial self.old.known ≤ LAST_SERIAL }
         ensures key { result ≡ new_key self.old.known byte }
-        ensures known { self.new.known ≡ (on_typed self.old.known byte).node }
-        ensures store { self.new.store ≡ self.old.store }
-        ensures stops { self.new.is_stopped ≡ self.old.is_stopped }
+        ensures knows { Knows self.old self.new (on_typed self.old.known byte).node }
     {
         what_goes_out_fits();
         let first = self.waiting.next_serial() as u32;
@@ -217,9 +192,7 @@ impl<S: Store> Protocol<S> {
 
     /// Drops the waiting keys that are below the front.
     pub(crate) fn drop_read(&mut self)
-        ensures known { self.new.known ≡ without_read self.old.known }
-        ensures store { self.new.store ≡ self.old.store }
-        ensures stops { self.new.is_stopped ≡ self.old.is_stopped }
+        ensures { Knows self.old self.new (without_read self.old.known) }
     {
         rows_fit();
         let start = self.acceptor.record().starts;

@@ -1,8 +1,7 @@
 //! What a node does at a tick.
 ghost use Rattle.std.specs.Prelude.{◌≡◌, ◌⊎◌, ◌+◌, ◌<◌, ◌≤◌, [], ◌∷◌, ◌++◌, Err, IsSome, IsTrue, OnErr, OnOk, Some, is_some, length};
 ghost use Rattle.std.specs.Option.{option_to_list};
-ghost use Rattle.paxos_msg.specs.declared.message.Body.TheVariants.{Ask, Submit};
-ghost use Rattle.paxos_msg.specs.declared.value.Value.{Value};
+ghost use Rattle.paxos_msg.specs.declared.message.Body.TheVariants.{Ask};
 ghost use Rattle.paxos_msg.specs.Fits.{IsBody};
 ghost use Rattle.paxos_msg.specs.declared.limits.TheConstants.{MOST_NODES};
 ghost use Rattle.group_node.specs.declared.limits.TheConstants.{MOST_AGAIN, MOST_PUMPED, PROPOSER_PACKETS, TICK_PACKETS};
@@ -10,7 +9,7 @@ ghost use Rattle.group_node.specs.Calls.{Does, MayLackMemory};
 ghost use Rattle.group_node.specs.Tick.{accept_again, accepts_again, asks_again, on_tick, batch_of, prepares_again, submits};
 ghost use Rattle.group_node.specs.Packets.{datagrams_of, GrowsBy, HasRoom, to_all};
 ghost use Rattle.group_node.specs.Pump.{accepts_of, pump};
-ghost use Rattle.group_node.specs.Ranges.{IsMember, IsOwnProposer};
+ghost use Rattle.group_node.specs.Ranges.{IsMember, IsOwnProposer, MaySubmit};
 
 use crate::fault::NodeFault;
 use crate::laws::{packets_fit, what_goes_out_fits};
@@ -102,7 +101,8 @@ fn accept_again(
 }
 
 /// Sends again the Accepts of the places that are not learned: the 16 lowest. Places from 1,024
-/// above the front on are never learned. So it looks at no more than that many without one to send.
+/// above the front on are never learned. So it looks at no more than 1,024 places without an Accept
+/// to send.
 fn accept_all_again(learner: &Learner, proposer: &Proposer, me: Me, outbox: &mut Outbox)
     requires me { IsMember me }
     requires own { IsOwnProposer me proposer.now.known }
@@ -126,7 +126,7 @@ fn accept_all_again(learner: &Learner, proposer: &Proposer, me: Me, outbox: &mut
 /// Submits the batch, if there is one.
 fn submit(batch: Option<Value>, me: Me, outbox: &mut Outbox)
     requires me { IsMember me }
-    requires batch { (v : Value) → batch ≡ Some v → IsBody me.group.size me.node (Submit v) }
+    requires batch { MaySubmit me batch }
     requires room { HasRoom 1 outbox.old }
     ensures packets { outbox.new.packets ≡ outbox.old.packets ++ datagrams_of me (submits batch) }
     ensures grows { GrowsBy 1 outbox.old outbox.new }
@@ -139,7 +139,7 @@ fn submit(batch: Option<Value>, me: Me, outbox: &mut Outbox)
 /// Submits the batch, if there is one, and asks all for what is learned from `from` on.
 fn ask(batch: Option<Value>, from: u32, me: Me, outbox: &mut Outbox)
     requires me { IsMember me }
-    requires batch { (v : Value) → batch ≡ Some v → IsBody me.group.size me.node (Submit v) }
+    requires batch { MaySubmit me batch }
     requires from { IsBody me.group.size me.node (Ask from) }
     requires room { HasRoom 2 outbox.old }
     ensures { outbox.new.packets

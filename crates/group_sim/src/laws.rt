@@ -8,9 +8,9 @@ ghost use Rattle.group_sim.specs.declared.simulation.Halt.{Halt};
 ghost use Rattle.group_sim.specs.declared.simulation.Halt.TheVariants as halt;
 ghost use Rattle.group_sim.specs.Moments.{DeliversOne, HappensAt, Moment, Shows};
 
-/// Says that what halts could not have been done. An event that can happen is refused only if
-/// memory runs out. A delivery for which a settle is too long can't be made. A `show` halts only if
-/// a write fails.
+/// A line that can be done does not halt, unless memory runs out or a write fails. An event that
+/// can happen is refused only as `Memory`, a delivery that can be made is not one too many for a
+/// `settle`, and a `show` halts only at a failed write.
 pub fn halts_have_a_cause()
     ensures refused { (number : ℕ) (e : Event) (a b c : Moment) (f : WorldFault)
         → HappensAt number e a (Ok tt) b → HappensAt number e a (Err (halt.Refused f)) c

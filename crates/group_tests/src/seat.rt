@@ -93,7 +93,7 @@ impl<'a> Seat<'a> {
         self.node.typed(byte)
     }
 
-    /// Hears a datagram. Returns `None` if it is none of the group.
+    /// Hears a datagram. Returns `None` if it spells no message of the group.
     pub fn hear(&mut self, bytes: &[u8]) -> Option<Result<(), NodeFault>> {
         let view = decode(bytes, GROUP).ok()?;
         Some(self.node.on_message(&view, &mut self.outbox))

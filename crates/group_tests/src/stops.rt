@@ -8,7 +8,7 @@ use std::alloc::Global;
 use std::marker::Model;
 use std::test::Fail;
 
-/// Node 1 leads, and two keys are typed at node 2, each of which all nodes learn. Messages are
+/// Node 1 leads, and two keys are typed at node 2. All nodes learn both. Messages are
 /// numbered in the order in which they are sent: 0 asks for promises, 1 to 3 are the promises, 4
 /// and 10 submit a key, 5 and 11 ask what was learned, 6 and 12 propose, and the others report
 /// votes.

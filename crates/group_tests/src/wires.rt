@@ -1,4 +1,4 @@
-//! Nodes on wires in memory, of which one send or one receive fails.
+//! Nodes on wires in memory. One send or one receive fails.
 ghost use Rattle.std.specs.Prelude.{◌≡◌, ◌≤◌, length, IfSome};
 
 use crate::program::reading_program;
@@ -179,7 +179,7 @@ fn started<'a>(alloc: Global, program: &'a Program) -> Result<Vec<Player<'a>>, F
     Ok(players)
 }
 
-/// Starts the three nodes, of which the first one leads.
+/// Starts the three nodes, and has the first one campaign.
 fn players<'a>(
     alloc: Global,
     program: &'a Program,
@@ -222,7 +222,7 @@ fn shows_all(alloc: Global, program: &Program, failure: Failure) -> Result<bool,
     )
 }
 
-/// Shows Host::turn (turned, runs), Host::press (pressed), Host::release (some, none), Wire::send
+/// Shows Host::turn (turned), Host::press (pressed), Host::release (some, none), Wire::send
 /// (handed), Wire::receive (within, given, idle): if nothing fails, all consoles show all keys.
 #[test]
 fn no_wire_fails(rt: HostRuntime) -> Result<(), Fail> {
@@ -235,7 +235,7 @@ fn no_wire_fails(rt: HostRuntime) -> Result<(), Fail> {
     Ok(())
 }
 
-/// Shows Host::turn (turned, runs): if one of the first 200 sends fails, no console shows what it
+/// Shows Host::turn (turned): if one of the first 200 sends fails, no console shows what it
 /// must not.
 #[test]
 fn a_send_fails(rt: HostRuntime) -> Result<(), Fail> {
@@ -246,7 +246,7 @@ fn a_send_fails(rt: HostRuntime) -> Result<(), Fail> {
     Ok(())
 }
 
-/// Shows Host::turn (turned, runs): if one of the first 200 receives gives nothing, no console
+/// Shows Host::turn (turned): if one of the first 200 receives gives nothing, no console
 /// shows what it must not.
 #[test]
 fn a_receive_gives_nothing(rt: HostRuntime) -> Result<(), Fail> {

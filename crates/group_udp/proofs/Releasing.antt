@@ -64,7 +64,7 @@ releases_all x old new gone none h =
 
 -- ---- what is written
 
--- of bytes of which the first has the number k, those with a number from seen on, and one byte more
+-- the bytes with a number from seen on, where the first has the number k, and one byte more
 pub unseen_seen : (seen k b : ℕ) (gone : List ℕ) → k + length gone < seen → drop (seen - k) (gone ++ b ∷ []) ≡ drop (seen - k) gone
 unseen_seen seen k b gone low =
     let longer : length (gone ++ b ∷ []) ≡ length gone + 1 = length-append gone (b ∷ []) in
@@ -109,7 +109,7 @@ released_on x old new gone h =
     ap (take (length gone)) h.waited ∙ take-append_seam gone (unreleased_of x new) in
     ap (released_of x) h.progress ∙ take_then old.released (length gone) xs ∙ ap (λ (ws : List ℕ). take old.released xs ++ ws) first
 
--- so many bytes were released, where one waits or as many were written
+-- the number of released bytes, where one waits or as many were written
 pub released_many : (x : List ℕ) (q : Progress) → q.released ≤ length (out q.program x q.steps) → length (released_of x q) ≡ q.released
 released_many x q h = length-take-le q.released (out q.program x q.steps) h
 

@@ -8,9 +8,7 @@ use Rattle.group_udp.specs.declared.fault.GroupFault.{GroupFault}
 use Rattle.group_udp.specs.declared.fault.GroupFault.TheVariants as group
 use Rattle.group_udp.specs.declared.keyboard.Pressed.{Pressed}
 use Rattle.group_wire.specs.Turns.{HasHeard}
-use Rattle.group_udp.specs.Output.{ReleasesBytes, all_released, unseen_of}
-use Rattle.group_udp.specs.Refusals.{write_failed}
-use Rattle.group_udp.specs.Rounds.{Call, HasPlayed, HasOwnTurn, HasPressedKeyboard, HasRested, HasRestedAndTurned, Hears, HearsMany, IsRound, NodeMoment, RestsUnless, Rounds, ThenCalls}
+use Rattle.group_udp.specs.Rounds.{Call, HasPlayed, HasOwnTurn, HasPressedKeyboard, HasReleased, HasRested, HasRestedAndTurned, Hears, HearsMany, IsRound, NodeMoment, RestsUnless, Rounds, ThenCalls}
 
 -- a call, and then the last one
 pub then_last : {M T U : Type 0} (first : Call M T) (second : Call M U) (old mid new : M) (y : T)
@@ -89,51 +87,23 @@ module _ {S : Type 0} (honest at_will : Type 0) (state : S → StoreState) where
   pub round_done : (seen : ℕ) (busy then : Bool) (old mid new : NodeState S) (c d : Option
       (List ℕ))
       → HasRestedAndTurned honest at_will state busy old mid (Ok then)
-      → new.progress ≡ all_released (input mid.protocol.known) mid.progress
-      → Appends c d (unseen_of seen (input mid.protocol.known) mid.progress)
-      → new.protocol ≡ mid.protocol
+      → HasReleased seen (record { node = mid; written = c }) (record { node = new; written = d }) (Ok tt)
       → IsRound honest at_will state seen busy (record { node = old; written = c }) (record {
         node = new;
         written = d;
       }) (Ok then)
-  round_done seen busy then old mid new c d h released appended rest = (
-    record { node = mid; written = c },
-    (h, refl),
-    record { progress = released; appended = appended; protocol = rest },
-  )
+  round_done seen busy then old mid new c d h k = (record { node = mid; written = c }, (h, refl), k)
 
   pub round_unwritten : (seen : ℕ) (busy then : Bool) (old mid new : NodeState S)
       (c d : Option (List ℕ)) (e f : GroupFault) (r : Result Bool GroupFault)
-      → r ≡ Err e → e ≡ f → f ≡ write_failed → HasRestedAndTurned honest at_will state busy old mid
-      (Ok then)
-      → (gone : List ℕ) × (byte : ℕ) × ReleasesBytes
-      (input mid.protocol.known) mid.progress new.progress (gone ++ byte ∷ [])
-      × (seen ≤ mid.progress.released + length gone)
-      × Appends c d (drop (seen - mid.progress.released) gone)
-      → new.protocol ≡ mid.protocol
+      → r ≡ Err e → e ≡ f → HasRestedAndTurned honest at_will state busy old mid (Ok then)
+      → HasReleased seen (record { node = mid; written = c }) (record { node = new; written = d }) (Err f)
       → IsRound honest at_will state seen busy (record { node = old; written = c }) (record {
         node = new;
         written = d;
       }) r
-  round_unwritten seen busy then old mid new c d e f r is same fails h
-      (gone, byte, released, unseen, appended) rest =
-      rw is (inr (
-        record { node = mid; written = c },
-        then,
-        (h, refl),
-        (
-          record {
-            gone = gone;
-            byte = byte;
-            released = released;
-            unseen = unseen;
-            appended =
-                appended;
-            protocol = rest;
-          },
-          same ∙ fails,
-        ),
-      ))
+  round_unwritten seen busy then old mid new c d e f r is same h (lost, fails) =
+      rw is (inr (record { node = mid; written = c }, then, (h, refl), (lost, same ∙ fails)))
 
   -- ---- rounds, one after the other
 

@@ -11,7 +11,7 @@ use Rattle.group_node.specs.Output.{IsReplay, Progress, no_progress}
 use Rattle.group_node.specs.States.{NodeState, input}
 use Rattle.group_udp.specs.declared.fault.GroupFault.{GroupFault}
 use Rattle.group_wire.specs.Turns.{released_by}
-use Rattle.group_udp.specs.Output.{WritesOutput}
+use Rattle.group_udp.specs.Output.{AppendsOutput}
 use Rattle.group_udp.specs.Refusals.{IsCampaignRefusal, IsOpenRefusal, IsRoundRefusal, no_memory, write_failed}
 use Rattle.group_udp.specs.Runs.{HasRunNode, HasRunOverFile, HasShown, filed_loads, filed_state}
 use Rattle.group_udp.proofs.Writing.{no_write}
@@ -42,7 +42,7 @@ pub shown_from : {S : Type 0} (p : Parts) (seen : ℕ) (first last : NodeState S
     (c d : Option (List ℕ))
     → first.progress ≡ no_progress p → last.progress.program ≡ first.progress.program
     → IsReplay (input last.protocol.known) last.progress
-    → (wrote : List ℕ) × WritesOutput seen first last fails wrote × Appends c d wrote
+    → AppendsOutput seen first last fails c d
     → HasShown p seen fails c d
 shown_from p seen first last fails c d start program replay (wrote, h, appends) =
     let few : released_by first ≡ [] = ap (λ (q : Progress). take q.released (out q.program

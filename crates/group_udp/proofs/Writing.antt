@@ -8,7 +8,8 @@ use Rattle.group_node.specs.Output.{IsReplay, Progress, unreleased_of}
 use Rattle.group_node.specs.States.{Protocol, NodeState, input}
 use Rattle.group_udp.specs.declared.fault.GroupFault.{GroupFault}
 use Rattle.group_wire.specs.Turns.{released_by, released_of}
-use Rattle.group_udp.specs.Output.{ReleasesBytes, WritesOutput, all_released}
+use Rattle.group_udp.specs.Output.{AppendsOutput, ReleasesBytes, WritesOutput, all_released}
+use Rattle.group_udp.specs.Rounds.{LosesOutput}
 use Rattle.group_udp.specs.Refusals.{IsRoundRefusal, write_failed}
 use Rattle.group_udp.proofs.Releasing.{released_many, released_on}
 
@@ -42,7 +43,7 @@ all_gone x old new is =
 -- nothing was released
 pub wrote_none : {S : Type 0} (seen : ℕ) (old new : NodeState S) (fails : Type 0) (c : Option (List ℕ)) → ¬ fails
     → released_by new ≡ released_by old
-    → (wrote : List ℕ) × WritesOutput seen old new fails wrote × Appends c c wrote
+    → AppendsOutput seen old new fails c c
 wrote_none seen old new fails c not same = (
   [],
   record {
@@ -54,24 +55,7 @@ wrote_none seen old new fails c not same = (
   Appends-nil c,
 )
 
--- what was released so far is written, and no write has failed
-pub wrote_so_far : {S : Type 0} (seen : ℕ) (old new : NodeState S) (fails : Type 0)
-    (c d : Option (List ℕ)) → ¬ fails
-    → (wrote : List ℕ) × (drop seen (released_by new) ≡ drop seen (released_by old) ++ wrote)
-    × Appends c d wrote
-    → (wrote : List ℕ) × WritesOutput seen old new fails wrote × Appends c d wrote
-wrote_so_far seen old new fails c d not (wrote, whole, appends) = (
-  wrote,
-  record {
-    lost = [];
-    whole = whole ∙ sym (append-nil (drop seen (released_by old) ++ wrote));
-    one = λ f. absurd (not f);
-    none = λ _. refl;
-  },
-  appends,
-)
-
--- bytes were released, of which those that were not seen were written or lost
+-- bytes were released, and those that were not seen were written or lost
 wrote_some : {S : Type 0} (seen : ℕ) (old mid new : NodeState S) (gone : List ℕ) → released_by mid ≡ released_by old
     → IsReplay (input mid.protocol.known) mid.progress
     → new.protocol ≡ mid.protocol → ReleasesBytes (input mid.protocol.known) mid.progress new.progress gone
@@ -90,7 +74,7 @@ pub wrote_all : {S : Type 0} (seen : ℕ) (old mid new : NodeState S) (fails : T
     → IsReplay (input mid.protocol.known) mid.progress → new.protocol ≡ mid.protocol
     → ReleasesBytes (input mid.protocol.known) mid.progress new.progress (unreleased_of (input mid.protocol.known) mid.progress)
     → Appends c d (drop (seen - mid.progress.released) (unreleased_of (input mid.protocol.known) mid.progress))
-    → (wrote : List ℕ) × WritesOutput seen old new fails wrote × Appends c d wrote
+    → AppendsOutput seen old new fails c d
 wrote_all seen old mid new fails c d not same replay protocol h appends =
     let gone : List ℕ = unreleased_of (input mid.protocol.known) mid.progress in
     let wrote : List ℕ = drop (seen - mid.progress.released) gone in (
@@ -107,11 +91,13 @@ wrote_all seen old mid new fails c d not same replay protocol h appends =
 -- the last byte was lost
 pub wrote_but_one : {S : Type 0} (seen : ℕ) (old mid new : NodeState S) (fails : Type 0) (c d : Option (List ℕ)) → fails
     → released_by mid ≡ released_by old
-    → IsReplay (input mid.protocol.known) mid.progress → new.protocol ≡ mid.protocol
-    → (gone : List ℕ) × (byte : ℕ) × ReleasesBytes (input mid.protocol.known) mid.progress new.progress (gone ++ byte ∷ [])
-    × (seen ≤ mid.progress.released + length gone) × Appends c d (drop (seen - mid.progress.released) gone)
-    → (wrote : List ℕ) × WritesOutput seen old new fails wrote × Appends c d wrote
-wrote_but_one seen old mid new fails c d is same replay protocol (gone, byte, h, high, appends) =
+    → IsReplay (input mid.protocol.known) mid.progress
+    → LosesOutput seen (record { node = mid; written = c }) (record { node = new; written = d })
+    → AppendsOutput seen old new fails c d
+wrote_but_one seen old mid new fails c d is same replay loses =
+    let gone : List ℕ = loses.gone in
+    let byte : ℕ = loses.byte in
+    let high : seen ≤ mid.progress.released + length gone = loses.unseen in
     let wrote : List ℕ = drop (seen - mid.progress.released) gone in
     let last : drop (seen - mid.progress.released) (gone ++ byte ∷ []) ≡ wrote ++ byte ∷ [] =
     drop-append-le (seen - mid.progress.released) gone (byte ∷ []) (omega arith) in (
@@ -119,13 +105,13 @@ wrote_but_one seen old mid new fails c d is same replay protocol (gone, byte, h,
       record {
         lost = byte ∷ [];
         whole =
-            wrote_some seen old mid new (gone ++ byte ∷ []) same replay protocol h
+            wrote_some seen old mid new (gone ++ byte ∷ []) same replay loses.protocol loses.released
             ∙ ap (λ (bs : List ℕ). drop seen (released_by old) ++ bs) last
             ∙ sym (append_assoc (drop seen (released_by old)) wrote (byte ∷ []));
         one = λ _. refl;
         none = λ not. absurd (not is);
       },
-      appends,
+      loses.appended,
     )
 
 -- ---- rounds, one after the other
@@ -134,10 +120,26 @@ wrote_but_one seen old mid new fails c d is same replay protocol (gone, byte, h,
 abbrev pub WroteSoFar : {S : Type 0} → ℕ → NodeState S → NodeState S → Option (List ℕ) → Option (List ℕ) → Type 0
 WroteSoFar seen old new c d = (wrote : List ℕ) × (drop seen (released_by new) ≡ drop seen (released_by old) ++ wrote) × Appends c d wrote
 
+-- what was released so far is written, and no write has failed
+pub wrote_so_far : {S : Type 0} (seen : ℕ) (old new : NodeState S) (fails : Type 0)
+    (c d : Option (List ℕ)) → ¬ fails
+    → WroteSoFar seen old new c d
+    → AppendsOutput seen old new fails c d
+wrote_so_far seen old new fails c d not (wrote, whole, appends) = (
+  wrote,
+  record {
+    lost = [];
+    whole = whole ∙ sym (append-nil (drop seen (released_by old) ++ wrote));
+    one = λ f. absurd (not f);
+    none = λ _. refl;
+  },
+  appends,
+)
+
 -- a round more
 pub wrote_more : {S : Type 0} (seen : ℕ) (old mid new : NodeState S) (fails : Type 0) (c d e : Option (List ℕ))
     → ¬ fails → WroteSoFar seen old mid c d
-    → (wrote : List ℕ) × WritesOutput seen mid new fails wrote × Appends d e wrote → WroteSoFar seen old new c e
+    → AppendsOutput seen mid new fails d e → WroteSoFar seen old new c e
 wrote_more seen old mid new fails c d e not (first, whole, before) (wrote, h, then) = (
   first ++ wrote,
   h.whole ∙ ap (λ (bs : List ℕ). (drop seen (released_by mid) ++ wrote) ++ bs) (h.none not)
@@ -149,8 +151,8 @@ wrote_more seen old mid new fails c d e not (first, whole, before) (wrote, h, th
 -- the last round, which may fail
 pub wrote_last : {S : Type 0} (seen : ℕ) (old mid new : NodeState S) (fails now : Type 0) (c d e : Option (List ℕ))
     → (now → fails) → (fails → now) → WroteSoFar seen old mid c d
-    → (wrote : List ℕ) × WritesOutput seen mid new fails wrote × Appends d e wrote
-    → (wrote : List ℕ) × WritesOutput seen old new now wrote × Appends c e wrote
+    → AppendsOutput seen mid new fails d e
+    → AppendsOutput seen old new now c e
 wrote_last seen old mid new fails now c d e to from (first, whole, before) (wrote, h, then) = (
   first ++ wrote,
   record {
@@ -162,19 +164,4 @@ wrote_last seen old mid new fails now c d e to from (first, whole, before) (wrot
     none = λ not. h.none (λ f. not (from f));
   },
   Appends-trans c d e first wrote before then,
-)
-
--- all rounds, none of which failed
-pub wrote_through : {S : Type 0} (seen : ℕ) (old new : NodeState S) (fails : Type 0) (c d : Option (List ℕ)) → ¬ fails
-    → WroteSoFar seen old new c d
-    → (wrote : List ℕ) × WritesOutput seen old new fails wrote × Appends c d wrote
-wrote_through seen old new fails c d not (wrote, whole, appends) = (
-  wrote,
-  record {
-    lost = [];
-    whole = whole ∙ sym (append-nil (drop seen (released_by old) ++ wrote));
-    one = λ f. absurd (not f);
-    none = λ _. refl;
-  },
-  appends,
 )

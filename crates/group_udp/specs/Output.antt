@@ -1,5 +1,6 @@
 -- The output of a node that was released, and the part of it that is written.
-use Rattle.std.specs.Prelude.{◌≡◌, ℕ, ◌+◌, ◌-◌, List, [], ◌++◌, drop, length, take}
+use Rattle.std.specs.Prelude.{◌≡◌, ℕ, ◌+◌, ◌-◌, List, [], ◌++◌, drop, length, take, Option}
+use Rattle.std.specs.Io.KnownBytes.{Appends}
 use Rattle.pcode_file.specs.Parts.{Parts}
 use Rattle.pcode_machine.specs.Runs.{out}
 use Rattle.group_node.specs.Output.{Progress, unreleased_of}
@@ -40,3 +41,17 @@ pub record WritesOutput {S : Type 0} (seen : ℕ) (old new : NodeState S) (fails
   pub whole : drop seen (released_by new) ≡ (drop seen (released_by old) ++ wrote) ++ lost
   pub one : fails → length lost ≡ 1
   pub none : ¬ fails → lost ≡ []
+
+-- The bytes that were written between two moments were appended to what a writer held.
+abbrev pub AppendsOutput : {S : Type 0} → ℕ → NodeState S → NodeState S → Type 0
+    → Option (List ℕ) → Option (List ℕ) → Type 0
+AppendsOutput seen old new fails from to =
+    (wrote : List ℕ) × WritesOutput seen old new fails wrote × Appends from to wrote
+
+-- Two states of a node that runs the same program.
+abbrev pub SameProgram : {S : Type 0} → NodeState S → NodeState S → Type 0
+SameProgram old new = new.progress.program ≡ old.progress.program
+
+-- A console that shows what the node has released.
+abbrev pub ShowsReleased : {S : Type 0} → List ℕ → NodeState S → Type 0
+ShowsReleased bytes n = bytes ≡ released_by n

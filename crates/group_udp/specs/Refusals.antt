@@ -21,9 +21,17 @@ no_memory = Machine (Run Memory)
 abbrev pub IsTurnRefusal : GroupFault → Type 0
 IsTurnRefusal e = (e ≡ group.Node Stopped) ⊎ (e ≡ group.Node Store)
 
+-- What a turn whose output is shown may refuse: also memory that ran out.
+abbrev pub IsShownTurnRefusal : GroupFault → Type 0
+IsShownTurnRefusal e = IsTurnRefusal e ⊎ (e ≡ no_memory)
+
 -- What a node may refuse in a round: it is stopped, a save failed, or its serials are spent.
 abbrev pub IsRoundRefusal : GroupFault → Type 0
 IsRoundRefusal e = (e ≡ group.Node Stopped) ⊎ (e ≡ group.Node Store) ⊎ (e ≡ group.Node SerialSpent)
+
+-- What a round whose output is written may refuse: also a failed write.
+abbrev pub IsWrittenRoundRefusal : GroupFault → Type 0
+IsWrittenRoundRefusal e = IsRoundRefusal e ⊎ (e ≡ write_failed)
 
 -- What else a campaign may refuse.
 abbrev pub IsCampaignRefusal : GroupFault → Type 0
@@ -38,9 +46,13 @@ IsStartRefusal e = (e ≡ group.Node fault.BadRecord) ⊎ (e ≡ group.Node faul
 abbrev pub IsRunRefusal : GroupFault → Type 0
 IsRunRefusal e = IsRoundRefusal e ⊎ (e ≡ write_failed) ⊎ IsCampaignRefusal e ⊎ IsStartRefusal e
 
+-- The refusal for a socket that is missing.
+abbrev pub IsSocketRefusal : GroupFault → Type 0
+IsSocketRefusal e = e ≡ group.Socket
+
 -- Why sockets are not opened.
 abbrev pub IsOpenRefusal : GroupFault → Type 0
-IsOpenRefusal e = (e ≡ group.Socket) ⊎ (e ≡ no_memory)
+IsOpenRefusal e = IsSocketRefusal e ⊎ (e ≡ no_memory)
 
 -- Why a group in one process ends early.
 abbrev pub IsNetRefusal : GroupFault → Type 0

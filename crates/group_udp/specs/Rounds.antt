@@ -41,14 +41,14 @@ Hears honest state old new (Err e) =
     (fault : NodeFault) × HasHeard honest state old new None None (Err fault)
     × (e ≡ group.Node fault)
 
--- `n` receives, none of which was refused.
+-- `n` receives that were not refused.
 abbrev pub HearsMany : {S : Type 0} → Type 0 → (S → StoreState) → ℕ → NodeState S
     → NodeState S → Type 0
 HearsMany honest state zero old new = new ≡ old
 HearsMany {S} honest state (suc n) old new =
     (mid : NodeState S) × HearsMany honest state n old mid × Hears honest state mid new (Ok tt)
 
--- A rest: some receives, of which only the last may be refused.
+-- A rest: some receives. Only the last of them may be refused.
 -- Allows: no receive.
 abbrev pub HasRested : {S : Type 0} → Type 0 → (S → StoreState) → Call (NodeState S) (Unit {0})
 HasRested honest state old new (Ok x) = (n : ℕ) × HearsMany honest state n old new
@@ -130,7 +130,7 @@ pub record NodeMoment (S : Type 0) : Type 0 where
 abbrev pub Unwritten : {S T : Type 0} → Call (NodeState S) T → Call (NodeMoment S) T
 Unwritten call old new result = call old.node new.node result × (new.written ≡ old.written)
 
--- A release of all output that waits, of which the bytes that were not seen are written.
+-- A release of all output that waits. The bytes that were not seen are written.
 -- Allows: no byte waits.
 pub record WritesAll {S : Type 0} (seen : ℕ) (old new : NodeMoment S) : Type 0 where
   pub progress : new.node.progress ≡ all_released
@@ -171,7 +171,7 @@ IsRound {S} honest at_will state seen busy old new (Err e) =
     (HasRestedAndTurned honest at_will state busy) old turned (Ok then)
     × HasReleased seen turned new (Err e))
 
--- `n` rounds, none of which was refused, and whether the node is busy before and after them.
+-- `n` rounds that were not refused, and whether the node is busy before and after them.
 -- Allows: no round.
 abbrev pub Rounds : {S : Type 0} → Type 0 → Type 0 → (S → StoreState) → ℕ → ℕ → Bool → NodeMoment S
     → Bool

@@ -54,8 +54,8 @@ filed_state s = record { stored = empty_record; plan = None; faults = s.faults }
 abbrev pub filed_loads : Filed → Result Record StoreFault → Filed → Type 0
 filed_loads old answer new = Finds old new answer
 
--- A run of a node over a file, of which only the node is known; or no run, since a socket or memory
--- is missing.
+-- A run of a node over a file. Of it only the node is known. Or no run, since a socket or memory is
+-- missing.
 abbrev pub HasRunOverFile : Me → Parts → Bool → ℕ → ℕ → Option (List ℕ) → Option (List ℕ)
     → Result (Unit {0}) GroupFault → Type 0
 HasRunOverFile me program campaigns seen turns from to result =

@@ -1,6 +1,6 @@
 //! Where the datagrams and the typed bytes of one node come from.
 ghost use Rattle.std.specs.Prelude.{◌≡◌, IfErr};
-ghost use Rattle.group_udp.specs.Refusals.{IsOpenRefusal};
+ghost use Rattle.group_udp.specs.Refusals.{IsOpenRefusal, IsSocketRefusal};
 
 use crate::fault::GroupFault;
 use crate::keyboard::{Keyboard, Pressed};
@@ -30,7 +30,7 @@ impl<'a, H: Net + Clock + AllocGlobal> Endpoints<'a, H> {
         text: &'a [u8],
         log: &mut Log<'_, H, E>,
     ) -> Result<Endpoints<'a, H>, GroupFault>
-        ensures others { IfErr result (λ e. IsOpenRefusal e) }
+        ensures others { IfErr result IsOpenRefusal }
     {
         let watch = Watch::new(rt)?;
         let keyboard = keyboard_of(rt, plan, text, &watch, log)?;
@@ -66,7 +66,7 @@ fn bind_noted<H: Net + Clock, E: Write>(
     address: SocketAddr,
     log: &mut Log<'_, H, E>,
 ) -> Result<UdpSocket, GroupFault>
-    ensures others { IfErr result (λ e. e ≡ GroupFault.Socket) }
+    ensures others { IfErr result IsSocketRefusal }
 {
     let bound = bind(rt, address);
     if bound.is_err() {
@@ -83,7 +83,7 @@ fn keyboard_of<'a, H: Net + Clock, E: Write>(
     watch: &Watch,
     log: &mut Log<'_, H, E>,
 ) -> Result<Keyboard<'a>, GroupFault>
-    ensures others { IfErr result (λ e. e ≡ GroupFault.Socket) }
+    ensures others { IfErr result IsSocketRefusal }
 {
     let Some(address) = plan.keys else {
         return Ok(Keyboard::Text(text));
@@ -100,7 +100,7 @@ fn own_wire<'a, H: Net + Clock + AllocGlobal, E: Write>(
     watch: Watch,
     log: &mut Log<'_, H, E>,
 ) -> Result<UdpWire<'a, H>, GroupFault>
-    ensures others { IfErr result (λ e. IsOpenRefusal e) }
+    ensures others { IfErr result IsOpenRefusal }
 {
     let index = usize::from(plan.node).saturating_sub(1);
     let Some(address) = plan.addresses.get(index) else {

@@ -1,7 +1,7 @@
 //! Where the typed bytes of a node come from.
 ghost use Rattle.std.specs.Prelude.{◌≡◌, ◌≤◌, IfErr};
 ghost use Rattle.group_node.specs.declared.limits.TheConstants.{MOST_WAITING};
-ghost use Rattle.group_wire.specs.Turns.{released_by};
+ghost use Rattle.group_wire.specs.Turns.{SameReleased};
 ghost use Rattle.group_udp.specs.Refusals.{IsRoundRefusal, IsTurnRefusal};
 ghost use Rattle.group_udp.specs.Rounds.{HasCampaignedAsAsked, HasPressedKeyboard};
 
@@ -87,9 +87,9 @@ impl Keyboard<'_> {
     ) -> Result<Pressed, GroupFault>
         ensures pressed { HasPressedKeyboard S.honest S.fails_at_will S.state host.old host.new
             result }
-        ensures stays { released_by host.new ≡ released_by host.old }
+        ensures stays { SameReleased host.old host.new }
         ensures progress { host.new.progress ≡ host.old.progress }
-        ensures others { IfErr result (λ e. IsRoundRefusal e) }
+        ensures others { IfErr result IsRoundRefusal }
     {
         match self {
             Keyboard::Text(rest) => {
@@ -109,9 +109,9 @@ fn campaign_when_asked<H: Clock, S: Store>(
 ) -> Result<Pressed, GroupFault>
     ensures campaigned { HasCampaignedAsAsked S.honest S.fails_at_will S.state host.old host.new
         result }
-    ensures stays { released_by host.new ≡ released_by host.old }
+    ensures stays { SameReleased host.old host.new }
     ensures progress { host.new.progress ≡ host.old.progress }
-    ensures others { IfErr result (λ e. IsTurnRefusal e) }
+    ensures others { IfErr result IsTurnRefusal }
 {
     match host.campaign(wire) {
         Err(NodeFault::Stopped) => Err(GroupFault::Node(NodeFault::Stopped)),
@@ -152,9 +152,9 @@ fn press_datagrams<H: Clock, S: Store>(
 ) -> Result<Pressed, GroupFault>
     ensures pressed { HasPressedKeyboard S.honest S.fails_at_will S.state host.old host.new
         result }
-    ensures stays { released_by host.new ≡ released_by host.old }
+    ensures stays { SameReleased host.old host.new }
     ensures progress { host.new.progress ≡ host.old.progress }
-    ensures others { IfErr result (λ e. IsRoundRefusal e) }
+    ensures others { IfErr result IsRoundRefusal }
 {
     if is_asked(socket) {
         return campaign_when_asked(host, wire);

@@ -12,12 +12,10 @@ ghost use Rattle.group_udp.specs.Sources.{IsFromSender};
 
 use pcode_machine::laws::{output_only_grows, prefixes_are_ordered};
 
-/// States that a console for which the right number is given goes on as one. A start that is given
-/// the number 0 writes output on its learned input. Let a console show output on an input `x`, and
-/// let a later start be given the number of bytes that it shows. Then what that start writes makes
-/// the console show the first bytes of one output, as many as the console had or the start has
-/// released, whichever is more. Premise: the learned input `y` of that start continues `x`, or `x`
-/// continues `y`, as with two starts in one group.
+/// A start with `--seen 0` writes the first bytes of its output. A later one that gets the
+/// console's length makes the console show the first bytes of one output: as many as it showed or
+/// as this start released, whichever is more. Premise: of the two learned inputs one continues the
+/// other, as with two starts in one group.
 pub fn consoles_go_on()
     ensures first { (x : List ℕ) (q : Progress) → IsReplay x q
         → AreFirst q.program x q.released (shown_of 0 x q) }
@@ -38,8 +36,8 @@ pub fn consoles_go_on()
     prefixes_are_ordered();
 }
 
-/// States that a datagram that spells a message of the group passes the check of its source exactly
-/// if it came from the address of the message's sender.
+/// A datagram that spells a message of the group passes the check of its source exactly if it came
+/// from the address of the message's sender.
 pub fn sources_are_senders()
     ensures { (g : Group) (m : Msg) (bytes : List ℕ) (at : List SocketAddr) (source : SocketAddr)
         (i : ℕ) → Msgs g bytes m → m.sender ≡ suc i

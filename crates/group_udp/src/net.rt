@@ -1,6 +1,6 @@
 //! The command `net`: a group in one process, on loopback UDP, over stores in memory.
 ghost use Rattle.std.specs.Prelude.{◌≡◌, ◌⊎◌, IfErr};
-ghost use Rattle.group_udp.specs.Refusals.{IsCampaignRefusal, IsNetRefusal, IsOpenRefusal, IsRoundRefusal, IsTurnRefusal, no_memory};
+ghost use Rattle.group_udp.specs.Refusals.{IsCampaignRefusal, IsNetRefusal, IsOpenRefusal, IsRoundRefusal, IsShownTurnRefusal, IsTurnRefusal, no_memory};
 ghost use Rattle.machine_run.specs.declared.refusal.MachineRefusal.{MachineRefusal};
 
 use crate::fault::GroupFault;
@@ -23,7 +23,7 @@ const SESSION: u32 = 1;
 
 /// Makes `size` sockets on loopback, on ports that are free.
 fn sockets<H: Net>(rt: &H, alloc: Global, size: u8) -> Result<Vec<UdpSocket>, GroupFault>
-    ensures others { IfErr result (λ e. IsOpenRefusal e) }
+    ensures others { IfErr result IsOpenRefusal }
 {
     let address = SocketAddr::V4(SocketAddrV4::new(Ipv4Addr::LOCALHOST, 0));
     let mut sockets = Vec::new(alloc);
@@ -35,7 +35,7 @@ fn sockets<H: Net>(rt: &H, alloc: Global, size: u8) -> Result<Vec<UdpSocket>, Gr
 
 /// Returns the addresses of the sockets, in order.
 fn addresses(alloc: Global, sockets: &[UdpSocket]) -> Result<Vec<SocketAddr>, GroupFault>
-    ensures others { IfErr result (λ e. IsOpenRefusal e) }
+    ensures others { IfErr result IsOpenRefusal }
 {
     let mut addresses = Vec::new(alloc);
     for socket in sockets {
@@ -53,7 +53,7 @@ fn wires<'a, H: Net + Clock + AllocGlobal>(
     sockets: Vec<UdpSocket>,
     addresses: &'a [SocketAddr],
 ) -> Result<Vec<UdpWire<'a, H>>, GroupFault>
-    ensures others { IfErr result (λ e. IsOpenRefusal e) }
+    ensures others { IfErr result IsOpenRefusal }
 {
     let mut wires = Vec::new(rt.alloc());
     let mut node = 0u8;
@@ -74,7 +74,7 @@ fn nodes<'a, H: Clock>(
     group: Group,
     wires: Vec<UdpWire<'a, H>>,
 ) -> Result<Vec<ShownNode<'a, H>>, GroupFault>
-    ensures others { IfErr result (λ e. IsNetRefusal e) }
+    ensures others { IfErr result IsNetRefusal }
 {
     let mut nodes = Vec::new(alloc);
     let mut number = 0u8;
@@ -101,7 +101,7 @@ fn press_first<H: Clock>(
     nodes: &mut [ShownNode<'_, H>],
     bytes: &mut &[u8],
 ) -> Result<(), GroupFault>
-    ensures others { IfErr result (λ e. IsRoundRefusal e) }
+    ensures others { IfErr result IsRoundRefusal }
 {
     match nodes.first_mut() {
         Some(node) => node.press(bytes),
@@ -111,7 +111,7 @@ fn press_first<H: Clock>(
 
 /// Takes a turn of each node, in order.
 fn turn_all<H: Clock>(nodes: &mut [ShownNode<'_, H>]) -> Result<(), GroupFault>
-    ensures others { IfErr result (λ e. IsTurnRefusal e ⊎ (e ≡ no_memory)) }
+    ensures others { IfErr result IsShownTurnRefusal }
 {
     for node in nodes.iter_mut() {
         node.turn()?;
@@ -153,7 +153,7 @@ fn net<H: Net + Clock + AllocGlobal, W: Write>(
     input: &[u8],
     writer: &mut W,
 ) -> Result<(), GroupFault>
-    ensures others { IfErr result (λ e. IsNetRefusal e) }
+    ensures others { IfErr result IsNetRefusal }
 {
     let alloc = rt.alloc();
     let group = Group {

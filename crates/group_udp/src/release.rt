@@ -1,10 +1,8 @@
 //! The output of a node, released to a writer.
-ghost use Rattle.std.specs.Prelude.{◌≡◌, ◌<◌, ◌≤◌, ◌+◌, ◌-◌, ℕ, List, [], ◌∷◌, ◌++◌, drop, length, IfErr, IsOk, MatchResult, OnErr, OnOk};
+ghost use Rattle.std.specs.Prelude.{◌≡◌, ◌<◌, ◌≤◌, [], ◌∷◌, IsOk, MatchResult};
 ghost use Rattle.std.specs.Io.KnownBytes.{Appends, Keeps};
-ghost use Rattle.base.specs.Faults.{HasRisen};
-ghost use Rattle.group_node.specs.States.{input};
-ghost use Rattle.group_udp.specs.Output.{ReleasesBytes, all_released, unseen_of};
-ghost use Rattle.group_udp.specs.Refusals.{write_failed};
+ghost use Rattle.base.specs.Faults.{CountsFault};
+ghost use Rattle.group_udp.specs.Rounds.{HasReleased};
 
 use crate::fault::GroupFault;
 use group_wire::Host;
@@ -23,8 +21,7 @@ fn write_unseen<W: ByteWriter>(
         (λ _. Appends (W.contents writer.old) (W.contents writer.new) (byte ∷ []))
         (λ _. Keeps (W.contents writer.old) (W.contents writer.new)) }
     ensures seen { number < seen → IsOk result × (W.contents writer.new ≡ W.contents writer.old) }
-    ensures faults { MatchResult result (λ _. W.write_faults writer.new ≡ W.write_faults writer.old)
-        (λ _. HasRisen (W.write_faults writer.old) (W.write_faults writer.new)) }
+    ensures faults { CountsFault (W.write_faults writer.old) (W.write_faults writer.new) result }
 {
     if number < seen {
         return Ok(());
@@ -40,21 +37,10 @@ pub fn release_all<S: Store, W: ByteWriter>(
     seen: u64,
     writer: &mut W,
 ) -> Result<(), GroupFault>
-    ensures written { OnOk result (Appends (W.contents writer.old) (W.contents writer.new)
-        (unseen_of seen (input host.old.protocol.known) host.old.progress)) }
-    ensures released { OnOk result
-        (host.new.progress ≡ all_released (input host.old.protocol.known) host.old.progress) }
-    ensures lost { OnErr result
-        ((gone : List ℕ) × (byte : ℕ)
-        × ReleasesBytes (input host.old.protocol.known) host.old.progress host.new.progress
-        (gone ++ byte ∷ [])
-        × (seen ≤ host.old.progress.released + length gone)
-        × Appends (W.contents writer.old) (W.contents writer.new)
-        (drop (seen - host.old.progress.released) gone)) }
-    ensures others { IfErr result (λ e. e ≡ write_failed) }
-    ensures faults { MatchResult result (λ _. W.write_faults writer.new ≡ W.write_faults writer.old)
-        (λ _. HasRisen (W.write_faults writer.old) (W.write_faults writer.new)) }
-    ensures rest { host.new.protocol ≡ host.old.protocol }
+    ensures released { HasReleased seen
+        (record { node = host.old; written = W.contents writer.old })
+        (record { node = host.new; written = W.contents writer.new }) result }
+    ensures faults { CountsFault (W.write_faults writer.old) (W.write_faults writer.new) result }
 {
     while let Some((number, byte)) = host.release() {
         match write_unseen(writer, seen, number, byte) {

@@ -1,6 +1,7 @@
 //! A node's rest between two turns, and a turn.
 ghost use Rattle.std.specs.Prelude.{◌≡◌, IfErr};
-ghost use Rattle.group_wire.specs.Turns.{released_by};
+ghost use Rattle.group_wire.specs.Turns.{SameReleased};
+ghost use Rattle.group_udp.specs.Output.{SameProgram};
 ghost use Rattle.group_udp.specs.Refusals.{IsTurnRefusal};
 ghost use Rattle.group_udp.specs.Rounds.{HasOwnTurn, HasRested, RestsUnless, is_busy_after};
 
@@ -37,9 +38,9 @@ fn rest<H: Clock, S: Store>(
     wire: &mut UdpWire<'_, H>,
 ) -> Result<(), GroupFault>
     ensures rests { HasRested S.honest S.state host.old host.new result }
-    ensures stays { released_by host.new ≡ released_by host.old }
+    ensures stays { SameReleased host.old host.new }
     ensures progress { host.new.progress ≡ host.old.progress }
-    ensures others { IfErr result (λ e. IsTurnRefusal e) }
+    ensures others { IfErr result IsTurnRefusal }
 {
     let front = host.node().known_front();
     let is_ended_by_keys = host.node().waiting() == 0;
@@ -63,9 +64,9 @@ pub fn rest_unless_busy<H: Clock, S: Store>(
     is_busy: bool,
 ) -> Result<(), GroupFault>
     ensures rests { RestsUnless S.honest S.state is_busy host.old host.new result }
-    ensures stays { released_by host.new ≡ released_by host.old }
+    ensures stays { SameReleased host.old host.new }
     ensures progress { host.new.progress ≡ host.old.progress }
-    ensures others { IfErr result (λ e. IsTurnRefusal e) }
+    ensures others { IfErr result IsTurnRefusal }
 {
     if is_busy {
         return Ok(());
@@ -93,9 +94,9 @@ pub fn own_turn<H: Clock, S: Store>(
     wire: &mut UdpWire<'_, H>,
 ) -> Result<bool, GroupFault>
     ensures turns { HasOwnTurn S.honest S.state host.old host.new result }
-    ensures program { host.new.progress.program ≡ host.old.progress.program }
-    ensures stays { released_by host.new ≡ released_by host.old }
-    ensures others { IfErr result (λ e. IsTurnRefusal e) }
+    ensures program { SameProgram host.old host.new }
+    ensures stays { SameReleased host.old host.new }
+    ensures others { IfErr result IsTurnRefusal }
 {
     let turned = host.turn(wire)?;
     Ok(is_busy_after(turned.ran))

@@ -1,11 +1,10 @@
 //! The rounds of one node: each is a rest, typing, a turn, and the release of all output.
-ghost use Rattle.std.specs.Prelude.{◌≡◌, ℕ, List, [], ◌⊎◌, IfErr, IsErrOf, OnOk};
-ghost use Rattle.std.specs.Io.KnownBytes.{Appends};
+ghost use Rattle.std.specs.Prelude.{◌≡◌, [], ◌⊎◌, IfErr, IsErrOf, OnOk};
 ghost use Rattle.group_node.specs.States.{input};
 ghost use Rattle.group_node.specs.Output.{unreleased_of};
-ghost use Rattle.group_wire.specs.Turns.{released_by};
-ghost use Rattle.group_udp.specs.Output.{WritesOutput};
-ghost use Rattle.group_udp.specs.Refusals.{IsCampaignRefusal, IsRoundRefusal, write_failed};
+ghost use Rattle.group_wire.specs.Turns.{SameReleased};
+ghost use Rattle.group_udp.specs.Output.{AppendsOutput, SameProgram};
+ghost use Rattle.group_udp.specs.Refusals.{IsCampaignRefusal, IsRoundRefusal, IsWrittenRoundRefusal, write_failed};
 ghost use Rattle.group_udp.specs.Rounds.{CampaignsIf, HasCampaignedAndPlayed, HasPlayed, HasRestedAndTurned, IsRound};
 
 use crate::endpoints::Endpoints;
@@ -31,9 +30,9 @@ fn rest_and_turn<H: Clock, S: Store, E: Write>(
 ) -> Result<bool, GroupFault>
     ensures turns { HasRestedAndTurned S.honest S.fails_at_will S.state is_busy host.old host.new
         result }
-    ensures program { host.new.progress.program ≡ host.old.progress.program }
-    ensures stays { released_by host.new ≡ released_by host.old }
-    ensures others { IfErr result (λ e. IsRoundRefusal e) }
+    ensures program { SameProgram host.old host.new }
+    ensures stays { SameReleased host.old host.new }
+    ensures others { IfErr result IsRoundRefusal }
 {
     rest_unless_busy(host, endpoints, is_busy)?;
     log.look(host.node());
@@ -57,13 +56,12 @@ fn round<H: Clock, S: Store, W: ByteWriter, E: Write>(
     ensures round { IsRound S.honest S.fails_at_will S.state seen is_busy
         (record { node = host.old; written = W.contents writer.old })
         (record { node = host.new; written = W.contents writer.new }) result }
-    ensures program { host.new.progress.program ≡ host.old.progress.program }
-    ensures writes { (wrote : List ℕ)
-        × WritesOutput seen host.old host.new (IsErrOf result write_failed) wrote
-        × Appends (W.contents writer.old) (W.contents writer.new) wrote }
+    ensures program { SameProgram host.old host.new }
+    ensures writes { AppendsOutput seen host.old host.new (IsErrOf result write_failed)
+        (W.contents writer.old) (W.contents writer.new) }
     ensures none_waits { OnOk result
         (unreleased_of (input host.new.protocol.known) host.new.progress ≡ []) }
-    ensures others { IfErr result (λ e. IsRoundRefusal e ⊎ (e ≡ write_failed)) }
+    ensures others { IfErr result IsWrittenRoundRefusal }
 {
     let more = rest_and_turn(host, endpoints, is_busy, log)?;
     // The machine is where a replay from the start is.
@@ -85,11 +83,10 @@ fn play<H: Clock, S: Store, W: ByteWriter, E: Write>(
     ensures plays { HasPlayed S.honest S.fails_at_will S.state plan.now.seen plan.now.turns
         (record { node = host.old; written = W.contents writer.old })
         (record { node = host.new; written = W.contents writer.new }) result }
-    ensures program { host.new.progress.program ≡ host.old.progress.program }
-    ensures writes { (wrote : List ℕ)
-        × WritesOutput plan.now.seen host.old host.new (IsErrOf result write_failed) wrote
-        × Appends (W.contents writer.old) (W.contents writer.new) wrote }
-    ensures others { IfErr result (λ e. IsRoundRefusal e ⊎ (e ≡ write_failed)) }
+    ensures program { SameProgram host.old host.new }
+    ensures writes { AppendsOutput plan.now.seen host.old host.new (IsErrOf result write_failed)
+        (W.contents writer.old) (W.contents writer.new) }
+    ensures others { IfErr result IsWrittenRoundRefusal }
 {
     let mut is_busy = true;
     for _ in 0..plan.turns {
@@ -106,7 +103,7 @@ fn campaign_if<H: Clock, S: Store>(
 ) -> Result<(), GroupFault>
     ensures campaigns { CampaignsIf S.honest S.fails_at_will S.state is_asked host.old host.new
         result }
-    ensures stays { released_by host.new ≡ released_by host.old }
+    ensures stays { SameReleased host.old host.new }
     ensures progress { host.new.progress ≡ host.old.progress }
     ensures others { IfErr result (λ e. IsRoundRefusal e ⊎ IsCampaignRefusal e) }
 {
@@ -129,12 +126,11 @@ pub fn campaign_and_play<H: Clock, S: Store, W: ByteWriter, E: Write>(
         plan.now.seen plan.now.turns
         (record { node = host.old; written = W.contents writer.old })
         (record { node = host.new; written = W.contents writer.new }) result }
-    ensures program { host.new.progress.program ≡ host.old.progress.program }
-    ensures writes { (wrote : List ℕ)
-        × WritesOutput plan.now.seen host.old host.new (IsErrOf result write_failed) wrote
-        × Appends (W.contents writer.old) (W.contents writer.new) wrote }
+    ensures program { SameProgram host.old host.new }
+    ensures writes { AppendsOutput plan.now.seen host.old host.new (IsErrOf result write_failed)
+        (W.contents writer.old) (W.contents writer.new) }
     ensures others { IfErr result
-        (λ e. IsRoundRefusal e ⊎ (e ≡ write_failed) ⊎ IsCampaignRefusal e) }
+        (λ e. IsWrittenRoundRefusal e ⊎ IsCampaignRefusal e) }
 {
     campaign_if(host, &mut endpoints.wire, plan.campaigns)?;
     play(host, plan, endpoints, writer, log)

@@ -37,7 +37,7 @@ fn run_over<H: Clock, S: Store + Drop, W: ByteWriter, E: Write>(
         (W.contents writer.new) result }
     ensures written { HasShown program.now plan.now.seen (IsErrOf result write_failed)
         (W.contents writer.old) (W.contents writer.new) }
-    ensures others { IfErr result (λ e. IsRunRefusal e) }
+    ensures others { IfErr result IsRunRefusal }
 {
     let mut host = Host::start(alloc, program, config, store)?;
     log.started(host.node(), plan.group);

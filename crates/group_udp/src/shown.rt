@@ -3,8 +3,8 @@ ghost use Rattle.std.specs.Prelude.{◌≡◌, ◌<◌, ◌++◌, ◌∷◌, ◌
 ghost use Rattle.group_node.specs.Output.{unreleased_of};
 ghost use Rattle.group_node.specs.States.{input};
 ghost use Rattle.group_wire.specs.Turns.{released_of};
-ghost use Rattle.group_udp.specs.Output.{ReleasesBytes, all_released};
-ghost use Rattle.group_udp.specs.Refusals.{IsCampaignRefusal, IsRoundRefusal, IsRunRefusal, IsTurnRefusal, no_memory};
+ghost use Rattle.group_udp.specs.Output.{ReleasesBytes, ShowsReleased};
+ghost use Rattle.group_udp.specs.Refusals.{IsCampaignRefusal, IsRoundRefusal, IsRunRefusal, IsShownTurnRefusal, IsTurnRefusal, no_memory};
 ghost use Rattle.group_udp.specs.Rounds.{HasShownAll, HasTurnedAndShown};
 
 use crate::fault::GroupFault;
@@ -43,8 +43,7 @@ impl<'a, H> Drop for ShownNode<'a, H> {
 /// Fails if memory runs out; then the byte waits still.
 fn show_next<S: Store>(host: &mut Host<'_, S>, console: &mut Console) -> Result<(), GroupFault>
     requires waits { 0 < length (unreleased_of (input host.old.protocol.known) host.old.progress) }
-    requires shows { console.old.bytes
-        ≡ released_of (input host.old.protocol.known) host.old.progress }
+    requires shows { ShowsReleased console.old.bytes host.old }
     ensures shows { console.new.bytes
         ≡ released_of (input host.old.protocol.known) host.new.progress }
     ensures one { OnOk result
@@ -69,20 +68,12 @@ fn show_next<S: Store>(host: &mut Host<'_, S>, console: &mut Console) -> Result<
 /// Puts all output that waits on the console, which has shown what was released before: each byte
 /// once, in order. Fails if memory runs out for a byte; then it and those after it wait still.
 fn show_all<S: Store>(host: &mut Host<'_, S>, console: &mut Console) -> Result<(), GroupFault>
-    requires shows { console.old.bytes
-        ≡ released_of (input host.old.protocol.known) host.old.progress }
-    ensures shows { console.new.bytes
-        ≡ released_of (input host.new.protocol.known) host.new.progress }
+    requires shows { ShowsReleased console.old.bytes host.old }
+    ensures shows { ShowsReleased console.new.bytes host.new }
     ensures appended { OnOk result
         (console.new.bytes ≡ console.old.bytes
         ++ unreleased_of (input host.old.protocol.known) host.old.progress) }
-    ensures released { OnOk result
-        (host.new.progress ≡ all_released (input host.old.protocol.known) host.old.progress) }
-    ensures front { (gone : List ℕ)
-        × ReleasesBytes (input host.old.protocol.known) host.old.progress
-        host.new.progress gone × (console.new.bytes ≡ console.old.bytes ++ gone) }
-    ensures others { IfErr result (λ e. e ≡ no_memory) }
-    ensures rest { host.new.protocol ≡ host.old.protocol }
+    ensures shown { HasShownAll host.old host.new result }
 {
     for _ in 0..host.unreleased() {
         show_next(host, console)?;
@@ -98,7 +89,7 @@ impl<'a, H: Clock> ShownNode<'a, H> {
         config: Config,
         wire: UdpWire<'a, H>,
     ) -> Result<ShownNode<'a, H>, GroupFault>
-        ensures others { IfErr result (λ e. IsRunRefusal e) }
+        ensures others { IfErr result IsRunRefusal }
     {
         let store = MemoryStore::new(Record::new(alloc));
         let host = Host::start(alloc, program, config, store)?;
@@ -119,7 +110,7 @@ impl<'a, H: Clock> ShownNode<'a, H> {
 
     /// Types as many of the bytes as there is room for, and takes them off the front.
     pub fn press(&mut self, bytes: &mut &[u8]) -> Result<(), GroupFault>
-        ensures others { IfErr result (λ e. IsRoundRefusal e) }
+        ensures others { IfErr result IsRoundRefusal }
     {
         Ok(self.host.press(bytes)?)
     }
@@ -135,7 +126,7 @@ impl<'a, H: Clock> ShownNode<'a, H> {
     /// all output that waits on the console.
     pub fn turn(&mut self) -> Result<(), GroupFault>
         ensures turns { HasTurnedAndShown self.old.host self.new.host result }
-        ensures others { IfErr result (λ e. IsTurnRefusal e ⊎ (e ≡ no_memory)) }
+        ensures others { IfErr result IsShownTurnRefusal }
     {
         self.wire.begin_rest();
         self.wire.wait(true);

@@ -1,7 +1,7 @@
 //! UDP sockets as wires.
 ghost use Rattle.std.specs.Prelude.{◌≡◌, ◌+◌, ◌-◌, ◌≤◌, min, length, IfErr, IfSome};
 ghost use Rattle.group_udp.specs.declared.limits.TheConstants.{LONG_REST, SHORT_REST, SHORT_RESTS};
-ghost use Rattle.group_udp.specs.Refusals.{IsOpenRefusal};
+ghost use Rattle.group_udp.specs.Refusals.{IsOpenRefusal, IsSocketRefusal};
 ghost use Rattle.group_udp.specs.Sources.{drop_of};
 
 use crate::fault::GroupFault;
@@ -31,7 +31,7 @@ fn rest_after(quiet: u64) -> u64
 
 /// Binds a socket at this address, whose calls never wait.
 pub fn bind<H: Net>(rt: &H, address: SocketAddr) -> Result<UdpSocket, GroupFault>
-    ensures others { IfErr result (λ e. e ≡ GroupFault.Socket) }
+    ensures others { IfErr result IsSocketRefusal }
 {
     UdpSocket::bind(rt, address).or(Err(GroupFault::Socket))
 }
@@ -70,7 +70,7 @@ const TYPED: Token = Token(1);
 impl Watch {
     /// Makes a watch of no socket.
     pub fn new<H: Net + AllocGlobal>(rt: &H) -> Result<Watch, GroupFault>
-        ensures others { IfErr result (λ e. IsOpenRefusal e) }
+        ensures others { IfErr result IsOpenRefusal }
     {
         let Ok(poll) = Poll::new(rt) else {
             return Err(GroupFault::Socket);
@@ -81,7 +81,7 @@ impl Watch {
 
     /// Watches a socket.
     fn add(&self, socket: &mut UdpSocket, token: Token) -> Result<(), GroupFault>
-        ensures others { IfErr result (λ e. e ≡ GroupFault.Socket) }
+        ensures others { IfErr result IsSocketRefusal }
     {
         self.poll
             .registry()
@@ -91,7 +91,7 @@ impl Watch {
 
     /// Watches the socket of typed bytes.
     pub fn add_typed(&self, socket: &mut UdpSocket) -> Result<(), GroupFault>
-        ensures others { IfErr result (λ e. e ≡ GroupFault.Socket) }
+        ensures others { IfErr result IsSocketRefusal }
     {
         self.add(socket, TYPED)
     }
@@ -162,7 +162,7 @@ impl<'a, H: Clock> UdpWire<'a, H> {
         own: OwnDatagrams,
         counted: Option<Group>,
     ) -> Result<UdpWire<'a, H>, GroupFault>
-        ensures others { IfErr result (λ e. e ≡ GroupFault.Socket) }
+        ensures others { IfErr result IsSocketRefusal }
     {
         watch.add(&mut socket, OWN)?;
         Ok(UdpWire {

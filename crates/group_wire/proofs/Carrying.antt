@@ -33,7 +33,7 @@ letters_then size (d ∷ xs) ys =
 abbrev pub letter : List ℕ → ℕ → Letter
 letter bytes i = record { to = i; bytes = bytes }
 
--- one more node: with the datagrams for those behind it, it is all
+-- one more node: with the datagrams for those after it, it is all
 pub next_letter : (known new all : Option Traffic) (bytes : List ℕ) (size node : ℕ) → node ≤ size
     → new ≡ grown known (letter bytes node ∷ []) []
     → grown known (map (letter bytes) (range_with_len node (size + 1 - node))) [] ≡ all

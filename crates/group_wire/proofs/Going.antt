@@ -15,7 +15,7 @@ use Rattle.group_node.specs.declared.fault.NodeFault.{NodeFault}
 use Rattle.group_wire.specs.declared.answers.Turned.{Turned}
 use Rattle.group_wire.specs.Arrivals.{Arrival, heard_of}
 use Rattle.group_wire.specs.Turns.{after_heard, has_ticked, ticked_if, released_by, released_of}
-use Rattle.group_wire.proofs.Learning.{HeardLaws, LearnsMore, heard_learns, learns_then, tick_learns}
+use Rattle.group_wire.proofs.Learning.{CallLaws, LearnsMore, heard_learns, learns_then, tick_learns}
 
 -- the laws of outputs and inputs that grow
 pub record Laws : Type 0 where
@@ -47,16 +47,16 @@ released_stays laws n m old new h replay same more =
     released_same laws (input n) (input m) old new (record { rest = grows.0; whole = grows.1 }) replay.released same more
 
 -- after some messages, and a tick or none, with the machine further on
-pub call_stays : {S : Type 0} (laws : Laws) (heard : HeardLaws) (old new : NodeState S) (came : List Arrival) (ticks : Bool)
+pub call_stays : {S : Type 0} (laws : Laws) (calls : CallLaws) (old new : NodeState S) (came : List Arrival) (ticks : Bool)
     → new.protocol.known ≡ (ticked_if ticks (after_heard old.protocol.known (heard_of came))).node
     → IsReplay (input old.protocol.known) old.progress
     → new.progress ≡ record old.progress { steps = new.progress.steps } → old.progress.steps ≤ new.progress.steps
     → released_by new ≡ released_by old
-call_stays laws heard old new came ticks is replay rest more =
+call_stays laws calls old new came ticks is replay rest more =
     let n : Known = old.protocol.known in
     let mid : Known = after_heard n (heard_of came) in
     let learns : LearnsMore n new.protocol.known = subst (λ (m : Known). LearnsMore n m) (sym is)
-    (learns_then n mid (ticked_if ticks mid).node (heard_learns heard n (heard_of came)) (tick_learns ticks mid)) in
+    (learns_then n mid (ticked_if ticks mid).node (heard_learns calls n (heard_of came)) (tick_learns calls ticks mid)) in
     released_stays laws n new.protocol.known old.progress new.progress learns replay rest more
 
 -- a machine that made no step is as far as it was
@@ -66,13 +66,13 @@ no_step old new same =
     (same ∙ ap (λ (n : ℕ). record old { steps = n }) (sym steps), omega (arith, steps))
 
 -- after a turn, by what it answers
-pub turn_stays : {S : Type 0} (laws : Laws) (heard : HeardLaws) (old new : NodeState S) (came : List Arrival) (r : Result Turned NodeFault)
+pub turn_stays : {S : Type 0} (laws : Laws) (calls : CallLaws) (old new : NodeState S) (came : List Arrival) (r : Result Turned NodeFault)
     → new.protocol.known ≡ (ticked_if (has_ticked r) (after_heard old.protocol.known (heard_of came))).node
     → IsReplay (input old.protocol.known) old.progress
     → IfOk r (λ done. RunsOn (input new.protocol.known) 1000 old.progress new.progress done.ran) → OnErr r (new.progress ≡ old.progress)
     → released_by new ≡ released_by old
-turn_stays laws heard old new came (Ok done) is replay runs rest =
-    call_stays laws heard old new came (has_ticked (Ok done)) is replay runs.rest runs.more
-turn_stays laws heard old new came (Err e) is replay runs rest =
+turn_stays laws calls old new came (Ok done) is replay runs rest =
+    call_stays laws calls old new came (has_ticked (Ok done)) is replay runs.rest runs.more
+turn_stays laws calls old new came (Err e) is replay runs rest =
     let none = no_step old.progress new.progress rest in
-    call_stays laws heard old new came (has_ticked (Err e)) is replay none.0 none.1
+    call_stays laws calls old new came (has_ticked (Err e)) is replay none.0 none.1

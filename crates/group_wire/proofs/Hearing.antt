@@ -330,7 +330,7 @@ is_false false not = refl
 same_cause : (P Q : Type 0) (a b : ℕ) → (P → Q) → (Q → P) → HasCause P a b → HasCause Q a b
 same_cause P Q a b to from h = record { once = λ q. h.once (from q); quiet = λ no. h.quiet (λ p. no (to p)) }
 
--- why a call of the node was refused, if not for want of memory: nothing waits to be sent
+-- why a call of the node was refused, if memory did not run out: nothing waits to be sent
 pub refused_others : {S : Type 0} (fault : NodeFault) (old : Protocol S) (before : List Datagram)
     → before ≡ [] → fault ≢ Memory
     → (fault ≡ Stopped) ⊎ (fault ≡ OutboxFull) ⊎ (fault ≡ Memory) ⊎ (fault ≡ Store)

@@ -54,7 +54,7 @@ heard_of came = filter_map (λ a. heard_message a.fate) came
 abbrev pub lost_of : List Arrival → ℕ
 lost_of came = sum_by (λ a. loss_of a.fate) came
 
--- Arrivals of which no message was heard and none was lost.
+-- Arrivals at which no message was heard or lost.
 abbrev pub IsUnheard : List Arrival → Type 0
 IsUnheard came = (heard_of came ≡ []) × (lost_of came ≡ 0)
 
@@ -74,7 +74,7 @@ last_receive (Refuses bytes m) = Some bytes ∷ []
 abbrev pub received : List Arrival → Ending → List (Option (List ℕ))
 received came ending = map (λ a. Some a.bytes) came ++ last_receive ending
 
--- An end of hearing at a message that the node refused, of which `P` holds.
+-- An end of hearing at a message that the node refused; `P` holds of the message.
 abbrev pub EndsAt : Ending → (Msg → Type 0) → Type 0
 EndsAt GoesOn P = ⊥
 EndsAt NoneCame P = ⊥

@@ -4,7 +4,7 @@ use Rattle.paxos_msg.specs.declared.limits.TheConstants.{LAST_ROUND, PLACES}
 use Rattle.paxos_acceptor.specs.Stores.{StoreState}
 use Rattle.group_node.specs.declared.fault.NodeFault.{NodeFault}
 use Rattle.group_node.specs.declared.fault.NodeFault.TheVariants.{Memory, PlacesSpent, RoundsSpent, Stopped, Store}
-use Rattle.group_node.specs.Calls.{Saves}
+use Rattle.group_node.specs.Calls.{RefusesIfStopped, Saves}
 use Rattle.group_node.specs.Known.{front}
 use Rattle.group_node.specs.ProposerRows.{last_round, on_campaign}
 use Rattle.group_node.specs.States.{NodeState}
@@ -25,7 +25,7 @@ pub record HasCampaigned {S : Type 0} (honest at_will : Type 0) (state : S → S
   pub saves : Saves honest at_will state old.protocol new.protocol
       (on_campaign old.protocol.known) result
   pub progress : new.progress ≡ old.progress
-  pub stopped : IsErrOf result Stopped ↔ (old.protocol.is_stopped ≡ true)
+  pub stopped : RefusesIfStopped old.protocol result
   pub rounds : IsErrOf result RoundsSpent
       ↔ ((old.protocol.is_stopped ≡ false) × (last_round old.protocol.known ≡ LAST_ROUND))
   pub places : IsErrOf result PlacesSpent

@@ -11,7 +11,11 @@ use Rattle.group_node.specs.States.{NodeState}
 abbrev pub after_pressed : Known → List ℕ → Known
 after_pressed n bytes = record n { waiting = n.waiting ++ bytes }
 
--- What typing leaves of a node and of the bytes `before`, of which `after` are left.
+-- The refusals of typing: the node has stopped, or no serial is left.
+abbrev pub IsPressFault : NodeFault → Type 0
+IsPressFault e = (e ≡ Stopped) ⊎ (e ≡ SerialSpent)
+
+-- The node after typing, and the bytes `after` that are left of `before`.
 pub record HasPressed {S : Type 0} (old new : NodeState S) (before after : List ℕ)
     (result : Result (Unit {0}) NodeFault) : Type 0 where
   pub typed : List ℕ
@@ -19,7 +23,7 @@ pub record HasPressed {S : Type 0} (old new : NodeState S) (before after : List 
   pub known : new.protocol.known ≡ after_pressed old.protocol.known typed
   pub full : OnOk result ((after ≡ []) ⊎ (length new.protocol.known.waiting ≡ MOST_WAITING))
   pub err : OnErr result (after ≢ [])
-  pub others : IfErr result (λ e. (e ≡ Stopped) ⊎ (e ≡ SerialSpent))
+  pub others : IfErr result IsPressFault
   pub stopped : IsErrOf result Stopped ↔ ((old.protocol.is_stopped ≡ true) × (before ≢ []))
   pub untyped : IsErrOf result Stopped → after ≡ before
   pub spent : IsErrOf result SerialSpent ↔ ((old.protocol.is_stopped ≡ false)

@@ -18,7 +18,7 @@ pub record Traffic : Type 0 where
   pub given : List (Option (List ℕ))
 
 -- Known traffic after more datagrams were handed over and more receives were made.
--- Allows: a wire of which nothing is known.
+-- Allows: a wire whose traffic is unknown.
 abbrev pub grown : Option Traffic → List Letter → List (Option (List ℕ)) → Option Traffic
 grown known letters received =
     option_map (λ t. record { handed = t.handed ++ letters; given = t.given ++ received }) known

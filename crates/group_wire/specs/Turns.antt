@@ -6,6 +6,7 @@ use Rattle.paxos_acceptor.specs.Stores.{HasCause, IsOneOf, StoreState}
 use Rattle.group_node.specs.declared.fault.NodeFault.{NodeFault}
 use Rattle.group_node.specs.declared.fault.NodeFault.TheVariants.{Stopped, Store}
 use Rattle.group_node.specs.Protocol.{on_message}
+use Rattle.group_node.specs.Calls.{RefusesIfStopped}
 use Rattle.group_node.specs.Known.{Response, Known, quiet}
 use Rattle.group_node.specs.Output.{RunsOn, Progress}
 use Rattle.group_node.specs.Tick.{on_tick}
@@ -27,6 +28,10 @@ released_of x q = take q.released (out q.program x q.steps)
 abbrev pub released_by : {S : Type 0} → NodeState S → List ℕ
 released_by n = released_of (input n.protocol.known) n.progress
 
+-- Two states of a node in which it has released the same bytes.
+abbrev pub SameReleased : {S : Type 0} → NodeState S → NodeState S → Type 0
+SameReleased old new = released_by new ≡ released_by old
+
 -- A node after it has heard these messages, one after the other.
 abbrev pub after_heard : Known → List Msg → Known
 after_heard n [] = n
@@ -41,6 +46,10 @@ sent_at n (m ∷ ms) =
 -- A tick, or nothing.
 abbrev pub ticked_if : Bool → Known → Response
 ticked_if ticks n = if ticks then on_tick n else quiet n
+
+-- The refusals of a receive and of a turn: the node has stopped, or a save fails now.
+abbrev pub IsTurnFault : NodeFault → Type 0
+IsTurnFault e = (e ≡ Stopped) ⊎ (e ≡ Store)
 
 -- ---- what hearing and a turn leave
 
@@ -112,6 +121,12 @@ abbrev pub FailsAtEnd : {S T : Type 0} → Type 0 → (S → StoreState) → End
 FailsAtEnd honest state ending new result =
     IsErrOf result Store → EndsAt ending (λ m. honest → IsAfterFault state new m)
 
+-- The refusals of a tick or a run: as stopped alone, and exactly if a save has failed before.
+pub record IsRefusedIfStopped {S T : Type 0} (old : NodeState S)
+    (result : Result T NodeFault) : Type 0 where
+  pub stopped : RefusesIfStopped old.protocol result
+  pub others : IfErr result (λ e. e ≡ Stopped)
+
 -- The receives of a turn, at most 64.
 -- At `Ok` 64 datagrams came, or the last receive gave nothing.
 pub record HearsOut {S T : Type 0} (honest : Type 0) (state : S → StoreState) (came : List Arrival)
@@ -125,7 +140,7 @@ pub record HearsOut {S T : Type 0} (honest : Type 0) (state : S → StoreState) 
 -- A failed save stops the node and is counted.
 pub record IsHearingRefused {S T : Type 0} (state : S → StoreState) (old new : NodeState S)
     (result : Result T NodeFault) : Type 0 where
-  pub others : IfErr result (λ e. (e ≡ Stopped) ⊎ (e ≡ Store))
+  pub others : IfErr result IsTurnFault
   pub stopped : IsErrOf result Stopped → old.protocol.is_stopped ≡ true
   pub was_open : IsErrOf result Store → old.protocol.is_stopped ≡ false
   pub stops :
@@ -159,8 +174,8 @@ pub record HasTurned {S : Type 0} (honest : Type 0) (state : S → StoreState)
   pub runs : IfOk result (λ done.
       RunsOn (input new.protocol.known) TURN_STEPS old.progress new.progress done.ran)
   pub rest : OnErr result (new.progress ≡ old.progress)
-  pub others : IfErr result (λ e. (e ≡ Stopped) ⊎ (e ≡ Store))
-  pub stopped : IsErrOf result Stopped ↔ (old.protocol.is_stopped ≡ true)
+  pub others : IfErr result IsTurnFault
+  pub stopped : RefusesIfStopped old.protocol result
   pub stops : (new.protocol.is_stopped ≡ true) ↔ IsErr result
   pub cause : HasCause (IsErrOf result Store)
       (state old.protocol.store).faults (state new.protocol.store).faults

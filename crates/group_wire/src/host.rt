@@ -4,7 +4,7 @@ ghost use Rattle.group_node.specs.Known.{on_start};
 ghost use Rattle.group_node.specs.Output.{IsReplay, unreleased_of};
 ghost use Rattle.group_node.specs.States.{input};
 ghost use Rattle.group_wire.specs.Campaigns.{HasCampaigned};
-ghost use Rattle.group_wire.specs.Turns.{released_by};
+ghost use Rattle.group_wire.specs.Turns.{SameReleased};
 ghost use Rattle.group_wire.specs.Starts.{HasStarted};
 
 use crate::sending::send_all;
@@ -94,12 +94,7 @@ impl<'a, S: Store> Host<'a, S> {
     pub fn campaign<T: Wire>(&mut self, wire: &mut T) -> Result<(), NodeFault>
         ensures campaigned { HasCampaigned S.honest S.fails_at_will S.state self.old self.new
             (T.traffic wire.old) (T.traffic wire.new) result }
-        ensures stopped { IsErrOf result NodeFault.Stopped
-            ↔ (self.old.protocol.is_stopped ≡ true) }
-        ensures others { IfErr result
-            (λ e. (e ≡ NodeFault.Stopped) ⊎ (e ≡ NodeFault.RoundsSpent)
-            ⊎ (e ≡ NodeFault.PlacesSpent) ⊎ (e ≡ NodeFault.Memory) ⊎ (e ≡ NodeFault.Store)) }
-        ensures stays { released_by self.new ≡ released_by self.old }
+        ensures stays { SameReleased self.old self.new }
     {
         self.node.campaign(&mut self.outbox)?;
         send_all(wire, &mut self.outbox, self.group.size);

@@ -2,9 +2,10 @@
 ghost use Rattle.std.specs.Prelude.{◌≡◌, ◌≢◌, ◌↔◌, ◌⊎◌, ◌+◌, ◌<◌, [], ◌∷◌, false, true, length, if◌then◌else◌, IfErr, IfOk, IsErrOf};
 ghost use Rattle.paxos_msg.specs.declared.limits.TheConstants.{LAST_SERIAL};
 ghost use Rattle.group_node.specs.declared.limits.TheConstants.{MOST_WAITING};
+ghost use Rattle.group_node.specs.Calls.{RefusesIfStopped};
 ghost use Rattle.group_node.specs.Known.{next_serial};
-ghost use Rattle.group_wire.specs.Turns.{released_by};
-ghost use Rattle.group_wire.specs.Presses.{HasPressed, after_pressed};
+ghost use Rattle.group_wire.specs.Turns.{SameReleased};
+ghost use Rattle.group_wire.specs.Presses.{HasPressed, IsPressFault, after_pressed};
 
 use crate::host::Host;
 use group_node::NodeFault;
@@ -20,10 +21,8 @@ impl<'a, S: Store> Host<'a, S> {
         ensures full { IfOk result (λ has_room.
             has_room ≡ false → length self.old.protocol.known.waiting ≡ MOST_WAITING) }
         ensures err { IfErr result (λ _. self.new.protocol.known ≡ self.old.protocol.known) }
-        ensures others { IfErr result
-            (λ e. (e ≡ NodeFault.Stopped) ⊎ (e ≡ NodeFault.SerialSpent)) }
-        ensures stopped { IsErrOf result NodeFault.Stopped
-            ↔ (self.old.protocol.is_stopped ≡ true) }
+        ensures others { IfErr result IsPressFault }
+        ensures stopped { RefusesIfStopped self.old.protocol result }
         ensures spent { IsErrOf result NodeFault.SerialSpent
             ↔ ((self.old.protocol.is_stopped ≡ false)
             × (length self.old.protocol.known.waiting < MOST_WAITING)
@@ -47,11 +46,7 @@ impl<'a, S: Store> Host<'a, S> {
     /// is given out; the bytes before that byte are typed, and it is the first that is left.
     pub fn press(&mut self, bytes: &mut &[u8]) -> Result<(), NodeFault>
         ensures pressed { HasPressed self.old self.new bytes.old.now bytes.new.now result }
-        ensures stopped { IsErrOf result NodeFault.Stopped
-            ↔ ((self.old.protocol.is_stopped ≡ true) × (bytes.old.now ≢ [])) }
-        ensures others { IfErr result
-            (λ e. (e ≡ NodeFault.Stopped) ⊎ (e ≡ NodeFault.SerialSpent)) }
-        ensures stays { released_by self.new ≡ released_by self.old }
+        ensures stays { SameReleased self.old self.new }
     {
         while let Some((byte, others)) = bytes.split_first() {
             if !self.press_one(*byte)? {

@@ -4,7 +4,7 @@ ghost use Rattle.group_node.specs.Output.{RunsOn};
 ghost use Rattle.group_node.specs.States.{input};
 ghost use Rattle.group_wire.specs.declared.limits.TheConstants.{TURN_STEPS};
 ghost use Rattle.group_wire.specs.Arrivals.{Arrival, Ending, lost_of};
-ghost use Rattle.group_wire.specs.Turns.{released_by, FailsAtEnd, HasHeard, HasTurned, HearsOut, HearsSome, IsHearingRefused, TellsOfOne, ticked_if};
+ghost use Rattle.group_wire.specs.Turns.{SameReleased, IsRefusedIfStopped, FailsAtEnd, HasHeard, HasTurned, HearsOut, HearsSome, IsHearingRefused, TellsOfOne, ticked_if};
 ghost use Rattle.group_wire.specs.Traffic.{Traffic, grown, posted};
 
 use crate::answers::{Heard, Turned};
@@ -12,10 +12,10 @@ use crate::host::Host;
 use crate::limits::{MOST_RECEIVES, TURN_STEPS};
 use crate::sending::send_all;
 use crate::wire::Wire;
-use group_node::laws::what_goes_out_fits;
+use group_node::laws::{calls_keep_what_is_learned, what_goes_out_fits};
 use group_node::{NodeFault, Ran};
 use paxos_acceptor::Store;
-use paxos_learner::laws::{input_grows, learned_stays};
+use paxos_learner::laws::input_grows;
 use paxos_msg::decode;
 use paxos_msg::limits::LONGEST_DATAGRAM;
 use pcode_machine::laws::output_only_grows;
@@ -110,9 +110,7 @@ impl<'a, S: Store> Host<'a, S> {
         ensures err { OnErr result
             ((self.new.protocol.known ≡ self.old.protocol.known)
             × (T.traffic wire.new ≡ T.traffic wire.old)) }
-        ensures others { IfErr result (λ e. e ≡ NodeFault.Stopped) }
-        ensures stopped { IsErrOf result NodeFault.Stopped
-            ↔ (self.old.protocol.is_stopped ≡ true) }
+        ensures refused { IsRefusedIfStopped self.old result }
         ensures me { self.new.protocol.known.me ≡ self.old.protocol.known.me }
         ensures stays { self.new.protocol.is_stopped ≡ self.old.protocol.is_stopped }
         ensures store { self.new.protocol.store ≡ self.old.protocol.store }
@@ -133,9 +131,7 @@ impl<'a, S: Store> Host<'a, S> {
             ran) }
         ensures protocol { self.new.protocol ≡ self.old.protocol }
         ensures err { OnErr result (self.new ≡ self.old) }
-        ensures stopped { IsErrOf result NodeFault.Stopped
-            ↔ (self.old.protocol.is_stopped ≡ true) }
-        ensures others { IfErr result (λ e. e ≡ NodeFault.Stopped) }
+        ensures refused { IsRefusedIfStopped self.old result }
     {
         self.node.run(TURN_STEPS)
     }
@@ -160,11 +156,9 @@ impl<'a, S: Store> Host<'a, S> {
     pub fn hear<T: Wire>(&mut self, wire: &mut T) -> Result<Heard, NodeFault>
         ensures heard { HasHeard S.honest S.state self.old self.new (T.traffic wire.old)
             (T.traffic wire.new) result }
-        ensures stopped { IsErrOf result NodeFault.Stopped → self.old.protocol.is_stopped ≡ true }
-        ensures others { IfErr result (λ e. (e ≡ NodeFault.Stopped) ⊎ (e ≡ NodeFault.Store)) }
-        ensures stays { released_by self.new ≡ released_by self.old }
+        ensures stays { SameReleased self.old self.new }
     {
-        learned_stays();
+        calls_keep_what_is_learned();
         input_grows();
         output_only_grows();
         // The machine is where a replay from the start is.
@@ -187,15 +181,9 @@ impl<'a, S: Store> Host<'a, S> {
     pub fn turn<T: Wire>(&mut self, wire: &mut T) -> Result<Turned, NodeFault>
         ensures turned { HasTurned S.honest S.state self.old self.new (T.traffic wire.old)
             (T.traffic wire.new) result }
-        ensures runs { IfOk result (λ done.
-            RunsOn (input self.new.protocol.known) TURN_STEPS self.old.progress self.new.progress
-            done.ran) }
-        ensures stopped { IsErrOf result NodeFault.Stopped
-            ↔ (self.old.protocol.is_stopped ≡ true) }
-        ensures others { IfErr result (λ e. (e ≡ NodeFault.Stopped) ⊎ (e ≡ NodeFault.Store)) }
-        ensures stays { released_by self.new ≡ released_by self.old }
+        ensures stays { SameReleased self.old self.new }
     {
-        learned_stays();
+        calls_keep_what_is_learned();
         input_grows();
         output_only_grows();
         // The machine is where a replay from the start is.

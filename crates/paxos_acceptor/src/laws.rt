@@ -28,8 +28,8 @@ ghost use Rattle.paxos_msg.specs.declared.limits.TheConstants.{LAST_START};
 
 use paxos_msg::laws::votes_are_by_place;
 
-/// The empty record is backed by any messages. A record stays backed as more is sent, after a
-/// start, and after any change that may be saved.
+/// The empty record is backed by whatever was sent. A record stays backed after a start, after any
+/// change that may be saved, and as more is sent.
 pub fn backing()
     ensures empty { (sent : Sent) → HasBackedVotes sent empty_record }
     ensures later { (sent more : Sent) (r : Record) → HasBackedVotes sent r
@@ -49,9 +49,9 @@ pub fn greater_ballots_are_promised()
         → (prepare_of r b from).saves ≡ Some (Promise b) }
 {}
 
-/// The answer to a Prepare may be sent over the record after its save. That save is allowed, and
-/// keeps the record backed. The record is in its ranges: a part for all places covers only those
-/// below 65,536.
+/// The change that a Prepare's answer asks for may be saved. If the record is backed and in its
+/// ranges, the answer may be sent over the record after the save; if it is backed, it stays so. The
+/// ranges matter, since a part for all places covers only those below 65,536.
 pub fn promises_may_be_sent()
     ensures saves { (sent : Sent) (r : Record) (b : Ballot) (from : ℕ)
         → IfSome (prepare_of r b from).saves (MaySave sent r) }
@@ -63,8 +63,9 @@ pub fn promises_may_be_sent()
         → HasBackedVotes sent (after r (prepare_of r b from).saves) }
 {}
 
-/// The answer to an Accept that was sent may be sent over the record after its save. That save is
-/// allowed, and keeps the record backed.
+/// The change that the answer to an Accept that was sent asks for may be saved. If the record is
+/// backed, also out of its ranges, the answer may be sent over the record after the save, and it
+/// stays backed.
 pub fn votes_may_be_sent()
     ensures saves { (sent : Sent) (r : Record) (b : Ballot) (s : ℕ) (v : Value)
         → IsSaid sent (Accept b s v) → IfSome (accept_of r b s v).saves (MaySave sent r) }
@@ -79,9 +80,10 @@ pub fn votes_may_be_sent()
     votes_are_by_place();
 }
 
-/// A log grows by its next entry. If that entry was cut, it is a log of the record before it. So a
-/// save that was cut short while it appended leaves the old record or the changed one. The whole
-/// entries of a log whose last entry was cut are a log.
+/// A header is a log of the empty record. A log without a cut entry, followed by a change that can
+/// be made, is a log of the changed record; followed by only the first bytes of that entry, it is
+/// one of the record before. A log without what was cut is a log of the same record. So a save that
+/// is cut short while it appends leaves the old record or the changed one.
 pub fn logs_grow()
     ensures new { (me : Me) → IsUncut me (log_header Two me) empty_record }
     ensures grown { (me : Me) (bytes : List ℕ) (r : Record) (c : Change) → IsUncut me bytes r
@@ -93,8 +95,8 @@ pub fn logs_grow()
         → IsUncut me (take n bytes) r }
 {}
 
-/// Over a record in its ranges the answer to a Prepare is in its ranges, whichever node sends it.
-/// So is the record after its save.
+/// If the record and the Prepare's ballot and place are in their ranges, so are the answer,
+/// whichever node sends it, and the record after the save.
 pub fn promises_fit()
     ensures says { (size i from : ℕ) (r : Record) (b : Ballot) → IsRecord size r → IsBallot size b
         → IsPlace from → IsBody size i (prepare_of r b from).says }
@@ -102,8 +104,8 @@ pub fn promises_fit()
         → IsPlace from → IsRecord size (after r (prepare_of r b from).saves) }
 {}
 
-/// Over a record in its ranges the answer to an Accept is in its ranges, whichever node sends it.
-/// So is the record after its save.
+/// If the record and the Accept's ballot, place and value are in their ranges, so are the answer,
+/// whichever node sends it, and the record after the save.
 pub fn votes_fit()
     ensures says { (size i s : ℕ) (r : Record) (b : Ballot) (v : Value) → IsRecord size r
         → IsBallot size b → IsPlace s → IsValue size v → IsBody size i (accept_of r b s v).says }
@@ -112,8 +114,9 @@ pub fn votes_fit()
         → IsRecord size (after r (accept_of r b s v).saves) }
 {}
 
-/// A start is counted once, if there is one to spare, and nothing else is counted. After a failed
-/// save of a start the stored starts are those before, or one more.
+/// A start adds 1 to the starts, and no other change touches them. A failed save of it leaves the
+/// same number or one more. Below 4,294,967,295 starts a record in its ranges stays so after one
+/// more.
 pub fn starts_are_counted()
     ensures one_more { (r : Record) → (changed r Start).starts ≡ r.starts + 1 }
     ensures others { (r : Record) (change : Change) → change ≢ Start
@@ -141,7 +144,7 @@ pub(crate) fn files_are_known()
         → IsFormOf me r form }
 {}
 
-/// No bytes have two forms: of a record and of a log, or of two versions.
+/// No bytes are both a whole record and a log, or of both versions.
 pub fn forms_are_apart()
     ensures records { (me : Me) (bytes : List ℕ) (r old : Record) → Rec me bytes r
         → ¬ Rec1 me bytes old }

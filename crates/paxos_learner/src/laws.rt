@@ -16,9 +16,10 @@ ghost use Rattle.paxos_learner.specs.Learner.{AreInWindow, HasLearnedMore, IsLea
 ghost use Rattle.paxos_learner.specs.Input.{firsts, front_values, has_key, input_of, is_learned, keys_in_order, learned_input, same_key, StandsIn, values_below};
 ghost use Rattle.paxos_msg.specs.declared.limits.TheConstants.{LAST_PLACE, PLACES};
 
-/// A learner that has heard nothing is backed. It stays backed after it hears an Accepted or a Tell
-/// that was sent, so the value that it learns then is backed by earlier messages. It stays backed
-/// as more is sent.
+/// A learner that has heard nothing is backed. It stays so as more is sent, and when it hears an
+/// Accepted or a Tell that was sent: each tallied node has sent its Accepted, and each learned
+/// value was in a Tell, or accepted by a majority under one ballot, before the call that learned
+/// it.
 pub fn stays_backed()
     ensures begins { (sent : Sent) (size : ℕ) → IsLearnerBacked sent (new_learner size) }
     ensures accepted { (sent : Sent) (l : Learner) (i s : ℕ) (b : Ballot) (v : Value)
@@ -30,7 +31,7 @@ pub fn stays_backed()
         → IsLearnerBacked next l }
 {}
 
-/// A learned value stays learned, and the size stays.
+/// No call removes or changes a learned value, or the size.
 pub fn learned_stays()
     ensures accepted { (l : Learner) (i s : ℕ) (b : Ballot) (v : Value) →
         HasLearnedMore l.learned (heard_accepted l i b s v).learner.learned }
@@ -42,8 +43,8 @@ pub fn learned_stays()
         → (heard_tell l s v).learner.size ≡ l.size }
 {}
 
-/// There is one front, and the definition finds it. It does not fall when more is learned. It is at
-/// most 65,536 if each learned place is at most 65,535.
+/// There is one front for each map, and the definition finds it. It does not fall when more is
+/// learned. It is at most 65,536 if no learned place is above 65,535.
 pub fn one_front()
     ensures there { (learned : FinMap nat_cmp Value) → IsFront learned (front_of learned) }
     ensures one { (learned : FinMap nat_cmp Value) (front : ℕ) → IsFront learned front
@@ -54,7 +55,8 @@ pub fn one_front()
         → front_of learned ≤ PLACES }
 {}
 
-/// Up to the front there is a value for each place, the learned one.
+/// The values below a place at or below the front are as many as the place says, with the learned
+/// one at each.
 pub fn values_are_learned()
     ensures many { (learned : FinMap nat_cmp Value) (n : ℕ) → n ≤ front_of learned
         → length (values_below learned n) ≡ n }
@@ -69,17 +71,16 @@ pub fn key_tests_are_exact()
         → IsTrue (is_learned learned k) ↔ StandsIn learned k }
 {}
 
-/// Each key is read once, at its first place. After one more key the keys that are read are those
-/// before and this one, unless it is among them. Two keys are the same if all four fields are
-/// equal.
+/// Each key is read once, at its first place: one more key is added to those that are read, unless
+/// it is among them. Two keys are the same exactly if all four fields are equal.
 pub fn keys_are_read_once()
     ensures more { (keys : List Key) (k : Key)
         → firsts (keys ++ k ∷ []) ≡ insert_key same_key (firsts keys) k }
     ensures same { (k other : Key) → (same_key k other ≡ true) ↔ (k ≡ other) }
 {}
 
-/// The input of more values begins with that of fewer. So when more is learned, the learned input
-/// only grows at its end.
+/// More values give keys and input bytes that begin with those of fewer. When more is learned, the
+/// values up to the front and the learned input only grow at their end.
 pub fn input_grows()
     ensures keys { (values more : List Value)
         → (rest : List Key) × (keys_in_order (values ++ more) ≡ keys_in_order values ++ rest) }
@@ -91,8 +92,8 @@ pub fn input_grows()
         (rest : List ℕ) × (learned_input new ≡ learned_input old ++ rest) }
 {}
 
-/// A learned place is at most 65,535 and less than 1,024 above the front: at first, and after each
-/// call for such a place.
+/// Learned places are at most 65,535 and less than 1,024 above the front: at first, and after each
+/// call for a place of at most 65,535.
 pub fn window_holds()
     ensures begins { (size : ℕ) → AreInWindow (new_learner size).learned }
     ensures accepted { (l : Learner) (i s : ℕ) (b : Ballot) (v : Value) → s ≤ LAST_PLACE
@@ -101,7 +102,7 @@ pub fn window_holds()
         AreInWindow (heard_tell l s v).learner.learned }
 {}
 
-/// The learned and tallied values are in their ranges, if all heard values are.
+/// The values that are learned or tallied are in their ranges, if all that was heard is.
 pub fn values_fit()
     ensures begins { (size : ℕ) → IsLearnerInRange (new_learner size) }
     ensures accepted { (l : Learner) (i s : ℕ) (b : Ballot) (v : Value) → IsValue l.size v

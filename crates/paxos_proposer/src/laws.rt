@@ -22,8 +22,8 @@ pub fn begins_backed()
         → IsProposerBacked sent b.node (new_proposer b from size) }
 {}
 
-/// A proposer stays backed after a part of a promise that was sent for its ballot, whichever part
-/// and however late.
+/// A proposer stays backed after any part of a promise under its ballot, in its ranges, that a node
+/// with a number of at most 9 has sent, however late.
 pub fn parts_keep_it_backed()
     ensures { (sent : Sent) (me j first upto : ℕ) (p : Proposer) (votes : List Vote) →
         IsProposerBacked sent me p → j ≤ MOST_NODES
@@ -34,8 +34,8 @@ pub fn parts_keep_it_backed()
     votes_are_by_place();
 }
 
-/// A proposal may be sent, if the offered value is a no-op or was submitted. Once it is sent, the
-/// proposer is backed again. An earlier proposal may be sent again.
+/// What a backed proposer proposes may be sent, and sent again, if the offered value is a no-op or
+/// was submitted. Once its next proposal is sent, it is backed again.
 pub fn proposals_may_be_sent()
     ensures sends { (typed : List Key) (learned : ℕ → Option Value) (sent : Sent) (me : ℕ)
         (r : Record) (p : Proposer) (offered : Option Value) (v : Value)
@@ -55,9 +55,10 @@ pub fn stays_backed()
         → IsProposerBacked sent me p → IsProposerBacked next me p }
 {}
 
-/// A proposer that has heard nothing is in its ranges. It stays so after a part of a promise, and
-/// after a proposal of its own, if the offered value is in its ranges. Then each Accept that it
-/// sends, or sends again, has a spelling as a message of the ballot's node.
+/// A new proposer is in its ranges if its ballot is and its first place is at most 65,536. It stays
+/// so after a part under its ballot in its ranges, and after an own proposal if the offered value
+/// is. Each Accept that it gives, or gives again, is then in its ranges, as a body of its ballot's
+/// node.
 pub fn what_goes_out_fits()
     ensures begins { (b : Ballot) (from size : ℕ) → IsBallot size b → from ≤ PLACES
         → IsProposerInRange (new_proposer b from size) }
@@ -73,8 +74,7 @@ pub fn what_goes_out_fits()
         → proposed_at p s ≡ Some v → IsBody p.size p.ballot.node (Accept p.ballot s v) }
 {}
 
-/// A proposer's ballot, its group's size and its earlier proposals stay, whatever it hears and
-/// proposes.
+/// A proposer's ballot, its size and each proposal stay, whatever it hears and proposes.
 pub fn ballot_stays()
     ensures parts { (p : Proposer) (j : ℕ) (body : Body) →
         ((heard_promise p j body).ballot ≡ p.ballot) × ((heard_promise p j body).size ≡ p.size) }

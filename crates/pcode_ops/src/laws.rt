@@ -14,7 +14,8 @@ ghost use Rattle.pcode_ops.specs.Reach.{Reach, IsLoadable, MayStand};
 ghost use Rattle.pcode_ops.specs.Rules.{MayHold, JumpsTo, Leads, MayFlow};
 ghost use Rattle.pcode_ops.specs.Staying.{StaysInPart};
 
-/// Decoding gives the instruction that is at an offset, and no other is there.
+/// Decoding as a function and as a relation are one: it gives the instruction that is at an offset,
+/// and no other is there.
 pub fn decoding_is_at()
     ensures { (code : List ℕ) (i : ℕ) (instr : Instr) (j : ℕ) →
         (instr_at code i ≡ Ok (instr, j)) ↔ At code i instr j }
@@ -38,20 +39,21 @@ pub fn reached_stays_in_part()
     ensures { (p : Parts) (i : ℕ) → IsLoadable p → Reach p i → (q : Proc) × StaysInPart p i q }
 {}
 
-/// A procedure may hold what the checks of calls, static links and returns let pass.
+/// What the checks of calls, static links and returns let pass is what the rules, as a relation,
+/// let a procedure hold.
 pub fn legal_may_be_held()
     ensures { (procs : List Proc) (q : Proc) (instr : Instr) →
         (legal procs q instr ≡ Ok tt) ↔ MayHold procs q instr }
 {}
 
-/// The target of a jump, as a function and as a relation.
+/// Where a jump leads, as a function and as a relation, is one.
 pub fn jump_leads()
     ensures { (segment : List ℕ) (q : Proc) (sb : ℤ) (j t : ℕ) →
         (jump_to segment q sb j ≡ Ok t) ↔ JumpsTo segment q sb j t }
 {}
 
-/// Where an instruction leads, as a function and as a relation. It leads nowhere out of its
-/// procedure's part exactly if the rules of its flow hold.
+/// Where an instruction leads is what the rules of its flow say. It leads nowhere out of its
+/// procedure's part exactly if they hold.
 pub fn onward_is_led_to()
     ensures leads { (segment : List ℕ) (q : Proc) (instr : Instr) (j t : ℕ) (o : Onward) →
         onward segment q instr j ≡ Ok o →
@@ -60,8 +62,7 @@ pub fn onward_is_led_to()
         ((o : Onward) × (onward segment q instr j ≡ Ok o)) ↔ MayFlow segment q (flow_of instr) j }
 {}
 
-/// The parts of a code file's procedures are apart: an offset in the part of a procedure lies in no
-/// other, and that procedure is its owner.
+/// An offset in the part of a procedure lies in no other part, and that procedure owns it.
 pub fn parts_are_apart()
     ensures { (p : Parts) (n i : ℕ) (q : Proc) → AreProcs p.segment p.procs →
         procedure_of p.procs n ≡ Some q → IsTrue (is_in q i) → owner p.procs i ≡ Ok q }
@@ -73,8 +74,8 @@ pub fn enter_is_owned()
         procedure_of p.procs n ≡ Some q → Reach p q.enter × (owner p.procs q.enter ≡ Ok q) }
 {}
 
-/// What is decoded at a reached offset of a loadable file may be there, in the procedure that owns
-/// the offset.
+/// What is decoded at a reached offset of a loadable file is legal in the procedure that owns the
+/// offset.
 pub fn reached_may_stand()
     ensures { (p : Parts) (i : ℕ) (q : Proc) (instr : Instr) (next : ℕ) →
         AreProcs p.segment p.procs → IsLoadable p → Reach p i → owner p.procs i ≡ Ok q →
@@ -95,8 +96,7 @@ pub fn jump_is_led_to()
         StaysWith p n q sb next }
 {}
 
-/// A case jump leads on each word to one of the offsets that it is known to lead to, and its table
-/// lies in the segment.
+/// A case jump leads for each word to one of its targets, and its table lies in the segment.
 pub fn case_is_led_to()
     ensures leads { (p : Parts) (q : Proc) (low high sb : ℤ) (table next w : ℕ) →
         (m : MayStand p q (Xjp low high sb table) next) →

@@ -160,7 +160,7 @@ fn read_seen<'a>(matches: &ArgMatches<'a>) -> Result<u64, WordFault<'a>> {
     }
 }
 
-/// The address of `--keys`, if it is there. It is none of the nodes'.
+/// The address of `--keys`, if it is there. No node has it.
 fn read_keys<'a>(
     matches: &ArgMatches<'a>,
     nodes: &[SocketAddr],

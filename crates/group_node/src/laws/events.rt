@@ -28,8 +28,9 @@ use paxos_proposer::laws::{
     stays_backed as proposer_stays_backed, what_goes_out_fits as proposals_fit,
 };
 
-/// Each call is an event of the node's group, if what was sent and typed backs the node and it is
-/// in its ranges. So is a call whose save fails, of which nothing is sent.
+/// Each call of a node that is in its ranges and backed is an event of its group, by `WorldStep`: a
+/// typed character, a delivery of a sent message, a campaign, a tick, a start. So is one whose save
+/// failed, with either record left, nothing sent and the node down.
 pub fn calls_are_events()
     ensures press { (w : WorldState) (n : Known) (byte k : ℕ) (c : Configuration) (console : List ℕ)
         → Sits w n c k console → IsInRange n → Backs w.sent w.typed n
@@ -77,9 +78,8 @@ pub fn calls_are_events()
     key_tests_are_exact();
 }
 
-/// The law of a node is not empty. There is a node in its ranges that is backed by what was sent
-/// and typed, and that leads, so that it may propose. It keeps a reported vote, has offered a key
-/// and tallies a place, and a key waits at it.
+/// The laws are not empty: there is a node in its ranges that is backed and leads. It keeps a
+/// reported vote, has offered a key and tallies a place, and a key waits at it.
 pub fn possible()
     ensures { (n : Known) × (sent : Sent) × (typed : List Key) × IsInRange n × Backs sent typed n
         × IsSomeAnd n.proposer (λ p. IsTrue (is_covered p (next_of p)) × (0 < length p.kept))

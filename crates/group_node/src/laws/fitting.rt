@@ -29,10 +29,10 @@ use paxos_learner::laws::{learned_stays, one_front, values_fit, window_holds};
 use paxos_msg::laws::tests_are_exact;
 use paxos_proposer::laws::{ballot_stays, what_goes_out_fits as accepts_fit};
 
-/// A node stays in its ranges, and what it sends has a spelling. This holds at a start of a record
-/// with a start to spare, at a key if fewer than 256 wait and there is a serial to spare, at a
-/// campaign if there is a round and a place to spare, at each tick, and at each message that has a
-/// spelling.
+/// A node stays in its ranges, and each packet has a spelling, whatever was sent: at a start of a
+/// record with a start to spare, at a typed character if fewer than 256 wait and there is a serial
+/// to spare, at a campaign if there is a round and a place to spare, at each tick, and at each
+/// message that has a spelling.
 pub fn what_goes_out_fits()
     ensures start { (me : Me) (r : Record) → IsMember me → IsRecord me.group.size r
         → r.starts < LAST_START → IsFit me (on_start me r) }
@@ -55,7 +55,8 @@ pub fn what_goes_out_fits()
     window_holds();
 }
 
-/// The same of a message by its kind, before keys below the front leave, and of their leaving.
+/// A node stays in its ranges, and each packet has a spelling, at a message of each kind, before
+/// the waiting keys below the front leave; and it stays in its ranges when they leave.
 pub fn rows_fit()
     ensures prepare { (n : Known) (j from : ℕ) (b : Ballot) → IsInRange n
         → IsHeardFit n.me j (Prepare b from) → IsFit n.me (on_prepare n b from) }
@@ -85,9 +86,9 @@ pub fn rows_fit()
     window_holds();
 }
 
-/// The same of each packet by itself: a Prepare under the proposer's ballot from any place of the
-/// group's, the Accept of what it has proposed at a place, the Submit of the first keys that wait,
-/// an Ask from the front, and a Tell of what is learned.
+/// Each packet by itself has a spelling: a Prepare under the proposer's ballot from any place, the
+/// Accept of what it has proposed at a place, the Submit of the first waiting keys, an Ask from the
+/// front, and a Tell of what is learned.
 pub fn packets_fit()
     ensures prepare { (me : Me) (p : Proposer) (s : ℕ) → IsOwnProposer me p → s < PLACES
         → IsBody me.group.size me.node (Prepare p.ballot s) }
@@ -103,9 +104,9 @@ pub fn packets_fit()
     one_front();
 }
 
-/// The same of a node's proposer. After a part of a promise that has a spelling it is still the
-/// node's own, and asks on from a place of the group's. So it is after a proposal, after up to a
-/// number of them, and after an offer, also after a pump.
+/// A proposer stays the node's own after a part of a promise that has a spelling, and then asks on
+/// from a place that a Prepare may have. It stays so after a proposal, after up to a number of
+/// them, and after an offer, also after a pump; and each Accept has a spelling.
 pub fn proposals_fit()
     ensures hears { (me : Me) (p : Proposer) (j : ℕ) (body : Body) → IsOwnProposer me p
         → IsPromisePart p.ballot body → IsHeardFit me j body
@@ -130,9 +131,9 @@ pub fn proposals_fit()
     ballot_stays();
 }
 
-/// No call sends more packets than an outbox holds. A campaign sends one, a message at most 17, a
-/// tick at most 43. An Ask is answered by at most 16 places below the front. A pump makes no more
-/// proposals than it may, and an offer at most one.
+/// No call sends more packets than an outbox holds: a campaign 1, a message at most 17, a tick at
+/// most 43, an Ask at most 16. A pump makes no more proposals than it may, and an offer at most
+/// one.
 pub fn packets_are_few()
     ensures campaign { (n : Known) → length (on_campaign n).sends ≤ 1 }
     ensures message { (n : Known) (j : ℕ) (body : Body)

@@ -34,7 +34,7 @@ use paxos_proposer::laws::{
 
 // ---- one law for each call and each kind of message
 
-/// A start: the first two parts of `Backs`, for the stored record, are enough.
+/// A start over any backed record is lawful: the first two parts of `Backs` are enough.
 pub fn start_is_lawful()
     ensures { (sent : Sent) (typed : List Key) (me : Me) (r : Record)
         → IsRecordBacked sent me.node r → IsLawful sent typed r empty (on_start me r) }
@@ -43,14 +43,14 @@ pub fn start_is_lawful()
     learner_stays_backed();
 }
 
-/// A typed byte: its key is typed with it.
+/// A typed character is lawful at a node that is in its ranges and backed, and types its key.
 pub fn typed_is_lawful()
     ensures { (sent : Sent) (typed : List Key) (n : Known) (byte : ℕ) → IsInRange n
         → Backs sent typed n
         → IsLawfulCall sent (typed ++ keys_of (new_key n byte)) n (on_typed n byte) }
 {}
 
-/// A campaign.
+/// So is a campaign.
 pub fn campaign_is_lawful()
     ensures { (sent : Sent) (typed : List Key) (n : Known) → IsInRange n → Backs sent typed n →
         IsLawfulCall sent typed n (on_campaign n) }
@@ -64,7 +64,7 @@ pub fn campaign_is_lawful()
     begins_backed();
 }
 
-/// A tick.
+/// So is a tick.
 pub fn tick_is_lawful()
     ensures { (sent : Sent) (typed : List Key) (n : Known) → IsInRange n → Backs sent typed n →
         IsLawfulCall sent typed n (on_tick n) }
@@ -77,7 +77,7 @@ pub fn tick_is_lawful()
     proposals_may_be_sent();
 }
 
-/// A Prepare.
+/// A Prepare that was sent and has a spelling is lawful at such a node.
 pub fn prepare_is_lawful()
     ensures { (sent : Sent) (typed : List Key) (n : Known) (j from : ℕ) (b : Ballot) → IsInRange n
         → Backs sent typed n → IsDelivered sent n j (Prepare b from)
@@ -93,7 +93,7 @@ pub fn prepare_is_lawful()
     promises_may_be_sent();
 }
 
-/// A Promise, or a part of one, with the pump after it.
+/// So is a Promise, or a part of one, with the pump after it.
 pub fn promise_is_lawful()
     ensures { (sent : Sent) (typed : List Key) (n : Known) (j first upto : ℕ) (b : Ballot)
         (votes : List Vote) → IsInRange n → Backs sent typed n
@@ -111,7 +111,7 @@ pub fn promise_is_lawful()
     proposals_may_be_sent();
 }
 
-/// An Accept.
+/// So is an Accept.
 pub fn accept_is_lawful()
     ensures { (sent : Sent) (typed : List Key) (n : Known) (j s : ℕ) (b : Ballot) (v : Value)
         → IsInRange n → Backs sent typed n → IsDelivered sent n j (Accept b s v)
@@ -127,7 +127,7 @@ pub fn accept_is_lawful()
     votes_may_be_sent();
 }
 
-/// An Accepted.
+/// So is an Accepted.
 pub fn accepted_is_lawful()
     ensures { (sent : Sent) (typed : List Key) (n : Known) (j s : ℕ) (b : Ballot) (v : Value)
         → IsInRange n → Backs sent typed n → IsDelivered sent n j (Accepted b s v)
@@ -137,7 +137,7 @@ pub fn accepted_is_lawful()
     learned_stays();
 }
 
-/// A Tell.
+/// So is a Tell.
 pub fn tell_is_lawful()
     ensures { (sent : Sent) (typed : List Key) (n : Known) (j s : ℕ) (v : Value) → IsInRange n
         → Backs sent typed n → IsDelivered sent n j (Tell s v)
@@ -147,14 +147,14 @@ pub fn tell_is_lawful()
     learned_stays();
 }
 
-/// A Refused.
+/// So is a Refused.
 pub fn refused_is_lawful()
     ensures { (sent : Sent) (typed : List Key) (n : Known) (j : ℕ) (b promised : Ballot)
         → IsInRange n → Backs sent typed n → IsDelivered sent n j (Refused b promised)
         → IsLawfulCall sent typed n (on_refused n b promised) }
 {}
 
-/// A Submit, with the pump and the offer.
+/// So is a Submit, with the pump and the offer.
 pub fn submit_is_lawful()
     ensures { (sent : Sent) (typed : List Key) (n : Known) (j : ℕ) (v : Value) → IsInRange n
         → Backs sent typed n → IsDelivered sent n j (Submit v)
@@ -168,7 +168,7 @@ pub fn submit_is_lawful()
     proposals_may_be_sent();
 }
 
-/// An Ask.
+/// So is an Ask.
 pub fn ask_is_lawful()
     ensures { (sent : Sent) (typed : List Key) (n : Known) (j from : ℕ) → IsInRange n
         → Backs sent typed n → IsDelivered sent n j (Ask from)
@@ -181,7 +181,7 @@ pub fn ask_is_lawful()
     sent_only_grows();
 }
 
-/// A message of any kind, with the waiting keys that leave after it.
+/// So is a message of any kind, with the waiting keys that leave after it.
 pub fn message_is_lawful()
     ensures { (sent : Sent) (typed : List Key) (n : Known) (j : ℕ) (body : Body) → IsInRange n
         → Backs sent typed n → IsDelivered sent n j body
@@ -199,8 +199,8 @@ pub fn message_is_lawful()
 
 // ---- the others, and all of them together
 
-/// What other nodes send, and keys that are typed, keep a node backed, and also the stored record
-/// of one that is down.
+/// What other nodes may send keeps a node backed, and the stored record of one that is down. So do
+/// typed keys.
 pub fn others_keep_it_backed()
     ensures sends { (sent : Sent) (typed known : List Key) (n : Known) (size j : ℕ)
         (learned : ℕ → Option Value) (r : Record) (body : Body) → j ≢ n.me.node
@@ -218,9 +218,9 @@ pub fn others_keep_it_backed()
     learner_stays_backed();
 }
 
-/// What a lawful call does to the group. The growth goes on. If all that was told is chosen, so is
-/// what the node has learned and what it tells. What is submitted was typed. A save of which
-/// nothing was sent leaves a record that is backed.
+/// A lawful call continues the growth on which agreement rests. If all that Tells have said is
+/// chosen, then what the node learns and tells is chosen; if all that was submitted was typed, so
+/// is what it submits. A save that failed, with nothing sent, leaves a backed record.
 pub fn lawful_calls_go_on()
     ensures grew { (sent : Sent) (typed : List Key) (records next : ℕ → Record)
         (before : FinMap nat_cmp Value) (done : Response)

@@ -10,9 +10,9 @@ ghost use Rattle.group_node.specs.WaitingKeys.{without_read};
 
 use paxos_learner::laws::key_tests_are_exact;
 
-/// A typed key is the last that waits. A tick's batch has the first that wait, at most 32, and
-/// there is one unless none waits. After a message, those from the first on that is not below the
-/// front wait.
+/// The waiting keys are a queue: a typed one is the last; a tick submits the first, at most 32, as
+/// long as any wait; they leave only from the front, each of them read; and after a message the
+/// first that waits is not below the front.
 pub fn waiting_keys_are_a_row()
     ensures typed { (n : Known) (byte : ℕ)
         → waiting_keys (on_typed n byte).node ≡ waiting_keys n ++ keys_of (new_key n byte) }

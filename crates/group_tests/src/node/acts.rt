@@ -15,7 +15,7 @@ pub enum Act {
     Hears(&'static [u8]),
     /// It hears of each place, in order, that it has no key.
     HearsOfAllPlaces,
-    /// It makes at most that many steps, and its run is over for this reason.
+    /// It makes at most these steps, and its run is over for this reason.
     Runs(u32, Ran),
     /// It runs until it waits, and releases these bytes from number 0 on; then none waits.
     Prints(&'static [u8]),

@@ -209,7 +209,7 @@ const BATCHES: [Line; 53] = [
 ];
 
 /// Shows Node::on_message (does), Node::typed (known), Node::tick (does), Node::known_front
-/// (front): a batch of which one key is learned, and later both, byte by byte.
+/// (front): a batch with one learned key, and later both, byte by byte.
 #[test]
 fn batch_with_a_learned_key(rt: HostRuntime) -> Result<(), Fail> {
     let program = reading_program(rt.alloc())?;

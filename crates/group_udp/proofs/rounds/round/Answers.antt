@@ -9,8 +9,8 @@ pub returns-clause-writes : goal.returns-clause-writes
 returns-clause-writes g c =
     wrote_all c.args.seen c.args.host.now c.rest_and_turn.new.host c.release_all.new.host _ _ _
     (λ f. absurd cc) c.in_ok-more.ensures.stays
-    c.unreleased.ensures.replay c.in_ok-release_all.ensures.rest
-    (all_gone _ _ _ c.in_ok-release_all.ensures.released) c.in_ok-release_all.ensures.written
+    c.unreleased.ensures.replay c.in_ok-release_all.ensures.released.protocol
+    (all_gone _ _ _ c.in_ok-release_all.ensures.released.progress) c.in_ok-release_all.ensures.released.appended
 
 pub returns-in_err-more-clause-writes : goal.returns-in_err-more-clause-writes
 returns-in_err-more-clause-writes g c =
@@ -23,9 +23,9 @@ pub returns-in_err-release_all-clause-writes : goal.returns-in_err-release_all-c
 returns-in_err-release_all-clause-writes g c =
     wrote_but_one c.args.seen c.args.host.now c.rest_and_turn.new.host c.release_all.new.host _ _ _
     (let p = err_from_is_err_and c.from_residual-in_err-release_all.result
-    c.from_residual-in_err-release_all.ensures.1 in let o = c.in_err-release_all.ensures.others in cc)
+    c.from_residual-in_err-release_all.ensures.1 in let o = c.in_err-release_all.ensures.released.1 in cc)
     c.in_ok-more.ensures.stays
-    c.unreleased.ensures.replay c.in_err-release_all.ensures.rest c.in_err-release_all.ensures.lost
+    c.unreleased.ensures.replay c.in_err-release_all.ensures.released.0
 
 pub returns-in_err-more-clause-round : goal.returns-in_err-more-clause-round
 returns-in_err-more-clause-round g c =
@@ -35,12 +35,10 @@ returns-in_err-more-clause-round g c =
 pub returns-in_err-release_all-clause-round : goal.returns-in_err-release_all-clause-round
 returns-in_err-release_all-clause-round g c =
     let p = err_from_is_err_and c.from_residual-in_err-release_all.result c.from_residual-in_err-release_all.ensures.1 in
-    round_unwritten _ _ _ c.args.seen c.args.is_busy _ _ _ _ _ _ _ _ _ p.1 p.2 c.in_err-release_all.ensures.others
-    c.in_ok-more.ensures.turns
-    c.in_err-release_all.ensures.lost c.in_err-release_all.ensures.rest
+    round_unwritten _ _ _ c.args.seen c.args.is_busy _ _ _ _ _ _ _ _ _ p.1 p.2 c.in_ok-more.ensures.turns
+    c.in_err-release_all.ensures.released
 
 pub returns-clause-round : goal.returns-clause-round
 returns-clause-round g c =
     round_done _ _ _ c.args.seen c.args.is_busy _ _ _ _ _ _ c.in_ok-more.ensures.turns
-    c.in_ok-release_all.ensures.released c.in_ok-release_all.ensures.written
-    c.in_ok-release_all.ensures.rest
+    c.in_ok-release_all.ensures.released
