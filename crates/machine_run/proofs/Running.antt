@@ -16,11 +16,24 @@ use Rattle.machine_run.specs.Streams.{Streams, HasMoved, HasNoFault, HasReadFaul
 use Rattle.machine_run.specs.Run.{LosesByte, HaltsFor, HasRunOn, IsRunOver, Rests, RunsProgram, Turns, Reached}
 
 -- the laws of runs that a run rests on
+abbrev pub IsOnLonger : Type 0
+IsOnLonger = (p : Parts) (x y : List ℕ) (n : ℕ) (c : Configuration) → LeadsIn p x n c → LeadsIn p (x ++ y) n c
+
+abbrev pub IsAfter : Type 0
+IsAfter = (p : Parts) (x : List ℕ) (n : ℕ) (c : Configuration) → LeadsIn p x n c → after_steps p x n ≡ c
+
+abbrev pub LeadsOn : Type 0
+LeadsOn =
+    (p : Parts) (x : List ℕ) (n m r : ℕ) (o : List ℕ) (s t : State) → LeadsIn p x n (configuration_of s r o)
+    → AreQuiet p m s t → LeadsIn p x (n + m) (configuration_of t r o)
+
 pub record Laws : Type 0 where
-  pub longer : (p : Parts) (x y : List ℕ) (n : ℕ) (c : Configuration) → LeadsIn p x n c → LeadsIn p (x ++ y) n c
-  pub there : (p : Parts) (x : List ℕ) (n : ℕ) (c : Configuration) → LeadsIn p x n c → after_steps p x n ≡ c
-  pub quiet : (p : Parts) (x : List ℕ) (n m r : ℕ) (o : List ℕ) (s t : State) → LeadsIn p x n (configuration_of s r o)
-      → AreQuiet p m s t → LeadsIn p x (n + m) (configuration_of t r o)
+  pub longer : IsOnLonger
+  pub there : IsAfter
+  pub quiet : LeadsOn
+
+pub laws_of : IsOnLonger → IsAfter → LeadsOn → Laws
+laws_of longer there quiet = record { longer = longer; there = there; quiet = quiet }
 
 -- ---- what moved, and what was counted, one after another
 

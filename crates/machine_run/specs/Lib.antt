@@ -1,4 +1,5 @@
 pub mod Streams
+pub mod Files
 pub mod Run
 pub mod Loading
 pub mod Hex

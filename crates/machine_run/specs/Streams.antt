@@ -11,6 +11,15 @@ pub record Streams : Type 0 where
   pub read_faults : ℕ
   pub write_faults : ℕ
 
+-- What is known of a reader and a writer, put together.
+abbrev pub streams : Option (List ℕ) → Option (List ℕ) → ℕ → ℕ → Streams
+streams reader writer read_faults write_faults = record {
+  reader = reader;
+  writer = writer;
+  read_faults = read_faults;
+  write_faults = write_faults;
+}
+
 -- The bytes that were read, and those that were written.
 pub record HasMoved (from to : Streams) (took wrote : List ℕ) : Type 0 where
   pub read : Consumes from.reader to.reader took

@@ -1,6 +1,6 @@
 //! Files that are read whole.
-ghost use Rattle.std.specs.Prelude.{◌≡◌, ◌≢◌, ◌<◌, ◌≤◌, ℕ, List, IfErr, IfOk, length, vec_len};
-ghost use Rattle.std.specs.Io.KnownBytes.{Consumes, IsAtEnd};
+ghost use Rattle.std.specs.Prelude.{◌≢◌, IfErr, IfOk};
+ghost use Rattle.machine_run.specs.Files.{HasReadAll, HasReadFront};
 ghost use Rattle.machine_run.specs.declared.files.FileError.TheVariants.{Memory};
 ghost use Rattle.machine_run.specs.declared.run.RunIo.TheVariants as RunIo;
 
@@ -27,12 +27,9 @@ pub enum FileError {
 /// what was read is gone from the reader.
 pub fn read_whole<R: Read>(alloc: Global, reader: &mut R) -> Result<Vec<u8>, FileError>
     ensures whole { IfOk result
-        (λ bytes. Consumes (R.remaining reader.old) (R.remaining reader.new) bytes.items) }
-    ensures end { IfOk result (λ _. IsAtEnd (R.remaining reader.new)) }
-    ensures short { IfOk result (λ bytes. vec_len bytes ≤ 67108864) }
-    ensures front { IfErr result (λ e. (read : List ℕ)
-        × Consumes (R.remaining reader.old) (R.remaining reader.new) read
-        × (e ≡ Memory → 0 < length read)) }
+        (λ bytes. HasReadAll (R.remaining reader.old) (R.remaining reader.new) bytes.items) }
+    ensures front { IfErr result
+        (HasReadFront (R.remaining reader.old) (R.remaining reader.new) Memory) }
 {
     let mut bytes = Vec::new(alloc);
     let mut buffer = [0u8; 4096];
@@ -65,12 +62,9 @@ pub fn read_file<H: Files + AllocGlobal>(rt: &H, path: &str) -> Result<Vec<u8>, 
 /// read fails or the input has more than `LONGEST_FILE` bytes.
 pub fn read_input<R: Read>(alloc: Global, reader: &mut R) -> Result<Vec<u8>, RunIo>
     ensures whole { IfOk result
-        (λ bytes. Consumes (R.remaining reader.old) (R.remaining reader.new) bytes.items) }
-    ensures end { IfOk result (λ _. IsAtEnd (R.remaining reader.new)) }
-    ensures short { IfOk result (λ bytes. vec_len bytes ≤ 67108864) }
-    ensures front { IfErr result (λ e. (read : List ℕ)
-        × Consumes (R.remaining reader.old) (R.remaining reader.new) read
-        × (e ≡ RunIo.Memory → 0 < length read)) }
+        (λ bytes. HasReadAll (R.remaining reader.old) (R.remaining reader.new) bytes.items) }
+    ensures front { IfErr result
+        (HasReadFront (R.remaining reader.old) (R.remaining reader.new) RunIo.Memory) }
     ensures reads { IfErr result (λ e. e ≢ RunIo.Write) }
 {
     match read_whole(alloc, reader) {

@@ -1,5 +1,5 @@
 //! Bytes in hexadecimal digits of either case.
-ghost use Rattle.std.specs.Prelude.{◌≡◌, IsSome, IfErr, IfOk, None, Some, take};
+ghost use Rattle.std.specs.Prelude.{◌≡◌, IsSome, IfOk, None, Some, take};
 ghost use Rattle.digits.specs.Digits.{hex_byte_of};
 ghost use Rattle.machine_run.specs.declared.hex.HexError.TheVariants.{Bad, Memory};
 ghost use Rattle.machine_run.specs.Hex.{hex_bytes_of};

@@ -4,6 +4,7 @@ ghost use Rattle.std.specs.Io.KnownBytes.{Keeps, Appends};
 ghost use Rattle.base.specs.Faults.{HasRisen};
 ghost use Rattle.pcode_machine.specs.Turns.{Makes, WaitsOn};
 ghost use Rattle.machine_run.specs.Run.{Turns, RunsProgram, finish_of};
+ghost use Rattle.machine_run.specs.Streams.{streams};
 
 use crate::streams::{ByteReader, ByteWriter, ReadFault, WriteFault};
 use pcode_machine::laws::{quiet_steps_lead_on, run_is_after, same_run_on_longer_input};
@@ -82,18 +83,10 @@ fn turn<R: ByteReader, W: ByteWriter>(
 ) -> Result<(u32, Option<Finish>), RunIo>
     ensures program { machine.new.program ≡ machine.old.program }
     ensures turn { Turns machine.old.program most machine.old.state machine.new.state
-        (record {
-          reader = R.remaining reader.old;
-          writer = W.contents writer.old;
-          read_faults = R.read_faults reader.old;
-          write_faults = W.write_faults writer.old;
-        })
-        (record {
-          reader = R.remaining reader.new;
-          writer = W.contents writer.new;
-          read_faults = R.read_faults reader.new;
-          write_faults = W.write_faults writer.new;
-        }) result }
+        (streams (R.remaining reader.old) (W.contents writer.old)
+        (R.read_faults reader.old) (W.write_faults writer.old))
+        (streams (R.remaining reader.new) (W.contents writer.new)
+        (R.read_faults reader.new) (W.write_faults writer.new)) result }
     ensures most { IfOk result (λ r. r.0 ≤ most) }
 {
     let (made, pause) = machine.run(most);
@@ -126,19 +119,10 @@ pub fn run_program<R: ByteReader, W: ByteWriter>(
     steps: u32,
 ) -> Result<Finish, RunIo>
     ensures { RunsProgram program.now
-        (record {
-          reader = R.remaining reader.old;
-          writer = W.contents writer.old;
-          read_faults = R.read_faults reader.old;
-          write_faults = W.write_faults writer.old;
-        })
-        (record {
-          reader = R.remaining reader.new;
-          writer = W.contents writer.new;
-          read_faults = R.read_faults reader.new;
-          write_faults = W.write_faults writer.new;
-        }) steps
-        result }
+        (streams (R.remaining reader.old) (W.contents writer.old)
+        (R.read_faults reader.old) (W.write_faults writer.old))
+        (streams (R.remaining reader.new) (W.contents writer.new)
+        (R.read_faults reader.new) (W.write_faults writer.new)) steps result }
 {
     // These laws say that steps on an input are steps on each longer input, that they lead to the
     // state after as many steps, and that quiet steps go on from there.

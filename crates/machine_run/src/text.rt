@@ -1,10 +1,12 @@
 //! Datagrams and bytes as text.
+ghost use Rattle.std.specs.Prelude.{◌≤◌, length};
+ghost use Rattle.paxos_msg.specs.declared.limits.TheConstants.{MOST_VOTES};
 ghost use Rattle.paxos_msg.specs.Views.{HasUpTo};
 
 use crate::hex::{HexError, bytes_of};
 use crate::refusal::{MachineRefusal, ShowFault};
 use crate::run::RunIo;
-use paxos_msg::{BodyView, Group, View, Vote, decode};
+use paxos_msg::{Ballot, BodyView, Group, LentVotes, View, Vote, decode};
 use std::alloc::Global;
 use std::io::{self, Write};
 
@@ -27,9 +29,31 @@ fn write_vote<W: Write>(writer: &mut W, vote: Vote) -> io::Result<()> {
     writeln!(writer, "vote {place} {ballot} {value}")
 }
 
+/// Writes the line of a promise, and a line for each of its votes.
+fn write_promise<W: Write>(
+    writer: &mut W,
+    sender: u8,
+    ballot: Ballot,
+    first: u32,
+    upto: u32,
+    votes: &LentVotes<'_>,
+) -> io::Result<()>
+    requires { length votes.now ≤ MOST_VOTES }
+{
+    let count = votes.iter().count();
+    writeln!(
+        writer,
+        "promise from {sender} ballot {ballot} first {first} upto {upto} votes {count}"
+    )?;
+    for vote in votes.iter() {
+        write_vote(writer, vote)?;
+    }
+    Ok(())
+}
+
 /// Writes the line of a message, and a line for each vote of a promise.
 pub fn write_message<W: Write>(writer: &mut W, view: &View<'_>) -> io::Result<()>
-    requires { HasUpTo 8 (view.now).body }
+    requires { HasUpTo MOST_VOTES (view.now).body }
 {
     let sender = view.sender;
     match &view.body {
@@ -41,17 +65,7 @@ pub fn write_message<W: Write>(writer: &mut W, view: &View<'_>) -> io::Result<()
             first,
             upto,
             votes,
-        } => {
-            let count = votes.iter().count();
-            writeln!(
-                writer,
-                "promise from {sender} ballot {ballot} first {first} upto {upto} votes {count}"
-            )?;
-            for vote in votes.iter() {
-                write_vote(writer, vote)?;
-            }
-            Ok(())
-        }
+        } => write_promise(writer, sender, *ballot, *first, *upto, votes),
         BodyView::Accept {
             ballot,
             place,

@@ -5,7 +5,7 @@ use Rattle.std.proofs.lemmas.Bool.{or_parts, not-false, ltb-false, le-ltb, eqb-t
 use Rattle.base.proofs.Steps.{guard_ok, bind_ok}
 use Rattle.pcode_file.specs.declared.file.Proc.{Proc}
 use Rattle.pcode_file.specs.Parts.{word}
-use Rattle.pcode_file.specs.Checks.{table_of, is_level, table_from, table_at, low_of, pointer_of, within_part, proc_from, proc_at}
+use Rattle.pcode_file.specs.Checks.{table_of, is_level, table_from, table_at, low_of, pointer_of, within_part, proc_of_table, proc_from, proc_at}
 use Rattle.pcode_file.specs.InFile.{IsLevel, HasTable, Points, HasProc}
 use Rattle.pcode_file.proofs.Tests.{false_zero, zero_false}
 
@@ -128,17 +128,7 @@ half w h = omega arith
 
 made_found : (segment : List ℕ) (n i at low enter exit : ℕ) → HasTable segment n i at → low ≤ at - 8
     → Points segment (at - 2) low (at - 8) enter → Points segment (at - 4) low (at - 8) exit
-    → HasProc segment n i
-    (record {
-      number = i;
-      level = slice_index segment (at + 1);
-      enter = enter;
-      exit = exit;
-      jtab = at;
-      low = low;
-      params = word segment (at - 6) / 2;
-      vars = word segment (at - 8) / 2;
-    })
+    → HasProc segment n i (proc_of_table segment i at low enter exit)
 made_found segment n i at low enter exit t room e x = record {
   table = t;
   number = refl;

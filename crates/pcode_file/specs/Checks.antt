@@ -122,22 +122,27 @@ abbrev pub within_part : ℕ → Option ℕ → Result ℕ FileFault
 within_part i None = Err (AttributeRange i)
 within_part i (Some x) = Ok x
 
+-- The procedure `i` with its table at `at` and its part from `low` on, by the table's words and the
+-- places to which its pointers lead.
+abbrev pub proc_of_table : List ℕ → ℕ → ℕ → ℕ → ℕ → ℕ → Proc
+proc_of_table segment i at low enter exit = record {
+  number = i;
+  level = slice_index segment (at + 1);
+  enter = enter;
+  exit = exit;
+  jtab = at;
+  low = low;
+  params = word segment (at - 6) / 2;
+  vars = word segment (at - 8) / 2;
+}
+
 -- The procedure `i` with its table at `at` and its part from `low` on, or its fault.
 abbrev pub proc_from : List ℕ → ℕ → ℕ → ℕ → Result Proc FileFault
 proc_from segment i at low =
     if nat_lt (at - 8) low then Err (AttributeRange i) else
     (within_part i (pointer_of segment (at - 2) low (at - 8)) >>= λ enter.
     within_part i (pointer_of segment (at - 4) low (at - 8)) >>= λ exit.
-    Ok (record {
-      number = i;
-      level = slice_index segment (at + 1);
-      enter = enter;
-      exit = exit;
-      jtab = at;
-      low = low;
-      params = word segment (at - 6) / 2;
-      vars = word segment (at - 8) / 2;
-    }))
+    Ok (proc_of_table segment i at low enter exit))
 
 -- The procedure `i` of `n`, or the first check that it fails.
 -- Source: Manual, attribute tables. The order of the checks is this project's.

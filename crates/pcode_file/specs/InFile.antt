@@ -91,5 +91,5 @@ InFile bytes p = (k : ℕ) × InEntry bytes k p
 -- The invariant of the parts of each code file that was read.
 pub record IsWhole (p : Parts) : Type 0 where
   pub size : length p.segment < 2 ^ 16
-  pub few : length p.procs < 256
+  pub few : length p.procs < 2 ^ 8
   pub procs : AreProcs p.segment p.procs

@@ -9,7 +9,7 @@
 //! below itself the procedure's attribute table lies. The table's highest word has the procedure's
 //! number and lex level. Below it lie the pointers to the first instruction and to the code that
 //! leaves, and the sizes of the parameters and of the data in bytes.
-ghost use Rattle.std.specs.Prelude.{◌≡◌, ℕ, ◌+◌, ◌*◌, ◌-◌, ◌^◌, ◌<◌, ◌≤◌, length, IfOk, IfSome, slice_range, Some};
+ghost use Rattle.std.specs.Prelude.{◌≡◌, ◌+◌, ◌*◌, ◌-◌, ◌^◌, ◌<◌, ◌≤◌, length, IfOk, IfSome, slice_range, Some};
 ghost use Rattle.pcode_file.specs.declared.layout.TheConstants.{BLOCK_BYTES, ENTRIES};
 ghost use Rattle.pcode_file.specs.Parts.{word};
 ghost use Rattle.pcode_file.specs.Checks.{seen, used_from, entry_of, segment_of, procedure_count, table_of, table_at, past_table, low_of, pointer_of, proc_at, first_of};

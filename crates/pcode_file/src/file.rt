@@ -1,5 +1,5 @@
 //! Code files and their procedures.
-ghost use Rattle.std.specs.Prelude.{◌≡◌, ℕ, ◌<◌, ◌≤◌, ◌+◌, ◌*◌, ◌^◌, [], length, vec_len, vec_capacity, IfOk, IfSome, MatchResult, Ok, Err};
+ghost use Rattle.std.specs.Prelude.{◌≡◌, ◌<◌, ◌≤◌, ◌+◌, ◌*◌, ◌^◌, [], length, vec_len, vec_capacity, IfOk, IfSome, MatchResult, Ok, Err};
 ghost use Rattle.pcode_file.specs.declared.layout.TheConstants.{BLOCK_BYTES, ENTRIES};
 ghost use Rattle.pcode_file.specs.InFile.{InFile, HasProc, AreProcs};
 ghost use Rattle.pcode_file.specs.Parts.{Parts, procedure_of, name_at};

@@ -1,5 +1,5 @@
 //! Frames, and how calls, returns and static links work.
-ghost use Rattle.std.specs.Prelude.{◌≡◌, ◌+◌, ◌-◌, ◌<◌, ◌≤◌, ℕ, List, [], ◌∷◌, ◌++◌, false, Some, IfOk, IfSome, MatchOption, OnErr, length, take, drop, slice_get};
+ghost use Rattle.std.specs.Prelude.{◌≡◌, ◌+◌, ◌-◌, ◌^◌, ◌<◌, ◌≤◌, ℕ, List, [], ◌∷◌, ◌++◌, false, Some, IfOk, IfSome, MatchOption, OnErr, length, take, drop, slice_get};
 ghost use Rattle.pcode_frames.specs.declared.frame.Frame.{Frame};
 ghost use Rattle.pcode_frames.specs.declared.limits.TheConstants.{LIVE_WORDS, MOST_FRAMES};
 ghost use Rattle.pcode_frames.specs.Frames.{space, space_if_ok, space_after_call, current_of, is_full, link_at, link_up_of, space_after_ret, space_after_start};
@@ -92,7 +92,7 @@ impl Frames {
 
     /// Returns true if one more frame of `size` words does not fit.
     fn is_full(&self, memory: &Memory, size: u32) -> bool
-        requires { size ≤ 131070 }
+        requires { size < 2 ^ 17 }
         ensures value { result ≡ is_full (space memory.now [] self.now) size }
         ensures frames { result ≡ false → length self.now < MOST_FRAMES }
         ensures words { result ≡ false → length memory.now + size ≤ LIVE_WORDS }

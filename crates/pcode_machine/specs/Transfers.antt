@@ -1,5 +1,6 @@
 -- Transfers between memory and a unit: the call that starts one, and each byte.
-use Rattle.std.specs.Prelude.{ℕ, ◌-◌, nat_lt, ◌==◌, ◌||◌, if◌then◌else◌, Bool, List, ◌∷◌, Option, Some, None, Result, Ok, Err, pos, ◌+ℤ◌}
+use Rattle.std.specs.Prelude.{ℕ, ◌-◌, nat_lt, ◌==◌, ◌||◌, if◌then◌else◌, Bool, List, ◌∷◌, Option, Some, None, IsSome, Result, Ok, Err, pos, ◌+ℤ◌}
+use Rattle.pcode_frames.specs.Words.{live_byte_at}
 use Rattle.pcode_machine.specs.declared.turn.Direction.{Direction}
 use Rattle.pcode_machine.specs.declared.turn.Transfer.{Transfer}
 use Rattle.pcode_machine.specs.declared.turn.Stop.{Stop}
@@ -43,6 +44,10 @@ unit_call direction j s (mode ∷ block ∷ len ∷ index ∷ base ∷ unit ∷ 
       transfer = begun_transfer direction unit base index len s.next;
     })
 unit_call direction j s _ = Err (Error StackUnderflow)
+
+-- The live words that hold the next byte of a transfer.
+abbrev pub HoldsNextByte : Transfer → List ℕ → Type 0
+HoldsNextByte t live = IsSome (live_byte_at live t.address)
 
 -- The rest of a transfer after one byte, if there is one.
 abbrev pub rest_of : Transfer → Option Transfer

@@ -1,5 +1,5 @@
 //! Bytes at an index after a pointer: LDB, STB.
-ghost use Rattle.std.specs.Prelude.{◌≡◌, OnErr, ◌≤ℤ◌, pos, neg_ℤ};
+ghost use Rattle.std.specs.Prelude.{◌≡◌, OnErr};
 ghost use Rattle.pcode_machine.specs.Bytes.{byte_address, byte_loaded, byte_stored};
 ghost use Rattle.pcode_machine.specs.Ready.{state_of, state_if_ok};
 

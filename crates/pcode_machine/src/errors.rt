@@ -1,7 +1,6 @@
 //! Execution errors, by name.
 ghost use Rattle.std.specs.Prelude.{◌≡◌};
-ghost use Rattle.pcode_frames.specs.declared.halt.Halt.{Halt as FrameHalt};
-ghost use Rattle.pcode_machine.specs.Errors.{error_of, error_number};
+ghost use Rattle.pcode_machine.specs.Errors.{error_number};
 
 use pcode_frames::Halt;
 

@@ -23,7 +23,7 @@ fn power(exponent: u16) -> u32
     requires { exponent ≤ 16 }
     ensures value { result ≡ 2 ^ exponent }
     ensures positive { 1 ≤ result }
-    ensures small { result ≤ 65536 }
+    ensures small { result ≤ 2 ^ 16 }
 {
     1u32 << exponent
 }

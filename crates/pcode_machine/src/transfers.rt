@@ -1,5 +1,5 @@
 //! Transfers between memory and a unit: the call that starts one, and each byte.
-ghost use Rattle.std.specs.Prelude.{◌≡◌, ℕ, List, None, Some, IfErr, IsSome, OnErr, OnOk};
+ghost use Rattle.std.specs.Prelude.{◌≡◌, ℕ, List, None, Some, IfErr, OnErr, OnOk};
 ghost use Rattle.pcode_file.specs.Parts.{Parts};
 ghost use Rattle.pcode_frames.specs.Frames.{current_of};
 ghost use Rattle.pcode_machine.specs.declared.turn.Direction.TheVariants.{Writing};
@@ -8,7 +8,7 @@ ghost use Rattle.pcode_machine.specs.declared.turn.End.TheVariants.{Error};
 ghost use Rattle.pcode_machine.specs.Errors.{error_number};
 ghost use Rattle.pcode_frames.specs.Words.{live_byte_at, with_byte};
 ghost use Rattle.pcode_machine.specs.Configuration.{configuration_of};
-ghost use Rattle.pcode_machine.specs.Transfers.{begun_transfer, unit_call, is_console, rest_of};
+ghost use Rattle.pcode_machine.specs.Transfers.{begun_transfer, unit_call, is_console, HoldsNextByte, rest_of};
 ghost use Rattle.pcode_machine.specs.Outcome.{moved};
 ghost use Rattle.pcode_machine.specs.Turns.{Passes, sent};
 ghost use Rattle.pcode_machine.specs.Ready.{state_of, state_if_ok};
@@ -93,7 +93,7 @@ impl MachineParts {
     /// Keeps the rest of a transfer after one byte, whose address was live.
     #[tactic(auto, using(crate::proofs::Live::live_address))]
     fn pass_byte(&mut self, transfer: Transfer)
-        requires live { IsSome (live_byte_at self.old.memory transfer.address) }
+        requires { HoldsNextByte transfer self.old.memory }
         ensures { self.new ≡ record self.old { transfer = rest_of transfer } }
     {
         // A live address is far below the greatest of its type.
@@ -111,7 +111,7 @@ impl MachineParts {
 
     /// Stores a byte of a transfer at its live address, and keeps the rest of the transfer.
     pub fn take_byte(&mut self, transfer: Transfer, byte: u8)
-        requires live { IsSome (live_byte_at self.old.memory transfer.address) }
+        requires { HoldsNextByte transfer self.old.memory }
         ensures { self.new ≡ record self.old {
           memory = with_byte self.old.memory transfer.address byte;
           transfer = rest_of transfer;
@@ -144,7 +144,7 @@ impl MachineParts {
     /// Checks the address of the next byte of a transfer from a unit. Fails with how the program
     /// ends if it is not live.
     fn find_place(&self, frame: Frame, transfer: Transfer) -> Result<(), End>
-        ensures live { OnOk result (IsSome (live_byte_at self.now.memory transfer.address)) }
+        ensures live { OnOk result (HoldsNextByte transfer self.now.memory) }
         ensures dead { IfErr result (λ e. (live_byte_at self.now.memory transfer.address ≡ None)
             × (e ≡ Error (error_number BadAddress) frame.procedure transfer.at)) }
     {

@@ -1,5 +1,5 @@
 -- Decoding as a function: the instruction and the offset after it, or the first fault.
-use Rattle.std.specs.Prelude.{ℕ, ◌+◌, ◌-◌, ◌*◌, ◌%◌, nat_lt, nat_le, ◌==◌, ◌&&◌, if◌then◌else◌, List, [], ◌∷◌, length, Option, Some, None, Result, Ok, Err, slice_get, slice_index, ℤ}
+use Rattle.std.specs.Prelude.{ℕ, ◌+◌, ◌-◌, ◌*◌, ◌%◌, ◌≤◌, nat_lt, nat_le, ◌==◌, ◌&&◌, if◌then◌else◌, List, [], ◌∷◌, length, Option, Some, None, Result, Ok, Err, IfOk, slice_get, slice_index, ℤ}
 use Rattle.std.specs.Int.{w8, w16, cast_signed}
 use Rattle.base.specs.Steps.{◌>>=◌}
 use Rattle.pcode_file.specs.Parts.{word}
@@ -13,6 +13,11 @@ use Rattle.pcode_ops.specs.declared.opcodes.Row.{Row}
 use Rattle.pcode_ops.specs.declared.opcodes.Row.TheVariants as row
 use Rattle.pcode_ops.specs.At.{cases}
 use Rattle.pcode_ops.specs.Opcodes.{Form, Alone, Numbered, WithByte, WithBig, WithWord, WithLevels, WithSigned, Typed, Packed, Standard, CaseJump, opcodes, row_of, is_among, opcode_refusal}
+
+-- The answers that end in the code: the offset after what was read is at most its length.
+-- Allows: a fault.
+abbrev pub EndsWithin : {A : Type 0} → List ℕ → Result (A × ℕ) OpFault → Type 0
+EndsWithin code result = IfOk result (λ r. r.1 ≤ length code)
 
 -- ---- Operands: the operand and the offset after it, or the first fault.
 

@@ -1,6 +1,6 @@
 -- What a search has found so far: a flag for each offset, and the flagged offsets in the order in
 -- which they were found.
-use Rattle.std.specs.Prelude.{◌≡◌, ℕ, ◌+◌, ◌*◌, ◌^◌, ◌<◌, ◌≤◌, Bool, true, false, IsTrue, ◌⊎◌, ◌↔◌, List, [], ◌∷◌, cond, length, All, IfSome, slice_get, slice_index_or, Some, Ok}
+use Rattle.std.specs.Prelude.{◌≡◌, ℕ, ◌+◌, ◌*◌, ◌^◌, ◌<◌, ◌≤◌, Bool, true, false, IsTrue, ◌⊎◌, ◌↔◌, List, [], ◌∷◌, cond, length, replicate, All, IfSome, slice_get, slice_index_or, Some, Ok}
 use Rattle.pcode_file.specs.declared.file.Proc.{Proc}
 use Rattle.pcode_file.specs.InFile.{AreProcs}
 use Rattle.pcode_file.specs.Parts.{Parts}
@@ -20,16 +20,20 @@ pub record IsPartWithin (size : ℕ) (q : Proc) : Type 0 where
   pub enter : IsTrue (is_in q q.enter)
   pub exit : IsTrue (is_in q q.exit)
 
+-- The facts of a part in a segment of fewer than 65,536 bytes.
+pub record IsPartOf (segment : List ℕ) (q : Proc) : Type 0 where
+  pub within : IsPartWithin (length segment) q
+  pub size : length segment < 2 ^ 16
+
 -- The parts of procedures, all in a segment of `size` bytes.
 abbrev pub AreParts : ℕ → List Proc → Type 0
 AreParts size procs = All (IsPartWithin size) procs
 
--- The facts of where an instruction leads in a segment of `size` bytes: its offsets and its case
--- table lie there.
-pub record IsWithin (size : ℕ) (o : Onward) : Type 0 where
-  pub next : IfSome o.next (λ j. j < size)
-  pub target : IfSome o.target (λ j. j < size)
-  pub table : o.table + 2 * o.count ≤ size
+-- The facts of where an instruction leads in a segment: its offsets and its case table lie there.
+pub record IsWithin (segment : List ℕ) (o : Onward) : Type 0 where
+  pub next : IfSome o.next (λ j. j < length segment)
+  pub target : IfSome o.target (λ j. j < length segment)
+  pub table : o.table + 2 * o.count ≤ length segment
 
 -- The claim that the table of a case jump lies in `size` bytes, after its UJP.
 -- Allows: an instruction other than XJP.
@@ -41,6 +45,14 @@ IsTableIn size _ = Unit {0}
 pub record Marks : Type 0 where
   pub flags : List Bool
   pub found : List ℕ
+
+-- The marks of a walk over `size` offsets that has found nothing.
+abbrev pub blank_marks : ℕ → Marks
+blank_marks size = record { flags = replicate size false; found = [] }
+
+-- The marks of a walk over a file: a flag for each offset of its segment.
+abbrev pub IsWalkOf : Parts → Marks → Type 0
+IsWalkOf p m = length m.flags ≡ length p.segment
 
 -- The number of flags that are set.
 abbrev pub flagged : List Bool → ℕ
@@ -76,7 +88,7 @@ pub record Adds (P : ℕ → Type 0) (old new : Marks) : Type 0 where
 
 -- The marks of ENTER and EXIT of the first `n` procedures, and of reached offsets alone.
 pub record IsStarted (p : Parts) (n : ℕ) (m : Marks) : Type 0 where
-  pub size : length m.flags ≡ length p.segment
+  pub size : IsWalkOf p m
   pub sound : (i : ℕ) → IsMarked m i → Reach p i
   pub starts : (k : ℕ) (q : Proc) → k < n → slice_get p.procs k ≡ Some q
       → IsMarked m q.enter × IsMarked m q.exit

@@ -1,10 +1,10 @@
 //! Decodes instructions.
-ghost use Rattle.std.specs.Prelude.{◌≡◌, ℕ, ◌+◌, ◌<◌, ◌≤◌, length, IfOk, Ok};
+ghost use Rattle.std.specs.Prelude.{◌≡◌, ℕ, ◌+◌, ◌^◌, ◌<◌, ◌≤◌, length, IfOk, Ok};
 ghost use Rattle.pcode_ops.specs.declared.instr.Instr.{Instr};
 ghost use Rattle.pcode_file.specs.Parts.{word};
 ghost use Rattle.pcode_ops.specs.At.{At, cases};
 ghost use Rattle.pcode_ops.specs.Walks.{IsTableIn};
-ghost use Rattle.pcode_ops.specs.Decoding.{byte_at, word_at, big_at, or_zero, first_or_zero, operands_at, standard_of, packed_of, signed_word, case_jump_at, finished_at, instr_of, instr_at};
+ghost use Rattle.pcode_ops.specs.Decoding.{EndsWithin, byte_at, word_at, big_at, operands_at, standard_of, packed_of, signed_word, case_jump_at, finished_at, instr_of, instr_at};
 
 use crate::fault::OpFault;
 use crate::instr::{Instr, StandardProcedure};
@@ -42,7 +42,7 @@ fn word_at(code: &[u8], at: usize) -> Result<u16, OpFault>
 /// Returns the operand of one or two bytes at `at`, and the offset after it.
 fn big(code: &[u8], at: usize) -> Result<(u16, usize), OpFault>
     ensures value { result ≡ big_at code.now at }
-    ensures within { IfOk result (λ r. r.1 ≤ length code.now) }
+    ensures within { EndsWithin code.now result }
 {
     let first = byte(code, at)?;
     if first < 128 {
@@ -84,7 +84,7 @@ fn packed(next: usize, elements: u8, width: u8) -> Result<(Instr, usize), OpFaul
 /// Returns the number of entries of a case table from `low` to `high`, 0 if `low` is above `high`.
 pub(crate) fn cases(low: i16, high: i16) -> u32
     ensures value { result ≡ cases low high }
-    ensures small { result ≤ 65536 }
+    ensures small { result ≤ 2 ^ 16 }
 {
     if high < low {
         return 0;
@@ -103,7 +103,7 @@ fn signed_word(code: &[u8], at: usize) -> i16
 /// Returns the case jump whose W1 is at the even offset `at`, and the offset after its table.
 fn case_jump(code: &[u8], at: usize) -> Result<(Instr, usize), OpFault>
     ensures value { result ≡ case_jump_at code.now at }
-    ensures within { IfOk result (λ r. r.1 ≤ length code.now) }
+    ensures within { EndsWithin code.now result }
 {
     if code.len() < 6 || code.len() - 6 < at {
         return Err(OpFault::Cut);
@@ -152,7 +152,7 @@ fn operands(code: &[u8], at: usize) -> Operands
 fn finish(code: &[u8], at: usize, opcode: u8, row: Row) -> Result<(Instr, usize), OpFault>
     requires { at < length code.now }
     ensures value { result ≡ finished_at code.now at opcode row }
-    ensures within { IfOk result (λ r. r.1 ≤ length code.now) }
+    ensures within { EndsWithin code.now result }
 {
     let first = at + 1;
     match row {
@@ -193,7 +193,7 @@ fn finish(code: &[u8], at: usize, opcode: u8, row: Row) -> Result<(Instr, usize)
 fn instruction(code: &[u8], at: usize, opcode: u8) -> Result<(Instr, usize), OpFault>
     requires { at < length code.now }
     ensures value { result ≡ instr_of code.now at opcode }
-    ensures within { IfOk result (λ r. r.1 ≤ length code.now) }
+    ensures within { EndsWithin code.now result }
 {
     match make_row(opcode, operands(code, at)) {
         Some(row) => finish(code, at, opcode, row),
@@ -210,7 +210,7 @@ pub fn decode(code: &[u8], at: usize) -> Result<(Instr, usize), OpFault>
     ensures only { (instr : Instr) (j : ℕ) → At code.now at instr j → result ≡ Ok (instr, j) }
     // The fault is the first check that fails.
     ensures exact { result ≡ instr_at code.now at }
-    ensures within { IfOk result (λ r. r.1 ≤ length code.now) }
+    ensures within { EndsWithin code.now result }
     ensures table { IfOk result (λ r. IsTableIn (length code.now) r.0) }
 {
     let opcode = byte(code, at)?;

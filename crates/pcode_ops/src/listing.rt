@@ -45,7 +45,7 @@ fn write_entries<W: TextWriter>(
 /// Writes a jump's target; of a case jump its UJP and the targets of its entries.
 fn write_targets<W: TextWriter>(writer: &mut W, segment: &[u8], onward: Onward) -> io::Result<()>
     requires open { W.has_failed writer.old ≡ false }
-    requires within { IsWithin (length segment.now) onward }
+    requires within { IsWithin segment.now onward }
     requires size { length segment.now < 2 ^ 16 }
     ensures { W.has_failed writer.new ≡ is_err result }
 {
@@ -61,7 +61,7 @@ fn write_targets<W: TextWriter>(writer: &mut W, segment: &[u8], onward: Onward) 
 fn onward(program: &Program, mut near: u8, at: u32) -> Onward
     requires { Reach program.now at }
     ensures value { look program.now at ≡ Ok result }
-    ensures within { IsWithin (length (program.now).segment) result }
+    ensures within { IsWithin (program.now).segment result }
 {
     match look(program.file(), &mut near, at) {
         Ok(onward) => onward,

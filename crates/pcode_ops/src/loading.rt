@@ -1,9 +1,9 @@
 //! Loading: the checks of an offset, and where it leads.
-ghost use Rattle.std.specs.Prelude.{◌≡◌, ◌+◌, ◌-◌, ◌*◌, ◌^◌, ◌<◌, ◌≤◌, if◌then◌else◌, IsTrue, length, Contains, Some, None, Ok, Err, IfOk};
+ghost use Rattle.std.specs.Prelude.{◌≡◌, ◌+◌, ◌*◌, ◌^◌, ◌<◌, ◌≤◌, IsTrue, length, Contains, Some, None, Ok, Err, IfOk};
 ghost use Rattle.pcode_file.specs.InFile.{AreProcs};
 ghost use Rattle.pcode_file.specs.Parts.{procedure_of, end_of};
 ghost use Rattle.pcode_ops.specs.Loading.{is_in, owner, legal_call, is_callable, legal_links, legal, leads_in, jump_to, entries_in, goes_on, ends_at, branch_to, cases_to, onward, look};
-ghost use Rattle.pcode_ops.specs.Walks.{IsPartWithin, AreParts, IsWithin, IsTableIn};
+ghost use Rattle.pcode_ops.specs.Walks.{IsPartWithin, IsPartOf, AreParts, IsWithin, IsTableIn};
 
 use crate::decoding::{cases, decode, get_word};
 use crate::fault::OpFault;
@@ -174,9 +174,8 @@ fn leads_in(segment: &[u8], part: Proc, place: u32) -> bool
 /// Returns the target of a jump that ends at `next`. Fails with `JumpRange` if it is out of the
 /// part.
 pub(crate) fn jump_to(segment: &[u8], part: Proc, sb: i8, next: u32) -> Result<u32, OpFault>
-    requires part { IsPartWithin (length segment.now) part }
+    requires part { IsPartOf segment.now part }
     requires next { next ≤ length segment.now }
-    requires size { length segment.now < 2 ^ 16 }
     ensures value { result ≡ jump_to segment.now part sb next }
     ensures within { IfOk result (λ t. IsTrue (is_in part t)) }
 {
@@ -254,11 +253,10 @@ fn ends_at(target: Option<u32>) -> Onward
 
 /// Returns the target of a jump, and the next offset.
 fn branch_to(segment: &[u8], part: Proc, sb: i8, next: u32) -> Result<Onward, OpFault>
-    requires part { IsPartWithin (length segment.now) part }
+    requires part { IsPartOf segment.now part }
     requires next { next ≤ length segment.now }
-    requires size { length segment.now < 2 ^ 16 }
     ensures value { result ≡ branch_to segment.now part sb next }
-    ensures within { IfOk result (IsWithin (length segment.now)) }
+    ensures within { IfOk result (IsWithin segment.now) }
 {
     let target = jump_to(segment, part, sb, next)?;
     goes_on(part, next, Some(target))
@@ -270,7 +268,7 @@ fn cases_to(segment: &[u8], part: Proc, table: u32, count: u32) -> Result<Onward
     requires after { 2 ≤ table }
     requires size { length segment.now < 2 ^ 16 }
     ensures value { result ≡ cases_to segment.now part table count }
-    ensures within { IfOk result (IsWithin (length segment.now)) }
+    ensures within { IfOk result (IsWithin segment.now) }
 {
     if !entries_in(segment, part, table, count) {
         return Err(OpFault::JumpRange);
@@ -285,12 +283,11 @@ fn cases_to(segment: &[u8], part: Proc, table: u32, count: u32) -> Result<Onward
 
 /// Returns where an instruction that ends at `next` leads: targets first, then the next offset.
 fn onward_of(segment: &[u8], part: Proc, instr: Instr, next: u32) -> Result<Onward, OpFault>
-    requires part { IsPartWithin (length segment.now) part }
+    requires part { IsPartOf segment.now part }
     requires next { next ≤ length segment.now }
-    requires size { length segment.now < 2 ^ 16 }
     requires table { IsTableIn (length segment.now) instr }
     ensures value { result ≡ onward segment.now part instr next }
-    ensures within { IfOk result (IsWithin (length segment.now)) }
+    ensures within { IfOk result (IsWithin segment.now) }
 {
     match instr {
         Instr::Ujp(sb) => Ok(ends_at(Some(jump_to(segment, part, sb, next)?))),
@@ -313,7 +310,7 @@ fn onward_of(segment: &[u8], part: Proc, instr: Instr, next: u32) -> Result<Onwa
 #[tactic(auto, unfolding(crate::specs::Loading::look))]
 pub(crate) fn look(file: &CodeFile, near: &mut u8, at: u32) -> Result<Onward, OpFault>
     ensures value { result ≡ look file.now at }
-    ensures within { IfOk result (IsWithin (length file.now.segment)) }
+    ensures within { IfOk result (IsWithin file.now.segment) }
 {
     let segment = file.segment();
     let procs = parts(file);

@@ -1,7 +1,7 @@
 //! The search for reached offsets.
-ghost use Rattle.std.specs.Prelude.{◌≡◌, ◌+◌, ◌*◌, ◌<◌, ◌≤◌, ◌↔◌, [], length, replicate, slice_get, Some, IsTrue, IfOk, IfSome, false};
+ghost use Rattle.std.specs.Prelude.{◌≡◌, ◌+◌, ◌*◌, ◌<◌, ◌≤◌, ◌↔◌, length, slice_get, Some, IsTrue, IfOk, IfSome};
 ghost use Rattle.pcode_ops.specs.Loading.{IsCaseEntry, LeadsTo};
-ghost use Rattle.pcode_ops.specs.Walks.{Marks, IsMarked, IsListing, IsWithin, Adds, IsStarted, MarksReached};
+ghost use Rattle.pcode_ops.specs.Walks.{Marks, IsMarked, IsListing, IsWalkOf, IsWithin, Adds, blank_marks, IsStarted, MarksReached};
 
 use crate::decoding::get_word;
 use crate::loading::{Onward, look, parts};
@@ -32,7 +32,7 @@ impl Model for Walk {
 impl Walk {
     /// Makes a walk that has found nothing, with room for `size` offsets.
     pub(crate) fn new(alloc: Global, size: usize) -> Result<Walk, AllocError>
-        ensures { IfOk result (λ w. w ≡ record { flags = replicate size false; found = [] }) }
+        ensures { IfOk result (λ w. w ≡ blank_marks size) }
     {
         let flags = vec![in alloc; false; size]?;
         let found = Vec::with_capacity(alloc, size)?;
@@ -92,7 +92,7 @@ fn mark_some(walk: &mut Walk, at: Option<u32>)
 /// Marks the targets of a case table's entries.
 fn mark_entries(file: &CodeFile, walk: &mut Walk, table: u32, count: u32)
     requires table { table + 2 * count ≤ length file.now.segment }
-    requires size { length walk.old.flags ≡ length file.now.segment }
+    requires size { IsWalkOf file.now walk.old }
     ensures { Adds (IsCaseEntry file.now.segment table count) walk.old walk.new }
 {
     let segment = file.segment();
@@ -105,8 +105,8 @@ fn mark_entries(file: &CodeFile, walk: &mut Walk, table: u32, count: u32)
 
 /// Marks where an offset leads.
 fn mark_onward(file: &CodeFile, walk: &mut Walk, onward: Onward)
-    requires within { IsWithin (length file.now.segment) onward }
-    requires size { length walk.old.flags ≡ length file.now.segment }
+    requires within { IsWithin file.now.segment onward }
+    requires size { IsWalkOf file.now walk.old }
     ensures { Adds (LeadsTo file.now.segment onward) walk.old walk.new }
 {
     mark_some(walk, onward.next);
@@ -129,7 +129,7 @@ fn mark_starts(file: &CodeFile, walk: &mut Walk)
 fn search_on(file: &CodeFile, walk: &mut Walk)
     requires { IsStarted file.now (length file.now.procs) walk.old }
     ensures exact { MarksReached file.now walk.new }
-    ensures size { length walk.new.flags ≡ length file.now.segment }
+    ensures size { IsWalkOf file.now walk.new }
 {
     let mut near = 1;
     let mut done = 0;
@@ -145,9 +145,9 @@ fn search_on(file: &CodeFile, walk: &mut Walk)
 
 /// Returns the reached offsets, found by a walk that has found nothing yet.
 pub(crate) fn walk_over(blank: Walk, file: &CodeFile) -> Walk
-    requires { blank ≡ record { flags = replicate (length file.now.segment) false; found = [] } }
+    requires { blank ≡ blank_marks (length file.now.segment) }
     ensures exact { MarksReached file.now result }
-    ensures size { length result.flags ≡ length file.now.segment }
+    ensures size { IsWalkOf file.now result }
 {
     let mut walk = blank;
     mark_starts(file, &mut walk);

@@ -1,9 +1,10 @@
-use Rattle.std.proofs.Common.{◌≤◌, vec_len}
+use Rattle.std.proofs.Common.{◌≤◌, length}
 use Rattle.std.specs.Io.KnownBytes.{Consumes}
+use Rattle.machine_run.specs.declared.files.TheConstants.{LONGEST_FILE}
 use Rattle.machine_run.proofs.files.read_whole.Given as goal
 
 abbrev pub invariant-loop : goal.invariant-loop
 invariant-loop g l = record {
   whole : Consumes (g.R.Read.remaining l.fn.reader) (g.R.Read.remaining l.reader) l.bytes.items;
-  short : vec_len l.bytes ≤ 67108864;
+  short : length l.bytes.items ≤ LONGEST_FILE;
 }
