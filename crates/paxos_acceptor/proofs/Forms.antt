@@ -1,5 +1,5 @@
 -- The forms of a file.
-use Rattle.std.proofs.Common.{◌≡◌, ◌⊎◌, ℕ, ◌+◌, ◌<◌, ◌^◌, min, List, ◌++◌, length, None, inl, inr, refl, sym, subst, arith}
+use Rattle.std.proofs.Common.{◌≡◌, ℕ, ◌+◌, ◌<◌, ◌^◌, min, List, ◌++◌, length, None, inl, inr, refl, sym, subst, arith}
 use Rattle.std.proofs.lemmas.List.{length-append}
 use Rattle.paxos_msg.specs.Batches.{Change, Record}
 use Rattle.paxos_msg.specs.Records.{changed, empty_record}
@@ -8,11 +8,12 @@ use Rattle.paxos_acceptor.specs.declared.version.Version.TheVariants.{One, Two}
 use Rattle.paxos_acceptor.specs.declared.form.Form.{Form}
 use Rattle.paxos_acceptor.specs.declared.form.Form.TheVariants.{Missing, Cut, Log, Whole}
 use Rattle.paxos_acceptor.specs.declared.form.Patch.{Patch}
-use Rattle.paxos_acceptor.specs.Files.{IsFormAfter, IsFormIn, IsFormOf, IsPatch, IsWholeForm, IsWritten, patched}
-use Rattle.paxos_acceptor.specs.Log.{IsEntry, IsUncut, LogIn, entry_bytes, log_header}
+use Rattle.paxos_acceptor.specs.Files.{IsFiledAs, IsFormAfter, IsFormIn, IsPatch, IsWholeForm, IsWritten, patched}
+use Rattle.paxos_acceptor.specs.Log.{IsEntry, IsUncut, LogIn, log_header}
 use Rattle.paxos_acceptor.specs.Records.{IsRecord, Rec}
 use Rattle.paxos_acceptor.specs.Version1.{Rec1}
 use Rattle.paxos_acceptor.proofs.Apart.{log_or_old_record, log_or_record, logs}
+use Rattle.paxos_acceptor.proofs.Ranges.{log_in_ranges}
 use Rattle.paxos_acceptor.proofs.LogGrowth.{grown_log, kept_log, new_log}
 
 module _ (me : Me) (bytes : List ℕ) where
@@ -94,8 +95,16 @@ next me bytes r c (Log n) after patch known entry fits h is short =
     rw (there, is, all) (log, refl)
 next me bytes r c Whole after patch known entry fits h is short = rw (is, h.0) (inl (record { ranges = fits; spelled = h.1 }))
 
-pub form_fits : (me : Me) (bytes : List ℕ) (r : Record) (form : Form) → IsFormIn me bytes r form → IsFormOf me r form
+whole_in_ranges : (me : Me) (bytes : List ℕ) (r : Record) → IsWholeForm me bytes r → IsRecord me.group.size r
+whole_in_ranges me bytes r (inl h) = h.ranges
+whole_in_ranges me bytes r (inr (inl h)) = h.ranges
+whole_in_ranges me bytes r (inr (inr h)) = log_in_ranges One me bytes r h.0 h.1
+
+pub form_fits : (me : Me) (bytes : List ℕ) (r : Record) (form : Form) → IsFormIn me bytes r form → IsFiledAs me r form
 form_fits me bytes r Missing h = absurd h
-form_fits me bytes r (Cut kept) h = subst (λ (xs : List ℕ). IsUncut me xs r) (sym h.3) (kept_log me bytes r h.0 h.1)
-form_fits me bytes r (Log n) h = tt
-form_fits me bytes r Whole h = tt
+form_fits me bytes r (Cut kept) h = (
+  log_in_ranges Two me bytes r h.0 h.1,
+  subst (λ (xs : List ℕ). IsUncut me xs r) (sym h.3) (kept_log me bytes r h.0 h.1),
+)
+form_fits me bytes r (Log n) h = (log_in_ranges Two me bytes r n h.0, tt)
+form_fits me bytes r Whole h = (whole_in_ranges me bytes r h, tt)

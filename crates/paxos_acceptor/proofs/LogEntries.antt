@@ -1,5 +1,5 @@
 -- Entries of a log: what is read was written, and what is written is read.
-use Rattle.std.proofs.Common.{◌≡◌, ◌↔◌, ◌∙◌, ℕ, ◌+◌, ◌<◌, ◌≤◌, ◌^◌, eqb, Bool, true, false, nat_lt, if◌then◌else◌, List, [], ◌∷◌, ◌++◌, Result, Ok, Err, refl, ap, sym, subst, append_assoc, arith}
+use Rattle.std.proofs.Common.{◌≡◌, ◌↔◌, ◌∙◌, ℕ, ◌<◌, ◌≤◌, ◌^◌, eqb, Bool, true, false, nat_lt, if◌then◌else◌, List, [], ◌∷◌, ◌++◌, Result, Ok, Err, refl, ap, subst, arith}
 use Rattle.std.proofs.lemmas.Bool.{eqb-true}
 use Rattle.std.proofs.lemmas.Bool.Decides.{nat_tests}
 use Rattle.base.proofs.Steps.{bind_ok, last_ok, ok_is}
@@ -10,7 +10,7 @@ use Rattle.paxos_msg.specs.declared.fault.WireFault.{WireFault}
 use Rattle.paxos_msg.specs.declared.fault.WireFault.TheVariants as fault
 use Rattle.paxos_msg.specs.Fits.{IsPlace, IsValue}
 use Rattle.paxos_msg.specs.Grammar.{AreBytes}
-use Rattle.paxos_msg.specs.Reading.{ballot_at, first_byte, number_at, place_at, value_at}
+use Rattle.paxos_msg.specs.Reading.{ballot_at, number_at, place_at, value_at}
 use Rattle.paxos_msg.specs.Spelling.{ballot_bytes, number_bytes, value_bytes}
 use Rattle.paxos_msg.specs.Version1.{IsSingle}
 use Rattle.paxos_acceptor.specs.declared.version.Version.{Version}

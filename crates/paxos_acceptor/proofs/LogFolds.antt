@@ -1,5 +1,5 @@
 -- Folding the entries of a log one after the other.
-use Rattle.std.proofs.Common.{◌≡◌, ◌↔◌, ◌∙◌, ◌⊎◌, ℕ, ◌+◌, ◌-◌, ◌<◌, ◌≤◌, List, [], ◌∷◌, ◌++◌, length, inl, inr, refl, ap, sym, subst, append_assoc, arith}
+use Rattle.std.proofs.Common.{◌≡◌, ◌∙◌, ◌⊎◌, ℕ, ◌+◌, List, [], ◌∷◌, ◌++◌, length, inl, inr, refl, ap, sym, subst, append_assoc, arith}
 use Rattle.std.proofs.lemmas.List.{length-append}
 use Rattle.paxos_msg.specs.Batches.{Change, Record}
 use Rattle.paxos_msg.specs.declared.record.Change.TheVariants.{Start, Promise, Ballotted}
@@ -11,7 +11,7 @@ use Rattle.paxos_msg.specs.Spelling.{ballot_bytes, number_bytes}
 use Rattle.paxos_acceptor.specs.declared.me.Me.{Me}
 use Rattle.paxos_acceptor.specs.declared.version.Version.{Version}
 use Rattle.paxos_acceptor.specs.declared.version.Version.TheVariants.{One, Two}
-use Rattle.paxos_acceptor.specs.Log.{Folds, IsCutBatch, IsCutVote, IsEnd, IsFold, IsFor, IsInRanges, IsNext, LogIn, entries_bytes, entry_bytes, log_header, value_spelling}
+use Rattle.paxos_acceptor.specs.Log.{Folds, IsCutVote, IsEnd, IsFold, IsFor, IsInRanges, IsNext, LogIn, entries_bytes, entry_bytes, log_header, value_spelling}
 use Rattle.paxos_acceptor.specs.LogReading.{BeginsEntry, SameFolds}
 
 pub neither : {A B : Type 0} → ¬ A → ¬ B → ¬ (A ⊎ B)

@@ -1,7 +1,7 @@
 -- A log grows by an entry; the rest of one that was cut is ignored.
-use Rattle.std.proofs.Common.{◌≡◌, ◌∙◌, ◌⊎◌, ℕ, ◌+◌, ◌<◌, ◌≤◌, nat_lt, Bool, true, false, List, [], ◌∷◌, ◌++◌, length, take, drop, slice_index, inl, inr, refl, ap, sym, subst, append-nil, append_assoc, arith}
+use Rattle.std.proofs.Common.{◌≡◌, ◌∙◌, ℕ, ◌+◌, ◌<◌, ◌≤◌, nat_lt, Bool, true, false, List, [], ◌∷◌, ◌++◌, length, take, drop, slice_index, inl, inr, refl, ap, sym, subst, append-nil, append_assoc, arith}
 use Rattle.std.proofs.lemmas.Bool.Decides.{nat_tests}
-use Rattle.std.proofs.lemmas.List.{drop-append-le, get_or_append_left, length-append, length-drop, take_at}
+use Rattle.std.proofs.lemmas.List.{drop-append-le, get_or_append_left, length-append, take_at}
 use Rattle.paxos_msg.specs.Batches.{Change, Record}
 use Rattle.paxos_msg.specs.declared.ballot.Ballot.{Ballot}
 use Rattle.paxos_msg.specs.declared.record.Change.TheVariants.{Start, Promise, Ballotted}
@@ -12,8 +12,8 @@ use Rattle.paxos_msg.specs.Records.{changed, empty_record}
 use Rattle.paxos_msg.specs.Spelling.{ballot_bytes, number_bytes, value_bytes}
 use Rattle.paxos_acceptor.specs.declared.me.Me.{Me}
 use Rattle.paxos_acceptor.specs.declared.version.Version.{Version}
-use Rattle.paxos_acceptor.specs.declared.version.Version.TheVariants.{One, Two}
-use Rattle.paxos_acceptor.specs.Log.{AreEntries, Folds, IsCutBatch, IsCutVote, IsEnd, IsEntry, IsFor, IsInRanges, IsUncut, LogIn, entries_bytes, entry_bytes, folded, log_header}
+use Rattle.paxos_acceptor.specs.declared.version.Version.TheVariants.{Two}
+use Rattle.paxos_acceptor.specs.Log.{AreEntries, IsCutBatch, IsCutVote, IsEnd, IsEntry, IsFor, IsInRanges, IsUncut, LogIn, entries_bytes, entry_bytes, folded, log_header}
 
 none_left : (xs : List ℕ) → length xs ≡ 0 → xs ≡ []
 none_left [] e = refl

@@ -1,5 +1,5 @@
 -- A record in its ranges has its votes in order, and stays in them as it changes.
-use Rattle.std.proofs.Common.{◌≡◌, ℕ, ◌+◌, ◌<◌, ◌≤◌, ◌==◌, nat_lt, Bool, true, false, if◌then◌else◌, List, [], ◌∷◌, Option, Some, None, IfSome, All, refl, sym, subst, arith}
+use Rattle.std.proofs.Common.{◌≡◌, ℕ, ◌+◌, ◌<◌, ◌≤◌, ◌==◌, nat_lt, Bool, true, false, if◌then◌else◌, List, [], ◌∷◌, Option, Some, None, IfSome, Result, Ok, Err, IfOk, All, refl, sym, subst, arith}
 use Rattle.std.proofs.lemmas.Bool.{ltb-true}
 use Rattle.std.proofs.lemmas.List.Elements.{All-cons}
 use Rattle.std.proofs.lemmas.Bool.Decides.{nat_tests}
@@ -10,8 +10,11 @@ use Rattle.paxos_msg.specs.declared.record.Change.TheVariants.{Start, Promise, B
 use Rattle.paxos_msg.specs.Ballots.{IsAtMost}
 use Rattle.paxos_msg.specs.Fits.{IsBallot, IsPlace, IsValue, IsVote, AreVotes}
 use Rattle.paxos_msg.specs.Messages.{AreAbove, IsAscending}
-use Rattle.paxos_msg.specs.Records.{changed, with_vote}
-use Rattle.paxos_acceptor.specs.Log.{IsEntry, IsInRanges, IsNext}
+use Rattle.paxos_msg.specs.Records.{changed, empty_record, with_vote}
+use Rattle.paxos_acceptor.specs.declared.me.Me.{Me}
+use Rattle.paxos_acceptor.specs.declared.store.StoreFault.{StoreFault}
+use Rattle.paxos_acceptor.specs.declared.version.Version.{Version}
+use Rattle.paxos_acceptor.specs.Log.{AreEntries, IsEntry, IsInRanges, IsNext, LogIn, folded}
 use Rattle.paxos_acceptor.specs.Records.{AreKept, IsRecord}
 
 module _ (size upto : ℕ) (b : Ballot) where
@@ -140,6 +143,24 @@ entry_in_ranges size r c entry h = by c entry.in_ranges entry.next where
   by Start fits next = record { starts = omega (arith, next); kept = h.kept }
   by (Promise b) fits next = promise_in_ranges size r b next fits h
   by (Ballotted s b v) fits next = vote_in_ranges size r b s v next fits.1 fits.0 fits.2 h
+
+-- so do all entries of a log
+folded_in_ranges : (version : Version) (size : ℕ) (r : Record) (changes : List Change) → IsRecord size r
+    → AreEntries version size r changes → IsRecord size (folded r changes)
+folded_in_ranges version size r [] h entries = h
+folded_in_ranges version size r (c ∷ cs) h entries =
+    folded_in_ranges version size (changed r c) cs (entry_in_ranges size r c entries.0 h) entries.2
+
+pub log_in_ranges : (version : Version) (me : Me) (bytes : List ℕ) (r : Record) (n : ℕ) → LogIn version me bytes r n
+    → IsRecord me.group.size r
+log_in_ranges version me bytes r n h =
+    subst (IsRecord me.group.size) (sym h.3.1.all)
+    (folded_in_ranges version me.group.size empty_record h.3.0 (record { starts = omega arith; kept = refl }) h.3.1.entries)
+
+pub read_in_ranges : (version : Version) (me : Me) (bytes : List ℕ) (read : Result (Record × ℕ) StoreFault)
+    → IfOk read (λ x. LogIn version me bytes x.0 x.1) → IfOk read (λ x. IsRecord me.group.size x.0)
+read_in_ranges version me bytes (Ok x) h = log_in_ranges version me bytes x.0 x.1 h
+read_in_ranges version me bytes (Err fault) h = tt
 
 -- a start that can be counted is one to spare
 pub start_to_spare : (size : ℕ) (r : Record) (c : Change) → IsEntry size r c → c ≡ Start → r.starts < 4294967295

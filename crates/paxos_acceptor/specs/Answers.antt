@@ -1,11 +1,12 @@
 -- The answers of an acceptor, and the changes that it saves before them.
-use Rattle.std.specs.Prelude.{ℕ, ◌+◌, ◌-◌, nat_le, nat_lt, List, length, take, filter, slice_get, Option, Some, None, if◌then◌else◌}
+use Rattle.std.specs.Prelude.{ℕ, ◌+◌, ◌-◌, nat_lt, List, All, length, take, slice_get, Option, Some, None, if◌then◌else◌}
 use Rattle.std.specs.Option.{option_map_or}
 use Rattle.paxos_msg.specs.declared.ballot.Ballot.{Ballot}
 use Rattle.paxos_msg.specs.declared.value.Value.{Value}
 use Rattle.paxos_msg.specs.Batches.{Body, Change, Record, Vote}
 use Rattle.paxos_msg.specs.declared.record.Change.TheVariants as change
 use Rattle.paxos_msg.specs.declared.message.Body.TheVariants.{Promise, Accepted, Refused}
+use Rattle.paxos_msg.specs.Fits.{IsPlace}
 use Rattle.paxos_msg.specs.Messages.{kept_vote_at}
 use Rattle.paxos_msg.specs.Records.{changed}
 use Rattle.paxos_acceptor.specs.Cases.{greater_promise, is_promised, value_under}
@@ -21,6 +22,10 @@ pub record Answer : Type 0 where
 abbrev pub after : Record → Option Change → Record
 after r None = r
 after r (Some c) = changed r c
+
+-- Votes at places of the group.
+abbrev pub AreAtPlaces : List Vote → Type 0
+AreAtPlaces votes = All (λ vote. IsPlace vote.place) votes
 
 -- The place after the last of these votes.
 abbrev pub place_after : List Vote → ℕ

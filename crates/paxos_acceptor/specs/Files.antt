@@ -10,7 +10,7 @@ use Rattle.paxos_acceptor.specs.declared.form.Form.{Form}
 use Rattle.paxos_acceptor.specs.declared.form.Form.TheVariants.{Missing, Cut, Log, Whole}
 use Rattle.paxos_acceptor.specs.declared.form.Patch.{Patch}
 use Rattle.paxos_acceptor.specs.Log.{IsUncut, LogIn, entry_bytes, log_header}
-use Rattle.paxos_acceptor.specs.Records.{Rec, record_bytes}
+use Rattle.paxos_acceptor.specs.Records.{IsRecord, Rec, record_bytes}
 use Rattle.paxos_acceptor.specs.Stores.{HasCause}
 use Rattle.paxos_acceptor.specs.Version1.{Rec1}
 
@@ -38,6 +38,10 @@ IsFormOf me r Missing = r ≡ empty_record
 IsFormOf me r (Cut bytes) = IsUncut me bytes.items r
 IsFormOf me r (Log n) = Unit {0}
 IsFormOf me r Whole = Unit {0}
+
+-- A record in its ranges, and a form that a file with it can have.
+abbrev pub IsFiledAs : Me → Record → Form → Type 0
+IsFiledAs me r form = IsRecord me.group.size r × IsFormOf me r form
 
 -- The bytes that a save of the change writes. After a log they are its entry. Where an entry was
 -- cut, or no file exists, they are the log with the entry. In whole form they are the changed
@@ -84,11 +88,14 @@ pub record Finds (old new : Filed) (answer : Result Record StoreFault) : Type 0 
   pub cause : HasCause (IsErrOf answer fault.Device) old.faults new.faults
 
 -- The store after a save. The save is built on the known record, and its record is known after it.
--- After a fault of the device nothing is known. If memory runs out, nothing changes.
+-- After a fault of the device, which is counted, nothing is known. If memory runs out, nothing
+-- changes.
 -- Allows: The changed record, where a fault came after the writing.
 -- Forbids: A second save built on the record that was loaded.
 pub record Notes {T : Type 0} (old new : Filed) (change : Change)
     (result : Result T StoreFault) : Type 0 where
+  pub me : new.me ≡ old.me
   pub made : OnOk result (IsSomeAnd old.found (λ r. new.found ≡ Some (changed r change)))
   pub lost : IsErrOf result fault.Device → new.found ≡ None
   pub memory : IsErrOf result fault.Memory → new ≡ old
+  pub cause : HasCause (IsErrOf result fault.Device) old.faults new.faults

@@ -1,6 +1,6 @@
 -- A log: a header, and after it the changes of a record, each as an entry. The record is the empty
 -- one after these changes. An entry that was cut at the end is left out.
-use Rattle.std.specs.Prelude.{◌≡◌, ℕ, ◌+◌, ◌<◌, ◌≤◌, ◌⊎◌, List, [], ◌∷◌, ◌++◌, length, drop, slice_index, IfSome}
+use Rattle.std.specs.Prelude.{◌≡◌, ℕ, ◌+◌, ◌<◌, ◌≤◌, ◌⊎◌, List, [], ◌∷◌, ◌++◌, length, drop, slice_index, IfSome, Result, OnErr, OnOk}
 use Rattle.paxos_msg.specs.Batches.{Change, Record}
 use Rattle.paxos_msg.specs.declared.record.Change.TheVariants.{Start, Promise, Ballotted}
 use Rattle.paxos_msg.specs.declared.value.Value.{Value}
@@ -10,6 +10,7 @@ use Rattle.paxos_msg.specs.Records.{changed, empty_record}
 use Rattle.paxos_msg.specs.Spelling.{ballot_bytes, number_bytes, value_bytes}
 use Rattle.paxos_msg.specs.Version1.{IsSingle, value_bytes_v1}
 use Rattle.paxos_acceptor.specs.RecordReading.{version_byte}
+use Rattle.paxos_acceptor.specs.Records.{IsRecord}
 use Rattle.paxos_acceptor.specs.declared.me.Me.{Me}
 use Rattle.paxos_acceptor.specs.declared.version.Version.{Version}
 use Rattle.paxos_acceptor.specs.declared.version.Version.TheVariants.{One, Two}
@@ -36,6 +37,14 @@ IsNext r (Ballotted s b v) = IfSome r.promised (λ p. IsAtMost p b)
 pub record IsEntry (size : ℕ) (r : Record) (c : Change) : Type 0 where
   pub in_ranges : IsInRanges size c
   pub next : IsNext r c
+
+-- The record after a call that makes the change. At Ok it is the changed one, and in its ranges; at
+-- Err it is as it was.
+pub record MakesChange {T E : Type 0} (size : ℕ) (old new : Record) (c : Change)
+    (result : Result T E) : Type 0 where
+  pub ok : OnOk result (new ≡ changed old c)
+  pub ranges : OnOk result (IsRecord size new)
+  pub err : OnErr result (new ≡ old)
 
 -- ---- how they are spelled
 

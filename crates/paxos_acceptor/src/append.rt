@@ -1,10 +1,10 @@
 //! Appends a change to a log as its next entry.
 ghost use Rattle.std.specs.Prelude.{◌≡◌, ◌+◌, ◌++◌, ◌≤◌, ℕ, length, vec_capacity, vec_len, OnErr, OnOk};
-ghost use Rattle.paxos_msg.specs.Records.{changed};
+ghost use Rattle.paxos_msg.specs.Spelling.{Puts};
 ghost use Rattle.paxos_msg.specs.declared.record.Change.{Change};
 ghost use Rattle.paxos_msg.specs.declared.value.Value.{Value};
 ghost use Rattle.paxos_acceptor.specs.declared.version.Version.TheVariants.{Two};
-ghost use Rattle.paxos_acceptor.specs.Log.{IsEntry, IsInRanges, entry_bytes};
+ghost use Rattle.paxos_acceptor.specs.Log.{IsEntry, IsInRanges, MakesChange, entry_bytes};
 ghost use Rattle.paxos_acceptor.specs.Records.{IsRecord};
 
 use crate::entry::enter;
@@ -24,7 +24,7 @@ fn entries_are_short()
 /// Appends the entry of the change, in version 2.
 fn put_entry(change: &Change, out: &mut Vec<u8>)
     requires room { vec_len out.old + length (entry_bytes Two change.now) ≤ vec_capacity out.old }
-    ensures { out.new.items ≡ out.old.items ++ entry_bytes Two change.now }
+    ensures { Puts out.old out.new (entry_bytes Two change.now) }
 {
     match *change {
         Change::Start => out.push_reserved(1),
@@ -51,10 +51,9 @@ pub(crate) fn append(
 ) -> Result<(), AllocError>
     requires ranges { IsRecord me.group.size kept.old }
     requires entry { IsEntry me.group.size kept.old change }
-    ensures changed { OnOk result (kept.new ≡ changed kept.old change) }
+    ensures makes { MakesChange me.group.size kept.old kept.new change result }
     ensures spelled { OnOk result (out.new.items ≡ out.old.items ++ entry_bytes Two change) }
-    ensures ranges { OnOk result (IsRecord me.group.size kept.new) }
-    ensures err { OnErr result ((kept.new ≡ kept.old) × (out.new.items ≡ out.old.items)) }
+    ensures unspelled { OnErr result (out.new.items ≡ out.old.items) }
 {
     entries_are_short();
     out.reserve(MOST_BYTES)?;

@@ -5,7 +5,7 @@ ghost use Rattle.paxos_msg.specs.declared.record.Change.{Change};
 ghost use Rattle.paxos_msg.specs.declared.value.Value.{Value};
 ghost use Rattle.paxos_msg.specs.Grammar.{AreBytes};
 ghost use Rattle.paxos_msg.specs.Records.{changed};
-ghost use Rattle.paxos_msg.specs.Spelling.{number_bytes, votes_bytes};
+ghost use Rattle.paxos_msg.specs.Spelling.{Puts, number_bytes, votes_bytes};
 ghost use Rattle.paxos_acceptor.specs.declared.me.Me.{Me};
 ghost use Rattle.paxos_acceptor.specs.declared.version.Version.TheVariants.{One, Two};
 ghost use Rattle.paxos_acceptor.specs.Records.{AreKept, IsRecord, Rec, record_header, promised_bytes, record_bytes};
@@ -92,9 +92,7 @@ fn record_is_spelling()
 /// Appends the header of a record of version 2.
 fn put_header(me: Me, out: &mut Vec<u8>)
     requires room { vec_len out.old + 9 ≤ vec_capacity out.old }
-    ensures items { out.new.items ≡ out.old.items ++ record_header 2 me }
-    ensures len { vec_len out.new ≡ vec_len out.old + 9 }
-    ensures capacity { vec_capacity out.new ≡ vec_capacity out.old }
+    ensures { Puts out.old out.new (record_header 2 me) }
 {
     out.push_reserved(b'P');
     out.push_reserved(b'R');
@@ -107,9 +105,7 @@ fn put_header(me: Me, out: &mut Vec<u8>)
 /// Appends the promised ballot, or zeros.
 fn put_promised(promised: Option<Ballot>, out: &mut Vec<u8>)
     requires room { vec_len out.old + 5 ≤ vec_capacity out.old }
-    ensures items { out.new.items ≡ out.old.items ++ promised_bytes promised }
-    ensures len { vec_len out.new ≡ vec_len out.old + 5 }
-    ensures capacity { vec_capacity out.new ≡ vec_capacity out.old }
+    ensures { Puts out.old out.new (promised_bytes promised) }
 {
     match promised {
         Some(ballot) => put_ballot(ballot, out),
@@ -124,8 +120,7 @@ fn put_promised(promised: Option<Ballot>, out: &mut Vec<u8>)
 fn put_kept(votes: &[Vote], out: &mut Vec<u8>)
     requires few { length votes.now < 2 ^ 32 }
     requires room { vec_len out.old + 4 + length (votes_bytes votes.now) ≤ vec_capacity out.old }
-    ensures items { out.new.items
-        ≡ out.old.items ++ (number_bytes (length votes.now) ++ votes_bytes votes.now) }
+    ensures { Puts out.old out.new (number_bytes (length votes.now) ++ votes_bytes votes.now) }
 {
     put_number(votes.len() as u32, out);
     put_votes(votes, out);
@@ -143,7 +138,7 @@ pub(crate) fn most_bytes(votes: usize) -> usize
 pub(crate) fn put_record(kept: &Record, me: Me, out: &mut Vec<u8>)
     requires ranges { IsRecord me.group.size kept.now }
     requires room { vec_len out.old + (22 + 52 * length kept.now.votes) ≤ vec_capacity out.old }
-    ensures { out.new.items ≡ out.old.items ++ record_bytes me kept.now }
+    ensures { Puts out.old out.new (record_bytes me kept.now) }
 {
     kept_votes_are_few();
     put_header(me, out);

@@ -1,9 +1,8 @@
 //! The changes that can be made to a record.
-ghost use Rattle.std.specs.Prelude.{◌≡◌, ◌↔◌, IfSome, IsTrue, OnErr, OnOk};
+ghost use Rattle.std.specs.Prelude.{◌↔◌, IfSome, IsTrue};
 ghost use Rattle.paxos_msg.specs.Ballots.{IsAtMost};
 ghost use Rattle.paxos_msg.specs.Fits.{IsBallot, IsPlace, IsValue};
-ghost use Rattle.paxos_msg.specs.Records.{changed};
-ghost use Rattle.paxos_acceptor.specs.Log.{IsEntry, IsInRanges, IsNext};
+ghost use Rattle.paxos_acceptor.specs.Log.{IsEntry, IsInRanges, IsNext, MakesChange};
 ghost use Rattle.paxos_acceptor.specs.Records.{IsRecord};
 
 use crate::me::Me;
@@ -68,9 +67,7 @@ pub(crate) fn is_entry(kept: &Record, change: &Change, me: Me) -> bool
 pub(crate) fn enter(kept: &mut Record, change: Change, me: Me) -> Result<(), AllocError>
     requires ranges { IsRecord me.group.size kept.old }
     requires entry { IsEntry me.group.size kept.old change }
-    ensures ok { OnOk result (kept.new ≡ changed kept.old change) }
-    ensures ranges { OnOk result (IsRecord me.group.size kept.new) }
-    ensures err { OnErr result (kept.new ≡ kept.old) }
+    ensures { MakesChange me.group.size kept.old kept.new change result }
 {
     kept.change(change)?;
     Ok(())

@@ -3,7 +3,6 @@ ghost use Rattle.base.specs.Faults.{HasRisen};
 ghost use Rattle.std.specs.Prelude.{◌≡◌, None, IfOk, IsErrOf};
 ghost use Rattle.paxos_msg.specs.Records.{empty_record};
 ghost use Rattle.paxos_acceptor.specs.Files.{Finds, Notes};
-ghost use Rattle.paxos_acceptor.specs.Stores.{HasCause};
 
 use crate::disk::{put_synced, read_synced};
 use crate::entry::is_entry;
@@ -52,15 +51,14 @@ impl<R: Drop> Drop for FileStore<R> {
 
 impl<R> Model for FileStore<R> {
     ghost use Rattle.std.specs.Prelude.{IfSome};
-    ghost use Rattle.paxos_acceptor.specs.Files.{Filed, IsFormOf};
-    ghost use Rattle.paxos_acceptor.specs.Records.{IsRecord};
+    ghost use Rattle.paxos_acceptor.specs.Files.{Filed, IsFiledAs};
 
     ghost Value = { Filed };
 
     ghost view = { λ s. record { me = s.me; found = s.found; faults = s.faults } };
 
     ghost invariant = { λ s.
-        IfSome s.found (λ r. IsRecord s.me.group.size r × IsFormOf s.me r s.form) };
+        IfSome s.found (λ r. IsFiledAs s.me r s.form) };
 }
 
 impl<R> FileStore<R> {
@@ -123,10 +121,7 @@ impl<R: Files + AllocGlobal + Copy + Drop> Store for FileStore<R> {
 
     fn save(&mut self, change: &Change) -> Result<(), StoreFault>
         ensures notes { Notes self.old self.new change.now result }
-        ensures me { self.new.me ≡ self.old.me }
         ensures good { ¬ IsErrOf result StoreFault.Bad }
-        ensures cause { HasCause
-            (IsErrOf result StoreFault.Device) self.old.faults self.new.faults }
     {
         let Some(found) = &mut self.found else {
             return Err(self.give_up());

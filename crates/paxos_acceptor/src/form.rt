@@ -1,12 +1,12 @@
 //! The form of a file, and the bytes that the next save writes.
-ghost use Rattle.std.specs.Prelude.{◌≡◌, ◌++◌, ◌≤◌, ℕ, List, None, Some, IfOk, IfSome, IsErrOf, IsNone, IsOk, OnErr, OnOk, length};
+ghost use Rattle.std.specs.Prelude.{◌≡◌, ◌≤◌, None, Some, IfOk, IfSome, IsErrOf, IsNone, IsOk, length};
 ghost use Rattle.paxos_msg.specs.declared.record.Record.{Record};
 ghost use Rattle.paxos_msg.specs.declared.value.Value.{Value};
 ghost use Rattle.paxos_msg.specs.Records.{changed, empty_record};
 ghost use Rattle.paxos_acceptor.specs.declared.me.Me.{Me};
 ghost use Rattle.paxos_acceptor.specs.declared.version.Version.TheVariants.{Two};
-ghost use Rattle.paxos_acceptor.specs.Files.{IsFormAfter, IsFormIn, IsFormOf, IsPatch, IsWholeForm, IsWritten};
-ghost use Rattle.paxos_acceptor.specs.Log.{IsEntry, LogIn, log_header};
+ghost use Rattle.paxos_acceptor.specs.Files.{IsFiledAs, IsFormAfter, IsFormIn, IsFormOf, IsPatch, IsWholeForm, IsWritten};
+ghost use Rattle.paxos_acceptor.specs.Log.{IsEntry, LogIn, MakesChange, log_header};
 ghost use Rattle.paxos_acceptor.specs.Records.{IsRecord, record_bytes};
 
 use crate::append::append;
@@ -47,7 +47,6 @@ fn record_of_whole(alloc: Global, bytes: &[u8], me: Me) -> Result<Record, StoreF
     ensures found { IfOk result (λ r. IsWholeForm me bytes.now r) }
     ensures only { (r : Record Value) → IsWholeForm me bytes.now r
         → IfOk result (λ found. found ≡ r) }
-    ensures ranges { IfOk result (λ r. IsRecord me.group.size r) }
     ensures bad { IsErrOf result StoreFault.Bad → (r : Record Value)
         → ¬ IsWholeForm me bytes.now r }
     ensures others { ¬ IsErrOf result StoreFault.Device }
@@ -75,7 +74,6 @@ fn record_of_bytes(
     ensures log { IfOk result (λ x. IfSome x.1 (LogIn Two me bytes.now x.0)) }
     ensures whole { IfOk result (λ x. IsNone x.1 → IsWholeForm me bytes.now x.0) }
     ensures only { (r : Record Value) → IsWritten me bytes.now r → IfOk result (λ x. x.0 ≡ r) }
-    ensures ranges { IfOk result (λ x. IsRecord me.group.size x.0) }
     ensures bad { IsErrOf result StoreFault.Bad → (r : Record Value) → ¬ IsWritten me bytes.now r }
     ensures others { ¬ IsErrOf result StoreFault.Device }
 {
@@ -120,8 +118,7 @@ pub(crate) fn form_of(
         (λ bytes. (r : Record Value) → IsWritten me bytes.items r → IfOk result (λ x. x.0 ≡ r)) }
     ensures bad { IsErrOf result StoreFault.Bad
         → IfSome file (λ bytes. (r : Record Value) → ¬ IsWritten me bytes.items r) }
-    ensures fits { IfOk result (λ x. IsFormOf me x.0 x.1) }
-    ensures ranges { IfOk result (λ x. IsRecord me.group.size x.0) }
+    ensures fits { IfOk result (λ x. IsFiledAs me x.0 x.1) }
     ensures others { ¬ IsErrOf result StoreFault.Device }
 {
     files_are_known();
@@ -151,11 +148,9 @@ fn spell_changed(
 ) -> Result<Vec<u8>, AllocError>
     requires ranges { IsRecord me.group.size kept.old }
     requires entry { IsEntry me.group.size kept.old change }
-    ensures changed { OnOk result (kept.new ≡ changed kept.old change) }
+    ensures makes { MakesChange me.group.size kept.old kept.new change result }
     ensures spelled { IfOk result
         (λ bytes. bytes.items ≡ record_bytes me (changed kept.old change)) }
-    ensures ranges { OnOk result (IsRecord me.group.size kept.new) }
-    ensures err { OnErr result (kept.new ≡ kept.old) }
 {
     kept_votes_are_few();
     let mut bytes = Vec::with_capacity(alloc, most_bytes(kept.votes.as_slice().len() + 1))?;
@@ -175,10 +170,8 @@ pub(crate) fn patch_of(
 ) -> Result<Patch, AllocError>
     requires ranges { IsRecord me.group.size kept.old }
     requires entry { IsEntry me.group.size kept.old change }
-    ensures changed { OnOk result (kept.new ≡ changed kept.old change) }
-    ensures ranges { OnOk result (IsRecord me.group.size kept.new) }
+    ensures makes { MakesChange me.group.size kept.old kept.new change result }
     ensures patch { IfOk result (λ patch. IsPatch me kept.old change form.now patch) }
-    ensures err { OnErr result (kept.new ≡ kept.old) }
 {
     let (at, mut bytes) = match form {
         Form::Whole => {

@@ -19,7 +19,7 @@ ghost use Rattle.paxos_acceptor.specs.Backed.{HasBackedVotes};
 ghost use Rattle.paxos_acceptor.specs.declared.form.Form.{Form};
 ghost use Rattle.paxos_acceptor.specs.declared.form.Form.TheVariants.{Missing};
 ghost use Rattle.paxos_acceptor.specs.declared.form.Patch.{Patch};
-ghost use Rattle.paxos_acceptor.specs.Files.{IsFormAfter, IsFormIn, IsFormOf, IsPatch, patched};
+ghost use Rattle.paxos_acceptor.specs.Files.{IsFiledAs, IsFormAfter, IsFormIn, IsPatch, patched};
 ghost use Rattle.paxos_acceptor.specs.Log.{IsEntry, IsUncut, LogIn, entry_bytes, log_header};
 ghost use Rattle.paxos_acceptor.specs.Records.{IsRecord, Rec};
 ghost use Rattle.paxos_acceptor.specs.Stores.{IsOneOf};
@@ -141,7 +141,7 @@ pub(crate) fn files_are_known()
         → IsFormAfter form patch after → length (patched bytes patch) < 2 ^ 64
         → IsFormIn me (patched bytes patch) (changed r c) after }
     ensures fits { (me : Me) (bytes : List ℕ) (r : Record) (form : Form) → IsFormIn me bytes r form
-        → IsFormOf me r form }
+        → IsFiledAs me r form }
 {}
 
 /// No bytes are both a whole record and a log, or of both versions.

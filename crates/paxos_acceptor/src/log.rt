@@ -182,7 +182,6 @@ fn enter_all<'a>(
     ensures only { (made : Record Value) (end : List ℕ)
         → Folds version me.group.size kept.old entries.now made end
         → IfOk result (λ x. (kept.new ≡ made) × (x.now ≡ end)) }
-    ensures ranges { OnOk result (IsRecord me.group.size kept.new) }
     ensures within { IfOk result (λ end. length end.now ≤ length entries.now) }
     ensures bad { IsErrOf result StoreFault.Bad → (made : Record Value) (end : List ℕ)
         → ¬ Folds version me.group.size kept.old entries.now made end }
@@ -206,7 +205,6 @@ pub(crate) fn log_of(
     ensures found { IfOk result (λ x. LogIn version me bytes.now x.0 x.1) }
     ensures only { (r : Record Value) (n : ℕ) → LogIn version me bytes.now r n
         → IfOk result (λ x. (x.0 ≡ r) × (x.1 ≡ n)) }
-    ensures ranges { IfOk result (λ x. IsRecord me.group.size x.0) }
     ensures bad { IsErrOf result StoreFault.Bad → (r : Record Value) (n : ℕ)
         → ¬ LogIn version me bytes.now r n }
     ensures others { ¬ IsErrOf result StoreFault.Device }

@@ -1,9 +1,8 @@
 //! A store in memory.
-ghost use Rattle.std.specs.Prelude.{◌≡◌, ◌<◌, Err, IfOk, IsErrOf, None, OnErr};
+ghost use Rattle.std.specs.Prelude.{◌≡◌, ◌<◌, Err, IsErrOf, None};
 ghost use Rattle.paxos_msg.specs.declared.record.Change.TheVariants.{Start};
 ghost use Rattle.paxos_msg.specs.Messages.{IsAscending};
 ghost use Rattle.paxos_acceptor.specs.Memories.{Loads, SavesByPlan};
-ghost use Rattle.paxos_acceptor.specs.Stores.{HasCause};
 ghost use Rattle.paxos_msg.specs.declared.limits.TheConstants.{LAST_START};
 
 use crate::store::{Store, StoreFault};
@@ -76,8 +75,6 @@ impl Store for MemoryStore {
         requires ascending { IsAscending self.old.stored.votes }
         ensures by_plan { SavesByPlan self.old self.new change.now result }
         ensures good { ¬ IsErrOf result StoreFault.Bad }
-        ensures cause { HasCause
-            (IsErrOf result StoreFault.Device) self.old.faults self.new.faults }
     {
         if self.plan != Some(false) {
             self.record.change(*change)?;

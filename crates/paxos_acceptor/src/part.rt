@@ -1,10 +1,10 @@
 //! The part of a promise that reports votes.
-ghost use Rattle.std.specs.Prelude.{◌≡◌, ◌≤◌, IfOk, All, drop, length, take};
+ghost use Rattle.std.specs.Prelude.{◌≡◌, ◌≤◌, IfOk, drop, length, take};
 ghost use Rattle.paxos_msg.specs.Messages.{IsAscending};
 ghost use Rattle.paxos_msg.specs.declared.message.Body.TheVariants as body;
-ghost use Rattle.paxos_acceptor.specs.Answers.{place_after, upto_of};
+ghost use Rattle.paxos_acceptor.specs.Answers.{AreAtPlaces, place_after, upto_of};
 ghost use Rattle.paxos_msg.specs.Places.{votes_from};
-ghost use Rattle.paxos_msg.specs.declared.limits.TheConstants.{LAST_PLACE, MOST_VOTES};
+ghost use Rattle.paxos_msg.specs.declared.limits.TheConstants.{MOST_VOTES};
 
 use paxos_msg::limits::{MOST_VOTES, PLACES};
 use paxos_msg::{Ballot, Body, Vote, Votes};
@@ -21,7 +21,7 @@ fn count_before(votes: &[Vote], from: u32) -> usize
 
 /// Returns the place after the last of the votes.
 fn place_after(votes: &[Vote]) -> u32
-    requires { All (λ vote. vote.place ≤ LAST_PLACE) votes.now }
+    requires { AreAtPlaces votes.now }
     ensures { result ≡ place_after votes.now }
 {
     match votes.last() {
@@ -33,7 +33,7 @@ fn place_after(votes: &[Vote]) -> u32
 /// Returns the place up to which a part reports that has the first 8 of these votes: all places,
 /// unless there are more.
 fn upto(remaining: &[Vote]) -> u32
-    requires { All (λ vote. vote.place ≤ LAST_PLACE) remaining.now }
+    requires { AreAtPlaces remaining.now }
     ensures { result ≡ upto_of remaining.now }
 {
     if remaining.len() > MOST_VOTES {
@@ -59,7 +59,7 @@ pub(crate) fn part_from(
     votes: &[Vote],
 ) -> Result<Body, AllocError>
     requires in_order { IsAscending votes.now }
-    requires places { All (λ vote. vote.place ≤ LAST_PLACE) votes.now }
+    requires places { AreAtPlaces votes.now }
     ensures { IfOk result
         (λ part. part ≡ body.Promise ballot first (upto_of (votes_from first votes.now))
         (take MOST_VOTES (votes_from first votes.now))) }

@@ -11,6 +11,7 @@ pub mod Sends
 pub mod Agreement
 pub mod GoesOn
 pub mod Migration
+pub mod GrowthSteps
 pub mod Witness
 pub mod CountingNodes
 pub mod AcceptedCount

@@ -1,5 +1,5 @@
 -- The bytes of a message. Numbers have their high byte first.
-use Rattle.std.specs.Prelude.{◌≡◌, ℕ, List, [], ◌∷◌, ◌++◌, length}
+use Rattle.std.specs.Prelude.{◌≡◌, ℕ, ◌+◌, List, [], ◌∷◌, ◌++◌, length, Vec, vec_capacity, vec_len}
 use Rattle.byteorder.specs.Endian.{big_bytes}
 use Rattle.paxos_msg.specs.declared.ballot.Ballot.{Ballot}
 use Rattle.paxos_msg.specs.declared.value.Value.{Value}
@@ -8,6 +8,12 @@ use Rattle.paxos_msg.specs.Batches.{Body, Msg, Vote}
 use Rattle.paxos_msg.specs.declared.message.Group.{Group}
 use Rattle.paxos_msg.specs.declared.message.Body.TheVariants.{Prepare, Promise, Accept, Accepted, Refused, Submit, Ask, Tell}
 use Rattle.paxos_msg.specs.Fits.{Fits}
+
+-- The vector after items were put at its end, where it had room for them. Its capacity stays.
+pub record Puts {X Z : Type 0} (old new : Vec X Z) (added : List X) : Type 0 where
+  pub items : new.items ≡ old.items ++ added
+  pub len : vec_len new ≡ vec_len old + length added
+  pub capacity : vec_capacity new ≡ vec_capacity old
 
 -- The four bytes of a number.
 abbrev pub number_bytes : ℕ → List ℕ

@@ -55,8 +55,7 @@ fn after_votes(part: Part, count: u32, bytes: &[u8]) -> Result<&[u8], WireFault>
 /// Reads the body of a Prepare: a ballot of the sender's own, and the first place asked for.
 #[tactic(auto, unfolding(crate::specs::Reading::prepare_at))]
 fn prepare_of(size: u8, sender: u8, bytes: &[u8]) -> Result<(BodyView<'_>, &[u8]), WireFault>
-    ensures exact { Gives (λ x. (said x.0, x.1.now)) result (prepare_at size sender bytes.now) }
-    ensures few { IfOk result (λ x. HasUpTo MOST_VOTES (said x.0)) }
+    ensures { Gives (λ x. (said x.0, x.1.now)) result (prepare_at size sender bytes.now) }
 {
     let (ballot, rest) = own_ballot_of(size, sender, bytes)?;
     let (from, rest) = place_of(LAST_PLACE, rest)?;
@@ -67,8 +66,7 @@ fn prepare_of(size: u8, sender: u8, bytes: &[u8]) -> Result<(BodyView<'_>, &[u8]
 /// and with `Count` if there are more than 8 votes.
 #[tactic(auto, unfolding(crate::specs::Reading::promise_at))]
 fn promise_of(size: u8, bytes: &[u8]) -> Result<(BodyView<'_>, &[u8]), WireFault>
-    ensures exact { Gives (λ x. (said x.0, x.1.now)) result (promise_at size bytes.now) }
-    ensures few { IfOk result (λ x. HasUpTo MOST_VOTES (said x.0)) }
+    ensures { Gives (λ x. (said x.0, x.1.now)) result (promise_at size bytes.now) }
 {
     let (ballot, rest) = ballot_of(size, bytes)?;
     let (first, rest) = place_of(LAST_PLACE, rest)?;
@@ -100,8 +98,7 @@ fn promise_of(size: u8, bytes: &[u8]) -> Result<(BodyView<'_>, &[u8]), WireFault
 /// Reads the body of an Accept: a ballot of the sender's own, a place and a value.
 #[tactic(auto, unfolding(crate::specs::Reading::accept_at))]
 fn accept_of(size: u8, sender: u8, bytes: &[u8]) -> Result<(BodyView<'_>, &[u8]), WireFault>
-    ensures exact { Gives (λ x. (said x.0, x.1.now)) result (accept_at size sender bytes.now) }
-    ensures few { IfOk result (λ x. HasUpTo MOST_VOTES (said x.0)) }
+    ensures { Gives (λ x. (said x.0, x.1.now)) result (accept_at size sender bytes.now) }
 {
     let (ballot, rest) = own_ballot_of(size, sender, bytes)?;
     let (place, rest) = place_of(LAST_PLACE, rest)?;
@@ -117,8 +114,7 @@ fn accept_of(size: u8, sender: u8, bytes: &[u8]) -> Result<(BodyView<'_>, &[u8])
 /// Reads the body of an Accepted: a ballot, a place and a value.
 #[tactic(auto, unfolding(crate::specs::Reading::accepted_at))]
 fn accepted_of(size: u8, bytes: &[u8]) -> Result<(BodyView<'_>, &[u8]), WireFault>
-    ensures exact { Gives (λ x. (said x.0, x.1.now)) result (accepted_at size bytes.now) }
-    ensures few { IfOk result (λ x. HasUpTo MOST_VOTES (said x.0)) }
+    ensures { Gives (λ x. (said x.0, x.1.now)) result (accepted_at size bytes.now) }
 {
     let (ballot, rest) = ballot_of(size, bytes)?;
     let (place, rest) = place_of(LAST_PLACE, rest)?;
@@ -135,8 +131,7 @@ fn accepted_of(size: u8, bytes: &[u8]) -> Result<(BodyView<'_>, &[u8]), WireFaul
 /// refused one.
 #[tactic(auto, unfolding(crate::specs::Reading::refused_at))]
 fn refused_of(size: u8, bytes: &[u8]) -> Result<(BodyView<'_>, &[u8]), WireFault>
-    ensures exact { Gives (λ x. (said x.0, x.1.now)) result (refused_at size bytes.now) }
-    ensures few { IfOk result (λ x. HasUpTo MOST_VOTES (said x.0)) }
+    ensures { Gives (λ x. (said x.0, x.1.now)) result (refused_at size bytes.now) }
 {
     let (ballot, rest) = ballot_of(size, bytes)?;
     let (promised, rest) = ballot_of(size, rest)?;
@@ -149,8 +144,7 @@ fn refused_of(size: u8, bytes: &[u8]) -> Result<(BodyView<'_>, &[u8]), WireFault
 /// Reads the body of a Submit: keys that were typed at the sender.
 #[tactic(auto, unfolding(crate::specs::Reading::submit_at))]
 fn submit_of(size: u8, sender: u8, bytes: &[u8]) -> Result<(BodyView<'_>, &[u8]), WireFault>
-    ensures exact { Gives (λ x. (said x.0, x.1.now)) result (submit_at size sender bytes.now) }
-    ensures few { IfOk result (λ x. HasUpTo MOST_VOTES (said x.0)) }
+    ensures { Gives (λ x. (said x.0, x.1.now)) result (submit_at size sender bytes.now) }
 {
     let (key, taken) = own_keys_of(size, sender, bytes)?;
     Ok((BodyView::Submit { key }, &bytes[taken..]))
@@ -159,8 +153,7 @@ fn submit_of(size: u8, sender: u8, bytes: &[u8]) -> Result<(BodyView<'_>, &[u8])
 /// Reads the body of an Ask: a place, at most 65,536.
 #[tactic(auto, unfolding(crate::specs::Reading::ask_at))]
 fn ask_of(bytes: &[u8]) -> Result<(BodyView<'_>, &[u8]), WireFault>
-    ensures exact { Gives (λ x. (said x.0, x.1.now)) result (ask_at bytes.now) }
-    ensures few { IfOk result (λ x. HasUpTo MOST_VOTES (said x.0)) }
+    ensures { Gives (λ x. (said x.0, x.1.now)) result (ask_at bytes.now) }
 {
     let (from, rest) = place_of(PLACES, bytes)?;
     Ok((BodyView::Ask { from }, rest))
@@ -169,8 +162,7 @@ fn ask_of(bytes: &[u8]) -> Result<(BodyView<'_>, &[u8]), WireFault>
 /// Reads the body of a Tell: a place and a value.
 #[tactic(auto, unfolding(crate::specs::Reading::tell_at))]
 fn tell_of(size: u8, bytes: &[u8]) -> Result<(BodyView<'_>, &[u8]), WireFault>
-    ensures exact { Gives (λ x. (said x.0, x.1.now)) result (tell_at size bytes.now) }
-    ensures few { IfOk result (λ x. HasUpTo MOST_VOTES (said x.0)) }
+    ensures { Gives (λ x. (said x.0, x.1.now)) result (tell_at size bytes.now) }
 {
     let (place, rest) = place_of(LAST_PLACE, bytes)?;
     let (value, taken) = value_of(size, rest)?;
@@ -180,8 +172,7 @@ fn tell_of(size: u8, bytes: &[u8]) -> Result<(BodyView<'_>, &[u8]), WireFault>
 /// Reads the body of a message of kind `kind` from `sender`. Returns it and the bytes after it.
 #[tactic(auto, unfolding(crate::specs::Reading::body_at))]
 fn body_of(size: u8, kind: u8, sender: u8, bytes: &[u8]) -> Result<(BodyView<'_>, &[u8]), WireFault>
-    ensures exact { Gives (λ x. (said x.0, x.1.now)) result (body_at size kind sender bytes.now) }
-    ensures few { IfOk result (λ x. HasUpTo MOST_VOTES (said x.0)) }
+    ensures { Gives (λ x. (said x.0, x.1.now)) result (body_at size kind sender bytes.now) }
 {
     match kind {
         1 => prepare_of(size, sender, bytes),
@@ -227,8 +218,7 @@ fn header_of(group: Group, bytes: &[u8]) -> Result<((u8, u8), &[u8]), WireFault>
 /// `Trailing` if bytes are left over.
 #[tactic(auto, unfolding(crate::specs::Reading::message_at))]
 fn message_of(bytes: &[u8], group: Group) -> Result<View<'_>, WireFault>
-    ensures exact { Gives (λ view. view) result (message_at group bytes.now) }
-    ensures few { IfOk result (λ view. HasUpTo MOST_VOTES view.body) }
+    ensures { Gives (λ view. view) result (message_at group bytes.now) }
 {
     let ((kind, sender), rest) = header_of(group, bytes)?;
     // No `?`: the prover has no rule for one on a value and a reference together.

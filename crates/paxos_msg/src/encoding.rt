@@ -1,8 +1,8 @@
 //! Writes messages as datagrams.
-ghost use Rattle.std.specs.Prelude.{◌≡◌, ◌+◌, ◌≤◌, ◌++◌, [], length, vec_len, vec_capacity, IfOk, IfErr};
+ghost use Rattle.std.specs.Prelude.{◌≡◌, ◌+◌, ◌≤◌, length, vec_len, vec_capacity, IfOk, IfErr};
 ghost use Rattle.paxos_msg.specs.declared.fault.WireFault.TheVariants as fault;
 ghost use Rattle.paxos_msg.specs.Fits.{Fits};
-ghost use Rattle.paxos_msg.specs.Spelling.{body_bytes, spelling};
+ghost use Rattle.paxos_msg.specs.Spelling.{Puts, body_bytes, spelling};
 ghost use Rattle.paxos_msg.specs.Views.{HasUpTo};
 ghost use Rattle.paxos_msg.specs.declared.limits.TheConstants.{LONGEST_DATAGRAM, MOST_VOTES};
 
@@ -18,8 +18,7 @@ use std::alloc::Global;
 fn put_body(body: &Body, out: &mut Vec<u8>)
     requires few { HasUpTo MOST_VOTES body.now }
     requires room { vec_len out.old + length (body_bytes body.now) ≤ vec_capacity out.old }
-    ensures items { out.new.items ≡ out.old.items ++ body_bytes body.now }
-    ensures capacity { vec_capacity out.new ≡ vec_capacity out.old }
+    ensures { Puts out.old out.new (body_bytes body.now) }
 {
     match body {
         Body::Prepare { ballot, from } => {

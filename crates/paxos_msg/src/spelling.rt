@@ -1,7 +1,7 @@
 //! Writes the parts of a datagram at the end of a vector. Each function needs the room to be made
 //! before, so it takes no memory and cannot fail.
 ghost use Rattle.std.specs.Prelude.{◌≡◌, ◌+◌, ◌≤◌, ◌++◌, ◌∷◌, [], length, vec_len, vec_capacity};
-ghost use Rattle.paxos_msg.specs.Spelling.{number_bytes, ballot_bytes, value_bytes, vote_bytes, votes_bytes, kind_of, header_bytes};
+ghost use Rattle.paxos_msg.specs.Spelling.{Puts, number_bytes, ballot_bytes, value_bytes, vote_bytes, votes_bytes, kind_of, header_bytes};
 ghost use Rattle.paxos_msg.specs.declared.limits.TheConstants.{MOST_VOTES};
 
 use crate::ballot::Ballot;
@@ -17,9 +17,7 @@ const VERSION: u8 = 2;
 #[inline(always)]
 fn put_byte(byte: u8, out: &mut Vec<u8>)
     requires room { vec_len out.old + 1 ≤ vec_capacity out.old }
-    ensures items { out.new.items ≡ out.old.items ++ byte ∷ [] }
-    ensures len { vec_len out.new ≡ vec_len out.old + 1 }
-    ensures capacity { vec_capacity out.new ≡ vec_capacity out.old }
+    ensures { Puts out.old out.new (byte ∷ []) }
 {
     out.push_reserved(byte);
 }
@@ -30,9 +28,7 @@ fn put_byte(byte: u8, out: &mut Vec<u8>)
 #[inline(always)]
 fn put_bytes(bytes: &[u8], out: &mut Vec<u8>)
     requires room { vec_len out.old + length bytes.now ≤ vec_capacity out.old }
-    ensures items { out.new.items ≡ out.old.items ++ bytes.now }
-    ensures len { vec_len out.new ≡ vec_len out.old + length bytes.now }
-    ensures capacity { vec_capacity out.new ≡ vec_capacity out.old }
+    ensures { Puts out.old out.new bytes.now }
 {
     for byte in bytes {
         out.push_reserved(*byte);
@@ -43,9 +39,7 @@ fn put_bytes(bytes: &[u8], out: &mut Vec<u8>)
 #[inline(always)]
 pub fn put_number(number: u32, out: &mut Vec<u8>)
     requires room { vec_len out.old + 4 ≤ vec_capacity out.old }
-    ensures items { out.new.items ≡ out.old.items ++ number_bytes number }
-    ensures len { vec_len out.new ≡ vec_len out.old + 4 }
-    ensures capacity { vec_capacity out.new ≡ vec_capacity out.old }
+    ensures { Puts out.old out.new (number_bytes number) }
 {
     let [first, second, third, fourth] = number.to_be_bytes();
     out.push_reserved(first);
@@ -57,9 +51,7 @@ pub fn put_number(number: u32, out: &mut Vec<u8>)
 /// Appends a ballot: its round and its node, five bytes. The vector has room for them.
 pub fn put_ballot(ballot: Ballot, out: &mut Vec<u8>)
     requires room { vec_len out.old + 5 ≤ vec_capacity out.old }
-    ensures items { out.new.items ≡ out.old.items ++ ballot_bytes ballot }
-    ensures len { vec_len out.new ≡ vec_len out.old + 5 }
-    ensures capacity { vec_capacity out.new ≡ vec_capacity out.old }
+    ensures { Puts out.old out.new (ballot_bytes ballot) }
 {
     put_number(ballot.round, out);
     put_byte(ballot.node, out);
@@ -69,9 +61,7 @@ pub fn put_ballot(ballot: Ballot, out: &mut Vec<u8>)
 #[inline(always)]
 fn put_characters(characters: Characters, out: &mut Vec<u8>)
     requires room { vec_len out.old + 1 + length characters ≤ vec_capacity out.old }
-    ensures items { out.new.items ≡ out.old.items ++ length characters ∷ characters }
-    ensures len { vec_len out.new ≡ vec_len out.old + 1 + length characters }
-    ensures capacity { vec_capacity out.new ≡ vec_capacity out.old }
+    ensures { Puts out.old out.new (length characters ∷ characters) }
 {
     put_byte(characters.len(), out);
     put_bytes(characters.as_slice(), out);
@@ -81,9 +71,7 @@ fn put_characters(characters: Characters, out: &mut Vec<u8>)
 /// one byte, and characters, 12 to 43 bytes. The vector has room for them.
 pub fn put_value(value: Value, out: &mut Vec<u8>)
     requires room { vec_len out.old + length (value_bytes value) ≤ vec_capacity out.old }
-    ensures items { out.new.items ≡ out.old.items ++ value_bytes value }
-    ensures len { vec_len out.new ≡ vec_len out.old + length (value_bytes value) }
-    ensures capacity { vec_capacity out.new ≡ vec_capacity out.old }
+    ensures { Puts out.old out.new (value_bytes value) }
 {
     match value {
         Value::Noop => put_byte(0, out),
@@ -110,9 +98,7 @@ pub fn put_value(value: Value, out: &mut Vec<u8>)
 /// Appends a vote: its place, ballot and value.
 fn put_vote(vote: Vote, out: &mut Vec<u8>)
     requires room { vec_len out.old + length (vote_bytes vote) ≤ vec_capacity out.old }
-    ensures items { out.new.items ≡ out.old.items ++ vote_bytes vote }
-    ensures len { vec_len out.new ≡ vec_len out.old + length (vote_bytes vote) }
-    ensures capacity { vec_capacity out.new ≡ vec_capacity out.old }
+    ensures { Puts out.old out.new (vote_bytes vote) }
 {
     put_number(vote.place, out);
     put_ballot(vote.ballot, out);
@@ -122,9 +108,7 @@ fn put_vote(vote: Vote, out: &mut Vec<u8>)
 /// Appends votes, each as its place, ballot and value. The vector has room for them.
 pub fn put_votes(votes: &[Vote], out: &mut Vec<u8>)
     requires room { vec_len out.old + length (votes_bytes votes.now) ≤ vec_capacity out.old }
-    ensures items { out.new.items ≡ out.old.items ++ votes_bytes votes.now }
-    ensures len { vec_len out.new ≡ vec_len out.old + length (votes_bytes votes.now) }
-    ensures capacity { vec_capacity out.new ≡ vec_capacity out.old }
+    ensures { Puts out.old out.new (votes_bytes votes.now) }
 {
     for vote in votes {
         put_vote(*vote, out);
@@ -136,11 +120,9 @@ pub fn put_votes(votes: &[Vote], out: &mut Vec<u8>)
 pub(crate) fn put_promise(ballot: Ballot, first: u32, upto: u32, votes: &[Vote], out: &mut Vec<u8>)
     requires few { length votes.now ≤ MOST_VOTES }
     requires room { vec_len out.old + 14 + length (votes_bytes votes.now) ≤ vec_capacity out.old }
-    ensures items { out.new.items
-        ≡ out.old.items ++ (ballot_bytes ballot ++ number_bytes first ++ number_bytes upto
+    ensures { Puts out.old out.new
+        (ballot_bytes ballot ++ number_bytes first ++ number_bytes upto
         ++ length votes.now ∷ votes_bytes votes.now) }
-    ensures len { vec_len out.new ≡ vec_len out.old + 14 + length (votes_bytes votes.now) }
-    ensures capacity { vec_capacity out.new ≡ vec_capacity out.old }
 {
     put_ballot(ballot, out);
     put_number(first, out);
@@ -152,10 +134,8 @@ pub(crate) fn put_promise(ballot: Ballot, first: u32, upto: u32, votes: &[Vote],
 /// Appends a ballot, a place and a value.
 pub(crate) fn put_proposal(ballot: Ballot, place: u32, value: Value, out: &mut Vec<u8>)
     requires room { vec_len out.old + 9 + length (value_bytes value) ≤ vec_capacity out.old }
-    ensures items { out.new.items
-        ≡ out.old.items ++ (ballot_bytes ballot ++ number_bytes place ++ value_bytes value) }
-    ensures len { vec_len out.new ≡ vec_len out.old + 9 + length (value_bytes value) }
-    ensures capacity { vec_capacity out.new ≡ vec_capacity out.old }
+    ensures { Puts out.old out.new
+        (ballot_bytes ballot ++ number_bytes place ++ value_bytes value) }
 {
     put_ballot(ballot, out);
     put_number(place, out);
@@ -165,9 +145,7 @@ pub(crate) fn put_proposal(ballot: Ballot, place: u32, value: Value, out: &mut V
 /// Appends the header of a datagram, ten bytes. `kind` is 1 to 8.
 pub(crate) fn put_header(group: Group, kind: u8, sender: u8, out: &mut Vec<u8>)
     requires room { vec_len out.old + 10 ≤ vec_capacity out.old }
-    ensures items { out.new.items ≡ out.old.items ++ header_bytes group kind sender }
-    ensures len { vec_len out.new ≡ vec_len out.old + 10 }
-    ensures capacity { vec_capacity out.new ≡ vec_capacity out.old }
+    ensures { Puts out.old out.new (header_bytes group kind sender) }
 {
     put_byte(b'P', out);
     put_byte(b'G', out);

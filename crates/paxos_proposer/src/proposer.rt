@@ -1,5 +1,5 @@
 //! A proposer under one ballot.
-ghost use Rattle.std.specs.Prelude.{◌≡◌, ◌↔◌, ◌+◌, ◌<◌, ◌≤◌, Err, IsTrue, IsSome, IfOk, IfSome, OnOk, OnErr, IsErrOf, option_map};
+ghost use Rattle.std.specs.Prelude.{◌≡◌, ◌↔◌, ◌+◌, ◌<◌, ◌≤◌, IsTrue, IsSome, IfOk, IfSome, IsOkUnless, OnOk, OnErr, IsErrOf, option_map};
 ghost use Rattle.paxos_msg.specs.Fits.{IsBody};
 ghost use Rattle.paxos_proposer.specs.Proposer.{IsPromisePart, asks_after, new_proposer, coverage_of, is_covered, is_kept_from, next_of, next_value, heard_promise, proposal, proposed_at, proposing};
 ghost use Rattle.paxos_msg.specs.declared.limits.TheConstants.{LAST_PLACE, MOST_NODES, PLACES};
@@ -137,7 +137,7 @@ impl Proposer {
             (λ from. from ≡ asks_after self.old.known sender view.now.body) }
         ensures place { IfOk result (λ from. IfSome from (λ place. place ≤ LAST_PLACE)) }
         ensures err { OnErr result (self.new.known ≡ self.old.known) }
-        ensures memory { OnErr result (result ≡ Err ProposerFault.Memory) }
+        ensures memory { IsOkUnless result ProposerFault.Memory }
         ensures room { self.old.room ≤ self.new.room }
     {
         let BodyView::Promise {
@@ -223,7 +223,7 @@ impl Proposer {
     pub fn reserve(&mut self) -> Result<(), ProposerFault>
         ensures same { self.new.known ≡ self.old.known }
         ensures ok { OnOk result (17 ≤ self.new.room) }
-        ensures memory { OnErr result (result ≡ Err ProposerFault.Memory) }
+        ensures memory { IsOkUnless result ProposerFault.Memory }
         ensures room { self.old.room ≤ self.new.room }
     {
         self.values.reserve(RESERVED_PROPOSALS)?;

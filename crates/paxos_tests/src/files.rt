@@ -150,9 +150,8 @@ fn files_that_cannot_be_read(rt: HostRuntime) -> Result<(), Fail> {
     Ok(())
 }
 
-/// Shows FileStore::save (notes, cause), FileStore::load, FileStore::faults: after a save that
-/// failed a store saves no more until it is loaded. Here a folder takes the file's place for a
-/// while.
+/// Shows FileStore::save (notes), FileStore::load, FileStore::faults: after a save that failed a
+/// store saves no more until it is loaded. Here a folder takes the file's place for a while.
 #[test]
 fn saves_no_more_after_a_fault(rt: HostRuntime) -> Result<(), Fail> {
     let path = "faulty_record_of_a_test";
@@ -178,8 +177,8 @@ fn saves_no_more_after_a_fault(rt: HostRuntime) -> Result<(), Fail> {
     Ok(())
 }
 
-/// Shows FileStore::save (notes, cause): a save fails if the second file can't be written. Here a
-/// folder takes its place, and the file keeps its record.
+/// Shows FileStore::save (notes): a save fails if the second file can't be written. Here a folder
+/// takes its place, and the file keeps its record.
 #[test]
 fn no_second_file(rt: HostRuntime) -> Result<(), Fail> {
     let path = "whole_faulty_record_of_a_test";

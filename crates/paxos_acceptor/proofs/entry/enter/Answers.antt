@@ -1,3 +1,4 @@
+use Rattle.std.proofs.Common.{rules}
 use Rattle.paxos_acceptor.proofs.Ranges.{entry_in_ranges, record_in_order, start_to_spare}
 use Rattle.paxos_acceptor.proofs.entry.enter.Goals as goal
 
@@ -7,7 +8,11 @@ change-requires-clause-starts c = start_to_spare c.args.me.group.size c.args.kep
 pub change-requires-clause-ascending : goal.change-requires-clause-ascending
 change-requires-clause-ascending c = record_in_order _ _ c.requires.ranges
 
-pub returns-clause-ranges : goal.returns-clause-ranges
-returns-clause-ranges c =
-    rw (c.in_ok-change.ensures.ok)
-    (entry_in_ranges c.args.me.group.size c.args.kept.now c.args.change c.requires.entry c.requires.ranges)
+pub returns : goal.returns
+returns c = record {
+  ok = search rules;
+  ranges =
+      rw (c.in_ok-change.ensures.ok)
+      (entry_in_ranges c.args.me.group.size c.args.kept.now c.args.change c.requires.entry c.requires.ranges);
+  err = search rules;
+}

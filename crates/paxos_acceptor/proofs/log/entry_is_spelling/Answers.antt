@@ -1,4 +1,3 @@
-use Rattle.paxos_acceptor.proofs.Fields.{Fields}
 use Rattle.paxos_acceptor.proofs.LogEntries.{entry_law}
 use Rattle.paxos_acceptor.proofs.log.entry_is_spelling.Goals as goal
 
