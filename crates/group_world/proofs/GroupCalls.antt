@@ -26,7 +26,7 @@ use Rattle.group_world.specs.Group.{IsDown, IsUp, me_of, member_at, message_of, 
 use Rattle.group_world.specs.Member.{NodeCall, call_outcome, CallOutcome, CallEnds, Fell, Happened, Member, Refused, Running, RunsMember}
 use Rattle.group_world.specs.Refusals.{refusal, refusal_at, refusal_of, unless_up}
 use Rattle.group_world.specs.Sound.{IsSound, IsSpelling}
-use Rattle.group_world.proofs.LawfulCalls as Lawful
+use Rattle.group_world.proofs.WorldAsGroup.{running}
 
 -- the index of a node in the list of nodes
 pub record IsAt (members : List Member) (i : ℕ) (m : Member) : Type 0 where
@@ -87,8 +87,7 @@ down_so {i = i} {m = m} is down = subst (λ (x : World). IsDown x i m) (sym is) 
 
 -- each node knows who it is
 pub me_so : {w was : World} {i : ℕ} {m : Member} {q : Running} → w ≡ was → IsSound was → IsUp was i m q → q.known.me ≡ me_of w i
-me_so {was = was} {i = i} {m = m} {q = q} is sound up =
-    subst (λ (x : World). q.known.me ≡ me_of x i) (sym is) (Lawful.running was sound i m q up).me_is
+me_so is sound up = rw is (running sound up).me_is
 
 -- the world with these parts
 abbrev pub parts : World → List Member → List Datagram → List Value → World
