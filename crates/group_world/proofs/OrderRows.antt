@@ -124,7 +124,9 @@ module _ {typed : List Key} {i start last : ℕ} {waiting read : List Key} (h : 
         ∙ ap (λ (l : List Key). l ++ key ∷ []) h.newest
         ∙ append_assoc h.gone waiting (key ∷ []);
     below = h.below;
-    first = first_more read waiting key h.first (λ among. new_name key of_node of_start next key (was key among) (record { node = refl; start = refl; serial = refl }));
+    first =
+        first_more read waiting key h.first (λ among. new_name key of_node of_start next key (was key among)
+        (record { node = refl; start = refl; serial = refl }));
   }
 
   -- another node's key

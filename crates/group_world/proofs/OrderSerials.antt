@@ -90,5 +90,6 @@ apart_same keys k other apart (i, below, at) (j, within, is) name = elim (cases_
   | inr (inr more) ↦ absurd
       (apart j i k more below
       (subst (HaveOneName (get_or keys j k)) (sym at)
-      (subst (λ x. HaveOneName x k) (sym (get_or_default keys j k other within ∙ is)) (record { node = sym name.node; start = sym name.start; serial = sym name.serial }))))
+      (subst (λ x. HaveOneName x k) (sym (get_or_default keys j k other within ∙ is))
+      (record { node = sym name.node; start = sym name.start; serial = sym name.serial }))))
 ]

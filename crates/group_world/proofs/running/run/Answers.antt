@@ -21,7 +21,8 @@ pub returns-clause-learned_chosen : goal.returns-clause-learned_chosen
 returns-clause-learned_chosen c = c.headline.ensures.learned_chosen _ _ _ _ c.in-Ok.ensures.fit c.ranges.session.fits (happened c)
 
 pub returns-clause-consoles_hold_output : goal.returns-clause-consoles_hold_output
-returns-clause-consoles_hold_output c = c.headline.ensures.consoles_hold_output _ _ _ _ c.in-Ok.ensures.fit c.ranges.session.fits (happened c)
+returns-clause-consoles_hold_output c =
+    c.headline.ensures.consoles_hold_output _ _ _ _ c.in-Ok.ensures.fit c.ranges.session.fits (happened c)
 
 pub returns-clause-consoles_agree : goal.returns-clause-consoles_agree
 returns-clause-consoles_agree c = c.headline.ensures.consoles_agree _ _ _ _ c.in-Ok.ensures.fit c.ranges.session.fits (happened c)

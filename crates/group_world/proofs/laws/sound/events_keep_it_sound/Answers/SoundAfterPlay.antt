@@ -30,7 +30,8 @@ module _ (laws : Laws) {w : World} (h : IsSound w) {i : ℕ} {m : Member} {q : R
       → IsSound (with_member w i (record { kept = m.kept; console = console; node = Some (record q { progress = progress }) }))
   played_sound progress console program replay few shown =
       let sound = running h up in
-      kept_sound laws h i up.there (record { kept = m.kept; console = console; node = Some (record q { progress = progress }) }) refl (record {
+      let new : Member = record { kept = m.kept; console = console; node = Some (record q { progress = progress }) } in
+      kept_sound laws h i up.there new refl (record {
         ranges = (h.members i m up.there).ranges;
         backed = (h.members i m up.there).backed;
         shown = shown;

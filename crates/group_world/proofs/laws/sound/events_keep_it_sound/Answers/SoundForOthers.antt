@@ -23,7 +23,8 @@ shown_then laws {size = size} {sent = sent} more h = record {
 
 -- all that node `j` sends in a call, message by message
 sent_then : (P : Sent → Type 0) (size : ℕ) (known : List Key) (learned : ℕ → Option Value) (j : ℕ) (r : Record)
-    → ((sent : Sent) (body : Body) → MaySend size known learned sent j r body → P sent → P (sent ++ record { sender = j; body = body } ∷ []))
+    → ((sent : Sent) (body : Body) → MaySend size known learned sent j r body → P sent
+    → P (sent ++ record { sender = j; body = body } ∷ []))
     → (bodies : List Body) (sent : Sent) → MaySendAll size known learned sent j r bodies → P sent → P (sent ++ messages_of j bodies)
 sent_then P size known learned j r step [] sent may h = subst P (sym (append-nil sent)) h
 sent_then P size known learned j r step (body ∷ more) sent may h =

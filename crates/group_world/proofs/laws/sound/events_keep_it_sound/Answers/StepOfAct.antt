@@ -3,7 +3,7 @@ use Rattle.std.proofs.Common.{◌≡◌, ◌∙◌, ℕ, ◌+◌, ◌-◌, ◌<�
 use Rattle.pcode_file.specs.Parts.{Parts}
 use Rattle.pcode_machine.specs.Configuration.{Configuration}
 use Rattle.pcode_machine.specs.Runs.{LeadsIn, after_steps, begin, out}
-use Rattle.paxos_msg.specs.Batches.{Msg}
+use Rattle.paxos_msg.specs.Batches.{Msg, Record}
 use Rattle.paxos_msg.specs.declared.record.Change.TheVariants as change
 use Rattle.paxos_msg.specs.Records.{changed}
 use Rattle.paxos_acceptor.specs.Stores.{IsOneOf}
@@ -174,13 +174,15 @@ module _ (laws : Laws) {w : World} (h : IsSound w) (i : ℕ) {m : Member} (down 
       let state =
       called_state laws.spelling_is_read.ensures.read w i m made (no_progress w.program) [] down.there h.session
       (is_node i h down.there) may.fits
-      ∙ ap (λ (c : Configuration). after_call (world_state w) i made [] c 0 m.console) (first_configuration w.program (input made.node)) in (
+      ∙ ap (λ (c : Configuration). after_call (world_state w) i made [] c 0 m.console)
+      (first_configuration w.program (input made.node)) in (
         subst (WorldStep (world_state w) (group.Start i)) (sym state)
             (laws.calls_are_events.ensures.start (world_state w) (me_of w i) m.kept m.console refl seated),
-        λ is_kept saves. subst (WorldStep (world_state w) (group.Start i))
-            (sym (member_state w i m (record { kept = if is_kept then made.node.kept else m.kept; console = m.console; node = None }) down.there))
-            (laws.calls_are_events.ensures.falls_start (world_state w) (me_of w i) m.kept (if is_kept then made.node.kept else m.kept)
-            m.console seated (start_one is_kept)),
+        λ is_kept saves.
+            let left : Record = if is_kept then made.node.kept else m.kept in
+            subst (WorldStep (world_state w) (group.Start i))
+            (sym (member_state w i m (record { kept = left; console = m.console; node = None }) down.there))
+            (laws.calls_are_events.ensures.falls_start (world_state w) (me_of w i) m.kept left m.console seated (start_one is_kept)),
       ))
 
 -- an event that is not refused is one of the group, and one that is refused changes nothing

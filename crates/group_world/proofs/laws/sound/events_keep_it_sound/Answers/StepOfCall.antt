@@ -51,7 +51,8 @@ module _ (laws : Laws) {w : World} (h : IsSound w) {i : ℕ} {m : Member} {q : R
       let may = may_make laws h up made keys (lawful, fits) in
       let same = laws.learning_keeps_the_output.ensures.configuration q.known.learner.learned made.node.learner.learned q.progress
       lawful.keeps (running h up).replay in
-      let state = called_state laws.spelling_is_read.ensures.read w i m made q.progress keys up.there h.session (is_node i h up.there) may.fits in
+      let state =
+      called_state laws.spelling_is_read.ensures.read w i m made q.progress keys up.there h.session (is_node i h up.there) may.fits in
       subst (WorldStep (world_state w) (e i)) (sym (state ∙ ap (λ (c : Configuration).
       after_call (world_state w) i made (flat_map keys_of keys) c q.progress.released m.console) same))
       (at_number (λ j. WorldStep (world_state w) (e j)
@@ -65,8 +66,8 @@ module _ (laws : Laws) {w : World} (h : IsSound w) {i : ℕ} {m : Member} {q : R
   fall_step e made is_kept step =
       let left : Record = if is_kept then made.node.kept else m.kept in
       subst (WorldStep (world_state w) (e i)) (sym (member_state w i m (record { kept = left; console = m.console; node = None }) up.there))
-      (at_number (λ j. WorldStep (world_state w) (e j) (with_seat (world_state w) j (record { kept = left; console = m.console; up = None })))
-      (step left (one_of is_kept)))
+      (at_number (λ j. WorldStep (world_state w) (e j)
+      (with_seat (world_state w) j (record { kept = left; console = m.console; up = None }))) (step left (one_of is_kept)))
     where
       one_of : (is_kept : Bool) → IsOneOf (if is_kept then made.node.kept else m.kept) q.known.kept made.node.kept
       one_of true = inr refl
