@@ -1,12 +1,12 @@
 -- The keys of chosen values, each once, are in order, if each value was due.
-use Rattle.std.proofs.Common.{◌≡◌, ◌∙◌, ℕ, zero, suc, ◌+◌, ◌<◌, ◌≤◌, Bool, true, false, List, [], ◌∷◌, ◌++◌, length, get_or, map, Some, if◌then◌else◌, refl, sym, ap, subst, inl, inr, ◌⊎◌, append_assoc, arith}
+use Rattle.std.proofs.Common.{◌≡◌, ◌∙◌, ℕ, zero, suc, ◌+◌, ◌<◌, ◌≤◌, Bool, true, false, List, [], ◌∷◌, ◌++◌, length, get_or, map, Some, if◌then◌else◌, refl, sym, ap, subst, inl, inr, append_assoc, arith}
 use Rattle.std.proofs.lemmas.Bool.{cases_eq, cases_lt, both_ways}
 use Rattle.std.proofs.lemmas.List.{append-nil}
-use Rattle.std.proofs.lemmas.List.Elements.{Contains-append_left, Contains-append_right, Contains-get_or, Contains-push, Contains-push_cases}
+use Rattle.std.proofs.lemmas.List.Elements.{Contains-append_left, Contains-append_right, Contains-get_or, Contains-append_cases, Contains-push}
 use Rattle.std.proofs.lemmas.List.Quantifiers.{all_pairs_push}
 use Rattle.std.proofs.lemmas.List.Concat.{flat_map-append}
 use Rattle.std.proofs.lemmas.Option.{slice_get-get_or, slice_get_within}
-use Rattle.std.specs.List.{Contains, list_any, range_with_len, slice_get}
+use Rattle.std.specs.List.{Contains, flat_map, list_any, range_with_len, slice_get}
 use Rattle.paxos_msg.specs.Keys.{Key, keys_from, keys_of}
 use Rattle.paxos_learner.specs.Input.{same_key, firsts, keys_in_order}
 use Rattle.paxos_msg.specs.declared.message.Body.TheVariants.{Submit}
@@ -19,8 +19,12 @@ use Rattle.group_node.specs.Inputs.{AreChosen}
 use Rattle.group_world.specs.Order.{HaveOneName, AreApart, AreInOrder, serials_of}
 use Rattle.group_world.specs.Ordered.{HasSerial, IsDue}
 use Rattle.group_world.proofs.OrderLists.{none_in, first_in, place_of, in_from_place, in_flat_map, of_flat_map, range_more, in_range, of_range}
-use Rattle.group_world.proofs.OrderKeys.{all_keys, firsts_push, test_from_in, in_from_test, apart_same}
-use Rattle.group_world.proofs.OrderSerials.{serial_in, serial_of, has_in, own_serials, other_more}
+use Rattle.paxos_learner.proofs.KeysOnce.{entered_from, entered_new, entered_old, firsts_push, there_found}
+use Rattle.group_world.proofs.OrderSerials.{apart_same, serial_in, serial_of, has_in, own_serials, other_more}
+
+-- all keys of these values, in order
+abbrev pub all_keys : List Value → List Key
+all_keys values = flat_map keys_of values
 
 -- What agreement says of what was sent: at most one value is chosen at a place, and it is a no-op or was submitted.
 pub record IsAgreed (size : ℕ) (sent : Sent) : Type 0 where
@@ -39,21 +43,6 @@ pub record AreOrderly (keys : List Key) : Type 0 where
 
 -- ---- the firsts of keys
 
--- keys so far, with a key at the end if it is not among them: what is there already
-pub in_firsts_push : (keys : List Key) (k : Key) (there : Bool) → list_any (same_key k) keys ≡ there
-    → Contains (if there then keys else keys ++ k ∷ []) k
-in_firsts_push keys k true e = in_from_test keys k e
-in_firsts_push keys k false e = Contains-push keys k
-
-stays_firsts_push : (keys : List Key) (k x : Key) (there : Bool) → Contains keys x → Contains (if there then keys else keys ++ k ∷ []) x
-stays_firsts_push keys k x true h = h
-stays_firsts_push keys k x false h = Contains-append_left keys (k ∷ []) x h
-
-of_firsts_push : (keys : List Key) (k x : Key) (there : Bool) → Contains (if there then keys else keys ++ k ∷ []) x
-    → Contains keys x ⊎ (k ≡ x)
-of_firsts_push keys k x true h = inl h
-of_firsts_push keys k x false h = Contains-push_cases keys k x h
-
 -- the keys so far, with those added once: the same elements
 pub record AreFirsts (keys once : List Key) : Type 0 where
   pub all : (k : Key) → Contains keys k → Contains once k
@@ -61,16 +50,14 @@ pub record AreFirsts (keys once : List Key) : Type 0 where
 
 firsts_more : (keys : List Key) (k : Key) → AreFirsts keys (firsts keys) → AreFirsts (keys ++ k ∷ []) (firsts (keys ++ k ∷ []))
 firsts_more keys k h =
-    let there = list_any (same_key k) (firsts keys) in
     rw (firsts_push keys k) (record {
-      all = λ x here. elim (Contains-push_cases keys k x here) [
-        | inl before ↦ stays_firsts_push (firsts keys) k x there (h.all x before)
-        | inr e ↦ subst (λ (y : Key). Contains (if there then firsts keys else firsts keys ++ k ∷ []) y) e
-            (in_firsts_push (firsts keys) k there refl)
+      all = λ x here. elim (Contains-append_cases keys (k ∷ []) x here) [
+        | inl before ↦ entered_old (firsts keys) (k ∷ []) x (h.all x before)
+        | inr last ↦ entered_new (firsts keys) (k ∷ []) x last
       ];
-      only = λ x here. elim (of_firsts_push (firsts keys) k x there here) [
+      only = λ x here. elim (entered_from (firsts keys) (k ∷ []) x here) [
         | inl before ↦ Contains-append_left keys (k ∷ []) x (h.only x before)
-        | inr e ↦ subst (λ (y : Key). Contains (keys ++ k ∷ []) y) e (Contains-push keys k)
+        | inr last ↦ Contains-append_right keys (k ∷ []) x last
       ];
     })
 
@@ -180,7 +167,7 @@ push_orderly keys once k true e h f follows same = h
 push_orderly keys once k false e h f follows same =
     next_orderly once k h (follows_in keys once k.node k.start k.serial f.all follows)
     (λ x among name. both_ways (list_any (same_key k) once) e
-    (test_from_in once k (subst (λ (y : Key). Contains once y) (same x (f.only x among) name) among)))
+    (there_found once k (subst (λ (y : Key). Contains once y) (same x (f.only x among) name) among)))
 
 push_good : (keys : List Key) (k : Key) → AreGood keys → Follows keys k.node k.start k.serial
     → ((x : Key) → Contains keys x → HaveOneName x k → x ≡ k) → AreGood (keys ++ k ∷ [])
@@ -218,7 +205,7 @@ here_place : {X : Type 0} (xs : List X) (y : X) (ys : List X) → slice_get (xs 
 here_place [] y ys = refl
 here_place (x ∷ xs) y ys = here_place xs y ys
 
-module _ (size : ℕ) (sent : Sent) (typed : List Key) (apart : AreApart typed) (submits : AreSubmits size sent typed)
+module _ {size : ℕ} {sent : Sent} {typed : List Key} (apart : AreApart typed) (submits : AreSubmits size sent typed)
     (agreed : IsAgreed size sent) where
   pub front_left : (values more : List Value) → AreChosen size sent (values ++ more) → AreChosen size sent values
   front_left values more front = record { chosen = λ s v e. front.chosen s v (left_place values more s v e) }

@@ -53,6 +53,6 @@ module _ (typed : List Key) (members : List Member) (h : AreTypedInOrder typed m
           start = row.start;
           last = row.last;
           next = row.next;
-          row = other_row typed j _ row.last _ _ row.row key (λ e. ne (sym e ∙ of_node));
+          row = other_row row.row key (λ e. ne (sym e ∙ of_node));
         }));
   }

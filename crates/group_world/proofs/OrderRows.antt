@@ -11,8 +11,7 @@ use Rattle.group_node.specs.Inputs.{AreChosen}
 use Rattle.group_world.specs.Order.{HaveOneName, AreApart}
 use Rattle.group_world.specs.Ordered.{HasSerial, IsFirstUnread, IsPrepared, AreTypedKeys, those_of}
 use Rattle.group_world.proofs.OrderLists.{first_in, filter_none, of_filter, of_map, of_range, in_range, range_more, row_parts}
-use Rattle.group_world.proofs.OrderKeys.{apart_same, one_name}
-use Rattle.group_world.proofs.OrderSerials.{not_of, of_test, other_more, own_more, own_serials, serial_in}
+use Rattle.group_world.proofs.OrderSerials.{apart_same, not_of, of_test, other_more, own_more, own_serials, serial_in}
 
 -- The keys that still wait once more keys are read: those before them are read, and the first that waits is not.
 pub record IsParted (read keys stay : List Key) : Type 0 where
@@ -39,7 +38,7 @@ fresh_row typed i start read none =
       first = tt;
     }
 
-module _ (typed : List Key) (i start last : ℕ) (waiting read : List Key) (h : AreTypedKeys typed i start last waiting read) where
+module _ {typed : List Key} {i start last : ℕ} {waiting read : List Key} (h : AreTypedKeys typed i start last waiting read) where
   -- the keys that do not wait and those that wait have serials in a row
   row_rows : (map (λ (k : Key). k.serial) h.gone ≡ range_with_len 1 (length (map (λ (k : Key). k.serial) h.gone)))
       × (map (λ (k : Key). k.serial) waiting
@@ -125,7 +124,9 @@ module _ (typed : List Key) (i start last : ℕ) (waiting read : List Key) (h : 
         ∙ ap (λ (l : List Key). l ++ key ∷ []) h.newest
         ∙ append_assoc h.gone waiting (key ∷ []);
     below = h.below;
-    first = first_more read waiting key h.first (λ among. new_name key of_node of_start next key (was key among) (one_name key));
+    first =
+        first_more read waiting key h.first (λ among. new_name key of_node of_start next key (was key among)
+        (record { node = refl; start = refl; serial = refl }));
   }
 
   -- another node's key
@@ -154,13 +155,13 @@ module _ (typed : List Key) (i start last : ℕ) (waiting read : List Key) (h : 
 
 -- ---- the first that waits is due
 
-module _ (size : ℕ) (sent : Sent) (typed : List Key) (i start last : ℕ) (waiting : List Key) (known : List Value)
-    (h : AreTypedKeys typed i start last waiting (keys_in_order known))
-    (apart : AreApart typed) (front : AreChosen size sent known) (was : (k : Key) → Contains (keys_in_order known) k → Contains typed k)
+module _ {size : ℕ} {sent : Sent} {typed : List Key} {i start last : ℕ} {waiting : List Key} {known : List Value}
+    (front : AreChosen size sent known) (h : AreTypedKeys typed i start last waiting (keys_in_order known))
+    (apart : AreApart typed) (was : (k : Key) → Contains (keys_in_order known) k → Contains typed k)
     (key : Key) (keys : List Key) (waits : waiting ≡ key ∷ keys) where
   first_waits : Contains typed key × (key.node ≡ i) × (key.start ≡ start)
   first_waits =
-      waiting_key typed i start last waiting (keys_in_order known) h key
+      waiting_key h key
       (subst (λ (l : List Key). Contains l key) (sym waits) (first_in key keys))
 
   -- what is read lacks the first that waits, by its name
@@ -172,15 +173,15 @@ module _ (size : ℕ) (sent : Sent) (typed : List Key) (i start last : ℕ) (wai
       subst (IsFirstUnread (keys_in_order known)) waits h.first (subst (λ (k : Key). Contains (keys_in_order known) k) same has.among)
 
   due_by : (many : ℕ) → length h.gone ≡ many → (key.serial ≡ 1) ⊎ IsPrepared size sent key.node key.start key.serial
-  due_by zero e = inl (first_serial typed i start last waiting (keys_in_order known) h key keys waits ∙ omega arith)
+  due_by zero e = inl (first_serial h key keys waits ∙ omega arith)
   due_by (suc n) e = inr (record {
     below = known;
     chosen = front;
     before = length h.gone;
-    next = omega (arith, first_serial typed i start last waiting (keys_in_order known) h key keys waits);
+    next = omega (arith, first_serial h key keys waits);
     has = subst (λ (m : ℕ). HasSerial (keys_in_order known) m key.start (length h.gone)) (sym first_waits.1)
         (subst (λ (m : ℕ). HasSerial (keys_in_order known) i m (length h.gone)) (sym first_waits.2)
-        (last_gone typed i start last waiting (keys_in_order known) h n (omega arith)));
+        (last_gone h n (omega arith)));
     lacks = first_lacks;
   })
 

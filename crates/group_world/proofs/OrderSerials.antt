@@ -1,11 +1,11 @@
--- The serials of one start of a node among keys.
-use Rattle.std.proofs.Common.{◌≡◌, ◌∙◌, ℕ, ◌==◌, Bool, true, false, List, [], ◌∷◌, ◌++◌, map, if◌then◌else◌, refl, ap, subst}
-use Rattle.std.proofs.lemmas.Bool.{and_parts, and_from, eqb-true, eq-eqb, false_from_ne_true}
-use Rattle.std.proofs.lemmas.List.{append-nil, map-append}
+-- The serials of one start of a node among keys; keys that are apart.
+use Rattle.std.proofs.Common.{◌≡◌, ◌∙◌, ℕ, ◌==◌, Bool, true, false, List, [], ◌∷◌, ◌++◌, map, if◌then◌else◌, get_or, inl, inr, refl, sym, ap, subst}
+use Rattle.std.proofs.lemmas.Bool.{and_parts, and_from, eqb-true, eq-eqb, false_from_ne_true, cases_order}
+use Rattle.std.proofs.lemmas.List.{append-nil, get_or_default, map-append}
 use Rattle.std.proofs.lemmas.List.Elements.{filter-append}
 use Rattle.std.specs.List.{Contains}
 use Rattle.paxos_msg.specs.Keys.{Key}
-use Rattle.group_world.specs.Order.{is_of, serials_of}
+use Rattle.group_world.specs.Order.{AreApart, HaveOneName, is_of, serials_of}
 use Rattle.group_world.specs.Ordered.{HasSerial, those_of}
 use Rattle.group_world.proofs.OrderLists.{in_map, of_map, in_filter, of_filter}
 
@@ -76,3 +76,20 @@ pub own_serials : (node start : ℕ) (keys : List Key) (k : Key) → k.node ≡ 
 own_serials node start keys k e f =
     ap (map (λ (x : Key). x.serial)) (own_more node start keys k e f)
     ∙ map-append (λ (x : Key). x.serial) (those_of node start keys) (k ∷ [])
+
+-- ---- keys that are apart
+
+-- of keys that are apart, two with one name are the same
+pub apart_same : (keys : List Key) (k other : Key) → AreApart keys → Contains keys k → Contains keys other → HaveOneName k other → k ≡ other
+apart_same keys k other apart (i, below, at) (j, within, is) name = elim (cases_order i j) [
+  | inl e ↦ sym at ∙ ap (λ n. get_or keys n k) e ∙ get_or_default keys j k other within ∙ is
+  | inr (inl less) ↦ absurd
+      (apart i j k less within
+      (subst (λ x. HaveOneName x (get_or keys j k)) (sym at)
+      (subst (HaveOneName k) (sym (get_or_default keys j k other within ∙ is)) name)))
+  | inr (inr more) ↦ absurd
+      (apart j i k more below
+      (subst (HaveOneName (get_or keys j k)) (sym at)
+      (subst (λ x. HaveOneName x k) (sym (get_or_default keys j k other within ∙ is))
+      (record { node = sym name.node; start = sym name.start; serial = sym name.serial }))))
+]

@@ -1,19 +1,33 @@
 -- What a byte that a node releases leaves of its console.
-use Rattle.std.proofs.Common.{◌≡◌, ◌≢◌, ◌∙◌, ℕ, zero, suc, ◌+◌, ◌<◌, ◌≤◌, ◌⊎◌, List, [], ◌∷◌, ◌++◌, length, drop, slice_get, Some, inl, inr, refl, sym, ap, subst, append_assoc, arith}
+use Rattle.std.proofs.Common.{◌≡◌, ◌≢◌, ◌∙◌, ℕ, zero, suc, ◌+◌, ◌<◌, ◌≤◌, ◌⊎◌, List, [], ◌∷◌, ◌++◌, length, drop, slice_get, Option, Some, inl, inr, refl, sym, ap, subst, append_assoc, arith}
 use Rattle.std.proofs.lemmas.Bool.{cases_eq, eq-eqb, ne_eqb, lt-ltb}
 use Rattle.std.proofs.lemmas.List.{length_push}
 use Rattle.std.proofs.lemmas.Option.{slice_get_within}
-use Rattle.pcode_machine.specs.Runs.{AreComparable, IsPrefix}
+use Rattle.pcode_machine.specs.Runs.{AreComparable, IsPrefix, out}
+use Rattle.pcode_machine.proofs.Prefixes.{shorter_comparable}
+use Rattle.group_node.specs.Output.{unreleased_of}
+use Rattle.group_node.specs.States.{input}
+use Rattle.group_world.specs.Member.{Running}
 use Rattle.group_node.specs.declared.console.Offer.TheVariants.{Fresh, Gap, Repeat}
 use Rattle.group_node.specs.Console.{offer_answer, offered}
 
+-- what the machine of a node has written, and the byte that the node releases next
+abbrev pub written : Running → List ℕ
+written q = out q.progress.program (input q.known) q.progress.steps
+
+abbrev pub next_of : Running → Option ℕ
+next_of q = slice_get (unreleased_of (input q.known) q.progress) 0
+
 -- ---- elements of lists that begin others
 
--- the first of the bytes from `k` on
-pub first_dropped : (k : ℕ) (bytes : List ℕ) → slice_get (drop k bytes) 0 ≡ slice_get bytes k
+first_dropped : (k : ℕ) (bytes : List ℕ) → slice_get (drop k bytes) 0 ≡ slice_get bytes k
 first_dropped zero bytes = refl
 first_dropped (suc k) [] = refl
 first_dropped (suc k) (x ∷ xs) = first_dropped k xs
+
+-- the byte that is released next is that after those that were released
+pub next_written : (q : Running) → slice_get (written q) q.progress.released ≡ next_of q
+next_written q = sym (first_dropped q.progress.released (written q))
 
 -- the element after a prefix is the first of the rest
 first_of_rest : (a rest : List ℕ) (b : ℕ) → slice_get (a ++ rest) (length a) ≡ Some b → (more : List ℕ) × (rest ≡ b ∷ more)
@@ -47,22 +61,18 @@ compare_get a b k x y (inr h) e f = let there = prefix_get b a k y h f in cc
 
 -- ---- the offer
 
--- of comparable lists the shorter begins the longer
-pub record ShorterLaw : Type 0 where
-  pub shorter : (a b : List ℕ) → AreComparable a b → length a ≤ length b → IsPrefix a b
-
 -- Byte `k` of some output is offered to a console that is comparable with the output and has shown at least `k` bytes.
 pub record IsOffer (console all : List ℕ) (k b : ℕ) : Type 0 where
   pub compare : AreComparable console all
   pub shown : k ≤ length console
   pub byte : slice_get all k ≡ Some b
 
-module _ (laws : ShorterLaw) (console all : List ℕ) (k b : ℕ) (h : IsOffer console all k b) where
+module _ {console all : List ℕ} {k b : ℕ} (h : IsOffer console all k b) where
   -- the console with the byte begins that output
   fresh_prefix : k ≡ length console → IsPrefix (console ++ b ∷ []) all
   fresh_prefix e =
       push_prefix console all b
-      (laws.shorter console all h.compare (omega (arith, slice_get_within all k b h.byte, e)))
+      (shorter_comparable console all h.compare (omega (arith, slice_get_within all k b h.byte, e)))
       (subst (λ (n : ℕ). slice_get all n ≡ Some b) e h.byte)
 
   -- if the console shows more than `k` bytes, byte `k` is one of them
@@ -81,25 +91,16 @@ module _ (laws : ShorterLaw) (console all : List ℕ) (k b : ℕ) (h : IsOffer c
   -- it never comes too early
   pub no_gap : offer_answer console k ≢ Gap
   no_gap gap = elim (cases_eq k (length console)) [
-    | inl e ↦ fresh_is_no_gap (sym (answer_next e) ∙ gap)
-    | inr ne ↦ repeat_is_no_gap (sym (answer_again ne) ∙ gap)
+    | inl e ↦ let next = answer_next e in absurd cc
+    | inr ne ↦ let again = answer_again ne in absurd cc
   ]
-    where
-      fresh_is_no_gap : Fresh ≡ Gap → ⊥
-      fresh_is_no_gap e = absurd cc
-
-      repeat_is_no_gap : Repeat ≡ Gap → ⊥
-      repeat_is_no_gap e = absurd cc
 
   -- a byte that comes again is there
   pub repeat_is_same : offer_answer console k ≡ Repeat → slice_get console k ≡ Some b
   repeat_is_same again = elim (cases_eq k (length console)) [
-    | inl e ↦ fresh_is_no_repeat (sym (answer_next e) ∙ again)
+    | inl e ↦ let next = answer_next e in absurd cc
     | inr ne ↦ same_byte (omega (arith, h.shown))
   ]
-    where
-      fresh_is_no_repeat : Fresh ≡ Repeat → slice_get console k ≡ Some b
-      fresh_is_no_repeat e = absurd cc
 
   -- the console shows the byte after the offer
   pub shown_then : k + 1 ≤ length (offered console k b)

@@ -1,29 +1,25 @@
 -- The claims about a sound world, for the law `sound_worlds_agree`.
-use Rattle.std.proofs.Common.{◌≡◌, ◌≢◌, ◌∙◌, ℕ, List, [], Contains, Option, None, Some, option_map, inl, inr, refl, sym, ap, subst, arith, slice_get}
+use Rattle.std.proofs.Common.{◌≡◌, ◌≢◌, ◌∙◌, ℕ, List, Contains, Option, None, Some, option_map, inl, inr, refl, sym, ap, subst, slice_get}
 use Rattle.std.specs.FinMap.{get}
 use Rattle.pcode_machine.specs.Runs.{IsOutput, out}
 use Rattle.paxos_msg.specs.declared.value.Value.{Value}
-use Rattle.paxos_msg.specs.Batches.{Grew, IsFree, Record, Sent}
+use Rattle.paxos_msg.specs.Batches.{IsFree}
 use Rattle.paxos_msg.specs.Chosen.{IsChosen}
 use Rattle.paxos_msg.specs.Keys.{Key, keys_of}
 use Rattle.group_node.specs.declared.console.Offer.TheVariants.{Gap, Repeat}
 use Rattle.group_node.specs.Console.{offer_answer}
 use Rattle.group_node.specs.Inputs.{IsInput}
-use Rattle.group_node.specs.States.{input}
 use Rattle.group_node.specs.World.{Up}
 use Rattle.group_world.specs.Group.{IsUp, member_at, seat_of_member, up_of, World, world_state}
 use Rattle.group_world.specs.Member.{Member, Running}
 use Rattle.group_world.specs.Headline.{ConsolesAgree, ConsolesHoldOutput, HasLearned, HasNoGap, LearnedAgree, LearnedChosen}
 use Rattle.group_world.specs.Sound.{IsSound}
-use Rattle.group_world.proofs.LawfulCalls.{running}
+use Rattle.group_world.proofs.OrderWorlds.{ChoiceLaws}
+use Rattle.group_world.proofs.OrderLists.{none_in}
+use Rattle.group_world.proofs.WorldAsGroup.{running}
+use Rattle.pcode_machine.proofs.Prefixes.{prefix_refl}
 use Rattle.group_world.proofs.ReleasedBytes.{no_gap, repeat_is_same}
-use Rattle.group_world.proofs.OutputOnChosen.{PlayLaws, console_output, offer_fits, shorter_of}
-
--- what growth says of chosen values
-pub record ChosenLaws : Type 0 where
-  pub one : (size s : ℕ) (sent : Sent) (records : ℕ → Record) (v u : Value) → Grew size sent records
-      → IsChosen size sent s v → IsChosen size sent s u → v ≡ u
-  pub free : (size s : ℕ) (sent : Sent) (records : ℕ → Record) (v : Value) → Grew size sent records → IsChosen size sent s v → IsFree sent v
+use Rattle.group_world.proofs.OutputOnChosen.{PlayLaws, console_output, offer_fits}
 
 -- a node that its group sees as up
 pub record IsSeenUp (w : World) (i : ℕ) (u : Up) : Type 0 where
@@ -45,34 +41,31 @@ member_up w i u (Some m) there e =
 pub seen_up : (w : World) (i : ℕ) (u : Up) → ((world_state w).seats i).up ≡ Some u → IsSeenUp w i u
 seen_up w i u e = member_up w i u (member_at w.members i) refl e
 
-module _ (laws : ChosenLaws) (w : World) (h : IsSound w) where
+module _ (laws : ChoiceLaws) (w : World) (h : IsSound w) where
   -- what is learned is chosen
   learned_is_chosen : (i s : ℕ) (v : Value) → HasLearned (world_state w) i s v → IsChosen w.group.size (world_state w).sent s v
   learned_is_chosen i s v has =
       let seen = seen_up w i has.node has.up in
-      (running w h i seen.member seen.running seen.is_up).learned.chosen s v (ap (λ (u : Up). get u.learned s) seen.seen ∙ has.learned)
+      (running h seen.is_up).learned.chosen s v (ap (λ (u : Up). get u.learned s) seen.seen ∙ has.learned)
 
   typed_of : (v : Value) → IsFree (world_state w).sent v → (k : Key) → Contains (keys_of v) k → Contains (world_state w).typed k
-  typed_of v (inl noop) k among =
-      let none : Contains [] k = subst (λ (u : Value). Contains (keys_of u) k) noop among in
-      absurd (omega (arith, none.1))
+  typed_of v (inl noop) k among = absurd (none_in k (rw noop at among))
   typed_of v (inr said) k among = (h.submitted said.0 v said.1).known k among
 
   pub learned_agree : LearnedAgree (world_state w)
   learned_agree i j s v u has other =
-      laws.one w.group.size s (world_state w).sent (λ k. ((world_state w).seats k).kept) v u h.grew
-      (learned_is_chosen i s v has) (learned_is_chosen j s u other)
+      laws.one w.group.size s (world_state w).sent _ v u h.grew (learned_is_chosen i s v has) (learned_is_chosen j s u other)
 
   pub learned_chosen : LearnedChosen (world_state w)
   learned_chosen i s v has =
       let chosen = learned_is_chosen i s v has in
-      (chosen, typed_of v (laws.free w.group.size s (world_state w).sent (λ k. ((world_state w).seats k).kept) v h.grew chosen))
+      (chosen, typed_of v (laws.free w.group.size s (world_state w).sent _ v h.grew chosen))
 
 module _ (laws : PlayLaws) (w : World) (h : IsSound w) where
   seat_output : (i : ℕ) (o : Option Member) (x : List ℕ) → member_at w.members i ≡ o
       → IsInput w.group.size (world_state w).sent x → IsOutput w.program x (seat_of_member o).console
   seat_output i None x e chosen = (0, record { rest = out w.program x 0; whole = refl })
-  seat_output i (Some m) x e chosen = console_output laws w h i m x e chosen
+  seat_output i (Some m) x e chosen = console_output laws h i m x e chosen
 
   pub consoles_hold_output : ConsolesHoldOutput (world_state w)
   consoles_hold_output x i chosen = seat_output i (member_at w.members i) x refl chosen
@@ -80,8 +73,7 @@ module _ (laws : PlayLaws) (w : World) (h : IsSound w) where
   pub consoles_agree : ConsolesAgree (world_state w)
   consoles_agree i j =
       let (x, chosen) = laws.there w.group.size (world_state w).sent in
-      laws.compared w.program x x ((world_state w).seats i).console ((world_state w).seats j).console
-      (inl (laws.itself x)) (consoles_hold_output x i chosen) (consoles_hold_output x j chosen)
+      laws.compared w.program x x _ _ (inl (prefix_refl x)) (consoles_hold_output x i chosen) (consoles_hold_output x j chosen)
 
   -- the byte with number `k` comes next, or is there
   FitsNext : List ℕ → ℕ → ℕ → Type 0
@@ -91,16 +83,11 @@ module _ (laws : PlayLaws) (w : World) (h : IsSound w) where
   unfolding out FitsNext
   has_no_gap i byte node up e =
       let seen = seen_up w i node up in
-      let m = seen.member in
       let q = seen.running in
       let next : slice_get (up_of q).configuration.output (up_of q).released ≡ Some byte =
       ap (λ (u : Up). slice_get u.configuration.output u.released) seen.seen ∙ e in
-      let offer = offer_fits laws w h i m q seen.is_up.there seen.is_up.up byte next in
-      let console : ((world_state w).seats i).console ≡ m.console =
+      let offer = offer_fits laws h seen.is_up byte next in
+      let console : ((world_state w).seats i).console ≡ seen.member.console =
       ap (λ (o : Option Member). (seat_of_member o).console) seen.is_up.there in
-      let number : node.released ≡ q.progress.released = ap (λ (u : Up). u.released) (sym seen.seen) in
-      let fits : FitsNext m.console q.progress.released byte = (
-        no_gap (shorter_of laws) m.console (out q.progress.program (input q.known) q.progress.steps) q.progress.released byte offer,
-        repeat_is_same (shorter_of laws) m.console (out q.progress.program (input q.known) q.progress.steps) q.progress.released byte offer,
-      ) in
-      subst (λ (c : List ℕ). FitsNext c node.released byte) (sym console) (subst (λ (k : ℕ). FitsNext m.console k byte) (sym number) fits)
+      subst (λ (c : List ℕ). FitsNext c node.released byte) (sym console)
+      (subst (λ (u : Up). FitsNext seen.member.console u.released byte) seen.seen (no_gap offer, repeat_is_same offer))

@@ -1,11 +1,14 @@
 -- A world as a group, after one of its nodes has changed.
-use Rattle.std.proofs.Common.{◌≡◌, ◌≢◌, ◌∙◌, ℕ, zero, suc, ◌-◌, ◌<◌, ◌≤◌, Bool, if◌then◌else◌, All, List, [], ◌∷◌, ◌++◌, flat_map, length, slice_get, slice_set, Option, Some, Ok, inl, inr, refl, sym, ap, subst, arith}
+use Rattle.std.proofs.Common.{◌≡◌, ◌≢◌, ◌∙◌, ℕ, zero, suc, ◌-◌, ◌<◌, ◌≤◌, All, List, [], ◌∷◌, ◌++◌, flat_map, length, slice_get, slice_set, replicate, None, Some, Ok, inl, inr, refl, sym, ap, subst, arith}
 use Rattle.std.proofs.lemmas.Bool.{cases_eq, eq-eqb, ne_eqb}
 use Rattle.std.proofs.lemmas.Grind.{flat_map-append}
 use Rattle.std.proofs.lemmas.List.Elements.{All-cons, All-head, All-nil, All-tail, filter_map-append}
 use Rattle.std.specs.List.{cons_option}
 use Rattle.std.specs.Result.{result_ok}
-use Rattle.std.proofs.lemmas.Option.{slice_get_within}
+use Rattle.std.proofs.lemmas.List.{get_or-replicate, length-replicate}
+use Rattle.std.proofs.lemmas.Option.{get_or_from_slice_get, slice_get_within}
+use Rattle.pcode_file.specs.Parts.{Parts}
+use Rattle.paxos_msg.specs.Records.{empty_record}
 use Rattle.paxos_msg.specs.declared.message.Group.{Group}
 use Rattle.paxos_msg.specs.declared.value.Value.{Value}
 use Rattle.paxos_msg.specs.Batches.{Msg, Sent}
@@ -13,7 +16,7 @@ use Rattle.paxos_msg.specs.Fits.{IsBody, IsNode}
 use Rattle.paxos_msg.specs.Grammar.{IsGroup}
 use Rattle.paxos_msg.specs.Keys.{keys_of}
 use Rattle.paxos_msg.specs.Reading.{message_at}
-use Rattle.paxos_msg.specs.Spelling.{Msgs, spelling}
+use Rattle.paxos_msg.specs.Spelling.{Msgs}
 use Rattle.paxos_acceptor.specs.declared.me.Me.{Me}
 use Rattle.group_node.specs.Packets.{Packet, datagram_of, datagrams_of}
 use Rattle.group_node.specs.Ranges.{AllFit}
@@ -23,9 +26,9 @@ use Rattle.group_node.specs.States.{input}
 use Rattle.group_node.specs.Steps.{messages_handed_out}
 use Rattle.pcode_machine.specs.Runs.{after_steps}
 use Rattle.group_node.specs.World.{after_call, with_seat}
-use Rattle.group_world.specs.Group.{me_of, member_at, message_of, messages_in, seat_of_member, with_member, World, world_after_call, world_state}
-use Rattle.group_world.specs.Member.{Member, member_after_call}
-use Rattle.group_world.specs.Sound.{IsSpelling}
+use Rattle.group_world.specs.Group.{IsUp, me_of, member_at, message_of, messages_in, new_world, seat_of_member, with_member, World, world_after_call, world_state}
+use Rattle.group_world.specs.Member.{Member, member_after_call, Running}
+use Rattle.group_world.specs.Sound.{IsMemberSound, IsRunningSound, IsSound, IsSpelling}
 
 -- ---- lists with one element changed
 
@@ -75,9 +78,8 @@ pub each_changed : (members : List Member) (i : ℕ) (m new : Member) → member
     → member_at (slice_set members (i - 1) new) j ≡ Some x → P j x
 each_changed members i m new there P own others j x e = elim (cases_eq j i) [
   | inl same ↦
-      let here : member_at (slice_set members (i - 1) new) i ≡ Some x = ap (member_at (slice_set members (i - 1) new)) (sym same) ∙ e in
-      let is : new ≡ x = some_is new x (sym (changed_here members i m new there) ∙ here) in
-      subst (λ (k : ℕ). P k x) (sym same) (subst (P i) is own)
+      let here = rw same at e in
+      rw same (subst (P i) (some_is new x (sym (changed_here members i m new there) ∙ here)) own)
   | inr ne ↦ others j x ne (sym (changed_elsewhere members i j m new there ne) ∙ e)
 ]
 
@@ -85,32 +87,24 @@ each_changed members i m new there P own others j x e = elim (cases_eq j i) [
 pub seats_changed : (w : World) (i : ℕ) (m new : Member) → member_at w.members i ≡ Some m → (j : ℕ)
     → seat_of_member (member_at (slice_set w.members (i - 1) new) j) ≡ (with_seat (world_state w) i (seat_of_member (Some new))).seats j
 seats_changed w i m new e j = elim (cases_eq j i) [
-  | inl same ↦
-      ap (λ (k : ℕ). seat_of_member (member_at (slice_set w.members (i - 1) new) k)) same
-      ∙ ap seat_of_member (changed_here w.members i m new e)
-      ∙ sym (ap (λ (t : Bool). if t then seat_of_member (Some new) else seat_of_member (member_at w.members j)) (eq-eqb j i same))
-  | inr ne ↦
-      ap seat_of_member (changed_elsewhere w.members i j m new e ne)
-      ∙ sym (ap (λ (t : Bool). if t then seat_of_member (Some new) else seat_of_member (member_at w.members j)) (ne_eqb j i ne))
+  | inl same ↦ rw (eq-eqb j i same, same) (ap seat_of_member (changed_here w.members i m new e))
+  | inr ne ↦ rw (ne_eqb j i ne) (ap seat_of_member (changed_elsewhere w.members i j m new e ne))
 ]
 
 -- ---- what datagrams spell
 
 -- the spelling of a message is read as the message
-pub record ReadLaw : Type 0 where
-  pub again : (group : Group) (bytes : List ℕ) (m : Msg) → IsGroup group → Msgs group bytes m → message_at group bytes ≡ Ok m
+abbrev pub ReadLaw : Type 0
+ReadLaw = (group : Group) (bytes : List ℕ) (m : Msg) → IsGroup group → Msgs group bytes m → message_at group bytes ≡ Ok m
 
-module _ (laws : ReadLaw) (me : Me) (session : IsGroup me.group) (node : IsNode me.group.size me.node) where
+module _ (read : ReadLaw) (me : Me) (session : IsGroup me.group) (node : IsNode me.group.size me.node) where
   -- a node's packet
-  packet_read : (packet : Packet) → IsBody me.group.size me.node packet.body → IsSpelling me.group (datagram_of me packet)
+  packet_read : (packet : Packet) → IsBody me.group.size me.node packet.body → (s : IsSpelling me.group (datagram_of me packet))
+      × (s.message ≡ record { sender = me.node; body = packet.body })
   packet_read packet fits =
-      let message : Msg = record { sender = me.node; body = packet.body } in
-      let spells : Msgs me.group (spelling me.group message) message = record { fits = (node, fits); spelled = refl } in
-      record {
-        message = message;
-        spells = spells;
-        read = ap result_ok (laws.again me.group (spelling me.group message) message session spells);
-      }
+      let spells : Msgs me.group (datagram_of me packet).bytes (record { sender = me.node; body = packet.body }) =
+      record { fits = (node, fits); spelled = refl } in
+      (record { message = _; spells = spells; read = ap result_ok (read me.group _ _ session spells) }, refl)
 
   -- each of a call's packets spells a message
   pub packets_read : (packets : List Packet) → AllFit me packets → All (IsSpelling me.group) (datagrams_of me packets)
@@ -118,7 +112,7 @@ module _ (laws : ReadLaw) (me : Me) (session : IsGroup me.group) (node : IsNode 
   packets_read (packet ∷ more) fits =
       let P : Packet → Type 0 = λ packet. IsBody me.group.size me.node packet.body in
       All-cons (IsSpelling me.group) (datagram_of me packet) (datagrams_of me more)
-      (packet_read packet (All-head P packet more fits)) (packets_read more (All-tail P packet more fits))
+      (packet_read packet (All-head P packet more fits)).0 (packets_read more (All-tail P packet more fits))
 
   -- these are the messages that the node hands out
   pub packets_spell : (packets : List Packet) → AllFit me packets
@@ -126,13 +120,8 @@ module _ (laws : ReadLaw) (me : Me) (session : IsGroup me.group) (node : IsNode 
   packets_spell [] fits = refl
   packets_spell (packet ∷ more) fits =
       let P : Packet → Type 0 = λ packet. IsBody me.group.size me.node packet.body in
-      let message : Msg = record { sender = me.node; body = packet.body } in
-      let spells : Msgs me.group (spelling me.group message) message =
-      record { fits = (node, All-head P packet more fits); spelled = refl } in
-      let first : message_of me.group (datagram_of me packet) ≡ Some message =
-      ap result_ok (laws.again me.group (spelling me.group message) message session spells) in
-      ap (λ (o : Option Msg). cons_option o (messages_in me.group (datagrams_of me more))) first
-      ∙ ap (λ (sent : Sent). message ∷ sent) (packets_spell more (All-tail P packet more fits))
+      let first = packet_read packet (All-head P packet more fits) in
+      λ t. cons_option ((first.0.read ∙ ap Some first.1) t) (packets_spell more (All-tail P packet more fits) t)
 
 -- ---- the groups that events leave
 
@@ -150,10 +139,10 @@ member_state w i m new e = λ t. record {
 -- what was sent, with the packets of node `i`
 pub sent_called : ReadLaw → (w : World) (i : ℕ) (packets : List Packet) → IsGroup w.group → IsNode w.group.size i
     → AllFit (me_of w i) packets
-    → messages_in w.group (w.sent ++ datagrams_of (me_of w i) packets) ≡ messages_in w.group w.sent ++ messages_handed_out i packets
-sent_called laws w i packets session node fits =
+    → messages_in w.group (w.sent ++ datagrams_of (me_of w i) packets) ≡ (world_state w).sent ++ messages_handed_out i packets
+sent_called read w i packets session node fits =
     filter_map-append (message_of w.group) w.sent (datagrams_of (me_of w i) packets)
-    ∙ ap (λ (more : Sent). messages_in w.group w.sent ++ more) (packets_spell laws (me_of w i) session node packets fits)
+    ∙ ap (λ (more : Sent). (world_state w).sent ++ more) (packets_spell read (me_of w i) session node packets fits)
 
 -- a call was made
 pub called_state : ReadLaw
@@ -163,10 +152,37 @@ pub called_state : ReadLaw
     → world_state (world_after_call w i made m.console progress keys)
     ≡ after_call (world_state w) i made (flat_map keys_of keys)
     (after_steps progress.program (input made.node) progress.steps) progress.released m.console
-called_state laws w i m made progress keys e session node fits = λ t. record {
+called_state read w i m made progress keys e session node fits = λ t. record {
   program = w.program;
   size = w.group.size;
   seats = λ j. seats_changed w i m (member_after_call made m.console progress) e j t;
-  sent = sent_called laws w i made.sends session node fits t;
+  sent = sent_called read w i made.sends session node fits t;
   typed = flat_map-append keys_of w.typed keys t;
 }
+
+-- ---- what holds of a node of a sound world
+
+abbrev pub SoundAt : World → ℕ → Member → Type 0
+SoundAt w i m = IsMemberSound w.program (me_of w i) (world_state w).sent (world_state w).typed m
+
+abbrev pub RunsAt : World → ℕ → Member → Running → Type 0
+RunsAt w i m q = IsRunningSound w.program (me_of w i) (world_state w).sent (world_state w).typed m.kept m.console q
+
+-- a node that is up
+pub running : {w : World} {i : ℕ} {m : Member} {q : Running} → IsSound w → IsUp w i m q → RunsAt w i m q
+running {w} {i} {m} {q} h up = rw up.up at (h.members i m up.there).running
+
+-- a node of the world has a number of the group
+pub is_node : {w : World} {m : Member} (i : ℕ) → IsSound w → member_at w.members i ≡ Some m → IsNode w.group.size i
+is_node {w} {m} i h e =
+    let within = member_within w.members i m e in
+    (within.0, omega (arith, within.1, h.places))
+
+-- each node of the world before all events
+pub first_node : (p : Parts) (group : Group) (i : ℕ) (m : Member) → member_at (new_world p group).members i ≡ Some m
+    → record { kept = empty_record; console = []; node = None } ≡ m
+first_node p group zero m e = absurd (cc)
+first_node p group (suc k) m e =
+    let first : Member = record { kept = empty_record; console = []; node = None } in
+    let within : k < group.size = omega (arith, slice_get_within (replicate group.size first) k m e, length-replicate group.size first) in
+    sym (get_or-replicate group.size k first first within) ∙ get_or_from_slice_get (replicate group.size first) k m first e

@@ -54,6 +54,10 @@ pub record IsUp (w : World) (i : ℕ) (m : Member) (q : Running) : Type 0 where
   pub there : member_at w.members i ≡ Some m
   pub up : m.node ≡ Some q
 
+-- A world in which node `i` is up.
+abbrev pub HasUp : World → ℕ → Type 0
+HasUp w i = (m : Member) × (q : Running) × IsUp w i m q
+
 -- Node `i` is `m`, and is down.
 pub record IsDown (w : World) (i : ℕ) (m : Member) : Type 0 where
   pub there : member_at w.members i ≡ Some m

@@ -1,5 +1,5 @@
 -- One node of a group: its place, its calls, and how a call ends.
-use Rattle.std.specs.Prelude.{◌≡◌, ◌≢◌, ◌⊎◌, ℕ, ◌+◌, ◌==◌, nat_lt, Bool, if◌then◌else◌, false, List, [], ◌∷◌, length, Option, Some, None, Result, Ok, Err}
+use Rattle.std.specs.Prelude.{◌≡◌, ◌≢◌, ◌⊎◌, ℕ, ◌+◌, ◌==◌, nat_lt, Bool, if◌then◌else◌, false, List, [], ◌∷◌, length, Option, Some, None, Result, Ok, Err, IfErr}
 use Rattle.paxos_msg.specs.declared.limits.TheConstants.{LAST_ROUND, LAST_SERIAL, LAST_START, PLACES}
 use Rattle.paxos_msg.specs.declared.value.Value.{Value}
 use Rattle.paxos_msg.specs.Batches.{Change, Record}
@@ -20,6 +20,8 @@ use Rattle.group_node.specs.States.{NodeState, input}
 use Rattle.group_node.specs.Tick.{on_tick}
 use Rattle.group_world.specs.declared.event.Done.{Done}
 use Rattle.group_world.specs.declared.event.Done.TheVariants as done
+use Rattle.group_world.specs.declared.fault.WorldFault.{WorldFault}
+use Rattle.group_world.specs.declared.fault.WorldFault.TheVariants.{Memory}
 use Rattle.group_world.specs.declared.member.Ask.{Ask}
 use Rattle.group_world.specs.declared.member.Ask.TheVariants.{Campaign, Hear, Tick}
 use Rattle.group_world.specs.declared.member.Place.{Place}
@@ -38,6 +40,14 @@ pub record Member : Type 0 where
   pub kept : Record
   pub console : List ℕ
   pub node : Option Running
+
+-- A node of a group that is up.
+abbrev pub IsMemberUp : Member → Type 0
+IsMemberUp m = (q : Running) × (m.node ≡ Some q)
+
+-- A result that fails only if memory ran out.
+abbrev pub FailsByMemory : {T : Type 0} → Result T WorldFault → Type 0
+FailsByMemory result = IfErr result (λ e. e ≡ Memory)
 
 -- ---- its place, as the code keeps it
 

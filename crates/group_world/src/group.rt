@@ -1,12 +1,12 @@
 //! The nodes of a group, what was sent and what was typed. Each kind of event is one function.
-ghost use Rattle.std.specs.Prelude.{◌≡◌, ◌+◌, ◌-◌, ◌∷◌, ◌++◌, ◌<◌, ◌≤◌, [], Option, None, Some, length, vec_len, vec_capacity, option_map, replicate, IfErr, IfOk, Bool, Err, OnErr, OnOk};
+ghost use Rattle.std.specs.Prelude.{◌≡◌, ◌+◌, ◌-◌, ◌∷◌, ◌++◌, ◌<◌, ◌≤◌, [], Option, None, Some, length, vec_len, vec_capacity, option_map, replicate, IfOk, Bool, Err, OnErr, OnOk};
 ghost use Rattle.paxos_msg.specs.Records.{empty_record};
 ghost use Rattle.group_node.specs.declared.limits.TheConstants.{MOST_PACKETS};
 ghost use Rattle.group_world.specs.declared.event.Done.TheVariants.{Applied};
-ghost use Rattle.group_world.specs.Event.{Goes, Leaves, Performs};
-ghost use Rattle.group_world.specs.Group.{IsDown, IsUp, member_at, new_world};
-ghost use Rattle.group_world.specs.Member.{call_of_ask, IsOfMember, Running};
-ghost use Rattle.group_world.specs.Refusals.{IsRefused, refusal};
+ghost use Rattle.group_world.specs.Event.{Leaves, Performs};
+ghost use Rattle.group_world.specs.Group.{HasUp, IsDown, IsUp, member_at, new_world};
+ghost use Rattle.group_world.specs.Member.{call_of_ask, FailsByMemory, IsOfMember, Running};
+ghost use Rattle.group_world.specs.Refusals.{Applies, refusal};
 ghost use Rattle.group_world.specs.Sound.{IsSound};
 ghost use Rattle.group_world.specs.Member as state;
 
@@ -178,11 +178,11 @@ impl<'a> GroupState<'a> {
     /// Types `byte` at the node, which is up.
     fn press(&mut self, node: u8, byte: u8) -> Result<Done, WorldFault>
         requires sound { IsSound self.old }
-        requires up { (m : state.Member) × (q : Running) × IsUp self.old node m q }
+        requires up { HasUp self.old node }
         ensures acts { (plan : Option Bool)
             → IfOk result (λ d. Performs self.old plan (Act.Press node byte) d self.new) }
         ensures err { OnErr result (self.new ≡ self.old) }
-        ensures memory { IfErr result (λ e. e ≡ WorldFault.Memory) }
+        ensures memory { FailsByMemory result }
     {
         if self.typed.reserve(1).is_err() {
             return Err(WorldFault::Memory);
@@ -206,7 +206,7 @@ impl<'a> GroupState<'a> {
             → IfOk result (λ d. Leaves self.old node m q.progress plan
             (call_of_ask q.known ask.now) d self.new) }
         ensures err { OnErr result (self.new ≡ self.old) }
-        ensures memory { IfErr result (λ e. e ≡ WorldFault.Memory) }
+        ensures memory { FailsByMemory result }
     {
         if self.sent.reserve(MOST_PACKETS).is_err() {
             return Err(WorldFault::Memory);
@@ -220,11 +220,11 @@ impl<'a> GroupState<'a> {
     fn deliver(&mut self, message: usize, node: u8, plan: Option<bool>) -> Result<Done, WorldFault>
         requires sound { IsSound self.old }
         requires sent { message < length self.old.sent }
-        requires up { (m : state.Member) × (q : Running) × IsUp self.old node m q }
+        requires up { HasUp self.old node }
         ensures acts { IfOk result
             (λ d. Performs self.old plan (Act.Deliver message node) d self.new) }
         ensures err { OnErr result (self.new ≡ self.old) }
-        ensures memory { IfErr result (λ e. e ≡ WorldFault.Memory) }
+        ensures memory { FailsByMemory result }
     {
         if self.sent.reserve(MOST_PACKETS).is_err() {
             return Err(WorldFault::Memory);
@@ -244,7 +244,7 @@ impl<'a> GroupState<'a> {
 
     /// Runs the machine of the node, which is up, for at most `steps` steps.
     fn run(&mut self, node: u8, steps: u32)
-        requires up { (m : state.Member) × (q : Running) × IsUp self.old node m q }
+        requires up { HasUp self.old node }
         ensures acts { (plan : Option Bool)
             → Performs self.old plan (Act.Run node steps) Applied self.new }
     {
@@ -253,18 +253,18 @@ impl<'a> GroupState<'a> {
 
     /// Releases a byte of the node, which is up, to its console, if one waits.
     fn release(&mut self, node: u8) -> Result<Done, WorldFault>
-        requires up { (m : state.Member) × (q : Running) × IsUp self.old node m q }
+        requires up { HasUp self.old node }
         ensures acts { (plan : Option Bool)
             → IfOk result (λ d. Performs self.old plan (Act.Release node) d self.new) }
         ensures err { OnErr result (self.new ≡ self.old) }
-        ensures memory { IfErr result (λ e. e ≡ WorldFault.Memory) }
+        ensures memory { FailsByMemory result }
     {
         self.members[place(node)].release()
     }
 
     /// Takes the node down, which is up. Its record and its console stay.
     fn crash(&mut self, node: u8)
-        requires up { (m : state.Member) × (q : Running) × IsUp self.old node m q }
+        requires up { HasUp self.old node }
         ensures acts { (plan : Option Bool)
             → Performs self.old plan (Act.Crash node) Applied self.new }
     {
@@ -278,7 +278,7 @@ impl<'a> GroupState<'a> {
         requires down { (m : state.Member) × IsDown self.old node m }
         ensures acts { IfOk result (λ d. Performs self.old plan (Act.Start node) d self.new) }
         ensures err { OnErr result (self.new ≡ self.old) }
-        ensures memory { IfErr result (λ e. e ≡ WorldFault.Memory) }
+        ensures memory { FailsByMemory result }
     {
         let Ok(config) = Config::new(node, self.group.size, self.group.session) else {
             unreachable!()
@@ -290,10 +290,7 @@ impl<'a> GroupState<'a> {
     /// then nothing has changed.
     pub(crate) fn apply(&mut self, event: &Event) -> Result<Done, WorldFault>
         requires sound { IsSound self.old }
-        ensures goes { IfOk result (λ d. Goes self.old event.now d self.new) }
-        ensures taken { OnOk result (refusal self.old event.now.act ≡ None) }
-        ensures same { OnErr result (self.new ≡ self.old) }
-        ensures refused { IfErr result (λ e. IsRefused self.old event.now.act e) }
+        ensures { Applies self.old event.now result self.new }
     {
         if let Some(fault) = self.refusal(&event.act) {
             return Err(fault);

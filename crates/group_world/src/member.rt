@@ -6,7 +6,7 @@ ghost use Rattle.group_node.specs.Output.{no_progress, unreleased_of};
 ghost use Rattle.group_node.specs.States.{input};
 ghost use Rattle.group_world.specs.declared.event.Done.TheVariants.{Applied, Refused};
 ghost use Rattle.group_world.specs.declared.member.Place.TheVariants.{Down};
-ghost use Rattle.group_world.specs.Member.{call_of_ask, call_outcome, CallEnds, IsDone, IsOfMember, IsSettled, kept_of, call_of_press, member_after_release, Running, running, running_of, RunsMember, call_of_start, store_of};
+ghost use Rattle.group_world.specs.Member.{call_of_ask, call_outcome, CallEnds, FailsByMemory, IsDone, IsMemberUp, IsOfMember, IsSettled, kept_of, call_of_press, member_after_release, Running, running, running_of, RunsMember, call_of_start, store_of};
 
 use crate::event::Done;
 use crate::fault::WorldFault;
@@ -106,7 +106,7 @@ impl<'a> Place<'a> {
             → IsSettled self.new }
         ensures done { IfOk result (λ d. IsDone answer d) }
         ensures memory { OnErr result (answer ≡ Err NodeFault.Memory) }
-        ensures fault { IfErr result (λ e. e ≡ WorldFault.Memory) }
+        ensures fault { FailsByMemory result }
     {
         match answer {
             Ok(()) => Ok(Done::Applied),
@@ -200,7 +200,7 @@ impl<'a> Member<'a> {
             (call_outcome plan self.old.kept (call_of_start config self.old.kept))
             d self.new [] []) }
         ensures err { OnErr result (self.new ≡ self.old) }
-        ensures memory { IfErr result (λ e. e ≡ WorldFault.Memory) }
+        ensures memory { FailsByMemory result }
     {
         let mut store = self.place.taken(alloc).into_store();
         store.fail_next(plan);
@@ -228,7 +228,7 @@ impl<'a> Member<'a> {
     /// `SerialSpent`; then nothing has changed.
     #[tactic(none)]
     pub(crate) fn press(&mut self, byte: u8) -> Result<Value, NodeFault>
-        requires up { (q : Running) × (self.old.node ≡ Some q) }
+        requires up { IsMemberUp self.old }
         ensures ends { (q : Running) → self.old.node ≡ Some q → (plan : Option Bool)
             → MatchResult result
             (λ v. CallEnds q.known.me self.old q.progress
@@ -266,7 +266,7 @@ impl<'a> Member<'a> {
             (call_outcome plan self.old.kept (call_of_ask q.known ask.now))
             d self.new outbox.new.packets []) }
         ensures err { OnErr result ((self.new ≡ self.old) × (outbox.new.packets ≡ [])) }
-        ensures memory { IfErr result (λ e. e ≡ WorldFault.Memory) }
+        ensures memory { FailsByMemory result }
     {
         match &mut self.place {
             Place::Up(node) => {
@@ -293,7 +293,7 @@ impl<'a> Member<'a> {
     /// Runs the machine of the node, which is up, for at most `steps` steps.
     #[tactic(none)]
     pub(crate) fn run(&mut self, steps: u32)
-        requires up { (q : Running) × (self.old.node ≡ Some q) }
+        requires up { IsMemberUp self.old }
         ensures runs { (q : Running) → self.old.node ≡ Some q
             → RunsMember self.old q steps self.new }
     {
@@ -310,14 +310,14 @@ impl<'a> Member<'a> {
     /// if memory runs out; then nothing has changed.
     #[tactic(none)]
     pub(crate) fn release(&mut self) -> Result<Done, WorldFault>
-        requires up { (q : Running) × (self.old.node ≡ Some q) }
+        requires up { IsMemberUp self.old }
         ensures ok { (q : Running) → self.old.node ≡ Some q
             → OnOk result (self.new
             ≡ member_after_release self.old q
             (slice_get (unreleased_of (input q.known) q.progress) 0)) }
         ensures done { IfOk result (λ d. d ≡ Applied) }
         ensures err { OnErr result (self.new ≡ self.old) }
-        ensures memory { IfErr result (λ e. e ≡ WorldFault.Memory) }
+        ensures memory { FailsByMemory result }
     {
         if self.console.reserve().is_err() {
             return Err(WorldFault::Memory);

@@ -6,7 +6,7 @@ laws : goal.After-agreement → ChoiceLaws
 laws c = record { one = c.agreement.ensures.one_value; free = c.agreement.ensures.submitted }
 
 pub returns-clause-once : goal.returns-clause-once
-returns-clause-once c w sound h values front = (world_orderly (laws c) w sound h values front).once
+returns-clause-once c w sound h values front = (world_orderly (laws c) sound h values front).once
 
 pub returns-clause-order : goal.returns-clause-order
-returns-clause-order c w sound h values front = (world_orderly (laws c) w sound h values front).order
+returns-clause-order c w sound h values front = (world_orderly (laws c) sound h values front).order

@@ -14,12 +14,9 @@ use Rattle.paxos_acceptor.specs.declared.me.Me.{Me}
 use Rattle.group_node.specs.Packets.{Datagram, Packet, datagram_of, datagrams_of}
 use Rattle.group_world.specs.Sound.{IsSpelling}
 use Rattle.group_world.specs.Group.{message_of, messages_in}
+use Rattle.group_world.proofs.laws.order.events_keep_order.Answers.Laws.{Laws}
 use Rattle.group_world.proofs.OrderLists.{first_in, none_in, in_cases, of_map, rest_in}
 use Rattle.group_world.proofs.OrderPackets.{AreAsked, IsAsked}
-
--- The law of the crates below: no two messages share a spelling.
-pub record SpellingLaw : Type 0 where
-  pub one : (group : Group) (bytes : List ℕ) (m n : Msg) → IsGroup group → Msgs group bytes m → Msgs group bytes n → m ≡ n
 
 -- by the image of the first item
 of_cons : {X Y : Type 0} (f : X → Option Y) (x : X) (xs : List X) (y : Y) (o : Option Y) → f x ≡ o
@@ -55,7 +52,7 @@ spelled_asked : (group : Group) (i j : ℕ) (o : Option Value) (body : Body) (v 
     → (u : Value) × (o ≡ Some u) × (body ≡ Submit u)
 spelled_asked group i j o body v h e = kind_asked o body h (ap (λ (l : List ℕ). get_or l 3 0) e)
 
-module _ (law : SpellingLaw) (me : Me) (packets : List Packet) (o : Option Value) (session : IsGroup me.group) (asked : AreAsked o packets)
+module _ (laws : Laws) (me : Me) (packets : List Packet) (o : Option Value) (session : IsGroup me.group) (asked : AreAsked o packets)
     (spelled : (d : Datagram) → Contains (datagrams_of me packets) d → IsSpelling me.group d)
     (fits : (u : Value) → o ≡ Some u → Fits me.group (record { sender = me.node; body = Submit u })) where
   -- a datagram of a packet
@@ -79,7 +76,7 @@ module _ (law : SpellingLaw) (me : Me) (packets : List Packet) (o : Option Value
       } in
       let same : made.0 ≡ v =
       submitted (ap (λ (x : Msg). x.body)
-      (law.one group d.bytes (record { sender = me.node; body = Submit made.0 }) told session mine theirs)) in
+      (laws.one_message.ensures.one group d.bytes (record { sender = me.node; body = Submit made.0 }) told session mine theirs)) in
       made.1 ∙ ap (λ (u : Value). Some u) same
     where
       opened : {a b : Msg} → Some a ≡ Some b → a ≡ b

@@ -1,6 +1,6 @@
 -- What the calls of a node leave of its start, its serials, the keys that wait and what it has learned, and which Submits
 -- they send.
-use Rattle.std.proofs.Common.{◌≡◌, ◌∙◌, ℕ, suc, ◌+◌, ◌≤◌, ◌&&◌, not, Bool, true, false, List, [], ◌∷◌, ◌++◌, length, Option, Some, None, All, Contains, if◌then◌else◌, refl, sym, ap, arith}
+use Rattle.std.proofs.Common.{◌≡◌, ◌∙◌, ℕ, suc, ◌+◌, ◌≤◌, ◌&&◌, not, Bool, true, false, List, [], ◌∷◌, ◌++◌, length, Option, Some, None, Contains, if◌then◌else◌, refl, sym, ap, arith}
 use Rattle.std.proofs.lemmas.List.{length-drop}
 use Rattle.paxos_msg.specs.declared.ballot.Ballot.{Ballot}
 use Rattle.paxos_msg.specs.declared.message.Body.TheVariants.{Accept, Accepted, Ask, Prepare, Promise, Refused, Submit, Tell}
@@ -12,7 +12,7 @@ use Rattle.paxos_msg.specs.Tests.{same_ballot}
 use Rattle.paxos_acceptor.specs.Answers.{accept_of, accepted, after, Answer, prepare_of, prepared, voted}
 use Rattle.paxos_acceptor.specs.Cases.{greater_promise, is_promised, value_under}
 use Rattle.paxos_proposer.specs.Proposer.{proposer_after_part, asks_on, is_covered, next_of, Proposer}
-use Rattle.paxos_learner.specs.Learner.{HasLearnedMore, Learner, heard_accepted, heard_tell}
+use Rattle.paxos_learner.specs.Learner.{HasLearnedMore}
 use Rattle.paxos_learner.specs.Input.{front_values, has_key, keys_in_order}
 use Rattle.paxos_msg.specs.Messages.{kept_vote_at}
 use Rattle.group_node.specs.declared.packet.To.{To}
@@ -25,17 +25,8 @@ use Rattle.group_node.specs.WaitingKeys.{count_read, count_gone, without_read}
 use Rattle.group_node.specs.Pump.{accepts_of, pump}
 use Rattle.group_world.specs.Ordered.{IsFirstUnread}
 use Rattle.group_world.proofs.OrderPackets.{accepts_asked, again_asked, AreAsked, asks_asked, both_asked, IsAsked, none_asked, one_asked, prepare_asked, prepares_asked, tells_asked}
+use Rattle.group_world.proofs.laws.order.events_keep_order.Answers.Laws.{Laws}
 use Rattle.group_world.proofs.OrderRows.{IsParted}
-
--- The laws of the crates below: what was learned stays learned, and which keys leave after a message.
-pub record NodeLaws : Type 0 where
-  pub accepted : (l : Learner) (i s : ℕ) (b : Ballot) (v : Value) → HasLearnedMore l.learned (heard_accepted l i b s v).learner.learned
-  pub told : (l : Learner) (s : ℕ) (v : Value) → HasLearnedMore l.learned (heard_tell l s v).learner.learned
-  pub gone : (n : Known)
-      → (count_gone : List Key) × (waiting_keys n ≡ count_gone ++ waiting_keys (without_read n))
-      × All (λ k. Contains (keys_in_order (front_values n.learner.learned)) k) count_gone
-  pub first : (n : Known) (k : Key) (ks : List Key) → waiting_keys (without_read n) ≡ k ∷ ks
-      → ¬ Contains (keys_in_order (front_values n.learner.learned)) k
 
 -- the keys below the front
 abbrev pub read_of : Known → List Key
@@ -138,7 +129,7 @@ submit_stays n (Some p) v = submit_if n p v (is_covered p (next_of p) && not (ar
 
 -- ---- messages
 
-row_stays : NodeLaws → (n : Known) (j : ℕ) (body : Body) → Stays n None (row n j body)
+row_stays : Laws → (n : Known) (j : ℕ) (body : Body) → Stays n None (row n j body)
 row_stays laws n j (Prepare b from) =
     answering_stays n _ (prepare_of n.kept b from) (prepared_plain (greater_promise n.kept.promised b) n.kept b from)
 row_stays laws n j (Promise b first upto votes) = promise_stays n n.proposer j first upto b votes
@@ -149,7 +140,7 @@ row_stays laws n j (Accepted b s v) =
       starts = refl;
       next = refl;
       waiting = refl;
-      learns = laws.accepted n.learner j s b v;
+      learns = laws.learned_stays.ensures.accepted n.learner j s b v;
       asked = none_asked None;
     }
 row_stays laws n j (Refused b promised) =
@@ -164,7 +155,7 @@ row_stays laws n j (Ask from) =
       asked = tells_asked None n.learner.learned j _;
     }
 row_stays laws n j (Tell s v) =
-    record { starts = refl; next = refl; waiting = refl; learns = laws.told n.learner s v; asked = none_asked None }
+    record { starts = refl; next = refl; waiting = refl; learns = laws.learned_stays.ensures.told n.learner s v; asked = none_asked None }
 
 -- no more keys leave than wait
 count_by : (read ks : List Key) (t : Bool) → count_read read ks ≤ length ks → (if t then suc (count_read read ks) else 0) ≤ suc (length ks)
@@ -194,11 +185,11 @@ first_by : (read keys : List Key) → ((k : Key) (ks : List Key) → keys ≡ k 
 first_by read [] h = tt
 first_by read (k ∷ ks) h = h k ks refl
 
-pub message_goes : NodeLaws → (n : Known) (j : ℕ) (body : Body) → Goes n None (on_message n j body)
+pub message_goes : Laws → (n : Known) (j : ℕ) (body : Body) → Goes n None (on_message n j body)
 message_goes laws n j body =
     let stays = row_stays laws n j body in
     let at : Known = (row n j body).node in
-    let parts = laws.gone at in
+    let parts = laws.waiting_keys_are_a_row.ensures.gone at in
     record {
       starts = stays.starts;
       next = gone_next at ∙ stays.next;
@@ -208,7 +199,7 @@ message_goes laws n j body =
             gone = parts.0;
             parts = sym stays.waiting ∙ parts.1;
             below = parts.2;
-            first = first_by (read_of at) (waiting_keys (without_read at)) (laws.first at);
+            first = first_by (read_of at) (waiting_keys (without_read at)) (laws.waiting_keys_are_a_row.ensures.first at);
           };
       asked = stays.asked;
     }
