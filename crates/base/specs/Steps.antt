@@ -2,7 +2,7 @@
 use Rattle.std.specs.Prelude.{Bool, Result, Ok, Err, if◌then◌else◌}
 
 infixl 10 ◌>>=◌
--- The result of two steps: the first one's fault, or what the second makes of its value.
+-- The result of two steps: the first one's fault, or the result of the second on its value.
 abbrev pub ◌>>=◌ : {A B E : Type 0} → Result A E → (A → Result B E) → Result B E
 (Ok x) >>= f = f x
 (Err e) >>= f = Err e

@@ -10,7 +10,7 @@ pub record HasReadAll (from to : Option (List ℕ)) (bytes : List ℕ) : Type 0 
   pub short : length bytes ≤ LONGEST_FILE
 
 -- A refusal to read on, after a front of the bytes that a reader had left.
--- Forbids: want of memory, if the front is empty.
+-- Forbids: `Memory` after an empty front.
 abbrev pub HasReadFront : {E : Type 0} → Option (List ℕ) → Option (List ℕ) → E → E → Type 0
 HasReadFront from to memory e =
     (front : List ℕ) × Consumes from to front × (e ≡ memory → 0 < length front)

@@ -27,7 +27,7 @@ rise (x ∷ xs) (suc i) (suc j) d h le k = rise xs i j d h.1 (omega arith) (omeg
 pub places_rise : (votes : List Vote) → (d : Vote) → IsAscending votes → IsNonDecreasingBy (λ vote. vote.place) votes
 places_rise votes d h = IsNonDecreasingBy-from_default (λ vote. vote.place) votes d (λ i j le k. rise votes i j d h le k)
 
--- votes of which no one is below a place are all at or above it
+-- votes with none below a place are all at or above it
 all_from : (votes : List Vote) (from : ℕ) → ((j : ℕ) (d : Vote) → j < length votes → from ≤ (get_or votes j d).place)
     → votes_from from votes ≡ votes
 all_from [] from h = refl

@@ -87,7 +87,7 @@ abbrev pub folded : Record → List Change → Record
 folded r [] = r
 folded r (c ∷ cs) = folded (changed r c) cs
 
--- Changes, each of which can be the next entry in that version.
+-- Changes that can each be the next entry in that version.
 abbrev pub AreEntries : Version → ℕ → Record → List Change → Type 0
 AreEntries version size r [] = Unit {0}
 AreEntries version size r (c ∷ cs) =

@@ -1,6 +1,6 @@
 //! The acceptor of a node: its promises and votes, over a store that outlives it.
 //!
-//! For who writes a node over a network and a disk of their own. Open first: `Acceptor::open(alloc,
+//! For who writes a node over another network and disk. Open first: `Acceptor::open(alloc,
 //! store, me)?` loads the record of the store, a `FileStore`, a `MemoryStore` or a `Store` of your
 //! own. A refusal gives the store back. `new_start` counts the start, and is called once after each
 //! open. Then `prepare(ballot, from)?` and `accept(ballot, place, value)?` return the body of the

@@ -9,7 +9,7 @@ use Rattle.paxos_learner.specs.Learner.{AreInWindow}
 use Rattle.paxos_learner.specs.Input.{StandsIn, keys_in_order, values_below}
 use Rattle.paxos_msg.specs.declared.limits.TheConstants.{MOST_CHARACTERS, MOST_NODES, PLACES}
 
--- The input has the keys of the places so far, all of which are learned. There is room for each
+-- The input has the keys of the places so far, which are all learned. There is room for each
 -- learned place, and for 32 keys at each place up to it.
 pub record IsInputOf (learned : FinMap nat_cmp Value) (e : Entered) : Type 0 where
   pub below : (s : ℕ) → s < length e.ends → IsTrue (is_some (get learned s))

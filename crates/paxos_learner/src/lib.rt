@@ -1,6 +1,6 @@
 //! The learner of a node: the chosen value of each place, and the input that the learned keys make.
 //!
-//! For who writes a node over a network of their own. Make it first: `Learner::new(alloc, size)`
+//! For who writes a node over another network. Make it first: `Learner::new(alloc, size)`
 //! for a group of `size` nodes. Then `on_accepted(sender, ballot, place, value)?` hears an
 //! Accepted, and `on_tell(place, value)?` a Tell. Each says if the place is now learned. After
 //! `known_front()` has risen from `place`, `input_after(place)` gives the bytes that the places

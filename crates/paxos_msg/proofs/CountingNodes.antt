@@ -1,4 +1,4 @@
--- Counting the nodes of which something holds, one after another.
+-- Counting the nodes for which something holds, one after another.
 use Rattle.std.proofs.Common.{◌≡◌, ◌≢◌, ◌∙◌, ℕ, zero, suc, ◌+◌, ◌<◌, ◌≤◌, ◌==◌, Bool, true, false, IsTrue, inl, inr, if◌then◌else◌, add-one, refl, sym, arith}
 use Rattle.std.proofs.lemmas.Bool.{cases_eq, eq-eqb, ne_eqb}
 use Rattle.paxos_msg.specs.Ballots.{count_of}

@@ -6,7 +6,7 @@ use Rattle.paxos_msg.specs.declared.view.BodyView.{BodyView}
 use Rattle.paxos_msg.specs.declared.view.BodyView.TheVariants as body
 use Rattle.paxos_msg.specs.declared.fault.WireFault.{WireFault}
 
--- The body that a body in a datagram stands for.
+-- The body that a body in a datagram spells.
 abbrev pub said : BodyView → Body
 said (body.Prepare b from) = Prepare b from
 said (body.Promise b first upto votes) = Promise b first upto votes

@@ -50,7 +50,7 @@ fn fits_value(size: u8, value: Value) -> bool
     }
 }
 
-/// Returns true if `value` has keys, all of which were typed at `node`.
+/// Returns true if `value` has keys, and all were typed at `node`.
 fn are_own_keys(node: u8, value: Value) -> bool
     ensures { IsTrue result ↔ AreOwnKeys batches node value }
 {

@@ -1,6 +1,6 @@
 //! The proposer of a node under one ballot: its proposals, from the promises of the acceptors.
 //!
-//! For who writes a node over a network of their own. Begin first: `next_ballot(promised, seen,
+//! For who writes a node over another network. Begin first: `next_ballot(promised, seen,
 //! node)?` gives the ballot, and `Proposer::begin(alloc, ballot, from, size)` a proposer for the
 //! places from `from` on. Send a Prepare. Then `on_promise(sender, &view)?` hears each part of a
 //! promise, and returns the place from which to ask that acceptor for more. `next_accept(offered)?`

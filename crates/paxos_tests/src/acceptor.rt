@@ -76,7 +76,7 @@ fn is_accepted(answer: &Result<Body, AcceptorFault>) -> bool {
 
 /// Shows Acceptor::open (loaded, open), Acceptor::prepare (answer, follows), Acceptor::accept
 /// (answer, follows), MemoryStore::new, Votes::new, Votes::as_slice: a promise for 65 votes from
-/// place 0 on has nine parts, of which three are asked for.
+/// place 0 on has nine parts; three of them are asked for.
 #[test]
 fn promise_bytes_and_parts(rt: HostRuntime) -> Result<(), Fail> {
     let record = with_votes(rt.alloc())?;

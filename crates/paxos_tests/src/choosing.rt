@@ -81,7 +81,7 @@ fn a_node_counts_once(rt: HostRuntime) -> Result<(), Fail> {
 /// Shows choosing::is_chosen: what is accepted under two ballots is not added up.
 #[test]
 fn ballots_are_not_added(rt: HostRuntime) -> Result<(), Fail> {
-    // Node 1 begins a second ballot of its own, and nobody accepts under either.
+    // Node 1 begins a second own ballot, and nobody accepts under either.
     let mut sent = Vec::new(rt.alloc());
     for round in 1..=2u32 {
         sent.push(Msg {

@@ -17,7 +17,7 @@ use std::marker::Model;
 pub struct Frames {
     /// The frames below the current one; empty if there is no current one.
     below: Vec<Frame>,
-    /// The current frame. It has a field of its own, since an interpreter reads it before each
+    /// The current frame. It has its own field, since an interpreter reads it before each
     /// instruction: here that is a few loads from the struct itself, and none from the heap.
     current: Option<Frame>,
 }

@@ -97,7 +97,7 @@ wait_is p x c h = let P : Option Frame → Type 0 =
 
 -- ---- what the function gives meets the relations
 
--- what comes of a configuration in a frame, as the relations say it
+-- the outcome of a configuration in a frame, as the relations say it
 abbrev Meets : Parts → List ℕ → Configuration → Frame → Option Transfer → Outcome → Type 0
 Meets p x c f o (Goes d) = Acts p x c f o d
 Meets p x c f o (Stops e) = StopsIn p c f o e

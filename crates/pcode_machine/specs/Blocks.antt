@@ -57,7 +57,7 @@ block_stored_at (Some pointer) n j s =
 abbrev pub block_stored : ℕ → ℕ → State → Result State Stop
 block_stored n j s = block_stored_at (slice_get s.stack n) n j s
 
--- The facts of live words of which `n` from a word address on are this block, and all others are as
+-- The facts of live words: the `n` from a word address on are this block, and all others are as
 -- before.
 pub record HasBlock (old new : List ℕ) (word n : ℕ) (block : ℕ → Option ℕ) : Type 0 where
   pub inside : (k : ℕ) → k < n → live_word_at new (word + k) ≡ block k

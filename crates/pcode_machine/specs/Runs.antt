@@ -9,7 +9,7 @@ pub record IsPrefix {X : Type 0} (a b : List X) : Type 0 where
   pub rest : List X
   pub whole : b ≡ a ++ rest
 
--- The lists of which one begins with the other.
+-- Two lists: one begins with the other.
 abbrev pub AreComparable : {X : Type 0} → List X → List X → Type 0
 AreComparable a b = IsPrefix a b ⊎ IsPrefix b a
 

@@ -17,7 +17,7 @@ pub enum Change {
     Negation,
     Square,
     Complement,
-    /// A pointer that many words further on.
+    /// A pointer, moved on by this number of words.
     Behind(u16),
 }
 
@@ -35,7 +35,7 @@ pub enum Operation {
     Compare(Comparison),
     /// A comparison of low bits.
     CompareBits(Comparison),
-    /// The pointer to an element, each of that many words.
+    /// The pointer to an element. Each element has this number of words.
     Element(u16),
 }
 

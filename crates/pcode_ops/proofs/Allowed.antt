@@ -15,7 +15,7 @@ use Rattle.pcode_ops.proofs.Looking.{IsLooked, owner_is, looked_is, fine_leads}
 use Rattle.pcode_ops.proofs.LongerCode.{decoded_longer}
 use Rattle.pcode_ops.proofs.Procedures.{is_inside}
 
--- ---- where the checks of an offset let an instruction stand
+-- ---- where the checks of an offset allow an instruction
 
 -- an offset in the part of an owner has that owner
 same_owner : (p : Parts) (i k : ℕ) (q : Proc) → AreProcs p.segment p.procs → owner p.procs i ≡ Ok q → is_in q k ≡ true

@@ -15,7 +15,7 @@ use Rattle.pcode_ops.proofs.Rows.{row_is}
 
 -- ---- operands
 
--- what `big_at` makes of the byte at i and the one after it
+-- the value of `big_at` at the byte at i and the one after it
 abbrev big_from : ℕ → ℕ → Option ℕ → Result (ℕ × ℕ) OpFault
 big_from i b second = cond (ltb b 128) (Ok (b, i + 1)) (or_cut second >>= λ low. Ok ((b - 128) * 256 + low, i + 2))
 

@@ -25,7 +25,7 @@ pub record MayStand (p : Parts) (q : Proc) (instr : Instr) (next : ℕ) : Type 0
   pub found : onward p.segment q instr next ≡ Ok leads
   pub reached : (k : ℕ) → LeadsTo p.segment leads k → Reach p k × (owner p.procs k ≡ Ok q)
 
--- The files of which no reached offset is faulty.
+-- The files without a faulty reached offset.
 abbrev pub IsLoadable : Parts → Type 0
 IsLoadable p = (i : ℕ) → Reach p i → IsFine p i
 
