@@ -2,7 +2,7 @@
 ghost use Rattle.std.specs.Prelude.{◌≡◌, ◌<◌, ◌≤◌, length, IfOk};
 
 use super::acceptor::{FIRST, ME, opened};
-use super::records::{BYTES, BYTES_V1, is_of_bytes};
+use super::records::{BYTES, BYTES_V1, check_others, is_of_bytes};
 use paxos_acceptor::{Acceptor, AcceptorFault, FileStore, StoreFault, log_decode};
 use paxos_msg::{Characters, Record, Value};
 use std::alloc::Global;
@@ -144,45 +144,13 @@ const OTHERS: [u32; 38] = [
     255, 255, 255, 254, 255, 255, 255, 254, 31, 255,
 ];
 
-/// Returns true if the bytes are another log. Otherwise they have to be none.
-fn are_another(rt: &impl Abort, alloc: Global, bytes: &[u8]) -> bool {
-    match log_decode(alloc, bytes, ME) {
-        Ok((record, _)) => {
-            assert!(rt; !is_of_bytes(&record));
-            true
-        }
-        Err(fault) => {
-            assert_eq!(rt; fault, StoreFault::Bad);
-            false
-        }
-    }
-}
-
-/// Returns how many other values of that byte give another record.
-fn others_at(rt: &impl Abort, alloc: Global, index: usize) -> u32
-    requires { index < 38 }
-{
-    let mut others: u32 = 0;
-    for change in 0..255 {
-        let mut bytes = LOG;
-        bytes[index] ^= change + 1;
-        if are_another(rt, alloc, bytes.as_slice()) {
-            others = others.saturating_add(1);
-        }
-    }
-    others
-}
-
 /// Shows log_decode (found, bad): a log with one byte changed has another record, or is bad.
 #[test]
 fn damaged_logs(rt: HostRuntime) -> Result<(), Fail> {
-    for index in 0..LOG.len() {
-        assert_eq!(rt;
-            others_at(&rt, rt.alloc(), index),
-            OTHERS[index],
-            "at {index}"
-        );
-    }
+    check_others(&rt, LOG, OTHERS, |bytes: &[u8]| {
+        let (record, _) = log_decode(rt.alloc(), bytes, ME)?;
+        Ok(record)
+    });
     Ok(())
 }
 

@@ -103,9 +103,9 @@ const OTHERS: [u32; 42] = [
     255, 0, 0, 0, 0, 0, 0, 2, 255, 255, 255, 254, 255, 255, 255, 254, 255,
 ];
 
-/// Returns true if the bytes are another record of version 1. Otherwise they have to be none.
-fn are_another(rt: &impl Abort, alloc: Global, bytes: &[u8]) -> bool {
-    match record_migrate(alloc, bytes, ME) {
+/// Returns true if another record was read. Otherwise the bytes have to be none.
+fn is_another(rt: &impl Abort, read: Result<Record, StoreFault>) -> bool {
+    match read {
         Ok(record) => {
             assert!(rt; !is_of_bytes(&record));
             true
@@ -117,19 +117,43 @@ fn are_another(rt: &impl Abort, alloc: Global, bytes: &[u8]) -> bool {
     }
 }
 
-/// Returns how many other values of that byte give another record.
-fn others_at(rt: &impl Abort, alloc: Global, index: usize) -> u32
-    requires { index < 42 }
+/// Returns how many other values of that byte `read` reads as another record.
+fn others_at<const N: usize, F: Fn(&[u8]) -> Result<Record, StoreFault>>(
+    rt: &impl Abort,
+    whole: [u8; N],
+    index: usize,
+    read: &F,
+) -> u32
+    requires index { index < N }
+    requires read { F.IsAlwaysCallable read.now }
 {
     let mut others: u32 = 0;
     for change in 0..255 {
-        let mut bytes = BYTES_V1;
+        let mut bytes = whole;
         bytes[index] ^= change + 1;
-        if are_another(rt, alloc, bytes.as_slice()) {
+        if is_another(rt, read(bytes.as_slice())) {
             others = others.saturating_add(1);
         }
     }
     others
+}
+
+/// Checks of each byte how many of its 255 other values `read` reads as another record.
+pub fn check_others<const N: usize, F: Fn(&[u8]) -> Result<Record, StoreFault>>(
+    rt: &impl Abort,
+    whole: [u8; N],
+    others: [u32; N],
+    read: F,
+)
+    requires { F.IsAlwaysCallable read }
+{
+    for index in 0..N {
+        assert_eq!(rt;
+            others_at(rt, whole, index, &read),
+            others[index],
+            "at {index}"
+        );
+    }
 }
 
 /// Shows record_migrate (found, bad): a record of version 1 that was cut is none, and with one byte
@@ -140,12 +164,8 @@ fn damaged_record_of_version_1(rt: HostRuntime) -> Result<(), Fail> {
         let cut = record_migrate(rt.alloc(), &BYTES_V1[..length], ME).err();
         assert_eq!(rt; cut, Some(StoreFault::Bad), "of {length} bytes");
     }
-    for index in 0..BYTES_V1.len() {
-        assert_eq!(rt;
-            others_at(&rt, rt.alloc(), index),
-            OTHERS[index],
-            "at {index}"
-        );
-    }
+    check_others(&rt, BYTES_V1, OTHERS, |bytes: &[u8]| {
+        record_migrate(rt.alloc(), bytes, ME)
+    });
     Ok(())
 }
