@@ -41,4 +41,5 @@ pub returns-clause-err : goal.returns-clause-err
 returns-clause-err c =
     let lends = lent_is c.args.node c.self.view_is c.requires.up.2.there c.place.ensures c.index_mut.ensures.value in
     on_err_weaker c.ask-done.result
-    (λ same. unchanged c.self.view_is lends (rw c.reserve.ensures.items at c.collect.ensures.sent) refl same.0 same.1) c.ask-done.ensures.err
+    (λ same. unchanged c.self.view_is lends (rw c.reserve.ensures.items at c.collect.ensures.sent) refl same.0 same.1)
+    c.ask-done.ensures.err
