@@ -68,7 +68,8 @@ taken old before (Err f) P is_open empty let_in (inr (inr h)) = h
 works_on : {old new : NodeState StoreState} {made : Response} {now : List Datagram} (answer : Answer) → Said old new made now answer
     → IsOpen old → ¬ IsErrOf answer fault.Store → new.protocol.is_stopped ≡ false
 works_on {old} {new} answer said is_open fine =
-    false_from_ne_true new.protocol.is_stopped (λ stops. neither (said.does.stops.0 stops) (both_ways old.protocol.is_stopped is_open.works) fine)
+    false_from_ne_true new.protocol.is_stopped
+    (λ stops. neither (said.does.stops.0 stops) (both_ways old.protocol.is_stopped is_open.works) fine)
 
 -- the fault of a refusal is this one
 pub is_fault : {T : Type 0} {f g : NodeFault} → IsErrOf {T = T} (Err f) g → f ≡ g
