@@ -1,6 +1,6 @@
 -- How a call of a node that may send ends, by the contract of the node's call.
-use Rattle.std.proofs.Common.{◌≡◌, ◌≢◌, ◌⊎◌, ◌∙◌, ◌<◌, ◌==◌, ℕ, Bool, true, false, if◌then◌else◌, List, [], Option, None, Some, Result, Ok, Err, IfErr, IfOk, IsErrOf, OnErr, OnOk, length, inl, inr, refl, sym, ap, subst, arith}
-use Rattle.std.proofs.lemmas.Bool.{eqb-true, lt-ltb}
+use Rattle.std.proofs.Common.{◌≡◌, ◌≢◌, ◌⊎◌, ◌∙◌, ◌<◌, ◌==◌, ℕ, Bool, false, if◌then◌else◌, List, [], Option, None, Some, Result, Ok, Err, IfErr, IfOk, IsErrOf, OnErr, OnOk, length, inl, inr, refl, sym, ap, subst, arith}
+use Rattle.std.proofs.lemmas.Bool.{both_ways, eqb-true, false_from_ne_true, lt-ltb}
 use Rattle.std.proofs.lemmas.Result.{IfOk-weaker, on_err_weaker}
 use Rattle.paxos_msg.specs.Batches.{Change, Msg, Record}
 use Rattle.paxos_msg.specs.Fits.{Fits}
@@ -54,21 +54,13 @@ neither : {P Q : Type 0} → P ⊎ Q → ¬ P → ¬ Q → ⊥
 neither (inl p) not_p not_q = not_p p
 neither (inr q) not_p not_q = not_q q
 
-pub is_false : (b : Bool) → ¬ (b ≡ true) → b ≡ false
-is_false true not = absurd (not refl)
-is_false false not = refl
-
-pub is_not_true : (b : Bool) → b ≡ false → ¬ (b ≡ true)
-is_not_true true f t = absurd cc
-is_not_true false f t = absurd cc
-
 -- a call of an open node with an empty outbox is not refused as `Stopped` or `OutboxFull`
 taken : (old : NodeState StoreState) (before : List Datagram) (answer : Answer) (P : NodeFault → Type 0)
     → IsOpen old → before ≡ [] → IsLetIn old.protocol before answer
     → IfErr answer (λ f. (f ≡ fault.Stopped) ⊎ (f ≡ fault.OutboxFull) ⊎ P f) → IfErr answer P
 taken old before (Ok x) P is_open empty let_in others = tt
 taken old before (Err f) P is_open empty let_in (inl stopped) =
-    absurd (is_not_true old.protocol.is_stopped is_open.works (let_in.stopped.0 (ap Err stopped)))
+    absurd (both_ways old.protocol.is_stopped is_open.works (let_in.stopped.0 (ap Err stopped)))
 taken old before (Err f) P is_open empty let_in (inr (inl full)) = absurd (omega (arith, (let_in.full.0 (ap Err full)).1, ap length empty))
 taken old before (Err f) P is_open empty let_in (inr (inr h)) = h
 
@@ -76,7 +68,8 @@ taken old before (Err f) P is_open empty let_in (inr (inr h)) = h
 works_on : {old new : NodeState StoreState} {made : Response} {now : List Datagram} (answer : Answer) → Said old new made now answer
     → IsOpen old → ¬ IsErrOf answer fault.Store → new.protocol.is_stopped ≡ false
 works_on {old} {new} answer said is_open fine =
-    is_false new.protocol.is_stopped (λ stops. neither (said.does.stops.0 stops) (is_not_true old.protocol.is_stopped is_open.works) fine)
+    false_from_ne_true new.protocol.is_stopped
+    (λ stops. neither (said.does.stops.0 stops) (both_ways old.protocol.is_stopped is_open.works) fine)
 
 -- the fault of a refusal is this one
 pub is_fault : {T : Type 0} {f g : NodeFault} → IsErrOf {T = T} (Err f) g → f ≡ g
@@ -95,18 +88,15 @@ told (Some c) None old next left some h = absurd h
 told (Some c) (Some is_kept) old next left some h = (is_kept, refl, h)
 
 -- a node whose save did not fail is open
-module _ (old new : NodeState StoreState) (made : Response) (now : List Datagram) (is_open : IsOpen old) where
-  stays_open : (answer : Answer) → Said old new made now answer → ¬ IsErrOf answer fault.Store → IsOpen new
-  stays_open (Ok x) said fine =
-      record {
-        works = works_on (Ok x) said is_open fine;
-        stored = said.saved ∙ ap (λ (n : Known). n.kept) (sym said.does.ok);
-      }
-  stays_open (Err f) said fine =
-      record {
-        works = works_on (Err f) said is_open fine;
-        stored = said.unsaved fine ∙ is_open.stored ∙ ap (λ (n : Known). n.kept) (sym said.does.err);
-      }
+stays_open : {old new : NodeState StoreState} {made : Response} {now : List Datagram} (answer : Answer) → Said old new made now answer
+    → IsOpen old → ¬ IsErrOf answer fault.Store → IsOpen new
+stays_open (Ok x) said is_open fine =
+    record { works = works_on (Ok x) said is_open fine; stored = said.saved ∙ ap (λ (n : Known). n.kept) (sym said.does.ok) }
+stays_open (Err f) said is_open fine =
+    record {
+      works = works_on (Err f) said is_open fine;
+      stored = said.unsaved fine ∙ is_open.stored ∙ ap (λ (n : Known). n.kept) (sym said.does.err);
+    }
 
 -- ---- how a call ends
 
@@ -128,79 +118,62 @@ pub record Settles (answer : Answer) (old new : Place) (d : Done) : Type 0 where
   pub stays : ¬ IsErrOf answer fault.Store → new ≡ old
   pub done : IsDone answer d
 
--- a node whose call failed knows the same, and its machine has the same progress
-pub the_same_node : (old new : NodeState StoreState) (console : List ℕ) (made : Response) (now : List Datagram) (f : NodeFault)
-    → Said old new made now (Err f) → node_at new console ≡ node_at old console
-the_same_node old new console made now f said =
-    ap (λ (r : Running). record { kept = r.known.kept; console = console; node = Some r })
-    (λ t. record { known = said.does.err t; progress = said.progress t })
+module _ {old new : NodeState StoreState} {made : Response} {now : List Datagram} (console : List ℕ) where
+  -- a node whose call failed knows the same, and its machine has the same progress
+  the_same_node : {f : NodeFault} → Said old new made now (Err f) → node_at new console ≡ node_at old console
+  the_same_node said = rw (said.does.err, said.progress) refl
 
-module _ (old new : NodeState StoreState) (console : List ℕ) (now : List Datagram) where
   -- a call that is not refused: it happens, or its save fails
-  module _ (made : Response) (s : Place) (d : Done) where
-    abbrev Made : Type 0
-    Made = EndsAt old console (outcome_at old (Makes made [])) d (member_of s console) now
-
-    by_saving : (fails : Option Bool) → failing made.saves old.protocol.store.plan ≡ fails
-        → EndsAt old console (save_outcome old.protocol.known.kept made [] fails) d (member_of s console) now → Made
-    by_saving fails e h =
-        subst (λ (x : Option Bool). EndsAt old console (save_outcome old.protocol.known.kept made [] x) d (member_of s console) now)
-        (sym e) h
-
-    happened : Said old new made now (Ok tt) → s ≡ place.Up new → d ≡ done.Applied → Made
-    happened said stays is =
-        by_saving None (planless made.saves old.protocol.store.plan said.unplanned)
-        (record { answer = is; left = rw (stays, said.does.ok, said.progress) refl; sends = said.does.sends; types = refl })
-
-    fell : Said old new made now (Err fault.Store) → s ≡ place.Down new.protocol.store → d ≡ done.Fell → Made
-    fell said down is =
+  made_ends : {call : NodeCall} {s : Place} {d : Done} → call ≡ Makes made [] → (answer : Answer) → Said old new made now answer
+      → IfErr answer (λ f. (f ≡ fault.Memory) ⊎ (f ≡ fault.Store)) → Settles answer (place.Up new) s d
+      → EndsAt old console (outcome_at old call) d (member_of s console) now
+  made_ends makes (Ok x) said others h =
+      rw (makes, planless made.saves old.protocol.store.plan said.unplanned) (record {
+        answer = h.done;
+        left = rw (h.stays (λ e. absurd cc), said.does.ok, said.progress) refl;
+        sends = said.does.sends;
+        types = refl;
+      })
+  made_ends makes (Err f) said (inl memory) h = elim h.done [
+    | inl fell ↦ absurd cc
+    | inr other ↦ absurd (other.1 memory)
+  ]
+  made_ends {s = s} {d = d} makes (Err f) said (inr device) h = elim h.done [
+    | inl fell ↦
+        let fails = said.fails (ap Err device) in
         let t =
-        told made.saves old.protocol.store.plan old.protocol.known.kept made.node.kept new.protocol.store.stored
-        (said.fails refl).0 (said.fails refl).1 in
-        by_saving (Some t.0) t.1
-        (record {
-          answer = is;
-          left = ap (λ (x : Place). member_of x console) down ∙ ap (λ (r : Record). member_after_fall (node_at old console) r) t.2;
+        told made.saves old.protocol.store.plan old.protocol.known.kept made.node.kept new.protocol.store.stored fails.0 fails.1 in
+        rw makes (subst (λ (o : Option Bool).
+        EndsAt old console (save_outcome old.protocol.known.kept made [] o) d (member_of s console) now) (sym t.1) (record {
+          answer = fell.1;
+          left = ap (λ (x : Place). member_of x console) (h.fell (ap Err device))
+              ∙ ap (λ (r : Record). member_after_fall (node_at old console) r) t.2;
           sends = said.does.unsent;
           types = refl;
-        })
-
-    made_ends : (answer : Answer) → Said old new made now answer → IfErr answer (λ f. (f ≡ fault.Memory) ⊎ (f ≡ fault.Store))
-        → Settles answer (place.Up new) s d → Made
-    made_ends (Ok x) said others h = happened said (h.stays (λ e. absurd cc)) h.done
-    made_ends (Err f) said (inl memory) h = by h.done where
-      by : IsDone (Err f) d → Made
-      by (inl (store, is)) = absurd cc
-      by (inr (not_store, not_memory, is)) = absurd (not_memory memory)
-    made_ends (Err f) said (inr device) h = by h.done where
-      by : IsDone (Err f) d → Made
-      by (inl (store, is)) = fell (subst (λ g. Said old new made now (Err g)) device said) (h.fell (ap Err device)) is
-      by (inr (not_store, not_memory, is)) = absurd (not_store device)
+        }))
+    | inr other ↦ absurd (other.0 device)
+  ]
 
   -- a call that is refused
-  refused_ends : (made : Response) (call : NodeCall) (f g : NodeFault) (s : Place) (d : Done) → call ≡ Refuses g → f ≡ g
+  refused_ends : {call : NodeCall} {f : NodeFault} {s : Place} {d : Done} (g : NodeFault) → call ≡ Refuses g → f ≡ g
       → g ≢ fault.Store → Said old new made now (Err f) → Settles (Err f) (place.Up new) s d
       → EndsAt old console (outcome_at old call) d (member_of s console) now
-  refused_ends made call f g s d refuses is other said h =
-      subst (λ (x : NodeCall). EndsAt old console (outcome_at old x) d (member_of s console) now) (sym refuses)
-      (record { answer = by h.done; left = left; sends = said.does.unsent; types = refl })
-    where
-      by : IsDone (Err f) d → d ≡ done.Refused g
-      by (inl (store, is')) = absurd (other (sym is ∙ store))
-      by (inr (not_store, not_memory, is')) = is' ∙ ap done.Refused is
-
-      left : member_of s console ≡ node_at old console
-      left =
-          ap (λ (x : Place). member_of x console) (h.stays (λ e. other (sym is ∙ is_fault e)))
-          ∙ the_same_node old new console made now f said
+  refused_ends g refuses is other said h = rw refuses (record {
+    answer = elim h.done [
+      | inl fell ↦ absurd (other (sym is ∙ fell.0))
+      | inr refused ↦ refused.2 ∙ ap done.Refused is
+    ];
+    left = ap (λ (x : Place). member_of x console) (h.stays (λ e. other (sym is ∙ is_fault e))) ∙ the_same_node said;
+    sends = said.does.unsent;
+    types = refl;
+  })
 
   -- a call that ran out of memory
-  memory_ends : (made : Response) (answer : Answer) (s : Place) → answer ≡ Err fault.Memory → Said old new made now answer
+  memory_ends : {s : Place} (answer : Answer) → answer ≡ Err fault.Memory → Said old new made now answer
       → (¬ IsErrOf answer fault.Store → s ≡ place.Up new) → (member_of s console ≡ node_at old console) × (now ≡ [])
-  memory_ends made (Ok x) s memory said stays = absurd cc
-  memory_ends made (Err f) s memory said stays =
-      let other : ¬ IsErrOf {T = Unit {0}} (Err f) fault.Store = λ e. absurd cc in
-      (ap (λ (x : Place). member_of x console) (stays other) ∙ the_same_node old new console made now f said, said.does.unsent)
+  memory_ends (Ok x) memory said stays = absurd cc
+  memory_ends (Err f) memory said stays =
+      (ap (λ (x : Place). member_of x console) (stays (λ e. absurd cc)) ∙ the_same_node said, said.does.unsent)
 
 -- ---- a campaign
 
@@ -229,37 +202,28 @@ full : (n : Known) → last_round n < 4294967295 → front n ≡ 65536 → call_
 full n less e = rw (lt-ltb _ _ less, e) refl
 
 goes : (n : Known) → last_round n < 4294967295 → front n ≢ 65536 → call_of_campaign n ≡ Makes (on_campaign n) []
-goes n less other = rw (lt-ltb _ _ less, is_false (front n == 65536) (λ e. other (eqb-true (front n) 65536 e))) refl
+goes n less other = rw (lt-ltb _ _ less, false_from_ne_true (front n == 65536) (λ e. other (eqb-true (front n) 65536 e))) refl
 
-module _ (old new : NodeState StoreState) (console : List ℕ) (now : List Datagram) (s : Place) (d : Done) where
-  abbrev CampaignEnds : NodeCall → Type 0
-  CampaignEnds call = EndsAt old console (outcome_at old call) d (member_of s console) now
-
-  as_made : call_of_campaign old.protocol.known ≡ Makes (on_campaign old.protocol.known) []
-      → CampaignEnds (Makes (on_campaign old.protocol.known) []) → CampaignEnds (call_of_campaign old.protocol.known)
-  as_made e ends = subst CampaignEnds (sym e) ends
-
-  campaigned : (answer : Answer) → Said old new (on_campaign old.protocol.known) now answer → Campaigns old answer
-      → IfErr answer (λ f. (f ≡ fault.RoundsSpent) ⊎ (f ≡ fault.PlacesSpent) ⊎ (f ≡ fault.Memory) ⊎ (f ≡ fault.Store))
-      → Settles answer (place.Up new) s d → CampaignEnds (call_of_campaign old.protocol.known)
-  campaigned (Ok x) said says others h =
-      as_made (goes old.protocol.known says.spare (λ e. absurd (ok_is_no_err (says.not_spent e says.spare))))
-      (made_ends old new console now (on_campaign old.protocol.known) s d (Ok x) said tt h)
-  campaigned (Err f) said says (inl rounds) h =
-      refused_ends old new console now (on_campaign old.protocol.known) (call_of_campaign old.protocol.known) f fault.RoundsSpent s d
-      (spent old.protocol.known (says.rounds (ap Err rounds))) rounds (λ e. absurd cc) said h
-  campaigned (Err f) said says (inr (inl places)) h =
-      let full_at = says.places (ap Err places) in
-      refused_ends old new console now (on_campaign old.protocol.known) (call_of_campaign old.protocol.known) f fault.PlacesSpent s d
-      (full old.protocol.known full_at.0 full_at.1) places (λ e. absurd cc) said h
-  campaigned (Err f) said says (inr (inr (inl memory))) h = absurd (no_memory h.done) where
-    no_memory : IsDone (Err f) d → ⊥
-    no_memory (inl (store, is)) = absurd cc
-    no_memory (inr (not_store, not_memory, is)) = not_memory memory
-  campaigned (Err f) said says (inr (inr (inr device))) h =
-      let less = says.spare_saved (ap Err device) in
-      as_made (goes old.protocol.known less (λ e. absurd (device_is_no_place f device (says.not_spent e less))))
-      (made_ends old new console now (on_campaign old.protocol.known) s d (Err f) said (inr device) h)
+campaigned : {old new : NodeState StoreState} {now : List Datagram} (console : List ℕ) {s : Place} {d : Done} (answer : Answer)
+    → Said old new (on_campaign old.protocol.known) now answer → Campaigns old answer
+    → IfErr answer (λ f. (f ≡ fault.RoundsSpent) ⊎ (f ≡ fault.PlacesSpent) ⊎ (f ≡ fault.Memory) ⊎ (f ≡ fault.Store))
+    → Settles answer (place.Up new) s d
+    → EndsAt old console (outcome_at old (call_of_campaign old.protocol.known)) d (member_of s console) now
+campaigned {old} console (Ok x) said says others h =
+    made_ends console (goes old.protocol.known says.spare (λ e. absurd (ok_is_no_err (says.not_spent e says.spare)))) (Ok x) said tt h
+campaigned {old} console (Err f) said says (inl rounds) h =
+    refused_ends console fault.RoundsSpent (spent old.protocol.known (says.rounds (ap Err rounds))) rounds (λ e. absurd cc) said h
+campaigned {old} console (Err f) said says (inr (inl places)) h =
+    let full_at = says.places (ap Err places) in
+    refused_ends console fault.PlacesSpent (full old.protocol.known full_at.0 full_at.1) places (λ e. absurd cc) said h
+campaigned {old} console (Err f) said says (inr (inr (inl memory))) h = elim h.done [
+  | inl fell ↦ absurd cc
+  | inr other ↦ absurd (other.1 memory)
+]
+campaigned {old} console (Err f) said says (inr (inr (inr device))) h =
+    let less = says.spare_saved (ap Err device) in
+    made_ends console (goes old.protocol.known less (λ e. absurd (device_is_no_place f device (says.not_spent e less)))) (Err f) said
+    (inr device) h
 
 -- ---- a tick, which saves nothing
 
@@ -340,19 +304,12 @@ told_member : {plan : Option Bool} {old new : NodeState StoreState} (console : L
     → node_at new console ≡ node_at old console
 told_member console told = rw (told.known, told.progress) refl
 
--- how a call ends of the node `m` of the group, after the plan was made
-ends_as : (plan : Option Bool) (ask : Ask) (n : NodeState StoreState) (console : List ℕ) (m : Member) (q : Running)
-    (d : Done) (new : Member) (now : List Datagram) → n.protocol.store.plan ≡ plan
-    → node_at n console ≡ m → m.node ≡ Some q
-    → EndsAt n console (outcome_at n (call_of_ask n.protocol.known ask)) d new now
-    → CallEnds q.known.me m q.progress (call_outcome plan m.kept (call_of_ask q.known ask)) d new now []
-ends_as plan ask n console m q d new now ready is up h =
-    subst (λ (x : Option Bool). CallEnds q.known.me m q.progress (call_outcome x m.kept (call_of_ask q.known ask)) d new now []) ready
-    (subst (λ (x : Member).
-    CallEnds q.known.me x q.progress (call_outcome n.protocol.store.plan x.kept (call_of_ask q.known ask)) d new now []) is
-    (subst (λ (r : Running).
-    CallEnds r.known.me (node_at n console) r.progress (call_outcome n.protocol.store.plan n.protocol.known.kept (call_of_ask r.known ask))
-    d new now []) (the_same (ap (λ (x : Member). x.node) is ∙ up)) h))
+-- what holds of it holds of the node `m` of the group, which it is
+pub as_member : (P : Running → Member → Type 0) (n : NodeState StoreState) (console : List ℕ) {m : Member} {q : Running}
+    → node_at n console ≡ m → m.node ≡ Some q → P (running n) (node_at n console) → P q m
+as_member P n console {m} {q} is up h =
+    subst (P q) is
+    (subst (λ (r : Running). P r (node_at n console)) (the_same (ap (λ (x : Member). x.node) is ∙ up)) h)
 
 -- ---- a call that the node has answered
 
@@ -376,9 +333,9 @@ answered : {plan : Option Bool} {was old new : NodeState StoreState} {now : List
 answered {old = old} {new = new} {now = now} {answer = answer} console ask made plans is_open says ends = record {
   old = old;
   plans = plans;
-  works = stays_open old new made now (told_open plans is_open) answer says;
+  works = stays_open answer says (told_open plans is_open);
   ends = ends;
-  same = λ s memory stays. memory_ends old new console now made answer s memory says stays;
+  same = λ s memory stays. memory_ends console answer memory says stays;
 }
 
 module _ {plan : Option Bool} {was old new : NodeState StoreState} {before now : List Datagram} {answer : Answer} (console : List ℕ)
@@ -399,7 +356,7 @@ module _ {plan : Option Bool} {was old new : NodeState StoreState} {before now :
       let made = on_message old.protocol.known message.sender message.body in
       let rest = taken old before answer (λ f. (f ≡ fault.Memory) ⊎ (f ≡ fault.Store)) (told_open plans is_open) empty let_in others in
       answered console (Hear message) made plans is_open (says does saves)
-      (λ s d settles. made_ends old new console now made s d answer (says does saves) rest settles)
+      (λ s d settles. made_ends console refl answer (says does saves) rest settles)
 
   pub campaign_answered : Does old.protocol new.protocol before now (on_campaign old.protocol.known) answer
       → Saves (Unit {0}) (Unit {0}) (λ (s : StoreState). s) old.protocol new.protocol (on_campaign old.protocol.known) answer
@@ -413,7 +370,7 @@ module _ {plan : Option Bool} {was old new : NodeState StoreState} {before now :
       taken old before answer (λ f. (f ≡ fault.RoundsSpent) ⊎ (f ≡ fault.PlacesSpent) ⊎ (f ≡ fault.Memory) ⊎ (f ≡ fault.Store))
       is_open_still empty let_in others in
       answered console Campaign (on_campaign old.protocol.known) plans is_open (says does saves)
-      (λ s d settles. campaigned old new console now s d answer (says does saves) (campaigns is_open_still) rest settles)
+      (λ s d settles. campaigned console answer (says does saves) (campaigns is_open_still) rest settles)
 
   pub tick_answered : Does old.protocol new.protocol before now (on_tick old.protocol.known) answer
       → new.protocol.store ≡ old.protocol.store
@@ -426,7 +383,7 @@ module _ {plan : Option Bool} {was old new : NodeState StoreState} {before now :
       ticks old new now answer is_open_still store progress
       (subst (λ (b : List Datagram). Does old.protocol new.protocol b now (on_tick old.protocol.known) answer) empty does) memory in
       answered console Tick (on_tick old.protocol.known) plans is_open ticked
-      (λ s d settles. made_ends old new console now (on_tick old.protocol.known) s d answer ticked (or_store answer memory) settles)
+      (λ s d settles. made_ends console refl answer ticked (or_store answer memory) settles)
 
 -- ---- the node `m` of the group, after such a call
 
@@ -438,11 +395,9 @@ module _ {plan : Option Bool} {was new : NodeState StoreState} {console : List �
       → IfOk r (λ d. CallEnds q.known.me m q.progress (call_outcome plan m.kept (call_of_ask q.known asked)) d (member_of s console) now [])
   asked_ends fell done asked e q up =
       IfOk-weaker r (λ d. IsDone answer d) _
-      (λ d is_done. subst (λ (x : Ask).
-      CallEnds q.known.me m q.progress (call_outcome plan m.kept (call_of_ask q.known x)) d (member_of s console) now []) (sym e)
-      (ends_as plan ask answered.old console m q d (member_of s console) now answered.plans.plan_is
-      (told_member console answered.plans ∙ is) up
-      (answered.ends s d (record { fell = fell; stays = stays; done = is_done })))) done
+      (λ d is_done. rw e (as_member (λ q m. CallEnds q.known.me m q.progress (call_outcome plan m.kept (call_of_ask q.known ask)) d
+      (member_of s console) now []) answered.old console (told_member console answered.plans ∙ is) up
+      (rw (← answered.plans.plan_is) (answered.ends s d (record { fell = fell; stays = stays; done = is_done }))))) done
 
   pub asked_same : OnErr r (answer ≡ Err fault.Memory) → OnErr r ((member_of s console ≡ m) × (now ≡ []))
   asked_same memory =

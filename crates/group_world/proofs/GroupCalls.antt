@@ -3,9 +3,9 @@ use Rattle.std.proofs.Common.{◌≡◌, ◌∙◌, ℕ, zero, suc, ◌-◌, ◌
 use Rattle.std.specs.List.{cons_option}
 use Rattle.std.proofs.lemmas.Bool.{ltb-true}
 use Rattle.std.proofs.lemmas.List.{append-nil}
+use Rattle.std.proofs.lemmas.Result.{on_err_weaker}
 use Rattle.std.proofs.lemmas.List.Elements.{All-head, All-tail}
 use Rattle.std.proofs.lemmas.Option.{get_or_from_slice_get, slice_get_within}
-use Rattle.pcode_file.specs.Parts.{Parts}
 use Rattle.paxos_msg.specs.declared.value.Value.{Value}
 use Rattle.paxos_msg.specs.declared.message.Group.{Group}
 use Rattle.paxos_msg.specs.declared.fault.WireFault.{WireFault}
@@ -93,7 +93,7 @@ module _ {w was : World} (is : w ≡ was) {i place : ℕ} {m lent : Member} (len
   left_so packets keys new sends types = rw (sends, types, lends.at, is) refl
 
   -- a call by which nothing changes
-  pub unchanged : {new : Member} {packets sent : List Datagram} {typed : List Value} → sent ≡ w.sent ++ packets → typed ≡ w.typed
+  unchanged : {new : Member} {packets sent : List Datagram} {typed : List Value} → sent ≡ w.sent ++ packets → typed ≡ w.typed
       → new ≡ lent → packets ≡ [] → parts w (slice_set w.members place new) sent typed ≡ was
   unchanged {new} {packets} sends types same none =
       left_so packets [] new sends (types ∙ none_more w.typed)
@@ -105,6 +105,11 @@ module _ {w was : World} (is : w ≡ was) {i place : ℕ} {m lent : Member} (len
         append-nil was.sent,
         append-nil was.typed,
       ) refl
+
+  pub unchanged_on_err : {E : Type 0} {sent : List Datagram} {typed : List Value} (new : Member) (packets : List Datagram)
+      (r : Result Done E) → sent ≡ w.sent ++ packets → typed ≡ w.typed → OnErr r ((new ≡ lent) × (packets ≡ []))
+      → OnErr r (parts w (slice_set w.members place new) sent typed ≡ was)
+  unchanged_on_err new packets r sends types same = on_err_weaker r (λ h. unchanged sends types h.0 h.1) same
 
   pub leaves : {new : Member} {me : Me} {progress : Progress} {d : Done} {packets sent : List Datagram} {keys typed : List Value}
       (plan : Option Bool) (call : Me → Record → NodeCall) → me ≡ me_of was i → sent ≡ w.sent ++ packets → typed ≡ w.typed ++ keys

@@ -355,47 +355,11 @@ module _ (laws : ExampleLaws) (steps : StepsLaw) where
   e1 = (stopped empty_record, record { there = refl; down = refl }, (refl, refl))
 
   pub happens : LeadsBy (new_world echoes one) shown_events last
-  happens = (
-    _,
-    _,
-    e1,
-    (
-      _,
-      _,
-      e2,
-      (
-        _,
-        _,
-        e3,
-        (
-          _,
-          _,
-          e4,
-          (
-            _,
-            _,
-            e5,
-            (
-              _,
-              _,
-              e6,
-              (
-                _,
-                _,
-                e7,
-                (
-                  _,
-                  _,
-                  e8,
-                  (_, _, e9, (_, _, e10, (_, _, e11, (_, _, e12, (_, _, e13, (_, _, e14, refl)))))),
-                ),
-              ),
-            ),
-          ),
-        ),
-      ),
-    ),
-  )
+  happens =
+      let h11 : LeadsBy (at offering 5 keys) (drop 10 shown_events) last =
+      (_, _, e11, (_, _, e12, (_, _, e13, (_, _, e14, refl)))) in
+      let h7 : LeadsBy (at asking 2 []) (drop 6 shown_events) last = (_, _, e7, (_, _, e8, (_, _, e9, (_, _, e10, h11)))) in
+      (_, _, e1, (_, _, e2, (_, _, e3, (_, _, e4, (_, _, e5, (_, _, e6, h7))))))
 
 pub is_learned : HasLearned (world_state last) 1 0 letter_batch
 is_learned = record {

@@ -1,6 +1,7 @@
 -- What a press, a run and a release leave of a node of the group, by the contracts of the node's calls.
-use Rattle.std.proofs.Common.{◌≡◌, ◌≢◌, ◌↔◌, ◌⊎◌, ◌∙◌, ◌<◌, ◌≤◌, ◌==◌, Bool, true, false, ℕ, List, [], ◌∷◌, ◌+◌, length, slice_get, option_map, Option, None, Some, Result, Ok, Err, IfErr, IfOk, IsErrOf, MatchResult, inl, inr, refl, sym, ap, subst, arith}
-use Rattle.std.proofs.lemmas.Bool.{eqb-true}
+use Rattle.std.proofs.lemmas.Bool.{both_ways, ne_eqb}
+use Rattle.group_world.proofs.ReleasedBytes.{next_of}
+use Rattle.std.proofs.Common.{◌≡◌, ◌≢◌, ◌↔◌, ◌⊎◌, ◌∙◌, ◌<◌, ◌≤◌, Bool, true, false, ℕ, List, [], ◌∷◌, ◌+◌, length, option_map, Option, None, Some, Result, Ok, Err, IfErr, IfOk, IsErrOf, MatchResult, inl, inr, refl, sym, ap, subst, arith}
 use Rattle.paxos_msg.specs.declared.value.Value.{Value}
 use Rattle.paxos_acceptor.specs.Stores.{StoreState}
 use Rattle.group_node.specs.declared.fault.NodeFault.{NodeFault}
@@ -8,13 +9,12 @@ use Rattle.group_node.specs.declared.fault.NodeFault.TheVariants as fault
 use Rattle.group_node.specs.declared.player.Ran.{Ran}
 use Rattle.group_node.specs.Known.{Known, on_typed, new_key, next_serial}
 use Rattle.group_node.specs.Console.{offered}
-use Rattle.group_node.specs.Output.{IsReplay, RunsOn, unreleased_of}
+use Rattle.group_node.specs.Output.{IsReplay, RunsOn}
 use Rattle.group_node.specs.States.{Protocol, NodeState, input}
 use Rattle.group_world.specs.declared.event.Done.TheVariants as done
 use Rattle.group_world.specs.declared.member.Place.{Place}
 use Rattle.group_world.specs.declared.member.Place.TheVariants as place
 use Rattle.group_world.specs.Member.{call_outcome, CallEnds, IsOpen, IsSettled, kept_of, Makes, Member, member_of, call_of_press, Refuses, member_after_release, Running, running, running_of, RunsMember, store_of}
-use Rattle.group_world.proofs.AskEnds.{is_false, is_not_true, the_same}
 
 -- a node that is down has the record of its store
 pub down_kept : (s : Place) → running_of s ≡ None → kept_of s ≡ (store_of s).stored
@@ -31,9 +31,11 @@ settled_kept (place.Down store) settled = refl
 settled_kept (place.Up n) settled = settled.stored
 
 -- a place whose node is up is not down
-pub up_not_down : (s : Place) (store : StoreState) (q : Running) → s ≡ place.Down store → running_of s ≡ Some q → ⊥
-up_not_down (place.Down store') store q is up = absurd cc
-up_not_down (place.Up n) store q is up = absurd cc
+pub up_not_down : {s : Place} {store : StoreState} {console : List ℕ} {m : Member} {q : Running} → s ≡ place.Down store
+    → member_of s console ≡ m → m.node ≡ Some q → ⊥
+up_not_down {q = q} down is up = none (rw down at (ap (λ (x : Member). x.node) is ∙ up)) where
+  none : None ≡ Some q → ⊥
+  none e = absurd cc
 
 -- ---- a typed byte
 
@@ -53,16 +55,13 @@ pub record Types (old new : NodeState StoreState) (byte : ℕ) (answer : Result 
 press_busy : (n : Known) (byte : ℕ) → length n.waiting ≡ 256 → call_of_press n byte ≡ Refuses fault.Busy
 press_busy n byte e = rw e refl
 
-differs : (a b : ℕ) → a ≢ b → (a == b) ≡ false
-differs a b other = is_false (a == b) (λ e. other (eqb-true a b e))
-
 press_spent : (n : Known) (byte : ℕ) → length n.waiting < 256 → next_serial n ≡ 4294967296
     → call_of_press n byte ≡ Refuses fault.SerialSpent
-press_spent n byte less e = rw (differs (length n.waiting) 256 (λ is. omega (arith, is, less)), e) refl
+press_spent n byte less e = rw (ne_eqb (length n.waiting) 256 (λ is. omega (arith, is, less)), e) refl
 
 press_makes : (n : Known) (byte : ℕ) → length n.waiting ≢ 256 → next_serial n ≢ 4294967296
     → call_of_press n byte ≡ Makes (on_typed n byte) (new_key n byte ∷ [])
-press_makes n byte not_full not_spent = rw (differs (length n.waiting) 256 not_full, differs (next_serial n) 4294967296 not_spent) refl
+press_makes n byte not_full not_spent = rw (ne_eqb (length n.waiting) 256 not_full, ne_eqb (next_serial n) 4294967296 not_spent) refl
 
 no_error : {v : Value} {f : NodeFault} → IsErrOf {T = Value} (Ok v) f → ⊥
 no_error e = absurd cc
@@ -87,15 +86,15 @@ presses old new plan console byte (Err f) is_open t =
     rw (by t.others) (record { answer = refl; left = rw t.err refl; sends = refl; types = refl })
   where
     by : (f ≡ fault.Stopped) ⊎ (f ≡ fault.Busy) ⊎ (f ≡ fault.SerialSpent) → call_of_press old.protocol.known byte ≡ Refuses f
-    by (inl stopped) = absurd (is_not_true old.protocol.is_stopped is_open.works (t.stopped (ap Err stopped)))
+    by (inl stopped) = absurd (both_ways old.protocol.is_stopped is_open.works (t.stopped (ap Err stopped)))
     by (inr (inl busy)) = press_busy old.protocol.known byte (t.busy.0 (ap Err busy)).1 ∙ ap Refuses (sym busy)
     by (inr (inr spent)) = let h = t.spent.0 (ap Err spent) in press_spent old.protocol.known byte h.1 h.2 ∙ ap Refuses (sym spent)
 
 -- a node at which a byte was typed is still open
-pub typed_open : (old new : NodeState StoreState) (byte : ℕ) (answer : Result Value NodeFault) → IsOpen old
+pub typed_open : {old new : NodeState StoreState} {byte : ℕ} {answer : Result Value NodeFault} → IsOpen old
     → Types old new byte answer → IsOpen new
-typed_open old new byte (Ok v) is_open t = record { works = t.rest.1 ∙ is_open.works; stored = rw (t.rest.0, t.known) is_open.stored }
-typed_open old new byte (Err f) is_open t = rw t.err is_open
+typed_open {answer = Ok v} is_open t = record { works = t.rest.1 ∙ is_open.works; stored = rw (t.rest.0, t.known) is_open.stored }
+typed_open {answer = Err f} is_open t = rw t.err is_open
 
 -- ---- a run
 
@@ -118,10 +117,10 @@ runs old new console steps (Ok ran) is_open on protocol stopped others replay = 
       }) protocol;
 }
 runs old new console steps (Err f) is_open on protocol stopped others replay =
-    absurd (is_not_true old.protocol.is_stopped is_open.works (stopped (ap Err others)))
+    absurd (both_ways old.protocol.is_stopped is_open.works (stopped (ap Err others)))
 
-pub run_open : (old new : NodeState StoreState) → IsOpen old → new.protocol ≡ old.protocol → IsOpen new
-run_open old new is_open protocol = record { works = rw protocol is_open.works; stored = rw protocol is_open.stored }
+pub run_open : {old new : NodeState StoreState} → IsOpen old → new.protocol ≡ old.protocol → IsOpen new
+run_open is_open protocol = record { works = rw protocol is_open.works; stored = rw protocol is_open.stored }
 
 -- ---- a release
 
@@ -141,35 +140,23 @@ no_byte (Some b) at e = absurd cc
 pub releases : (old new : NodeState StoreState) (console shown : List ℕ) (number byte : ℕ)
     → ◌≡◌ {A = Option (ℕ × ℕ)} (Some (number, byte))
     (option_map (λ b. (old.progress.released, b))
-    (slice_get (unreleased_of (input old.protocol.known) old.progress) 0))
+    (next_of (running old)))
     → new.progress ≡ record old.progress { released = old.progress.released + 1 } → new.protocol ≡ old.protocol
     → shown ≡ offered console number byte
     → member_of (place.Up new) shown
     ≡ member_after_release (member_of (place.Up old) console) (running old)
-    (slice_get (unreleased_of (input old.protocol.known) old.progress) 0)
+    (next_of (running old))
 releases old new console shown number byte is progress protocol offer =
-    let next = next_byte (slice_get (unreleased_of (input old.protocol.known) old.progress) 0) old.progress.released number byte is in
+    let next = next_byte (next_of (running old)) old.progress.released number byte is in
     rw (protocol, progress, offer, next.1, next.0) refl
 
 -- the same if no byte waits
 pub releases_none : (old new : NodeState StoreState) (console : List ℕ)
     → ◌≡◌ {A = Option (ℕ × ℕ)} None
     (option_map (λ b. (old.progress.released, b))
-    (slice_get (unreleased_of (input old.protocol.known) old.progress) 0)) → new ≡ old
+    (next_of (running old))) → new ≡ old
     → member_of (place.Up new) console
     ≡ member_after_release (member_of (place.Up old) console) (running old)
-    (slice_get (unreleased_of (input old.protocol.known) old.progress) 0)
+    (next_of (running old))
 releases_none old new console not same =
-    rw (same, no_byte (slice_get (unreleased_of (input old.protocol.known) old.progress) 0) old.progress.released not) refl
-
--- the same of the node `m` of the group
-pub released_as : (old : NodeState StoreState) (console : List ℕ) (m : Member) (q : Running) (new : Member)
-    → member_of (place.Up old) console ≡ m → m.node ≡ Some q
-    → new ≡ member_after_release (member_of (place.Up old) console) (running old)
-    (slice_get (unreleased_of (input old.protocol.known) old.progress) 0)
-    → new ≡ member_after_release m q (slice_get (unreleased_of (input q.known) q.progress) 0)
-released_as old console m q new is up h =
-    subst (λ (x : Member). new ≡ member_after_release x q (slice_get (unreleased_of (input q.known) q.progress) 0)) is
-    (subst (λ (r : Running). new
-    ≡ member_after_release (member_of (place.Up old) console) r (slice_get (unreleased_of (input r.known) r.progress) 0))
-    (the_same (ap (λ (x : Member). x.node) is ∙ up)) h)
+    rw (same, no_byte (next_of (running old)) old.progress.released not) refl

@@ -1,6 +1,6 @@
 -- How a start of a node of the group ends, by the contract of `Node::start`.
 use Rattle.std.proofs.Common.{◌≡◌, ◌≢◌, ◌⊎◌, ◌∙◌, ◌<◌, ◌==◌, Bool, ℕ, List, [], Option, None, Some, Result, Err, IfOk, IsErrOf, OnErr, inl, inr, refl, sym, ap, subst, arith}
-use Rattle.std.proofs.lemmas.Bool.{eqb-true}
+use Rattle.std.proofs.lemmas.Bool.{eqb-true, false_from_ne_true}
 use Rattle.std.proofs.lemmas.Result.{IfOk-weaker, on_err_weaker}
 use Rattle.pcode_file.specs.Parts.{Parts}
 use Rattle.paxos_msg.specs.declared.record.Change.TheVariants as change
@@ -20,12 +20,12 @@ use Rattle.group_world.specs.declared.fault.WorldFault.{WorldFault}
 use Rattle.group_world.specs.declared.member.Place.{Place}
 use Rattle.group_world.specs.declared.member.Place.TheVariants as place
 use Rattle.group_world.specs.Member.{CallEnds, IsDone, Makes, Member, Refuses, call_outcome, member_of, call_of_start, running_of, store_of}
-use Rattle.group_world.proofs.AskEnds.{is_false, is_fault, told}
+use Rattle.group_world.proofs.AskEnds.{is_fault, told}
 use Rattle.group_world.proofs.PlaceCalls.{down_is}
 
 start_makes : (me : Me) (kept : Record) → kept.starts < 4294967295 → call_of_start me kept ≡ Makes (on_start me kept) []
 start_makes me kept less =
-    rw (is_false (kept.starts == 4294967295) (λ e. absurd (omega (arith, eqb-true kept.starts 4294967295 e, less))))
+    rw (false_from_ne_true (kept.starts == 4294967295) (λ e. absurd (omega (arith, eqb-true kept.starts 4294967295 e, less))))
     refl
 
 start_spent : (me : Me) (kept : Record) → kept.starts ≡ 4294967295 → call_of_start me kept ≡ Refuses fault.StartsSpent

@@ -53,7 +53,8 @@ returns-in-Tick c =
     (λ d leaves. (up.0, up.1, up.2, leaves)) (h.leaves up.0 up.1 up.2))) h.err h.memory c.in_default.ensures
 
 pub returns-in-Run : goal.returns-in-Run
-returns-in-Run c = applied (Ok Applied) (rw c.in-Run.is (c.run.ensures.acts (plan_of c.args.event.now.save))) tt tt c.in_default.ensures
+returns-in-Run c =
+    applied (Ok Applied) (rw c.in-Run.is (c.run.ensures.acts (plan_of c.args.event.now.save))) tt tt c.in_default.ensures
 
 pub returns-in-Release : goal.returns-in-Release
 returns-in-Release c =
@@ -61,7 +62,8 @@ returns-in-Release c =
     applied c.release.result (rw c.in-Release.is (h.acts (plan_of c.args.event.now.save))) h.err h.memory c.in_default.ensures
 
 pub returns-in-Crash : goal.returns-in-Crash
-returns-in-Crash c = applied (Ok Applied) (rw c.in-Crash.is (c.crash.ensures.acts (plan_of c.args.event.now.save))) tt tt c.in_default.ensures
+returns-in-Crash c =
+    applied (Ok Applied) (rw c.in-Crash.is (c.crash.ensures.acts (plan_of c.args.event.now.save))) tt tt c.in_default.ensures
 
 pub returns-in-Start : goal.returns-in-Start
 returns-in-Start c =

@@ -1,9 +1,9 @@
 use Rattle.std.proofs.Common.{◌∙◌, [], ap, refl}
-use Rattle.std.proofs.lemmas.Result.{IfOk-weaker, on_err_weaker}
+use Rattle.std.proofs.lemmas.Result.{IfOk-weaker}
 use Rattle.group_node.specs.Protocol.{on_message}
 use Rattle.group_node.specs.Packets.{Datagram}
 use Rattle.group_world.specs.Member.{Makes}
-use Rattle.group_world.proofs.GroupCalls.{above, delivered, leaves, lent_is, lent_up, none_more, unchanged}
+use Rattle.group_world.proofs.GroupCalls.{above, delivered, leaves, lent_is, lent_up, none_more, unchanged_on_err}
 use Rattle.group_world.proofs.WorldAsGroup.{running}
 use Rattle.group_world.proofs.group.GroupState.deliver.Goals as goal
 
@@ -40,5 +40,5 @@ returns-clause-acts c =
 pub returns-clause-err : goal.returns-clause-err
 returns-clause-err c =
     let lends = lent_is c.args.node c.self.view_is c.requires.up.2.there c.place.ensures c.index_mut.ensures.value in
-    on_err_weaker c.ask-done.result
-    (λ same. unchanged c.self.view_is lends (rw c.reserve.ensures.items at c.collect.ensures.sent) refl same.0 same.1) c.ask-done.ensures.err
+    unchanged_on_err c.self.view_is lends _ _ c.ask-done.result (rw c.reserve.ensures.items at c.collect.ensures.sent) refl
+    c.ask-done.ensures.err

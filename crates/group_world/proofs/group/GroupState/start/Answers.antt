@@ -8,12 +8,14 @@ use Rattle.group_world.proofs.group.GroupState.start.Goals as goal
 pub start-requires-clause-ranges : goal.start-requires-clause-ranges
 start-requires-clause-ranges c =
     let lends = lent_is c.args.node c.self.view_is c.requires.down.1.there c.place.ensures c.index_mut.ensures.value in
-    rw (c.in-Ok.ensures.ok, lends.is) (rw (← c.self.view_is) at (c.requires.sound.members c.args.node c.requires.down.0 lends.there).ranges)
+    rw (c.in-Ok.ensures.ok, lends.is)
+    (rw (← c.self.view_is) at (c.requires.sound.members c.args.node c.requires.down.0 lends.there).ranges)
 
 pub returns-clause-acts : goal.returns-clause-acts
 returns-clause-acts c =
     let lends = lent_is c.args.node c.self.view_is c.requires.down.1.there c.place.ensures c.index_mut.ensures.value in
-    let me : c.in-Ok.config ≡ me_of c.args.self.now c.args.node = c.in-Ok.ensures.ok ∙ ap (λ (w : World). me_of w c.args.node) c.self.view_is in
+    let me : c.in-Ok.config ≡ me_of c.args.self.now c.args.node =
+    c.in-Ok.ensures.ok ∙ ap (λ (w : World). me_of w c.args.node) c.self.view_is in
     IfOk-weaker c.start.result _ _
     (λ d ends. (
       c.requires.down.0,

@@ -1,7 +1,7 @@
-use Rattle.std.proofs.Common.{◌≡◌, ◌∙◌, ap}
+use Rattle.std.proofs.Common.{◌≡◌}
 use Rattle.group_world.specs.declared.member.Ask.TheVariants.{Campaign, Hear, Tick}
 use Rattle.group_world.specs.declared.member.Place.TheVariants as place
-use Rattle.group_world.specs.Member.{Member, member_of}
+use Rattle.group_world.specs.Member.{member_of}
 use Rattle.group_world.proofs.AskEnds.{IsAnswered, asked_ends, asked_fits, asked_same, campaign_answered, heard, tick_answered, told_so}
 use Rattle.group_world.proofs.PlaceCalls.{up_not_down}
 use Rattle.group_world.proofs.member.Member.ask.Goals as goal
@@ -17,9 +17,7 @@ on_message-answer-requires c =
     }
 
 pub unreachable-requires : goal.unreachable-requires
-unreachable-requires c =
-    up_not_down c.self.inside.place c.in-Down.field-0 c.requires.up.0 c.in-Down.is
-    (ap (λ (m : Member). m.node) c.self.view_is ∙ c.requires.up.1)
+unreachable-requires c = up_not_down c.in-Down.is c.self.view_is c.requires.up.1
 
 pub unreachable-unreachable : goal.unreachable-unreachable
 unreachable-unreachable c = absurd c.unreachable.result

@@ -1,14 +1,11 @@
-use Rattle.std.proofs.Common.{◌≡◌, ◌∙◌, ap, subst}
 use Rattle.group_world.specs.declared.member.Place.TheVariants as place
-use Rattle.group_world.specs.Member.{Member, member_of, Running}
+use Rattle.group_world.specs.Member.{member_of}
 use Rattle.group_world.proofs.PlaceCalls.{Presses, Types, presses, typed_open, up_not_down}
-use Rattle.group_world.proofs.AskEnds.{the_same}
+use Rattle.group_world.proofs.AskEnds.{as_member}
 use Rattle.group_world.proofs.member.Member.press.Goals as goal
 
 pub unreachable-requires : goal.unreachable-requires
-unreachable-requires c =
-    up_not_down c.self.inside.place c.in-Down.field-0 c.requires.up.0 c.in-Down.is
-    (ap (λ (m : Member). m.node) c.self.view_is ∙ c.requires.up.1)
+unreachable-requires c = up_not_down c.in-Down.is c.self.view_is c.requires.up.1
 
 pub unreachable-unreachable : goal.unreachable-unreachable
 unreachable-unreachable c = absurd c.unreachable.result
@@ -29,18 +26,14 @@ types c =
     }
 
 pub invariant_of-self : goal.invariant_of-self
-invariant_of-self c =
-    typed_open c.in-Up.node c.typed.new.self c.args.byte c.typed.result (rw c.in-Up.is at c.self.invariant) (types c)
+invariant_of-self c = typed_open (rw c.in-Up.is at c.self.invariant) (types c)
 
 pub returns : goal.returns
 returns c =
     let console = c.self.inside.console.bytes in
-    let is : member_of (place.Up c.in-Up.node) console ≡ c.args.self.now = rw c.in-Up.is at c.self.view_is in
     let new = member_of (place.Up c.typed.new.self) console in
     record {
       ends = λ q up plan.
-          subst (λ (m : Member). Presses q m plan c.args.byte new c.typed.result) is
-          (subst (λ (r : Running). Presses r (member_of (place.Up c.in-Up.node) console) plan c.args.byte new c.typed.result)
-          (the_same (ap (λ (m : Member). m.node) is ∙ up))
-          (presses c.in-Up.node c.typed.new.self plan console c.args.byte c.typed.result (rw c.in-Up.is at c.self.invariant) (types c)));
+          as_member (λ q m. Presses q m plan c.args.byte new c.typed.result) c.in-Up.node console (rw c.in-Up.is at c.self.view_is) up
+          (presses c.in-Up.node c.typed.new.self plan console c.args.byte c.typed.result (rw c.in-Up.is at c.self.invariant) (types c));
     }

@@ -1,7 +1,9 @@
 use Rattle.std.proofs.Common.{◌≡◌, ◌∙◌, ℕ, List, ap, refl, rules}
 use Rattle.group_world.specs.declared.member.Place.TheVariants as place
-use Rattle.group_world.specs.Member.{IsOpen, Member, member_of}
-use Rattle.group_world.proofs.PlaceCalls.{releases, releases_none, released_as, run_open, up_not_down}
+use Rattle.group_world.specs.Member.{member_after_release, member_of}
+use Rattle.group_world.proofs.AskEnds.{as_member}
+use Rattle.group_world.proofs.ReleasedBytes.{next_of}
+use Rattle.group_world.proofs.PlaceCalls.{releases, releases_none, run_open, up_not_down}
 use Rattle.group_world.proofs.member.Member.release.Goals as goal
 
 pub invariant_of-self : goal.invariant_of-self
@@ -14,29 +16,23 @@ pub returns-then-is_err-clause-memory : goal.returns-then-is_err-clause-memory
 returns-then-is_err-clause-memory c = refl
 
 pub unreachable-requires : goal.unreachable-requires
-unreachable-requires c =
-    up_not_down c.self.inside.place c.in-Down.field-0 c.requires.up.0 c.in-Down.is
-    (ap (λ (m : Member). m.node) c.self.view_is ∙ c.requires.up.1)
+unreachable-requires c = up_not_down c.in-Down.is c.self.view_is c.requires.up.1
 
 pub unreachable-unreachable : goal.unreachable-unreachable
 unreachable-unreachable c = absurd c.unreachable.result
 
 pub invariant_of-self-in-Some : goal.invariant_of-self-in-Some
-invariant_of-self-in-Some c =
-    let is_open : IsOpen c.in-Up.node = rw c.in-Up.is at c.self.invariant in
-    run_open c.in-Up.node c.release-next.new.self is_open c.release-next.ensures.protocol
+invariant_of-self-in-Some c = run_open (rw c.in-Up.is at c.self.invariant) c.release-next.ensures.protocol
 
 pub invariant_of-self-in_default : goal.invariant_of-self-in_default
-invariant_of-self-in_default c =
-    let is_open : IsOpen c.in-Up.node = rw c.in-Up.is at c.self.invariant in
-    run_open c.in-Up.node c.release-next.new.self is_open c.release-next.ensures.protocol
+invariant_of-self-in_default c = run_open (rw c.in-Up.is at c.self.invariant) c.release-next.ensures.protocol
 
 pub returns-in-Some-clause-ok : goal.returns-in-Some-clause-ok
 returns-in-Some-clause-ok c =
     let h = c.in-Some.ensures in
     let console = c.self.inside.console.bytes in
-    let is : member_of (place.Up c.in-Up.node) console ≡ c.args.self.now = rw c.in-Up.is at c.self.view_is in
-    λ q up. released_as c.in-Up.node console c.args.self.now q _ is up
+    let new = member_of (place.Up c.release-next.new.self) c.offer-shown.new.self.bytes in
+    λ q up. as_member (λ q m. new ≡ member_after_release m q (next_of q)) c.in-Up.node console (rw c.in-Up.is at c.self.view_is) up
     (releases c.in-Up.node c.release-next.new.self console c.offer-shown.new.self.bytes c.in-Some.number c.in-Some.byte
     h.value h.some h.protocol
     (rw c.reserve.ensures.bytes at c.offer-shown.ensures.shown (c.offer-shown.ensures.room (search rules))))
@@ -51,6 +47,6 @@ pub returns-in_default-clause-ok : goal.returns-in_default-clause-ok
 returns-in_default-clause-ok c =
     let h = c.in_default.ensures in
     let console = c.self.inside.console.bytes in
-    let is : member_of (place.Up c.in-Up.node) console ≡ c.args.self.now = rw c.in-Up.is at c.self.view_is in
-    λ q up. released_as c.in-Up.node console c.args.self.now q _ is up
+    let new = member_of (place.Up c.release-next.new.self) c.reserve.new.self.bytes in
+    λ q up. as_member (λ q m. new ≡ member_after_release m q (next_of q)) c.in-Up.node console (rw c.in-Up.is at c.self.view_is) up
     (rw c.reserve.ensures.bytes (releases_none c.in-Up.node c.release-next.new.self console h.value h.none))
