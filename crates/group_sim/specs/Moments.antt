@@ -199,7 +199,7 @@ LineIsDone size lines number a r b =
 abbrev pub first_moment : World → Option (List ℕ) → Moment
 first_moment w written = record { world = w; passed = 0; left = 0; written = written }
 
--- A script of which all lines were done in order, and what the writer then holds.
+-- A script whose lines were all done in order, and what the writer then holds.
 -- Forbids: a line that is left out.
 pub record IsScriptDone (w : World) (lines : List Line) (old new : Option (List ℕ)) : Type 0 where
   pub end : Moment

@@ -212,7 +212,7 @@ IsDone (Err f) d =
 abbrev pub at_progress : Member → Running → Progress → Member
 at_progress m q progress = record m { node = Some (record q { progress = progress }) }
 
--- A run of at most `steps` steps, each of which exists. It leaves `new` of the node `m`.
+-- A run of at most `steps` steps that all exist. It leaves `new` of the node `m`.
 pub record RunsMember (m : Member) (q : Running) (steps : ℕ) (new : Member) : Type 0 where
   pub progress : Progress
   pub ran : Ran

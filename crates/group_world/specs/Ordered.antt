@@ -16,7 +16,7 @@ use Rattle.group_world.specs.Sound.{IsSound}
 use Rattle.group_world.specs.Group.{member_at, World, world_state}
 use Rattle.group_world.specs.Member.{Member}
 
--- Keys of which one has this node, start and serial.
+-- Keys among which one has this node, start and serial.
 pub record HasSerial (keys : List Key) (node start serial : ℕ) : Type 0 where
   pub key : Key
   pub among : Contains keys key
@@ -53,7 +53,7 @@ IsFirstUnread read (k ∷ ks) = ¬ Contains read k
 -- The typed keys of one start of a node, where the keys `waiting` wait and the keys `read` are
 -- read.
 -- They have the serials 1 to `last`. First come the keys that no longer wait, which are all read;
--- then those that wait, of which the first is not read.
+-- then those that wait. The first of these is not read.
 -- Forbids: a first waiting key that is read.
 pub record AreTypedKeys (typed : List Key) (node start last : ℕ)
     (waiting read : List Key) : Type 0 where

@@ -112,7 +112,7 @@ in_front None number rest = Err number
 in_front (Some line) number (Ok lines) = Ok (line ∷ lines)
 in_front (Some line) number (Err bad) = Err bad
 
--- What lines say, the first of which has this number, or the number of the first that says nothing.
+-- What lines say, where the first has this number, or the number of the first that says nothing.
 -- Forbids: a line that is ignored.
 abbrev pub lines_say : ℕ → List (List ℕ) → Result (List Line) ℕ
 lines_say number [] = Ok []

@@ -30,7 +30,7 @@ pub record IsSpelling (group : Group) (datagram : Datagram) : Type 0 where
   pub spells : Msgs group datagram.bytes message
   pub read : message_of group datagram ≡ Some message
 
--- Learned values of which each is chosen.
+-- Learned values that are all chosen.
 pub record IsLearnedChosen (size : ℕ) (sent : Sent) (learned : FinMap nat_cmp Value) : Type 0 where
   pub chosen : (s : ℕ) (v : Value) → get learned s ≡ Some v → IsChosen size sent s v
 

@@ -32,7 +32,7 @@ knows learned =
 abbrev pub learned : Value → Seat
 learned v = record { kept = empty_record; console = []; up = Some (knows (insert empty 0 v)) }
 
--- A node that is up and has written `output`, of which it releases byte `k` next.
+-- A node that is up and has written `output`. It releases byte `k` of it next.
 abbrev pub writes : List ℕ → ℕ → Up
 writes output k =
     record {
