@@ -14,7 +14,7 @@ pub record HaveOneName (key other : Key) : Type 0 where
   pub start : key.start ≡ other.start
   pub serial : key.serial ≡ other.serial
 
--- Keys that differ in node, start or serial.
+-- Keys that pairwise differ in node, start or serial.
 -- Forbids: one serial with two characters.
 abbrev pub AreApart : List Key → Type 0
 AreApart keys = AllPairs (λ key other. ¬ HaveOneName key other) keys
