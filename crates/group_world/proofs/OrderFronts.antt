@@ -1,14 +1,15 @@
 -- The keys of chosen values, each once, are in order, if each value was due.
-use Rattle.std.proofs.Common.{◌≡◌, ◌∙◌, ℕ, zero, suc, ◌+◌, ◌<◌, ◌≤◌, Bool, true, false, List, [], ◌∷◌, ◌++◌, length, get_or, map, Some, if◌then◌else◌, refl, sym, ap, subst, inl, inr, append_assoc, arith}
+use Rattle.std.proofs.Common.{◌≡◌, ◌∙◌, ℕ, zero, suc, ◌+◌, ◌<◌, ◌≤◌, Bool, true, false, List, [], ◌∷◌, ◌++◌, length, get_or, map, Some, if◌then◌else◌, refl, sym, ap, subst, inl, inr, append_assoc, arith, IsTrue, ◌↔◌}
 use Rattle.std.proofs.lemmas.Bool.{cases_eq, cases_lt, both_ways}
 use Rattle.std.proofs.lemmas.List.{append-nil}
-use Rattle.std.proofs.lemmas.List.Elements.{Contains-append_left, Contains-append_right, Contains-get_or, Contains-append_cases, Contains-push}
+use Rattle.std.proofs.lemmas.List.Elements.{Contains-append_left, Contains-append_right, Contains-get_or, Contains-push, Contains-push_cases}
 use Rattle.std.proofs.lemmas.List.Quantifiers.{all_pairs_push}
 use Rattle.std.proofs.lemmas.List.Concat.{flat_map-append}
 use Rattle.std.proofs.lemmas.Option.{slice_get-get_or, slice_get_within}
-use Rattle.std.specs.List.{Contains, flat_map, list_any, range_with_len, slice_get}
+use Rattle.std.specs.List.{Contains, flat_map, range_with_len, slice_get}
 use Rattle.paxos_msg.specs.Keys.{Key, keys_from, keys_of}
-use Rattle.paxos_learner.specs.Input.{same_key, firsts, keys_in_order}
+use Rattle.indexmap.specs.IndexSet.{insert_key}
+use Rattle.paxos_learner.specs.Input.{same_key, has_key, firsts, keys_in_order}
 use Rattle.paxos_msg.specs.declared.message.Body.TheVariants.{Submit}
 use Rattle.paxos_msg.specs.declared.value.Value.{Value}
 use Rattle.paxos_msg.specs.declared.value.Value.TheVariants.{Noop, Keys}
@@ -19,7 +20,6 @@ use Rattle.group_node.specs.Inputs.{AreChosen}
 use Rattle.group_world.specs.Order.{HaveOneName, AreApart, AreInOrder, serials_of}
 use Rattle.group_world.specs.Ordered.{HasSerial, IsDue}
 use Rattle.group_world.proofs.OrderLists.{none_in, first_in, place_of, in_from_place, in_flat_map, of_flat_map, range_more, in_range, of_range}
-use Rattle.paxos_learner.proofs.KeysOnce.{entered_from, entered_new, entered_old, firsts_push, there_found}
 use Rattle.group_world.proofs.OrderSerials.{apart_same, serial_in, serial_of, has_in, own_serials, other_more}
 
 -- all keys of these values, in order
@@ -41,6 +41,11 @@ pub record AreOrderly (keys : List Key) : Type 0 where
   pub once : AreApart keys
   pub order : AreInOrder keys
 
+-- The laws of keys that are read once: one key more, and the test that a key is among others.
+pub record KeyLaws : Type 0 where
+  pub more : (keys : List Key) (k : Key) → firsts (keys ++ k ∷ []) ≡ insert_key same_key (firsts keys) k
+  pub has : (keys : List Key) (k : Key) → IsTrue (has_key keys k) ↔ Contains keys k
+
 -- ---- the firsts of keys
 
 -- the keys so far, with those added once: the same elements
@@ -48,27 +53,39 @@ pub record AreFirsts (keys once : List Key) : Type 0 where
   pub all : (k : Key) → Contains keys k → Contains once k
   pub only : (k : Key) → Contains once k → Contains keys k
 
-firsts_more : (keys : List Key) (k : Key) → AreFirsts keys (firsts keys) → AreFirsts (keys ++ k ∷ []) (firsts (keys ++ k ∷ []))
-firsts_more keys k h =
-    rw (firsts_push keys k) (record {
-      all = λ x here. elim (Contains-append_cases keys (k ∷ []) x here) [
-        | inl before ↦ entered_old (firsts keys) (k ∷ []) x (h.all x before)
-        | inr last ↦ entered_new (firsts keys) (k ∷ []) x last
-      ];
-      only = λ x here. elim (entered_from (firsts keys) (k ∷ []) x here) [
-        | inl before ↦ Contains-append_left keys (k ∷ []) x (h.only x before)
-        | inr last ↦ Contains-append_right keys (k ∷ []) x last
-      ];
-    })
+-- one key more, if it is among them or not
+added : (laws : KeyLaws) (keys once : List Key) (k : Key) (there : Bool) → has_key once k ≡ there → AreFirsts keys once
+    → AreFirsts (keys ++ k ∷ []) (if there then once else once ++ k ∷ [])
+added laws keys once k true e h = record {
+  all = λ x here. elim (Contains-push_cases keys k x here) [
+    | inl before ↦ h.all x before
+    | inr same ↦ subst (Contains once) same ((laws.has once k).0 e)
+  ];
+  only = λ x here. Contains-append_left keys (k ∷ []) x (h.only x here);
+}
+added laws keys once k false e h = record {
+  all = λ x here. elim (Contains-push_cases keys k x here) [
+    | inl before ↦ Contains-append_left once (k ∷ []) x (h.all x before)
+    | inr same ↦ subst (Contains (once ++ k ∷ [])) same (Contains-push once k)
+  ];
+  only = λ x here. elim (Contains-push_cases once k x here) [
+    | inl before ↦ Contains-append_left keys (k ∷ []) x (h.only x before)
+    | inr same ↦ subst (Contains (keys ++ k ∷ [])) same (Contains-push keys k)
+  ];
+}
 
-firsts_all : (keys more : List Key) → AreFirsts keys (firsts keys) → AreFirsts (keys ++ more) (firsts (keys ++ more))
-firsts_all keys [] h = rw (append-nil keys) h
-firsts_all keys (k ∷ more) h =
+firsts_more : (laws : KeyLaws) (keys : List Key) (k : Key) → AreFirsts keys (firsts keys)
+    → AreFirsts (keys ++ k ∷ []) (firsts (keys ++ k ∷ []))
+firsts_more laws keys k h = rw (laws.more keys k) (added laws keys (firsts keys) k (has_key (firsts keys) k) refl h)
+
+firsts_all : (laws : KeyLaws) (keys more : List Key) → AreFirsts keys (firsts keys) → AreFirsts (keys ++ more) (firsts (keys ++ more))
+firsts_all laws keys [] h = rw (append-nil keys) h
+firsts_all laws keys (k ∷ more) h =
     subst (λ (l : List Key). AreFirsts l (firsts l)) (append_assoc keys (k ∷ []) more)
-    (firsts_all (keys ++ k ∷ []) more (firsts_more keys k h))
+    (firsts_all laws (keys ++ k ∷ []) more (firsts_more laws keys k h))
 
-pub keys_are_firsts : (keys : List Key) → AreFirsts keys (firsts keys)
-keys_are_firsts keys = firsts_all [] keys (record { all = λ k h. h; only = λ k h. h })
+pub keys_are_firsts : (laws : KeyLaws) (keys : List Key) → AreFirsts keys (firsts keys)
+keys_are_firsts laws keys = firsts_all laws [] keys (record { all = λ k h. h; only = λ k h. h })
 
 -- ---- one key more keeps the order
 
@@ -160,39 +177,39 @@ follows_in keys more node start serial within (begins one) = begins one
 follows_in keys more node start serial within (goes_on before next has) =
     goes_on before next (has_in keys more node start before within has)
 
-push_orderly : (keys once : List Key) (k : Key) (there : Bool) → list_any (same_key k) once ≡ there → AreOrderly once → AreFirsts keys once
+push_orderly : (laws : KeyLaws) (keys once : List Key) (k : Key) (there : Bool) → has_key once k ≡ there → AreOrderly once → AreFirsts keys once
     → Follows keys k.node k.start k.serial → ((x : Key) → Contains keys x → HaveOneName x k → x ≡ k)
     → AreOrderly (if there then once else once ++ k ∷ [])
-push_orderly keys once k true e h f follows same = h
-push_orderly keys once k false e h f follows same =
+push_orderly laws keys once k true e h f follows same = h
+push_orderly laws keys once k false e h f follows same =
     next_orderly once k h (follows_in keys once k.node k.start k.serial f.all follows)
-    (λ x among name. both_ways (list_any (same_key k) once) e
-    (there_found once k (subst (λ (y : Key). Contains once y) (same x (f.only x among) name) among)))
+    (λ x among name. both_ways (has_key once k) e
+    ((laws.has once k).1 (subst (λ (y : Key). Contains once y) (same x (f.only x among) name) among)))
 
-push_good : (keys : List Key) (k : Key) → AreGood keys → Follows keys k.node k.start k.serial
+push_good : (laws : KeyLaws) (keys : List Key) (k : Key) → AreGood keys → Follows keys k.node k.start k.serial
     → ((x : Key) → Contains keys x → HaveOneName x k → x ≡ k) → AreGood (keys ++ k ∷ [])
-push_good keys k h follows same = record {
+push_good laws keys k h follows same = record {
   orderly =
-      rw (firsts_push keys k)
-      (push_orderly keys (firsts keys) k (list_any (same_key k) (firsts keys)) refl h.orderly h.firsts follows same);
-  firsts = firsts_more keys k h.firsts;
+      rw (laws.more keys k)
+      (push_orderly laws keys (firsts keys) k (has_key (firsts keys) k) refl h.orderly h.firsts follows same);
+  firsts = firsts_more laws keys k h.firsts;
 }
 
-batch_good : (keys : List Key) (node start serial : ℕ) (bytes : List ℕ) → AreGood keys → Follows keys node start serial
+batch_good : (laws : KeyLaws) (keys : List Key) (node start serial : ℕ) (bytes : List ℕ) → AreGood keys → Follows keys node start serial
     → AreUniform (keys ++ keys_from node start serial bytes) → AreGood (keys ++ keys_from node start serial bytes)
-batch_good keys node start serial [] h follows uniform = rw (append-nil keys) h
-batch_good keys node start serial (byte ∷ bytes) h follows uniform =
+batch_good laws keys node start serial [] h follows uniform = rw (append-nil keys) h
+batch_good laws keys node start serial (byte ∷ bytes) h follows uniform =
     let k : Key = record { node = node; start = start; serial = serial; byte = byte } in
     let more : List Key = keys_from node start (serial + 1) bytes in
     let next : List Key = keys ++ k ∷ [] in
     let join : next ++ more ≡ keys ++ (k ∷ more) = append_assoc keys (k ∷ []) more in
     let one : AreGood next =
-    push_good keys k h follows
+    push_good laws keys k h follows
     (λ x among name. uniform.same x k (Contains-append_left keys (k ∷ more) x among)
     (Contains-append_right keys (k ∷ more) k (first_in k more)) name) in
     let last : HasSerial next node start serial =
     record { key = k; among = Contains-push keys k; node_is = refl; start_is = refl; serial_is = refl } in
-    subst AreGood join (batch_good next node start (serial + 1) bytes one (goes_on serial refl last) (subst AreUniform (sym join) uniform))
+    subst AreGood join (batch_good laws next node start (serial + 1) bytes one (goes_on serial refl last) (subst AreUniform (sym join) uniform))
 
 -- ---- the chosen values
 
@@ -205,8 +222,8 @@ here_place : {X : Type 0} (xs : List X) (y : X) (ys : List X) → slice_get (xs 
 here_place [] y ys = refl
 here_place (x ∷ xs) y ys = here_place xs y ys
 
-module _ {size : ℕ} {sent : Sent} {typed : List Key} (apart : AreApart typed) (submits : AreSubmits size sent typed)
-    (agreed : IsAgreed size sent) where
+module _ {size : ℕ} {sent : Sent} {typed : List Key} (laws : KeyLaws) (apart : AreApart typed)
+    (submits : AreSubmits size sent typed) (agreed : IsAgreed size sent) where
   pub front_left : (values more : List Value) → AreChosen size sent (values ++ more) → AreChosen size sent values
   front_left values more front = record { chosen = λ s v e. front.chosen s v (left_place values more s v e) }
 
@@ -263,7 +280,7 @@ module _ {size : ℕ} {sent : Sent} {typed : List Key} (apart : AreApart typed) 
         | inl less ↦ absurd (p.lacks (record {
           key = k;
           among =
-              (keys_are_firsts (all_keys p.below)).all k
+              (keys_are_firsts laws (all_keys p.below)).all k
               (in_flat_map keys_of p.below v k (longer_has p.below values more v p.chosen front less)
               (first_in k (keys_from node start (first + 1) bytes)));
           node_is = refl;
@@ -272,7 +289,7 @@ module _ {size : ℕ} {sent : Sent} {typed : List Key} (apart : AreApart typed) 
         }))
         | inr within ↦ goes_on p.before p.next (has_in (keys_in_order p.below) (all_keys values) node start p.before
             (λ x among. shorter_in p.below values p.chosen (front_left values (v ∷ more) front) within x
-            ((keys_are_firsts (all_keys p.below)).only x among)) p.has)
+            ((keys_are_firsts laws (all_keys p.below)).only x among)) p.has)
       ]
 
   submitted_due : (v : Value) → IsFree sent v → IsDue size sent v
@@ -290,7 +307,7 @@ module _ {size : ℕ} {sent : Sent} {typed : List Key} (apart : AreApart typed) 
   value_good values more Noop h front due uniform = rw (append-nil (all_keys values)) h
   value_good values more (Keys node start first []) h front due uniform = rw (append-nil (all_keys values)) h
   value_good values more (Keys node start first (byte ∷ bytes)) h front due uniform =
-      batch_good (all_keys values) node start first (byte ∷ bytes) h (due_follows values more node start first byte bytes front due) uniform
+      batch_good laws (all_keys values) node start first (byte ∷ bytes) h (due_follows values more node start first byte bytes front due) uniform
 
   values_good : (values more : List Value) → AreGood (all_keys values) → AreChosen size sent (values ++ more)
       → AreGood (all_keys (values ++ more))

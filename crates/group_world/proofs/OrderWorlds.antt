@@ -10,7 +10,7 @@ use Rattle.group_node.specs.Inputs.{AreChosen}
 use Rattle.group_world.specs.Ordered.{IsOrdered}
 use Rattle.group_world.specs.Sound.{IsSound}
 use Rattle.group_world.specs.Group.{World, world_state}
-use Rattle.group_world.proofs.OrderFronts.{all_keys, AreOrderly, AreSubmits, front_orderly, front_typed, IsAgreed, keys_are_firsts}
+use Rattle.group_world.proofs.OrderFronts.{all_keys, AreOrderly, AreSubmits, front_orderly, front_typed, IsAgreed, KeyLaws, keys_are_firsts}
 
 -- The laws of the crates below: agreement; what is chosen stays chosen.
 pub record ChoiceLaws : Type 0 where
@@ -20,7 +20,7 @@ pub record ChoiceLaws : Type 0 where
 
 -- ---- order and once
 
-module _ (laws : ChoiceLaws) {w : World} (sound : IsSound w) (h : IsOrdered w) where
+module _ (laws : ChoiceLaws) (keys : KeyLaws) {w : World} (sound : IsSound w) (h : IsOrdered w) where
   world_agreed : IsAgreed w.group.size (world_state w).sent
   world_agreed = record {
     one = λ s v u. laws.one w.group.size s (world_state w).sent _ v u sound.grew;
@@ -32,11 +32,11 @@ module _ (laws : ChoiceLaws) {w : World} (sound : IsSound w) (h : IsOrdered w) w
 
   pub world_orderly : (values : List Value) → AreChosen w.group.size (world_state w).sent values → AreOrderly (keys_in_order values)
   world_orderly values front =
-      front_orderly h.keys.once world_submits world_agreed values front
+      front_orderly keys h.keys.once world_submits world_agreed values front
 
   -- the keys of chosen values were typed
   pub chosen_typed : (values : List Value) → AreChosen w.group.size (world_state w).sent values → (k : Key)
       → Contains (keys_in_order values) k → Contains (world_state w).typed k
   chosen_typed values front k among =
-      front_typed h.keys.once world_submits world_agreed values front k
-      ((keys_are_firsts (all_keys values)).only k among)
+      front_typed keys h.keys.once world_submits world_agreed values front k
+      ((keys_are_firsts keys (all_keys values)).only k among)

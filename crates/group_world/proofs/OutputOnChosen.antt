@@ -1,23 +1,27 @@
 -- What machines write and consoles show is output on chosen values.
-use Rattle.std.proofs.Common.{◌≡◌, ◌∙◌, ℕ, ◌<◌, List, [], slice_get, Some, inl, sym, append-nil, arith}
+use Rattle.std.proofs.Common.{◌≡◌, ◌∙◌, ℕ, ◌<◌, ◌≤◌, List, [], length, slice_get, Some, inl, sym, append-nil, arith}
 use Rattle.std.proofs.lemmas.Option.{slice_get_within}
-use Rattle.std.specs.FinMap.{FinMap}
+use Rattle.std.specs.FinMap.{FinMap, get}
 use Rattle.std.specs.Ordering.{nat_cmp}
 use Rattle.pcode_file.specs.Parts.{Parts}
 use Rattle.pcode_machine.specs.Runs.{AreComparable, IsPrefix, IsOutput}
 use Rattle.paxos_msg.specs.declared.value.Value.{Value}
 use Rattle.paxos_msg.specs.Batches.{Grew, Record, Sent}
-use Rattle.paxos_learner.specs.Input.{front_values, input_of}
+use Rattle.paxos_learner.specs.Input.{front_values, input_of, values_below}
 use Rattle.paxos_learner.specs.Learner.{front_of}
 use Rattle.group_node.specs.Inputs.{AreChosen, IsInput}
 use Rattle.group_node.specs.States.{input}
 use Rattle.group_world.specs.Group.{IsUp, member_at, World, world_state}
 use Rattle.group_world.specs.Member.{Member, Running}
 use Rattle.group_world.specs.Sound.{IsLearnedChosen, IsSound}
-use Rattle.pcode_machine.proofs.Prefixes.{prefix_refl}
-use Rattle.paxos_learner.proofs.FrontValues.{get_below, length_below}
 use Rattle.group_world.proofs.ReleasedBytes.{IsOffer, written}
 use Rattle.group_world.proofs.WorldAsGroup.{running}
+
+-- The law of the values up to the front.
+pub record FrontLaws : Type 0 where
+  pub many : (learned : FinMap nat_cmp Value) (n : ℕ) → n ≤ front_of learned → length (values_below learned n) ≡ n
+  pub at_place : (learned : FinMap nat_cmp Value) (n s : ℕ) → n ≤ front_of learned → s < n
+      → slice_get (values_below learned n) s ≡ get learned s
 
 -- the laws of the crates below
 pub record PlayLaws : Type 0 where
@@ -26,15 +30,18 @@ pub record PlayLaws : Type 0 where
       AreChosen size sent values → IsInput size sent x → IsPrefix (input_of values) x
   pub longer : (p : Parts) (x y a : List ℕ) → IsPrefix x y → IsOutput p x a → IsOutput p y a
   pub compared : (p : Parts) (x y a b : List ℕ) → AreComparable x y → IsOutput p x a → IsOutput p y b → AreComparable a b
+  pub itself : (a : List ℕ) → IsPrefix a a
+  pub shorter : (a b : List ℕ) → AreComparable a b → length a ≤ length b → IsPrefix a b
+  pub fronts : FrontLaws
 
 -- what is learned up to the front is chosen
-pub front_chosen : {size : ℕ} {sent : Sent} {learned : FinMap nat_cmp Value} → IsLearnedChosen size sent learned
+pub front_chosen : FrontLaws → {size : ℕ} {sent : Sent} {learned : FinMap nat_cmp Value} → IsLearnedChosen size sent learned
     → AreChosen size sent (front_values learned)
-front_chosen {learned = learned} h = record {
+front_chosen laws {learned = learned} h = record {
   chosen = λ s v e.
       let low : s < front_of learned =
-      omega (arith, length_below learned (front_of learned) (omega arith), slice_get_within (front_values learned) s v e) in
-      h.chosen s v (sym (get_below learned (front_of learned) (omega arith) s low) ∙ e);
+      omega (arith, laws.many learned (front_of learned) (omega arith), slice_get_within (front_values learned) s v e) in
+      h.chosen s v (sym (laws.at_place learned (front_of learned) s (omega arith) low) ∙ e);
 }
 
 module _ (laws : PlayLaws) {w : World} (h : IsSound w) where
@@ -60,10 +67,12 @@ module _ (laws : PlayLaws) {w : World} (h : IsSound w) where
       let sound = running h up in
       let output : IsOutput w.program (input q.known) (written q) =
       (q.progress.steps, rw sound.program (record { rest = []; whole = sym (append-nil _) })) in
+      let compare =
+      laws.compared w.program x x m.console (written q) (inl (laws.itself x)) (console_output i m x up.there chosen)
+      (chosen_output (front_values q.known.learner.learned) x (written q) (front_chosen laws.fronts sound.learned) chosen output) in
       record {
-        compare =
-            laws.compared w.program x x m.console (written q) (inl (prefix_refl x)) (console_output i m x up.there chosen)
-            (chosen_output (front_values q.known.learner.learned) x (written q) (front_chosen sound.learned) chosen output);
+        compare = compare;
+        begins = laws.shorter m.console (written q) compare;
         shown = sound.shown;
         byte = e;
       }

@@ -4,7 +4,6 @@ use Rattle.std.proofs.lemmas.Bool.{cases_eq, eq-eqb, ne_eqb, lt-ltb}
 use Rattle.std.proofs.lemmas.List.{length_push}
 use Rattle.std.proofs.lemmas.Option.{slice_get_within}
 use Rattle.pcode_machine.specs.Runs.{AreComparable, IsPrefix, out}
-use Rattle.pcode_machine.proofs.Prefixes.{shorter_comparable}
 use Rattle.group_node.specs.Output.{unreleased_of}
 use Rattle.group_node.specs.States.{input}
 use Rattle.group_world.specs.Member.{Running}
@@ -61,9 +60,11 @@ compare_get a b k x y (inr h) e f = let there = prefix_get b a k y h f in cc
 
 -- ---- the offer
 
--- Byte `k` of some output is offered to a console that is comparable with the output and has shown at least `k` bytes.
+-- Byte `k` of some output is offered to a console that is comparable with the output, so begins it if it is no longer, and
+-- has shown at least `k` bytes.
 pub record IsOffer (console all : List ℕ) (k b : ℕ) : Type 0 where
   pub compare : AreComparable console all
+  pub begins : length console ≤ length all → IsPrefix console all
   pub shown : k ≤ length console
   pub byte : slice_get all k ≡ Some b
 
@@ -72,7 +73,7 @@ module _ {console all : List ℕ} {k b : ℕ} (h : IsOffer console all k b) wher
   fresh_prefix : k ≡ length console → IsPrefix (console ++ b ∷ []) all
   fresh_prefix e =
       push_prefix console all b
-      (shorter_comparable console all h.compare (omega (arith, slice_get_within all k b h.byte, e)))
+      (h.begins (omega (arith, slice_get_within all k b h.byte, e)))
       (subst (λ (n : ℕ). slice_get all n ≡ Some b) e h.byte)
 
   -- if the console shows more than `k` bytes, byte `k` is one of them

@@ -17,7 +17,6 @@ use Rattle.group_world.specs.Sound.{IsSound}
 use Rattle.group_world.proofs.OrderWorlds.{ChoiceLaws}
 use Rattle.group_world.proofs.OrderLists.{none_in}
 use Rattle.group_world.proofs.WorldAsGroup.{running}
-use Rattle.pcode_machine.proofs.Prefixes.{prefix_refl}
 use Rattle.group_world.proofs.ReleasedBytes.{no_gap, repeat_is_same}
 use Rattle.group_world.proofs.OutputOnChosen.{PlayLaws, console_output, offer_fits}
 
@@ -73,7 +72,7 @@ module _ (laws : PlayLaws) (w : World) (h : IsSound w) where
   pub consoles_agree : ConsolesAgree (world_state w)
   consoles_agree i j =
       let (x, chosen) = laws.there w.group.size (world_state w).sent in
-      laws.compared w.program x x _ _ (inl (prefix_refl x)) (consoles_hold_output x i chosen) (consoles_hold_output x j chosen)
+      laws.compared w.program x x _ _ (inl (laws.itself x)) (consoles_hold_output x i chosen) (consoles_hold_output x j chosen)
 
   -- the byte with number `k` comes next, or is there
   FitsNext : List ℕ → ℕ → ℕ → Type 0

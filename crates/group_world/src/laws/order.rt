@@ -16,7 +16,9 @@ ghost use Rattle.group_world.specs.Ordered.{IsOrdered};
 ghost use Rattle.group_world.specs.Sound.{IsSound};
 
 use group_node::laws::{packets_fit, waiting_keys_are_a_row};
-use paxos_learner::laws::{input_grows, learned_stays, values_are_learned};
+use paxos_learner::laws::{
+    input_grows, key_tests_are_exact, keys_are_read_once, learned_stays, values_are_learned,
+};
 use paxos_msg::grammar::{one_message, reading_is_spelling};
 use paxos_msg::laws::{agreement, sent_only_grows, votes_are_by_place};
 
@@ -26,6 +28,8 @@ pub fn ordered_worlds_are_orderly()
     ensures once { (w : World) → IsSound w → IsOrdered w → KeysOnce (world_state w) }
     ensures order { (w : World) → IsSound w → IsOrdered w → SerialsInOrder (world_state w) }
 {
+    keys_are_read_once();
+    key_tests_are_exact();
     agreement();
 }
 
@@ -36,6 +40,8 @@ pub fn events_keep_order()
     ensures goes_on { (w v : World) (plan : Option Bool) (act : Act) (d : Done) → IsSound w
         → IsSound v → IsOrdered w → Performs w plan act d v → IsOrdered v }
 {
+    keys_are_read_once();
+    key_tests_are_exact();
     agreement();
     sent_only_grows();
     one_message();

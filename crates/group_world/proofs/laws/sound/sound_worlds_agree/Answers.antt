@@ -13,6 +13,9 @@ play c = record {
   begins = c.input_is_chosen.ensures.begins;
   longer = c.output_only_grows.ensures.longer;
   compared = c.output_only_grows.ensures.compared;
+  itself = c.prefixes_are_ordered.ensures.itself;
+  shorter = c.prefixes_are_ordered.ensures.shorter;
+  fronts = record { many = c.values_are_learned.ensures.many; at_place = c.values_are_learned.ensures.at_place };
 }
 
 pub returns-clause-learned_agree : goal.returns-clause-learned_agree

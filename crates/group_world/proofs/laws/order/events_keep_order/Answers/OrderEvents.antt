@@ -131,11 +131,14 @@ module _ (laws : Laws) {w : World} (sound : IsSound w) (h : IsOrdered w) {i : �
   node_is = ap (λ (me : Me). me.node) (running sound up).me_is
 
   front : AreChosen w.group.size (world_state w).sent (front_values q.known.learner.learned)
-  front = front_chosen (running sound up).learned
+  front =
+      front_chosen (record { many = laws.values_are_learned.ensures.many; at_place = laws.values_are_learned.ensures.at_place })
+      (running sound up).learned
 
   was_typed : (k : Key) → Contains (read_of q.known) k → Contains (world_state w).typed k
   was_typed =
-      chosen_typed (record { one = laws.agreement.ensures.one_value; free = laws.agreement.ensures.submitted }) sound h
+      chosen_typed (record { one = laws.agreement.ensures.one_value; free = laws.agreement.ensures.submitted })
+      (record { more = laws.keys_are_read_once.ensures.more; has = laws.key_tests_are_exact.ensures.has }) sound h
       (front_values q.known.learner.learned) front
 
   pub goes_starts : {o : Option Value} {done : Response} → Goes q.known o done → m.kept.starts ≤ done.node.kept.starts

@@ -21,6 +21,9 @@ play laws = record {
   begins = laws.input_is_chosen.ensures.begins;
   longer = laws.output_only_grows.ensures.longer;
   compared = laws.output_only_grows.ensures.compared;
+  itself = laws.prefixes_are_ordered.ensures.itself;
+  shorter = laws.prefixes_are_ordered.ensures.shorter;
+  fronts = record { many = laws.values_are_learned.ensures.many; at_place = laws.values_are_learned.ensures.at_place };
 }
 
 module _ (laws : Laws) {w : World} (h : IsSound w) {i : ℕ} {m : Member} {q : Running} (up : IsUp w i m q) where
@@ -64,7 +67,7 @@ module _ (laws : Laws) {w : World} (h : IsSound w) {i : ℕ} {m : Member} {q : R
         | inl same ↦ rw same (h.members i m up.there).shown
         | inr begins ↦ record {
           values = front_values q.known.learner.learned;
-          chosen = front_chosen sound.learned;
+          chosen = front_chosen (play laws).fronts sound.learned;
           output = (q.progress.steps, rw sound.program at begins);
         }
       ] in
