@@ -177,7 +177,8 @@ follows_in keys more node start serial within (begins one) = begins one
 follows_in keys more node start serial within (goes_on before next has) =
     goes_on before next (has_in keys more node start before within has)
 
-push_orderly : (laws : KeyLaws) (keys once : List Key) (k : Key) (there : Bool) → has_key once k ≡ there → AreOrderly once → AreFirsts keys once
+push_orderly : (laws : KeyLaws) (keys once : List Key) (k : Key) (there : Bool) → has_key once k ≡ there → AreOrderly once
+    → AreFirsts keys once
     → Follows keys k.node k.start k.serial → ((x : Key) → Contains keys x → HaveOneName x k → x ≡ k)
     → AreOrderly (if there then once else once ++ k ∷ [])
 push_orderly laws keys once k true e h f follows same = h
@@ -195,7 +196,8 @@ push_good laws keys k h follows same = record {
   firsts = firsts_more laws keys k h.firsts;
 }
 
-batch_good : (laws : KeyLaws) (keys : List Key) (node start serial : ℕ) (bytes : List ℕ) → AreGood keys → Follows keys node start serial
+batch_good : (laws : KeyLaws) (keys : List Key) (node start serial : ℕ) (bytes : List ℕ) → AreGood keys
+    → Follows keys node start serial
     → AreUniform (keys ++ keys_from node start serial bytes) → AreGood (keys ++ keys_from node start serial bytes)
 batch_good laws keys node start serial [] h follows uniform = rw (append-nil keys) h
 batch_good laws keys node start serial (byte ∷ bytes) h follows uniform =
@@ -209,7 +211,8 @@ batch_good laws keys node start serial (byte ∷ bytes) h follows uniform =
     (Contains-append_right keys (k ∷ more) k (first_in k more)) name) in
     let last : HasSerial next node start serial =
     record { key = k; among = Contains-push keys k; node_is = refl; start_is = refl; serial_is = refl } in
-    subst AreGood join (batch_good laws next node start (serial + 1) bytes one (goes_on serial refl last) (subst AreUniform (sym join) uniform))
+    subst AreGood join
+    (batch_good laws next node start (serial + 1) bytes one (goes_on serial refl last) (subst AreUniform (sym join) uniform))
 
 -- ---- the chosen values
 
@@ -307,7 +310,8 @@ module _ {size : ℕ} {sent : Sent} {typed : List Key} (laws : KeyLaws) (apart :
   value_good values more Noop h front due uniform = rw (append-nil (all_keys values)) h
   value_good values more (Keys node start first []) h front due uniform = rw (append-nil (all_keys values)) h
   value_good values more (Keys node start first (byte ∷ bytes)) h front due uniform =
-      batch_good laws (all_keys values) node start first (byte ∷ bytes) h (due_follows values more node start first byte bytes front due) uniform
+      batch_good laws (all_keys values) node start first (byte ∷ bytes) h
+      (due_follows values more node start first byte bytes front due) uniform
 
   values_good : (values more : List Value) → AreGood (all_keys values) → AreChosen size sent (values ++ more)
       → AreGood (all_keys (values ++ more))
