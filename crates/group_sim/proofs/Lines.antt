@@ -10,7 +10,7 @@ use Rattle.group_sim.specs.declared.simulation.Stopped.{Stopped}
 use Rattle.group_sim.specs.Moments.{AreDone, HaltsAt, IsScriptDone, IsHalted, IsNoGroup, LineIsDone, Moment, Says, halt_answer, first_moment, halt_of}
 use Rattle.group_sim.proofs.Turns.{halts_at, one_more}
 
--- the line behind n others, of which the last has this number
+-- the line after `n` others, the last of which has this number
 pub line_there : (size n number : ℕ) (lines : List Line) (default : Line) (mid b : Moment) (r : Result (Unit {0}) Halt)
     → number ≡ n + 1 → n < length lines
     → Says size (number + 1) (get_or lines n default) mid r b → LineIsDone size lines (2 + n) mid r b
@@ -53,7 +53,7 @@ all_done w lines n b old e p =
     let P : ℕ → Type 0 = λ k. AreDone (LineIsDone w.group.size lines) 2 k (first_moment w old) b in
     record { end = b; done = subst P e p; written = refl }
 
--- what comes of it where the world refused an event or the settle is too long
+-- the outcome where the world refused an event or the settle is too long
 pub stops : (w : World) (lines : List Line) (number : ℕ) (h : Halt) (old new : Option (List ℕ))
     (r : Result (Option Stopped) RunIo) → r ≡ halt_answer number h
     → IsHalted w lines number h old new

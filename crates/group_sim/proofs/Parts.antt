@@ -31,7 +31,7 @@ pub failed-first : {E : Type 0} (old new : Option (List ℕ)) (r : Result (Unit 
 failed-first old new r a ps e h =
     failed old new r (followed a ps) e (front-of old new a ps h)
 
--- and at a later one, of which the parts before were written
+-- and at a later one, where the parts before it were written
 pub failed-at : {E : Type 0} (old mid new : Option (List ℕ)) (r : Result (Unit {0}) E)
     (a p : List ℕ) (ps : List (List ℕ)) → IsErr r → Appends old mid a → AppendsFront mid new p
     → WritesText old r new (followed (a ++ p) ps)

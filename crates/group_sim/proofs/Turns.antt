@@ -9,14 +9,14 @@ pub one_more : (deed : ℕ → Deed) (first n : ℕ) (a mid b : Moment) → AreD
     → deed (first + n) mid (Ok tt) b → AreDone deed first (n + 1) a b
 one_more deed first n a mid b p q = rw (add-one n) (mid, p, q)
 
--- the one behind them halts
+-- the one after them halts
 pub halts_at : (deed : ℕ → Deed) (first n : ℕ) (a mid : Moment) (h : Halt) (b : Moment) → AreDone deed first n a mid
     → deed (first + n) mid (Err h) b → HaltsAt deed first (first + n) a h b
 halts_at deed first n a mid h b p q =
     let e : first + n - first ≡ n = omega arith in
     record { before = mid; done = rw e p; after_first = omega arith; halts = q }
 
--- and it is one of so many
+-- and it is one of the first `count`
 pub halts_within : (deed : ℕ → Deed) (first n count : ℕ) (a mid : Moment) (h : Halt) (b : Moment) → n < count
     → AreDone deed first n a mid → deed (first + n) mid (Err h) b
     → (number : ℕ) × (number < first + count) × HaltsAt deed first number a h b

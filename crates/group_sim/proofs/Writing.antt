@@ -43,7 +43,7 @@ left-none old new text rest e h =
     let same : text ≡ h.front = h.whole ∙ ap (λ l. h.front ++ l) e ∙ append-nil h.front in
     let P : List ℕ → Type 0 = λ l. Appends old new l in subst P (sym same) h.appends
 
--- ---- one text behind another
+-- ---- one text after another
 
 -- a front of the first
 pub front-first : (old new : Option (List ℕ)) (a b : List ℕ) → AppendsFront old new a → AppendsFront old new (a ++ b)

@@ -14,7 +14,7 @@ use std::test::Fail;
 /// The number of turns of each node.
 const TURNS: u32 = 40;
 
-/// The number of sends that fail, and of receives, each in a run of its own.
+/// The number of sends that fail, and of receives, each in a separate run.
 const FAILURES: u32 = 200;
 
 /// The failure: the send of this number, and the receive of this number, counted from 1. Number 0

@@ -95,8 +95,8 @@ writes_none c n = subst (Appends c c) (sym (drop_all n [] (omega arith))) (Appen
 
 -- ---- what a console shows
 
--- what was released, once more of what waits is
--- the bytes up to a later one begin with those up to an earlier one, and the others are the first that follow there
+-- what was released, once more of what waits is the bytes up to a later one begin with those up to
+-- an earlier one, and the others are the first that follow there
 take_then : (k n : ℕ) (xs : List ℕ) → take (k + n) xs ≡ take k xs ++ take n (drop k xs)
 take_then k n xs = take-add k n xs
 

@@ -49,7 +49,8 @@ same_index at source bytes sender index read low is from =
     let twice : Some sender ≡ Some (suc from.index) = sym read ∙ from.named in
     cc
 
--- a datagram that names a sender with an address came from that sender, if it came from that address
+-- a datagram that names a sender with an address came from that sender, if it came from that
+-- address
 pub came_from : (at : List SocketAddr) (source : SocketAddr) (bytes : List ℕ) (sender index : ℕ)
     (address : SocketAddr) → slice_get bytes sender_index ≡ Some sender → 1 ≤ sender
     → index ≡ sender - 1 → slice_get at index ≡ Some address

@@ -313,8 +313,8 @@ as_member P n console {m} {q} is up h =
 
 -- ---- a call that the node has answered
 
--- What holds of the node `was` after a call with the plan: it is open unless its save failed; the call ends as it should,
--- however its place is settled; and nothing has changed if memory ran out.
+-- What holds of the node `was` after a call with the plan: it is open unless its save failed; the
+-- call ends as it should, however its place is settled; and nothing has changed if memory ran out.
 pub record IsAnswered (plan : Option Bool) (was new : NodeState StoreState) (console : List ℕ) (ask : Ask) (now : List Datagram)
     (answer : Answer) : Type 0 where
   pub old : NodeState StoreState

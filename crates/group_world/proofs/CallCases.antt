@@ -1,4 +1,5 @@
--- The calls that may be refused, by cases: what holds of each refusal, and of the call if it is not refused, holds of it.
+-- The calls that may be refused, by cases: what holds of each refusal, and of the call if it is not
+-- refused, holds of it.
 use Rattle.std.proofs.Common.{◌≢◌, ℕ, ◌<◌, [], ◌∷◌, length, inl, inr}
 use Rattle.std.proofs.lemmas.Bool.{cases_eq, cases_lt, eq-eqb, le-ltb, lt-ltb, ne_eqb}
 use Rattle.paxos_msg.specs.Batches.{Record}

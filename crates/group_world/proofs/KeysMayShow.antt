@@ -1,4 +1,5 @@
--- The events of the witness lead to a world in which the key is learned and shown, for the law `keys_may_show`.
+-- The events of the witness lead to a world in which the key is learned and shown, for the law
+-- `keys_may_show`.
 use Rattle.std.proofs.Common.{◌≡◌, ◌∙◌, ℕ, Bool, true, false, List, [], ◌∷◌, ◌++◌, drop, take, length, slice_get, Option, None, Some, refl, sym, ap, subst, arith}
 use Rattle.std.proofs.lemmas.List.{map-append}
 use Rattle.pcode_ops.specs.Decoding.{instr_of}

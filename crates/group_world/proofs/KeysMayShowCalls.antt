@@ -79,7 +79,8 @@ leads = record (new_proposer ballot 0 1) { coverages = slice_set (replicate 10 0
 abbrev proposes : Proposer
 proposes = proposing leads (Some letter_batch)
 
--- the node after each call: it is up; it has campaigned; it leads; a key waits; it has proposed, voted for and learned it
+-- the node after each call: it is up; it has campaigned; it leads; a key waits; it has proposed,
+-- voted for and learned it
 abbrev pub up : Known
 up = node twice nothing no_tallies None [] [] 1
 

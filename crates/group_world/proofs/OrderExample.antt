@@ -1,5 +1,5 @@
--- A group of one node, in which three keys were typed and chosen as the batches 1..1, 1..2 and 3..3: what was sent, and
--- how it grew.
+-- A group of one node, in which three keys were typed and chosen as the batches 1..1, 1..2 and
+-- 3..3: what was sent, and how it grew.
 use Rattle.std.proofs.Common.{◌≡◌, ◌≢◌, ℕ, zero, suc, ◌==◌, ◌<◌, ◌≤◌, Bool, IsTrue, List, [], ◌∷◌, ◌++◌, Option, Some, None, refl, sym, ap, subst, inl, inr, ◌⊎◌, arith, lit<}
 use Rattle.std.proofs.lemmas.Bool.{eqb-true}
 use Rattle.std.proofs.lemmas.List.Elements.{Contains-push}

@@ -26,7 +26,8 @@ use Rattle.group_world.proofs.OrderSerials.{apart_same, serial_in, serial_of, ha
 abbrev pub all_keys : List Value → List Key
 all_keys values = flat_map keys_of values
 
--- What agreement says of what was sent: at most one value is chosen at a place, and it is a no-op or was submitted.
+-- What agreement says of what was sent: at most one value is chosen at a place, and it is a no-op
+-- or was submitted.
 pub record IsAgreed (size : ℕ) (sent : Sent) : Type 0 where
   pub one : (s : ℕ) (v u : Value) → IsChosen size sent s v → IsChosen size sent s u → v ≡ u
   pub free : (s : ℕ) (v : Value) → IsChosen size sent s v → IsFree sent v
@@ -89,7 +90,8 @@ keys_are_firsts laws keys = firsts_all laws [] keys (record { all = λ k h. h; o
 
 -- ---- one key more keeps the order
 
--- what a key needs to come after others: its serial is 1, or one of the others has the serial before
+-- what a key needs to come after others: its serial is 1, or one of the others has the serial
+-- before
 pub data Follows (keys : List Key) (node start serial : ℕ) : Type 0 where
   begins : serial ≡ 1 → Follows keys node start serial
   goes_on : (before : ℕ) → before + 1 ≡ serial → HasSerial keys node start before → Follows keys node start serial

@@ -22,7 +22,8 @@ use Rattle.group_world.specs.Sound.{IsSpelling}
 use Rattle.group_world.specs.Group.{message_of, messages_in}
 use Rattle.group_world.proofs.OrderExample.{ballot, batch_a, batch_ab, batch_c, EachOf, message, said_of, sent_3, typed_a, typed_ab, typed_c}
 
--- The laws of the crates below: what is read is what was spelled, and a vote that is found is one of the votes.
+-- The laws of the crates below: what is read is what was spelled, and a vote that is found is one
+-- of the votes.
 pub record ExampleLaws : Type 0 where
   pub read : (group : Group) (bytes : List ℕ) (m : Msg) → IsGroup group → AreBytes bytes
       → (message_at group bytes ≡ Ok m) ↔ Msgs group bytes m

@@ -1,4 +1,5 @@
--- The typed keys of one start of a node as a row: what follows for the keys that wait, and how the row goes on.
+-- The typed keys of one start of a node as a row: what follows for the keys that wait, and how the
+-- row goes on.
 use Rattle.std.proofs.Common.{◌≡◌, ◌∙◌, ℕ, zero, suc, ◌+◌, List, [], ◌∷◌, ◌++◌, length, map, refl, sym, ap, subst, inl, inr, ◌⊎◌, append_assoc, arith}
 use Rattle.std.proofs.lemmas.List.{map-append, length-map}
 use Rattle.std.proofs.lemmas.List.Elements.{Contains-append_left, Contains-append_right, All-append, All-contains, All-nil, All-weaker}
@@ -13,7 +14,8 @@ use Rattle.group_world.specs.Ordered.{HasSerial, IsFirstUnread, IsPrepared, AreT
 use Rattle.group_world.proofs.OrderLists.{first_in, filter_none, of_filter, of_map, of_range, in_range, range_more, row_parts}
 use Rattle.group_world.proofs.OrderSerials.{apart_same, not_of, of_test, other_more, own_more, own_serials, serial_in}
 
--- The keys that still wait once more keys are read: those before them are read, and the first that waits is not.
+-- The keys that still wait once more keys are read: those before them are read, and the first that
+-- waits is not.
 pub record IsParted (read keys stay : List Key) : Type 0 where
   pub gone : List Key
   pub parts : keys ≡ gone ++ stay
@@ -25,7 +27,7 @@ first_more : (read keys : List Key) (k : Key) → IsFirstUnread read keys → (C
 first_more read [] k first out = out
 first_more read (key ∷ keys) k first out = first
 
--- the row of a start of which no key was typed
+-- the row of a start in which no key was typed
 pub fresh_row : (typed : List Key) (i start : ℕ) (read : List Key)
     → ((k : Key) → Contains typed k → k.node ≡ i → k.start ≡ start → ⊥) → AreTypedKeys typed i start 0 [] read
 fresh_row typed i start read none =

@@ -59,7 +59,8 @@ module _ (laws : PlayLaws) {w : World} (h : IsSound w) where
       let shown = (h.members i m there).shown in
       chosen_output shown.values x m.console shown.chosen chosen shown.output
 
-  -- the next byte that a node releases is one of what its machine has written, and its console is comparable with that
+  -- the next byte that a node releases is one of what its machine has written, and its console is
+  -- comparable with that
   pub offer_fits : {i : ℕ} {m : Member} {q : Running} (up : IsUp w i m q) (byte : ℕ)
       → slice_get (written q) q.progress.released ≡ Some byte → IsOffer m.console (written q) q.progress.released byte
   offer_fits {i} {m} {q} up byte e =

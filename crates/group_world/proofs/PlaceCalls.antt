@@ -1,4 +1,5 @@
--- What a press, a run and a release leave of a node of the group, by the contracts of the node's calls.
+-- What a press, a run and a release leave of a node of the group, by the contracts of the node's
+-- calls.
 use Rattle.std.proofs.lemmas.Bool.{both_ways, ne_eqb}
 use Rattle.group_world.proofs.ReleasedBytes.{next_of}
 use Rattle.std.proofs.Common.{◌≡◌, ◌≢◌, ◌↔◌, ◌⊎◌, ◌∙◌, ◌<◌, ◌≤◌, Bool, true, false, ℕ, List, [], ◌∷◌, ◌+◌, length, option_map, Option, None, Some, Result, Ok, Err, IfErr, IfOk, IsErrOf, MatchResult, inl, inr, refl, sym, ap, subst, arith}

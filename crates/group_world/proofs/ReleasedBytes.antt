@@ -60,8 +60,8 @@ compare_get a b k x y (inr h) e f = let there = prefix_get b a k y h f in cc
 
 -- ---- the offer
 
--- Byte `k` of some output is offered to a console that is comparable with the output, so begins it if it is no longer, and
--- has shown at least `k` bytes.
+-- Byte `k` of some output is offered to a console that is comparable with the output, so begins it
+-- if it is no longer, and has shown at least `k` bytes.
 pub record IsOffer (console all : List ℕ) (k b : ℕ) : Type 0 where
   pub compare : AreComparable console all
   pub begins : length console ≤ length all → IsPrefix console all

@@ -1,4 +1,5 @@
--- What a group has sent and what its consoles have shown only grow, for `later_worlds_agree` and `World::apply`.
+-- What a group has sent and what its consoles have shown only grow, for `later_worlds_agree` and
+-- `World::apply`.
 use Rattle.std.proofs.Common.{◌≡◌, ◌∙◌, ℕ, List, [], ◌∷◌, ◌++◌, length, slice_get, Option, None, Some, inl, inr, refl, sym, ap, subst, append-nil, append_assoc}
 use Rattle.std.proofs.lemmas.Bool.{cases_eq, eq-eqb, ne_eqb}
 use Rattle.pcode_machine.specs.Runs.{IsPrefix}

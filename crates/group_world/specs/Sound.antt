@@ -67,7 +67,7 @@ pub record IsMemberSound (p : Parts) (me : Me) (sent : Sent) (typed : List Key)
 
 -- What always holds of a world.
 -- It has a node for each number up to its size. Each datagram spells a message. What was sent and
--- the stored records grew from nothing. What a Tell tells is chosen, and what was submitted was
+-- the stored records grew from nothing. What a Tell says is chosen, and what was submitted was
 -- typed. Each node is sound.
 -- Allows: a world in which nothing has happened.
 -- Forbids: a record that has forgotten a vote.

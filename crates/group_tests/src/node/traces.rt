@@ -75,7 +75,7 @@ fn with_second(
     unlike
 }
 
-/// Does the same, from the first start of each on. Each node is in a function of its own, which
+/// Does the same, from the first start of each on. Each node has a separate function, which
 /// keeps their proofs short.
 fn follow(alloc: Global, program: &Program, lines: &[Line]) -> Result<Option<usize>, NodeFault> {
     let mut first = Seat::fresh(alloc, program, 1)?;

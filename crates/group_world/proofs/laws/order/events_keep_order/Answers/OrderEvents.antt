@@ -107,7 +107,7 @@ module _ (laws : Laws) {w : World} (sound : IsSound w) (h : IsOrdered w) (i : �
         (Contains-append_right w.sent (datagrams_of (me_of w i) made.sends) d among)) fits due;
   }
 
-  -- ---- a start, of which no key was typed
+  -- ---- a start, in which no key was typed
   pub started_world : (console : List ℕ) (progress : Progress)
       → IsSound (world_after_call w i (on_start (me_of w i) m.kept) console progress [])
       → IsOrdered (world_after_call w i (on_start (me_of w i) m.kept) console progress [])

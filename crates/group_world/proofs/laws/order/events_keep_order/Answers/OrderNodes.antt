@@ -1,5 +1,5 @@
--- What the calls of a node leave of its start, its serials, the keys that wait and what it has learned, and which Submits
--- they send.
+-- What the calls of a node leave of its start, its serials, the keys that wait and what it has
+-- learned, and which Submits they send.
 use Rattle.std.proofs.Common.{◌≡◌, ◌∙◌, ℕ, suc, ◌+◌, ◌≤◌, ◌&&◌, not, Bool, true, false, List, [], ◌∷◌, ◌++◌, length, Option, Some, None, Contains, if◌then◌else◌, refl, sym, ap, arith}
 use Rattle.std.proofs.lemmas.List.{length-drop}
 use Rattle.paxos_msg.specs.declared.ballot.Ballot.{Ballot}
@@ -32,8 +32,8 @@ use Rattle.group_world.proofs.OrderRows.{IsParted}
 abbrev pub read_of : Known → List Key
 read_of n = keys_in_order (front_values n.learner.learned)
 
--- A call that counts no start and types no key: the keys that wait and what was learned stay, and at most the Submit of
--- this value is sent.
+-- A call that counts no start and types no key: the keys that wait and what was learned stay, and
+-- at most the Submit of this value is sent.
 pub record Stays (n : Known) (o : Option Value) (done : Response) : Type 0 where
   pub starts : done.node.kept.starts ≡ n.kept.starts
   pub next : next_serial done.node ≡ next_serial n

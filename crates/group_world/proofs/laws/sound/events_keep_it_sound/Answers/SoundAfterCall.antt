@@ -21,8 +21,8 @@ use Rattle.group_world.proofs.WorldAsGroup.{changed_elsewhere, changed_here, eac
 use Rattle.group_world.proofs.laws.sound.events_keep_it_sound.Answers.Laws.{Laws}
 use Rattle.group_world.proofs.laws.sound.events_keep_it_sound.Answers.SoundForOthers.{member_then, shown_then}
 
--- A call of node `i` that may be made: it is lawful, the node stays in its ranges, what it sends has a spelling, and its
--- machine is as before on what the node knows now.
+-- A call of node `i` that may be made: it is lawful, the node stays in its ranges, what it sends
+-- has a spelling, and its machine is as before on what the node knows now.
 pub record MayMake (w : World) (i : ℕ) (m : Member) (made : Response) (progress : Progress) (keys : List Value) : Type 0 where
   pub me_is : made.node.me ≡ me_of w i
   pub before : FinMap nat_cmp Value
