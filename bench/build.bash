@@ -16,7 +16,7 @@ need() {
 }
 
 # build_proved CRATE..: proves and builds the bench's program over these crates, as $work/bench. It
-# is built in a repository of its own, with the crates that these depend on, since the gate would
+# is built in a separate repository, with the crates that these depend on, since the gate would
 # take it for one of this repository's crates.
 build_proved() {
   local crate
