@@ -1,4 +1,4 @@
-"""docs/PROMISES.md: rows that a person writes. Their columns of tests and edits are written here, and so are the tables of laws."""
+"""docs/PROMISES.md: rows that a person writes, and rows of calls and laws, written here from the comments in the sources."""
 import re
 
 from . import tree, turns
@@ -6,7 +6,9 @@ from .tree import cells_of, fault, text_of
 
 PATH = "docs/PROMISES.md"
 HEADER = "| Promise | Call (clauses) | Shown by | Turned by |"
+CALLS = "| Call (clauses) | What it does | Shown by | Turned by |"
 LAWS = "| Law | What it says | Turned by |"
+MOST = 400
 NOT_TURNED = "## Not turned"
 
 
@@ -76,20 +78,47 @@ def check_turned(functions, named, spared):
             fault(f"crates/{crate}: no edit or test names {call} ({', '.join(clauses)}), and {PATH} does not list it as not turned")
 
 
+def sentence_of(function, what):
+    """The first paragraph of the comment of a call or a law, for a cell of a table."""
+    comment = function.comment().replace("|", "\\|")
+    if not re.match(r"[A-Z`].*\.\)?$", comment):
+        fault(f"{function.path}: the comment of the {what} {function.name} is no sentence")
+    return comment
+
+
+class Call(Row):
+    """What the comment of a public call says of those of its clauses that no row names."""
+
+    def __init__(self, function, clauses):
+        names = ", ".join(f"`{it}`" for it in clauses if it)
+        title = f"`{function.title()}`" + (f" ({names})" if names else "")
+        super().__init__(None, [title, sentence_of(function, "call")], function.crate, {(function, it) for it in clauses})
+        if len(self.cells[0]) + len(self.cells[1]) > MOST:
+            fault(f"{function.path}: the first paragraph of the comment of {function.name} has more than {MOST} characters, with its clauses")
+
+
 class Law(Row):
-    """A law that no row names: its row is written here, from its comment."""
+    """What the comment of a law says that no row names."""
 
     def __init__(self, function):
         module = "laws" if "laws" in function.modules else min(function.modules)
-        comment = function.comment().replace("|", "\\|")
-        if not re.match(r"[A-Z`].*\.\)?$", comment):
-            fault(f"{function.path}: the comment of the law {function.name} is no sentence")
         keys = {(function, clause) for clause in function.promises()}
-        super().__init__(None, [f"`{module}::{function.name}`", comment], function.crate, keys)
+        super().__init__(None, [f"`{module}::{function.name}`", sentence_of(function, "law")], function.crate, keys)
 
     def text(self):
         names = ", ".join(f"`{it}`" for it in sorted(set(self.tests + self.edits)))
         return f"| {self.cells[0]} | {self.cells[1]} | {names} |"
+
+
+def calls_of(functions, rows):
+    """The public calls with clauses that no row names. An `impl` of a trait may leave the comment to the trait."""
+    named = set().union(*(row.keys for row in rows))
+    found = []
+    for it in functions:
+        clauses = [name for name in it.promises() if (it, name) not in named]
+        if it.is_public and not it.is_law and clauses and (it.is_inherent or it.comment()):
+            found.append(Call(it, clauses))
+    return found
 
 
 def laws_of(functions, rows):
@@ -97,10 +126,10 @@ def laws_of(functions, rows):
     return [Law(it) for it in functions if it.is_public and it.is_law and it not in named]
 
 
-def with_laws(lines, laws):
-    """The lines with the rows of laws in the table of laws of each crate's section."""
+def with_rows(lines, header, rows):
+    """The lines with these rows in the table with this header of each crate's section."""
     texts = {}
-    for it in laws:
+    for it in rows:
         texts.setdefault(it.crate, []).append(it.text())
     found, crate, is_table = [], None, False
     for line in lines:
@@ -108,12 +137,12 @@ def with_laws(lines, laws):
             crate = line[3:].strip("` ")
         if is_table and line.startswith("| `"):
             continue
-        is_table = line == LAWS or (is_table and line.startswith("|"))
+        is_table = line == header or (is_table and line.startswith("|"))
         found.append(line)
         if is_table and set(line) <= set("|- "):
             found.extend(texts.pop(crate, []))
     for crate in texts:
-        fault(f"{PATH}: the section of {crate} has no table `{LAWS}`")
+        fault(f"{PATH}: the section of {crate} has no table `{header}`")
     return found
 
 
@@ -121,20 +150,20 @@ def check(functions, is_write):
     rows, spared = rows_of(functions)
     edits = [it for crate in tree.all_crates() for it in turns.edits_of(functions, crate)]
     tests = turns.tests_of(functions)
-    laws = laws_of(functions, rows)
+    calls, laws = calls_of(functions, rows), laws_of(functions, rows)
     for it in edits:
-        place(it, rows + laws, "edits")
+        place(it, rows + calls + laws, "edits")
     for it in tests:
-        place(it, rows + laws, "tests")
+        place(it, rows + calls + laws, "tests")
     check_turned(functions, edits + tests, spared)
     lines = text_of(PATH).split("\n")
     for row in rows:
         lines[row.number] = row.text()
-        if len(row.cells[0]) + len(row.cells[1]) > 400:
-            fault(f"{PATH}:{row.number + 1}: the row has more than 400 characters")
-    text = "\n".join(with_laws(lines, laws))
+        if len(row.cells[0]) + len(row.cells[1]) > MOST:
+            fault(f"{PATH}:{row.number + 1}: the row has more than {MOST} characters")
+    text = "\n".join(with_rows(with_rows(lines, CALLS, calls), LAWS, laws))
     if is_write:
         with open(f"{tree.TOP}/{PATH}", "w", encoding="utf-8") as file:
             file.write(text)
     elif text != text_of(PATH):
-        fault(f"{PATH}: its columns of tests and edits, or its laws, are not what docs/check --write writes")
+        fault(f"{PATH}: its columns of tests and edits, its calls or its laws are not what docs/check --write writes")

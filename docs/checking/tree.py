@@ -53,9 +53,13 @@ def closing(text, at):
 def clauses_at(text, at):
     """The clauses of the function whose name ends at `at`: a list of names and texts."""
     found = []
-    word = re.compile(r"\b(requires|ensures|ghost)\b\*?\s*(\w*)\s*:?\s*(?=\{)|[{;]")
+    # An array type in the signature has a semicolon too.
+    word = re.compile(r"\[[^\[\]]*\]|\b(requires|ensures|ghost)\b\*?\s*(\w*)\s*:?\s*(?=\{)|[{;]")
     while True:
         it = word.search(text, at)
+        if it and it[0].startswith("["):
+            at = it.end()
+            continue
         if not it or not it[1]:
             return found
         end = closing(text, it.end())
@@ -64,23 +68,29 @@ def clauses_at(text, at):
 
 
 class Function:
-    def __init__(self, crate, modules, owner, name, is_pub, is_law, clauses, path):
+    def __init__(self, crate, modules, owner, name, is_inherent, is_pub, is_law, clauses, path, at):
         self.crate, self.modules, self.owner, self.name = crate, modules, owner, name
-        self.is_pub, self.is_law, self.clauses, self.path = is_pub, is_law, clauses, path
+        self.is_inherent, self.is_pub, self.is_law = is_inherent, is_pub, is_law
+        self.is_at_top = False
+        self.clauses, self.path, self.at = clauses, path, at
 
     def is_called(self, qualifiers):
         return all(it in (self.owner, self.crate, *self.modules) for it in qualifiers)
 
     def title(self):
+        """The name by which docs call it: with its type, the crate that exports it at its top, or its module."""
         module = os.path.basename(self.path)[: -len(".rt")]
-        return f"{self.owner or module}::{self.name}"
+        return f"{self.owner or (self.crate if self.is_at_top else module)}::{self.name}"
 
     def comment(self):
         """The first paragraph of the comment above the function."""
-        line = r"(?:^[ \t]*///[^\n]*\n)"
-        it = re.search(rf"({line}+)(?:[ \t]*#\[[^\n]*\n)*[ \t]*pub (?:const )?fn {self.name}\b", text_of(self.path), re.M)
-        lines = [re.sub(r"^[ \t]*/// ?", "", line) for line in it[1].strip("\n").split("\n")] if it else []
-        return " ".join(lines[: lines.index("")] if "" in lines else lines)
+        found = []
+        for line in reversed(text_of(self.path)[: self.at].split("\n")[:-1]):
+            if line.strip().startswith("///"):
+                found.insert(0, line.strip()[3:].strip())
+            elif not line.strip().startswith("#["):
+                break
+        return " ".join(found[: found.index("")] if "" in found else found)
 
     def promises(self):
         """The names of the clauses that say what the call does; the unnamed one is ''."""
@@ -88,7 +98,8 @@ class Function:
 
 
 def without_comments(text):
-    return re.sub(r"//[^\n]*", "", text)
+    """The text with blanks in place of comments, so that offsets stay."""
+    return re.sub(r"//[^\n]*", lambda it: " " * len(it[0]), text)
 
 
 def owners_in(text):
@@ -116,9 +127,9 @@ def functions_of(crate):
             is_pub = it[1] == "pub " or kind == "trait"
             modules = modules_of(path, owner or it[2])
             clauses = clauses_at(text, it.end()) + members
-            # What returns nothing, and is handed no reference, can only state a law.
+            # What returns nothing, and takes no reference, can only state a law.
             is_law = re.match(r"\([^()&]*\)\s*(?:ghost|requires|ensures)\b", text[it.end() :]) is not None
-            found.append(Function(crate, modules, owner, it[2], is_pub, is_law, clauses, path))
+            found.append(Function(crate, modules, owner, it[2], it[1] == "pub ", is_pub, is_law, clauses, path, it.start()))
     return found
 
 
@@ -158,5 +169,6 @@ def all_functions():
         exported = exported_by(crate)
         for it in functions_of(crate):
             it.is_public = is_exported(it, exported)
+            it.is_at_top = it.is_public and not it.owner and (it.name in exported or it.path.endswith("/lib.rt"))
             found.append(it)
     return found

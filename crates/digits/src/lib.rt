@@ -33,7 +33,8 @@ fn hex_digit(byte: u8) -> Option<u8>
     }
 }
 
-/// Returns the byte of exactly two hexadecimal digits of either case, the high one first.
+/// Returns the byte of exactly two hexadecimal digits of either case, the high one first. Returns
+/// `None` for any other bytes.
 pub fn hex_byte(digits: &[u8]) -> Option<u8>
     ensures { result ≡ hex_byte_of digits.now }
 {

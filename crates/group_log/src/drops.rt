@@ -32,8 +32,8 @@ fn group_reason(group: Group, datagram: &[u8]) -> DropReason
     }
 }
 
-/// Returns why a node of this group drops a datagram, by the first check that the datagram fails,
-/// or None if it spells a message of the group.
+/// Returns why a node of `group` drops `datagram`, by the first check that the datagram fails.
+/// Returns `None` exactly if it spells a message of the group.
 pub fn reason_of(group: Group, datagram: &[u8]) -> Option<DropReason>
     ensures { result ≡ reason_of group datagram.now }
 {
@@ -63,7 +63,7 @@ fn one_more(count: u32) -> u32
 }
 
 impl Drops {
-    /// Counts one more dropped datagram.
+    /// Counts one more dropped datagram, under `reason` alone. A count stays at 4,294,967,295.
     pub fn count(&mut self, reason: DropReason)
         ensures { self.new ≡ drops_with self.old reason }
     {

@@ -142,8 +142,10 @@ impl fmt::Display for Note<'_> {
     }
 }
 
-/// Returns the line of a note of a node, at this time in milliseconds from the start of 1970 on, in
-/// UTC: seconds with three decimals, as `date +%s.%3N` prints them, the node, and the note.
+/// Returns the line of `note`: the time of `millis` milliseconds in seconds with three decimals,
+/// then `node`, then the text of the note and a line feed. Fails if memory runs out.
+///
+/// The time is from the start of 1970 on, in UTC, as `date +%s.%3N` prints it.
 pub fn line_of(alloc: Global, millis: u64, node: u8, note: &Note<'_>) -> Result<String, AllocError>
     ensures { IfOk result (λ line. string_bytes line ≡ line_text millis node note.now) }
 {

@@ -16,7 +16,7 @@ pub enum Role {
 }
 
 impl Role {
-    /// Returns the ballot of the node.
+    /// Returns the ballot of a node in this role, if it has one.
     pub fn ballot(self) -> Option<Ballot>
         ensures { result ≡ role_ballot self }
     {
@@ -36,9 +36,12 @@ impl Role {
         }
     }
 
-    /// Returns the role after this one, of a node with this ballot. `is_leading` is true if a
-    /// majority has promised the place at which it proposes next. A leader at the end of what is
-    /// promised so far is still one.
+    /// Returns the role after this one, of a node with `ballot`. Without a ballot it is a follower.
+    /// Otherwise it leads if `is_leading`, or if it led under this ballot: a leader is one until
+    /// its ballot is lost. Else it is a candidate.
+    ///
+    /// `is_leading` is true if a majority has promised the place at which it proposes next. A
+    /// leader at the end of what is promised so far is still one.
     pub fn next(self, ballot: Option<Ballot>, is_leading: bool) -> Role
         ensures { result ≡ role_after self ballot is_leading }
     {
@@ -54,7 +57,7 @@ impl Role {
         }
     }
 
-    /// Returns the ballot of this role that the next one has no more.
+    /// Returns the ballot of this role, if `next` has another one or none.
     pub fn lost_ballot(self, next: Role) -> Option<Ballot>
         ensures { result ≡ lost_ballot self next }
     {
@@ -65,7 +68,7 @@ impl Role {
         }
     }
 
-    /// Returns the ballot of the next role that this one does not have.
+    /// Returns the ballot of `next`, if this role has another one or none.
     pub fn new_ballot(self, next: Role) -> Option<Ballot>
         ensures { result ≡ new_ballot self next }
     {

@@ -26,8 +26,8 @@ use Rattle.group_node.proofs.Seats.{seat_alone, seat_elsewhere, seat_here}
 use Rattle.group_node.proofs.CallsKeep.{IsOf}
 
 -- keys that all stay
-pub all_stay : (learned : FinMap nat_cmp Value) (keys stay : List Key) → stay ≡ keys → AreParted learned keys stay
-all_stay learned keys stay e =
+pub all_stay : {learned : FinMap nat_cmp Value} {keys stay : List Key} → stay ≡ keys → AreParted learned keys stay
+all_stay {learned} e =
     record {
       gone = [];
       parts = sym e;
@@ -50,7 +50,25 @@ saved_may : (sent : Sent) (old new : Record) (saves : Option Change) → IsSaved
 saved_may sent old new None e = tt
 saved_may sent old new (Some c) (may, e) = may
 
-module _ (w : WorldState) (n : Known) (k : ℕ) (c : Configuration) (console : List ℕ) (sits : Sits w n c k console) where
+-- a node of which a save failed
+fell : {r : Record} {console : List ℕ} (w : WorldState) (i : ℕ) (left : Record) (change : Change) → (w.seats i).kept ≡ r
+    → (w.seats i).console ≡ console → MaySave w.sent r change → IsOneOf left r (changed r change)
+    → Falls w (with_seat w i (record { kept = left; console = console; up = None })) i change
+fell {r} {console} w i left change kept told may one = record {
+  saves = rw kept may;
+  kept = rw (ap (λ (s : Seat). s.kept) here, kept) one;
+  console = ap (λ (s : Seat). s.console) here ∙ sym told;
+  down = ap (λ (s : Seat). s.up) here;
+  rest = seat_alone w i seat;
+}
+  where
+    seat : Seat
+    seat = record { kept = left; console = console; up = None }
+
+    here : (with_seat w i seat).seats i ≡ seat
+    here = seat_here w i seat
+
+module _ {w : WorldState} {n : Known} {k : ℕ} {c : Configuration} {console : List ℕ} (sits : Sits w n c k console) where
   -- the group has the node's record
   kept_same : (w.seats n.me.node).kept ≡ n.kept
   kept_same = ap (λ (s : Seat). s.kept) sits.seat
@@ -102,17 +120,7 @@ module _ (w : WorldState) (n : Known) (k : ℕ) (c : Configuration) (console : L
           → MaySendAll done.node.me.group.size (w.typed ++ keys)
           (get done.node.learner.learned) w.sent done.node.me.node done.node.kept (bodies_of done.sends)
           → MaySendAll w.size (w.typed ++ keys) (get done.node.learner.learned) w.sent n.me.node r (bodies_of done.sends)
-      sends_here done keys r me kept may =
-          let of_node =
-          subst (λ (x : Me). MaySendAll x.group.size (w.typed ++ keys)
-          (get done.node.learner.learned) w.sent x.node done.node.kept (bodies_of done.sends)) me may in
-          let of_group =
-          subst (λ (size : ℕ).
-          MaySendAll size (w.typed ++ keys) (get done.node.learner.learned) w.sent n.me.node done.node.kept
-          (bodies_of done.sends)) (sym sits.size) of_node in
-          subst (λ (x : Record).
-          MaySendAll w.size (w.typed ++ keys) (get done.node.learner.learned) w.sent n.me.node x
-          (bodies_of done.sends)) kept of_group
+      sends_here done keys r me kept may = rw (← kept, sits.size, ← me) may
 
   -- a lawful call at which nothing is typed
   pub call_alone : (done : Response) → IsInRange n → IsLawfulCall w.sent w.typed n done → IsOf n done
@@ -130,31 +138,13 @@ module _ (w : WorldState) (n : Known) (k : ℕ) (c : Configuration) (console : L
   call_fell left new None some by one = absurd (some refl)
   call_fell left new (Some change) some (may, e) one = inr (
     ap (λ (s : Seat). is_some s.up) sits.seat,
-    record {
-      saves = subst (λ (r : Record). MaySave w.sent r change) (sym kept_same) may;
-      kept = one_left one;
-      console = ap (λ (s : Seat). s.console) here ∙ sym console_same;
-      down = ap (λ (s : Seat). s.up) here;
-      rest = seat_alone w n.me.node seat;
-    },
+    fell w n.me.node left change kept_same console_same may (rw e at one),
   )
-    where
-      seat : Seat
-      seat = record { kept = left; console = console; up = None }
-
-      here : (with_seat w n.me.node seat).seats n.me.node ≡ seat
-      here = seat_here w n.me.node seat
-
-      one_left : IsOneOf left n.kept new
-          → IsOneOf ((with_seat w n.me.node seat).seats n.me.node).kept (w.seats n.me.node).kept
-          (changed (w.seats n.me.node).kept change)
-      one_left (inl f) = inl (ap (λ (s : Seat). s.kept) here ∙ f ∙ sym kept_same)
-      one_left (inr f) = inr (ap (λ (s : Seat). s.kept) here ∙ f ∙ e ∙ ap (λ (r : Record). changed r change) (sym kept_same))
 
 -- a call that was made, where its save may fail
-pub call_or_fall : (w v : WorldState) (i : ℕ) (saves : Option Change) → MakesCall w v i saves [] → CallOrFall w v i saves
-call_or_fall w v i None h = h
-call_or_fall w v i (Some c) h = inl h
+pub call_or_fall : {w v : WorldState} {i : ℕ} (saves : Option Change) → MakesCall w v i saves [] → CallOrFall w v i saves
+call_or_fall None h = h
+call_or_fall (Some c) h = inl h
 
 module _ (w : WorldState) (me : Me) (r : Record) (console : List ℕ)
     (down : w.seats me.node ≡ record { kept = r; console = console; up = None }) where
@@ -173,25 +163,4 @@ module _ (w : WorldState) (me : Me) (r : Record) (console : List ℕ)
   -- a start whose save failed
   pub start_fell : (left : Record) → IsOneOf left r (changed r change.Start)
       → Falls w (with_seat w me.node (record { kept = left; console = console; up = None })) me.node change.Start
-  start_fell left one = record {
-    saves = tt;
-    kept = one_left one;
-    console = ap (λ (s : Seat). s.console) (here ∙ sym same);
-    down = ap (λ (s : Seat). s.up) here;
-    rest = seat_alone w me.node seat;
-  }
-    where
-      seat : Seat
-      seat = record { kept = left; console = console; up = None }
-
-      here : (with_seat w me.node seat).seats me.node ≡ seat
-      here = seat_here w me.node seat
-
-      same : record (w.seats me.node) { kept = left } ≡ seat
-      same = ap (λ (s : Seat). record s { kept = left }) down
-
-      one_left : IsOneOf left r (changed r change.Start)
-          → IsOneOf ((with_seat w me.node seat).seats me.node).kept (w.seats me.node).kept
-          (changed (w.seats me.node).kept change.Start)
-      one_left (inl f) = inl (ap (λ (s : Seat). s.kept) here ∙ f ∙ ap (λ (s : Seat). s.kept) (sym down))
-      one_left (inr f) = inr (ap (λ (s : Seat). s.kept) here ∙ f ∙ ap (λ (s : Seat). changed s.kept change.Start) (sym down))
+  start_fell left one = fell w me.node left change.Start (ap (λ (s : Seat). s.kept) down) (ap (λ (s : Seat). s.console) down) tt one

@@ -1,16 +1,15 @@
 -- What the calls of a node leave that have no message: it stays in its ranges, and what it sends
 -- has a spelling.
-use Rattle.std.proofs.Common.{◌≡◌, ℕ, ◌-◌, ◌<◌, ◌≤◌, nat_lt, Bool, true, false, if◌then◌else◌, List, [], ◌∷◌, ◌++◌, length, Option, Some, None, is_none, option_map, IfSome, inl, inr, refl, sym, subst, arith}
-use Rattle.std.specs.List.{filter_map, range_with_len}
+use Rattle.std.proofs.Common.{◌≡◌, ℕ, ◌<◌, ◌≤◌, List, [], ◌∷◌, ◌++◌, length, Option, Some, IfSome, inl, inr, refl, sym, subst, arith}
 use Rattle.std.proofs.lemmas.Bool.{cases_eq, cases_lt, ltb-true}
 use Rattle.std.proofs.lemmas.List.{get_or_append_left, get_or_past, get_or_push, length_push}
-use Rattle.std.proofs.lemmas.List.Elements.{All-append, All-nil, All-take}
+use Rattle.std.proofs.lemmas.List.Elements.{All-append, All-nil}
 use Rattle.std.specs.Ordering.{nat_cmp}
-use Rattle.std.specs.FinMap.{FinMap, get}
+use Rattle.std.specs.FinMap.{FinMap}
 use Rattle.paxos_msg.specs.declared.ballot.Ballot.{Ballot}
 use Rattle.paxos_msg.specs.declared.value.Value.{Value}
 use Rattle.paxos_msg.specs.declared.record.Change.TheVariants as change
-use Rattle.paxos_msg.specs.declared.message.Body.TheVariants.{Accept, Ask, Prepare, Submit}
+use Rattle.paxos_msg.specs.declared.message.Body.TheVariants.{Prepare}
 use Rattle.paxos_msg.specs.Ballots.{IsBelow}
 use Rattle.paxos_msg.specs.Batches.{Change, Record}
 use Rattle.paxos_msg.specs.Fits.{IsBallot, IsBody}
@@ -19,17 +18,18 @@ use Rattle.paxos_msg.specs.Records.{changed}
 use Rattle.paxos_acceptor.specs.declared.me.Me.{Me}
 use Rattle.paxos_acceptor.specs.Answers.{after, prepare_of}
 use Rattle.paxos_acceptor.specs.Records.{IsRecord}
-use Rattle.paxos_proposer.specs.Proposer.{new_proposer, coverage_of, is_covered, next_of, proposed_at, Proposer}
+use Rattle.paxos_proposer.specs.Proposer.{new_proposer, coverage_of}
 use Rattle.paxos_proposer.specs.States.{IsProposerInRange as IsProposerInRange}
 use Rattle.paxos_learner.specs.Learner.{AreInWindow, IsLearnerInRange as IsLearnerInRange, front_of, new_learner}
 use Rattle.group_node.specs.Known.{on_typed, front, next_serial, Known, on_start}
 use Rattle.group_node.specs.ProposerRows.{on_campaign, next_ballot}
-use Rattle.group_node.specs.Tick.{accept_again, accepts_again, asks, asks_again, on_tick, batch_of, prepares_again, submits, ticked}
-use Rattle.group_node.specs.Packets.{Packet, to_all, to_one}
+use Rattle.group_node.specs.Tick.{accepts_again, asks, on_tick, prepares_again}
+use Rattle.group_node.specs.Packets.{Packet, to_all}
 use Rattle.group_node.specs.Pump.{accepts_of, pump}
 use Rattle.group_node.specs.Ranges.{AllFit, IsFit, IsInRange, IsMember, IsOwnProposer, IsWaiting}
+use Rattle.group_node.proofs.ByProposer.{by_tick}
 use Rattle.group_node.proofs.Campaigning.{next_is_above}
-use Rattle.group_node.proofs.LawfulProposerRows.{filter_map_all, one_all}
+use Rattle.group_node.proofs.EachPacket.{each_accept, each_last, each_prepare, one_all}
 use Rattle.group_node.proofs.PacketsFit.{ask_fits, submit_fits}
 use Rattle.group_node.proofs.ProposalsFit.{AcceptLaws, again_fits, own_prepare, pump_fits}
 use Rattle.group_node.proofs.RowsFit.{led_range, quiet_fits}
@@ -152,63 +152,23 @@ module _ (laws : AcceptLaws)
   abbrev IsPacketFit : Packet → Type 0
   IsPacketFit packet = IsBody n.me.group.size n.me.node packet.body
 
-  -- an acceptor is asked on only from a place that there is
-  prepare_if : (p : Proposer) → IsOwnProposer n.me p → (i : ℕ) (t : Bool) → nat_lt (coverage_of p i) 65536 ≡ t
-      → IfSome (if t then Some (to_one i (Prepare p.ballot (coverage_of p i))) else None) IsPacketFit
-  prepare_if p own i false e = tt
-  prepare_if p own i true e = own_prepare n.me p own (coverage_of p i) (ltb-true (coverage_of p i) 65536 e)
-
-  -- packets, unless a majority has promised all places
-  unless_covered : (t : Bool) (packets : List Packet) → AllFit n.me packets → AllFit n.me (if t then [] else packets)
-  unless_covered true packets fits = All-nil IsPacketFit
-  unless_covered false packets fits = fits
-
-  -- the Prepares
-  prepares_fit : (p : Proposer) → IsOwnProposer n.me p → AllFit n.me (prepares_again p)
-  prepares_fit p own = unless_covered (is_covered p 65535) (filter_map (asks_again p) (range_with_len 1 p.size))
-      (filter_map_all IsPacketFit (asks_again p) (range_with_len 1 p.size) (λ i. prepare_if p own i (nat_lt (coverage_of p i) 65536) refl))
-
-  -- what is proposed at a place, if anything, may be sent again
-  again_if : (p : Proposer) → IsOwnProposer n.me p → (s : ℕ) (t : Bool) (o : Option Value) → proposed_at p s ≡ o
-      → IfSome (if t then option_map (λ v. to_all (Accept p.ballot s v)) o else None) IsPacketFit
-  again_if p own s false o e = tt
-  again_if p own s true None e = tt
-  again_if p own s true (Some v) e = again_fits n.me p own laws s v e
-
-  -- the Accepts that are sent again
-  accepts_fit : (p : Proposer) → IsOwnProposer n.me p → AllFit n.me (accepts_again n.learner.learned p)
-  accepts_fit p own =
-      let places : List ℕ = range_with_len (front n) (next_of p - front n) in
-      All-take IsPacketFit 16 (filter_map (accept_again n.learner.learned p) places)
-      (filter_map_all IsPacketFit (accept_again n.learner.learned p) places
-      (λ s. again_if p own s (is_none (get n.learner.learned s)) (proposed_at p s) refl))
-
-  -- the Submit of the first keys, if there is one
-  submits_fit : (o : Option Value) → batch_of n n.waiting ≡ o → AllFit n.me (submits o)
-  submits_fit None e = All-nil IsPacketFit
-  submits_fit (Some v) e = one_all IsPacketFit (to_all (Submit v)) (submit_fits n h v e)
-
-  -- it, and the Ask
+  -- the Submit of the first keys, if there is one, and the Ask
   asks_fit : AllFit n.me (asks n)
-  asks_fit =
-      All-append IsPacketFit (submits (batch_of n n.waiting)) (to_all (Ask (front n)) ∷ [])
-      (submits_fit (batch_of n n.waiting) refl) (one_all IsPacketFit (to_all (Ask (front n))) (ask_fits n h front_few))
-
-  -- by the proposer, if there is one
-  tick_at : (o : Option Proposer) → IfSome o (IsOwnProposer n.me) → IsFit n.me (ticked n o)
-  tick_at None own = record { same = refl; ranges = h; sends = asks_fit }
-  tick_at (Some p) own =
-      let pumped = pump_fits laws n.me 16 p own in
-      let before = All-append IsPacketFit (prepares_again p) (accepts_again n.learner.learned p) (prepares_fit p own) (accepts_fit p own) in
-      let behind = All-append IsPacketFit (accepts_of (pump 16 p).made) (asks n) pumped.sends asks_fit in
-      record {
-        same = refl;
-        ranges = led_range n h (Some (pump 16 p).proposer) pumped.own;
-        sends =
-            All-append IsPacketFit (prepares_again p ++ accepts_again n.learner.learned p)
-            (accepts_of (pump 16 p).made ++ asks n) before behind;
-      }
+  asks_fit = each_last IsPacketFit n (submit_fits n h) (ask_fits n h front_few)
 
   -- a tick
   pub tick_fits : IsFit n.me (on_tick n)
-  tick_fits = tick_at n.proposer h.proposer
+  tick_fits = by_tick (IsFit n.me) n n.proposer (record { same = refl; ranges = h; sends = asks_fit }) (λ p e.
+      let own : IsOwnProposer n.me p = rw e at h.proposer in
+      let pumped = pump_fits laws n.me 16 p own in
+      let before = All-append IsPacketFit (prepares_again p) (accepts_again n.learner.learned p)
+      (each_prepare IsPacketFit p (λ i low. own_prepare n.me p own (coverage_of p i) (ltb-true (coverage_of p i) 65536 low)))
+      (each_accept IsPacketFit n.learner.learned p (again_fits n.me p own laws)) in
+      let behind = All-append IsPacketFit (accepts_of (pump 16 p).made) (asks n) pumped.sends asks_fit in
+      record {
+        same = refl;
+        ranges = led_range n h pumped.own h.learner;
+        sends =
+            All-append IsPacketFit (prepares_again p ++ accepts_again n.learner.learned p)
+            (accepts_of (pump 16 p).made ++ asks n) before behind;
+      })

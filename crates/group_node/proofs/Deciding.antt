@@ -3,7 +3,7 @@ use Rattle.std.proofs.Common.{◌≡◌, ℕ, zero, suc, ◌+◌, ◌*◌, ◌<�
 use Rattle.std.proofs.lemmas.Bool.{cases_eq, cases_lt, cases_Bool, true≢false}
 use Rattle.paxos_msg.specs.declared.ballot.Ballot.{Ballot}
 use Rattle.paxos_msg.specs.declared.value.Value.{Value}
-use Rattle.paxos_msg.specs.declared.message.Body.TheVariants.{Prepare, Promise, Accept, Accepted, Refused, Submit, Ask, Tell}
+use Rattle.paxos_msg.specs.declared.message.Body.TheVariants.{Accepted}
 use Rattle.paxos_msg.specs.Batches.{Body, Msg, Sent}
 use Rattle.paxos_msg.specs.Ballots.{count_of, IsMajority}
 use Rattle.paxos_msg.specs.Chosen.{IsChosenBy}
@@ -42,13 +42,7 @@ body_decided laws (Accepted c t u) b s v = elim (by_test (same_ballot c b) (laws
     ]
   ]
 ]
-body_decided laws (Prepare c from) b s v = inr (λ e. absurd cc)
-body_decided laws (Promise c first upto votes) b s v = inr (λ e. absurd cc)
-body_decided laws (Accept c t u) b s v = inr (λ e. absurd cc)
-body_decided laws (Refused c promised) b s v = inr (λ e. absurd cc)
-body_decided laws (Submit key) b s v = inr (λ e. absurd cc)
-body_decided laws (Ask from) b s v = inr (λ e. absurd cc)
-body_decided laws (Tell t u) b s v = inr (λ e. absurd cc)
+body_decided laws other b s v = inr (λ e. absurd cc)
 
 -- the same of its sender too
 message_decided : Laws → (m : Msg) (i : ℕ) (b : Ballot) (s : ℕ) (v : Value) → Decided (m ≡ accepted i b s v)

@@ -10,7 +10,8 @@ use Rattle.group_node.specs.Console.{offered}
 use Rattle.group_node.specs.Known.{Known, waiting_keys}
 use Rattle.group_node.specs.Output.{unreleased_of}
 use Rattle.group_node.specs.World.{after_release, MakesRun, Releases, Seat, seat_of, Sits, Up, with_seat, WorldState}
-use Rattle.group_node.proofs.Replays.{first_waits, steps_from, There}
+use Rattle.group_node.proofs.Exact.{There}
+use Rattle.group_node.proofs.Replays.{first_waits, steps_from}
 use Rattle.group_node.proofs.Seats.{seat_alone, seat_here}
 
 -- a node that is up, as its group sees it

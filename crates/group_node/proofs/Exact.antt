@@ -1,5 +1,5 @@
 -- The machine with its ring and its counts stays exact, from one step to the next.
-use Rattle.std.proofs.Common.{◌≡◌, ℕ, zero, suc, ◌+◌, ◌<◌, ◌≤◌, ◌↔◌, List, [], ◌∷◌, ◌++◌, length, take, drop, slice_get, Some, None, refl, sym, ◌∙◌, ap, subst, add-zero, add-one, append-nil, append_assoc, length-append, arith}
+use Rattle.std.proofs.Common.{◌≡◌, ℕ, zero, suc, ◌+◌, ◌<◌, ◌≤◌, List, [], ◌∷◌, ◌++◌, length, take, drop, slice_get, Some, None, refl, sym, ◌∙◌, ap, subst, add-zero, add-one, append-nil, append_assoc, length-append, arith}
 use Rattle.std.proofs.lemmas.List.{drop-drop, length-drop, length-take, take-append-drop, drop-append-le}
 use Rattle.std.proofs.lemmas.Option.{slice_get_within}
 use Rattle.circular_buffer.specs.Buffer.{buffer, Buffer}
@@ -12,9 +12,13 @@ use Rattle.pcode_machine.specs.Turns.{AreQuiet, IsLast, Makes, WaitsOn, Writes}
 use Rattle.group_node.specs.declared.player.Player.{Player}
 use Rattle.group_node.specs.Player.{Advances, IsPlayed, PlaysStep}
 
+-- the law that steps which exist lead to what is after this many of them
+abbrev pub There : Type 0
+There = (p : Parts) (x : List ℕ) (n : ℕ) (c : Configuration) → LeadsIn p x n c → after_steps p x n ≡ c
+
 -- the laws of runs that a step rests on
 pub record Laws : Type 0 where
-  pub there : (p : Parts) (x : List ℕ) (n : ℕ) (c : Configuration) → LeadsIn p x n c → after_steps p x n ≡ c
+  pub there : There
   pub longer : (p : Parts) (x y : List ℕ) (c d : Configuration) → outcome p x c ≡ Goes d → outcome p (x ++ y) c ≡ Goes d
 
 -- ---- steps that write or take a byte
@@ -37,16 +41,11 @@ unfolding LeadsIn
 exact_more {x} {old} {new} {took} {wrote} laws h room m rest split =
     let len = taken_length x old.read h.read in
     let goes =
-    laws.longer old.machine.program (take old.read x ++ took) rest
+    rw (split, len) at
+    (laws.longer old.machine.program (take old.read x ++ took) rest
     (configuration_of old.machine.state (length (take old.read x)) h.output)
     (configuration_of new.machine.state (length (take old.read x) + length took) (h.output ++ wrote))
-    (m.made.steps (take old.read x) h.output) in
-    let P : List ℕ → Type 0 =
-    λ y. outcome old.machine.program y (configuration_of old.machine.state (length (take old.read x)) h.output)
-    ≡ Goes (configuration_of new.machine.state (length (take old.read x) + length took) (h.output ++ wrote)) in
-    let Q : ℕ → Type 0 =
-    λ k. outcome old.machine.program x (configuration_of old.machine.state k h.output)
-    ≡ Goes (configuration_of new.machine.state (k + length took) (h.output ++ wrote)) in
+    (m.made.steps (take old.read x) h.output)) in
     let all : length ((take old.read x ++ took) ++ rest) ≡ length x = ap length split in
     let within : old.read + length took ≤ length x =
     omega (arith, length-append (take old.read x ++ took) rest, length-append (take old.read x) took) in
@@ -57,7 +56,7 @@ exact_more {x} {old} {new} {took} {wrote} laws h room m rest split =
       output = h.output ++ wrote;
       made =
           rw (m.program, m.steps, add-one, m.read)
-          (configuration_of old.machine.state old.read h.output, h.made, subst Q len (subst P split goes));
+          (configuration_of old.machine.state old.read h.output, h.made, goes);
       read = rw m.read within;
       waits = rw (waits, m.released, tail, h.waits) refl;
       released = rw m.released (omega (arith, length-append h.output wrote, h.released));
@@ -90,8 +89,8 @@ exact_fed {x} {old} {new} {b} {wrote} laws h room e m =
 -- ---- why no step is made
 
 -- the configuration that a replay comes to
-pub replayed : {x : List ℕ} {q : Player} → ((p : Parts) (x : List ℕ) (n : ℕ) (c : Configuration) → LeadsIn p x n c → after_steps p x n ≡ c)
-    → (h : IsPlayed x q) → after_steps q.machine.program x q.steps ≡ configuration_of q.machine.state q.read h.output
+pub replayed : {x : List ℕ} {q : Player} → There → (h : IsPlayed x q)
+    → after_steps q.machine.program x q.steps ≡ configuration_of q.machine.state q.read h.output
 replayed {x} {q} there h = there q.machine.program x q.steps _ h.made
 
 -- where there is no next byte, all were read
@@ -115,55 +114,48 @@ pub halts_ended : {x : List ℕ} {q : Player} {p : Parts} {e : End} → Laws →
     → outcome q.machine.program x (after_steps q.machine.program x q.steps) ≡ Stops e
 halts_ended {x} {q} {p} {e} laws h same last = rw (replayed laws.there h, same) (last.stops x q.read h.output)
 
--- ---- other calls
-
--- steps that read and write nothing
-pub exact_quiet : {x : List ℕ} {old new : Player} (k : ℕ)
-    → ((p : Parts) (x : List ℕ) (n m r : ℕ) (o : List ℕ) (s t : State) → LeadsIn p x n (configuration_of s r o)
-    → AreQuiet p m s t → LeadsIn p x (n + m) (configuration_of t r o)) → IsPlayed x old
-    → AreQuiet old.machine.program k old.machine.state new.machine.state
-    → new.machine.program ≡ old.machine.program → new.unreleased ≡ old.unreleased → new.steps ≡ old.steps + k
-    → new.read ≡ old.read → new.released ≡ old.released → IsPlayed x new
-exact_quiet {x} {old} {new} k quiet h a program waits steps read released = record {
-  output = h.output;
-  made = rw (program, steps, read) (quiet old.machine.program x old.steps k old.read h.output old.machine.state new.machine.state h.made a);
-  read = rw read h.read;
-  waits = rw (waits, released) h.waits;
-  released = rw released h.released;
-  few = rw steps (omega (arith, h.few));
-  seldom = rw (steps, read) (omega (arith, h.seldom));
-  room = rw waits h.room;
-  capacity = rw waits h.capacity;
-}
-
 -- ---- turns
 
--- the same as it is seen after them
-pub advances : {x : List ℕ} {old new : Player} (k : ℕ)
-    → ((p : Parts) (x : List ℕ) (n m r : ℕ) (o : List ℕ) (s t : State) → LeadsIn p x n (configuration_of s r o)
-    → AreQuiet p m s t → LeadsIn p x (n + m) (configuration_of t r o)) → IsPlayed x old
+-- the law that quiet steps lead on
+abbrev QuietLaw : Type 0
+QuietLaw = (p : Parts) (x : List ℕ) (n m r : ℕ) (o : List ℕ) (s t : State) → LeadsIn p x n (configuration_of s r o)
+    → AreQuiet p m s t → LeadsIn p x (n + m) (configuration_of t r o)
+
+-- steps that read and write nothing
+pub advances : {x : List ℕ} {old new : Player} (k : ℕ) → QuietLaw → IsPlayed x old
     → AreQuiet old.machine.program k old.machine.state new.machine.state
     → new.machine.program ≡ old.machine.program → new.unreleased ≡ old.unreleased → new.steps ≡ old.steps + k
     → new.read ≡ old.read → new.released ≡ old.released → Advances x k old new
-advances {x} {old} {new} k quiet h a program waits steps read released =
-    record {
-      exact = exact_quiet k quiet h a program waits steps read released;
-      unreleased = waits;
-      program = program;
-      released = released;
-      steps = steps;
-    }
+advances {x} {old} {new} k quiet h a program waits steps read released = record {
+  exact = record {
+    output = h.output;
+    made =
+        rw (program, steps, read)
+        (quiet old.machine.program x old.steps k old.read h.output old.machine.state new.machine.state h.made a);
+    read = rw read h.read;
+    waits = rw (waits, released) h.waits;
+    released = rw released h.released;
+    few = rw steps (omega (arith, h.few));
+    seldom = rw (steps, read) (omega (arith, h.seldom));
+    room = rw waits h.room;
+    capacity = rw waits h.capacity;
+  };
+  unreleased = waits;
+  program = program;
+  released = released;
+  steps = steps;
+}
 
 -- the steps before the one that wrote a byte
 abbrev pub advanced : Player → ℕ → State → Player
 advanced old k u = record old { machine = record old.machine { state = u }; steps = old.steps + k }
 
-pub to_advanced : {x : List ℕ} {old : Player} (k : ℕ) (u : State)
-    → ((p : Parts) (x : List ℕ) (n m r : ℕ) (o : List ℕ) (s t : State) → LeadsIn p x n (configuration_of s r o)
-    → AreQuiet p m s t → LeadsIn p x (n + m) (configuration_of t r o)) → IsPlayed x old
+pub to_advanced : {x : List ℕ} {old : Player} (k : ℕ) (u : State) → QuietLaw → IsPlayed x old
     → AreQuiet old.machine.program k old.machine.state u
     → Advances x k old (advanced old k u)
 to_advanced k u quiet h a = advances k quiet h a refl refl refl refl refl
+
+-- ---- other calls
 
 -- before the first step
 pub exact_start : (x : List ℕ) (q : Player) → q.machine.state ≡ start q.machine.program → q.steps ≡ 0 → q.read ≡ 0
@@ -180,13 +172,6 @@ exact_start x q state steps read released waits = record {
   room = rw waits (omega arith);
   capacity = rw waits refl;
 }
-
--- where a byte waits, not all output is released
-pub more_released : {x : List ℕ} {q : Player} {b : ℕ} → IsPlayed x q → slice_get q.unreleased.items 0 ≡ Some b → q.released < q.steps
-more_released {x} {q} {b} h e =
-    let e' : slice_get (drop q.released h.output) 0 ≡ Some b = rw h.waits at e in
-    let more : 0 < length (drop q.released h.output) = slice_get_within (drop q.released h.output) 0 b e' in
-    omega (arith, length-drop q.released h.output, h.few)
 
 -- the first byte that waits is released
 pub exact_released : {x : List ℕ} {q : Player} {b : ℕ} → IsPlayed x q → slice_get q.unreleased.items 0 ≡ Some b

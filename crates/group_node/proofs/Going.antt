@@ -1,4 +1,4 @@
--- What a lawful call makes of all that was sent and of the records.
+-- All that was sent, and the records, after a lawful call.
 use Rattle.std.proofs.Common.{◌≡◌, ℕ, List, [], ◌∷◌, ◌++◌, Option, Some, All, Contains, inl, inr, sym, subst}
 use Rattle.std.specs.Ordering.{nat_cmp}
 use Rattle.std.specs.FinMap.{FinMap, get}
@@ -43,7 +43,7 @@ module _ (sent : Sent) (typed : List Key) (old : Record) (before : FinMap nat_cm
       (allowed_all done.node.me.group.size done.node.me.node typed
       (get done.node.learner.learned) sent done.node.kept (bodies_of done.sends) lawful.sends) h
 
-  -- what the node has learned after the call is chosen, if all that was told is
+  -- what the node has learned after the call is chosen, if all that Tells have said is
   pub learned_chosen : AllChosen done.node.me.group.size sent → IsInRange done.node → (s : ℕ) (v : Value)
       → get done.node.learner.learned s ≡ Some v → IsChosen done.node.me.group.size sent s v
   learned_chosen told ranges s v e =
@@ -51,7 +51,7 @@ module _ (sent : Sent) (typed : List Key) (old : Record) (before : FinMap nat_cm
       subst (λ (size : ℕ). MayLearn size sent s v) ranges.learner.size (lawful.learns.learned s v e) in
       elim may [ inl said ↦ told s v said | inr chosen ↦ chosen ]
 
-  -- so is what was told after it, as what is chosen stays chosen
+  -- so is what Tells have said after it, as what is chosen stays chosen
   pub told_chosen : ((size s : ℕ) (sent more : Sent) (v : Value) → IsChosen size sent s v
       → IsChosen size (sent ++ more) s v) → AllChosen done.node.me.group.size sent → IsInRange done.node
       → AllChosen done.node.me.group.size (sent ++ messages_handed_out done.node.me.node done.sends)

@@ -1,8 +1,9 @@
--- There is an input: what was sent determines at each place what is chosen there, or that nothing is.
-use Rattle.std.proofs.Common.{◌≡◌, ℕ, zero, suc, ◌+◌, ◌<◌, ◌⊎◌, List, [], ◌∷◌, length, slice_get, Some, Contains, inl, inr, refl, sym, ap, subst, arith}
+-- There is an input: what was sent determines at each place what is chosen there, or that nothing
+-- is.
+use Rattle.std.proofs.Common.{◌≡◌, ℕ, zero, suc, ◌+◌, ◌<◌, ◌⊎◌, List, [], ◌∷◌, length, slice_get, Some, Contains, inl, inr, refl, ap, subst, arith, add-zero}
 use Rattle.paxos_msg.specs.declared.ballot.Ballot.{Ballot}
 use Rattle.paxos_msg.specs.declared.value.Value.{Value}
-use Rattle.paxos_msg.specs.declared.message.Body.TheVariants.{Prepare, Promise, Accept, Accepted, Refused, Submit, Ask, Tell}
+use Rattle.paxos_msg.specs.declared.message.Body.TheVariants.{Accepted}
 use Rattle.paxos_msg.specs.Batches.{Body, Msg, Sent}
 use Rattle.paxos_msg.specs.Chosen.{IsChosen, IsChosenBy}
 use Rattle.paxos_learner.specs.Input.{input_of}
@@ -32,16 +33,9 @@ module _ (laws : Laws) (size : ℕ) (sent : Sent) (s : ℕ) where
     | inr none ↦ inr (λ b v e chosen.
         let eb : c ≡ b = cc in
         let ev : u ≡ v = cc in
-        none (subst (λ (w : Value). IsChosenBy size sent c s w) (sym ev)
-        (subst (λ (d : Ballot). IsChosenBy size sent d s v) (sym eb) chosen)))
+        none (rw (eb, ev) chosen))
   ]
-  find_by (Prepare c from) = inr (λ b v e. absurd cc)
-  find_by (Promise c first upto votes) = inr (λ b v e. absurd cc)
-  find_by (Accept c t u) = inr (λ b v e. absurd cc)
-  find_by (Refused c promised) = inr (λ b v e. absurd cc)
-  find_by (Submit key) = inr (λ b v e. absurd cc)
-  find_by (Ask from) = inr (λ b v e. absurd cc)
-  find_by (Tell t u) = inr (λ b v e. absurd cc)
+  find_by other = inr (λ b v e. absurd cc)
 
   -- a value is found by one of the messages, or none
   find : (messages : Sent) → Found ⊎ NoneBy messages
@@ -73,13 +67,7 @@ module _ (laws : Laws) (size : ℕ) (sent : Sent) (s : ℕ) where
 -- the place of a message that accepts a value
 place_of : Body → ℕ
 place_of (Accepted b s v) = s
-place_of (Prepare c from) = 0
-place_of (Promise c first upto votes) = 0
-place_of (Accept c t u) = 0
-place_of (Refused c promised) = 0
-place_of (Submit key) = 0
-place_of (Ask from) = 0
-place_of (Tell t u) = 0
+place_of other = 0
 
 -- no place of a message reaches this number
 places : Sent → ℕ
@@ -123,7 +111,7 @@ module _ (laws : Laws) (size : ℕ) (sent : Sent) where
   one_from s v here later = record {
     values = v ∷ later.values;
     chosen = each;
-    over = λ w h. later.over w (subst (λ (n : ℕ). IsChosen size sent n w) next_place h);
+    over = λ w h. later.over w (rw next_place at h);
   }
     where
       next_place : s + length (v ∷ later.values) ≡ (s + 1) + length later.values
@@ -132,11 +120,10 @@ module _ (laws : Laws) (size : ℕ) (sent : Sent) where
       each : (t : ℕ) (w : Value) → slice_get (v ∷ later.values) t ≡ Some w → IsChosen size sent (s + t) w
       each zero w e =
           let same : v ≡ w = cc in
-          let place : s ≡ s + 0 = omega arith in
-          subst (λ (n : ℕ). IsChosen size sent n w) place (subst (λ (u : Value). IsChosen size sent s u) same here)
+          rw (add-zero s, ← same) here
       each (suc t) w e =
-          let place : (s + 1) + t ≡ s + suc t = omega arith in
-          subst (λ (n : ℕ). IsChosen size sent n w) place (later.chosen t w e)
+          let place : s + suc t ≡ (s + 1) + t = omega arith in
+          rw place (later.chosen t w e)
 
   -- the values from any place on
   chosen_from : (n s : ℕ) → s + n ≡ places sent → ChosenFrom size sent s
@@ -155,8 +142,8 @@ module _ (laws : Laws) (size : ℕ) (sent : Sent) where
           values = from.values;
           chosen =
               record {
-                chosen = λ s v e. let place : 0 + s
-                    ≡ s = omega arith in subst (λ (n : ℕ). IsChosen size sent n v) place (from.chosen s v e);
+                chosen = λ s v e. let place : 0 + s ≡ s = omega arith in
+                    subst (λ (n : ℕ). IsChosen size sent n v) place (from.chosen s v e);
               };
           over = λ v h. let place : length from.values ≡ 0 + length from.values =
               omega arith in from.over v (subst (λ (n : ℕ). IsChosen size sent n v) place h);

@@ -1,6 +1,5 @@
 -- The answers of a node's acceptor.
 use Rattle.std.proofs.Common.{◌≡◌, ◌∙◌, ◌↔◌, ℕ, Bool, true, false, List, [], ◌∷◌, Option, Some, None, is_some, IfSome, IsSomeAnd, if◌then◌else◌, inl, inr, refl, ap, arith}
-use Rattle.std.proofs.lemmas.List.Elements.{All-nil, All-cons}
 use Rattle.paxos_msg.specs.declared.ballot.Ballot.{Ballot}
 use Rattle.paxos_msg.specs.declared.record.Change.TheVariants as change
 use Rattle.paxos_msg.specs.declared.value.Value.{Value}
@@ -23,6 +22,7 @@ use Rattle.group_node.specs.Packets.{Packet}
 use Rattle.group_node.specs.Steps.{IsLawful, IsSavedBy}
 use Rattle.group_node.specs.World.{IsNoneOr}
 use Rattle.group_node.specs.declared.packet.To.{To}
+use Rattle.group_node.proofs.EachPacket.{one_all}
 use Rattle.group_node.proofs.Proposing.{promised_same}
 use Rattle.group_node.proofs.Saving.{promised_still, RaisingLaw}
 use Rattle.group_node.proofs.Sending.{IsStable, Sender, sender_of, SendingLaws, stable_goes}
@@ -128,23 +128,20 @@ saved_by sent r (Some change) may = (may, refl)
 answering_backed : SavingLaws → (sent : Sent) (typed : List Key) (n : Known) (change : Change) (answer : Answer)
     → Backs sent typed n → IsAnswer sent (sender_of typed n) change answer
     → Backs sent typed (with_kept n (after n.kept answer.saves))
-answering_backed laws sent typed n change answer h may = record {
-  kept =
-      record {
-        votes = may.backed;
-        asked =
-            λ b from mine said. promised_still laws.raising sent n.kept answer.saves b may.may_save
-            (h.kept.asked b from mine said);
-        own =
-            λ b s v mine said. promised_still laws.raising sent n.kept answer.saves b may.may_save
-            (h.kept.own b s v mine said);
-      };
-  proposer =
-      proposer_kept laws sent n.me.node (after n.kept answer.saves) n.kept n.proposer
-      (λ b g. promised_still laws.raising sent n.kept answer.saves b may.may_save g) h.proposer;
-  learner = h.learner;
-  waiting = λ k waits. h.waiting k (rw (starts_same n.kept change answer.saves may.counts may.reply.saves) at waits);
-}
+answering_backed laws sent typed n change answer h may =
+    let still : (b : Ballot) → HasPromised n.kept b → HasPromised (after n.kept answer.saves) b =
+    λ b. promised_still laws.raising sent n.kept answer.saves b may.may_save in
+    record {
+      kept =
+          record {
+            votes = may.backed;
+            asked = λ b from mine said. still b (h.kept.asked b from mine said);
+            own = λ b s v mine said. still b (h.kept.own b s v mine said);
+          };
+      proposer = proposer_kept laws sent n.me.node (after n.kept answer.saves) n.kept n.proposer still h.proposer;
+      learner = h.learner;
+      waiting = λ k waits. h.waiting k (rw (starts_same n.kept change answer.saves may.counts may.reply.saves) at waits);
+    }
 
 -- an answer is lawful
 pub answer_lawful : SavingLaws
@@ -157,8 +154,7 @@ answer_lawful laws sent typed n to change answer h may =
     let stable : IsStable (sender_of typed next) sent packet = record { may = may.may_send; old = may.reply.old } in
     let goes =
     stable_goes laws.sending sent typed next (packet ∷ []) (answering_backed laws sent typed n change answer h may)
-    (All-cons (IsStable (sender_of typed next) sent) packet [] stable
-    (All-nil (IsStable (sender_of typed next) sent))) in
+    (one_all (IsStable (sender_of typed next) sent) packet stable) in
     record {
       saves = saved_by sent n.kept answer.saves may.may_save;
       learns = h.learner;

@@ -1,13 +1,12 @@
 -- The other calls of a node: a start, a typed byte, a campaign, an Ask, and the keys that leave
 -- after a message.
-use Rattle.std.proofs.Common.{◌≡◌, ℕ, ◌+◌, ◌-◌, min, List, [], ◌∷◌, ◌++◌, Option, Some, None, option_map, IfSome, IsSomeAnd, Contains, inl, inr, refl, arith}
-use Rattle.std.specs.FinMap.{empty, get}
-use Rattle.std.specs.List.{range_with_len}
+use Rattle.std.proofs.Common.{ℕ, ◌+◌, List, [], ◌∷◌, ◌++◌, Option, Some, None, IfSome, IsSomeAnd, Contains, inl, inr, refl, arith}
+use Rattle.std.specs.FinMap.{empty}
 use Rattle.std.proofs.lemmas.List.{append-nil}
 use Rattle.std.proofs.lemmas.List.Elements.{Contains-append_cases, Contains-append_left, Contains-append_right}
 use Rattle.paxos_msg.specs.declared.ballot.Ballot.{Ballot}
 use Rattle.paxos_msg.specs.declared.value.Value.{Value}
-use Rattle.paxos_msg.specs.declared.message.Body.TheVariants.{Accept, Prepare, Tell}
+use Rattle.paxos_msg.specs.declared.message.Body.TheVariants.{Accept, Prepare}
 use Rattle.paxos_msg.specs.declared.record.Change.TheVariants as change
 use Rattle.paxos_msg.specs.Ballots.{IsAtMost, IsBelow}
 use Rattle.paxos_msg.specs.Batches.{Record, Sent}
@@ -23,12 +22,13 @@ use Rattle.paxos_learner.specs.Learner.{new_learner}
 use Rattle.group_node.specs.Backs.{Backs, IsRecordBacked}
 use Rattle.group_node.specs.Protocol.{without_read_keys}
 use Rattle.group_node.specs.Known.{on_typed, Response, front, new_key, Known, on_start, waiting_keys}
-use Rattle.group_node.specs.LearnerRows.{on_ask, tell_packet}
+use Rattle.group_node.specs.LearnerRows.{on_ask}
 use Rattle.group_node.specs.ProposerRows.{on_campaign, next_ballot}
 use Rattle.group_node.specs.WaitingKeys.{count_gone}
-use Rattle.group_node.specs.Packets.{to_all, to_one}
+use Rattle.group_node.specs.Packets.{to_all}
 use Rattle.group_node.specs.Steps.{IsLawful}
-use Rattle.group_node.proofs.LawfulProposerRows.{filter_map_all, one_all, sent_lawful}
+use Rattle.group_node.proofs.EachPacket.{each_tell, one_all}
+use Rattle.group_node.proofs.LawfulProposerRows.{sent_lawful}
 use Rattle.group_node.proofs.Proposing.{at_most_same}
 use Rattle.group_node.proofs.Saving.{record_saved, RecordLaws}
 use Rattle.group_node.proofs.Sending.{IsStable, sender_of, SendingLaws, stable_goes}
@@ -36,20 +36,12 @@ use Rattle.group_node.proofs.WaitingKeys.{keys_from-append, last_keys}
 
 -- ---- Ask
 
--- what is learned at a place may be told
-told_stable : (sent : Sent) (typed : List Key) (n : Known) (j s : ℕ) (o : Option Value) → get n.learner.learned s ≡ o
-    → IfSome (option_map (λ v. to_one j (Tell s v)) o) (IsStable (sender_of typed n) sent)
-told_stable sent typed n j s None e = tt
-told_stable sent typed n j s (Some v) e = record { may = e; old = tt }
-
--- what is learned may be told
+-- Tells may say what is learned
 pub ask_lawful : SendingLaws → (sent : Sent) (typed : List Key) (n : Known) (j from : ℕ) → Backs sent typed n
     → IsLawful sent typed n.kept n.learner.learned (on_ask n j from)
 ask_lawful laws sent typed n j from h =
-    sent_lawful sent typed n (on_ask n j from).sends h (stable_goes laws sent typed n (on_ask n j from).sends h
-    (filter_map_all (IsStable (sender_of typed n) sent) (tell_packet n.learner.learned j)
-    (range_with_len from (min 16 (front n - from)))
-    (λ s. told_stable sent typed n j s (get n.learner.learned s) refl)))
+    sent_lawful h (stable_goes laws sent typed n (on_ask n j from).sends h
+    (each_tell (IsStable (sender_of typed n) sent) n j from (λ s v e. record { may = e; old = tt })))
 
 -- ---- a start
 

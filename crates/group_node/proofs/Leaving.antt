@@ -17,29 +17,27 @@ count_by : (read : List Key) (t : Bool) (k : Key) (ks : List Key) → has_key re
 count_by read t k ks e = rw e refl
 
 -- the first is read, and leaves
-pub leaves : {read : List Key} {node start was first byte : ℕ} {all bytes : List ℕ} → IsLeaving read node start was all first (byte ∷ bytes)
+pub leaves : {read : List Key} {node start was first byte : ℕ} {all : List ℕ} (bytes : List ℕ)
+    → IsLeaving read node start was all first bytes → slice_get bytes 0 ≡ Some byte
     → has_key read (record { node = node; start = start; serial = first; byte = byte }) ≡ true
-    → IsLeaving read node start was all (first + 1) bytes
-leaves {read} {node} {start} {was} {first} {byte} {all} {bytes} h e =
-    let count =
-    count_by read true (record { node = node; start = start; serial = first; byte = byte })
-    (keys_from node start (first + 1) bytes) e in
-    record {
-      rest = rw count at h.rest;
-      serial =
-          let s = rw count at h.serial in
-          omega (arith, s);
-    }
+    → IsLeaving read node start was all (first + 1) (drop 1 bytes)
+leaves [] h is e = absurd cc
+leaves {read} {node} {start} {was} {first} {byte} (x ∷ xs) h is e =
+    let same : x ≡ byte = cc in
+    let count = count_by read true _ (keys_from node start (first + 1) xs) (rw (← same) at e) in
+    let s = rw count at h.serial in
+    record { rest = rw count at h.rest; serial = omega (arith, s) }
 
 -- the first isn't read, and all that are left stay
-pub stay : {read : List Key} {node start was first byte : ℕ} {all bytes : List ℕ} → IsLeaving read node start was all first (byte ∷ bytes)
+pub stay : {read : List Key} {node start was first byte : ℕ} {all : List ℕ} (bytes : List ℕ)
+    → IsLeaving read node start was all first bytes → slice_get bytes 0 ≡ Some byte
     → has_key read (record { node = node; start = start; serial = first; byte = byte }) ≡ false
-    → (byte ∷ bytes ≡ drop (count_read read (keys_from node start was all)) all)
+    → (bytes ≡ drop (count_read read (keys_from node start was all)) all)
     × (first ≡ was + count_read read (keys_from node start was all))
-stay {read} {node} {start} {was} {first} {byte} {all} {bytes} h e =
-    let count =
-    count_by read false (record { node = node; start = start; serial = first; byte = byte })
-    (keys_from node start (first + 1) bytes) e in
+stay [] h is e = absurd cc
+stay {read} {node} {start} {was} {first} {byte} (x ∷ xs) h is e =
+    let same : x ≡ byte = cc in
+    let count = count_by read false _ (keys_from node start (first + 1) xs) (rw (← same) at e) in
     let s = rw count at h.serial in
     (rw count at h.rest, omega (arith, s))
 
@@ -48,16 +46,11 @@ pub untrue : (t : Bool) → ¬ IsTrue t → t ≡ false
 untrue true h = absurd (h refl)
 untrue false h = refl
 
--- the first, and those after it
-pub first_is : (bytes : List ℕ) (byte : ℕ) → slice_get bytes 0 ≡ Some byte → bytes ≡ byte ∷ drop 1 bytes
-first_is [] byte e = absurd cc
-first_is (x ∷ xs) byte e =
-    let same : x ≡ byte = cc in
-    rw same refl
-
 -- serials may go on after the first
-pub waiting_next : {first byte : ℕ} {bytes : List ℕ} → IsWaiting first (byte ∷ bytes) → IsWaiting (first + 1) bytes
-waiting_next {first} {byte} {bytes} h = record {
+pub waiting_next : {first byte : ℕ} (bytes : List ℕ) → IsWaiting first bytes → slice_get bytes 0 ≡ Some byte
+    → IsWaiting (first + 1) (drop 1 bytes)
+waiting_next [] h is = absurd cc
+waiting_next (x ∷ xs) h is = record {
   some = omega arith;
   fits = omega (arith, h.fits);
   few = omega (arith, h.few);

@@ -1,5 +1,6 @@
+mod ByProposer
+mod EachPacket
 mod Campaigning
-mod FailedSaves
 mod IdleSaves
 mod LearningMore
 mod Leaving

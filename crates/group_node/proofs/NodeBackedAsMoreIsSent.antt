@@ -1,12 +1,12 @@
 -- What was sent backs a node as more is sent, if that proposes nothing under ballots of the node's
 -- own.
-use Rattle.std.proofs.Common.{◌≡◌, ℕ, ◌⊎◌, inl, inr, List, ◌++◌}
-use Rattle.std.proofs.lemmas.List.Elements.{Contains-append_left}
+use Rattle.std.proofs.Common.{◌≡◌, ℕ, ◌⊎◌, inl, inr, List, [], ◌∷◌, ◌++◌, ap}
+use Rattle.std.proofs.lemmas.List.Elements.{Contains-append_left, Contains-push_cases}
 use Rattle.std.proofs.lemmas.Option.{IfSome_then}
 use Rattle.paxos_msg.specs.declared.ballot.Ballot.{Ballot}
 use Rattle.paxos_msg.specs.declared.value.Value.{Value}
 use Rattle.paxos_msg.specs.declared.message.Body.TheVariants.{Accept, Prepare}
-use Rattle.paxos_msg.specs.Batches.{Body, Record, Sent}
+use Rattle.paxos_msg.specs.Batches.{Body, Msg, Record, Sent}
 use Rattle.paxos_msg.specs.Keys.{Key}
 use Rattle.paxos_msg.specs.Messages.{IsSaid, IsSent}
 use Rattle.paxos_acceptor.specs.Backed.{HasBackedVotes as IsVotesBacked}
@@ -39,6 +39,15 @@ sent_still sent more i body h = Contains-append_left sent more (record { sender 
 -- what was said is said still
 pub said_still : (sent more : Sent) (body : Body) → IsSaid sent body → IsSaid (sent ++ more) body
 said_still sent more body (i, h) = (i, sent_still sent more i body h)
+
+-- what was said after one message more was said before, or is what it says
+pub said_push : (sent : Sent) (j : ℕ) (body said : Body) → IsSaid (sent ++ record { sender = j; body = body } ∷ []) said
+    → IsSaid sent said ⊎ (body ≡ said)
+said_push sent j body said (i, h) =
+    elim (Contains-push_cases sent (record { sender = j; body = body }) (record { sender = i; body = said }) h) [
+      | inl old ↦ inl (i, old)
+      | inr e ↦ inr (ap (λ (m : Msg). m.body) e)
+    ]
 
 module _ (laws : BackingLaws) where
   -- a learner stays backed, whatever is sent

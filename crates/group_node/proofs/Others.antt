@@ -1,15 +1,15 @@
 -- What other nodes send, and keys that are typed.
-use Rattle.std.proofs.Common.{◌≡◌, ◌≢◌, ◌∙◌, ℕ, List, [], ◌∷◌, ◌++◌, Option, ◌⊎◌, inl, inr, sym, ap, subst}
-use Rattle.std.proofs.lemmas.List.Elements.{Contains-append_left, Contains-push_cases}
+use Rattle.std.proofs.Common.{◌≡◌, ◌≢◌, ◌∙◌, ℕ, List, [], ◌∷◌, ◌++◌, Option, ◌⊎◌, inl, inr, sym, subst}
+use Rattle.std.proofs.lemmas.List.Elements.{Contains-append_left}
 use Rattle.paxos_msg.specs.declared.ballot.Ballot.{Ballot}
 use Rattle.paxos_msg.specs.declared.value.Value.{Value}
 use Rattle.paxos_msg.specs.declared.message.Body.TheVariants.{Accept, Prepare}
-use Rattle.paxos_msg.specs.Batches.{Body, MaySend, Msg, Record, Sent}
+use Rattle.paxos_msg.specs.Batches.{Body, MaySend, Record, Sent}
 use Rattle.paxos_msg.specs.Keys.{Key}
 use Rattle.paxos_msg.specs.Messages.{IsSaid}
 use Rattle.group_node.specs.Backs.{Backs, HasPromised}
 use Rattle.group_node.specs.Known.{Known}
-use Rattle.group_node.proofs.NodeBackedAsMoreIsSent.{IsQuiet}
+use Rattle.group_node.proofs.NodeBackedAsMoreIsSent.{IsQuiet, said_push}
 
 -- what another node may send proposes nothing under a ballot of this one
 pub other_quiet : (size : ℕ) (known : List Key) (learned : ℕ → Option Value) (sent : Sent) (me j : ℕ) (r : Record)
@@ -20,27 +20,21 @@ other_quiet size known learned sent me j r body ne may own = record { asked = as
     asked : (b : Ballot) (from : ℕ) → b.node ≡ me
         → IsSaid (sent ++ record { sender = j; body = body } ∷ []) (Prepare b from)
         → IsSaid sent (Prepare b from) ⊎ HasPromised own b
-    asked b from mine (i, h) =
-        elim (Contains-push_cases sent (record { sender = j; body = body })
-        (record { sender = i; body = Prepare b from }) h) [
-          | inl before ↦ inl (i, before)
-          | inr e ↦
-              let said : body ≡ Prepare b from = ap (λ (m : Msg). m.body) e in
-              let rule : MaySend size known learned sent j r (Prepare b from) = subst (MaySend size known learned sent j r) said may in
-              absurd (ne (sym rule.0 ∙ mine))
-        ]
+    asked b from mine said = elim (said_push sent j body (Prepare b from) said) [
+      | inl before ↦ inl before
+      | inr e ↦
+          let rule : MaySend size known learned sent j r (Prepare b from) = subst (MaySend size known learned sent j r) e may in
+          absurd (ne (sym rule.0 ∙ mine))
+    ]
 
     old : (b : Ballot) (s : ℕ) (v : Value) → b.node ≡ me
         → IsSaid (sent ++ record { sender = j; body = body } ∷ []) (Accept b s v) → IsSaid sent (Accept b s v)
-    old b s v mine (i, h) =
-        elim (Contains-push_cases sent (record { sender = j; body = body })
-        (record { sender = i; body = Accept b s v }) h) [
-          | inl before ↦ (i, before)
-          | inr e ↦
-              let said : body ≡ Accept b s v = ap (λ (m : Msg). m.body) e in
-              let rule : MaySend size known learned sent j r (Accept b s v) = subst (MaySend size known learned sent j r) said may in
-              absurd (ne (sym rule.0 ∙ mine))
-        ]
+    old b s v mine said = elim (said_push sent j body (Accept b s v) said) [
+      | inl before ↦ before
+      | inr e ↦
+          let rule : MaySend size known learned sent j r (Accept b s v) = subst (MaySend size known learned sent j r) e may in
+          absurd (ne (sym rule.0 ∙ mine))
+    ]
 
 -- a node stays backed when more is typed
 pub typed_later : (sent : Sent) (typed more : List Key) (n : Known) → Backs sent typed n → Backs sent (typed ++ more) n

@@ -1,5 +1,5 @@
 -- How many packets a call sends.
-use Rattle.std.proofs.Common.{ℕ, zero, suc, ◌+◌, ◌-◌, ◌≤◌, min, Bool, true, false, ◌&&◌, not, if◌then◌else◌, List, [], ◌∷◌, ◌++◌, length, Option, Some, None, IfSome, arith}
+use Rattle.std.proofs.Common.{ℕ, zero, suc, ◌+◌, ◌-◌, ◌≤◌, min, Bool, true, false, if◌then◌else◌, List, [], ◌∷◌, ◌++◌, length, Option, Some, None, arith}
 use Rattle.std.specs.Ordering.{nat_cmp}
 use Rattle.std.specs.FinMap.{FinMap}
 use Rattle.std.specs.List.{cons_option, filter_map, range_with_len}
@@ -7,20 +7,19 @@ use Rattle.std.proofs.lemmas.List.{length-append, length-map, length-take}
 use Rattle.std.proofs.lemmas.List.FromFn.{length-range_with_len}
 use Rattle.paxos_msg.specs.declared.ballot.Ballot.{Ballot}
 use Rattle.paxos_msg.specs.declared.value.Value.{Value}
-use Rattle.paxos_msg.specs.declared.message.Body.TheVariants.{Prepare, Promise, Accept, Accepted, Refused, Submit, Ask, Tell}
+use Rattle.paxos_msg.specs.declared.message.Body.TheVariants.{Promise, Accept, Submit, Ask}
 use Rattle.paxos_msg.specs.Batches.{Body, Vote}
-use Rattle.paxos_msg.specs.Keys.{keys_of}
-use Rattle.paxos_msg.specs.Tests.{same_ballot}
 use Rattle.paxos_proposer.specs.Proposer.{proposer_after_part, asks_on, is_covered, next_of, next_value, Proposer, proposing}
 use Rattle.paxos_learner.specs.Learner.{front_of}
 use Rattle.group_node.specs.Protocol.{on_message}
-use Rattle.group_node.specs.Known.{front, Known, quiet}
+use Rattle.group_node.specs.Known.{front, Known}
 use Rattle.group_node.specs.LearnerRows.{on_ask, tell_packet}
-use Rattle.group_node.specs.ProposerRows.{are_known, leaves_room, offer_after, offering, prepare_from, proposing_on, submitted, taking_part}
-use Rattle.group_node.specs.Tick.{accept_again, accepts_again, asks, asks_again, on_tick, batch_of, prepares_again, submits, ticked}
+use Rattle.group_node.specs.ProposerRows.{leaves_room, offer_after, on_promise, on_submit, prepare_from}
+use Rattle.group_node.specs.Tick.{accept_again, accepts_again, asks, asks_again, on_tick, batch_of, prepares_again, submits}
 use Rattle.group_node.specs.Packets.{Packet, to_all}
 use Rattle.group_node.specs.Pump.{accepts_of, offer, Proposals, propose, pump, stop}
 use Rattle.group_node.specs.Ranges.{IsInRange, IsOwnProposer}
+use Rattle.group_node.proofs.ByProposer.{by_offer, by_part, by_tick}
 
 -- ---- lists
 
@@ -60,6 +59,10 @@ unfolding pump
 pump_few zero p = omega arith
 pump_few (suc n) p = propose_few p (next_value p None) (pump n) n (pump_few n)
 
+-- the Accepts of a pump of 16
+pumped_few : (p : Proposer) → length (accepts_of (pump 16 p).made) ≤ 16
+pumped_few p = accepts_few 16 (pump 16 p).made (pump_few 16 p)
+
 -- an offer, or none
 offer_if : (t : Bool) (p : Proposer) (v : Value) → length (if t then offer p v else stop p).made ≤ 1
 offer_if true p v = propose_few p (next_value p (Some v)) stop 0 (λ q. omega arith)
@@ -71,7 +74,7 @@ offer_few pumped v = offer_if (leaves_room pumped) pumped.proposer v
 
 -- ---- messages
 
--- an Ask: a packet for each place that is told at most
+-- an Ask: at most a packet for each place from its own up to the front, and at most 16
 pub ask_few : (n : Known) (j from : ℕ) → length (on_ask n j from).sends ≤ min 16 (front n - from)
 ask_few n j from = places_few (tell_packet n.learner.learned j) from (min 16 (front n - from))
 
@@ -80,44 +83,25 @@ prepare_few : (b : Ballot) (j : ℕ) (o : Option ℕ) → length (prepare_from b
 prepare_few b j None = omega arith
 prepare_few b j (Some s) = omega arith
 
--- by whether the part is for the proposer's own ballot
-promise_if : (n : Known) (t : Bool) (before : List Packet) (p : Proposer) → length before ≤ 1
-    → length (if t then proposing_on n before (pump 16 p) else quiet n).sends ≤ 17
-promise_if n false before p few = omega arith
-promise_if n true before p few = both_few 1 16 before (accepts_of (pump 16 p).made) few (accepts_few 16 (pump 16 p).made (pump_few 16 p))
+-- a Promise
+promise_few : (n : Known) (j : ℕ) (b : Ballot) (first upto : ℕ) (votes : List Vote) → length (on_promise n j b first upto votes).sends ≤ 17
+promise_few n j b first upto votes = by_part (λ done. length done.sends ≤ 17) n n.proposer j first upto b votes (omega arith) (λ p e own.
+    let next : Proposer = proposer_after_part p j first upto votes in
+    let before : List Packet = prepare_from b j (asks_on p j first upto) in
+    both_few 1 16 before (accepts_of (pump 16 next).made) (prepare_few b j (asks_on p j first upto)) (pumped_few next))
 
--- a Promise, by the proposer, if there is one
-promise_few : (n : Known) (o : Option Proposer) (j : ℕ) (b : Ballot) (first upto : ℕ) (votes : List Vote)
-    → length (taking_part n o j b first upto votes).sends ≤ 17
-promise_few n None j b first upto votes = omega arith
-promise_few n (Some p) j b first upto votes =
-    promise_if n (same_ballot p.ballot b) (prepare_from b j (asks_on p j first upto))
-    (proposer_after_part p j first upto votes) (prepare_few b j (asks_on p j first upto))
-
--- by whether it leads and there is a key that isn't known
-submit_if : (n : Known) (t : Bool) (p : Proposer) (v : Value)
-    → length (if t then offering n v (pump 16 p) (offer_after (pump 16 p) v) else quiet n).sends ≤ 17
-submit_if n false p v = omega arith
-submit_if n true p v =
+-- a Submit
+submit_few : (n : Known) (v : Value) → length (on_submit n v).sends ≤ 17
+submit_few n v = by_offer (λ done. length done.sends ≤ 17) n n.proposer v (omega arith) (λ p e.
     let made : List Vote = (offer_after (pump 16 p) v).made in
-    both_few 16 1 (accepts_of (pump 16 p).made) (accepts_of made) (accepts_few 16 (pump 16 p).made (pump_few 16 p))
-    (accepts_few 1 made (offer_few (pump 16 p) v))
-
--- a Submit, by the proposer, if there is one
-submit_few : (n : Known) (o : Option Proposer) (v : Value) → length (submitted n o v).sends ≤ 17
-submit_few n None v = omega arith
-submit_few n (Some p) v = submit_if n (is_covered p (next_of p) && not (are_known n (keys_of v))) p v
+    both_few 16 1 (accepts_of (pump 16 p).made) (accepts_of made) (pumped_few p) (accepts_few 1 made (offer_few (pump 16 p) v)))
 
 -- a message of any kind
 pub message_few : (n : Known) (j : ℕ) (body : Body) → length (on_message n j body).sends ≤ 17
-message_few n j (Prepare b from) = omega arith
-message_few n j (Promise b first upto votes) = promise_few n n.proposer j b first upto votes
-message_few n j (Accept b s v) = omega arith
-message_few n j (Accepted b s v) = omega arith
-message_few n j (Refused b promised) = omega arith
-message_few n j (Submit v) = submit_few n n.proposer v
+message_few n j (Promise b first upto votes) = promise_few n j b first upto votes
+message_few n j (Submit v) = submit_few n v
 message_few n j (Ask from) = omega (arith, ask_few n j from)
-message_few n j (Tell s v) = omega arith
+message_few n j other = omega arith
 
 -- ---- tick
 
@@ -150,19 +134,11 @@ submits_few (Some v) = omega arith
 asks_few : (n : Known) → length (asks n) ≤ 2
 asks_few n = both_few 1 1 (submits (batch_of n n.waiting)) (to_all (Ask (front n)) ∷ []) (submits_few (batch_of n n.waiting)) (omega arith)
 
--- a tick, by the proposer, if there is one
-tick_at : (n : Known) (o : Option Proposer) → IfSome o (λ p. p.size ≤ 9) → length (ticked n o).sends ≤ 43
-tick_at n None small = omega (arith, asks_few n)
-tick_at n (Some p) small =
-    both_few 25 18 (prepares_again p ++ accepts_again n.learner.learned p) (accepts_of (pump 16 p).made ++ asks n)
-    (both_few 9 16 (prepares_again p) (accepts_again n.learner.learned p) (prepares_few p small) (again_few n.learner.learned p))
-    (both_few 16 2 (accepts_of (pump 16 p).made) (asks n) (accepts_few 16 (pump 16 p).made (pump_few 16 p)) (asks_few n))
-
--- a group has at most nine nodes
-small_all : (n : Known) (o : Option Proposer) → n.me.group.size ≤ 9 → IfSome o (IsOwnProposer n.me) → IfSome o (λ p. p.size ≤ 9)
-small_all n None few own = tt
-small_all n (Some p) few own = omega (arith, own.size)
-
 -- a tick
 pub tick_few : (n : Known) → IsInRange n → length (on_tick n).sends ≤ 43
-tick_few n h = tick_at n n.proposer (small_all n n.proposer h.me.few h.proposer)
+tick_few n h = by_tick (λ done. length done.sends ≤ 43) n n.proposer (omega (arith, asks_few n)) (λ p e.
+    let own : IsOwnProposer n.me p = rw e at h.proposer in
+    let small : p.size ≤ 9 = omega (arith, own.size, h.me.few) in
+    both_few 25 18 (prepares_again p ++ accepts_again n.learner.learned p) (accepts_of (pump 16 p).made ++ asks n)
+    (both_few 9 16 (prepares_again p) (accepts_again n.learner.learned p) (prepares_few p small) (again_few n.learner.learned p))
+    (both_few 16 2 (accepts_of (pump 16 p).made) (asks n) (pumped_few p) (asks_few n)))

@@ -2,7 +2,7 @@
 use Rattle.std.proofs.Common.{◌≡◌, ◌∙◌, ℕ, zero, suc, ◌+◌, ◌≤◌, List, [], ◌∷◌, ◌++◌, length, take, Option, Some, None, is_some, true, false, refl, sym, ap, arith, add-zero, append_assoc, length-append}
 use Rattle.std.specs.List.{cons_option, filter_map, range_with_len}
 use Rattle.std.specs.Option.{option_to_list}
-use Rattle.std.proofs.lemmas.List.{append-nil, map-append, take-append-le, take_all}
+use Rattle.std.proofs.lemmas.List.{map-append, take-append-le, take_all}
 use Rattle.std.proofs.lemmas.List.Elements.{filter_map-append}
 use Rattle.paxos_acceptor.specs.declared.me.Me.{Me}
 use Rattle.group_node.specs.Packets.{Datagram, Packet, datagram_of, datagrams_of}
@@ -61,11 +61,6 @@ first_give f a n m most few full =
 -- What the places from the first one on, this many, give is in the outbox.
 pub record ArePut (me : Me) (f : ℕ → Option Packet) (first : ℕ) (before now : List Datagram) (count : ℕ) : Type 0 where
   pub packets : now ≡ before ++ datagrams_of me (filter_map f (range_with_len first count))
-
--- of none yet
-pub none_put : (me : Me) (f : ℕ → Option Packet) (first : ℕ) (before : List Datagram) (count : ℕ) → count ≡ 0
-    → ArePut me f first before before count
-none_put me f first before count none = record { packets = rw none (sym (append-nil before)) }
 
 -- of one more
 pub more_put : {me : Me} {f : ℕ → Option Packet} {first : ℕ} {before now then : List Datagram} {count : ℕ}

@@ -1,12 +1,12 @@
 -- A node that leads, with a key that waits and was offered, a kept vote and a tally.
-use Rattle.std.proofs.Common.{◌≡◌, ◌∙◌, ℕ, zero, suc, ◌<◌, ◌≤◌, inl, inr, List, [], ◌∷◌, ◌++◌, length, Option, None, Some, All, Contains, IfSome, IsSome, IsSomeAnd, IsTrue, refl, sym, ap, subst, arith}
-use Rattle.std.proofs.lemmas.List.Elements.{All-cons, All-contains, All-nil, Contains-append_left, Contains-push_cases}
+use Rattle.std.proofs.Common.{◌≡◌, ◌∙◌, ℕ, zero, suc, ◌<◌, ◌≤◌, inl, inr, List, [], ◌∷◌, ◌++◌, length, Option, None, Some, All, IfSome, IsSome, IsSomeAnd, IsTrue, refl, sym, subst, arith}
+use Rattle.std.proofs.lemmas.List.Elements.{All-cons, All-contains, All-nil, Contains-append_left}
 use Rattle.std.specs.FinMap.{empty, entries, get, get-empty, insert, len-empty, len-entries}
 use Rattle.std.specs.Ordering.{nat_cmp}
 use Rattle.paxos_msg.specs.declared.ballot.Ballot.{Ballot}
 use Rattle.paxos_msg.specs.declared.value.Value.{Value}
 use Rattle.paxos_msg.specs.declared.value.Value.TheVariants.{Keys, Noop}
-use Rattle.paxos_msg.specs.declared.message.Body.TheVariants.{Accept, Accepted, Ask, Prepare, Promise, Refused, Submit, Tell}
+use Rattle.paxos_msg.specs.declared.message.Body.TheVariants.{Accept, Accepted, Prepare, Promise}
 use Rattle.paxos_msg.specs.Batches.{Body, Msg, Sent, Vote}
 use Rattle.paxos_msg.specs.Fits.{IsBallot, IsBody, IsValue}
 use Rattle.paxos_msg.specs.Grammar.{AreBytes}
@@ -23,6 +23,7 @@ use Rattle.paxos_learner.proofs.OnePlace.{get_here}
 use Rattle.group_node.specs.Backs.{Backs, HasPromised}
 use Rattle.group_node.specs.Known.{Known}
 use Rattle.group_node.specs.Ranges.{IsInRange}
+use Rattle.group_node.proofs.NodeBackedAsMoreIsSent.{said_push}
 
 -- ---- the group, and what was sent in it
 
@@ -99,7 +100,7 @@ n = record {
 
 -- ---- the laws of the crates below
 
--- how a proposer and a learner begin, and what they make of what they hear and propose
+-- a proposer and a learner as they begin, and after what they hear and propose
 pub record FirstLaws : Type 0 where
   pub begins : (sent : Sent) (b : Ballot) (from size : ℕ) → ((s : ℕ) (v : Value) → ¬ IsSaid sent (Accept b s v))
       → IsProposerBacked sent b.node (new_proposer b from size)
@@ -129,25 +130,14 @@ pub record FirstLaws : Type 0 where
 
 -- no Accept
 abbrev IsNoProposal : Body → Type 0
-IsNoProposal (Prepare c from) = Unit {0}
-IsNoProposal (Promise c first upto votes) = Unit {0}
 IsNoProposal (Accept c s v) = ⊥
-IsNoProposal (Accepted c s v) = Unit {0}
-IsNoProposal (Refused c promised) = Unit {0}
-IsNoProposal (Submit v) = Unit {0}
-IsNoProposal (Ask from) = Unit {0}
-IsNoProposal (Tell s v) = Unit {0}
+IsNoProposal other = Unit {0}
 
 -- a Prepare or an Accept under this ballot, or something else
 abbrev IsUnder : Body → Type 0
 IsUnder (Prepare c from) = c ≡ b
-IsUnder (Promise c first upto votes) = Unit {0}
 IsUnder (Accept c s v) = c ≡ b
-IsUnder (Accepted c s v) = Unit {0}
-IsUnder (Refused c promised) = Unit {0}
-IsUnder (Submit v) = Unit {0}
-IsUnder (Ask from) = Unit {0}
-IsUnder (Tell s v) = Unit {0}
+IsUnder other = Unit {0}
 
 -- this of each message
 abbrev EachOf : (Msg → Type 0) → Sent → Type 0
@@ -185,16 +175,8 @@ quiet = record {
   stays =
       λ i body h. Contains-append_left proposed (record { sender = 2; body = Accepted b 0 batch } ∷ [])
       (record { sender = i; body = body }) h;
-  quiet = λ s v said. before s v said;
+  quiet = λ s v said. elim (said_push proposed 2 (Accepted b 0 batch) (Accept b s v) said) [ inl old ↦ old | inr e ↦ absurd cc ];
 }
-  where
-    before : (s : ℕ) (v : Value) → IsSaid sent (Accept b s v) → IsSaid proposed (Accept b s v)
-    before s v (i, h) =
-        elim (Contains-push_cases proposed (record { sender = 2; body = Accepted b 0 batch })
-        (record { sender = i; body = Accept b s v }) h) [
-          | inl old ↦ (i, old)
-          | inr e ↦ let f : Accepted b 0 batch ≡ Accept b s v = ap (λ (m : Msg). m.body) e in absurd cc
-        ]
 
 -- ---- what its learner hears
 

@@ -4,7 +4,7 @@ use Rattle.std.proofs.lemmas.Bool.{and_parts, ltb-true}
 use Rattle.std.proofs.lemmas.List.Elements.{All-cons, All-nil}
 use Rattle.paxos_msg.specs.declared.ballot.Ballot.{Ballot}
 use Rattle.paxos_msg.specs.declared.value.Value.{Value}
-use Rattle.paxos_msg.specs.declared.message.Body.TheVariants.{Prepare, Promise, Accept, Accepted, Refused, Submit, Ask, Tell}
+use Rattle.paxos_msg.specs.declared.message.Body.TheVariants.{Prepare, Promise, Accept}
 use Rattle.paxos_msg.specs.Batches.{Body, Vote}
 use Rattle.paxos_msg.specs.Fits.{IsBallot, IsBody, IsValue}
 use Rattle.paxos_acceptor.specs.declared.me.Me.{Me}
@@ -66,14 +66,8 @@ module _ (me : Me) (p : Proposer) (h : IsOwnProposer me p) where
 
   -- the same of any body; only a part asks on
   pub asks_after_fits : (j s : ℕ) (body : Body) → asks_after p j body ≡ Some s → IsBody me.group.size me.node (Prepare p.ballot s)
-  asks_after_fits j s (Prepare b from) e = absurd cc
   asks_after_fits j s (Promise b first upto votes) e = asks_on_fits j first upto s e
-  asks_after_fits j s (Accept b place v) e = absurd cc
-  asks_after_fits j s (Accepted b place v) e = absurd cc
-  asks_after_fits j s (Refused b promised) e = absurd cc
-  asks_after_fits j s (Submit v) e = absurd cc
-  asks_after_fits j s (Ask from) e = absurd cc
-  asks_after_fits j s (Tell place v) e = absurd cc
+  asks_after_fits j s other e = absurd cc
 
   -- it is the node's own still after a part of a promise
   pub part_own : PartLaws → (j first upto : ℕ) (votes : List Vote)
@@ -92,16 +86,10 @@ module _ (me : Me) (p : Proposer) (h : IsOwnProposer me p) where
   -- the same of any body; only a part changes it
   pub heard_own : PartLaws → (j : ℕ) (body : Body) → IsPromisePart p.ballot body → IsHeardFit me j body
       → IsOwnProposer me (heard_promise p j body)
-  heard_own laws j (Prepare b from) part heard = h
   heard_own laws j (Promise b first upto votes) part heard =
       part_own laws j first upto votes
       (subst (λ (c : Ballot). IsBody me.group.size j (Promise c first upto votes)) part heard.1)
-  heard_own laws j (Accept b place v) part heard = h
-  heard_own laws j (Accepted b place v) part heard = h
-  heard_own laws j (Refused b promised) part heard = h
-  heard_own laws j (Submit v) part heard = h
-  heard_own laws j (Ask from) part heard = h
-  heard_own laws j (Tell place v) part heard = h
+  heard_own laws j other part heard = h
 
   -- what is offered is in the ranges of the proposer's group
   offered_fits : (offered : Option Value) → IfSome offered (IsValue me.group.size) → IfSome offered (IsValue p.size)

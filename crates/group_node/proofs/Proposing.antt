@@ -1,21 +1,19 @@
 -- What a node's proposer proposes may be sent, and the node is backed again.
-use Rattle.std.proofs.Common.{◌≡◌, ℕ, zero, suc, ◌⊎◌, inl, inr, List, [], ◌∷◌, ◌++◌, Option, Some, None, IfSome, refl, ap, arith, subst, append_assoc}
+use Rattle.std.proofs.Common.{◌≡◌, ℕ, zero, suc, inl, inr, List, [], ◌∷◌, ◌++◌, Option, Some, None, IfSome, refl, arith, subst, append_assoc}
 use Rattle.std.proofs.lemmas.List.{append-nil}
-use Rattle.std.proofs.lemmas.List.Elements.{Contains-push_cases}
 use Rattle.paxos_msg.specs.declared.ballot.Ballot.{Ballot}
 use Rattle.paxos_msg.specs.declared.value.Value.{Value}
 use Rattle.paxos_msg.specs.declared.message.Body.TheVariants.{Accept, Prepare}
 use Rattle.paxos_msg.specs.Ballots.{IsAtMost}
 use Rattle.paxos_msg.specs.Batches.{IsFree, MaySend, Msg, Record, Sent}
 use Rattle.paxos_msg.specs.Keys.{Key}
-use Rattle.paxos_msg.specs.Messages.{IsSaid}
 use Rattle.paxos_proposer.specs.Backed.{IsProposerBacked as IsProposerBacked}
 use Rattle.paxos_proposer.specs.Proposer.{Proposer, next_of, next_value, proposing}
 use Rattle.group_node.specs.Backs.{Backs, HasPromised, IsRecordBacked}
 use Rattle.group_node.specs.Known.{Known}
 use Rattle.group_node.specs.Pump.{accepts_of, offer, Proposals, propose, pump, stop}
 use Rattle.group_node.specs.Steps.{messages_handed_out}
-use Rattle.group_node.proofs.NodeBackedAsMoreIsSent.{learner_later}
+use Rattle.group_node.proofs.NodeBackedAsMoreIsSent.{learner_later, said_push}
 use Rattle.group_node.proofs.Sending.{Goes, SendingLaws, sender_of}
 
 -- The laws of the crates below: also, what a proposer proposes may be sent, and then it is backed
@@ -41,27 +39,6 @@ at_most_same b = inr (refl, omega arith)
 pub promised_same : (r : Record) (b : Ballot) → r.promised ≡ Some b → HasPromised r b
 promised_same r b e = rw e (at_most_same b)
 
--- what is new after one Accept is that Accept
-accept_cases : (sent : Sent) (me : ℕ) (b c : Ballot) (s t : ℕ) (v w : Value)
-    → IsSaid (sent ++ record { sender = me; body = Accept b s v } ∷ []) (Accept c t w)
-    → IsSaid sent (Accept c t w) ⊎ (b ≡ c)
-accept_cases sent me b c s t v w (i, h) =
-    elim (Contains-push_cases sent (record { sender = me; body = Accept b s v })
-    (record { sender = i; body = Accept c t w }) h) [
-      | inl old ↦ inl (i, old)
-      | inr e ↦ let f : Accept b s v ≡ Accept c t w = ap (λ (m : Msg). m.body) e in inr cc
-    ]
-
--- a Prepare that was sent by the end of an Accept was sent before it
-asked_before : (sent : Sent) (me : ℕ) (b c : Ballot) (s from : ℕ) (v : Value)
-    → IsSaid (sent ++ record { sender = me; body = Accept b s v } ∷ []) (Prepare c from) → IsSaid sent (Prepare c from)
-asked_before sent me b c s from v (i, h) =
-    elim (Contains-push_cases sent (record { sender = me; body = Accept b s v })
-    (record { sender = i; body = Prepare c from }) h) [
-      | inl old ↦ (i, old)
-      | inr e ↦ let f : Accept b s v ≡ Prepare c from = ap (λ (m : Msg). m.body) e in absurd cc
-    ]
-
 -- proposals that may be sent, after which the node is backed, and its proposer is of its group
 pub record Proposes (typed : List Key) (n : Known) (sent : Sent) (proposals : Proposals) : Type 0 where
   pub goes : Goes (sender_of typed n) sent (accepts_of proposals.made) (leading n proposals.proposer)
@@ -73,10 +50,13 @@ module _ (laws : ProposingLaws) (typed : List Key) (n : Known) where
       → IsRecordBacked (sent ++ record { sender = n.me.node; body = Accept p.ballot s v } ∷ []) n.me.node n.kept
   record_backed sent p s v promised h = record {
     votes = laws.sending.backing.votes sent (record { sender = n.me.node; body = Accept p.ballot s v } ∷ []) n.kept h.votes;
-    asked = λ b from mine said. h.asked b from mine (asked_before sent n.me.node p.ballot b s from v said);
-    own = λ b t w mine said. elim (accept_cases sent n.me.node p.ballot b s t v w said) [
+    asked = λ b from mine said. elim (said_push sent n.me.node (Accept p.ballot s v) (Prepare b from) said) [
+      | inl old ↦ h.asked b from mine old
+      | inr e ↦ absurd cc
+    ];
+    own = λ b t w mine said. elim (said_push sent n.me.node (Accept p.ballot s v) (Accept b t w) said) [
       | inl old ↦ h.own b t w mine old
-      | inr e ↦ subst (HasPromised n.kept) e (promised_same n.kept p.ballot promised)
+      | inr e ↦ let same : p.ballot ≡ b = cc in subst (HasPromised n.kept) same (promised_same n.kept p.ballot promised)
     ];
   }
 

@@ -14,11 +14,7 @@ use Rattle.group_node.specs.declared.player.Player.{Player}
 use Rattle.group_node.specs.Output.{IsReplay, no_progress, Progress, unreleased_of}
 use Rattle.group_node.specs.Player.{IsPlayed, progress_of}
 use Rattle.group_node.specs.World.{MakesSteps}
-use Rattle.group_node.proofs.Exact.{replayed}
-
--- the law that steps which exist lead to what is after this many of them
-abbrev pub There : Type 0
-There = (p : Parts) (x : List ℕ) (n : ℕ) (c : Configuration) → LeadsIn p x n c → after_steps p x n ≡ c
+use Rattle.group_node.proofs.Exact.{replayed, There}
 
 -- the law that steps on an input are steps on each longer input
 abbrev pub Longer : Type 0

@@ -1,10 +1,8 @@
--- What a node makes of a message that has a spelling: it stays in its ranges, and what it sends has
--- a spelling.
-use Rattle.std.proofs.Common.{◌≡◌, ◌∙◌, ◌↔◌, ℕ, suc, ◌+◌, ◌-◌, ◌≤◌, min, Bool, true, false, ◌&&◌, not, if◌then◌else◌, List, [], ◌∷◌, length, drop, Option, Some, None, is_some, option_map, IfSome, refl, sym, subst, arith}
-use Rattle.std.specs.List.{range_with_len}
+-- A node after a message that has a spelling: it stays in its ranges, and what it sends has a
+-- spelling.
+use Rattle.std.proofs.Common.{◌≡◌, ◌∙◌, ◌↔◌, ℕ, suc, ◌+◌, ◌≤◌, Bool, true, false, if◌then◌else◌, List, [], ◌∷◌, length, drop, Option, Some, None, is_some, IfSome, refl, sym, subst, arith}
 use Rattle.std.proofs.lemmas.List.{get_or-drop, length-drop}
 use Rattle.std.proofs.lemmas.List.Elements.{All-append, All-nil}
-use Rattle.std.specs.FinMap.{get}
 use Rattle.paxos_msg.specs.declared.ballot.Ballot.{Ballot}
 use Rattle.paxos_msg.specs.declared.value.Value.{Value}
 use Rattle.paxos_msg.specs.declared.record.Change.TheVariants as change
@@ -12,27 +10,28 @@ use Rattle.paxos_msg.specs.declared.message.Body.TheVariants.{Prepare, Promise, 
 use Rattle.paxos_msg.specs.Batches.{Record, Vote}
 use Rattle.paxos_msg.specs.Fits.{IsBallot, IsBody, IsPlace, IsValue}
 use Rattle.paxos_msg.specs.Grammar.{AreBytes}
-use Rattle.paxos_msg.specs.Keys.{Key, keys_from, keys_of}
+use Rattle.paxos_msg.specs.Keys.{Key, keys_from}
 use Rattle.paxos_msg.specs.Tests.{same_ballot}
 use Rattle.paxos_acceptor.specs.declared.me.Me.{Me}
 use Rattle.paxos_acceptor.specs.Answers.{Answer, accept_of, after, prepare_of}
 use Rattle.paxos_acceptor.specs.Cases.{greater_promise}
 use Rattle.paxos_acceptor.specs.Records.{IsRecord}
-use Rattle.paxos_proposer.specs.Proposer.{proposer_after_part, asks_on, is_covered, next_of, Proposer}
+use Rattle.paxos_proposer.specs.Proposer.{proposer_after_part, asks_on, Proposer}
 use Rattle.paxos_learner.specs.Learner.{AreInWindow, IsLearnerInRange as IsLearnerInRange, Learner, heard_accepted, heard_tell}
 use Rattle.paxos_learner.specs.Input.{front_values, has_key, keys_in_order}
 use Rattle.group_node.specs.declared.packet.To.{To}
 use Rattle.group_node.specs.Protocol.{without_read_keys}
 use Rattle.group_node.specs.AcceptorRows.{accept_answered_to, answering, on_accept, on_prepare, unless_passed}
-use Rattle.group_node.specs.Known.{Response, front, Known, quiet, waiting_keys}
-use Rattle.group_node.specs.LearnerRows.{on_accepted, on_ask, on_tell, tell_packet}
-use Rattle.group_node.specs.ProposerRows.{on_promise, on_submit, are_known, offer_after, offering, prepare_from, proposing_on, submitted, taking_part, on_refused, unless_refused}
+use Rattle.group_node.specs.Known.{Response, Known, quiet, waiting_keys}
+use Rattle.group_node.specs.LearnerRows.{on_accepted, on_ask, on_tell}
+use Rattle.group_node.specs.ProposerRows.{on_promise, on_submit, offer_after, prepare_from, proposing_on, on_refused, unless_refused}
 use Rattle.group_node.specs.WaitingKeys.{count_read, count_gone, without_read}
-use Rattle.group_node.specs.Packets.{Packet, to_one}
+use Rattle.group_node.specs.Packets.{Packet}
 use Rattle.group_node.specs.Pump.{accepts_of, Proposals, pump}
 use Rattle.group_node.specs.Ranges.{AllFit, AreFit, IsFit, IsHeardFit, IsInRange, IsOwnLearner, IsOwnProposer, IsWaiting}
+use Rattle.group_node.proofs.ByProposer.{by_offer, by_part}
 use Rattle.group_node.proofs.LawfulAcceptorRows.{accept_reply, prepare_reply, starts_same}
-use Rattle.group_node.proofs.LawfulProposerRows.{filter_map_all, one_all}
+use Rattle.group_node.proofs.EachPacket.{each_asked, each_tell, one_all}
 use Rattle.group_node.proofs.PacketsFit.{tell_fits}
 use Rattle.group_node.proofs.ProposalsFit.{AcceptLaws, asks_on_fits, offer_after_fits, part_own, PartLaws, pump_fits}
 
@@ -114,15 +113,14 @@ module _ (n : Known) (h : IsInRange n) where
 
   -- keys that leave keep the node in its ranges
   pub gone_fits : IsInRange (without_read n)
-  gone_fits =
-      record {
-        me = h.me;
-        kept = h.kept;
-        counted = h.counted;
-        proposer = h.proposer;
-        learner = h.learner;
-        waiting = waiting_less n.first (count_gone n) n.waiting gone_few h.waiting;
-      }
+  gone_fits = record {
+    me = h.me;
+    kept = h.kept;
+    counted = h.counted;
+    proposer = h.proposer;
+    learner = h.learner;
+    waiting = waiting_less n.first (count_gone n) n.waiting gone_few h.waiting;
+  }
 
 -- a call that sends nothing
 pub quiet_fits : (n : Known) → IsInRange n → IsFit n.me (quiet n)
@@ -137,9 +135,10 @@ module _ (n : Known) (h : IsInRange n) where
   abbrev IsPacketFit : Packet → Type 0
   IsPacketFit packet = IsBody n.me.group.size n.me.node packet.body
 
-  -- the node with another own proposer
-  pub led_range : (o : Option Proposer) → IfSome o (IsOwnProposer n.me) → IsInRange (record n { proposer = o })
-  led_range o own = record { me = h.me; kept = h.kept; counted = h.counted; proposer = own; learner = h.learner; waiting = h.waiting }
+  -- the node with another own proposer and learner, whatever it remembers and has offered
+  pub led_range : {o : Option Proposer} {l : Learner} {remembered : Option Ballot} {offered : List Key} → IfSome o (IsOwnProposer n.me)
+      → IsOwnLearner n.me l → IsInRange (record n { proposer = o; learner = l; remembered = remembered; offered = offered })
+  led_range own learner = record { me = h.me; kept = h.kept; counted = h.counted; proposer = own; learner = learner; waiting = h.waiting }
 
   -- ---- Prepare and Accept
 
@@ -181,16 +180,7 @@ module _ (n : Known) (h : IsInRange n) where
 
   -- the node with another own learner
   learned_fits : (l : Learner) → IsOwnLearner n.me l → IsFit n.me (quiet (record n { learner = l }))
-  learned_fits l own =
-      quiet_fits (record n { learner = l })
-      (record {
-        me = h.me;
-        kept = h.kept;
-        counted = h.counted;
-        proposer = h.proposer;
-        learner = own;
-        waiting = h.waiting;
-      })
+  learned_fits l own = quiet_fits (record n { learner = l }) (led_range h.proposer own)
 
   -- a value of the group is one of the learner's
   heard_value : (v : Value) → IsValue n.me.group.size v → IsValue n.learner.size v
@@ -218,32 +208,16 @@ module _ (n : Known) (h : IsInRange n) where
   -- a Refused
   pub refused_fits : (b promised : Ballot) → IsFit n.me (on_refused n b promised)
   refused_fits b promised =
-      quiet_fits (on_refused n b promised).node
-      (record {
-        me = h.me;
-        kept = h.kept;
-        counted = h.counted;
-        proposer = refused_own (IsOwnProposer n.me) b n.proposer h.proposer;
-        learner = h.learner;
-        waiting =
-            h.waiting;
-      })
+      quiet_fits (on_refused n b promised).node (led_range (refused_own (IsOwnProposer n.me) b n.proposer h.proposer) h.learner)
 
   -- ---- Ask
-
-  -- what is learned at a place, if anything, may be told
-  tell_if : (j s : ℕ) (o : Option Value) → get n.learner.learned s ≡ o → IfSome (option_map (λ v. to_one j (Tell s v)) o) IsPacketFit
-  tell_if j s None e = tt
-  tell_if j s (Some v) e = tell_fits n h s v e
 
   -- an Ask
   pub asked_fits : (j from : ℕ) → IsFit n.me (on_ask n j from)
   asked_fits j from = record {
     same = refl;
     ranges = h;
-    sends =
-        filter_map_all IsPacketFit (tell_packet n.learner.learned j) (range_with_len from (min 16 (front n - from)))
-        (λ s. tell_if j s (get n.learner.learned s) refl);
+    sends = each_tell IsPacketFit n j from (tell_fits n h);
   }
 
   -- ---- Promise
@@ -253,71 +227,32 @@ module _ (n : Known) (h : IsInRange n) where
       → AreFit n.me p proposals → IsFit n.me (proposing_on n before proposals)
   proposing_fits p before proposals fit f = record {
     same = refl;
-    ranges = led_range (Some proposals.proposer) f.own;
+    ranges = led_range f.own h.learner;
     sends = All-append IsPacketFit before (accepts_of proposals.made) fit f.sends;
   }
-
-  -- the acceptor is asked on, if it is
-  asked_on : (p : Proposer) → IsOwnProposer n.me p → (j first upto : ℕ) (o : Option ℕ) → asks_on p j first upto ≡ o
-      → AllFit n.me (prepare_from p.ballot j o)
-  asked_on p own j first upto None e = All-nil IsPacketFit
-  asked_on p own j first upto (Some s) e = one_all IsPacketFit (to_one j (Prepare p.ballot s)) (asks_on_fits n.me p own j first upto s e)
-
-  -- by whether the part is for the proposer's own ballot
-  promise_if : AcceptLaws → PartLaws → ((a b : Ballot) → (same_ballot a b ≡ true) ↔ (a ≡ b)) → (p : Proposer)
-      → IsOwnProposer n.me p → (j first upto : ℕ) (b : Ballot) (votes : List Vote)
-      → IsBody n.me.group.size j (Promise b first upto votes) → (t : Bool) → same_ballot p.ballot b ≡ t
-      → IsFit n.me (if t then proposing_on n (prepare_from b j (asks_on p j first upto))
-      (pump 16 (proposer_after_part p j first upto votes)) else quiet n)
-  promise_if accepts laws same_is p own j first upto b votes fits false e = quiet_fits n h
-  promise_if accepts laws same_is p own j first upto b votes fits true e =
-      let same : p.ballot ≡ b = (same_is p.ballot b).0 e in
-      let next : Proposer = proposer_after_part p j first upto votes in
-      let body = subst (λ (c : Ballot). IsBody n.me.group.size j (Promise c first upto votes)) (sym same) fits in
-      let before =
-      subst (λ (c : Ballot). AllFit n.me (prepare_from c j (asks_on p j first upto))) same
-      (asked_on p own j first upto (asks_on p j first upto) refl) in
-      proposing_fits next (prepare_from b j (asks_on p j first upto)) (pump 16 next) before
-      (pump_fits accepts n.me 16 next (part_own n.me p own laws j first upto votes body))
-
-  -- by the proposer, if there is one
-  promise_at : AcceptLaws → PartLaws → ((a b : Ballot) → (same_ballot a b ≡ true) ↔ (a ≡ b)) → (o : Option Proposer)
-      → IfSome o (IsOwnProposer n.me) → (j first upto : ℕ) (b : Ballot) (votes : List Vote)
-      → IsBody n.me.group.size j (Promise b first upto votes)
-      → IsFit n.me (taking_part n o j b first upto votes)
-  promise_at accepts laws same_is None own j first upto b votes fits = quiet_fits n h
-  promise_at accepts laws same_is (Some p) own j first upto b votes fits =
-      promise_if accepts laws same_is p own j first upto b votes fits (same_ballot p.ballot b) refl
 
   -- a Promise, or a part of one
   pub promise_fits : AcceptLaws → PartLaws → ((a b : Ballot) → (same_ballot a b ≡ true) ↔ (a ≡ b))
       → (j first upto : ℕ) (b : Ballot) (votes : List Vote) → IsHeardFit n.me j (Promise b first upto votes)
       → IsFit n.me (on_promise n j b first upto votes)
   promise_fits accepts laws same_is j first upto b votes heard =
-      promise_at accepts laws same_is n.proposer h.proposer j first upto b votes heard.1
+      by_part (IsFit n.me) n n.proposer j first upto b votes (quiet_fits n h) (λ p e t.
+      let own : IsOwnProposer n.me p = rw e at h.proposer in
+      let same : p.ballot ≡ b = (same_is p.ballot b).0 t in
+      let next : Proposer = proposer_after_part p j first upto votes in
+      let body = subst (λ (c : Ballot). IsBody n.me.group.size j (Promise c first upto votes)) (sym same) heard.1 in
+      let before =
+      subst (λ (c : Ballot). AllFit n.me (prepare_from c j (asks_on p j first upto))) same
+      (each_asked IsPacketFit p.ballot j (asks_on p j first upto) (λ s. asks_on_fits n.me p own j first upto s)) in
+      proposing_fits next (prepare_from b j (asks_on p j first upto)) (pump 16 next) before
+      (pump_fits accepts n.me 16 next (part_own n.me p own laws j first upto votes body)))
 
   -- ---- Submit
 
-  -- by whether it leads and there is a key that isn't known
-  submit_if : AcceptLaws → (p : Proposer) → IsOwnProposer n.me p → (v : Value) → IsValue n.me.group.size v → (t : Bool)
-      → IsFit n.me (if t then offering n v (pump 16 p) (offer_after (pump 16 p) v) else quiet n)
-  submit_if accepts p own v fits false = quiet_fits n h
-  submit_if accepts p own v fits true =
-      let pumped = pump_fits accepts n.me 16 p own in
-      let made = offer_after_fits accepts n.me (pump 16 p) v pumped.own fits in
-      let f = proposing_fits (pump 16 p).proposer (accepts_of (pump 16 p).made) (offer_after (pump 16 p) v) pumped.sends made in
-      record {
-        same = refl;
-        ranges = record { me = h.me; kept = h.kept; counted = h.counted; proposer = made.own; learner = h.learner; waiting = h.waiting };
-        sends = f.sends;
-      }
-
-  -- by the proposer, if there is one
-  submit_at : AcceptLaws → (o : Option Proposer) → IfSome o (IsOwnProposer n.me) → (v : Value)
-      → IsValue n.me.group.size v → IsFit n.me (submitted n o v)
-  submit_at accepts None own v fits = quiet_fits n h
-  submit_at accepts (Some p) own v fits = submit_if accepts p own v fits (is_covered p (next_of p) && not (are_known n (keys_of v)))
-
   -- a Submit
   pub submit_fits : AcceptLaws → (j : ℕ) (v : Value) → IsHeardFit n.me j (Submit v) → IsFit n.me (on_submit n v)
-  submit_fits accepts j v (some, (value, own)) = submit_at accepts n.proposer h.proposer v value
+  submit_fits accepts j v (some, (value, own)) = by_offer (IsFit n.me) n n.proposer v (quiet_fits n h) (λ p e.
+      let pumped = pump_fits accepts n.me 16 p (rw e at h.proposer) in
+      let made = offer_after_fits accepts n.me (pump 16 p) v pumped.own value in
+      let f = proposing_fits (pump 16 p).proposer (accepts_of (pump 16 p).made) (offer_after (pump 16 p) v) pumped.sends made in
+      record { same = refl; ranges = led_range made.own h.learner; sends = f.sends })

@@ -1,5 +1,5 @@
 -- A run of the machine, up to where it is over.
-use Rattle.std.proofs.Common.{◌≡◌, ℕ, ◌+◌, ◌-◌, ◌<◌, ◌≤◌, List, length, drop, Some, None, refl, sym, ◌∙◌, ap, subst, arith}
+use Rattle.std.proofs.Common.{◌≡◌, ℕ, ◌+◌, ◌-◌, ◌<◌, ◌≤◌, List, length, drop, Some, None, sym, ◌∙◌, ap, subst, arith}
 use Rattle.std.proofs.lemmas.List.{length-drop}
 use Rattle.pcode_file.specs.Parts.{Parts}
 use Rattle.pcode_machine.specs.Runs.{IsPrefix, out}
@@ -7,9 +7,10 @@ use Rattle.group_node.specs.declared.player.Player.{Player}
 use Rattle.group_node.specs.declared.player.Ran.{Ran}
 use Rattle.group_node.specs.declared.player.Ran.TheVariants as ran
 use Rattle.group_node.specs.Output.{IsIdle, IsOver, most_of, Progress, RunsOn, unreleased_of}
-use Rattle.group_node.specs.Player.{MakesNoStep, IsPlayed, progress_of, RanSoFar, TurnsTo}
+use Rattle.group_node.specs.Player.{Advances, MakesNoStep, IsPlayed, progress_of, RanSoFar, TurnsTo}
+use Rattle.group_node.proofs.Exact.{There}
 use Rattle.group_node.proofs.Prefixes.{prefix_length}
-use Rattle.group_node.proofs.Replays.{There, waits_unreleased}
+use Rattle.group_node.proofs.Replays.{waits_unreleased}
 
 -- the laws of runs and of their output that a run rests on
 pub record Laws : Type 0 where
@@ -38,32 +39,19 @@ room_from {x} {q} old laws h room program released n low =
 
 -- ---- steps of a run
 
--- before the first step
-pub run_starts : {x : List ℕ} {old : Player} (most left : ℕ) → IsPlayed x old → old.steps + left ≡ most → RanSoFar x most left old old
-run_starts {x} {old} most left h budget = record {
-  exact = h;
-  program = refl;
-  released = refl;
-  more = omega arith;
-  budget = budget;
-  room = λ n from below. absurd (omega arith);
-}
-
 -- k steps that wrote nothing, where there was room
 pub run_advances : {x : List ℕ} {most left : ℕ} {old now new : Player} (k : ℕ) → Laws → RanSoFar x most left old now
     → length now.unreleased.items < 256
-    → IsPlayed x new → new.unreleased ≡ now.unreleased → new.machine.program ≡ now.machine.program
-    → new.released ≡ now.released → new.steps ≡ now.steps + k → k ≤ left
-    → RanSoFar x most (left - k) old new
-run_advances {x} {most} {left} {old} {now} {new} k laws r room exact waits program released steps few =
-    let still : length new.unreleased.items < 256 = rw waits room in
+    → Advances x k now new → k ≤ left → RanSoFar x most (left - k) old new
+run_advances {x} {most} {left} {old} {now} {new} k laws r room a few =
+    let still : length new.unreleased.items < 256 = rw a.unreleased room in
     record {
-      exact = exact;
-      program = program ∙ r.program;
-      released = released ∙ r.released;
+      exact = a.exact;
+      program = a.program ∙ r.program;
+      released = a.released ∙ r.released;
       more = omega (arith, r.more);
       budget = omega (arith, r.budget);
-      room = λ n from below. room_from old laws exact still (program ∙ r.program) (released ∙ r.released) n (omega arith);
+      room = λ n from below. room_from old laws a.exact still (a.program ∙ r.program) (a.released ∙ r.released) n (omega arith);
     }
 
 -- one step, where there was room
@@ -139,7 +127,7 @@ pub run_goes_on : {x : List ℕ} {most left : ℕ} {old now new : Player} (n : �
 run_goes_on {x} {most} {left} {old} {now} {new} n laws r room (k, mid, a, few, is) exact program released steps =
     let still : length mid.unreleased.items < 256 = rw a.unreleased room in
     let here : RanSoFar x most (left - k) old mid =
-    run_advances k laws r room a.exact a.unreleased a.program a.released a.steps (omega arith) in
+    run_advances k laws r room a (omega arith) in
     let fewer : left - k - 1 ≡ left - n = omega arith in
     let one : new.steps ≡ mid.steps + 1 = omega (arith, a.steps) in
     rw fewer at (run_turns laws here still exact (program ∙ sym a.program) (released ∙ sym a.released) one (omega arith))
@@ -149,18 +137,17 @@ pub run_is_over : {x : List ℕ} {old now : Player} (steps left n : ℕ) (new : 
     → RanSoFar x (most_of old.steps steps) left old now → length now.unreleased.items < 256
     → TurnsTo x left now new (n, Some why) → RunsOn x steps (progress_of old) (progress_of new) why
 run_is_over {x} {old} {now} steps left n new ran.More laws r room (all, a) =
-    run_spent steps (left - n) (omega arith) (run_advances n laws r room a.exact a.unreleased a.program a.released a.steps (omega arith))
+    run_spent steps (left - n) (omega arith) (run_advances n laws r room a (omega arith))
 run_is_over steps left n new ran.Full laws r room h = absurd h
 run_is_over {x} {old} {now} steps left n new ran.Waits laws r room (few, a, h) =
     halts steps (left - n) ran.Waits laws.there (omega arith) (rw a.unreleased room) h
-    (run_advances n laws r room a.exact a.unreleased a.program a.released a.steps (omega arith))
+    (run_advances n laws r room a (omega arith))
 run_is_over {x} {old} {now} steps left n new (ran.Ended e) laws r room (few, a, h) =
     halts steps (left - n) (ran.Ended e) laws.there (omega arith) (rw a.unreleased room) h
-    (run_advances n laws r room a.exact a.unreleased a.program a.released a.steps (omega arith))
+    (run_advances n laws r room a (omega arith))
 
 -- a run makes at most as many steps as it may
 pub few_steps : (x : List ℕ) (steps : ℕ) (old new : Progress) (answer : Ran) → RunsOn x steps old new answer → new.steps ≤ old.steps + steps
 few_steps x steps old new ran.More r = let spent : new.steps ≡ most_of old.steps steps = r.over in omega arith
 few_steps x steps old new ran.Full r = let less : new.steps < most_of old.steps steps = r.over.0 in omega arith
-few_steps x steps old new ran.Waits r = let less : new.steps < most_of old.steps steps = r.over.0.0 in omega arith
-few_steps x steps old new (ran.Ended e) r = let less : new.steps < most_of old.steps steps = r.over.0.0 in omega arith
+few_steps x steps old new other r = let less : new.steps < most_of old.steps steps = r.over.0.0 in omega arith

@@ -1,4 +1,4 @@
--- What a save makes of a record.
+-- A record after a save.
 use Rattle.std.proofs.Common.{◌≡◌, ℕ, Option, Some, None, IfSome, IsSomeAnd, inl, inr, refl, arith}
 use Rattle.paxos_msg.specs.declared.ballot.Ballot.{Ballot}
 use Rattle.paxos_msg.specs.Ballots.{IsAtMost}

@@ -5,7 +5,7 @@ use Rattle.std.proofs.lemmas.List.Elements.{All-head, All-tail, All-map, All-con
 use Rattle.std.specs.FinMap.{get}
 use Rattle.paxos_msg.specs.declared.ballot.Ballot.{Ballot}
 use Rattle.paxos_msg.specs.declared.value.Value.{Value}
-use Rattle.paxos_msg.specs.declared.message.Body.TheVariants.{Accept, Accepted, Ask, Prepare, Promise, Refused, Submit, Tell}
+use Rattle.paxos_msg.specs.declared.message.Body.TheVariants.{Accept, Prepare}
 use Rattle.paxos_msg.specs.Batches.{Body, MaySend, MaySendAll, Msg, Record, Sent}
 use Rattle.paxos_msg.specs.Keys.{Key}
 use Rattle.paxos_msg.specs.Messages.{IsSaid, messages_of}
@@ -63,43 +63,31 @@ knows_same typed learned = record { keys = λ key h. h; values = λ s v e. e }
 abbrev message_of : Sender → Packet → Msg
 message_of by packet = record { sender = by.me; body = packet.body }
 
--- what is handed out in two parts
+-- the messages of packets in two parts
 handed_append : (i : ℕ) (xs ys : List Packet) → messages_handed_out i (xs ++ ys) ≡ messages_handed_out i xs ++ messages_handed_out i ys
 handed_append i [] ys = λ k. messages_handed_out i ys
 handed_append i (x ∷ xs) ys = λ k. record { sender = i; body = x.body } ∷ handed_append i xs ys k
 
 -- packets in two parts may be sent as one
-pub goes_on : SendingLaws → (by : Sender) (sent : Sent) (xs ys : List Packet) (n : Known) → SendsAll by sent xs
+pub goes_on : {by : Sender} {sent : Sent} {xs ys : List Packet} {m n : Known} → SendingLaws → Goes by sent xs m
     → Goes by (sent ++ messages_handed_out by.me xs) ys n → Goes by sent (xs ++ ys) n
-goes_on laws by sent xs ys n h k = record {
+goes_on {by} {sent} {xs} {ys} laws h k = record {
   sends =
       rw (map-append (λ (packet : Packet). packet.body) xs ys)
-      ((laws.halves by.size by.me by.typed by.learned sent by.kept (bodies_of xs) (bodies_of ys)).1 (h, k.sends));
+      ((laws.halves by.size by.me by.typed by.learned sent by.kept (bodies_of xs) (bodies_of ys)).1 (h.sends, k.sends));
   backs = rw (handed_append by.me xs ys, ← append_assoc sent (messages_handed_out by.me xs) (messages_handed_out by.me ys)) k.backs;
 }
 
 -- a Prepare is of a promised ballot
 abbrev IsAsked : Record → Body → Type 0
 IsAsked r (Prepare b from) = HasPromised r b
-IsAsked r (Promise b first upto votes) = Unit {0}
-IsAsked r (Accept b s v) = Unit {0}
-IsAsked r (Accepted b s v) = Unit {0}
-IsAsked r (Refused b promised) = Unit {0}
-IsAsked r (Submit v) = Unit {0}
-IsAsked r (Ask from) = Unit {0}
-IsAsked r (Tell s v) = Unit {0}
+IsAsked r other = Unit {0}
 
 -- the rules ask that of what may be sent
 may_ask : (r : Record) (typed : List Key) (learned : ℕ → Option Value) (sent : Sent) (i size : ℕ) (body : Body)
     → MaySend size typed learned sent i r body → IsAsked r body
 may_ask r typed learned sent i size (Prepare b from) may = may.1
-may_ask r typed learned sent i size (Promise b first upto votes) may = tt
-may_ask r typed learned sent i size (Accept b s v) may = tt
-may_ask r typed learned sent i size (Accepted b s v) may = tt
-may_ask r typed learned sent i size (Refused b promised) may = tt
-may_ask r typed learned sent i size (Submit v) may = tt
-may_ask r typed learned sent i size (Ask from) may = tt
-may_ask r typed learned sent i size (Tell s v) may = tt
+may_ask r typed learned sent i size other may = tt
 
 module _ (laws : SendingLaws) (by : Sender) (sent : Sent) where
   -- they may be sent one after another, after more was sent
@@ -117,47 +105,42 @@ module _ (laws : SendingLaws) (by : Sender) (sent : Sent) where
   pub stable_sends : (packets : List Packet) → All (IsStable by sent) packets → SendsAll by sent packets
   stable_sends packets all = rw (append-nil sent) at (stable_from [] packets all)
 
-  -- none of them is a new Accept, and their Prepares are of promised ballots
+  -- what holds of the body of each holds of the body of each message
+  each_message : (P : Body → Type 0) → ((packet : Packet) → IsStable by sent packet → P packet.body) → (packets : List Packet)
+      → All (IsStable by sent) packets → All (λ m. P m.body) (messages_handed_out by.me packets)
+  each_message P h packets all =
+      All-map (λ (m : Msg). P m.body) (λ (body : Body). record { sender = by.me; body = body }) (bodies_of packets)
+      (All-map P (λ (packet : Packet). packet.body) packets
+      (All-weaker (IsStable by sent) (λ (packet : Packet). P packet.body) h packets all))
+
+  -- they have no new Accept, and their Prepares are of promised ballots
   stable_quiet : (packets : List Packet) → All (IsStable by sent) packets → IsQuiet by.me by.kept sent (messages_handed_out by.me packets)
   stable_quiet packets all = record { asked = λ b from mine said. asked b from said; old = λ b s v mine said. old b s v said }
     where
-      all_asked : All (λ (m : Msg). IsAsked by.kept m.body) (messages_handed_out by.me packets)
-      all_asked =
-          All-map (λ (m : Msg). IsAsked by.kept m.body) (λ (body : Body). record { sender = by.me; body = body })
-          (bodies_of packets)
-          (All-map (λ (body : Body). IsAsked by.kept body) (λ (packet : Packet). packet.body) packets
-          (All-weaker (IsStable by sent) (λ (packet : Packet). IsAsked by.kept packet.body)
-          (λ packet h. may_ask by.kept by.typed by.learned sent by.me by.size packet.body h.may) packets all))
+      more : Sent
+      more = messages_handed_out by.me packets
 
-      asked : (b : Ballot) (from : ℕ) → IsSaid (sent ++ messages_handed_out by.me packets) (Prepare b from)
-          → IsSaid sent (Prepare b from) ⊎ HasPromised by.kept b
+      asked : (b : Ballot) (from : ℕ) → IsSaid (sent ++ more) (Prepare b from) → IsSaid sent (Prepare b from) ⊎ HasPromised by.kept b
       asked b from (i, h) =
-          elim (Contains-append_cases sent (messages_handed_out by.me packets)
-          (record { sender = i; body = Prepare b from }) h) [
+          elim (Contains-append_cases sent more (record { sender = i; body = Prepare b from }) h) [
             | inl before ↦ inl (i, before)
-            | inr now ↦ inr (All-contains (λ (m : Msg). IsAsked by.kept m.body) (messages_handed_out by.me packets)
-                (record { sender = i; body = Prepare b from }) all_asked now)
+            | inr now ↦
+                let all_asked =
+                each_message (IsAsked by.kept)
+                (λ packet h. may_ask by.kept by.typed by.learned sent by.me by.size packet.body h.may) packets all in
+                inr (All-contains (λ (m : Msg). IsAsked by.kept m.body) more (record { sender = i; body = Prepare b from }) all_asked now)
           ]
 
-      none_new : All (λ (m : Msg). IsNoNewProposal sent by.me m.body) (messages_handed_out by.me packets)
-      none_new =
-          All-map (λ (m : Msg). IsNoNewProposal sent by.me m.body)
-          (λ (body : Body). record { sender = by.me; body = body }) (bodies_of packets)
-          (All-map (λ (body : Body). IsNoNewProposal sent by.me body) (λ (packet : Packet). packet.body) packets
-          (All-weaker (IsStable by sent) (λ (packet : Packet). IsNoNewProposal sent by.me packet.body)
-          (λ packet h. h.old) packets all))
-
-      old : (b : Ballot) (s : ℕ) (v : Value) → IsSaid (sent ++ messages_handed_out by.me packets) (Accept b s v)
-          → IsSaid sent (Accept b s v)
+      old : (b : Ballot) (s : ℕ) (v : Value) → IsSaid (sent ++ more) (Accept b s v) → IsSaid sent (Accept b s v)
       old b s v (i, h) =
-          elim (Contains-append_cases sent (messages_handed_out by.me packets)
-          (record { sender = i; body = Accept b s v }) h) [
+          elim (Contains-append_cases sent more (record { sender = i; body = Accept b s v }) h) [
             | inl before ↦ (i, before)
-            | inr now ↦ (
-              by.me,
-              All-contains (λ (m : Msg). IsNoNewProposal sent by.me m.body)
-                  (messages_handed_out by.me packets) (record { sender = i; body = Accept b s v }) none_new now,
-            )
+            | inr now ↦
+                let none_new = each_message (IsNoNewProposal sent by.me) (λ packet h. h.old) packets all in (
+                  by.me,
+                  All-contains (λ (m : Msg). IsNoNewProposal sent by.me m.body) more
+                      (record { sender = i; body = Accept b s v }) none_new now,
+                )
           ]
 
 -- a backed node may send them, and is backed then

@@ -19,34 +19,32 @@ pub record IsTicked (n then : Known) (before now : List Datagram) : Type 0 where
   pub sends : now ≡ before ++ datagrams_of n.me (on_tick n).sends
 
 -- what it asks last, as the code says
-asked : (n : Known) (mid now : List Datagram) (batch : Option Value) (from : ℕ)
+pub asked : {n : Known} {now : List Datagram} {batch : Option Value} {from : ℕ} (mid : List Datagram) → IsInRange n
     → now ≡ mid ++ datagrams_of n.me (submits batch ++ to_all (Ask from) ∷ [])
     → batch ≡ batch_of n n.waiting → from ≡ front n → now ≡ mid ++ datagrams_of n.me (asks n)
-asked n mid now batch from is same here = is ∙ ap (λ (l : List Packet). mid ++ datagrams_of n.me l) (rw (same, here) refl)
+asked {n} mid h is same here = is ∙ ap (λ (l : List Packet). mid ++ datagrams_of n.me l) (rw (same, here) refl)
 
 -- with no proposer
-pub ticked_none : {n : Known} {before mid now : List Datagram} {batch : Option Value} {from : ℕ} → IsInRange n
-    → now ≡ mid ++ datagrams_of n.me (submits batch ++ to_all (Ask from) ∷ [])
-    → batch ≡ batch_of n n.waiting → from ≡ front n → before ≡ [] → mid ≡ before → n.proposer ≡ None → IsTicked n n before now
-ticked_none {n} {before} {mid} {now} {batch} {from} h is same here empty none e = record {
+pub ticked_none : {n : Known} {before mid now : List Datagram} → IsInRange n → now ≡ mid ++ datagrams_of n.me (asks n) → mid ≡ before
+    → n.proposer ≡ None → IsTicked n n before now
+ticked_none {n} h last none e = record {
   node = rw e refl;
-  sends = rw e (asked n mid now batch from is same here ∙ ap (λ (l : List Datagram). l ++ datagrams_of n.me (asks n)) none);
+  sends = rw e (last ∙ ap (λ (l : List Datagram). l ++ datagrams_of n.me (asks n)) none);
 }
 
 -- with one that has proposed again and pumped
-pub ticked_some : {n : Known} {before mid now : List Datagram} {batch : Option Value} {from : ℕ} {p q : Proposer} → IsInRange n
-    → now ≡ mid ++ datagrams_of n.me (submits batch ++ to_all (Ask from) ∷ []) → batch ≡ batch_of n n.waiting → from ≡ front n → before ≡ []
-    → n.proposer ≡ Some p → q ≡ (pump 16 p).proposer
+pub ticked_some : {n : Known} {before mid now : List Datagram} {p q : Proposer} → IsInRange n
+    → now ≡ mid ++ datagrams_of n.me (asks n) → before ≡ [] → n.proposer ≡ Some p → q ≡ (pump 16 p).proposer
     → mid ≡ datagrams_of n.me
     ((prepares_again p ++ accepts_again n.learner.learned p) ++ accepts_of (pump 16 p).made)
     → IsTicked n (record n { proposer = Some q }) before now
-ticked_some {n} {before} {mid} {now} {batch} {from} {p} {q} h is same here empty e one again =
+ticked_some {n} {p = p} h last empty e one again =
     let first : List Packet = prepares_again p ++ accepts_again n.learner.learned p in
     let pumped : List Packet = accepts_of (pump 16 p).made in
     record {
       node = rw (e, one) refl;
       sends = rw (e, empty)
-          (asked n mid now batch from is same here
+          (last
           ∙ ap (λ (l : List Datagram). l ++ datagrams_of n.me (asks n)) again
           ∙ sym (map-append (datagram_of n.me) (first ++ pumped) (asks n))
           ∙ ap (datagrams_of n.me) (append_assoc first pumped (asks n)));

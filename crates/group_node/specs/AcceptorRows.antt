@@ -11,9 +11,9 @@ use Rattle.group_node.specs.declared.packet.To.TheVariants as whom
 use Rattle.group_node.specs.Known.{Known, Response}
 
 -- The proposer, unless the promised ballot is above its own.
+-- Source: Simple 2.2, a proposal may be abandoned.
 -- Allows: a proposer under the promised ballot itself.
 -- Forbids: a proposer below the promised ballot.
--- Source: Simple 2.2, a proposal may be abandoned.
 abbrev pub unless_passed : Option Ballot → Option Proposer → Option Proposer
 unless_passed promised None = None
 unless_passed promised (Some p) =
@@ -26,8 +26,8 @@ abbrev pub with_kept : Known → Record → Known
 with_kept n r = record n { kept = r; proposer = unless_passed r.promised n.proposer }
 
 -- The response with an acceptor's answer: its change is saved, and what it says is sent.
--- Forbids: an answer before its save.
 -- Source: Simple 2.2, phases 1(b) and 2(b); 2.5.
+-- Forbids: an answer before its save.
 abbrev pub answering : Known → To → Answer → Response
 answering n to answer = record {
   node = with_kept n (after n.kept answer.saves);
@@ -36,8 +36,8 @@ answering n to answer = record {
 }
 
 -- The response to a Prepare: the acceptor's answer goes to the ballot's node.
--- Allows: the same answer again, without a save.
 -- Source: Simple 2.2, phase 1(b).
+-- Allows: the same answer again, without a save.
 abbrev pub on_prepare : Known → Ballot → ℕ → Response
 on_prepare n b from = answering n (whom.One b.node) (prepare_of n.kept b from)
 
@@ -50,8 +50,8 @@ accept_answered_to (Some greater) b = whom.One b.node
 
 -- The response to an Accept: the acceptor's answer, an Accepted to all or a Refused to the ballot's
 -- node.
--- Allows: the same answer again, without a save.
 -- Source: Simple 2.2, phase 2(b); 2.3.
+-- Allows: the same answer again, without a save.
 abbrev pub on_accept : Known → Ballot → ℕ → Value → Response
 on_accept n b s v =
     answering n (accept_answered_to (greater_promise n.kept.promised b) b) (accept_of n.kept b s v)

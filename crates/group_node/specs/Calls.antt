@@ -21,11 +21,13 @@ node_fault acceptor.BadRecord = fault.BadRecord
 node_fault acceptor.StartsSpent = fault.StartsSpent
 
 -- The node and the outbox after a call with this response.
--- At `Ok` the node is that of the response, and what it sends comes after what the outbox held. At
--- `Err` both are as they were. Only a fault of the device stops the node.
+-- At `Ok` the node is that of the response. Each packet that it sends is in the outbox after what
+-- that held, in order, as the spelling of its message with the node as its sender. At `Err`, after
+-- a failed save too, node and outbox are as they were. A fault of the device stops the node, and
+-- nothing else does.
+-- Source: Simple 2.5.
 -- Allows: any refusal.
 -- Forbids: a part of a response; a packet of a call that was refused.
--- Source: Simple 2.5.
 pub record Does {S T : Type 0} (old new : Protocol S) (before now : List Datagram) (done : Response)
     (result : Result T NodeFault) : Type 0 where
   pub ok : OnOk result (new.known ≡ done.node)
@@ -41,12 +43,15 @@ pub record Knows {S : Type 0} (old new : Protocol S) (n : Known) : Type 0 where
   pub stops : new.is_stopped ≡ old.is_stopped
 
 -- The store after a call with this response.
--- At `Ok` an honest one has the response's record. After a fault of the device, which is counted,
--- it has the old one or the response's, and after any other refusal the old one. If the response
--- saves nothing, the store is as it was. Plans are as an acceptor's.
+-- At `Ok` an honest one has the response's record. After a fault of the device it has the old one
+-- or the response's, and after any other refusal the old one. Such a fault is counted, and nothing
+-- else is. If the response saves nothing, the store is as it was.
+-- A call that saves is not `Ok` under a plan. A fault of the device uses the plan up, and nothing
+-- else does. An honest store that fails at will fails only under a plan, and then has the record
+-- that the plan says.
+-- Source: Simple 2.5.
 -- Allows: a save that failed and was made.
 -- Forbids: a fault of the device in a call that saves nothing.
--- Source: Simple 2.5.
 pub record Saves {S T : Type 0} (honest at_will : Type 0) (state : S → StoreState)
     (old new : Protocol S) (done : Response) (result : Result T NodeFault) : Type 0 where
   pub saved : honest → OnOk result ((state new.store).stored ≡ done.node.kept)
@@ -68,8 +73,8 @@ abbrev pub RefusesIfStopped : {S T : Type 0} → Protocol S → Result T NodeFau
 RefusesIfStopped old result = IsErrOf result Stopped ↔ (old.is_stopped ≡ true)
 
 -- The refusals of a call with an outbox.
--- It is `Stopped` exactly if a save has failed. Otherwise it is `OutboxFull` exactly if fewer than
--- 64 places are free.
+-- It is `Stopped` exactly if a save has failed. Otherwise it is `OutboxFull` exactly if the outbox
+-- holds a packet, so that fewer than 64 places are free.
 -- Forbids: a call that sends into an outbox with a packet.
 pub record IsLetIn {S T : Type 0} (old : Protocol S) (before : List Datagram)
     (result : Result T NodeFault) : Type 0 where

@@ -6,18 +6,18 @@ use Rattle.paxos_msg.specs.Chosen.{IsChosen}
 use Rattle.paxos_learner.specs.Input.{input_of}
 
 -- The values that are chosen at the places 0, 1, 2 and so on.
+-- Source: Simple 2.2.
 -- Allows: fewer values than are chosen.
 -- Forbids: a hole.
--- Source: Simple 2.2.
 pub record AreChosen (size : ℕ) (sent : Sent) (values : List Value) : Type 0 where
   pub chosen : (s : ℕ) (v : Value) → slice_get values s ≡ Some v → IsChosen size sent s v
 
 -- The input `x` that is chosen.
 -- It has the bytes of the keys, each once, of the chosen values up to the first place at which
 -- nothing is chosen.
+-- Source: Simple 3, commands are executed in order.
 -- Allows: that no node knows of it.
 -- Forbids: a value from above a hole.
--- Source: Simple 3, commands are executed in order.
 pub record IsInput (size : ℕ) (sent : Sent) (x : List ℕ) : Type 0 where
   pub values : List Value
   pub chosen : AreChosen size sent values

@@ -15,10 +15,10 @@ use Rattle.group_node.specs.Packets.{Packet}
 -- What a node knows.
 -- It has its number and group; its acceptor's record; its learner; its proposer, if it has one; the
 -- greatest ballot that a Refused reported; the keys that it has offered under its ballot; and the
--- characters that wait, of which the first is the key with this serial.
+-- characters that wait, whose first is the key with this serial.
+-- Source: Simple 2.5, each process is proposer, acceptor and learner.
 -- Allows: a node without a proposer.
 -- Forbids: two proposers.
--- Source: Simple 2.5, each process is proposer, acceptor and learner.
 pub record Known : Type 0 where
   pub me : Me
   pub kept : Record
@@ -31,9 +31,9 @@ pub record Known : Type 0 where
 
 -- The response to a call: the node after it, the change that it saves, if any, and then what it
 -- sends, in order.
+-- Source: Simple 2.5, stable storage.
 -- Allows: a call that neither saves nor sends.
 -- Forbids: two saves in one call.
--- Source: Simple 2.5, stable storage.
 pub record Response : Type 0 where
   pub node : Known
   pub saves : Option Change
@@ -64,9 +64,9 @@ abbrev pub next_serial : Known → ℕ
 next_serial n = n.first + length n.waiting
 
 -- The response to a start: it is counted in the record and saved, and the node has heard nothing.
+-- Source: Simple 2.5.
 -- Allows: any record.
 -- Forbids: a proposer or a learned place from before.
--- Source: Simple 2.5.
 abbrev pub on_start : Me → Record → Response
 on_start me r = record {
   node = record {

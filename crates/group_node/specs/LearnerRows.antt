@@ -12,14 +12,14 @@ use Rattle.group_node.specs.Known.{Known, Response, quiet, front}
 use Rattle.group_node.specs.declared.limits.TheConstants.{MOST_TOLD}
 
 -- The response to an Accepted: the learner hears it.
--- Forbids: anything sent or saved.
 -- Source: Simple 2.3.
+-- Forbids: anything sent or saved.
 abbrev pub on_accepted : Known → ℕ → Ballot → ℕ → Value → Response
 on_accepted n i b s v = quiet (record n { learner = (heard_accepted n.learner i b s v).learner })
 
 -- The response to a Tell: the learner hears it.
--- Forbids: anything sent or saved.
 -- Source: Simple 2.3.
+-- Forbids: anything sent or saved.
 abbrev pub on_tell : Known → ℕ → Value → Response
 on_tell n s v = quiet (record n { learner = (heard_tell n.learner s v).learner })
 
@@ -29,7 +29,7 @@ tell_packet learned j s = option_map (λ v. to_one j (Tell s v)) (get learned s)
 
 -- The response to an Ask: Tells of what is learned from this place on up to the front, at most 16
 -- places.
--- Allows: an Ask from above the front, which is told nothing.
+-- Allows: an Ask from above the front, to which no Tell is sent.
 -- Forbids: a Tell of a place above the front.
 abbrev pub on_ask : Known → ℕ → ℕ → Response
 on_ask n j from = record {

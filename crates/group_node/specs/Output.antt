@@ -19,15 +19,16 @@ abbrev pub no_progress : Parts → Progress
 no_progress p = record { program = p; steps = 0; released = 0 }
 
 -- The output bytes that wait: those of the steps so far, on the input `x`, that were not released.
+-- They are the output after these steps of a replay from the start, without the released bytes.
 -- Forbids: a byte that waits twice.
 abbrev pub unreleased_of : List ℕ → Progress → List ℕ
 unreleased_of x q = drop q.released (out q.program x q.steps)
 
 -- The facts of a replay from the start.
 -- Each of the steps exists, no more was released than was written, and at most 256 bytes wait.
+-- Source: Simple 3, each server runs the same deterministic state machine.
 -- Allows: an input that has more bytes by now.
 -- Forbids: a step on a byte that is not learned.
--- Source: Simple 3, each server runs the same deterministic state machine.
 pub record IsReplay (x : List ℕ) (q : Progress) : Type 0 where
   pub made : LeadsIn q.program x q.steps (after_steps q.program x q.steps)
   pub released : q.released ≤ length (out q.program x q.steps)
@@ -44,7 +45,9 @@ abbrev pub IsIdle : List ℕ → ℕ → Progress → Type 0
 IsIdle x most q = (q.steps < most) × (length (unreleased_of x q) < RING_BYTES)
 
 -- Why a run that may come to `most` steps is over.
--- The steps are checked first, then the bytes that wait, then the machine.
+-- `More` says that all steps were made; otherwise `Full` that 256 bytes wait; otherwise `Waits`
+-- that the machine waits for a byte past the input, and `Ended` that the program has ended, and
+-- how.
 -- Forbids: a run that stops early and says that its steps are spent.
 abbrev pub IsOver : List ℕ → ℕ → Progress → Ran → Type 0
 IsOver x most q ran.More = q.steps ≡ most

@@ -23,8 +23,8 @@ abbrev pub last_round : Known → ℕ
 last_round n = greatest_round n.kept.promised n.remembered
 
 -- The node's next ballot: one round above the greatest one, under its own number.
--- Forbids: a ballot that is not above the promised one.
 -- Source: Simple 2.5, proposal numbers.
+-- Forbids: a ballot that is not above the promised one.
 abbrev pub next_ballot : Known → Ballot
 next_ballot n = record { round = last_round n + 1; node = n.me.node }
 
@@ -44,9 +44,9 @@ beginning n b = record {
 }
 
 -- The response to a campaign: the node begins its next ballot.
+-- Source: Simple 2.2, phase 1(a); 2.5, proposal numbers; 3.
 -- Allows: a campaign of a node that leads.
 -- Forbids: a ballot that is not above the promised one.
--- Source: Simple 2.2, phase 1(a); 2.5, proposal numbers; 3.
 abbrev pub on_campaign : Known → Response
 on_campaign n = beginning n (next_ballot n)
 
@@ -64,8 +64,8 @@ unless_refused b (Some p) = if same_ballot p.ballot b then None else Some p
 -- The response to a Refused.
 -- The reported ballot is remembered if it is greater, and the proposer of the refused ballot is
 -- dropped.
--- Allows: a Refused of another ballot, which is remembered all the same.
 -- Source: Simple 2.2, a proposer is informed of a greater ballot.
+-- Allows: a Refused of another ballot, which is remembered all the same.
 abbrev pub on_refused : Known → Ballot → Ballot → Response
 on_refused n b promised =
     quiet (record n {
@@ -99,8 +99,8 @@ prepare_from b j (Some s) = to_one j (Prepare b s) ∷ []
 -- The response to a part of a promise for the proposer's own ballot.
 -- The part is taken, the acceptor is asked for the rest if its coverage rose and does not reach all
 -- places, and then the node pumps.
--- Forbids: a change by a part under another ballot.
 -- Source: Simple 2.2, phase 2(a).
+-- Forbids: a change by a part under another ballot.
 abbrev pub taking_part : Known → Option Proposer → ℕ → Ballot → ℕ → ℕ → List Vote → Response
 taking_part n None j b first upto votes = quiet n
 taking_part n (Some p) j b first upto votes =
@@ -110,9 +110,9 @@ taking_part n (Some p) j b first upto votes =
     else quiet n
 
 -- The response to a Promise: a part for the ballot of the node's proposer is taken.
+-- Source: Simple 2.2, phase 2(a).
 -- Allows: a pump after a part that is ignored.
 -- Forbids: a change by a part under another ballot.
--- Source: Simple 2.2, phase 2(a).
 abbrev pub on_promise : Known → ℕ → Ballot → ℕ → ℕ → List Vote → Response
 on_promise n j b first upto votes = taking_part n n.proposer j b first upto votes
 
@@ -133,8 +133,8 @@ is_known n v = are_known n (keys_of v)
 -- The test that a pump leaves room for an offer.
 -- It made fewer than 16 proposals, and its next place is one of the group's, with no vote kept
 -- there or above.
--- Forbids: an offer at a place at or below a kept vote.
 -- Source: Simple 2.2, P2c.
+-- Forbids: an offer at a place at or below a kept vote.
 abbrev pub leaves_room : Proposals → Bool
 leaves_room pumped =
     nat_lt (length pumped.made) MOST_PUMPED
@@ -160,8 +160,8 @@ offering n v pumped made =
 -- The response to a Submit by a node's proposer, if it has one.
 -- It is ignored unless a majority has promised the next place and the value has a key that is not
 -- known.
--- Forbids: a proposal by a node that does not lead.
 -- Source: Simple 3, the leader proposes what clients ask for.
+-- Forbids: a proposal by a node that does not lead.
 abbrev pub submitted : Known → Option Proposer → Value → Response
 submitted n None v = quiet n
 submitted n (Some p) v =
@@ -169,8 +169,8 @@ submitted n (Some p) v =
     then offering n v (pump MOST_PUMPED p) (offer_after (pump MOST_PUMPED p) v) else quiet n
 
 -- The response to a Submit: a node that leads pumps, and then offers the value.
+-- Source: Simple 3, the leader proposes what clients ask for.
 -- Allows: a key that is offered at two places, under two ballots.
 -- Forbids: a proposal by a node that does not lead.
--- Source: Simple 3, the leader proposes what clients ask for.
 abbrev pub on_submit : Known → Value → Response
 on_submit n v = submitted n n.proposer v

@@ -40,11 +40,13 @@ NeedsMemory n j (Submit v) =
 NeedsMemory n j (Ask from) = from < front n
 NeedsMemory n j (Tell s v) = (heard_tell n.learner s v).answer ≢ Passed
 
--- The response after which the keys below the front wait no more.
+-- The response after which the first waiting keys, up to one that is not below the front, wait no
+-- more.
 abbrev pub without_read_keys : Response → Response
 without_read_keys done = record done { node = without_read done.node }
 
--- The response to a message of node `j`, after which the keys below the front wait no more.
--- Allows: a message that was delivered before.
+-- The response to a message of node `j`, after which the first waiting keys, up to one that is not
+-- below the front, wait no more.
+-- Allows: a message that was delivered before; a later key that is below the front and still waits.
 abbrev pub on_message : Known → ℕ → Body → Response
 on_message n j body = without_read_keys (row n j body)

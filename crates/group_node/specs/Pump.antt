@@ -24,9 +24,9 @@ propose p (Some v) go_on = record {
 }
 
 -- Up to `n` proposals with no value offered.
+-- Source: Simple 2.2, phase 2(a); 3, gaps are filled by no-ops.
 -- Allows: fewer, if the proposer has no more to make.
 -- Forbids: a value of the node's own.
--- Source: Simple 2.2, phase 2(a); 3, gaps are filled by no-ops.
 unfoldable pub pump : ℕ → Proposer → Proposals
 pump zero p = stop p
 pump (suc n) p = propose p (next_value p None) (pump n)

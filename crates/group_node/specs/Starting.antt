@@ -22,9 +22,9 @@ IsStartRefused (Err e) f = e.fault ≡ f
 
 -- The result of a start over a record that was loaded: a node that has this record with one more
 -- start.
--- `BadRecord` is refused exactly if the record is out of its ranges, and `StartsSpent` exactly if a
--- good one has counted the last start. Then the store is as the load left it. A save that failed
--- has used up the plan.
+-- `BadRecord` is refused exactly if the record is out of its ranges, and `StartsSpent` exactly if
+-- one in its ranges has counted 4,294,967,295 starts. Then the store is as the load left it. A save
+-- that failed has used up the plan.
 -- Allows: any store, honest or not.
 pub record StartsOver {S : Type 0} (state : S → StoreState) (me : Me) (kept : Record) (left : S)
     (result : Result (NodeState S) (StartRefused S)) : Type 0 where
@@ -35,8 +35,9 @@ pub record StartsOver {S : Type 0} (state : S → StoreState) (me : Me) (kept : 
   pub unsaved : IfErr result (λ e. (e.fault ≡ BadRecord) ⊎ (e.fault ≡ StartsSpent) → e.store ≡ left)
   pub used_up : IfErr result (λ e. e.fault ≡ Store → (state e.store).plan ≡ None)
 
--- The result of a start, from the answer of the load and the store that the load left.
--- A load that gives no record ends it.
+-- The result of a start, from the answer of its one load and the store that the load left.
+-- A load that gives no record ends the start with its fault, and the store stays as the load left
+-- it. An answer that the record is bad is refused as `BadRecord`.
 -- Forbids: a node over a record that no load gave.
 abbrev pub StartsAfter : {S : Type 0} → (S → StoreState) → Me → Result Record StoreFault → S
     → Result (NodeState S) (StartRefused S) → Type 0

@@ -30,9 +30,9 @@ messages_handed_out i packets = messages_of i (bodies_of packets)
 -- Before it the record was `old`, and these values were learned. It saves what it may. What it has
 -- learned is backed by what was sent before the call. What was learned stays. What it sends may be
 -- sent, one message after another. Then the node is backed.
+-- Source: Simple 2.2, 2.3 and 2.5.
 -- Allows: a call that does nothing.
 -- Forbids: a place learned from what the call itself sends.
--- Source: Simple 2.2, 2.3 and 2.5.
 pub record IsLawful (sent : Sent) (typed : List Key) (old : Record) (before : FinMap nat_cmp Value)
     (done : Response) : Type 0 where
   pub saves : IsSavedBy sent old done.saves done.node.kept
@@ -47,16 +47,16 @@ abbrev pub IsLawfulCall : Sent → List Key → Known → Response → Type 0
 IsLawfulCall sent typed n done = IsLawful sent typed n.kept n.learner.learned done
 
 -- The messages that node `j` has sent and that have a spelling in the group.
+-- Source: Simple 2.1, messages are not corrupted.
 -- Allows: a message from long ago.
 -- Forbids: a message that nobody sent.
--- Source: Simple 2.1, messages are not corrupted.
 pub record IsDelivered (sent : Sent) (n : Known) (j : ℕ) (body : Body) : Type 0 where
   pub is_sent : IsSent sent j body
   pub fits : IsHeardFit n.me j body
 
 -- ---- what a group says of all that was sent
 
--- The claim that each value that was told is chosen.
+-- The claim that each value that a Tell has sent is chosen.
 abbrev pub AllChosen : ℕ → Sent → Type 0
 AllChosen size sent = (s : ℕ) (v : Value) → IsSaid sent (Tell s v) → IsChosen size sent s v
 

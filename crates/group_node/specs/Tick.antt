@@ -34,8 +34,8 @@ accept_again learned p s =
     else None
 
 -- The Accepts that are sent again: those at the 16 lowest such places.
--- Allows: the same Accept sent many times.
 -- Source: Simple 2.1 and 2.2.
+-- Allows: the same Accept sent many times.
 abbrev pub accepts_again : FinMap nat_cmp Value → Proposer → List Packet
 accepts_again learned p =
     take MOST_AGAIN (filter_map (accept_again learned p)
@@ -71,8 +71,8 @@ ticked n (Some p) = record {
 -- The response to a tick.
 -- In this order acceptors are asked for more promises, open Accepts are sent again, the node pumps,
 -- the first keys that wait are submitted, and all are asked for what is learned.
+-- Source: Simple 2.1, messages may be lost.
 -- Allows: a tick of a node without a proposer.
 -- Forbids: a save.
--- Source: Simple 2.1, messages may be lost.
 abbrev pub on_tick : Known → Response
 on_tick n = ticked n n.proposer

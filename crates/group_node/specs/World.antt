@@ -40,9 +40,9 @@ pub record Seat : Type 0 where
 
 -- A group that runs a program: its nodes by number, all that was sent, and all keys that were
 -- typed, the oldest first.
+-- Source: Simple 2.1, asynchronous processes that may stop and restart.
 -- Allows: a group of any size.
 -- Forbids: a message that is forgotten.
--- Source: Simple 2.1, asynchronous processes that may stop and restart.
 pub record WorldState : Type 0 where
   pub program : Parts
   pub size : ℕ
@@ -89,7 +89,7 @@ pub record AreParted (learned : FinMap nat_cmp Value) (keys stay : List Key) : T
   pub below : All (λ k. Contains (keys_in_order (front_values learned)) k) gone
 
 -- The changes that a node which is up may make to itself.
--- It learns only what was told, or accepted by a majority under one ballot. Its machine and what it
+-- It learns only what a Tell said, or a majority accepted under one ballot. Its machine and what it
 -- has released stay.
 -- Source: Simple 2.3.
 pub record LearnsOnly (w : WorldState) (keys : List Key) (was now : Up) : Type 0 where
@@ -102,8 +102,8 @@ pub record LearnsOnly (w : WorldState) (keys : List Key) (was now : Up) : Type 0
 
 -- The call of node `i`, which is up: it saves this change, if any, which it may, and then sends
 -- what it may.
--- Allows: any packets that may be sent.
 -- Source: Simple 2.2, 2.3 and 2.5.
+-- Allows: any packets that may be sent.
 pub record MakesCall (w v : WorldState) (i : ℕ) (c : Option Change) (keys : List Key) : Type 0 where
   pub bodies : List Body
   pub was : Up
@@ -118,9 +118,9 @@ pub record MakesCall (w v : WorldState) (i : ℕ) (c : Option Change) (keys : Li
 
 -- The fall of a node whose save of this change has failed.
 -- The record is the old one or the changed one, nothing was sent, and the node is down.
+-- Source: Simple 2.5.
 -- Allows: the changed record after a failed save.
 -- Forbids: a packet of that call.
--- Source: Simple 2.5.
 pub record Falls (w v : WorldState) (i : ℕ) (c : Change) : Type 0 where
   pub saves : MaySave w.sent (w.seats i).kept c
   pub kept : IsOneOf (v.seats i).kept (w.seats i).kept (changed (w.seats i).kept c)
@@ -139,8 +139,8 @@ IsNoneOr c o = (o ≡ None) ⊎ (o ≡ Some c)
 
 -- The change that a delivered message may cause: a Prepare the promise of its ballot, an Accept a
 -- vote for what it proposes.
--- Forbids: a vote saved at a Promise.
 -- Source: Simple 2.2.
+-- Forbids: a vote saved at a Promise.
 abbrev pub MayCause : Body → Option Change → Type 0
 MayCause (Prepare b from) o = IsNoneOr (change.Promise b) o
 MayCause (Promise b first upto votes) o = o ≡ None
@@ -194,9 +194,9 @@ MakesSteps p x zero c d = d ≡ c
 MakesSteps p x (suc n) c d = (b : Configuration) × MakesSteps p x n c b × Step p x b d
 
 -- The run of node `i`: its machine makes at most `steps` steps on the learned input.
+-- Source: Simple 3.
 -- Allows: a run of fewer steps.
 -- Forbids: a step on a byte from above a hole.
--- Source: Simple 3.
 pub record MakesRun (w v : WorldState) (i steps : ℕ) : Type 0 where
   pub was : Up
   pub configuration : Configuration
@@ -237,13 +237,13 @@ pub record Crashes (w v : WorldState) (i : ℕ) : Type 0 where
 
 -- The groups before and after an event.
 -- Only its node changes. That node saves at most one change, which it may, and sends what it may.
--- It learns only what was told, or accepted by a majority under one ballot. Its machine makes steps
+-- It learns only what a Tell said, or a majority accepted under one ballot. Its machine makes steps
 -- on the learned input.
+-- Source: Simple 2.1 to 2.3, 2.5 and 3.
 -- Allows: a message delivered to any node, at any time, any number of times, or never; a crash at
 -- any time.
 -- Forbids: a start saved except at a `Start`; a promise saved except at a Prepare under its ballot
 -- or an own campaign; a change of another node.
--- Source: Simple 2.1 to 2.3, 2.5 and 3.
 abbrev pub WorldStep : WorldState → Event → WorldState → Type 0
 WorldStep w (Press i byte) v = Presses w v i byte
 WorldStep w (Deliver m i) v = Delivers w v m i

@@ -26,9 +26,9 @@ impl Model for Config {
 }
 
 impl Config {
-    /// Returns node `node` of a group of `size` nodes. The session is a number that tells groups
-    /// apart. Fails with `Size` if the size is even or above 9, and otherwise with `Id` if the node
-    /// is 0 or above the size.
+    /// Returns node `node` of the group of `size` nodes with the number `session`, which
+    /// distinguishes groups. Fails with `Size` exactly if `size` is even or above 9, and otherwise
+    /// with `Id` exactly if `node` is 0 or above `size`.
     pub fn new(node: u8, size: u8, session: u32) -> Result<Config, NodeFault>
         ensures ok { IfOk result
             (λ c. c ≡ record { node = node; group = record { size = size; session = session } }) }
@@ -48,7 +48,7 @@ impl Config {
         })
     }
 
-    /// Returns the node's number and its group.
+    /// Returns the number of the node, 1 up to the size, and its group of 1, 3, 5, 7 or 9 nodes.
     pub fn me(&self) -> Me
         ensures me { result ≡ self.now }
         ensures ranges { IsConfig self.now }

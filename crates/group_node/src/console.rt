@@ -43,7 +43,9 @@ impl Model for Console {
 }
 
 impl Console {
-    /// Makes a console that has shown nothing. It allocates nothing.
+    /// Makes a console that has shown nothing.
+    ///
+    /// It allocates nothing.
     pub fn new(alloc: Global) -> Console
         ensures { result.bytes ≡ [] }
     {
@@ -52,8 +54,8 @@ impl Console {
         }
     }
 
-    /// Makes room for one byte, so that the next one is not refused as `Memory`. Fails only with
-    /// `Memory`. What was shown stays.
+    /// Makes room for one byte: after `Ok` the next `offer` does not return `Memory`. What was
+    /// shown stays. Fails only with `Memory`.
     pub fn reserve(&mut self) -> Result<(), NodeFault>
         ensures bytes { self.new.bytes ≡ self.old.bytes }
         ensures room { OnOk result (0 < self.new.room) }
@@ -65,9 +67,10 @@ impl Console {
         }
     }
 
-    /// Offers the byte of number `number`, from 0 on. The next byte is shown. A byte that was shown
-    /// before, or before which others are missing, changes nothing. Without room the next byte may
-    /// be refused as `Memory`.
+    /// Offers `byte` as the byte of number `number`, from 0 on. If `number` bytes were shown,
+    /// appends it and returns `Fresh`. If more were shown, returns `Repeat`, and if fewer, `Gap`.
+    /// Without room for a byte it may return `Memory` instead of `Fresh`. Only `Fresh` changes what
+    /// was shown.
     pub fn offer(&mut self, number: u64, byte: u8) -> Offer
         ensures answer { result ≢ Offer.Memory → result ≡ offer_answer self.old.bytes number }
         ensures shown { result ≢ Offer.Memory
@@ -89,7 +92,7 @@ impl Console {
         }
     }
 
-    /// Returns the bytes that it has shown, the oldest first.
+    /// Returns the bytes that the console has shown, the oldest first.
     pub fn bytes(&self) -> &[u8]
         ensures { result.now ≡ self.now.bytes }
     {

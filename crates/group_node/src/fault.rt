@@ -22,7 +22,7 @@ pub enum NodeFault {
     Busy,
     /// The serials of this start are spent.
     SerialSpent,
-    /// The outbox has too little room.
+    /// The outbox is not empty.
     OutboxFull,
     /// The size is even or above 9.
     Size,
@@ -39,7 +39,7 @@ pub enum NodeFault {
 }
 
 impl NodeFault {
-    /// Returns its code, `D1` to `D12`.
+    /// Returns the code of the refusal, `D1` to `D12`.
     pub fn code(self) -> &'static str
         ensures { result.now ≡ code_of self }
     {

@@ -78,8 +78,8 @@ impl<S: Store> Protocol<S> {
         Ok(())
     }
 
-    /// Answers an Ask: tells the sender what is learned from `from` on, up to the front, at most 16
-    /// places.
+    /// Answers an Ask: sends the sender Tells of what is learned from `from` on, up to the front,
+    /// at most 16 places.
     pub(crate) fn on_ask(
         &mut self,
         sender: u8,

@@ -19,7 +19,7 @@ pub const MOST_PUMPED: u8 = 16;
 /// The most Accepts that a tick sends again.
 pub const MOST_AGAIN: u8 = 16;
 
-/// The most places that are told in answer to one Ask.
+/// The most Tells that answer one Ask.
 pub const MOST_TOLD: u32 = 16;
 
 /// The most typed characters that wait at a node.

@@ -87,14 +87,20 @@ fn room<'a>(alloc: Global, program: &'a Program) -> Result<(Player<'a>, Waiting)
 }
 
 impl<'a, S: Store> Node<'a, S> {
-    /// Starts the node over the record of its store. The start is counted and saved. Then the node
-    /// has learned, offered and typed nothing, and its machine is before its first step. All room
-    /// is made before the save.
+    /// Starts the node over the record that `store` loads, with one start more, which an honest
+    /// store then has. The node has heard, learned, offered and typed nothing, and has no proposer.
+    /// It is in its ranges and not stopped, and its machine has made no step. Fails with `Memory`,
+    /// `Store`, `BadRecord` or `StartsSpent`.
     ///
-    /// Fails with `Memory`, `Store` or `BadRecord` if the load does, and with `BadRecord` if the
-    /// record is out of its ranges. Then fails with `StartsSpent` after 4,294,967,295 starts, with
-    /// `Memory` if there is no room, and with `Store` if the save failed. A refusal gives the store
-    /// back. It has the record that it had, unless the save failed.
+    /// The node remembers no ballot that refused it, and its next key has the serial 1.
+    ///
+    /// Fails first as its load does; a `Bad` load is `BadRecord`. Then fails with `BadRecord`
+    /// exactly if the loaded record is out of its ranges, and with `StartsSpent` exactly if one in
+    /// its ranges counts 4,294,967,295 starts. Then fails with `Memory` if there is no room, and
+    /// with `Store` if the save failed: all room is made before the save.
+    ///
+    /// A refusal gives the store back. An honest one has the record that it had; after `Store` it
+    /// may have that with the start counted.
     pub fn start(
         alloc: Global,
         program: &'a Program,
@@ -189,10 +195,12 @@ impl<'a, S: Store> Node<'a, S> {
         }
     }
 
-    /// Types a character at the node. Its key waits until it is below the known front. Returns the
-    /// key: this node, this start, and the next serial, which is 1 at first. It allocates nothing.
-    /// Fails with `Stopped` after a failed save, with `Busy` if 256 keys wait, and with
-    /// `SerialSpent` after the serial 4,294,967,295; then nothing has changed.
+    /// Types `byte` at the node. Returns its key, with this node, this start and the next serial,
+    /// from 1 on. The key waits as the last (`on_typed`). Fails with `Stopped` if a save has
+    /// failed, else with `Busy` if 256 keys wait, else with `SerialSpent` if the serial
+    /// 4,294,967,295 was given. A refusal changes nothing.
+    ///
+    /// The key waits at least until it is below the known front. The call allocates nothing.
     pub fn typed(&mut self, byte: u8) -> Result<Value, NodeFault>
         ensures ok { IfOk result (λ v. v ≡ new_key self.old.protocol.known byte) }
         ensures known { IfOk result
@@ -225,10 +233,13 @@ impl<'a, S: Store> Node<'a, S> {
         Ok(protocol.on_typed(byte))
     }
 
-    /// Takes a message of a node of the group, and puts what the node sends at it into the outbox.
-    /// Then the keys below the known front wait no more. Fails with `Stopped` after a failed save,
-    /// with `OutboxFull` if the outbox holds packets, and with `Memory` and `Store` as the type
-    /// says.
+    /// Takes the message `view`: changes and saves what `on_message` defines for its kind, and puts
+    /// what that sends into `outbox`. Fails with `Stopped` if a save has failed, else with
+    /// `OutboxFull` if `outbox` is not empty, else with `Memory` or `Store`. `Memory` never comes
+    /// at a Refused, nor at a message that `NeedsMemory` lists as ignored.
+    ///
+    /// `view` has a spelling in the node's group, as each message has that `decode` returns. After
+    /// the call the first waiting keys, up to one that is not below the known front, wait no more.
     pub fn on_message(&mut self, view: &View<'_>, outbox: &mut Outbox) -> Result<(), NodeFault>
         requires fits { Fits self.old.protocol.known.me.group view.now }
         ensures does { Does self.old.protocol self.new.protocol outbox.old.packets
@@ -253,11 +264,14 @@ impl<'a, S: Store> Node<'a, S> {
         Ok(())
     }
 
-    /// Begins a ballot of the node's own, above any that it has promised or that refused it. It
-    /// promises the ballot, and asks all nodes for their promises from the known front on. Fails
-    /// with `Stopped` and `OutboxFull` first, then with `RoundsSpent` if the greatest round is
-    /// 4,294,967,295, then with `PlacesSpent` if all 65,536 places are learned, and with `Memory`
-    /// and `Store` as `on_message` does.
+    /// Begins the node's next ballot, as `on_campaign` defines, and puts its Prepare into `outbox`.
+    /// Fails with `Stopped` and `OutboxFull` as `on_message` does, else with `RoundsSpent` if
+    /// `last_round` is 4,294,967,295, else with `PlacesSpent` if the known front is 65,536, else
+    /// with `Memory` or `Store`.
+    ///
+    /// The ballot's round is one above `last_round`, the greatest round of a ballot that the node
+    /// has promised or that a Refused reported to it. The node promises the ballot, and asks all
+    /// nodes for their promises from the known front on.
     pub fn campaign(&mut self, outbox: &mut Outbox) -> Result<(), NodeFault>
         ensures does { Does self.old.protocol self.new.protocol outbox.old.packets
             outbox.new.packets (on_campaign self.old.protocol.known) result }
@@ -284,9 +298,13 @@ impl<'a, S: Store> Node<'a, S> {
         self.protocol.on_campaign(outbox)
     }
 
-    /// Does what the node does from time to time. In this order it asks acceptors for more
-    /// promises, sends its open Accepts again, proposes, submits the first keys that wait, and asks
-    /// for what was learned. It saves nothing.
+    /// Does what a node does from time to time, as `on_tick` defines, and puts what it sends into
+    /// `outbox`. The store stays as it is. Fails with `Stopped` and `OutboxFull` as `on_message`
+    /// does, else only with `Memory`, which never comes if the node has no proposer and `outbox`
+    /// has 43 buffers ready.
+    ///
+    /// In this order the node asks acceptors for more promises, sends its open Accepts again,
+    /// proposes, submits the first keys that wait, and asks for what was learned.
     pub fn tick(&mut self, outbox: &mut Outbox) -> Result<(), NodeFault>
         ensures does { Does self.old.protocol self.new.protocol outbox.old.packets
             outbox.new.packets (on_tick self.old.protocol.known) result }
@@ -302,9 +320,13 @@ impl<'a, S: Store> Node<'a, S> {
         self.protocol.on_tick(outbox)
     }
 
-    /// Runs the machine for at most `steps` steps, on the bytes of the keys below the known front.
-    /// It allocates nothing. Before each step it checks whether the steps are spent (`More`), then
-    /// whether 256 bytes of output wait (`Full`), and then whether the machine waits or has ended.
+    /// Runs the machine for at most `steps` steps on the keys below the known front, while fewer
+    /// than 256 bytes wait (`RunsOn`). Returns `More` if the steps are spent, else `Full` if 256
+    /// bytes wait, else `Waits` if the machine waits for a key, else `Ended`, and how. Fails only
+    /// with `Stopped`, if a save has failed; then nothing has changed.
+    ///
+    /// `More` also comes if this start has made 18,446,744,073,709,551,615 steps. The machine is
+    /// kept between calls, so no step is made twice. The call allocates nothing.
     pub fn run(&mut self, steps: u32) -> Result<Ran, NodeFault>
         ensures runs { IfOk result
             (λ ran. RunsOn (input self.old.protocol.known) steps self.old.progress self.new.progress
@@ -320,8 +342,11 @@ impl<'a, S: Store> Node<'a, S> {
         Ok(self.player.run(&self.protocol.learner, steps))
     }
 
-    /// Releases the first byte of the output that waits. Returns its number, from 0 on from this
-    /// start, and the byte. It allocates nothing.
+    /// Releases the first byte of the output that waits. Returns its number, which is the number of
+    /// bytes released before in this start, and the byte. If no byte waits, returns `None` and
+    /// changes nothing.
+    ///
+    /// It has no refusal, and goes on after a failed save. It allocates nothing.
     pub fn release(&mut self) -> Option<(u64, u8)>
         ensures value { result
             ≡ option_map (λ b. (self.old.progress.released, b))
@@ -336,9 +361,9 @@ impl<'a, S: Store> Node<'a, S> {
         self.player.release()
     }
 
-    /// Returns the number of output bytes that wait, at most 256: those that the machine has
-    /// written in its steps so far and that were not released. It is the same as after as many
-    /// steps from the start on the input that is known now.
+    /// Returns the number of output bytes that wait, at most 256: those that the steps so far have
+    /// written and that were not released. Each of these steps is one on the input that is learned
+    /// now, from the program's beginning (`IsReplay`).
     pub fn unreleased(&self) -> usize
         ensures count { result
             ≡ length (unreleased_of (input self.now.protocol.known) self.now.progress) }
@@ -357,15 +382,15 @@ impl<'a, S: Store> Node<'a, S> {
         self.protocol.learner.known_front()
     }
 
-    /// Returns the value that is learned at `place`, which may be any number.
+    /// Returns the value that is learned at `place`, if one is. `place` may be any number.
     pub fn learned(&self, place: u32) -> Option<Value>
         ensures { result ≡ get self.now.protocol.known.learner.learned place }
     {
         self.protocol.learner.learned(place)
     }
 
-    /// Returns the acceptor's record. An honest store has the same one, unless it has failed. All
-    /// that the node knows is in its ranges.
+    /// Returns the acceptor's record. An honest store has the same one, unless a save has failed.
+    /// All that the node knows is in its ranges.
     pub fn record(&self) -> &Record
         ensures same { result.now ≡ self.now.protocol.known.kept }
         ensures ranges { IsInRange self.now.protocol.known }
@@ -375,8 +400,11 @@ impl<'a, S: Store> Node<'a, S> {
         self.protocol.record()
     }
 
-    /// Returns the ballot under which the node asks to lead, or leads. It is that of its last
-    /// campaign of this start, until it hears that a greater one refused it.
+    /// Returns the ballot of the node's proposer, if it has one: the ballot under which it asks to
+    /// lead, or leads.
+    ///
+    /// It is that of its last campaign of this start, until the node promises a greater one or
+    /// hears that this one was refused.
     pub fn ballot(&self) -> Option<Ballot>
         ensures { result ≡ own_ballot self.now.protocol.known.proposer }
     {
@@ -384,8 +412,8 @@ impl<'a, S: Store> Node<'a, S> {
         Some(proposer.ballot())
     }
 
-    /// Returns true if the node leads: under its ballot a majority has promised the place at which
-    /// it proposes next.
+    /// Returns true exactly if the node leads: it has a proposer, and under its ballot a majority
+    /// has promised the place at which it proposes next.
     pub fn is_leading(&self) -> bool
         ensures { result ≡ is_leading self.now.protocol.known.proposer }
     {
@@ -395,7 +423,8 @@ impl<'a, S: Store> Node<'a, S> {
         }
     }
 
-    /// Returns the greatest ballot by which the node heard that it was refused, in this start.
+    /// Returns the greatest ballot that a Refused has reported to the node in this start, if one
+    /// has.
     pub fn refusing_ballot(&self) -> Option<Ballot>
         ensures { result ≡ self.now.protocol.known.remembered }
     {
@@ -410,14 +439,18 @@ impl<'a, S: Store> Node<'a, S> {
         self.protocol.waiting.len()
     }
 
-    /// Returns true if a save has failed. Then each further call that can be refused is `Stopped`.
+    /// Returns true exactly if a save has failed.
+    ///
+    /// Then each further call that can be refused is `Stopped`.
     pub fn is_stopped(&self) -> bool
         ensures { result ≡ self.now.protocol.is_stopped }
     {
         self.protocol.is_stopped()
     }
 
-    /// Passes a plan on to the store: how its next save fails, or `None`.
+    /// Passes `plan` on to the store: how its next save fails, or `None`. A store that fails at
+    /// will then has this plan. The record of an honest store, the count of faults and the node
+    /// stay.
     pub fn fail_next(&mut self, plan: Option<bool>)
         ensures same { S.honest
             → (S.state self.new.protocol.store).stored ≡ (S.state self.old.protocol.store).stored }

@@ -82,7 +82,9 @@ impl Model for Outbox {
 }
 
 impl Outbox {
-    /// Makes an empty outbox. It allocates room for 64 packets, without their bytes.
+    /// Makes an empty outbox, in which 64 packets fit. Fails only if memory runs out.
+    ///
+    /// The bytes of a packet get their room later, before a call changes anything.
     pub fn new(alloc: Global) -> Result<Outbox, AllocError>
         ensures { IfOk result (λ o. o.packets ≡ []) }
     {
@@ -93,7 +95,7 @@ impl Outbox {
         })
     }
 
-    /// Returns the number of packets that still fit.
+    /// Returns the number of packets that still fit: 64, less those that wait.
     pub fn free(&self) -> usize
         ensures free { result ≡ MOST_PACKETS - length self.now.packets }
         ensures few { length self.now.packets ≤ MOST_PACKETS }
@@ -101,7 +103,7 @@ impl Outbox {
         MOST_PACKETS - self.packets.len()
     }
 
-    /// Takes the oldest packet out, if there is one.
+    /// Takes the oldest packet out and returns it, or returns `None` if no packet waits.
     pub fn pop(&mut self) -> Option<Packet>
         ensures value { result ≡ slice_get self.old.packets 0 }
         ensures packets { self.new.packets ≡ drop 1 self.old.packets }

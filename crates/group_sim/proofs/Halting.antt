@@ -6,8 +6,8 @@ use Rattle.std.proofs.lemmas.Option.{slice_get_within}
 use Rattle.std.proofs.lemmas.Bool.{lt-ltb}
 use Rattle.group_node.specs.declared.packet.To.{To}
 use Rattle.group_world.specs.declared.event.Act.{Act}
-use Rattle.group_world.specs.declared.event.Act.TheVariants.{Press, Deliver, Campaign, Tick}
-use Rattle.group_world.specs.declared.event.Act.TheVariants.{Run, Release, Crash, Start}
+use Rattle.group_world.specs.declared.event.Act.TheVariants.{Deliver}
+use Rattle.group_world.specs.declared.event.Act.TheVariants.{Run, Start}
 use Rattle.group_world.specs.declared.event.Done.{Done}
 use Rattle.group_world.specs.declared.event.Event.{Event}
 use Rattle.group_world.specs.declared.fault.WorldFault.{WorldFault}
@@ -34,17 +34,13 @@ few_kept h (x ∷ xs) = one_kept (h x) (filter_map h xs) x xs (few_kept h xs)
 -- an act that leads somewhere is not refused by the world
 pub taken : (w : World) (plan : Option Bool) (a : Act) (d : Done) (v : World) → Performs w plan a d v
     → refusal w a ≡ None
-taken w plan (Press i byte) d v h = rw (h.2.there, h.2.up) refl
 taken w plan (Deliver k i) d v h =
     let less : k < length w.sent =
     omega (arith, slice_get_within _ k h.2 h.4, few_kept (message_of w.group) w.sent) in
     rw (h.3.there, h.3.up, lt-ltb k (length w.sent) less) refl
-taken w plan (Campaign i) d v h = rw (h.2.there, h.2.up) refl
-taken w plan (Tick i) d v h = rw (h.2.there, h.2.up) refl
 taken w plan (Run i steps) d v h = rw (h.4.there, h.4.up) refl
-taken w plan (Release i) d v h = rw (h.2.there, h.2.up) refl
-taken w plan (Crash i) d v h = rw (h.2.there, h.2.up) refl
 taken w plan (Start i) d v h = rw (h.1.there, h.1.down) refl
+taken w plan other d v h = rw (h.2.there, h.2.up) refl
 
 -- so that it is refused only where memory runs out
 pub refused_for_memory : (w : World) (a : Act) (f : WorldFault) → refusal w a ≡ None

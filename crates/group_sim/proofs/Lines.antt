@@ -10,7 +10,7 @@ use Rattle.group_sim.specs.declared.simulation.Stopped.{Stopped}
 use Rattle.group_sim.specs.Moments.{AreDone, HaltsAt, IsScriptDone, IsHalted, IsNoGroup, LineIsDone, Moment, Says, halt_answer, first_moment, halt_of}
 use Rattle.group_sim.proofs.Turns.{halts_at, one_more}
 
--- the line after `n` others, the last of which has this number
+-- the line after `n` others, whose last one has this number
 pub line_there : (size n number : ℕ) (lines : List Line) (default : Line) (mid b : Moment) (r : Result (Unit {0}) Halt)
     → number ≡ n + 1 → n < length lines
     → Says size (number + 1) (get_or lines n default) mid r b → LineIsDone size lines (2 + n) mid r b

@@ -32,10 +32,3 @@ one_passed number size first k a mid b m low p there q =
     let at : first + (k - first) ≡ k = omega arith in
     let P : ℕ → Type 0 = λ j. PassesOn number size j mid (Ok tt) b in
     rw e (mid, p, subst P (sym at) (m, there, q))
-
--- a message at which the script halts
-pub passes_halt : (number size first k : ℕ) (a mid b : Moment) (h : Halt) (m : Datagram) → first ≤ k
-    → AreDone (PassesOn number size) first (k - first) a mid
-    → slice_get mid.world.sent k ≡ Some m → InTurn (DeliversOne number k m.to) 1 size mid (Err h) b
-    → HaltsAt (PassesOn number size) first k a h b
-passes_halt number size first k a mid b h m low p there q = record { before = mid; done = p; after_first = low; halts = (m, there, q) }

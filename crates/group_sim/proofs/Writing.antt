@@ -1,8 +1,8 @@
 -- Texts that are written one after the other.
-use Rattle.std.proofs.Common.{◌≡◌, ℕ, List, [], ◌++◌, take, drop, length, length-drop, ◌-◌, arith, Option, Result, Ok, Err, IsErr, refl, sym, ap, subst, ◌∙◌, append_assoc}
-use Rattle.std.proofs.lemmas.List.{append-nil, take-append-drop, take_all}
+use Rattle.std.proofs.Common.{◌≡◌, ℕ, List, [], ◌++◌, take, drop, length, length-drop, ◌-◌, arith, Option, Result, Ok, Err, IsErr, sym, ap, ◌∙◌, append_assoc}
+use Rattle.std.proofs.lemmas.List.{take-append-drop, take_all}
 use Rattle.std.specs.Io.KnownBytes.{Appends, Keeps}
-use Rattle.std.proofs.KnownBytes.{Appends-nil, Appends-trans, Appends-kept}
+use Rattle.std.proofs.KnownBytes.{Appends-trans, Appends-kept}
 use Rattle.group_sim.specs.Texts.{AppendsFront, WritesText}
 
 -- of a text all but this rest was appended
@@ -10,9 +10,6 @@ pub record IsLeft (old new : Option (List ℕ)) (text rest : List ℕ) : Type 0 
   pub front : List ℕ
   pub whole : text ≡ front ++ rest
   pub appends : Appends old new front
-
-pub left-all : (known : Option (List ℕ)) (text : List ℕ) → IsLeft known known text text
-left-all known text = record { front = []; whole = refl; appends = Appends-nil known }
 
 -- a write that took the front of what was left leaves less
 pub left-less : (old mid new : Option (List ℕ)) (text rest : List ℕ) (n : ℕ) → IsLeft old mid text rest
@@ -32,16 +29,6 @@ left-part old mid new text rest n h p =
 -- a write that failed leaves all that was left
 pub left-same : (old mid new : Option (List ℕ)) (text rest : List ℕ) → IsLeft old mid text rest → Keeps mid new → IsLeft old new text rest
 left-same old mid new text rest h p = record { front = h.front; whole = h.whole; appends = Appends-kept old mid new h.front h.appends p }
-
--- what was left is not all of the text
-pub left-front : (old new : Option (List ℕ)) (text rest : List ℕ) → IsLeft old new text rest → AppendsFront old new text
-left-front old new text rest h = record { front = h.front; rest = rest; whole = h.whole; appends = h.appends }
-
--- nothing is left
-pub left-none : (old new : Option (List ℕ)) (text rest : List ℕ) → rest ≡ [] → IsLeft old new text rest → Appends old new text
-left-none old new text rest e h =
-    let same : text ≡ h.front = h.whole ∙ ap (λ l. h.front ++ l) e ∙ append-nil h.front in
-    let P : List ℕ → Type 0 = λ l. Appends old new l in subst P (sym same) h.appends
 
 -- ---- one text after another
 

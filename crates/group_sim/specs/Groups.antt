@@ -115,7 +115,9 @@ abbrev pub place_lines : World → ℕ → List ℕ
 place_lines w size = lines_below (λ place. place_line place (learned_at w size place)) places
 
 -- The text of a group of this size, as `show` writes it.
--- It has the lines of its nodes, those of its learned places, and the number of sent messages.
+-- It has the line `node N up ..` or `node N down ..` of each node, in order. The line
+-- `place P VALUE` follows for each place that a node which is up has learned, in order, with the
+-- value of the first such node. Its last line is `sent K`, the number of sent messages.
 -- Allows: a group in which nothing is learned.
 -- Forbids: a node, a learned place or a message that is left out.
 abbrev pub group_text : World → ℕ → List ℕ

@@ -93,7 +93,8 @@ pub record LeavesFront (a : Moment) (world : World) (text : List ℕ) (b : Momen
   pub written : AppendsFront a.written b.written text
 
 -- An event of a line that happens or is refused.
--- If it happens, a refusal of its node is written. If the world refuses it, nothing has changed.
+-- If it happens, a refusal of its node is written, or a prefix of it if the write fails. If the
+-- world refuses it, nothing has changed.
 -- Allows: an event that its node refuses.
 -- Forbids: a text that is not written.
 abbrev pub HappensAt : ℕ → Event → Deed

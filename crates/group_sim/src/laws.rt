@@ -8,9 +8,10 @@ ghost use Rattle.group_sim.specs.declared.simulation.Halt.{Halt};
 ghost use Rattle.group_sim.specs.declared.simulation.Halt.TheVariants as halt;
 ghost use Rattle.group_sim.specs.Moments.{DeliversOne, HappensAt, Moment, Shows};
 
-/// A line that can be done does not halt, unless memory runs out or a write fails. An event that
-/// can happen is refused only as `Memory`, a delivery that can be made is not one too many for a
-/// `settle`, and a `show` halts only at a failed write.
+/// An event that can happen is refused only as `Memory`, a delivery that can be made is not one too
+/// many for a `settle`, and a `show` halts only at a failed write.
+///
+/// So none of these halts where it can be done, unless memory runs out or a write fails.
 pub fn halts_have_a_cause()
     ensures refused { (number : ℕ) (e : Event) (a b c : Moment) (f : WorldFault)
         → HappensAt number e a (Ok tt) b → HappensAt number e a (Err (halt.Refused f)) c

@@ -338,18 +338,24 @@ fn stopped_at(line: usize, halt: Halt) -> Result<Option<Stopped>, RunIo>
     Ok(Some(Stopped { line, fault }))
 }
 
-/// Performs a script on a group of nodes that run the program, line by line. Writes what a node
-/// refuses and what the script shows.
+/// Performs `script` on a new group that runs `program`. At `Ok(None)` each line was done, in
+/// order. Otherwise a line halted for just the cause returned, after all before it were done. Line
+/// 1 halts with `Size` exactly if the size is even or above 9, else only with `Memory`; then
+/// nothing is written. Fails only with `Write`.
+///
+/// It writes `line N node Dk` for an event that its node refuses, nothing for another event, and
+/// the text of the group for a `show`. If a write fails, a prefix of that text was written. What
+/// the line that halts did before has happened.
 ///
 /// A `settle` passes the messages that no earlier settle has passed, with those that it causes, in
 /// the order in which they were sent. It delivers each to those whom it is for and who are up, in
 /// ascending order. Then each node that is up, in ascending order, runs at most 1,000 steps and
 /// releases all its output that waits.
 ///
-/// Returns where it stopped, if it did: at line 1 if there is no such group, at a line that the
-/// world refused, or at a settle of more than 10,000 deliveries. Fails with `Write` if a write
-/// failed or took nothing. Running out of memory is a refusal of the world, so it never fails with
-/// `Memory`.
+/// Returns where it stopped, if it did: at line 1 if there is no group of the size or no memory for
+/// it, at a line that the world refused, or at a settle with one delivery to make after its
+/// 10,000th. Fails with `Write` if a write failed or took nothing. Running out of memory is a
+/// refusal of the world, so it never fails with `Memory`.
 pub fn sim<W: Write>(
     alloc: Global,
     program: &Program,

@@ -22,7 +22,7 @@ const CONFIGS: [((u8, u8, u32), Option<NodeFault>); 8] = [
     ((9, 9, 7), None),
 ];
 
-/// Shows Config::new (ok, size, id): which nodes there are, in groups of which sizes.
+/// Shows Config::new (ok, size, id): which nodes and which sizes of groups there are.
 #[test]
 fn nodes_of_groups(rt: HostRuntime) {
     for ((node, size, session), fault) in CONFIGS {

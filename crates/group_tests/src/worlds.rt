@@ -78,8 +78,8 @@ fn lists_that_end_early(rt: HostRuntime) -> Result<(), Fail> {
 const STARTS: &str =
     "start 1, start 2, start 3, campaign 1, deliver 0 1, deliver 0 2, deliver 0 3, deliver 1 1, deliver 2 1, deliver 3 1, type 1 48, tick 1, deliver 4 1, deliver 6 2 failnew, deliver 6 3 failold, start 2, start 3, deliver 6 2, deliver 6 3, deliver 7 1, deliver 8 1, run 1 1000, release 1, crash 2, start 2 failnew, start 2";
 
-/// Shows running::run (happens), World::record: four starts of node 2, of which one save
-/// fails, are counted.
+/// Shows running::run (happens), World::record: four starts of node 2 are counted, also the one
+/// whose save fails.
 #[test]
 fn starts_are_counted(rt: HostRuntime) -> Result<(), Fail> {
     let program = reading_program(rt.alloc())?;

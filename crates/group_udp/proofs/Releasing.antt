@@ -1,5 +1,5 @@
 -- Bytes that are released one after the other, and what is written of them.
-use Rattle.std.proofs.Common.{◌≡◌, ◌∙◌, inl, inr, ℕ, ◌+◌, ◌-◌, ◌<◌, ◌≤◌, List, [], ◌∷◌, ◌++◌, drop, length, take, Option, Some, None, option_map, slice_get, refl, sym, ap, subst, arith, append_assoc, append-nil, length-append, length-drop}
+use Rattle.std.proofs.Common.{◌≡◌, ◌∙◌, inl, inr, ℕ, ◌+◌, ◌-◌, ◌<◌, ◌≤◌, List, [], ◌∷◌, ◌++◌, drop, length, take, Option, Some, None, option_map, slice_get, refl, sym, ap, subst, arith, append_assoc, append-nil, length-append}
 use Rattle.std.proofs.Math.Seq.{take-add, take-append_seam}
 use Rattle.std.proofs.lemmas.Bool.{cases_lt}
 use Rattle.std.proofs.lemmas.List.{drop-append-le, drop-drop, drop_all, length-take-le}
@@ -113,10 +113,6 @@ released_on x old new gone h =
 pub released_many : (x : List ℕ) (q : Progress) → q.released ≤ length (out q.program x q.steps) → length (released_of x q) ≡ q.released
 released_many x q h = length-take-le q.released (out q.program x q.steps) h
 
--- where a byte waits, as many were written as were released
-pub some_wait : (x : List ℕ) (q : Progress) → 0 < length (unreleased_of x q) → q.released ≤ length (out q.program x q.steps)
-some_wait x q h = omega (arith, length-drop q.released (out q.program x q.steps), h)
-
 -- ---- one turn of the loop that writes
 
 -- some bytes were released, and of them those that were not seen are written
@@ -181,12 +177,3 @@ shown_more x y old q new count start before now same shows (gone, h, many, _) (b
       is ∙ ap (λ (z : List ℕ). released_of z new) same ∙ released_on x old new (gone ++ byte ∷ []) both
           ∙ ap (λ (bs : List ℕ). bs ++ (gone ++ byte ∷ [])) (sym shows),
     )
-
--- a byte waits, where fewer were released than waited
-pub more_wait : (x y : List ℕ) (old q : Progress) (count all : ℕ) → y ≡ x → all ≡ length (unreleased_of x old) → count < all
-    → (gone : List ℕ) × ReleasesBytes x old q gone × (length gone ≡ count) × Unit {0} → 0 < length (unreleased_of y q)
-more_wait x y old q count all same is low (gone, h, many, _) =
-    let sum : length (unreleased_of x old) ≡ length gone + length (unreleased_of x q) =
-    ap length h.waited ∙ length-append gone (unreleased_of x q) in
-    let there : length (unreleased_of y q) ≡ length (unreleased_of x q) = ap (λ (z : List ℕ). length (unreleased_of z q)) same in
-    omega (arith, sum, is, low, many, there)

@@ -19,7 +19,7 @@ use Rattle.group_udp.specs.declared.keyboard.Pressed.TheVariants.{Bytes, Campaig
 use Rattle.group_udp.specs.Output.{ReleasesBytes, all_released, unseen_of}
 use Rattle.group_udp.specs.Refusals.{no_memory, write_failed}
 
--- What a call leaves of a value, and its answer.
+-- A value before and after a call, and its answer.
 abbrev pub Call : Type 0 → Type 0 → Type 1
 Call M T = M → M → Result T GroupFault → Type 0
 
@@ -159,6 +159,8 @@ HasReleased seen old new (Err e) = LosesOutput seen old new × (e ≡ write_fail
 
 -- A round, and whether the node is busy before and after it: a rest, typing, a turn, and the
 -- release. The first that is refused ends it.
+-- A node that is not busy may hear what comes. Then bytes are typed, or the node campaigns as
+-- asked. After the turn all output that waits is released, and written from byte `seen` on.
 abbrev pub IsRound : {S : Type 0} → Type 0 → Type 0 → (S → StoreState) → ℕ → Bool
     → Call (NodeMoment S) Bool
 IsRound {S} honest at_will state seen busy old new (Ok then) =
@@ -205,6 +207,7 @@ CampaignsIf honest at_will state true old new (Err e) =
     × (e ≡ group.Node fault)
 
 -- A campaign, if the node is to campaign, and then `turns` rounds.
+-- A refused campaign ends the run, and nothing is written.
 abbrev pub HasCampaignedAndPlayed : {S : Type 0} → Type 0 → Type 0 → (S → StoreState) → Bool → ℕ
     → ℕ → Call (NodeMoment S) (Unit {0})
 HasCampaignedAndPlayed honest at_will state campaigns seen turns =

@@ -23,7 +23,8 @@ pub struct Endpoints<'a, H> {
 }
 
 impl<'a, H: Net + Clock + AllocGlobal> Endpoints<'a, H> {
-    /// Opens the sockets that the plan names. `text` is typed if no datagrams bring bytes.
+    /// Opens the sockets that the plan names. `text` is typed if no datagrams bring bytes. Fails
+    /// only if a socket or memory is missing.
     pub fn open<E: Write>(
         rt: &'a H,
         plan: &NodePlan<'a>,

@@ -169,8 +169,12 @@ fn net<H: Net + Clock + AllocGlobal, W: Write>(
     write_all(writer, nodes.as_slice()).or(Err(GroupFault::from(RunIo::Write)))
 }
 
-/// Runs the program of a code file in a group in this process, with the input typed at node 1. The
-/// code file is looked at first, then the size, then the input.
+/// Runs the program of a code file in a group of `size` nodes in this process. Fails only with a
+/// size or number that no group has, if a socket or memory is missing, at a refused start,
+/// campaign, typed byte or turn, at a failed write, or with another `Machine` refusal, as for the
+/// file or the input.
+///
+/// The input is typed at node 1. The code file is looked at first, then the size, then the input.
 pub fn net_file<H: Files + Net + Clock + AllocGlobal, R: Read, W: Write>(
     rt: &H,
     file: &str,

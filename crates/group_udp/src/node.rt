@@ -77,11 +77,15 @@ fn node_noted<H: Files + Net + Clock + AllocGlobal + Copy + Drop, R: Read, W: Wr
     )
 }
 
-/// Runs the program of a code file at one node of a group, as the plan says. The code file is
-/// looked at first, then the node and its group. The input is not read if typed bytes come as
-/// datagrams. If one of the three is refused, nothing is written. What the writer holds after a run
-/// is known of the wrapper that counts its faults: a contract can't say that a call over any
-/// `ByteWriter` leaves the same `&mut` in it.
+/// Runs the plan's node over its record, up to the first refusal: it starts, campaigns if the plan
+/// says so, and makes as many rounds as `turns` says (`HasRunOrRefused`). A wrapper of `writer`
+/// gets the program's output from its beginning on, but for bytes numbered below `seen` and one
+/// that a failed write lost. A refusal before the start leaves `writer` as it was.
+///
+/// The code file is looked at first, then the node and its group, then the input, which is not read
+/// if typed bytes come as datagrams. What the writer holds after a run is known of the wrapper that
+/// counts its faults: a contract can't say that a call over any `ByteWriter` leaves the same `&mut`
+/// in it.
 ///
 /// `errors` gets the notes of the node, if the plan asks for a log.
 pub fn node_file<H: Files + Net + Clock + AllocGlobal + Copy + Drop, R: Read, W: Write, E: Write>(

@@ -9,7 +9,8 @@ use group_wire::Host;
 use machine_run::{ByteWriter, RunIo, WriteFault};
 use paxos_acceptor::Store;
 
-/// Writes a released byte, unless its number is below `seen`.
+/// Writes a released byte exactly if its number is not below `seen`. A fault of the writer is
+/// counted exactly if the write failed.
 fn write_unseen<W: ByteWriter>(
     writer: &mut W,
     seen: u64,

@@ -57,7 +57,8 @@ fn rest<H: Clock, S: Store>(
     Ok(())
 }
 
-/// Rests, unless the node is busy, or no keys wait and there is something to be typed at it.
+/// Rests, unless the node is busy, or no keys wait and there is something to be typed at it. A rest
+/// keeps what was released.
 pub fn rest_unless_busy<H: Clock, S: Store>(
     host: &mut Host<'_, S>,
     endpoints: &mut Endpoints<'_, H>,

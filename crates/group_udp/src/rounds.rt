@@ -44,7 +44,8 @@ fn rest_and_turn<H: Clock, S: Store, E: Write>(
     Ok(more)
 }
 
-/// Makes a round: a turn, and then the release of all output. Returns true if the node is busy.
+/// Makes a round: a rest, typing, a turn, and then the release of all output. The bytes from number
+/// `seen` on are written. Returns true if the node is busy.
 fn round<H: Clock, S: Store, W: ByteWriter, E: Write>(
     host: &mut Host<'_, S>,
     seen: u64,
@@ -70,8 +71,9 @@ fn round<H: Clock, S: Store, W: ByteWriter, E: Write>(
     Ok(more)
 }
 
-/// Makes as many rounds as the plan has turns, up to the first refusal. Over all rounds the bytes
-/// that were released are written, but for those that were seen. If a write fails, the last one is
+/// Makes as many rounds as the plan has turns, up to the first refusal: a stopped node, a failed
+/// save, spent serials, or a failed write. Over all rounds the bytes that were released are
+/// written, each once and in order, but for those that were seen. If a write fails, the last one is
 /// lost.
 fn play<H: Clock, S: Store, W: ByteWriter, E: Write>(
     host: &mut Host<'_, S>,

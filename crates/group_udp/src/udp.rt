@@ -223,8 +223,8 @@ impl<'a, H: Clock> UdpWire<'a, H> {
         }
     }
 
-    /// Receives the next datagram of the socket, if one is there. A datagram that another than its
-    /// sender sent is handed on as an empty one, which spells no message.
+    /// Receives the next datagram of the socket, if one is there. One from another address than its
+    /// sender's counts as an empty one, which spells no message.
     fn receive_in(&mut self, buffer: &mut [u8]) -> Option<usize>
         ensures within { IfSome result (λ count. count ≤ length buffer.new) }
     {

@@ -1,5 +1,5 @@
 -- Traffic that grows step by step, and the datagrams of several packets.
-use Rattle.std.proofs.Common.{◌≡◌, ◌∙◌, ◌+◌, ◌-◌, ◌≤◌, ℕ, suc, List, [], ◌∷◌, ◌++◌, map, Option, Some, None, refl, ap, subst, arith, append-nil, append_assoc, sym}
+use Rattle.std.proofs.Common.{◌≡◌, ◌∙◌, ◌+◌, ◌-◌, ◌≤◌, ℕ, suc, List, [], ◌∷◌, ◌++◌, map, Option, Some, None, refl, ap, subst, arith, append_assoc, sym}
 use Rattle.std.specs.List.{range_with_len}
 use Rattle.group_node.specs.Packets.{Datagram}
 use Rattle.group_wire.specs.Traffic.{Letter, Traffic, grown, letters_of, letters_to}
@@ -7,12 +7,6 @@ use Rattle.group_wire.specs.Traffic.{Letter, Traffic, grown, letters_of, letters
 -- known traffic of these two parts
 abbrev known_as : List Letter → List (Option (List ℕ)) → Option Traffic
 known_as handed given = Some (record { handed = handed; given = given })
-
--- nothing more was handed or given
-pub grown_by_nothing : (known : Option Traffic) → grown known [] [] ≡ known
-grown_by_nothing None = refl
-grown_by_nothing (Some t) =
-    ap (λ (xs : List Letter). known_as xs (t.given ++ [])) (append-nil t.handed) ∙ ap (known_as t.handed) (append-nil t.given)
 
 -- twice as at once
 pub grown_twice : (known : Option Traffic) (xs ys : List Letter) (came more : List (Option (List ℕ)))

@@ -19,7 +19,7 @@ use Rattle.group_wire.specs.declared.answers.Heard.TheVariants as answer
 use Rattle.group_wire.specs.Traffic.{Letter, Traffic, grown, letters_of, posted}
 use Rattle.group_wire.specs.Arrivals.{Arrival, Ending, Fate, Hears, Loses, TooLong, NoMessage, GoesOn, Refuses, IsFateOf, IsSpelledEnding, IsUnheard, Spells, heard_of, last_receive, loss_of, lost_of, heard_message, received}
 use Rattle.group_wire.specs.Turns.{FailsAtEnd, HearsSome, IsHearingRefused, IsOne, IsWireTurn, TellsOfOne, after_heard, answer_of, sent_at, ticked_if}
-use Rattle.group_wire.proofs.Carrying.{grown_by_nothing, grown_twice, letters_then}
+use Rattle.group_wire.proofs.Carrying.{grown_twice, letters_then}
 
 -- some messages, and then others
 heard_then : (n : Known) (ms more : List Msg) → after_heard n (ms ++ more) ≡ after_heard (after_heard n ms) more
@@ -219,13 +219,6 @@ turn_is g came ending ticks old mid new from via to h rules last =
           ∙ ap (grown from (here ++ then)) (append-nil got) ∙ ap (λ (xs : List Letter). grown from xs got) both;
     }
 
--- hearing that ends the turn, without a tick
-pub turn_ends : {S : Type 0} (g : Group) (came : List Arrival) (ending : Ending)
-    (old new : NodeState S) (from to : Option Traffic)
-    → HearsSome g came ending old new from to → IsWireTurn g came ending old new from to false
-turn_ends g came ending old new from to h =
-    turn_is g came ending false old new new from to to h refl (sym (grown_by_nothing to))
-
 -- how many messages an answer calls lost
 abbrev pub loss_in : Heard → ℕ
 loss_in answer.Nothing = 0
@@ -242,9 +235,7 @@ loss_is NoMessage = refl
 -- a datagram that came is one arrival, and hearing goes on
 one_came : (h : Heard) (came : List Arrival) (ending : Ending) → h ≢ answer.Nothing → TellsOfOne (Ok h) came ending → IsOne came ending h
 one_came answer.Nothing came ending some told = absurd (some refl)
-one_came answer.Dropped came ending some told = told
-one_came answer.Lost came ending some told = told
-one_came answer.Message came ending some told = told
+one_came other came ending some told = told
 
 -- one arrival more
 pub one_more_of : (came later : List Arrival) (a : Arrival) (count lost : ℕ) (h : Heard) → later ≡ a ∷ [] → h ≡ answer_of a.fate

@@ -10,8 +10,10 @@ use Rattle.group_node.specs.ProposerRows.{last_round, on_campaign}
 use Rattle.group_node.specs.States.{NodeState}
 use Rattle.group_wire.specs.Traffic.{Traffic, grown, posted}
 
--- What a campaign leaves of a node and its wire, and its answer.
--- At `Ok` the wire was handed all that the campaign sends, and at a refusal nothing.
+-- A node and its wire after a campaign, with the answer.
+-- At `Ok` the node is that of `on_campaign`, and all that it sends went to the wire. At a refusal
+-- nothing did, and the node knows what it knew. A refusal comes where `Node::campaign` says, but
+-- none for a full outbox.
 pub record HasCampaigned {S : Type 0} (honest at_will : Type 0) (state : S → StoreState)
     (old new : NodeState S) (from to : Option Traffic) (result : Result (Unit {0}) NodeFault)
     : Type 0 where

@@ -16,6 +16,10 @@ abbrev pub IsPressFault : NodeFault → Type 0
 IsPressFault e = (e ≡ Stopped) ⊎ (e ≡ SerialSpent)
 
 -- The node after typing, and the bytes `after` that are left of `before`.
+-- The bytes before them are typed, each once and in order. At `Ok` none is left, or 256 keys wait.
+-- `Stopped` comes exactly if a save had failed and there was a byte, and then nothing is typed.
+-- `SerialSpent` comes exactly if no save had failed, bytes are left, fewer than 256 keys wait, and
+-- no serial is left for the next key.
 pub record HasPressed {S : Type 0} (old new : NodeState S) (before after : List ℕ)
     (result : Result (Unit {0}) NodeFault) : Type 0 where
   pub typed : List ℕ

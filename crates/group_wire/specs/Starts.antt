@@ -27,7 +27,10 @@ abbrev pub HasLoaded : {S : Type 0} → (S → StoreState) → (S → Result Rec
 HasLoaded {S} state loads me store result = (answer : Result Record StoreFault) × (left : S)
     × loads store answer left × StartsAfter state me answer left result
 
--- The result of a start over a store: what `Node::start` promises, but for plans and ranges.
+-- The result of a start over a store: what `Node::start` promises, but for plans, for stores that
+-- fail at will, and for ranges.
+-- The start is made over the answer of one load. Or memory ran out for the outbox, nothing was
+-- loaded, and the store is as it was. One more fault is counted exactly at `Store`.
 pub record HasStarted {S : Type 0} (honest : Type 0) (state : S → StoreState)
     (loads : S → Result Record StoreFault → S → Type 0) (me : Me) (program : Parts) (store : S)
     (result : Result (NodeState S) (StartRefused S)) : Type 0 where

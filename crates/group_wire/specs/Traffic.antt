@@ -11,13 +11,13 @@ pub record Letter : Type 0 where
   pub to : ℕ
   pub bytes : List ℕ
 
--- What a wire was handed to send and what each receive gave, each in order.
+-- What a wire got to send and what each receive gave, each in order.
 -- A receive gave a datagram, or nothing.
 pub record Traffic : Type 0 where
   pub handed : List Letter
   pub given : List (Option (List ℕ))
 
--- Known traffic after more datagrams were handed over and more receives were made.
+-- Known traffic after the wire got more datagrams to send and gave more receives.
 -- Allows: a wire whose traffic is unknown.
 abbrev pub grown : Option Traffic → List Letter → List (Option (List ℕ)) → Option Traffic
 grown known letters received =

@@ -67,6 +67,10 @@ pub record HearsSome {S : Type 0} (g : Group) (came : List Arrival) (ending : En
   pub progress : new.progress ≡ old.progress
 
 -- A node and its wire once these datagrams came and the node then ticked, or did not.
+-- The node heard the messages that datagrams spell, in order, but for those that were lost. A
+-- datagram was dropped only if it has more than 1,400 bytes or spells no message of the group. What
+-- these calls and the tick sent went to the wire, in order, once for each node that it is for. A
+-- node that had stopped heard and lost nothing.
 -- Forbids: a tick that the answer does not report.
 pub record IsWireTurn {S : Type 0} (g : Group) (came : List Arrival) (ending : Ending)
     (old new : NodeState S) (from to : Option Traffic) (ticks : Bool) : Type 0 where
@@ -107,7 +111,7 @@ TellsOfOne (Ok answer.Lost) came ending = IsOne came ending answer.Lost
 TellsOfOne (Ok answer.Message) came ending = IsOne came ending answer.Message
 TellsOfOne (Err e) came ending = (came ≡ []) × EndsAt ending (λ _. ⊤)
 
--- A store after a save failed at this message: it has the node's record, or that of the row.
+-- A store after a save failed at this message: it has the node's record, or that of the response.
 -- Forbids: a mixture of both.
 abbrev pub IsAfterFault : {S : Type 0} → (S → StoreState) → NodeState S → Msg → Type 0
 IsAfterFault state n m =
@@ -128,7 +132,8 @@ pub record IsRefusedIfStopped {S T : Type 0} (old : NodeState S)
   pub others : IfErr result (λ e. e ≡ Stopped)
 
 -- The receives of a turn, at most 64.
--- At `Ok` 64 datagrams came, or the last receive gave nothing.
+-- At `Ok` 64 datagrams came, or the last receive gave nothing. At `Store` the save failed at the
+-- message of the last datagram that came.
 pub record HearsOut {S T : Type 0} (honest : Type 0) (state : S → StoreState) (came : List Arrival)
     (ending : Ending) (new : NodeState S) (result : Result T NodeFault) : Type 0 where
   pub few : length (received came ending) ≤ MOST_RECEIVES
@@ -150,7 +155,9 @@ pub record IsHearingRefused {S T : Type 0} (state : S → StoreState) (old new :
 
 -- ---- the calls
 
--- What one receive leaves of a node and its wire, and its answer.
+-- A node and its wire after one receive, with the answer.
+-- The answer says that nothing came, or that a datagram was dropped, lost or heard. The receive is
+-- refused only at a datagram that spells a message. Then the node knows what it knew.
 pub record HasHeard {S : Type 0} (honest : Type 0) (state : S → StoreState)
     (old new : NodeState S) (from to : Option Traffic) (result : Result Heard NodeFault)
     : Type 0 where
@@ -161,7 +168,12 @@ pub record HasHeard {S : Type 0} (honest : Type 0) (state : S → StoreState)
   pub fault : FailsAtEnd honest state ending new result
   pub refused : IsHearingRefused state old new result
 
--- What a turn leaves of a node and its wire, and its answer.
+-- A node and its wire after a turn, with the answer.
+-- At `Ok` the machine has run for at most 1,000 steps on the learned input after the tick, and the
+-- answer says why the run ended, whether there was a tick, and how many messages were lost. After a
+-- refusal there was no tick and no step. The turn is `Stopped` exactly if a save had failed before,
+-- and otherwise refused only as `Store`. After a refusal the node is stopped, after `Ok` it is not.
+-- One more fault is counted exactly at `Store`.
 pub record HasTurned {S : Type 0} (honest : Type 0) (state : S → StoreState)
     (old new : NodeState S) (from to : Option Traffic) (result : Result Turned NodeFault)
     : Type 0 where

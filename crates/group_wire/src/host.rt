@@ -16,8 +16,8 @@ use pcode_ops::Program;
 use std::alloc::Global;
 use std::marker::Model;
 
-/// A node of a group with its outbox. Each call is handed the node's wire, if it sends or receives,
-/// and what the node sends in a call goes out in that call. So contracts see a host as its node.
+/// A node of a group with its outbox. Each call that sends or receives gets the node's wire, and
+/// what the node sends in a call goes out in that call. So contracts see a host as its node.
 pub struct Host<'a, S: Store> {
     pub(crate) node: Node<'a, S>,
     // Empty between two calls.
@@ -52,8 +52,12 @@ impl<'a, S: Store> Model for Host<'a, S> {
 }
 
 impl<'a, S: Store> Host<'a, S> {
-    /// Starts the node over what its store has, as `Node::start` says. A refusal gives the store
-    /// back. Fails with `Memory` too if memory runs out for the outbox; then nothing was loaded.
+    /// Starts the node over the record that one load of `store` returns, as `Node::start` says, but
+    /// for plans and ranges (`HasStarted`). A refusal gives the store back, and exactly `Store`
+    /// counts one more fault. Fails with `Memory` too if memory runs out for the outbox; then
+    /// nothing was loaded.
+    ///
+    /// Nothing is said here of plans, of stores that fail at will, and of ranges.
     pub fn start(
         alloc: Global,
         program: &'a Program,
@@ -82,15 +86,16 @@ impl<'a, S: Store> Host<'a, S> {
         }
     }
 
-    /// Returns the node.
+    /// Returns the host's node.
     pub fn node(&self) -> &Node<'a, S>
         ensures { result.now ≡ self.now }
     {
         &self.node
     }
 
-    /// Begins a ballot of the node's own, as `Node::campaign` says, and hands what it sends to the
-    /// wire. After a refusal nothing was sent.
+    /// Begins the node's next ballot, as `on_campaign` defines, and passes what it sends to `wire`
+    /// at once (`HasCampaigned`). Its refusals come as those of `Node::campaign`, but none for a
+    /// full outbox. After a refusal nothing was sent.
     pub fn campaign<T: Wire>(&mut self, wire: &mut T) -> Result<(), NodeFault>
         ensures campaigned { HasCampaigned S.honest S.fails_at_will S.state self.old self.new
             (T.traffic wire.old) (T.traffic wire.new) result }
@@ -101,8 +106,9 @@ impl<'a, S: Store> Host<'a, S> {
         Ok(())
     }
 
-    /// Releases the first byte of the output that waits. Returns it with its number, counted from 0
-    /// on since this start, or None if no byte waits.
+    /// Releases the first byte of the output that waits. Returns its number, which is the number of
+    /// bytes released before in this start, and the byte. If no byte waits, returns `None` and
+    /// changes nothing.
     pub fn release(&mut self) -> Option<(u64, u8)>
         ensures value { result
             ≡ option_map (λ b. (self.old.progress.released, b))
@@ -116,7 +122,7 @@ impl<'a, S: Store> Host<'a, S> {
         self.node.release()
     }
 
-    /// Returns the number of bytes of output that wait, at most 256.
+    /// Returns the number of bytes of output that wait, at most 256, as `Node::unreleased` says.
     pub fn unreleased(&self) -> usize
         ensures count { result
             ≡ length (unreleased_of (input self.now.protocol.known) self.now.progress) }

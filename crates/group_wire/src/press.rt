@@ -38,12 +38,13 @@ impl<'a, S: Store> Host<'a, S> {
         }
     }
 
-    /// Types bytes at the node, as many as there is room for, and takes them off the front of
-    /// `bytes`. At `Ok` all of them are typed, or 256 keys wait.
+    /// Types bytes from the front of `bytes`, each once and in order, and leaves the others there.
+    /// At `Ok` none is left, or 256 keys wait (`HasPressed`). Fails with `Stopped` if a save has
+    /// failed and there is a byte; then nothing is typed. Else fails with `SerialSpent` if bytes
+    /// are left, fewer than 256 keys wait, and the serial 4,294,967,295 was given.
     ///
-    /// Fails with `Stopped` if a save has failed before and there is a byte; then nothing is typed.
-    /// Fails with `SerialSpent` if fewer than 256 keys wait at a byte, and the serial 4,294,967,295
-    /// is given out; the bytes before that byte are typed, and it is the first that is left.
+    /// At `SerialSpent` the bytes before the refused byte are typed, and it is the first that is
+    /// left.
     pub fn press(&mut self, bytes: &mut &[u8]) -> Result<(), NodeFault>
         ensures pressed { HasPressed self.old self.new bytes.old.now bytes.new.now result }
         ensures stays { SameReleased self.old self.new }

@@ -5,7 +5,7 @@ ghost use Rattle.group_wire.specs.Traffic.{grown, letters_of, letters_to};
 use crate::wire::Wire;
 use group_node::{Outbox, Packet, To};
 
-/// Hands a datagram to the wire for each node of a group of `size` nodes. A failed send is a loss.
+/// Sends a datagram on the wire to each node of a group of `size` nodes. A failed send is a loss.
 fn send_to_all<T: Wire>(wire: &mut T, bytes: &[u8], size: u8)
     ensures traffic { T.traffic wire.new
         ≡ grown (T.traffic wire.old) (letters_to size To.All bytes.now) [] }
@@ -15,7 +15,7 @@ fn send_to_all<T: Wire>(wire: &mut T, bytes: &[u8], size: u8)
     }
 }
 
-/// Hands a packet to the wire, once for each node that it goes to. A failed send is a loss.
+/// Sends a packet on the wire, once for each node that it goes to. A failed send is a loss.
 fn send_packet<T: Wire>(wire: &mut T, packet: &Packet, size: u8)
     ensures traffic { T.traffic wire.new
         ≡ grown (T.traffic wire.old) (letters_to size packet.now.to packet.now.bytes) [] }
@@ -29,7 +29,7 @@ fn send_packet<T: Wire>(wire: &mut T, packet: &Packet, size: u8)
     }
 }
 
-/// Hands all packets of the outbox to the wire, the oldest first.
+/// Sends all packets of the outbox on the wire, the oldest first.
 pub fn send_all<T: Wire>(wire: &mut T, outbox: &mut Outbox, size: u8)
     ensures traffic { T.traffic wire.new
         ≡ grown (T.traffic wire.old) (letters_of size outbox.old.packets) [] }

@@ -33,9 +33,9 @@ fn unless_memory(fault: NodeFault) -> Result<(), NodeFault>
 }
 
 impl<'a, S: Store> Host<'a, S> {
-    /// Takes the message that a datagram spells, and hands what it sends to the wire. Drops a
-    /// longer datagram than 1,400 bytes, and one that spells no message of the group. At `Err` the
-    /// node has refused the message.
+    /// Takes the message that a datagram spells, and passes what the node sends at it to the wire.
+    /// Drops a longer datagram than 1,400 bytes, and one that spells no message of the group. At
+    /// `Err` the node has refused the message.
     fn hear_bytes<T: Wire>(&mut self, wire: &mut T, bytes: &[u8]) -> Result<Heard, NodeFault>
         ensures hears { (from : Option Traffic)
             → T.traffic wire.old ≡ grown from [] (Some bytes.now ∷ [])
@@ -99,7 +99,7 @@ impl<'a, S: Store> Host<'a, S> {
         Ok(lost)
     }
 
-    /// Ticks, and hands what the node sends to the wire. Returns false if memory ran out; then
+    /// Ticks, and passes what the node sends to the wire. Returns false if memory ran out; then
     /// nothing has changed.
     fn tick<T: Wire>(&mut self, wire: &mut T) -> Result<bool, NodeFault>
         ensures known { IfOk result (λ ticks.
@@ -147,12 +147,14 @@ impl<'a, S: Store> Host<'a, S> {
         Ok(Turned { ran, ticked, lost })
     }
 
-    /// Takes the next datagram from the wire, if one is there, and hands to the wire what its
-    /// message makes the node send. So a node takes datagrams between turns, without a tick after
-    /// each. Returns the result of the receive.
+    /// Receives once from `wire` between turns, as a turn does, without tick and steps
+    /// (`HasHeard`). Returns that nothing came, or that a datagram was dropped, lost or heard.
+    /// Fails only at a datagram that spells a message: with `Stopped` if a save had failed before,
+    /// and with `Store` if one fails now.
     ///
-    /// Fails only at a datagram that spells a message: with `Stopped` if a save has failed before,
-    /// and with `Store` if one fails now. Then the node knows what it knew, and has sent nothing.
+    /// What the node sends at a message goes to `wire` at once. After a refusal the node knows what
+    /// it knew, and has sent nothing. At `Store` one more fault is counted, and an honest store has
+    /// the node's record or that of the message's response.
     pub fn hear<T: Wire>(&mut self, wire: &mut T) -> Result<Heard, NodeFault>
         ensures heard { HasHeard S.honest S.state self.old self.new (T.traffic wire.old)
             (T.traffic wire.new) result }
@@ -167,17 +169,21 @@ impl<'a, S: Store> Host<'a, S> {
         self.hear_next(wire, &mut buffer)
     }
 
-    /// Takes a turn on the wire: takes datagrams until none is there, at most 64; then ticks; then
-    /// runs the machine for at most 1,000 steps. After each call of the node hands what it sends to
-    /// the wire. Returns why the run ended, whether the node ticked, and how many messages were
-    /// lost.
+    /// Takes a turn on `wire`: receives until no datagram is there, at most 64 times, then ticks,
+    /// then runs the machine for at most 1,000 steps (`HasTurned`). What these calls send goes to
+    /// `wire`, in order. Returns why the run ended, whether the node ticked, and how many messages
+    /// were lost. Fails with `Stopped` exactly if a save had failed before, or with `Store` if one
+    /// fails now.
     ///
-    /// Drops a longer datagram than 1,400 bytes, and one that spells no message of the group. If
-    /// memory runs out at a message, the message is lost; at the tick, the node does not tick.
+    /// The node hears each message of the group that a datagram spells, in order. A datagram is
+    /// dropped only if it has more than 1,400 bytes or spells no message of the group. If memory
+    /// runs out at a message, the message is lost and counted; at the tick, the node does not tick.
+    /// What a call sends goes out in that call, each datagram once for each node that it is for.
     ///
-    /// Fails with `Stopped` if a save has failed before: the node hears nothing. Fails with `Store`
-    /// if a save fails now, at the last datagram that came: the node has heard those before it.
-    /// After a refusal there is no tick and no step.
+    /// At `Stopped` the node hears and loses nothing. At `Store` the save failed at the message of
+    /// the last datagram that came; the node is what the messages before it left, and an honest
+    /// store has that node's record or that of the message's response. After a refusal there is no
+    /// tick and no step, and the node is stopped; after `Ok` it is not.
     pub fn turn<T: Wire>(&mut self, wire: &mut T) -> Result<Turned, NodeFault>
         ensures turned { HasTurned S.honest S.state self.old self.new (T.traffic wire.old)
             (T.traffic wire.new) result }

@@ -5,16 +5,22 @@ ghost use Rattle.group_wire.specs.Traffic.{Traffic, grown};
 /// A node's connection to its group, itself included. Datagrams may be lost, repeated, delayed and
 /// reordered. Datagrams that are not the group's may come too.
 pub trait Wire {
-    /// What it was handed, and what each receive gave, where that is known.
+    /// What it got to send, and what each receive gave, where that is known.
     ghost traffic: { Self → Option Traffic };
 
-    /// Hands over a datagram for node `to`. Returns true if it was taken; false is a loss.
+    /// Takes the datagram `bytes` for node `to`, and adds it to the traffic as the last that it got
+    /// to send.
+    ///
+    /// Returns true if the datagram goes out; false is a loss.
     fn send(&mut self, to: u8, bytes: &[u8]) -> bool
         ensures handed { traffic self.new
             ≡ grown (traffic self.old) (record { to = to; bytes = bytes.now } ∷ []) [] };
 
-    /// Puts the next datagram at the front of `buffer`, cut to its length. Returns the number of
-    /// bytes there, or None if no datagram is there. The traffic counts that receive too.
+    /// Puts the next datagram, if one is there, at the front of `buffer`. Returns the number of its
+    /// bytes there, at most the buffer's length, or `None`. Adds to the traffic what the receive
+    /// gave: these bytes, or nothing.
+    ///
+    /// A datagram that is longer than `buffer` is cut to its length.
     fn receive(&mut self, buffer: &mut [u8]) -> Option<usize>
         ensures within { IfSome result (λ count. count ≤ length buffer.new) }
         ensures given { IfSome result (λ count.

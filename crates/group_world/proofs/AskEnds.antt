@@ -1,5 +1,5 @@
 -- How a call of a node that may send ends, by the contract of the node's call.
-use Rattle.std.proofs.Common.{◌≡◌, ◌≢◌, ◌⊎◌, ◌∙◌, ◌<◌, ◌==◌, ℕ, Bool, false, if◌then◌else◌, List, [], Option, None, Some, Result, Ok, Err, IfErr, IfOk, IsErrOf, OnErr, OnOk, length, inl, inr, refl, sym, ap, subst, arith}
+use Rattle.std.proofs.Common.{◌≡◌, ◌≢◌, ◌⊎◌, ◌∙◌, ◌<◌, ℕ, Bool, false, if◌then◌else◌, List, [], Option, None, Some, Result, Ok, Err, IfErr, IfOk, IsErrOf, OnErr, OnOk, length, inl, inr, refl, sym, ap, subst, arith}
 use Rattle.std.proofs.lemmas.Bool.{both_ways, eqb-true, false_from_ne_true, lt-ltb}
 use Rattle.std.proofs.lemmas.Result.{IfOk-weaker, on_err_weaker}
 use Rattle.paxos_msg.specs.Batches.{Change, Msg, Record}
@@ -39,7 +39,7 @@ pub record Said (old new : NodeState StoreState) (made : Response) (now : List D
 
 said : {old new : NodeState StoreState} {made : Response} {now : List Datagram} {answer : Answer}
     → Does old.protocol new.protocol [] now made answer
-    → Saves (Unit {0}) (Unit {0}) (λ (s : StoreState). s) old.protocol new.protocol made answer
+    → Saves (Unit {0}) (Unit {0}) (λ s. s) old.protocol new.protocol made answer
     → new.progress ≡ old.progress → Said old new made now answer
 said does saves progress = record {
   does = does;
@@ -59,8 +59,7 @@ taken : (old : NodeState StoreState) (before : List Datagram) (answer : Answer) 
     → IsOpen old → before ≡ [] → IsLetIn old.protocol before answer
     → IfErr answer (λ f. (f ≡ fault.Stopped) ⊎ (f ≡ fault.OutboxFull) ⊎ P f) → IfErr answer P
 taken old before (Ok x) P is_open empty let_in others = tt
-taken old before (Err f) P is_open empty let_in (inl stopped) =
-    absurd (both_ways old.protocol.is_stopped is_open.works (let_in.stopped.0 (ap Err stopped)))
+taken old before (Err f) P is_open empty let_in (inl stopped) = absurd (both_ways _ is_open.works (let_in.stopped.0 (ap Err stopped)))
 taken old before (Err f) P is_open empty let_in (inr (inl full)) = absurd (omega (arith, (let_in.full.0 (ap Err full)).1, ap length empty))
 taken old before (Err f) P is_open empty let_in (inr (inr h)) = h
 
@@ -68,12 +67,16 @@ taken old before (Err f) P is_open empty let_in (inr (inr h)) = h
 works_on : {old new : NodeState StoreState} {made : Response} {now : List Datagram} (answer : Answer) → Said old new made now answer
     → IsOpen old → ¬ IsErrOf answer fault.Store → new.protocol.is_stopped ≡ false
 works_on {old} {new} answer said is_open fine =
-    false_from_ne_true new.protocol.is_stopped
-    (λ stops. neither (said.does.stops.0 stops) (both_ways old.protocol.is_stopped is_open.works) fine)
+    false_from_ne_true _ (λ stops. neither (said.does.stops.0 stops) (both_ways _ is_open.works) fine)
 
 -- the fault of a refusal is this one
 pub is_fault : {T : Type 0} {f g : NodeFault} → IsErrOf {T = T} (Err f) g → f ≡ g
 is_fault e = cc
+
+-- a call that ran out of memory is not done
+pub not_done : {f : NodeFault} {d : Done} → f ≡ fault.Memory → IsDone (Err f) d → ⊥
+not_done memory (inl fell) = absurd cc
+not_done memory (inr other) = other.1 memory
 
 -- no failure was planned for a save that succeeded
 planless : (saves : Option Change) (plan : Option Bool) → (saves ≢ None → plan ≡ None) → failing saves plan ≡ None
@@ -128,26 +131,21 @@ module _ {old new : NodeState StoreState} {made : Response} {now : List Datagram
       → IfErr answer (λ f. (f ≡ fault.Memory) ⊎ (f ≡ fault.Store)) → Settles answer (place.Up new) s d
       → EndsAt old console (outcome_at old call) d (member_of s console) now
   made_ends makes (Ok x) said others h =
-      rw (makes, planless made.saves old.protocol.store.plan said.unplanned) (record {
+      rw (makes, planless made.saves _ said.unplanned) (record {
         answer = h.done;
         left = rw (h.stays (λ e. absurd cc), said.does.ok, said.progress) refl;
         sends = said.does.sends;
         types = refl;
       })
-  made_ends makes (Err f) said (inl memory) h = elim h.done [
-    | inl fell ↦ absurd cc
-    | inr other ↦ absurd (other.1 memory)
-  ]
+  made_ends makes (Err f) said (inl memory) h = absurd (not_done memory h.done)
   made_ends {s = s} {d = d} makes (Err f) said (inr device) h = elim h.done [
     | inl fell ↦
         let fails = said.fails (ap Err device) in
-        let t =
-        told made.saves old.protocol.store.plan old.protocol.known.kept made.node.kept new.protocol.store.stored fails.0 fails.1 in
-        rw makes (subst (λ (o : Option Bool).
+        let t = told made.saves _ old.protocol.known.kept _ _ fails.0 fails.1 in
+        rw makes (subst (λ o.
         EndsAt old console (save_outcome old.protocol.known.kept made [] o) d (member_of s console) now) (sym t.1) (record {
           answer = fell.1;
-          left = ap (λ (x : Place). member_of x console) (h.fell (ap Err device))
-              ∙ ap (λ (r : Record). member_after_fall (node_at old console) r) t.2;
+          left = ap (λ x. member_of x console) (h.fell (ap Err device)) ∙ ap (λ r. member_after_fall (node_at old console) r) t.2;
           sends = said.does.unsent;
           types = refl;
         }))
@@ -163,7 +161,7 @@ module _ {old new : NodeState StoreState} {made : Response} {now : List Datagram
       | inl fell ↦ absurd (other (sym is ∙ fell.0))
       | inr refused ↦ refused.2 ∙ ap done.Refused is
     ];
-    left = ap (λ (x : Place). member_of x console) (h.stays (λ e. other (sym is ∙ is_fault e))) ∙ the_same_node said;
+    left = ap (λ x. member_of x console) (h.stays (λ e. other (sym is ∙ is_fault e))) ∙ the_same_node said;
     sends = said.does.unsent;
     types = refl;
   })
@@ -172,8 +170,7 @@ module _ {old new : NodeState StoreState} {made : Response} {now : List Datagram
   memory_ends : {s : Place} (answer : Answer) → answer ≡ Err fault.Memory → Said old new made now answer
       → (¬ IsErrOf answer fault.Store → s ≡ place.Up new) → (member_of s console ≡ node_at old console) × (now ≡ [])
   memory_ends (Ok x) memory said stays = absurd cc
-  memory_ends (Err f) memory said stays =
-      (ap (λ (x : Place). member_of x console) (stays (λ e. absurd cc)) ∙ the_same_node said, said.does.unsent)
+  memory_ends (Err f) memory said stays = (ap (λ x. member_of x console) (stays (λ e. absurd cc)) ∙ the_same_node said, said.does.unsent)
 
 -- ---- a campaign
 
@@ -202,7 +199,7 @@ full : (n : Known) → last_round n < 4294967295 → front n ≡ 65536 → call_
 full n less e = rw (lt-ltb _ _ less, e) refl
 
 goes : (n : Known) → last_round n < 4294967295 → front n ≢ 65536 → call_of_campaign n ≡ Makes (on_campaign n) []
-goes n less other = rw (lt-ltb _ _ less, false_from_ne_true (front n == 65536) (λ e. other (eqb-true (front n) 65536 e))) refl
+goes n less other = rw (lt-ltb _ _ less, false_from_ne_true _ (λ e. other (eqb-true (front n) 65536 e))) refl
 
 campaigned : {old new : NodeState StoreState} {now : List Datagram} (console : List ℕ) {s : Place} {d : Done} (answer : Answer)
     → Said old new (on_campaign old.protocol.known) now answer → Campaigns old answer
@@ -216,10 +213,7 @@ campaigned {old} console (Err f) said says (inl rounds) h =
 campaigned {old} console (Err f) said says (inr (inl places)) h =
     let full_at = says.places (ap Err places) in
     refused_ends console fault.PlacesSpent (full old.protocol.known full_at.0 full_at.1) places (λ e. absurd cc) said h
-campaigned {old} console (Err f) said says (inr (inr (inl memory))) h = elim h.done [
-  | inl fell ↦ absurd cc
-  | inr other ↦ absurd (other.1 memory)
-]
+campaigned {old} console (Err f) said says (inr (inr (inl memory))) h = absurd (not_done memory h.done)
 campaigned {old} console (Err f) said says (inr (inr (inr device))) h =
     let less = says.spare_saved (ap Err device) in
     made_ends console (goes old.protocol.known less (λ e. absurd (device_is_no_place f device (says.not_spent e less)))) (Err f) said
@@ -245,7 +239,7 @@ ticks old new now answer is_open store progress does others = record {
 }
   where
     rests : ((on_tick old.protocol.known).node.kept ≡ old.protocol.known.kept) × ((on_tick old.protocol.known).saves ≡ None)
-    rests = ticked_rests old.protocol.known old.protocol.known.proposer
+    rests = ticked_rests _ old.protocol.known.proposer
 
     same : new.protocol.store.stored ≡ old.protocol.store.stored
     same = ap (λ (s : StoreState). s.stored) store
@@ -284,9 +278,6 @@ pub told_so : (plan : Option Bool) (old new : NodeState StoreState)
     × (new.progress ≡ old.progress) → IsTold plan old new
 told_so plan old new stored is rest = record { known = rest.0; stopped = rest.1; progress = rest.2; stored = stored; plan_is = is }
 
-told_running : {plan : Option Bool} {old new : NodeState StoreState} → IsTold plan old new → running new ≡ running old
-told_running told = rw (told.known, told.progress) refl
-
 told_open : {plan : Option Bool} {old new : NodeState StoreState} → IsTold plan old new → IsOpen old → IsOpen new
 told_open told is_open =
     record {
@@ -308,8 +299,7 @@ told_member console told = rw (told.known, told.progress) refl
 pub as_member : (P : Running → Member → Type 0) (n : NodeState StoreState) (console : List ℕ) {m : Member} {q : Running}
     → node_at n console ≡ m → m.node ≡ Some q → P (running n) (node_at n console) → P q m
 as_member P n console {m} {q} is up h =
-    subst (P q) is
-    (subst (λ (r : Running). P r (node_at n console)) (the_same (ap (λ (x : Member). x.node) is ∙ up)) h)
+    subst (P q) is (subst (λ r. P r (node_at n console)) (the_same (ap (λ (x : Member). x.node) is ∙ up)) h)
 
 -- ---- a call that the node has answered
 
@@ -342,9 +332,9 @@ module _ {plan : Option Bool} {was old new : NodeState StoreState} {before now :
     (plans : IsTold plan was old) (is_open : IsOpen was) (empty : before ≡ []) (let_in : IsLetIn old.protocol before answer)
     (progress : new.progress ≡ old.progress) where
   module _ {made : Response} (does : Does old.protocol new.protocol before now made answer)
-      (saves : Saves (Unit {0}) (Unit {0}) (λ (s : StoreState). s) old.protocol new.protocol made answer) where
+      (saves : Saves (Unit {0}) (Unit {0}) (λ s. s) old.protocol new.protocol made answer) where
     says : Said old new made now answer
-    says = said (subst (λ (b : List Datagram). Does old.protocol new.protocol b now made answer) empty does) saves progress
+    says = said (subst (λ b. Does old.protocol new.protocol b now made answer) empty does) saves progress
 
   pub heard : (message : Msg)
       → Does old.protocol new.protocol before now (on_message old.protocol.known message.sender message.body) answer
@@ -354,8 +344,8 @@ module _ {plan : Option Bool} {was old new : NodeState StoreState} {before now :
       → IsAnswered plan was new console (Hear message) now answer
   heard message does saves others =
       let made = on_message old.protocol.known message.sender message.body in
-      let rest = taken old before answer (λ f. (f ≡ fault.Memory) ⊎ (f ≡ fault.Store)) (told_open plans is_open) empty let_in others in
-      answered console (Hear message) made plans is_open (says does saves)
+      let rest = taken old before answer _ (told_open plans is_open) empty let_in others in
+      answered console _ made plans is_open (says does saves)
       (λ s d settles. made_ends console refl answer (says does saves) rest settles)
 
   pub campaign_answered : Does old.protocol new.protocol before now (on_campaign old.protocol.known) answer
@@ -367,9 +357,9 @@ module _ {plan : Option Bool} {was old new : NodeState StoreState} {before now :
   campaign_answered does saves campaigns others =
       let is_open_still = told_open plans is_open in
       let rest =
-      taken old before answer (λ f. (f ≡ fault.RoundsSpent) ⊎ (f ≡ fault.PlacesSpent) ⊎ (f ≡ fault.Memory) ⊎ (f ≡ fault.Store))
+      taken old before answer _
       is_open_still empty let_in others in
-      answered console Campaign (on_campaign old.protocol.known) plans is_open (says does saves)
+      answered console Campaign _ plans is_open (says does saves)
       (λ s d settles. campaigned console answer (says does saves) (campaigns is_open_still) rest settles)
 
   pub tick_answered : Does old.protocol new.protocol before now (on_tick old.protocol.known) answer
@@ -378,12 +368,11 @@ module _ {plan : Option Bool} {was old new : NodeState StoreState} {before now :
       → IsAnswered plan was new console Tick now answer
   tick_answered does store others =
       let is_open_still = told_open plans is_open in
-      let memory = taken old before answer (λ f. f ≡ fault.Memory) is_open_still empty let_in others in
+      let memory = taken old before answer _ is_open_still empty let_in others in
       let ticked =
       ticks old new now answer is_open_still store progress
-      (subst (λ (b : List Datagram). Does old.protocol new.protocol b now (on_tick old.protocol.known) answer) empty does) memory in
-      answered console Tick (on_tick old.protocol.known) plans is_open ticked
-      (λ s d settles. made_ends console refl answer ticked (or_store answer memory) settles)
+      (subst (λ b. Does old.protocol new.protocol b now (on_tick old.protocol.known) answer) empty does) memory in
+      answered console Tick _ plans is_open ticked (λ s d settles. made_ends console refl answer ticked (or_store answer memory) settles)
 
 -- ---- the node `m` of the group, after such a call
 
@@ -394,14 +383,14 @@ module _ {plan : Option Bool} {was new : NodeState StoreState} {console : List �
       → (asked : Ask) → asked ≡ ask → (q : Running) → m.node ≡ Some q
       → IfOk r (λ d. CallEnds q.known.me m q.progress (call_outcome plan m.kept (call_of_ask q.known asked)) d (member_of s console) now [])
   asked_ends fell done asked e q up =
-      IfOk-weaker r (λ d. IsDone answer d) _
+      IfOk-weaker r _ _
       (λ d is_done. rw e (as_member (λ q m. CallEnds q.known.me m q.progress (call_outcome plan m.kept (call_of_ask q.known ask)) d
       (member_of s console) now []) answered.old console (told_member console answered.plans ∙ is) up
       (rw (← answered.plans.plan_is) (answered.ends s d (record { fell = fell; stays = stays; done = is_done }))))) done
 
   pub asked_same : OnErr r (answer ≡ Err fault.Memory) → OnErr r ((member_of s console ≡ m) × (now ≡ []))
   asked_same memory =
-      on_err_weaker r (λ (is_memory : answer ≡ Err fault.Memory).
+      on_err_weaker r (λ is_memory.
       let same = answered.same s is_memory stays in (same.0 ∙ told_member console answered.plans ∙ is, same.1)) memory
 
 -- the message of a call fits the node
@@ -410,4 +399,4 @@ pub asked_fits : {plan : Option Bool} {was old : NodeState StoreState} (console 
     → Fits old.protocol.known.me.group message
 asked_fits {plan} {was} {old} console m q asked message plans is up e fits =
     let same = the_same (ap (λ (x : Member). x.node) (told_member console plans ∙ is) ∙ up) in
-    subst (λ (r : Running). Fits r.known.me.group message) (sym same) (subst (λ (x : Ask). IsOfMember q.known x) e fits)
+    subst (λ (r : Running). Fits r.known.me.group message) (sym same) (subst (λ x. IsOfMember q.known x) e fits)

@@ -13,7 +13,7 @@ module _ (P : NodeCall → Type 0) (refused : (f : NodeFault) → P (Refuses f))
   pub press_cases : (n : Known) (byte : ℕ)
       → (length n.waiting ≢ 256 → next_serial n ≢ 4294967296 → P (Makes (on_typed n byte) (new_key n byte ∷ []))) → P (call_of_press n byte)
   press_cases n byte made = elim (cases_eq (length n.waiting) 256) [
-    | inl e ↦ rw (eq-eqb (length n.waiting) 256 e) (refused _)
+    | inl e ↦ rw (eq-eqb _ 256 e) (refused _)
     | inr ne ↦ rw (ne_eqb (length n.waiting) 256 ne) (elim (cases_eq (next_serial n) 4294967296) [
       | inl e ↦ rw (eq-eqb (next_serial n) 4294967296 e) (refused _)
       | inr other ↦ rw (ne_eqb (next_serial n) 4294967296 other) (made ne other)
@@ -22,8 +22,8 @@ module _ (P : NodeCall → Type 0) (refused : (f : NodeFault) → P (Refuses f))
 
   pub campaign_cases : (n : Known) → (last_round n < 4294967295 → front n ≢ 65536 → P (Makes (on_campaign n) [])) → P (call_of_campaign n)
   campaign_cases n made = elim (cases_lt (last_round n) 4294967295) [
-    | inr high ↦ rw (le-ltb (last_round n) 4294967295 high) (refused _)
-    | inl low ↦ rw (lt-ltb (last_round n) 4294967295 low) (elim (cases_eq (front n) 65536) [
+    | inr high ↦ rw (le-ltb _ 4294967295 high) (refused _)
+    | inl low ↦ rw (lt-ltb _ 4294967295 low) (elim (cases_eq (front n) 65536) [
       | inl e ↦ rw (eq-eqb (front n) 65536 e) (refused _)
       | inr other ↦ rw (ne_eqb (front n) 65536 other) (made low other)
     ])

@@ -56,48 +56,50 @@ unfolding all_go LeadsIn after_steps
 leads_by p x zero h = refl
 leads_by p x (suc n) h =
     let both = and_parts (all_go p x n) (is_step (outcome p x (after_steps p x n))) h in
-    (after_steps p x n, leads_by p x n both.0, goes_by p x (after_steps p x n) (outcome p x (after_steps p x n)) both.1 refl)
-
-ten_steps : (x : List ℕ) → all_go writes_a x 10 ≡ true
-unfolding all_go is_step after_steps instr_of
-ten_steps x = refl
-
-one_byte : (x : List ℕ) → out writes_a x 10 ≡ 65 ∷ []
-unfolding out after_steps instr_of
-one_byte x = refl
+    (after_steps p x n, leads_by p x n both.0, goes_by p x _ _ both.1 refl)
 
 -- ---- its runs
-
-abbrev ten : Progress
-ten = record { program = writes_a; steps = 10; released = 0 }
 
 -- output grows with the steps
 pub record StepsLaw : Type 0 where
   pub steps : (p : Parts) (x : List ℕ) (m n : ℕ) → m ≤ n → IsPrefix (out p x m) (out p x n)
 
-pub prefix_short : (a b : List ℕ) → IsPrefix a b → length a ≤ length b
+prefix_short : (a b : List ℕ) → IsPrefix a b → length a ≤ length b
 prefix_short a b h = rw (h.whole) (omega (arith, length-append a h.rest))
 
-ten_waits : (x : List ℕ) → unreleased_of x ten ≡ 65 ∷ []
-ten_waits x = ap (drop 0) (one_byte x)
+-- a program that takes ten steps on an input and then has written the letter A
+pub record WritesLetter (p : Parts) (x : List ℕ) : Type 0 where
+  pub goes : all_go p x 10 ≡ true
+  pub writes : out p x 10 ≡ 65 ∷ []
 
-ten_replay : (x : List ℕ) → IsReplay x ten
-ten_replay x = record {
-  made = leads_by writes_a x 10 (ten_steps x);
-  released = omega arith;
-  few = rw (ten_waits x) (omega arith);
-}
+-- its progress after them
+abbrev pub ten_of : Parts → Progress
+ten_of p = record { program = p; steps = 10; released = 0 }
 
-ten_runs : StepsLaw → (x : List ℕ) → RunsOn x 10 (no_progress writes_a) ten more.More
-ten_runs laws x = record {
-  rest = refl;
-  more = omega arith;
-  room = λ n low high.
-      let short = prefix_short (out writes_a x n) (out writes_a x 10) (laws.steps writes_a x n 10 (omega arith)) in
-      let one : length (out writes_a x 10) ≡ 1 = ap length (one_byte x) in
-      omega (arith, short, one);
-  over = refl;
-}
+module _ {p : Parts} {x : List ℕ} (h : WritesLetter p x) where
+  pub waits : unreleased_of x (ten_of p) ≡ 65 ∷ []
+  waits = ap (drop 0) h.writes
+
+  pub replays : IsReplay x (ten_of p)
+  replays = record { made = leads_by p x 10 h.goes; released = omega arith; few = rw waits (omega arith) }
+
+  pub runs : StepsLaw → RunsOn x 10 (no_progress p) (ten_of p) more.More
+  runs laws = record {
+    rest = refl;
+    more = omega arith;
+    room = λ n low high.
+        let short = prefix_short _ _ (laws.steps p x n 10 (omega arith)) in
+        let single = ap length h.writes in
+        omega (arith, short, single);
+    over = refl;
+  }
+
+writes_letter : (x : List ℕ) → WritesLetter writes_a x
+unfolding all_go is_step out after_steps instr_of
+writes_letter x = record { goes = refl; writes = refl }
+
+abbrev ten : Progress
+ten = ten_of writes_a
 
 -- ---- one node starts, runs and releases the letter
 
@@ -133,46 +135,42 @@ module _ (group : Group) (i : ℕ) where
   after_it members = slice_set (slice_set (slice_set members (i - 1) up) (i - 1) ran) (i - 1) shown
 
   shown_letter : shown.console ≡ 65 ∷ []
-  shown_letter =
-      ap (λ (bytes : List ℕ). (member_after_release ran (running ten) (slice_get bytes 0)).console)
-      (ten_waits (input (running ten).known))
+  shown_letter = ap (λ bytes. (member_after_release ran (running ten) (slice_get bytes 0)).console) (waits (writes_letter _))
 
   happens_there : StepsLaw → (members : List Member) → member_at members i ≡ Some first
       → LeadsBy (world group members) (shows i) (world group (after_it members))
   happens_there laws members there =
-      let once : member_at (slice_set members (i - 1) up) i ≡ Some up = changed_here members i first up there in
-      let twice : member_at (slice_set (slice_set members (i - 1) up) (i - 1) ran) i ≡ Some ran =
-      changed_here (slice_set members (i - 1) up) i up ran once in
+      let once = changed_here members i first up there in
+      let twice = changed_here _ i up ran once in
       let third : LeadsBy (world group (slice_set (slice_set members (i - 1) up) (i - 1) ran))
       ((record { act = act.Release i; save = Kept }) ∷ []) (world group (after_it members)) =
-      (world group (after_it members), Applied, (ran, running ten, record { there = twice; up = refl }, refl, refl), refl) in
+      (world group _, Applied, (ran, running ten, record { there = twice; up = refl }, refl, refl), refl) in
       let second : LeadsBy (world group (slice_set members (i - 1) up))
       ((record { act = act.Run i 10; save = Kept }) ∷ (record { act = act.Release i; save = Kept }) ∷ [])
       (world group (after_it members)) = (
-        world group (slice_set (slice_set members (i - 1) up) (i - 1) ran),
+        world group _,
         Applied,
         (
           up,
-          running (no_progress writes_a),
+          running _,
           ten,
           more.More,
           record { there = once; up = refl },
-          ten_runs laws
-              (input (running ten).known),
-          ten_replay (input (running ten).known),
+          runs (writes_letter (input (running ten).known)) laws,
+          replays (writes_letter _),
           refl,
           refl,
         ),
         third,
       ) in
-      (world group (slice_set members (i - 1) up), Applied, (first, record { there = there; down = refl }, (refl, refl)), second)
+      (world group _, Applied, (first, record { there = there; down = refl }, (refl, refl)), second)
 
 -- a list of events after another
 happens_then : (w : World) (events more : List Event) (v u : World) → LeadsBy w events v → LeadsBy v more u → LeadsBy w (events ++ more) u
-happens_then w [] more v u h g = subst (λ (x : World). LeadsBy x more u) h g
+happens_then w [] more v u h g = subst (λ x. LeadsBy x more u) h g
 happens_then w (e ∷ events) more v u (mid, d, goes, rest) g = (mid, d, goes, happens_then mid events more v u rest g)
 
--- a group of three, two of which show the letter
+-- a group of three, in which two show the letter
 abbrev three : Group
 three = record { size = 3; session = 0 }
 
@@ -188,9 +186,7 @@ bytes_are_possible laws = (
   both_shown,
   record { odd = refl; few = omega arith },
   omega arith,
-  happens_then (new_world writes_a three) (shows 1) (shows 2) (world three (after_it three 1 (first ∷ first ∷ first ∷ []))) both_shown
-      (happens_there three 1 laws (first ∷ first ∷ first ∷ []) refl)
-      (happens_there three 2 laws (after_it three 1 (first ∷ first ∷ first ∷ [])) refl),
+  happens_then _ (shows 1) (shows 2) _ both_shown (happens_there three 1 laws _ refl) (happens_there three 2 laws _ refl),
   shown_letter three 1,
   shown_letter three 2,
 )

@@ -1,4 +1,4 @@
--- What each event leaves of a group, by what it leaves of its node.
+-- A group after each event, by its node after it.
 use Rattle.std.proofs.Common.{◌≡◌, ◌∙◌, ℕ, zero, suc, ◌-◌, ◌<◌, nat_lt, All, Bool, true, false, if◌then◌else◌, List, [], ◌∷◌, ◌++◌, get_or, length, slice_get, slice_set, is_some, Option, None, Some, Result, Ok, Err, IfOk, OnErr, OnOk, inr, refl, sym, ap, subst, arith}
 use Rattle.std.specs.List.{cons_option}
 use Rattle.std.proofs.lemmas.Bool.{ltb-true}
@@ -20,9 +20,9 @@ use Rattle.group_world.specs.declared.event.Act.TheVariants as act
 use Rattle.group_world.specs.declared.event.Done.{Done}
 use Rattle.group_world.specs.declared.event.Done.TheVariants.{Applied}
 use Rattle.group_world.specs.declared.fault.WorldFault.{WorldFault}
-use Rattle.group_world.specs.declared.fault.WorldFault.TheVariants.{NoMessage, NoNode, NodeDown, NodeUp}
+use Rattle.group_world.specs.declared.fault.WorldFault.TheVariants.{NoMessage, NoNode, NodeDown}
 use Rattle.group_world.specs.Event.{Goes, Leaves, Performs, node_of}
-use Rattle.group_world.specs.Group.{HasUp, IsDown, IsUp, group_after, me_of, member_at, message_of, messages_in, World}
+use Rattle.group_world.specs.Group.{HasUp, IsUp, group_after, me_of, member_at, message_of, messages_in, World}
 use Rattle.group_world.specs.Member.{NodeCall, call_outcome, CallOutcome, CallEnds, FailsByMemory, Fell, Happened, Member, Refused, Running, RunsMember, member_after, member_after_release, sent_by, typed_by}
 use Rattle.group_world.specs.Refusals.{Applies, refusal, refusal_at, refusal_of, unless_up}
 use Rattle.group_world.specs.Sound.{IsSound, IsSpelling}
@@ -41,8 +41,8 @@ is_at members (suc k) m e =
     let same : k ≡ suc k - 1 = omega arith in
     record {
       above = omega arith;
-      within = subst (λ (j : ℕ). j < length members) same (slice_get_within members k m e);
-      there = subst (λ (j : ℕ). slice_get members j ≡ Some m) same e;
+      within = subst (λ j. j < length members) same (slice_get_within members k m e);
+      there = subst (λ j. slice_get members j ≡ Some m) same e;
     }
 
 -- an element that is put where it was
@@ -117,8 +117,7 @@ module _ {w was : World} (is : w ≡ was) {i place : ℕ} {m lent : Member} (len
       → Leaves was i m progress plan (call (me_of was i) m.kept) d (parts w (slice_set w.members place new) sent typed)
   leaves {new} {me} {progress} {d} {packets} {keys = keys} plan call me_is sends types ends =
       let o = call_outcome plan m.kept (call (me_of was i) m.kept) in
-      let ends_so : CallEnds (me_of was i) m progress o d new packets keys =
-      subst (λ (x : Me). CallEnds x m progress (call_outcome plan m.kept (call x m.kept)) d new packets keys) me_is
+      let ends_so = subst (λ x. CallEnds x m progress (call_outcome plan m.kept (call x m.kept)) d new packets keys) me_is
       (subst (λ (x : Member). CallEnds me x progress (call_outcome plan x.kept (call me x.kept)) d new packets keys) lends.is ends) in
       (ends_so.answer, left_so packets keys new sends types ∙ by o ends_so.left ends_so.sends ends_so.types)
     where
@@ -140,7 +139,7 @@ module _ {w was : World} (is : w ≡ was) {i place : ℕ} {m lent : Member} (len
   pub runs_so : {new : Member} {q : Running} {steps : ℕ} (plan : Option Bool) → IsUp was i m q → RunsMember lent q steps new
       → Performs was plan (act.Run i steps) Applied (parts w (slice_set w.members place new) w.sent w.typed)
   runs_so {new} {q} {steps} plan up h =
-      let k : RunsMember m q steps new = rw lends.is at h in
+      let k = rw lends.is at h in
       (m, q, k.progress, k.ran, up, k.runs, k.replay, refl, rw (lends.at, is, k.new_is) refl)
 
   pub releases_so : {new : Member} {q : Running} {d : Done} (plan : Option Bool) → IsUp was i m q
@@ -173,12 +172,12 @@ at_number : (group : Group) (sent : List Datagram) (k : ℕ) (x : Datagram) → 
 at_number group [] k x all less e = absurd (omega (arith, less))
 at_number group (y ∷ ys) zero x all less e =
     let first = All-head (IsSpelling group) y ys all in
-    let s : IsSpelling group x = subst (IsSpelling group) (sym e) first in
-    (s, ap (λ (o : Option Msg). slice_get (cons_option o (messages_in group ys)) 0) (ap (message_of group) (sym e) ∙ s.read))
+    let s = subst (IsSpelling group) (sym e) first in
+    (s, ap (λ o. slice_get (cons_option o (messages_in group ys)) 0) (ap (message_of group) (sym e) ∙ s.read))
 at_number group (y ∷ ys) (suc k) x all less e =
     let first = All-head (IsSpelling group) y ys all in
     let rest = at_number group ys k x (All-tail (IsSpelling group) y ys all) (omega (arith, less)) e in
-    (rest.0, ap (λ (o : Option Msg). slice_get (cons_option o (messages_in group ys)) (suc k)) first.read ∙ rest.1)
+    (rest.0, ap (λ o. slice_get (cons_option o (messages_in group ys)) (suc k)) first.read ∙ rest.1)
 
 -- a delivered message fits its node, and has its datagram's number
 pub delivered : {w was : World} {k : ℕ} {x : Datagram} {bytes : List ℕ} {view : Msg} → w ≡ was → IsSound was → k < length was.sent
@@ -187,7 +186,7 @@ pub delivered : {w was : World} {k : ℕ} {x : Datagram} {bytes : List ℕ} {vie
     → Fits was.group view × (slice_get (messages_in was.group was.sent) k ≡ Some view)
 delivered {was = was} {k} {x} {view = view} is sound less number same only =
     let at = at_number was.group was.sent k x sound.spelled less (rw is at number) in
-    let read : at.0.message ≡ view = the_message (only at.0.message (rw (is, same) at.0.spells)) in
+    let read = the_message (only at.0.message (rw (is, same) at.0.spells)) in
     (subst (Fits was.group) read at.0.spells.fits, at.1 ∙ ap Some read)
   where
     the_message : {a b : Msg} → ◌≡◌ {A = Result Msg WireFault} (Ok a) (Ok b) → a ≡ b
@@ -212,8 +211,8 @@ up_by m (Some q) e none = (q, e)
 pub found_up : (w : World) {said act : Act} → act ≡ said → ((m : Member) → refusal_at w said m ≡ unless_up m)
     → None ≡ refusal w act → HasUp w (node_of said)
 found_up w {said} is at none =
-    let taken : refusal w said ≡ None = sym (subst (λ (x : Act). None ≡ refusal w x) is none) in
-    let there = found_at w (node_of said) (member_at w.members (node_of said)) (refusal_of w said) refl refl taken in
+    let taken = sym (subst (λ x. None ≡ refusal w x) is none) in
+    let there = found_at w _ _ (refusal_of w said) refl refl taken in
     let up = up_by there.0 there.0.node refl (sym (at there.0) ∙ there.2) in
     (there.0, up.0, record { there = there.1; up = up.1 })
 
@@ -224,19 +223,8 @@ sent_when false o none = absurd cc
 -- a delivery
 pub found_sent : (w : World) {k i : ℕ} {a : Act} → a ≡ act.Deliver k i → None ≡ refusal w a → (k < length w.sent) × HasUp w i
 found_sent w {k} {i} is none =
-    let taken : refusal w (act.Deliver k i) ≡ None = sym (subst (λ (x : Act). None ≡ refusal w x) is none) in
-    let there = found_at w i (member_at w.members i) (refusal_of w (act.Deliver k i)) refl refl taken in
-    let sent = sent_when (nat_lt k (length w.sent)) (unless_up there.0) there.2 in
+    let taken = sym (subst (λ x. None ≡ refusal w x) is none) in
+    let there = found_at w i _ (refusal_of w (act.Deliver k i)) refl refl taken in
+    let sent = sent_when (nat_lt k (length w.sent)) _ there.2 in
     let up = up_by there.0 there.0.node refl sent.1 in
-    (ltb-true k (length w.sent) sent.0, (there.0, up.0, record { there = there.1; up = up.1 }))
-
-down_by : (m : Member) (o : Option Running) → m.node ≡ o
-    → ◌≡◌ {A = Option WorldFault} (if is_some o then Some NodeUp else None) None → m.node ≡ None
-down_by m None e none = e
-down_by m (Some q) e none = absurd cc
-
--- a start
-pub found_down : (w : World) (i : ℕ) → refusal w (act.Start i) ≡ None → (m : Member) × IsDown w i m
-found_down w i none =
-    let there = found_at w i (member_at w.members i) (refusal_of w (act.Start i)) refl refl none in
-    (there.0, record { there = there.1; down = down_by there.0 there.0.node refl there.2 })
+    (ltb-true k _ sent.0, (there.0, up.0, record { there = there.1; up = up.1 }))

@@ -10,11 +10,10 @@ use Rattle.group_world.specs.declared.event.Act.{Act}
 use Rattle.group_world.specs.declared.event.Done.{Done}
 use Rattle.group_world.specs.declared.event.Event.{Event}
 use Rattle.group_world.specs.declared.fault.WorldFault.{WorldFault}
-use Rattle.group_world.specs.Event.{Goes, LeadsBy, Performs, plan_of}
+use Rattle.group_world.specs.Event.{Goes, LeadsBy, Performs}
 use Rattle.group_world.specs.Group.{new_world, World}
-use Rattle.group_world.specs.Ordered.{Holds}
+use Rattle.group_world.specs.Ordered.{Holds, IsOrdered}
 use Rattle.group_world.specs.Refusals.{IsFirstRefused, IsRefused}
-use Rattle.group_world.specs.Ordered.{IsOrdered}
 use Rattle.group_world.specs.Sound.{IsSound}
 
 -- the laws of one event
@@ -30,30 +29,28 @@ pub happens_holds : EventLaws → (w : World) (events : List Event) (v : World) 
     → LeadsBy w events v → Holds v
 happens_holds laws w [] v h e = subst Holds (sym e) h
 happens_holds laws w (e ∷ events) v h (mid, d, goes, rest) =
-    let sound = laws.sound w mid (plan_of e.save) e.act d h.sound goes in
-    happens_holds laws mid events v
-    (record { sound = sound; ordered = laws.ordered w mid (plan_of e.save) e.act d h.sound sound h.ordered goes })
+    let sound = laws.sound w mid _ e.act d h.sound goes in
+    happens_holds laws mid events v (record { sound = sound; ordered = laws.ordered w mid _ e.act d h.sound sound h.ordered goes })
     rest
 
 -- so it holds of each world to which events lead from the one in which nothing has happened
 pub always_holds : EventLaws → (p : Parts) (group : Group) (events : List Event) (w : World) → IsSize group.size
     → IsGroup group → LeadsBy (new_world p group) events w → Holds w
 always_holds laws p group events w size session happens =
-    happens_holds laws (new_world p group) events w
-    (record { sound = laws.sound_first p group size session; ordered = laws.ordered_first p group }) happens
+    happens_holds laws _ events w (record { sound = laws.sound_first p group size session; ordered = laws.ordered_first p group }) happens
 
 -- An event that happens, or else changes nothing, keeps what holds.
 pub event_holds : EventLaws → (w v : World) (e : Event) (answer : Result Done WorldFault) → Holds w
     → IfOk answer (λ d. Goes w e d v) → OnErr answer (v ≡ w) → Holds v
 event_holds laws w v e (Ok d) h goes same =
-    let sound = laws.sound w v (plan_of e.save) e.act d h.sound goes in
-    record { sound = sound; ordered = laws.ordered w v (plan_of e.save) e.act d h.sound sound h.ordered goes }
+    let sound = laws.sound w v _ e.act d h.sound goes in
+    record { sound = sound; ordered = laws.ordered w v _ e.act d h.sound sound h.ordered goes }
 event_holds laws w v e (Err f) h goes same = subst Holds (sym same) h
 
 -- a list of events with one more at its end
 pub happens_more : (w : World) (events : List Event) (v : World) (e : Event) (d : Done) (u : World) → LeadsBy w events v
     → Goes v e d u → LeadsBy w (events ++ e ∷ []) u
-happens_more w [] v e d u h goes = (u, d, subst (λ (x : World). Goes x e d u) h goes, refl)
+happens_more w [] v e d u h goes = (u, d, subst (λ x. Goes x e d u) h goes, refl)
 happens_more w (x ∷ events) v e d u (mid, before, first, rest) goes = (mid, before, first, happens_more mid events v e d u rest goes)
 
 -- the first events of a list, and the next one
@@ -61,13 +58,12 @@ pub happens_next : (w : World) (events : List Event) (v : World) (i : ℕ) (defa
     → i < length events → LeadsBy w (take i events) v → Goes v (get_or events i default) d u
     → LeadsBy w (take (i + 1) events) u
 happens_next w events v i default d u less h goes =
-    subst (λ (some : List Event). LeadsBy w some u) (sym (take_more events i default less))
-    (happens_more w (take i events) v (get_or events i default) d u h goes)
+    subst (λ some. LeadsBy w some u) (sym (take_more events i default less)) (happens_more w _ v _ d u h goes)
 
 -- all events of the list
 pub happens_all : (w : World) (events : List Event) (v : World) (n : ℕ) → length events ≤ n
     → LeadsBy w (take n events) v → LeadsBy w events v
-happens_all w events v n all h = subst (λ (some : List Event). LeadsBy w some v) (take_all n events all) h
+happens_all w events v n all h = subst (λ some. LeadsBy w some v) (take_all n events all) h
 
 -- the first event that is refused, after those that happened
 pub first_refused : (w : World) (events : List Event) (v : World) (i : ℕ) (default : Event)

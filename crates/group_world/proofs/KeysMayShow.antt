@@ -1,11 +1,10 @@
 -- The events of the witness lead to a world in which the key is learned and shown, for the law
 -- `keys_may_show`.
-use Rattle.std.proofs.Common.{◌≡◌, ◌∙◌, ℕ, Bool, true, false, List, [], ◌∷◌, ◌++◌, drop, take, length, slice_get, Option, None, Some, refl, sym, ap, subst, arith}
+use Rattle.std.proofs.Common.{◌≡◌, ◌∙◌, ℕ, false, List, [], ◌∷◌, ◌++◌, drop, take, slice_get, Option, None, Some, refl, sym, ap, subst, arith}
 use Rattle.std.proofs.lemmas.List.{map-append}
 use Rattle.pcode_ops.specs.Decoding.{instr_of}
 use Rattle.pcode_machine.specs.Runs.{after_steps, out}
 use Rattle.paxos_msg.specs.declared.message.Body.TheVariants.{Accept, Accepted, Ask, Prepare, Promise, Submit}
-use Rattle.paxos_msg.specs.declared.record.Change.TheVariants as change
 use Rattle.paxos_msg.specs.declared.value.Value.{Value}
 use Rattle.paxos_msg.specs.Batches.{Body, Change, Msg, Record}
 use Rattle.paxos_msg.specs.Fits.{IsValue}
@@ -18,19 +17,18 @@ use Rattle.std.specs.FinMap.{empty}
 use Rattle.group_node.specs.declared.player.Ran.TheVariants as more
 use Rattle.group_node.specs.Protocol.{on_message}
 use Rattle.group_node.specs.Known.{Response, Known}
-use Rattle.group_node.specs.Tick.{on_tick}
 use Rattle.group_node.specs.Output.{IsReplay, Progress, RunsOn, no_progress, unreleased_of}
-use Rattle.group_node.specs.Packets.{Datagram, Packet, datagram_of, datagrams_of, to_all, to_one}
+use Rattle.group_node.specs.Packets.{Packet, datagrams_of, to_all, to_one}
 use Rattle.group_node.specs.States.{input}
 use Rattle.group_node.specs.Steps.{messages_handed_out}
 use Rattle.group_world.specs.declared.event.Act.TheVariants as act
 use Rattle.group_world.specs.declared.event.Done.TheVariants.{Applied, Fell}
 use Rattle.group_world.specs.Event.{LeadsBy, Leaves, LeavesBy, Performs}
 use Rattle.group_world.specs.Group.{IsUp, messages_in, new_world, up_of, with_member, World, world_state}
-use Rattle.group_world.specs.Member.{NodeCall, call_of_campaign, failing, Makes, Member, call_of_press, member_after_release, Running, save_outcome}
+use Rattle.group_world.specs.Member.{NodeCall, failing, Makes, Member, member_after_release, Running, save_outcome}
 use Rattle.group_world.specs.Headline.{HasLearned}
 use Rattle.group_world.specs.Witness.{echoes, letter, letter_batch, one, shown_events}
-use Rattle.group_world.proofs.ConsolesMayShow.{StepsLaw, all_go, is_step, leads_by, prefix_short}
+use Rattle.group_world.proofs.ConsolesMayShow.{StepsLaw, WritesLetter, all_go, is_step, replays, runs, ten_of, waits}
 use Rattle.group_world.proofs.OrderExample.{EachOf, ballot, message}
 use Rattle.group_world.proofs.OrderReadable.{ExampleLaws, IsReadable, all_read, are_bytes, ballot_fits, me, node_fits}
 use Rattle.group_world.proofs.KeysMayShowCalls.{asking, campaigns, hears_accept, hears_accepted, hears_prepare, hears_promise, hears_submit, holding, input_is, knowing, leading, offering, presses, ticks, up, voting}
@@ -44,22 +42,14 @@ abbrev running : Known → Progress → Running
 running n progress = record { known = n; progress = progress }
 
 abbrev member : Known → Progress → List ℕ → Member
-member n progress console =
-    record { kept = n.kept; console = console; node = Some (running n progress) }
+member n progress console = record { kept = n.kept; console = console; node = Some (running n progress) }
 
 abbrev stopped : Record → Member
 stopped r = record { kept = r; console = []; node = None }
 
 abbrev world : Member → List Packet → List Value → World
 world m packets typed =
-    record {
-      program = echoes;
-      group = one;
-      members = m ∷ [];
-      sent =
-          datagrams_of me packets;
-      typed = typed;
-    }
+    record { program = echoes; group = one; members = m ∷ []; sent = datagrams_of me packets; typed = typed }
 
 -- ---- a call whose save, if it makes one, is kept
 
@@ -77,16 +67,15 @@ module _ (n : Known) (made : Response) (packets : List Packet) (typed keys : Lis
   leaves : (call : NodeCall) → call ≡ Makes made keys
       → Leaves before 1 (member n start []) start None call Applied next
   leaves call e =
-      let sent = map-append (datagram_of me) packets made.sends in
-      subst (λ (c : NodeCall). Leaves before 1 (member n start []) start None c Applied next) (sym e)
-      (subst (λ (o : Option Bool).
+      let sent = map-append _ packets made.sends in
+      subst (λ c. Leaves before 1 (member n start []) start None c Applied next) (sym e)
+      (subst (λ o.
       LeavesBy before 1 (member n start []) start (save_outcome (member n start []).kept made keys o) Applied next)
       (sym (not_failing made.saves))
-      (refl, ap (λ (all : List Datagram). record next { sent = all }) sent))
+      (refl, ap (λ all. record next { sent = all }) sent))
 
 up_here : (n : Known) (progress : Progress) (packets : List Packet) (typed : List Value)
-    → IsUp (world (member n progress []) packets typed) 1 (member n progress [])
-    (running n progress)
+    → IsUp (world (member n progress []) packets typed) 1 (member n progress []) (running n progress)
 up_here n progress packets typed = record { there = refl; up = refl }
 
 -- ---- what it sends is read again
@@ -99,7 +88,7 @@ letter_fits = (
 )
 
 letter_own : AreOwnKeys batches 1 letter_batch
-letter_own = record { has_key = λ e. absurd (cc); at_node = own }
+letter_own = record { has_key = λ e. absurd cc; at_node = own }
   where
     own : (k : Key) → Contains (letter ∷ []) k → k.node ≡ 1
     own k among = sym (ap (λ (x : Key). x.node) (only_in letter k among))
@@ -138,65 +127,32 @@ ask_read : IsReadable ask
 ask_read = record { fits = (node_fits, omega arith); bytes = refl }
 
 accept_read : IsReadable accept
-accept_read = record {
-  fits = (node_fits, (ballot_fits, refl, omega arith, letter_fits));
-  bytes =
-      refl;
-}
+accept_read = record { fits = (node_fits, (ballot_fits, refl, omega arith, letter_fits)); bytes = refl }
 
 accepted_read : IsReadable accepted
-accepted_read = record
-    { fits = (node_fits, (ballot_fits, omega arith, letter_fits)); bytes = refl }
+accepted_read = record { fits = (node_fits, (ballot_fits, omega arith, letter_fits)); bytes = refl }
 
 module _ (laws : ExampleLaws) where
   read_at : (ps : List Packet) (k : ℕ) (m : Msg) → EachOf IsReadable ps
       → slice_get (messages_handed_out 1 ps) k ≡ Some m
       → slice_get (messages_in one (datagrams_of me ps)) k ≡ Some m
-  read_at ps k m each e = ap (λ (sent : List Msg). slice_get sent k) (all_read laws ps each) ∙ e
+  read_at ps k m each e = ap (λ sent. slice_get sent k) (all_read laws ps each) ∙ e
 
 -- ---- its machine
 
 abbrev line : List ℕ
 line = 65 ∷ []
 
-ten_steps : all_go echoes line 10 ≡ true
-unfolding all_go is_step after_steps instr_of
-ten_steps = refl
-
-one_byte : out echoes line 10 ≡ 65 ∷ []
-unfolding out after_steps instr_of
-one_byte = refl
+writes_letter : WritesLetter echoes line
+unfolding all_go is_step out after_steps instr_of
+writes_letter = record { goes = refl; writes = refl }
 
 abbrev ten : Progress
-ten = record { program = echoes; steps = 10; released = 0 }
-
-waits : unreleased_of line ten ≡ 65 ∷ []
-waits = ap (drop 0) one_byte
-
-replays : IsReplay line ten
-replays = record {
-  made = leads_by echoes line 10 ten_steps;
-  released = omega arith;
-  few =
-      rw waits (omega arith);
-}
-
-runs : StepsLaw → RunsOn line 10 start ten more.More
-runs laws = record {
-  rest = refl;
-  more = omega arith;
-  room = λ n low high.
-      let short = prefix_short (out echoes line n) (out echoes line 10)
-      (laws.steps echoes line n 10 (omega arith)) in
-      let single : length (out echoes line 10) ≡ 1 = ap length one_byte in
-      omega (arith, short, single);
-  over = refl;
-}
+ten = ten_of echoes
 
 -- the byte that waits on the learned input
 next_byte : slice_get (unreleased_of (input knowing) ten) 0 ≡ Some 65
-next_byte = ap (λ (x : List ℕ). slice_get (unreleased_of x ten) 0) input_is
-    ∙ ap (λ (bytes : List ℕ). slice_get bytes 0) waits
+next_byte = ap (λ x. slice_get (unreleased_of x ten) 0) input_is ∙ ap (λ bytes. slice_get bytes 0) (waits writes_letter)
 
 -- ---- its events
 
@@ -226,15 +182,14 @@ module _ (laws : ExampleLaws) (steps : StepsLaw) where
   delivers : (n : Known) (made : Response) (ps : List Packet) (typed : List Value) (k : ℕ)
       (body : Body) → EachOf IsReadable ps
       → slice_get (messages_handed_out 1 ps) k ≡ Some (message body) → on_message n 1 body ≡ made
-      → Performs (world (member n start []) ps typed) None (act.Deliver k 1) Applied
-      (next n made ps typed [])
+      → Performs (world (member n start []) ps typed) None (act.Deliver k 1) Applied (next n made ps typed [])
   delivers n made ps typed k body each at e = (
     member n start [],
     running n start,
     message body,
     up_here n start ps typed,
     read_at laws ps k (message body) each at,
-    leaves n made ps typed [] (Makes (on_message n 1 body) []) (ap (λ (x : Response). Makes x []) e),
+    leaves n made ps typed [] (Makes _ []) (ap (λ x. Makes x []) e),
   )
 
   two_read : EachOf IsReadable (part 2)
@@ -247,10 +202,7 @@ module _ (laws : ExampleLaws) (steps : StepsLaw) where
   five_read = (prepare_read, (promise_read, (submit_read, (ask_read, (accept_read, tt)))))
 
   all_six_read : EachOf IsReadable all
-  all_six_read = (
-    prepare_read,
-    (promise_read, (submit_read, (ask_read, (accept_read, (accepted_read, tt))))),
-  )
+  all_six_read = (prepare_read, (promise_read, (submit_read, (ask_read, (accept_read, (accepted_read, tt))))))
 
   abbrev at : Known → ℕ → List Value → World
   at n k typed = world (member n start []) (part k) typed
@@ -262,7 +214,7 @@ module _ (laws : ExampleLaws) (steps : StepsLaw) where
     running knowing ten,
     up_here knowing ten all keys,
     refl,
-    ap (λ (o : Option ℕ).
+    ap (λ o.
         with_member (world (member knowing ten []) all keys) 1
         (member_after_release (member knowing ten []) (running knowing ten) o)) (sym next_byte),
   )
@@ -276,37 +228,28 @@ module _ (laws : ExampleLaws) (steps : StepsLaw) where
     ten,
     more.More,
     up_here knowing start all keys,
-    subst (λ (x : List ℕ). RunsOn x 10 start ten more.More) (sym input_is) (runs steps),
-    subst (λ (x : List ℕ). IsReplay x ten) (sym input_is) replays,
+    subst (λ x. RunsOn x 10 start ten more.More) (sym input_is) (runs writes_letter steps),
+    subst (λ x. IsReplay x ten) (sym input_is) (replays writes_letter),
     refl,
     refl,
   )
 
   -- the key is learned, voted for, proposed and submitted
   e12 : Performs (at voting 6 keys) None (act.Deliver 5 1) Applied (at knowing 6 keys)
-  e12 = delivers voting (record { node = knowing; saves = None; sends = [] }) (part 6) keys 5
-      (Accepted ballot 0 letter_batch) all_six_read refl hears_accepted
+  e12 = delivers voting _ (part 6) keys 5 (Accepted ballot 0 letter_batch) all_six_read refl hears_accepted
 
   e11 : Performs (at offering 5 keys) None (act.Deliver 4 1) Applied (at voting 6 keys)
-  e11 = delivers offering
-      (record {
-        node = voting;
-        saves = Some (change.Ballotted 0 ballot letter_batch);
-        sends =
-            accepted ∷ [];
-      }) (part 5) keys 4 (Accept ballot 0 letter_batch) five_read refl hears_accept
+  e11 = delivers offering _ (part 5) keys 4 _ five_read refl hears_accept
 
   e10 : Performs (at holding 4 keys) None (act.Deliver 2 1) Applied (at offering 5 keys)
-  e10 = delivers holding (record { node = offering; saves = None; sends = accept ∷ [] }) (part 4)
-      keys 2 (Submit letter_batch) four_read refl hears_submit
+  e10 = delivers holding _ (part 4) keys 2 _ four_read refl hears_submit
 
   e9 : Performs (at holding 2 keys) None (act.Tick 1) Applied (at holding 4 keys)
   e9 = (
     member holding start [],
     running holding start,
     up_here holding start (part 2) keys,
-    leaves holding (record { node = holding; saves = None; sends = submit ∷ ask ∷ [] }) (part 2)
-        keys [] (Makes (on_tick holding) []) (ap (λ (x : Response). Makes x []) ticks),
+    leaves holding _ (part 2) keys [] (Makes _ []) (ap (λ x. Makes x []) ticks),
   )
 
   -- the key is typed
@@ -316,31 +259,18 @@ module _ (laws : ExampleLaws) (steps : StepsLaw) where
     running leading start,
     up_here leading start (part 2) [],
     omega arith,
-    leaves leading (record { node = holding; saves = None; sends = [] }) (part 2) [] keys
-        (call_of_press leading 65) presses,
+    leaves leading _ (part 2) [] keys _ presses,
   )
 
   -- the node leads
   e7 : Performs (at asking 2 []) None (act.Deliver 1 1) Applied (at leading 2 [])
-  e7 = delivers asking (record { node = leading; saves = None; sends = [] }) (part 2) [] 1
-      (Promise ballot 0 65536 []) two_read refl hears_promise
+  e7 = delivers asking _ (part 2) [] 1 (Promise ballot 0 65536 []) two_read refl hears_promise
 
   e6 : Performs (at asking 1 []) None (act.Deliver 0 1) Applied (at asking 2 [])
-  e6 = delivers asking (record { node = asking; saves = None; sends = promise ∷ [] }) (part 1) []
-      0 (Prepare ballot 0) (prepare_read, tt) refl hears_prepare
+  e6 = delivers asking _ (part 1) [] 0 _ (prepare_read, tt) refl hears_prepare
 
   e5 : Performs (at up 0 []) None (act.Campaign 1) Applied (at asking 1 [])
-  e5 = (
-    member up start [],
-    running up start,
-    up_here up start [] [],
-    leaves up (record {
-      node = asking;
-      saves = Some (change.Promise ballot);
-      sends =
-          prepare ∷ [];
-    }) [] [] [] (call_of_campaign up) campaigns,
-  )
+  e5 = (member up start [], running up start, up_here up start [] [], leaves up _ [] [] [] _ campaigns)
 
   -- the node starts, after a failed save and a crash
   e4 : Performs (world (stopped once) [] []) None (act.Start 1) Applied (at up 0 [])
@@ -357,16 +287,13 @@ module _ (laws : ExampleLaws) (steps : StepsLaw) where
 
   pub happens : LeadsBy (new_world echoes one) shown_events last
   happens =
-      let h11 : LeadsBy (at offering 5 keys) (drop 10 shown_events) last =
-      (_, _, e11, (_, _, e12, (_, _, e13, (_, _, e14, refl)))) in
+      let h11 : LeadsBy (at offering 5 keys) (drop 10 shown_events) last = (_, _, e11, (_, _, e12, (_, _, e13, (_, _, e14, refl)))) in
       let h7 : LeadsBy (at asking 2 []) (drop 6 shown_events) last = (_, _, e7, (_, _, e8, (_, _, e9, (_, _, e10, h11)))) in
       (_, _, e1, (_, _, e2, (_, _, e3, (_, _, e4, (_, _, e5, (_, _, e6, h7))))))
 
 pub is_learned : HasLearned (world_state last) 1 0 letter_batch
 is_learned = record {
-  node =
-      up_of (record { known = knowing; progress = record ten { released = 1 } });
-  up =
-      refl;
+  node = up_of (record { known = knowing; progress = record ten { released = 1 } });
+  up = refl;
   learned = get_here empty 0 letter_batch;
 }

@@ -39,7 +39,7 @@ abbrev pub one_value : FinMap nat_cmp Value
 one_value = insert nothing 0 letter_batch
 
 entries_none : entries nothing ≡ []
-entries_none = no_entries (entries nothing) (sym (len-entries nothing) ∙ len-empty nat_cmp Value)
+entries_none = no_entries _ (sym (len-entries nothing) ∙ len-empty nat_cmp Value)
 
 entries_one : entries one_value ≡ (0, letter_batch) ∷ []
 entries_one = entries-insert nat_cmp_total nothing 0 letter_batch ∙ rw entries_none refl
@@ -69,8 +69,7 @@ abbrev pub voted : Record
 voted = record {
   starts = 2;
   promised = Some ballot;
-  votes =
-      (record { place = 0; ballot = ballot; value = letter_batch }) ∷ [];
+  votes = (record { place = 0; ballot = ballot; value = letter_batch }) ∷ [];
 }
 
 abbrev leads : Proposer
@@ -105,12 +104,7 @@ knowing = node voted one_value (remove no_tallies 0) (Some proposes) (keys_with 
 -- ---- its calls
 
 pub campaigns : call_of_campaign up ≡ Makes
-    (record {
-      node = asking;
-      saves = Some (change.Promise ballot);
-      sends =
-          to_all (Prepare ballot 0) ∷ [];
-    }) []
+    (record { node = asking; saves = Some (change.Promise ballot); sends = to_all (Prepare ballot 0) ∷ [] }) []
 campaigns = rw entries_none refl
 
 pub hears_prepare : on_message asking 1 (Prepare ballot 0) ≡ record
@@ -139,8 +133,7 @@ hears_submit = rw (entries_none, entries_none) refl
 pub hears_accept : on_message offering 1 (Accept ballot 0 letter_batch) ≡ record {
   node = voting;
   saves = Some (change.Ballotted 0 ballot letter_batch);
-  sends =
-      to_all (Accepted ballot 0 letter_batch) ∷ [];
+  sends = to_all (Accepted ballot 0 letter_batch) ∷ [];
 }
 hears_accept = rw entries_none refl
 

@@ -1,4 +1,4 @@
--- What more events leave of what was learned and shown, for the law `later_worlds_agree`.
+-- What was learned and shown, after more events, for the law `later_worlds_agree`.
 use Rattle.std.proofs.Common.{◌≡◌, ℕ, Bool, List, [], ◌∷◌, ◌++◌, Option, Result, Ok, Err, IfOk, OnErr, refl, sym, ap, subst}
 use Rattle.pcode_file.specs.Parts.{Parts}
 use Rattle.paxos_msg.specs.declared.message.Group.{Group}
@@ -11,7 +11,7 @@ use Rattle.group_world.specs.declared.event.Act.{Act}
 use Rattle.group_world.specs.declared.event.Done.{Done}
 use Rattle.group_world.specs.declared.event.Event.{Event}
 use Rattle.group_world.specs.declared.fault.WorldFault.{WorldFault}
-use Rattle.group_world.specs.Event.{IsStep, LeadsBy, Performs, plan_of}
+use Rattle.group_world.specs.Event.{IsStep, LeadsBy, Performs}
 use Rattle.group_world.specs.Group.{new_world, World, world_state}
 use Rattle.group_world.specs.Ordered.{Holds}
 use Rattle.group_world.specs.Headline.{LearnedChosen, LearnedStays}
@@ -38,35 +38,26 @@ pub record LaterWorldLaws : Type 0 where
 pub answer_grows : (w v : World) (act : Act) (answer : Result Done WorldFault)
     → IfOk answer (λ d. IsStep (world_state w) act d (world_state v)) → OnErr answer (v ≡ w)
     → Grows (world_state w) (world_state v)
-answer_grows w v act (Ok d) step same = event_grows (world_state w) (world_state v) act d step
-answer_grows w v act (Err e) step same = grows_none (world_state w) (world_state v) (ap world_state same)
+answer_grows w v act (Ok d) step same = event_grows _ _ act d step
+answer_grows w v act (Err e) step same = grows_none _ _ (ap world_state same)
 
 -- what is chosen at the first moment is chosen at the second, and so is the same
 pub grown_learned : ChosenLaws → (w v : World) → IsSound w → IsSound v
     → Grows (world_state w) (world_state v) → LearnedStays (world_state w) (world_state v)
 grown_learned laws w v first second grown i j s a b has other =
-    let chosen : IsChosen w.group.size (world_state w).sent s a =
-    (laws.learned w first i s a has).0 in
-    let still : IsChosen w.group.size (world_state v).sent s a =
-    subst (λ (sent : Sent). IsChosen w.group.size sent s a) (sym grown.sent)
-    (laws.stays w.group.size s (world_state w).sent grown.more a chosen) in
-    let same : IsChosen v.group.size (world_state v).sent s a =
-    subst (λ (n : ℕ). IsChosen n (world_state v).sent s a) (sym grown.size) still in
-    laws.one v.group.size s (world_state v).sent (λ k. ((world_state v).seats k).kept) a b
-    second.grew same (laws.learned v second j s b other).0
+    let chosen : IsChosen w.group.size (world_state w).sent s a = (laws.learned w first i s a has).0 in
+    let still = subst (λ sent. IsChosen w.group.size sent s a) (sym grown.sent) (laws.stays w.group.size s _ grown.more a chosen) in
+    let same = subst (λ n. IsChosen n (world_state v).sent s a) (sym grown.size) still in
+    laws.one v.group.size s _ (λ k. ((world_state v).seats k).kept) a b second.grew same (laws.learned v second j s b other).0
 
 module _ (laws : LaterWorldLaws) where
   happens_grows : (w : World) (events : List Event) (v : World) → Holds w → LeadsBy w events v
       → Grows (world_state w) (world_state v)
-  happens_grows w [] v h e =
-      subst (λ (u : World). Grows (world_state w) (world_state u)) (sym e)
-      (grows_none (world_state w) (world_state w) refl)
+  happens_grows w [] v h e = subst (λ u. Grows (world_state w) (world_state u)) (sym e) (grows_none _ _ refl)
   happens_grows w (e ∷ events) v h (mid, d, goes, rest) =
-      let first = event_grows (world_state w) (world_state mid) e.act d
-      (laws.step w mid (plan_of e.save) e.act d h.sound goes) in
-      let held : Holds mid = happens_holds laws.events w (e ∷ []) mid h (mid, d, goes, refl) in
-      grows_through (world_state w) (world_state mid) (world_state v) first
-      (happens_grows mid events v held rest)
+      let first = event_grows _ _ e.act d (laws.step w mid _ e.act d h.sound goes) in
+      let held = happens_holds laws.events w (e ∷ []) mid h (mid, d, goes, refl) in
+      grows_through _ _ _ first (happens_grows mid events v held rest)
 
   -- the events that have happened, and more of them
   pub later_grows : (p : Parts) (group : Group) (events more : List Event) (w v : World)

@@ -5,7 +5,7 @@ use Rattle.std.proofs.lemmas.Bool.{eqb-true}
 use Rattle.std.proofs.lemmas.List.Elements.{Contains-push}
 use Rattle.std.specs.List.{Contains, slice_get}
 use Rattle.paxos_msg.specs.declared.ballot.Ballot.{Ballot}
-use Rattle.paxos_msg.specs.declared.message.Body.TheVariants.{Accept, Accepted, Ask, Prepare, Promise, Refused, Submit, Tell}
+use Rattle.paxos_msg.specs.declared.message.Body.TheVariants.{Accept, Accepted, Promise, Submit}
 use Rattle.paxos_msg.specs.declared.record.Change.TheVariants as change
 use Rattle.paxos_msg.specs.declared.value.Value.{Value}
 use Rattle.paxos_msg.specs.declared.value.Value.TheVariants.{Keys}
@@ -117,14 +117,8 @@ kept_3 = changed kept_2 (change.Ballotted 2 ballot batch_c)
 
 -- a message that proposes at a lower place, or does not propose
 abbrev IsLower : ℕ → Body → Type 0
-IsLower s (Prepare b from) = Unit {0}
-IsLower s (Promise b first upto votes) = Unit {0}
 IsLower s (Accept b t v) = t < s
-IsLower s (Accepted b t v) = Unit {0}
-IsLower s (Refused b promised) = Unit {0}
-IsLower s (Submit v) = Unit {0}
-IsLower s (Ask from) = Unit {0}
-IsLower s (Tell t v) = Unit {0}
+IsLower s other = Unit {0}
 
 abbrev only_one : ℕ → Bool
 only_one i = i == 1
@@ -148,7 +142,7 @@ module _ (sent : Sent) (r : Record) (s : ℕ) (v : Value) (grew : Grew 1 sent (r
 
   unproposed : IsUnproposed offered ballot s
   unproposed u (i, among) =
-      let low : s < s = each_of (λ (m : Msg). IsLower s m.body) offered (record { sender = i; body = Accept ballot s u }) lower among in
+      let low = each_of _ offered _ lower among in
       omega arith
 
   safe : IsSafe 1 offered ballot s v
@@ -162,40 +156,38 @@ module _ (sent : Sent) (r : Record) (s : ℕ) (v : Value) (grew : Grew 1 sent (r
           first = 0;
           upto = 65536;
           votes = [];
-          is_sent = promises (message (Submit v) ∷ []);
+          is_sent = promises _;
           from_first = omega arith;
           below_upto = place;
           reports = refl;
         });
     is_best = λ i member. refl;
-    value = inr (1, last sent (message (Submit v)));
+    value = inr (1, last sent _);
   }
 
   is_proposed : IsSaid proposed (Accept ballot s v)
-  is_proposed = (1, last offered (message (Accept ballot s v)))
+  is_proposed = (1, last offered _)
 
   batch_grew : kept_vote_at next.votes s ≡ Some (record { place = s; ballot = ballot; value = v })
       → Grew 1 (with_batch sent s v) (records_of next)
   batch_grew vote =
       let learned : ℕ → Option Value = λ s. None in
-      let g1 : Grew 1 offered (records_of r) = sends sent (records_of r) typed learned 1 (Submit v) grew own in
-      let g2 : Grew 1 proposed (records_of r) =
-      sends offered (records_of r) typed learned 1 (Accept ballot s v) g1 (refl, inr (unproposed, safe)) in
+      let g1 = sends sent _ typed learned 1 _ grew own in
+      let g2 = sends offered _ typed learned 1 (Accept ballot s v) g1 (refl, inr (unproposed, safe)) in
       let may : (p : Ballot) → p ≡ ballot
       → (ballot.round < p.round) ⊎ ((ballot.round ≡ p.round) × (ballot.node ≤ p.node)) =
       λ p e. inr (ap (λ (b : Ballot). b.round) (sym e), omega (arith, ap (λ (b : Ballot). b.node) e)) in
-      let g3 : Grew 1 proposed (records_of next) =
-      saves proposed (records_of r) (records_of next) 1 (change.Ballotted s ballot v) g2
+      let g3 = saves proposed _ _ 1 (change.Ballotted s ballot v) g2
       (is_proposed, rw promised (may ballot refl)) (records_saved r (change.Ballotted s ballot v)) in
-      sends proposed (records_of next) typed learned 1 (Accepted ballot s v) g3 (is_proposed, vote, refl)
+      sends proposed _ typed learned 1 _ g3 (is_proposed, vote, refl)
 
 -- ---- the three
 
 -- the keys of a batch were typed at the node
 own_batch : (v : Value) → keys_of v ≢ [] → EachOf (λ (k : Key). (k.node ≡ 1) × Contains typed k) (keys_of v) → IsTyped typed 1 v
 own_batch v some each = record {
-  own = record { has_key = some; at_node = λ k among. (each_of (λ (k : Key). (k.node ≡ 1) × Contains typed k) (keys_of v) k each among).0 };
-  known = λ k among. (each_of (λ (k : Key). (k.node ≡ 1) × Contains typed k) (keys_of v) k each among).1;
+  own = record { has_key = some; at_node = λ k among. (each_of _ _ k each among).0 };
+  known = λ k among. (each_of _ _ k each among).1;
 }
 
 a_in : Contains typed key_a
@@ -208,23 +200,20 @@ c_in : Contains typed key_c
 c_in = (2, lit< tt, refl)
 
 pub typed_a : IsTyped typed 1 batch_a
-typed_a = own_batch batch_a (λ e. absurd (cc)) ((refl, a_in), tt)
+typed_a = own_batch batch_a (λ e. absurd cc) ((refl, a_in), tt)
 
 pub typed_ab : IsTyped typed 1 batch_ab
-typed_ab = own_batch batch_ab (λ e. absurd (cc)) ((refl, a_in), ((refl, b_in), tt))
+typed_ab = own_batch batch_ab (λ e. absurd cc) ((refl, a_in), ((refl, b_in), tt))
 
 pub typed_c : IsTyped typed 1 batch_c
-typed_c = own_batch batch_c (λ e. absurd (cc)) ((refl, c_in), tt)
+typed_c = own_batch batch_c (λ e. absurd cc) ((refl, c_in), tt)
 
 grew_0 : Grew 1 sent_0 (records_of kept_0)
 grew_0 =
     let learned : ℕ → Option Value = λ s. None in
-    let g0 : Grew 1 [] (records_of empty_record) = nothing (records_of empty_record) records_empty in
-    let g1 : Grew 1 [] (records_of started_record) =
-    saves [] (records_of empty_record) (records_of started_record) 1 change.Start g0 tt
-    (records_saved empty_record change.Start) in
-    let g2 : Grew 1 [] (records_of kept_0) =
-    saves [] (records_of started_record) (records_of kept_0) 1 (change.Promise ballot) g1 tt
+    let g0 = nothing _ records_empty in
+    let g1 = saves [] (records_of empty_record) _ 1 change.Start g0 tt (records_saved empty_record change.Start) in
+    let g2 = saves [] (records_of started_record) _ 1 (change.Promise ballot) g1 tt
     (records_saved started_record (change.Promise ballot)) in
     let reports : IsReport kept_0 0 65536 [] =
     record {
@@ -232,7 +221,7 @@ grew_0 =
       within = λ vote h. absurd (none_in vote h);
       whole = λ s from below. refl;
     } in
-    sends [] (records_of kept_0) typed learned 1 (Promise ballot 0 65536 []) g2 (refl, reports)
+    sends [] (records_of kept_0) typed learned 1 _ g2 (refl, reports)
 
 grew_1 : Grew 1 sent_1 (records_of kept_1)
 grew_1 =
@@ -253,7 +242,7 @@ grew_3 =
 
 -- the index of the message that says that it is accepted
 chosen_by : (s : ℕ) (v : Value) → Contains sent_3 (message (Accepted ballot s v)) → IsChosen 1 sent_3 s v
-chosen_by s v among = (ballot, (only_one, lit< tt, one_of (λ i. IsSent sent_3 i (Accepted ballot s v)) among))
+chosen_by s v among = (ballot, (only_one, lit< tt, one_of _ among))
 
 abbrev pub chosen_values : List Value
 chosen_values = batch_a ∷ batch_ab ∷ batch_c ∷ []
@@ -262,15 +251,15 @@ chosen_at : (s : ℕ) (v : Value) → slice_get chosen_values s ≡ Some v → I
 chosen_at zero v e = let same : batch_a ≡ v = cc in subst (IsChosen 1 sent_3 0) same (chosen_by 0 batch_a (3, lit< tt, refl))
 chosen_at (suc zero) v e = let same : batch_ab ≡ v = cc in subst (IsChosen 1 sent_3 1) same (chosen_by 1 batch_ab (6, lit< tt, refl))
 chosen_at (suc (suc zero)) v e = let same : batch_c ≡ v = cc in subst (IsChosen 1 sent_3 2) same (chosen_by 2 batch_c (9, lit< tt, refl))
-chosen_at (suc (suc (suc s))) v e = absurd (cc)
+chosen_at (suc (suc (suc s))) v e = absurd cc
 
 pub all_chosen : AreChosen 1 sent_3 chosen_values
 all_chosen = record { chosen = chosen_at }
 
 two_at : (s : ℕ) (v : Value) → slice_get (batch_a ∷ batch_ab ∷ []) s ≡ Some v → IsChosen 1 sent_3 s v
 two_at zero v e = chosen_at zero v e
-two_at (suc zero) v e = chosen_at (suc zero) v e
-two_at (suc (suc s)) v e = absurd (cc)
+two_at (suc zero) v e = chosen_at _ v e
+two_at (suc (suc s)) v e = absurd cc
 
 pub two_chosen : AreChosen 1 sent_3 (batch_a ∷ batch_ab ∷ [])
 two_chosen = record { chosen = two_at }

@@ -1,5 +1,5 @@
 -- The keys of chosen values, each once, are in order, if each value was due.
-use Rattle.std.proofs.Common.{◌≡◌, ◌∙◌, ℕ, zero, suc, ◌+◌, ◌<◌, ◌≤◌, Bool, true, false, List, [], ◌∷◌, ◌++◌, length, get_or, map, Some, if◌then◌else◌, refl, sym, ap, subst, inl, inr, append_assoc, arith, IsTrue, ◌↔◌}
+use Rattle.std.proofs.Common.{◌≡◌, ◌∙◌, ℕ, zero, suc, ◌+◌, ◌<◌, ◌≤◌, Bool, true, false, List, [], ◌∷◌, ◌++◌, length, map, Some, if◌then◌else◌, refl, sym, ap, subst, inl, inr, append_assoc, arith, IsTrue, ◌↔◌}
 use Rattle.std.proofs.lemmas.Bool.{cases_eq, cases_lt, both_ways}
 use Rattle.std.proofs.lemmas.List.{append-nil}
 use Rattle.std.proofs.lemmas.List.Elements.{Contains-append_left, Contains-append_right, Contains-get_or, Contains-push, Contains-push_cases}
@@ -12,7 +12,7 @@ use Rattle.indexmap.specs.IndexSet.{insert_key}
 use Rattle.paxos_learner.specs.Input.{same_key, has_key, firsts, keys_in_order}
 use Rattle.paxos_msg.specs.declared.message.Body.TheVariants.{Submit}
 use Rattle.paxos_msg.specs.declared.value.Value.{Value}
-use Rattle.paxos_msg.specs.declared.value.Value.TheVariants.{Noop, Keys}
+use Rattle.paxos_msg.specs.declared.value.Value.TheVariants.{Keys}
 use Rattle.paxos_msg.specs.Batches.{IsFree, Sent}
 use Rattle.paxos_msg.specs.Chosen.{IsChosen}
 use Rattle.paxos_msg.specs.Messages.{IsSaid}
@@ -82,8 +82,7 @@ firsts_more laws keys k h = rw (laws.more keys k) (added laws keys (firsts keys)
 firsts_all : (laws : KeyLaws) (keys more : List Key) → AreFirsts keys (firsts keys) → AreFirsts (keys ++ more) (firsts (keys ++ more))
 firsts_all laws keys [] h = rw (append-nil keys) h
 firsts_all laws keys (k ∷ more) h =
-    subst (λ (l : List Key). AreFirsts l (firsts l)) (append_assoc keys (k ∷ []) more)
-    (firsts_all laws (keys ++ k ∷ []) more (firsts_more laws keys k h))
+    subst (λ l. AreFirsts l (firsts l)) (append_assoc keys (k ∷ []) more) (firsts_all laws _ more (firsts_more laws keys k h))
 
 pub keys_are_firsts : (laws : KeyLaws) (keys : List Key) → AreFirsts keys (firsts keys)
 keys_are_firsts laws keys = firsts_all laws [] keys (record { all = λ k h. h; only = λ k h. h })
@@ -102,19 +101,19 @@ module _ (keys : List Key) (k : Key) (h : AreOrderly keys) (follows : Follows ke
   -- its serial is the one after the last
   next_serial : (n : ℕ) → serials_of k.node k.start keys ≡ range_with_len 1 n → k.serial ≡ n + 1
   next_serial n e =
-      let high : k.serial ≤ n + 1 = most follows in
-      let low : 1 ≤ k.serial = least follows in
+      let high = most follows in
+      let low = least follows in
       elim (cases_lt n k.serial) [
         | inl above ↦ omega arith
         | inr within ↦ absurd
             (found (serial_of keys k.node k.start k.serial
-            (subst (λ (l : List ℕ). Contains l k.serial) (sym e) (in_range 1 n k.serial low (omega arith)))))
+            (subst (λ l. Contains l k.serial) (sym e) (in_range 1 n k.serial low (omega arith)))))
       ]
     where
       most : Follows keys k.node k.start k.serial → k.serial ≤ n + 1
       most (begins one) = omega arith
       most (goes_on before next has) =
-          let inside = of_range 1 n before (subst (λ (l : List ℕ). Contains l before) e (serial_in keys k.node k.start before has)) in
+          let inside = of_range 1 n before (subst (λ l. Contains l before) e (serial_in keys k.node k.start before has)) in
           omega (arith, inside.1)
 
       least : Follows keys k.node k.start k.serial → 1 ≤ k.serial
@@ -130,8 +129,7 @@ module _ (keys : List Key) (k : Key) (h : AreOrderly keys) (follows : Follows ke
       | inl f ↦ (
         (h.order node start).0 + 1,
         own_serials node start keys k e f
-            ∙ ap (λ (l : List ℕ). l ++ k.serial ∷ []) (h.order node start).1
-            ∙ sym (range_more 1 (h.order node start).0 k.serial (here e f)),
+            ∙ ap (λ l. l ++ k.serial ∷ []) (h.order node start).1 ∙ sym (range_more 1 (h.order node start).0 k.serial (here e f)),
       )
       | inr ne ↦ (
         (h.order node start).0,
@@ -157,7 +155,7 @@ module _ (keys : List Key) (k : Key) (h : AreOrderly keys) (follows : Follows ke
   next_orderly = record {
     once =
         all_pairs_push (λ (x y : Key). ¬ HaveOneName x y) keys k h.once
-        (λ i d below. new (get_or keys i d) (Contains-get_or keys i d below));
+        (λ i d below. new _ (Contains-get_or keys i d below));
     order = next_order;
   }
 
@@ -186,15 +184,12 @@ push_orderly : (laws : KeyLaws) (keys once : List Key) (k : Key) (there : Bool) 
 push_orderly laws keys once k true e h f follows same = h
 push_orderly laws keys once k false e h f follows same =
     next_orderly once k h (follows_in keys once k.node k.start k.serial f.all follows)
-    (λ x among name. both_ways (has_key once k) e
-    ((laws.has once k).1 (subst (λ (y : Key). Contains once y) (same x (f.only x among) name) among)))
+    (λ x among name. both_ways _ e ((laws.has once k).1 (subst (λ y. Contains once y) (same x (f.only x among) name) among)))
 
 push_good : (laws : KeyLaws) (keys : List Key) (k : Key) → AreGood keys → Follows keys k.node k.start k.serial
     → ((x : Key) → Contains keys x → HaveOneName x k → x ≡ k) → AreGood (keys ++ k ∷ [])
 push_good laws keys k h follows same = record {
-  orderly =
-      rw (laws.more keys k)
-      (push_orderly laws keys (firsts keys) k (has_key (firsts keys) k) refl h.orderly h.firsts follows same);
+  orderly = rw (laws.more keys k) (push_orderly laws keys _ k _ refl h.orderly h.firsts follows same);
   firsts = firsts_more laws keys k h.firsts;
 }
 
@@ -204,13 +199,12 @@ batch_good : (laws : KeyLaws) (keys : List Key) (node start serial : ℕ) (bytes
 batch_good laws keys node start serial [] h follows uniform = rw (append-nil keys) h
 batch_good laws keys node start serial (byte ∷ bytes) h follows uniform =
     let k : Key = record { node = node; start = start; serial = serial; byte = byte } in
-    let more : List Key = keys_from node start (serial + 1) bytes in
-    let next : List Key = keys ++ k ∷ [] in
-    let join : next ++ more ≡ keys ++ (k ∷ more) = append_assoc keys (k ∷ []) more in
-    let one : AreGood next =
-    push_good laws keys k h follows
+    let more = keys_from node start (serial + 1) bytes in
+    let next = keys ++ k ∷ [] in
+    let join = append_assoc keys (k ∷ []) more in
+    let one = push_good laws keys k h follows
     (λ x among name. uniform.same x k (Contains-append_left keys (k ∷ more) x among)
-    (Contains-append_right keys (k ∷ more) k (first_in k more)) name) in
+    (Contains-append_right keys _ k (first_in k more)) name) in
     let last : HasSerial next node start serial =
     record { key = k; among = Contains-push keys k; node_is = refl; start_is = refl; serial_is = refl } in
     subst AreGood join
@@ -219,7 +213,7 @@ batch_good laws keys node start serial (byte ∷ bytes) h follows uniform =
 -- ---- the chosen values
 
 left_place : {X : Type 0} (xs ys : List X) (s : ℕ) (x : X) → slice_get xs s ≡ Some x → slice_get (xs ++ ys) s ≡ Some x
-left_place [] ys s x e = (cc)
+left_place [] ys s x e = cc
 left_place (y ∷ xs) ys zero x e = e
 left_place (y ∷ xs) ys (suc s) x e = left_place xs ys s x e
 
@@ -234,7 +228,7 @@ module _ {size : ℕ} {sent : Sent} {typed : List Key} (laws : KeyLaws) (apart :
 
   -- the keys of chosen values were typed
   pub value_typed : (v : Value) → IsFree sent v → (k : Key) → Contains (keys_of v) k → Contains typed k
-  value_typed v (inl noop) k h = absurd (none_in k (subst (λ (u : Value). Contains (keys_of u) k) noop h))
+  value_typed v (inl noop) k h = absurd (none_in k (subst (λ u. Contains (keys_of u) k) noop h))
   value_typed v (inr said) k h = submits.of_typed v said k h
 
   pub front_typed : (values : List Value) → AreChosen size sent values → (k : Key) → Contains (all_keys values) k → Contains typed k
@@ -256,45 +250,39 @@ module _ {size : ℕ} {sent : Sent} {typed : List Key} (laws : KeyLaws) (apart :
   shorter_in below values low front less k h =
       let from = of_flat_map keys_of below k h in
       let at = place_of below from.0 from.1 in
-      let there : slice_get values at.0 ≡ Some (get_or values at.0 from.0) =
-      slice_get-get_or values at.0 from.0 (omega (arith, slice_get_within below at.0 from.0 at.1)) in
-      let same : get_or values at.0 from.0 ≡ from.0 =
-      agreed.one at.0 (get_or values at.0 from.0) from.0 (front.chosen at.0 (get_or values at.0 from.0) there)
-      (low.chosen at.0 from.0 at.1) in
-      in_flat_map keys_of values from.0 k (in_from_place values at.0 from.0 (there ∙ ap (λ (u : Value). Some u) same)) from.2
+      let there = slice_get-get_or values at.0 from.0 (omega (arith, slice_get_within below at.0 from.0 at.1)) in
+      let same = agreed.one at.0 _ from.0 (front.chosen at.0 _ there) (low.chosen at.0 from.0 at.1) in
+      in_flat_map keys_of values from.0 k (in_from_place values at.0 from.0 (there ∙ ap (λ u. Some u) same)) from.2
 
   -- a front that has more places than these has the value of the next one
   longer_has : (below values more : List Value) (v : Value) → AreChosen size sent below
       → AreChosen size sent (values ++ v ∷ more) → length values < length below → Contains below v
   longer_has below values more v low front less =
-      let s : ℕ = length values in
-      let there : slice_get below s ≡ Some (get_or below s v) = slice_get-get_or below s v less in
-      let same : get_or below s v ≡ v =
-      agreed.one s (get_or below s v) v (low.chosen s (get_or below s v) there)
-      (front.chosen s v (here_place values v more)) in
-      in_from_place below s v (there ∙ ap (λ (u : Value). Some u) same)
+      let s = length values in
+      let there = slice_get-get_or below s v less in
+      let same = agreed.one s _ v (low.chosen s _ there) (front.chosen s v (here_place values v more)) in
+      in_from_place below s v (there ∙ ap (λ u. Some u) same)
 
   due_follows : (values more : List Value) (node start first byte : ℕ) (bytes : List ℕ)
       → AreChosen size sent (values ++ Keys node start first (byte ∷ bytes) ∷ more)
       → IsDue size sent (Keys node start first (byte ∷ bytes)) → Follows (all_keys values) node start first
   due_follows values more node start first byte bytes front (inl one) = begins one
   due_follows values more node start first byte bytes front (inr p) =
-      let v : Value = Keys node start first (byte ∷ bytes) in
+      let v = Keys node start first _ in
       let k : Key = record { node = node; start = start; serial = first; byte = byte } in
       elim (cases_lt (length values) (length p.below)) [
         | inl less ↦ absurd (p.lacks (record {
           key = k;
           among =
-              (keys_are_firsts laws (all_keys p.below)).all k
-              (in_flat_map keys_of p.below v k (longer_has p.below values more v p.chosen front less)
-              (first_in k (keys_from node start (first + 1) bytes)));
+              (keys_are_firsts laws _).all k
+              (in_flat_map keys_of p.below v k (longer_has p.below values more v p.chosen front less) (first_in k _));
           node_is = refl;
           start_is = refl;
           serial_is = refl;
         }))
-        | inr within ↦ goes_on p.before p.next (has_in (keys_in_order p.below) (all_keys values) node start p.before
+        | inr within ↦ goes_on p.before p.next (has_in _ _ node start p.before
             (λ x among. shorter_in p.below values p.chosen (front_left values (v ∷ more) front) within x
-            ((keys_are_firsts laws (all_keys p.below)).only x among)) p.has)
+            ((keys_are_firsts laws _).only x among)) p.has)
       ]
 
   submitted_due : (v : Value) → IsFree sent v → IsDue size sent v
@@ -302,32 +290,26 @@ module _ {size : ℕ} {sent : Sent} {typed : List Key} (laws : KeyLaws) (apart :
   submitted_due v (inr said) = submits.due v said
 
   keys_one_more : (values : List Value) (v : Value) → all_keys (values ++ v ∷ []) ≡ all_keys values ++ keys_of v
-  keys_one_more values v =
-      flat_map-append keys_of values (v ∷ [])
-      ∙ ap (λ (rest : List Key). all_keys values ++ rest) (append-nil (keys_of v))
+  keys_one_more values v = flat_map-append keys_of values (v ∷ []) ∙ ap (λ rest. all_keys values ++ rest) (append-nil _)
 
   value_good : (values more : List Value) (v : Value) → AreGood (all_keys values)
       → AreChosen size sent (values ++ v ∷ more) → IsDue size sent v → AreUniform (all_keys values ++ keys_of v)
       → AreGood (all_keys values ++ keys_of v)
-  value_good values more Noop h front due uniform = rw (append-nil (all_keys values)) h
-  value_good values more (Keys node start first []) h front due uniform = rw (append-nil (all_keys values)) h
   value_good values more (Keys node start first (byte ∷ bytes)) h front due uniform =
-      batch_good laws (all_keys values) node start first (byte ∷ bytes) h
-      (due_follows values more node start first byte bytes front due) uniform
+      batch_good laws _ node start first (byte ∷ bytes) h (due_follows values more node start first byte bytes front due) uniform
+  value_good values more other h front due uniform = rw (append-nil _) h
 
   values_good : (values more : List Value) → AreGood (all_keys values) → AreChosen size sent (values ++ more)
       → AreGood (all_keys (values ++ more))
   values_good values [] h front = rw (append-nil values) h
   values_good values (v ∷ more) h front =
-      let join : (values ++ v ∷ []) ++ more ≡ values ++ v ∷ more = append_assoc values (v ∷ []) more in
-      let whole : AreChosen size sent ((values ++ v ∷ []) ++ more) = subst (AreChosen size sent) (sym join) front in
-      let e : all_keys (values ++ v ∷ []) ≡ all_keys values ++ keys_of v = keys_one_more values v in
-      let due : IsDue size sent v =
-      submitted_due v (agreed.free (length values) v (front.chosen (length values) v (here_place values v more))) in
-      let uniform : AreUniform (all_keys values ++ keys_of v) =
-      subst AreUniform e (front_uniform (values ++ v ∷ []) (front_left (values ++ v ∷ []) more whole)) in
-      let one : AreGood (all_keys (values ++ v ∷ [])) = subst AreGood (sym e) (value_good values more v h front due uniform) in
-      subst (λ (l : List Value). AreGood (all_keys l)) join (values_good (values ++ v ∷ []) more one whole)
+      let join = append_assoc values (v ∷ []) more in
+      let whole = subst (AreChosen size sent) (sym join) front in
+      let e = keys_one_more values v in
+      let due = submitted_due v (agreed.free _ v (front.chosen _ v (here_place values v more))) in
+      let uniform = subst AreUniform e (front_uniform (values ++ v ∷ []) (front_left (values ++ v ∷ []) more whole)) in
+      let one = subst AreGood (sym e) (value_good values more v h front due uniform) in
+      subst (λ l. AreGood (all_keys l)) join (values_good (values ++ v ∷ []) more one whole)
 
   nothing_good : AreGood []
   nothing_good = record {

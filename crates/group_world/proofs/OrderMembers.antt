@@ -1,5 +1,5 @@
 -- The facts of typed keys after one node has changed.
-use Rattle.std.proofs.Common.{◌≡◌, ◌∙◌, ℕ, ◌-◌, ◌≤◌, List, [], ◌∷◌, ◌++◌, get_or, slice_set, Some, IfSome, refl, sym, ap, subst, inl, inr, arith}
+use Rattle.std.proofs.Common.{◌≡◌, ◌∙◌, ℕ, ◌-◌, ◌≤◌, List, [], ◌∷◌, ◌++◌, slice_set, Some, IfSome, refl, sym, ap, subst, inl, inr, arith}
 use Rattle.std.proofs.lemmas.List.Elements.{Contains-get_or, Contains-push_cases}
 use Rattle.std.proofs.lemmas.List.Quantifiers.{all_pairs_push}
 use Rattle.std.proofs.lemmas.Option.{IfSome_then}
@@ -19,18 +19,15 @@ module _ (typed : List Key) (members : List Member) (h : AreTypedInOrder typed m
       → k.start ≤ x.kept.starts
   still_past k x among at =
       each_changed members i m new there (λ j y. j ≡ k.node → k.start ≤ y.kept.starts)
-      (λ e. omega (arith, h.past k m among (subst (λ (n : ℕ). member_at members n ≡ Some m) e there)))
-      (λ j other ne found e. h.past k other among (subst (λ (n : ℕ). member_at members n ≡ Some other) e found))
-      k.node x at refl
+      (λ e. omega (arith, h.past k m among (subst (λ n. member_at members n ≡ Some m) e there)))
+      (λ j other ne found e. h.past k other among (subst (λ n. member_at members n ≡ Some other) e found)) k.node x at refl
 
   -- no key was typed
   pub put_ordered : IfSome new.node (λ q. IsRowOf typed i new.kept q.known) → AreTypedInOrder typed (slice_set members (i - 1) new)
   put_ordered own = record {
     once = h.once;
     past = still_past;
-    nodes =
-        each_changed members i m new there (λ j x. IfSome x.node (λ q. IsRowOf typed j x.kept q.known)) own
-        (λ j other ne found. h.nodes j other found);
+    nodes = each_changed members i m new there (λ j x. IfSome x.node _) own (λ j other ne found. h.nodes j other found);
   }
 
   -- this key was typed at the node
@@ -40,15 +37,15 @@ module _ (typed : List Key) (members : List Member) (h : AreTypedInOrder typed m
   typed_ordered key of_node low fresh own = record {
     once =
         all_pairs_push (λ (x y : Key). ¬ HaveOneName x y) typed key h.once
-        (λ k d below. fresh (get_or typed k d) (Contains-get_or typed k d below));
+        (λ k d below. fresh _ (Contains-get_or typed k d below));
     past = λ k x among at. elim (Contains-push_cases typed key k among) [
       | inl before ↦ still_past k x before at
       | inr e ↦ each_changed members i m new there (λ j y. j ≡ k.node → k.start ≤ y.kept.starts)
-          (λ is. let same : k.start ≡ key.start = ap (λ (y : Key). y.start) (sym e) in omega arith)
+          (λ is. let same = ap (λ (y : Key). y.start) (sym e) in omega arith)
           (λ j other ne found is. absurd (ne (is ∙ ap (λ (y : Key). y.node) (sym e) ∙ of_node)))
           k.node x at refl
     ];
-    nodes = each_changed members i m new there (λ j x. IfSome x.node (λ q. IsRowOf (typed ++ key ∷ []) j x.kept q.known)) own
+    nodes = each_changed members i m new there (λ j x. IfSome x.node _) own
         (λ j other ne found. IfSome_then other.node (h.nodes j other found) (λ q row. record {
           start = row.start;
           last = row.last;

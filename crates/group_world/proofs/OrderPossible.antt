@@ -1,16 +1,17 @@
 -- A sound and ordered world in which overlapping batches are chosen, for the law `possible`.
-use Rattle.std.proofs.Common.{◌≡◌, ◌≢◌, ℕ, zero, suc, List, [], ◌∷◌, ◌++◌, get_or, map, Option, Some, None, IfSome, refl, sym, subst, inl, inr, arith, lit<}
+use Rattle.std.proofs.Common.{◌≡◌, ◌≢◌, ◌<◌, ◌≤◌, ℕ, zero, suc, List, [], ◌∷◌, ◌++◌, map, Option, Some, None, IfSome, refl, sym, subst, inl, inr, arith, lit<}
 use Rattle.std.proofs.lemmas.List.Elements.{Contains-get_or}
 use Rattle.std.proofs.lemmas.List.Quantifiers.{all_pairs_push}
 use Rattle.std.specs.List.{Contains, flat_map}
 use Rattle.pcode_file.specs.Parts.{Parts}
 use Rattle.pcode_machine.specs.Runs.{out}
-use Rattle.paxos_msg.specs.declared.message.Body.TheVariants.{Accept, Accepted, Ask, Prepare, Promise, Refused, Submit, Tell}
+use Rattle.paxos_msg.specs.declared.message.Body.TheVariants.{Accept, Prepare, Submit, Tell}
 use Rattle.paxos_msg.specs.declared.value.Value.{Value}
 use Rattle.paxos_msg.specs.declared.value.Value.TheVariants.{Keys}
-use Rattle.paxos_msg.specs.Batches.{Body, Grew, IsTyped, Msg, Sent, Vote}
+use Rattle.paxos_msg.specs.Batches.{Body, Grew, IsTyped, Msg, Vote}
 use Rattle.paxos_msg.specs.Keys.{Key, keys_of}
-use Rattle.paxos_msg.specs.Messages.{IsSaid, kept_vote_at}
+use Rattle.paxos_msg.specs.Fits.{IsValue, IsVote}
+use Rattle.paxos_msg.specs.Messages.{IsSaid}
 use Rattle.paxos_acceptor.specs.Backed.{IsVoteBacked}
 use Rattle.paxos_learner.specs.Input.{input_of}
 use Rattle.group_node.specs.Backs.{HasPromised, IsRecordBacked}
@@ -40,31 +41,28 @@ due_c = inr (record {
       ((λ e. absurd (omega arith)), ((λ e. absurd (omega arith)), tt)) has.among has.serial_is;
 })
 
--- each message has the one ballot; what is submitted was typed and is due; nothing is told
+-- each message has the one ballot; what is submitted was typed and is due; there is no Tell
 abbrev Says : ℕ → Body → Type 0
 Says i (Prepare b from) = b ≡ ballot
-Says i (Promise b first upto votes) = Unit {0}
 Says i (Accept b s v) = b ≡ ballot
-Says i (Accepted b s v) = Unit {0}
-Says i (Refused b promised) = Unit {0}
 Says i (Submit v) = IsTyped typed i v × IsDue 1 sent_3 v
-Says i (Ask from) = Unit {0}
 Says i (Tell s v) = ⊥
+Says i other = Unit {0}
 
 all_say : EachOf (λ (m : Msg). Says m.sender m.body) sent_3
 all_say = (tt, ((typed_a, inl refl), (refl, (tt, ((typed_ab, inl refl), (refl, (tt, ((typed_c, due_c), (refl, (tt, tt))))))))))
 
 says : (i : ℕ) (body : Body) → Contains sent_3 (record { sender = i; body = body }) → Says i body
-says i body among = each_of (λ (m : Msg). Says m.sender m.body) sent_3 (record { sender = i; body = body }) all_say among
+says i body among = each_of (λ (m : Msg). Says m.sender m.body) sent_3 _ all_say among
 
 told : AllChosen 1 sent_3
 told s v said = absurd (says said.0 (Tell s v) said.1)
 
 submitted : AllTyped sent_3 typed
-submitted i v among = (says i (Submit v) among).0
+submitted i v among = (says i _ among).0
 
 due : (v : Value) → IsSaid sent_3 (Submit v) → IsDue 1 sent_3 v
-due v said = (says said.0 (Submit v) said.1).1
+due v said = (says said.0 _ said.1).1
 
 -- ---- the record
 
@@ -85,9 +83,9 @@ vote_if (Some vote) s h = h vote refl
 kept_backed : ExampleLaws → IsRecordBacked sent_3 1 kept_3
 kept_backed laws = record {
   votes = record {
-    votes = λ s. vote_if (kept_vote_at kept_3.votes s) s (λ vote e.
+    votes = λ s. vote_if _ s (λ vote e.
         let found = laws.found kept_3.votes s vote e in
-        subst (λ (t : ℕ). IsVoteBacked sent_3 kept_3 t vote) found.1
+        subst (λ t. IsVoteBacked sent_3 kept_3 t vote) found.1
         (each_of (λ (x : Vote). IsVoteBacked sent_3 kept_3 x.place x) kept_3.votes vote votes_backed found.0));
     in_order = ((omega arith, (omega arith, tt)), ((omega arith, tt), (tt, tt)));
   };
@@ -106,6 +104,12 @@ example p = record {
   typed = batch_a ∷ Keys 1 1 2 (66 ∷ []) ∷ batch_c ∷ [];
 }
 
+-- a vote of the node is in its ranges
+vote_fits : {low upto s : ℕ} {v : Value} → low ≤ s → s < upto → IsValue 1 v
+    → IsVote 1 ballot low upto (record { place = s; ballot = ballot; value = v })
+vote_fits low high fits =
+    record { from_low = low; below_upto = high; ballot = ballot_fits; not_above = inr (refl, omega arith); value = fits }
+
 -- the node is sound
 node_sound : ExampleLaws → (p : Parts) → IsMemberSound p me sent_3 typed (record { kept = kept_3; console = []; node = None })
 node_sound laws p = record {
@@ -114,32 +118,8 @@ node_sound laws p = record {
     kept = (
       ballot_fits,
       (
-        record {
-          from_low = omega arith;
-          below_upto = omega arith;
-          ballot = ballot_fits;
-          not_above = inr (refl, omega arith);
-          value = fits_a;
-        },
-        (
-          record {
-            from_low = omega arith;
-            below_upto = omega arith;
-            ballot = ballot_fits;
-            not_above = inr (refl, omega arith);
-            value = fits_ab;
-          },
-          (
-            record {
-              from_low = omega arith;
-              below_upto = omega arith;
-              ballot = ballot_fits;
-              not_above = inr (refl, omega arith);
-              value = fits_c;
-            },
-            tt,
-          ),
-        ),
+        vote_fits (omega arith) (omega arith) fits_a,
+        (vote_fits (omega arith) (omega arith) fits_ab, (vote_fits (omega arith) (omega arith) fits_c, tt)),
       ),
     );
   };
@@ -147,18 +127,18 @@ node_sound laws p = record {
   shown =
       record {
         values = [];
-        chosen = record { chosen = λ s v e. absurd (cc) };
-        output = (0, record { rest = out p (input_of []) 0; whole = refl });
+        chosen = record { chosen = λ s v e. absurd cc };
+        output = (0, record { rest = out p _ 0; whole = refl });
       };
   running = tt;
 }
 
 members_sound : ExampleLaws → (p : Parts) (i : ℕ) (m : Member) → member_at (example p).members i ≡ Some m
     → IsMemberSound p (me_of (example p) i) sent_3 typed m
-members_sound laws p zero m e = absurd (cc)
+members_sound laws p zero m e = absurd cc
 members_sound laws p (suc zero) m e = let same : record { kept = kept_3; console = []; node = None } ≡ m =
     cc in subst (IsMemberSound p me sent_3 typed) same (node_sound laws p)
-members_sound laws p (suc (suc i)) m e = absurd (cc)
+members_sound laws p (suc (suc i)) m e = absurd cc
 
 pub example_sound : ExampleLaws → (p : Parts) → IsSound (example p)
 example_sound laws p = record {
@@ -166,12 +146,10 @@ example_sound laws p = record {
   session = omega arith;
   places = refl;
   spelled = all_spelled laws;
-  grew = subst (λ (sent : Sent). Grew 1 sent (records_of kept_3)) (sym (sent_is laws)) grew_3;
+  grew = subst (λ sent. Grew 1 sent (records_of kept_3)) (sym (sent_is laws)) grew_3;
   told = subst (AllChosen 1) (sym (sent_is laws)) told;
-  submitted = subst (λ (sent : Sent). AllTyped sent typed) (sym (sent_is laws)) submitted;
-  members =
-      λ i m e. subst (λ (sent : Sent). IsMemberSound p (me_of (example p) i) sent typed m) (sym (sent_is laws))
-      (members_sound laws p i m e);
+  submitted = subst (λ sent. AllTyped sent typed) (sym (sent_is laws)) submitted;
+  members = λ i m e. subst (λ sent. IsMemberSound p (me_of (example p) i) sent typed m) (sym (sent_is laws)) (members_sound laws p i m e);
 }
 
 -- ---- it is ordered
@@ -180,8 +158,7 @@ example_sound laws p = record {
 push_apart : (keys : List Key) (key : Key) → AreApart keys → EachOf (λ (k : Key). k.serial ≢ key.serial) keys → AreApart (keys ++ key ∷ [])
 push_apart keys key apart each =
     all_pairs_push (λ (x y : Key). ¬ HaveOneName x y) keys key apart
-    (λ k d below name. each_of (λ (x : Key). x.serial ≢ key.serial) keys (get_or keys k d) each
-    (Contains-get_or keys k d below) name.serial)
+    (λ k d below name. each_of _ keys _ each (Contains-get_or keys k d below) name.serial)
 
 typed_apart : AreApart typed
 typed_apart =
@@ -191,12 +168,12 @@ typed_apart =
 
 nodes_ordered : (p : Parts) (i : ℕ) (m : Member) → member_at (example p).members i ≡ Some m
     → (m.kept.starts ≡ 1) × IfSome m.node (λ q. IsRowOf typed i m.kept q.known)
-nodes_ordered p zero m e = absurd (cc)
+nodes_ordered p zero m e = absurd cc
 nodes_ordered p (suc zero) m e =
     let first : Member = record { kept = kept_3; console = []; node = None } in
     let same : first ≡ m = cc in
     subst (λ (x : Member). (x.kept.starts ≡ 1) × IfSome x.node (λ q. IsRowOf typed 1 x.kept q.known)) same (refl, tt)
-nodes_ordered p (suc (suc i)) m e = absurd (cc)
+nodes_ordered p (suc (suc i)) m e = absurd cc
 
 first_start : (k : Key) → Contains typed k → k.start ≡ 1
 first_start k among = each_of (λ (x : Key). x.start ≡ 1) typed k (refl, (refl, (refl, tt))) among
@@ -208,7 +185,7 @@ example_ordered laws p = record {
     past = λ k m among at. omega (arith, first_start k among, (nodes_ordered p k.node m at).0);
     nodes = λ i m at. (nodes_ordered p i m at).1;
   };
-  due = subst (λ (sent : Sent). (v : Value) → IsSaid sent (Submit v) → IsDue 1 sent v) (sym (sent_is laws)) due;
+  due = subst (λ sent. (v : Value) → IsSaid sent (Submit v) → IsDue 1 sent v) (sym (sent_is laws)) due;
 }
 
 pub possible : ExampleLaws → (p : Parts)
@@ -221,7 +198,7 @@ possible laws p = (
   refl,
   example_sound laws p,
   example_ordered laws p,
-  subst (λ (sent : Sent). AreChosen 1 sent chosen_values) (sym (sent_is laws)) all_chosen,
+  subst (λ sent. AreChosen 1 sent chosen_values) (sym (sent_is laws)) all_chosen,
   refl,
   refl,
 )

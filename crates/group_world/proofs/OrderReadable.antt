@@ -8,7 +8,7 @@ use Rattle.paxos_msg.specs.declared.message.Body.TheVariants.{Accept, Accepted, 
 use Rattle.paxos_msg.specs.declared.message.Group.{Group}
 use Rattle.paxos_msg.specs.declared.value.Value.{Value}
 use Rattle.paxos_msg.specs.declared.value.Value.TheVariants.{Keys}
-use Rattle.paxos_msg.specs.Batches.{Msg, Vote}
+use Rattle.paxos_msg.specs.Batches.{Body, Msg, Vote}
 use Rattle.paxos_msg.specs.Fits.{Fits, IsBallot, IsNode, IsValue}
 use Rattle.paxos_msg.specs.Grammar.{AreBytes, IsGroup}
 use Rattle.paxos_msg.specs.Keys.{AreOwnKeys, batches}
@@ -43,8 +43,8 @@ packets = map to_all (Promise ballot 0 65536 [] ∷ (said_of 0 batch_a ++ (said_
 -- by a test of each element
 pub are_bytes : (bytes : List ℕ) → list_all (λ b. nat_lt b 256) bytes ≡ true → AreBytes bytes
 are_bytes [] e i = lit< tt
-are_bytes (b ∷ bytes) e zero = ltb-true b 256 (and_parts (nat_lt b 256) (list_all (λ b. nat_lt b 256) bytes) e).0
-are_bytes (b ∷ bytes) e (suc i) = are_bytes bytes (and_parts (nat_lt b 256) (list_all (λ b. nat_lt b 256) bytes) e).1 i
+are_bytes (b ∷ bytes) e zero = ltb-true b 256 (and_parts (nat_lt b 256) (list_all _ bytes) e).0
+are_bytes (b ∷ bytes) e (suc i) = are_bytes bytes (and_parts (nat_lt b 256) (list_all _ bytes) e).1 i
 
 -- the packet fits, and its spelling is bytes
 pub record IsReadable (packet : Packet) : Type 0 where
@@ -71,46 +71,28 @@ fits_ab = value_fits 1 (65 ∷ 66 ∷ []) (omega arith) (omega arith) (omega ari
 pub fits_c : IsValue 1 batch_c
 fits_c = value_fits 3 (67 ∷ []) (omega arith) (omega arith) (omega arith) (omega arith) refl
 
-submit_fits : (v : Value) → IsValue 1 v → AreOwnKeys batches 1 v → Fits group (message (Submit v))
-submit_fits v fits own = (node_fits, (fits, own))
+-- the test that the spelling of a packet with this body is bytes
+abbrev AreSpelled : Body → Type 0
+AreSpelled body = list_all (λ b. nat_lt b 256) (spelling group (message body)) ≡ true
 
-accept_fits : (s : ℕ) (v : Value) → s ≤ 65535 → IsValue 1 v → Fits group (message (Accept ballot s v))
-accept_fits s v place fits = (node_fits, (ballot_fits, refl, place, fits))
-
-accepted_fits : (s : ℕ) (v : Value) → s ≤ 65535 → IsValue 1 v → Fits group (message (Accepted ballot s v))
-accepted_fits s v place fits = (node_fits, (ballot_fits, place, fits))
+-- the packets of a batch, before others
+batch_read : {Others : Type 0} (s : ℕ) (v : Value) → s ≤ 65535 → IsValue 1 v → AreOwnKeys batches 1 v → AreSpelled (Submit v)
+    → AreSpelled (Accept ballot s v) → AreSpelled (Accepted ballot s v) → Others
+    → IsReadable (to_all (Submit v)) × (IsReadable (to_all (Accept ballot s v)) × (IsReadable (to_all (Accepted ballot s v)) × Others))
+batch_read s v place fits own submit accept accepted others = (
+  record { fits = (node_fits, (fits, own)); bytes = submit },
+  (
+    record { fits = (node_fits, (ballot_fits, refl, place, fits)); bytes = accept },
+    (record { fits = (node_fits, (ballot_fits, place, fits)); bytes = accepted }, others),
+  ),
+)
 
 readable : EachOf IsReadable packets
 readable = (
   record { fits = (node_fits, (ballot_fits, omega arith, omega arith, omega arith, omega arith, tt)); bytes = refl },
-  (
-    record { fits = submit_fits batch_a fits_a typed_a.own; bytes = refl },
-    (
-      record { fits = accept_fits 0 batch_a (omega arith) fits_a; bytes = refl },
-      (
-        record { fits = accepted_fits 0 batch_a (omega arith) fits_a; bytes = refl },
-        (
-          record { fits = submit_fits batch_ab fits_ab typed_ab.own; bytes = refl },
-          (
-            record { fits = accept_fits 1 batch_ab (omega arith) fits_ab; bytes = refl },
-            (
-              record { fits = accepted_fits 1 batch_ab (omega arith) fits_ab; bytes = refl },
-              (
-                record { fits = submit_fits batch_c fits_c typed_c.own; bytes = refl },
-                (
-                  record { fits = accept_fits 2 batch_c (omega arith) fits_c; bytes = refl },
-                  (
-                    record { fits = accepted_fits 2 batch_c (omega arith) fits_c; bytes = refl },
-                    tt,
-                  ),
-                ),
-              ),
-            ),
-          ),
-        ),
-      ),
-    ),
-  ),
+  batch_read 0 batch_a (omega arith) fits_a typed_a.own refl refl refl
+      (batch_read 1 batch_ab (omega arith) fits_ab typed_ab.own refl refl refl
+      (batch_read 2 batch_c (omega arith) fits_c typed_c.own refl refl refl tt)),
 )
 
 module _ (laws : ExampleLaws) where
@@ -119,7 +101,7 @@ module _ (laws : ExampleLaws) where
 
   read_as : (packet : Packet) → IsReadable packet → message_of group (datagram_of me packet) ≡ Some (message packet.body)
   read_as packet h =
-      ap result_ok ((laws.read group (datagram_of me packet).bytes (message packet.body) (omega arith)
+      ap result_ok ((laws.read group _ (message packet.body) (omega arith)
       (are_bytes (datagram_of me packet).bytes h.bytes)).1 (spelled_as packet h))
 
   pub all_read : (ps : List Packet) → EachOf IsReadable ps → messages_in group (datagrams_of me ps) ≡ messages_handed_out 1 ps
@@ -130,8 +112,7 @@ module _ (laws : ExampleLaws) where
   spelled_in [] each = All-nil (IsSpelling group)
   spelled_in (p ∷ ps) each =
       All-cons (IsSpelling group) (datagram_of me p) (datagrams_of me ps)
-      (record { message = message p.body; spells = spelled_as p each.0; read = read_as p each.0 })
-      (spelled_in ps each.1)
+      (record { message = message p.body; spells = spelled_as p each.0; read = read_as p each.0 }) (spelled_in ps each.1)
 
   pub all_spelled : All (IsSpelling group) (datagrams_of me packets)
   all_spelled = spelled_in packets readable

@@ -20,21 +20,21 @@ pub test_of : (node start : ℕ) (k : Key) → k.node ≡ node → k.start ≡ s
 test_of node start k e f = and_from (k.node == node) (k.start == start) (eq-eqb k.node node e) (eq-eqb k.start start f)
 
 pub not_of : (node start : ℕ) (k : Key) → ((k.node ≡ node) → (k.start ≡ start) → ⊥) → is_of node start k ≡ false
-not_of node start k ne = false_from_ne_true (is_of node start k) (λ h. ne (of_test node start k h).0 (of_test node start k h).1)
+not_of node start k ne = false_from_ne_true _ (λ h. ne (of_test node start k h).0 (of_test node start k h).1)
 
 -- ---- serials as elements
 
 pub serial_in : (keys : List Key) (node start serial : ℕ) → HasSerial keys node start serial → Contains (serials_of node start keys) serial
 serial_in keys node start serial h =
     let there =
-    in_map (λ (k : Key). k.serial) (those_of node start keys) h.key
-    (in_filter (is_of node start) keys h.key h.among (test_of node start h.key h.node_is h.start_is)) in
-    subst (λ (n : ℕ). Contains (serials_of node start keys) n) h.serial_is there
+    in_map (λ (k : Key). k.serial) _ h.key
+    (in_filter _ keys h.key h.among (test_of node start h.key h.node_is h.start_is)) in
+    subst (λ n. Contains (serials_of node start keys) n) h.serial_is there
 
 pub serial_of : (keys : List Key) (node start serial : ℕ) → Contains (serials_of node start keys) serial → HasSerial keys node start serial
 serial_of keys node start serial h =
-    let found = of_map (λ (k : Key). k.serial) (those_of node start keys) serial h in
-    let kept = of_filter (is_of node start) keys found.0 found.1 in
+    let found = of_map (λ (k : Key). k.serial) _ serial h in
+    let kept = of_filter _ keys found.0 found.1 in
     let same = of_test node start found.0 kept.1 in
     record { key = found.0; among = kept.0; node_is = same.0; start_is = same.1; serial_is = found.2 }
 
@@ -43,25 +43,16 @@ serial_of keys node start serial h =
 pub has_in : (keys more : List Key) (node start serial : ℕ) → ((k : Key) → Contains keys k → Contains more k)
     → HasSerial keys node start serial → HasSerial more node start serial
 has_in keys more node start serial within h =
-    record {
-      key = h.key;
-      among = within h.key h.among;
-      node_is = h.node_is;
-      start_is = h.start_is;
-      serial_is = h.serial_is;
-    }
+    record { key = h.key; among = within h.key h.among; node_is = h.node_is; start_is = h.start_is; serial_is = h.serial_is }
 
 -- ---- one key more
 
 one_more : (node start : ℕ) (keys : List Key) (k : Key) (own : Bool) → is_of node start k ≡ own
     → those_of node start (keys ++ k ∷ [])
     ≡ (if own then those_of node start keys ++ k ∷ [] else those_of node start keys)
-one_more node start keys k true e =
-    filter-append (is_of node start) keys (k ∷ [])
-    ∙ ap (λ (rest : List Key). those_of node start keys ++ rest) (rw e refl)
+one_more node start keys k true e = filter-append _ keys (k ∷ []) ∙ ap (λ rest. those_of node start keys ++ rest) (rw e refl)
 one_more node start keys k false e =
-    filter-append (is_of node start) keys (k ∷ [])
-    ∙ ap (λ (rest : List Key). those_of node start keys ++ rest) (rw e refl) ∙ append-nil (those_of node start keys)
+    filter-append _ keys (k ∷ []) ∙ ap (λ rest. those_of node start keys ++ rest) (rw e refl) ∙ append-nil _
 
 pub own_more : (node start : ℕ) (keys : List Key) (k : Key) → k.node ≡ node → k.start ≡ start
     → those_of node start (keys ++ k ∷ []) ≡ those_of node start keys ++ k ∷ []
@@ -75,7 +66,7 @@ pub own_serials : (node start : ℕ) (keys : List Key) (k : Key) → k.node ≡ 
     → serials_of node start (keys ++ k ∷ []) ≡ serials_of node start keys ++ k.serial ∷ []
 own_serials node start keys k e f =
     ap (map (λ (x : Key). x.serial)) (own_more node start keys k e f)
-    ∙ map-append (λ (x : Key). x.serial) (those_of node start keys) (k ∷ [])
+    ∙ map-append _ _ (k ∷ [])
 
 -- ---- keys that are apart
 

@@ -23,20 +23,18 @@ pub record ChoiceLaws : Type 0 where
 module _ (laws : ChoiceLaws) (keys : KeyLaws) {w : World} (sound : IsSound w) (h : IsOrdered w) where
   world_agreed : IsAgreed w.group.size (world_state w).sent
   world_agreed = record {
-    one = λ s v u. laws.one w.group.size s (world_state w).sent _ v u sound.grew;
-    free = λ s v. laws.free w.group.size s (world_state w).sent _ v sound.grew;
+    one = λ s v u. laws.one w.group.size s _ _ v u sound.grew;
+    free = λ s v. laws.free w.group.size s _ _ v sound.grew;
   }
 
   world_submits : AreSubmits w.group.size (world_state w).sent (world_state w).typed
   world_submits = record { of_typed = λ v said k among. (sound.submitted said.0 v said.1).known k among; due = h.due }
 
   pub world_orderly : (values : List Value) → AreChosen w.group.size (world_state w).sent values → AreOrderly (keys_in_order values)
-  world_orderly values front =
-      front_orderly keys h.keys.once world_submits world_agreed values front
+  world_orderly values front = front_orderly keys h.keys.once world_submits world_agreed values front
 
   -- the keys of chosen values were typed
   pub chosen_typed : (values : List Value) → AreChosen w.group.size (world_state w).sent values → (k : Key)
       → Contains (keys_in_order values) k → Contains (world_state w).typed k
   chosen_typed values front k among =
-      front_typed keys h.keys.once world_submits world_agreed values front k
-      ((keys_are_firsts keys (all_keys values)).only k among)
+      front_typed keys h.keys.once world_submits world_agreed values front k ((keys_are_firsts keys (all_keys values)).only k among)

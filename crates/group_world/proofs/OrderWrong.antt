@@ -6,8 +6,8 @@ use Rattle.paxos_learner.specs.Input.{keys_in_order}
 use Rattle.group_world.specs.Order.{AreApart, AreInOrder}
 
 not_row : (x y k : ℕ) → (x ≡ 1 → y ≡ 2 → ⊥) → x ∷ y ∷ [] ≡ range_with_len 1 k → ⊥
-not_row x y zero ne e = (cc)
-not_row x y (suc zero) ne e = (cc)
+not_row x y zero ne e = cc
+not_row x y (suc zero) ne e = cc
 not_row x y (suc (suc k)) ne e =
     let first : x ≡ 1 = cc in
     let second : y ≡ 1 + 1 = cc in

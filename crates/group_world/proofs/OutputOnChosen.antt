@@ -49,8 +49,7 @@ module _ (laws : PlayLaws) {w : World} (h : IsSound w) where
   chosen_output : (values : List Value) (x a : List ℕ) → AreChosen w.group.size (world_state w).sent values
       → IsInput w.group.size (world_state w).sent x → IsOutput w.program (input_of values) a → IsOutput w.program x a
   chosen_output values x a front chosen =
-      laws.longer w.program (input_of values) x a
-      (laws.begins w.group.size (world_state w).sent (λ j. ((world_state w).seats j).kept) values x h.grew front chosen)
+      laws.longer w.program _ x a (laws.begins w.group.size _ (λ j. ((world_state w).seats j).kept) values x h.grew front chosen)
 
   -- a console holds output on the chosen input
   pub console_output : (i : ℕ) (m : Member) (x : List ℕ) → member_at w.members i ≡ Some m
@@ -64,16 +63,11 @@ module _ (laws : PlayLaws) {w : World} (h : IsSound w) where
   pub offer_fits : {i : ℕ} {m : Member} {q : Running} (up : IsUp w i m q) (byte : ℕ)
       → slice_get (written q) q.progress.released ≡ Some byte → IsOffer m.console (written q) q.progress.released byte
   offer_fits {i} {m} {q} up byte e =
-      let (x, chosen) = laws.there w.group.size (world_state w).sent in
+      let (x, chosen) = laws.there w.group.size _ in
       let sound = running h up in
       let output : IsOutput w.program (input q.known) (written q) =
       (q.progress.steps, rw sound.program (record { rest = []; whole = sym (append-nil _) })) in
       let compare =
       laws.compared w.program x x m.console (written q) (inl (laws.itself x)) (console_output i m x up.there chosen)
-      (chosen_output (front_values q.known.learner.learned) x (written q) (front_chosen laws.fronts sound.learned) chosen output) in
-      record {
-        compare = compare;
-        begins = laws.shorter m.console (written q) compare;
-        shown = sound.shown;
-        byte = e;
-      }
+      (chosen_output _ x (written q) (front_chosen laws.fronts sound.learned) chosen output) in
+      record { compare = compare; begins = laws.shorter m.console (written q) compare; shown = sound.shown; byte = e }

@@ -1,5 +1,4 @@
--- What a press, a run and a release leave of a node of the group, by the contracts of the node's
--- calls.
+-- A node of the group after a press, a run and a release, by the contracts of the node's calls.
 use Rattle.std.proofs.lemmas.Bool.{both_ways, ne_eqb}
 use Rattle.group_world.proofs.ReleasedBytes.{next_of}
 use Rattle.std.proofs.Common.{◌≡◌, ◌≢◌, ◌↔◌, ◌⊎◌, ◌∙◌, ◌<◌, ◌≤◌, Bool, true, false, ℕ, List, [], ◌∷◌, ◌+◌, length, option_map, Option, None, Some, Result, Ok, Err, IfErr, IfOk, IsErrOf, MatchResult, inl, inr, refl, sym, ap, subst, arith}
@@ -87,9 +86,9 @@ presses old new plan console byte (Err f) is_open t =
     rw (by t.others) (record { answer = refl; left = rw t.err refl; sends = refl; types = refl })
   where
     by : (f ≡ fault.Stopped) ⊎ (f ≡ fault.Busy) ⊎ (f ≡ fault.SerialSpent) → call_of_press old.protocol.known byte ≡ Refuses f
-    by (inl stopped) = absurd (both_ways old.protocol.is_stopped is_open.works (t.stopped (ap Err stopped)))
-    by (inr (inl busy)) = press_busy old.protocol.known byte (t.busy.0 (ap Err busy)).1 ∙ ap Refuses (sym busy)
-    by (inr (inr spent)) = let h = t.spent.0 (ap Err spent) in press_spent old.protocol.known byte h.1 h.2 ∙ ap Refuses (sym spent)
+    by (inl stopped) = absurd (both_ways _ is_open.works (t.stopped (ap Err stopped)))
+    by (inr (inl busy)) = press_busy _ byte (t.busy.0 (ap Err busy)).1 ∙ ap Refuses (sym busy)
+    by (inr (inr spent)) = let h = t.spent.0 (ap Err spent) in press_spent _ byte h.1 h.2 ∙ ap Refuses (sym spent)
 
 -- a node at which a byte was typed is still open
 pub typed_open : {old new : NodeState StoreState} {byte : ℕ} {answer : Result Value NodeFault} → IsOpen old
@@ -118,7 +117,7 @@ runs old new console steps (Ok ran) is_open on protocol stopped others replay = 
       }) protocol;
 }
 runs old new console steps (Err f) is_open on protocol stopped others replay =
-    absurd (both_ways old.protocol.is_stopped is_open.works (stopped (ap Err others)))
+    absurd (both_ways _ is_open.works (stopped (ap Err others)))
 
 pub run_open : {old new : NodeState StoreState} → IsOpen old → new.protocol ≡ old.protocol → IsOpen new
 run_open is_open protocol = record { works = rw protocol is_open.works; stored = rw protocol is_open.stored }
@@ -145,10 +144,9 @@ pub releases : (old new : NodeState StoreState) (console shown : List ℕ) (numb
     → new.progress ≡ record old.progress { released = old.progress.released + 1 } → new.protocol ≡ old.protocol
     → shown ≡ offered console number byte
     → member_of (place.Up new) shown
-    ≡ member_after_release (member_of (place.Up old) console) (running old)
-    (next_of (running old))
+    ≡ member_after_release (member_of (place.Up old) console) (running old) (next_of (running old))
 releases old new console shown number byte is progress protocol offer =
-    let next = next_byte (next_of (running old)) old.progress.released number byte is in
+    let next = next_byte (next_of (running old)) _ number byte is in
     rw (protocol, progress, offer, next.1, next.0) refl
 
 -- the same if no byte waits
@@ -157,7 +155,5 @@ pub releases_none : (old new : NodeState StoreState) (console : List ℕ)
     (option_map (λ b. (old.progress.released, b))
     (next_of (running old))) → new ≡ old
     → member_of (place.Up new) console
-    ≡ member_after_release (member_of (place.Up old) console) (running old)
-    (next_of (running old))
-releases_none old new console not same =
-    rw (same, no_byte (next_of (running old)) old.progress.released not) refl
+    ≡ member_after_release (member_of (place.Up old) console) (running old) (next_of (running old))
+releases_none old new console not same = rw (same, no_byte (next_of (running old)) _ not) refl

@@ -1,4 +1,4 @@
--- What a byte that a node releases leaves of its console.
+-- A node's console after a byte that the node releases.
 use Rattle.std.proofs.Common.{◌≡◌, ◌≢◌, ◌∙◌, ℕ, zero, suc, ◌+◌, ◌<◌, ◌≤◌, ◌⊎◌, List, [], ◌∷◌, ◌++◌, length, drop, slice_get, Option, Some, inl, inr, refl, sym, ap, subst, append_assoc, arith}
 use Rattle.std.proofs.lemmas.Bool.{cases_eq, eq-eqb, ne_eqb, lt-ltb}
 use Rattle.std.proofs.lemmas.List.{length_push}
@@ -26,7 +26,7 @@ first_dropped (suc k) (x ∷ xs) = first_dropped k xs
 
 -- the byte that is released next is that after those that were released
 pub next_written : (q : Running) → slice_get (written q) q.progress.released ≡ next_of q
-next_written q = sym (first_dropped q.progress.released (written q))
+next_written q = sym (first_dropped _ (written q))
 
 -- the element after a prefix is the first of the rest
 first_of_rest : (a rest : List ℕ) (b : ℕ) → slice_get (a ++ rest) (length a) ≡ Some b → (more : List ℕ) × (rest ≡ b ∷ more)
@@ -37,8 +37,8 @@ first_of_rest (x ∷ xs) rest b e = first_of_rest xs rest b e
 -- a prefix with the next element is a prefix
 push_prefix : (a all : List ℕ) (b : ℕ) → IsPrefix a all → slice_get all (length a) ≡ Some b → IsPrefix (a ++ b ∷ []) all
 push_prefix a all b h e =
-    let next = first_of_rest a h.rest b (ap (λ (l : List ℕ). slice_get l (length a)) (sym h.whole) ∙ e) in
-    record { rest = next.0; whole = h.whole ∙ ap (λ (l : List ℕ). a ++ l) next.1 ∙ sym (append_assoc a (b ∷ []) next.0) }
+    let next = first_of_rest a h.rest b (ap (λ l. slice_get l (length a)) (sym h.whole) ∙ e) in
+    record { rest = next.0; whole = h.whole ∙ ap (λ l. a ++ l) next.1 ∙ sym (append_assoc a (b ∷ []) next.0) }
 
 some_at : (a : List ℕ) (k : ℕ) → k < length a → (b : ℕ) × (slice_get a k ≡ Some b)
 some_at [] k low = absurd (omega arith)
@@ -51,7 +51,7 @@ front_get (x ∷ xs) rest zero b e = e
 front_get (x ∷ xs) rest (suc k) b e = front_get xs rest k b e
 
 prefix_get : (a all : List ℕ) (k b : ℕ) → IsPrefix a all → slice_get a k ≡ Some b → slice_get all k ≡ Some b
-prefix_get a all k b h e = ap (λ (l : List ℕ). slice_get l k) h.whole ∙ front_get a h.rest k b e
+prefix_get a all k b h e = ap (λ l. slice_get l k) h.whole ∙ front_get a h.rest k b e
 
 -- an element that both of two comparable lists have is the same
 compare_get : (a b : List ℕ) (k x y : ℕ) → AreComparable a b → slice_get a k ≡ Some x → slice_get b k ≡ Some y → x ≡ y
@@ -73,8 +73,7 @@ module _ {console all : List ℕ} {k b : ℕ} (h : IsOffer console all k b) wher
   fresh_prefix : k ≡ length console → IsPrefix (console ++ b ∷ []) all
   fresh_prefix e =
       push_prefix console all b
-      (h.begins (omega (arith, slice_get_within all k b h.byte, e)))
-      (subst (λ (n : ℕ). slice_get all n ≡ Some b) e h.byte)
+      (h.begins (omega (arith, slice_get_within all k b h.byte, e))) (subst (λ n. slice_get all n ≡ Some b) e h.byte)
 
   -- if the console shows more than `k` bytes, byte `k` is one of them
   same_byte : k < length console → slice_get console k ≡ Some b
@@ -84,7 +83,7 @@ module _ {console all : List ℕ} {k b : ℕ} (h : IsOffer console all k b) wher
 
   -- the answer if the byte comes next, and if it does not
   answer_next : k ≡ length console → offer_answer console k ≡ Fresh
-  answer_next e = rw (eq-eqb k (length console) e) refl
+  answer_next e = rw (eq-eqb k _ e) refl
 
   answer_again : k ≢ length console → offer_answer console k ≡ Repeat
   answer_again ne = rw (ne_eqb k (length console) ne, lt-ltb k (length console) (omega (arith, h.shown))) refl
@@ -106,7 +105,7 @@ module _ {console all : List ℕ} {k b : ℕ} (h : IsOffer console all k b) wher
   -- the console shows the byte after the offer
   pub shown_then : k + 1 ≤ length (offered console k b)
   shown_then = elim (cases_eq k (length console)) [
-    | inl e ↦ rw (eq-eqb k (length console) e) (omega (arith, length_push console b))
+    | inl e ↦ rw (eq-eqb k _ e) (omega (arith, length_push console b))
     | inr ne ↦ rw (ne_eqb k (length console) ne) (omega (arith, h.shown))
   ]
 

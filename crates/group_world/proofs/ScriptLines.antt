@@ -5,7 +5,7 @@ use Rattle.std.specs.List.{position_or_len, before_first, after_first}
 use Rattle.std.proofs.lemmas.List.{append-nil}
 use Rattle.std.proofs.Math.Seq.{take-append_seam}
 use Rattle.group_world.specs.declared.script.Line.{Line}
-use Rattle.group_world.specs.Scripts.{IsReached, begins_with, header_of, in_front, line_of, lines_of, lines_say, script_behind, script_in, script_of}
+use Rattle.group_world.specs.Scripts.{IsReached, begins_with, header_of, in_front, line_of, lines_of, lines_say, script_after, script_in, script_of}
 
 -- the line that a text begins with, and the text after it
 abbrev pub line_in : List ℕ → List ℕ
@@ -24,7 +24,7 @@ line_in-cons b bs e = ap (λ n. take n (b ∷ bs)) (position-cons b bs e)
 
 rest_of-cons : (b : ℕ) (bs : List ℕ) → (b == 10) ≡ false → rest_of (b ∷ bs) ≡ rest_of bs
 rest_of-cons b bs e =
-    let n : ℕ = position_or_len (λ c. c == 10) bs in
+    let n = position_or_len (λ c. c == 10) bs in
     let step : position_or_len (λ c. c == 10) (b ∷ bs) + 1 ≡ suc (n + 1) = ap (λ k. k + 1) (position-cons b bs e) ∙ omega arith in
     ap (λ k. drop k (b ∷ bs)) step
 
@@ -37,11 +37,9 @@ lines_of-cons : (b : ℕ) (bs : List ℕ) (is_feed : Bool) → (b == 10) ≡ is_
 lines_of-cons b bs true e = rw e refl
 lines_of-cons b [] false e = rw e refl
 lines_of-cons b (c ∷ cs) false e =
-    let xs : List ℕ = c ∷ cs in
-    let line : line_in (b ∷ xs) ∷ lines_of (rest_of (b ∷ xs)) ≡ (b ∷ line_in xs) ∷ lines_of (rest_of (b ∷ xs)) =
-    ap (λ l. l ∷ lines_of (rest_of (b ∷ xs))) (line_in-cons b xs e) in
-    let rest : (b ∷ line_in xs) ∷ lines_of (rest_of (b ∷ xs)) ≡ (b ∷ line_in xs) ∷ lines_of (rest_of xs) =
-    ap (λ r. (b ∷ line_in xs) ∷ lines_of r) (rest_of-cons b xs e) in
+    let xs = c ∷ cs in
+    let line = ap (λ l. l ∷ lines_of (rest_of (b ∷ xs))) (line_in-cons b xs e) in
+    let rest = ap (λ r. (b ∷ line_in xs) ∷ lines_of r) (rest_of-cons b xs e) in
     (lines_of-more b xs e ∙ ap (begins_with b) (lines_of-cons c cs (c == 10) refl)) ∙ sym (line ∙ rest)
 
 lines_of-first : (text : List ℕ) → 0 < length text → lines_of text ≡ line_in text ∷ lines_of (rest_of text)
@@ -57,22 +55,18 @@ after-in_front : (xs : List Line) (l : Line) (n : ℕ) (r : Result (List Line) �
 after-in_front xs l n (Ok ys) = ap (λ zs. Ok zs) (sym (append_assoc xs (l ∷ []) ys))
 after-in_front xs l n (Err bad) = refl
 
-pub after-nil : (r : Result (List Line) ℕ) → after [] r ≡ r
-after-nil (Ok ys) = refl
-after-nil (Err bad) = refl
-
 -- a line that was read comes after those that were read before
 pub one_more : (xs : List Line) (n : ℕ) (rest : List ℕ) (l : Line) → 0 < length rest → line_of (line_in rest) ≡ Some l
     → after xs (lines_say n (lines_of rest)) ≡ after (xs ++ l ∷ []) (lines_say (n + 1) (lines_of (rest_of rest)))
 one_more xs n rest l h e =
-    let more : Result (List Line) ℕ = lines_say (n + 1) (lines_of (rest_of rest)) in
+    let more = lines_say (n + 1) (lines_of (rest_of rest)) in
     (ap (λ ls. after xs (lines_say n ls)) (lines_of-first rest h) ∙ ap (λ o. after xs (in_front o n more)) e) ∙ after-in_front xs l n more
 
 -- the first line that says nothing
 pub bad_line : (xs : List Line) (n : ℕ) (rest : List ℕ) → 0 < length rest → line_of (line_in rest) ≡ None
     → after xs (lines_say n (lines_of rest)) ≡ Err n
 bad_line xs n rest h e =
-    let more : Result (List Line) ℕ = lines_say (n + 1) (lines_of (rest_of rest)) in
+    let more = lines_say (n + 1) (lines_of (rest_of rest)) in
     ap (λ ls. after xs (lines_say n ls)) (lines_of-first rest h) ∙ ap (λ o. after xs (in_front o n more)) e
 
 -- no line is left
@@ -81,32 +75,26 @@ all_read xs n [] h = ap (λ zs. Ok zs) (append-nil xs)
 all_read xs n (b ∷ bs) h = absurd (omega arith)
 
 -- a script is its first line and the lines after it
-pub script_of-first : (text : List ℕ) → script_of text ≡ script_behind (header_of (line_in text)) (lines_say 2 (lines_of (rest_of text)))
+pub script_of-first : (text : List ℕ) → script_of text ≡ script_after (header_of (line_in text)) (lines_say 2 (lines_of (rest_of text)))
 script_of-first [] = refl
 script_of-first (b ∷ bs) = ap script_in (lines_of-cons b bs (b == 10) refl)
 
 -- a script whose first line says nothing; and a good first line with the lines after it
 pub no_group : (text : List ℕ) → header_of (line_in text) ≡ None → script_of text ≡ Err 1
-no_group text e = script_of-first text ∙ ap (λ o. script_behind o (lines_say 2 (lines_of (rest_of text)))) e
+no_group text e = script_of-first text ∙ ap (λ o. script_after o (lines_say 2 (lines_of (rest_of text)))) e
 
 pub group_and_lines : (text : List ℕ) (group : ℕ × ℕ) (r : Result (List Line) ℕ) → header_of (line_in text) ≡ Some group
-    → lines_say 2 (lines_of (rest_of text)) ≡ r → script_of text ≡ script_behind (Some group) r
+    → lines_say 2 (lines_of (rest_of text)) ≡ r → script_of text ≡ script_after (Some group) r
 group_and_lines text group r e f =
-    (script_of-first text ∙ ap (λ o. script_behind o (lines_say 2 (lines_of (rest_of text)))) e)
-    ∙ ap (script_behind (Some group)) f
+    (script_of-first text ∙ ap (λ o. script_after o (lines_say 2 (lines_of (rest_of text)))) e) ∙ ap (script_after (Some group)) f
 
 pub grown : (xs ys : List Line) (n m : ℕ) (rest more : List ℕ) (l : Line) → 0 < length rest
     → line_of (line_in rest) ≡ Some l → more ≡ rest_of rest → ys ≡ xs ++ l ∷ [] → m ≡ n + 1
     → after xs (lines_say n (lines_of rest)) ≡ after ys (lines_say m (lines_of more))
 grown xs ys n m rest more l h e behind items number =
-    let first : after ys (lines_say m (lines_of more)) ≡ after (xs ++ l ∷ []) (lines_say m (lines_of more)) =
-    ap (λ zs. after zs (lines_say m (lines_of more))) items in
-    let second : after (xs ++ l ∷ []) (lines_say m (lines_of more))
-    ≡ after (xs ++ l ∷ []) (lines_say (n + 1) (lines_of more)) =
-    ap (λ k. after (xs ++ l ∷ []) (lines_say k (lines_of more))) number in
-    let third : after (xs ++ l ∷ []) (lines_say (n + 1) (lines_of more))
-    ≡ after (xs ++ l ∷ []) (lines_say (n + 1) (lines_of (rest_of rest))) =
-    ap (λ t. after (xs ++ l ∷ []) (lines_say (n + 1) (lines_of t))) behind in
+    let first = ap (λ zs. after zs (lines_say m (lines_of more))) items in
+    let second = ap (λ k. after (xs ++ l ∷ []) (lines_say k (lines_of more))) number in
+    let third = ap (λ t. after (xs ++ l ∷ []) (lines_say (n + 1) (lines_of t))) behind in
     one_more xs n rest l h e ∙ sym ((first ∙ second) ∙ third)
 
 -- ---- the lines that were read
@@ -114,17 +102,16 @@ grown xs ys n m rest more l h e behind items number =
 in_front_parts : (o : Option Line) (n : ℕ) (rest : Result (List Line) ℕ) (xs : List Line)
     → in_front o n rest ≡ Ok xs
     → (l : Line) × (ys : List Line) × (o ≡ Some l) × (rest ≡ Ok ys) × (xs ≡ l ∷ ys)
-in_front_parts None n rest xs e = absurd (cc)
+in_front_parts None n rest xs e = absurd cc
 in_front_parts (Some l) n (Ok ys) xs e = (l, ys, refl, refl, (cc))
-in_front_parts (Some l) n (Err bad) xs e = absurd (cc)
+in_front_parts (Some l) n (Err bad) xs e = absurd cc
 
 -- as many items as lines
 said_length : (n : ℕ) (read : List (List ℕ)) (xs : List Line) → lines_say n read ≡ Ok xs
     → length xs ≡ length read
 said_length n [] xs e = let none : xs ≡ [] = cc in ap length none
 said_length n (line ∷ more) xs e =
-    let (l, ys, first, rest, whole) = in_front_parts (line_of line) n (lines_say (n + 1) more) xs
-    e in
+    let (l, ys, first, rest, whole) = in_front_parts _ n _ xs e in
     ap length whole ∙ ap (λ k. suc k) (said_length (n + 1) more ys rest)
 
 -- and one line more
@@ -135,9 +122,8 @@ said_more n [] xs line l e f =
     let none : [] ≡ xs = cc in
     ap (λ o. in_front o n (Ok [])) f ∙ ap (λ zs. Ok (zs ++ l ∷ [])) none
 said_more n (r ∷ rs) xs line l e f =
-    let (k, ys, first, rest, whole) = in_front_parts (line_of r) n (lines_say (n + 1) rs) xs e in
-    let later : lines_say (n + 1) (rs ++ line ∷ []) ≡ Ok (ys ++ l ∷ []) =
-    said_more (n + 1) rs ys line l rest f in
+    let (k, ys, first, rest, whole) = in_front_parts _ n _ xs e in
+    let later = said_more (n + 1) rs ys line l rest f in
     (ap (λ o. in_front o n (lines_say (n + 1) (rs ++ line ∷ []))) first
     ∙ ap (in_front (Some k) n) later) ∙ ap (λ zs. Ok (zs ++ l ∷ [])) (sym whole)
 
@@ -154,15 +140,14 @@ pub read_next : (all : List (List ℕ)) (xs ys : List Line) (rest more : List �
 read_next all xs ys rest more l h some e left items = record {
   read = h.read ++ line_in rest ∷ [];
   whole = (h.whole ∙ ap (λ ls. h.read ++ ls) (lines_of-first rest some))
-      ∙ (sym (append_assoc h.read (line_in rest ∷ []) (lines_of (rest_of rest)))
-      ∙ ap (λ t. (h.read ++ line_in rest ∷ []) ++ lines_of t) (sym left));
-  says = said_more 2 h.read xs (line_in rest) l h.says e ∙ ap (λ zs. Ok zs) (sym items);
+      ∙ (sym (append_assoc h.read _ (lines_of (rest_of rest))) ∙ ap (λ t. (h.read ++ line_in rest ∷ []) ++ lines_of t) (sym left));
+  says = said_more 2 h.read xs _ l h.says e ∙ ap (λ zs. Ok zs) (sym items);
 }
 
 -- a text whose first line is good has one
 header_first : (text : List ℕ) (group : ℕ × ℕ) → header_of (line_in text) ≡ Some group
     → lines_of text ≡ line_in text ∷ lines_of (rest_of text)
-header_first [] group e = absurd (cc)
+header_first [] group e = absurd cc
 header_first (b ∷ bs) group e = lines_of-first (b ∷ bs) (omega arith)
 
 take_first : (first : List ℕ) (read left : List (List ℕ))
@@ -176,18 +161,15 @@ pub reached : (text : List ℕ) (group : ℕ × ℕ) (xs : List Line) (rest : Li
     → IsReached text n
 reached text group xs rest n header h some number =
     let first = header_first text group header in
-    let all : lines_of text ≡ line_in text ∷ (h.read ++ lines_of rest) = first
-    ∙ ap (λ ls. line_in text ∷ ls) h.whole in
-    let count : length xs ≡ length h.read = said_length 2 h.read xs h.says in
-    let left : length (lines_of rest) ≡ suc (length (lines_of (rest_of rest))) =
-    ap length (lines_of-first rest some) in
-    let size : length (lines_of text) ≡ suc (length h.read + length (lines_of rest)) =
-    ap length all ∙ ap (λ k. suc k) (length-append h.read (lines_of rest)) in
+    let all = first ∙ ap (λ ls. line_in text ∷ ls) h.whole in
+    let count = said_length 2 h.read xs h.says in
+    let left = ap length (lines_of-first rest some) in
+    let size = ap length all ∙ ap (λ k. suc k) (length-append h.read _) in
     let before : n - 1 ≡ suc (length h.read) = omega arith in
     let lines : take (n - 1) (lines_of text) ≡ line_in text ∷ h.read =
     (ap (λ k. take k (lines_of text)) before ∙ ap (take (suc (length h.read))) all)
-    ∙ take_first (line_in text) h.read (lines_of rest) in
-    let script : script_in (take (n - 1) (lines_of text)) ≡ script_behind (Some group) (Ok xs) =
-    (ap script_in lines ∙ ap (λ o. script_behind o (lines_say 2 h.read)) header)
-    ∙ ap (script_behind (Some group)) h.says in
+    ∙ take_first _ h.read _ in
+    let script : script_in (take (n - 1) (lines_of text)) ≡ script_after (Some group) (Ok xs) =
+    (ap script_in lines ∙ ap (λ o. script_after o (lines_say 2 h.read)) header)
+    ∙ ap (script_after (Some group)) h.says in
     record { there = omega arith; before = subst IsOk (sym script) refl }

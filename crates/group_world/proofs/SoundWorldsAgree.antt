@@ -38,7 +38,7 @@ member_up w i u (Some m) there e =
     record { member = m; running = q; is_up = record { there = there; up = up }; seen = seen }
 
 pub seen_up : (w : World) (i : ℕ) (u : Up) → ((world_state w).seats i).up ≡ Some u → IsSeenUp w i u
-seen_up w i u e = member_up w i u (member_at w.members i) refl e
+seen_up w i u e = member_up w i u _ refl e
 
 module _ (laws : ChoiceLaws) (w : World) (h : IsSound w) where
   -- what is learned is chosen
@@ -52,13 +52,12 @@ module _ (laws : ChoiceLaws) (w : World) (h : IsSound w) where
   typed_of v (inr said) k among = (h.submitted said.0 v said.1).known k among
 
   pub learned_agree : LearnedAgree (world_state w)
-  learned_agree i j s v u has other =
-      laws.one w.group.size s (world_state w).sent _ v u h.grew (learned_is_chosen i s v has) (learned_is_chosen j s u other)
+  learned_agree i j s v u has other = laws.one w.group.size s _ _ v u h.grew (learned_is_chosen i s v has) (learned_is_chosen j s u other)
 
   pub learned_chosen : LearnedChosen (world_state w)
   learned_chosen i s v has =
       let chosen = learned_is_chosen i s v has in
-      (chosen, typed_of v (laws.free w.group.size s (world_state w).sent _ v h.grew chosen))
+      (chosen, typed_of v (laws.free w.group.size s _ _ v h.grew chosen))
 
 module _ (laws : PlayLaws) (w : World) (h : IsSound w) where
   seat_output : (i : ℕ) (o : Option Member) (x : List ℕ) → member_at w.members i ≡ o
@@ -67,11 +66,11 @@ module _ (laws : PlayLaws) (w : World) (h : IsSound w) where
   seat_output i (Some m) x e chosen = console_output laws h i m x e chosen
 
   pub consoles_hold_output : ConsolesHoldOutput (world_state w)
-  consoles_hold_output x i chosen = seat_output i (member_at w.members i) x refl chosen
+  consoles_hold_output x i chosen = seat_output i _ x refl chosen
 
   pub consoles_agree : ConsolesAgree (world_state w)
   consoles_agree i j =
-      let (x, chosen) = laws.there w.group.size (world_state w).sent in
+      let (x, chosen) = laws.there w.group.size _ in
       laws.compared w.program x x _ _ (inl (laws.itself x)) (consoles_hold_output x i chosen) (consoles_hold_output x j chosen)
 
   -- the byte with number `k` comes next, or is there
@@ -83,10 +82,8 @@ module _ (laws : PlayLaws) (w : World) (h : IsSound w) where
   has_no_gap i byte node up e =
       let seen = seen_up w i node up in
       let q = seen.running in
-      let next : slice_get (up_of q).configuration.output (up_of q).released ≡ Some byte =
-      ap (λ (u : Up). slice_get u.configuration.output u.released) seen.seen ∙ e in
+      let next = ap (λ (u : Up). slice_get u.configuration.output u.released) seen.seen ∙ e in
       let offer = offer_fits laws h seen.is_up byte next in
-      let console : ((world_state w).seats i).console ≡ seen.member.console =
-      ap (λ (o : Option Member). (seat_of_member o).console) seen.is_up.there in
-      subst (λ (c : List ℕ). FitsNext c node.released byte) (sym console)
+      let console = ap (λ o. (seat_of_member o).console) seen.is_up.there in
+      subst (λ c. FitsNext c node.released byte) (sym console)
       (subst (λ (u : Up). FitsNext seen.member.console u.released byte) seen.seen (no_gap offer, repeat_is_same offer))

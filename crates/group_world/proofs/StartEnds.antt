@@ -20,13 +20,12 @@ use Rattle.group_world.specs.declared.fault.WorldFault.{WorldFault}
 use Rattle.group_world.specs.declared.member.Place.{Place}
 use Rattle.group_world.specs.declared.member.Place.TheVariants as place
 use Rattle.group_world.specs.Member.{CallEnds, IsDone, Makes, Member, Refuses, call_outcome, member_of, call_of_start, running_of, store_of}
-use Rattle.group_world.proofs.AskEnds.{is_fault, told}
+use Rattle.group_world.proofs.AskEnds.{is_fault, not_done, told}
 use Rattle.group_world.proofs.PlaceCalls.{down_is}
 
 start_makes : (me : Me) (kept : Record) → kept.starts < 4294967295 → call_of_start me kept ≡ Makes (on_start me kept) []
 start_makes me kept less =
-    rw (false_from_ne_true (kept.starts == 4294967295) (λ e. absurd (omega (arith, eqb-true kept.starts 4294967295 e, less))))
-    refl
+    rw (false_from_ne_true (kept.starts == 4294967295) (λ e. absurd (omega (arith, eqb-true kept.starts 4294967295 e, less)))) refl
 
 start_spent : (me : Me) (kept : Record) → kept.starts ≡ 4294967295 → call_of_start me kept ≡ Refuses fault.StartsSpent
 start_spent me kept e = rw e refl
@@ -43,7 +42,7 @@ starts_up : (plan : Option Bool) (me : Me) (p : Parts) (kept : Record) (n : Node
 starts_up plan me p kept n rules none progress less console =
     rw (start_makes me kept less, none) (record { answer = refl; left = rw (rules, progress) refl; sends = refl; types = refl })
 
--- why a start is refused, and what it leaves of its store
+-- why a start is refused, and its store then
 pub record FailsToStart (plan : Option Bool) (me : Me) (kept left : Record) (f : NodeFault) : Type 0 where
   pub bad : f ≡ fault.BadRecord → ¬ IsRecord me.group.size kept
   pub spent : f ≡ fault.StartsSpent → kept.starts ≡ 4294967295
@@ -60,13 +59,12 @@ starts_not plan me p kept left f d ranges h is console = by h.others is where
   Left = CallEnds me (down kept console) (no_progress p) (call_outcome plan kept (call_of_start me kept)) d (down left console) [] []
 
   by : (f ≡ fault.Memory) ⊎ (f ≡ fault.Store) ⊎ (f ≡ fault.BadRecord) ⊎ (f ≡ fault.StartsSpent) → IsDone (Err f) d → Left
-  by (inl memory) (inl (store, is)) = absurd cc
-  by (inl memory) (inr (not_store, not_memory, is)) = absurd (not_memory memory)
+  by (inl memory) is = absurd (not_done memory is)
   by (inr (inl device)) (inr (not_store, not_memory, is)) = absurd (not_store device)
   by (inr (inl device)) (inl (store, is)) =
-      let t = told (Some change.Start) plan kept (changed kept change.Start) left (λ e. absurd cc) (h.told device) in
+      let t = told (Some change.Start) plan kept _ left (λ e. absurd cc) (h.told device) in
       rw (start_makes me kept (h.spare device), t.1)
-      (record { answer = is; left = ap (λ (r : Record). down r console) t.2; sends = refl; types = refl })
+      (record { answer = is; left = ap (λ r. down r console) t.2; sends = refl; types = refl })
   by (inr (inr (inl bad))) is = absurd (h.bad bad ranges)
   by (inr (inr (inr spent))) (inl (store, is)) = absurd cc
   by (inr (inr (inr spent))) (inr (not_store, not_memory, is)) =
@@ -77,7 +75,7 @@ starts_not plan me p kept left f d ranges h is console = by h.others is where
 left_down : (f : NodeFault) (store : StoreState) (old new : Place) → old ≡ place.Down store
     → (IsErrOf {T = Unit {0}} (Err f) fault.Store → new ≡ place.Down (store_of old))
     → (¬ IsErrOf {T = Unit {0}} (Err f) fault.Store → new ≡ old) → (f ≡ fault.Store) ⊎ (f ≢ fault.Store) → new ≡ place.Down store
-left_down f store old new is fell stays (inl device) = fell (ap Err device) ∙ ap (λ (x : Place). place.Down (store_of x)) is
+left_down f store old new is fell stays (inl device) = fell (ap Err device) ∙ ap (λ x. place.Down (store_of x)) is
 left_down f store old new is fell stays (inr other) = stays (λ e. other (is_fault e)) ∙ is
 
 -- ---- the node `m` of the group, which is at the place `s`, down
@@ -85,8 +83,7 @@ left_down f store old new is fell stays (inr other) = stays (λ e. other (is_fau
 module _ (plan : Option Bool) (me : Me) (p : Parts) (s : Place) (console : List ℕ) (m : Member) (is_down : running_of s ≡ None)
     (is : member_of s console ≡ m) where
   abbrev pub StartEnds : Done → Place → Type 0
-  StartEnds d now =
-      CallEnds me m (no_progress p) (call_outcome plan m.kept (call_of_start me m.kept)) d (member_of now console) [] []
+  StartEnds d now = CallEnds me m (no_progress p) (call_outcome plan m.kept (call_of_start me m.kept)) d (member_of now console) [] []
 
   start_as : (d : Done) (now : Place)
       → CallEnds me (down (store_of s).stored console) (no_progress p)
@@ -109,10 +106,10 @@ module _ (plan : Option Bool) (me : Me) (p : Parts) (s : Place) (console : List 
       (stays : ¬ IsErrOf {T = Unit {0}} (Err f) fault.Store → new ≡ old) where
     pub start_fails : IsRecord me.group.size (store_of s).stored → IfOk r (λ d. IsDone (Err f) d) → IfOk r (λ d. StartEnds d new)
     start_fails ranges done =
-        IfOk-weaker r (λ d. IsDone (Err f) d) (λ d. StartEnds d new)
+        IfOk-weaker r _ (λ d. StartEnds d new)
         (λ d is_done. subst (StartEnds d) (sym (left_down f store old new at fell stays (which d is_done)))
         (start_as d (place.Down store)
-        (starts_not plan me p (store_of s).stored store.stored f d ranges fails is_done console))) done
+        (starts_not plan me p _ store.stored f d ranges fails is_done console))) done
       where
         which : (d : Done) → IsDone (Err f) d → (f ≡ fault.Store) ⊎ (f ≢ fault.Store)
         which d (inl (device, answer)) = inl device
@@ -126,8 +123,8 @@ module _ (plan : Option Bool) (me : Me) (p : Parts) (s : Place) (console : List 
       same memory =
           let is_memory : f ≡ fault.Memory = cc in
           let other : f ≢ fault.Store = λ device. no_store (sym is_memory ∙ device) in
-          ap (λ (x : Place). member_of x console) (left_down f store old new at fell stays (inr other))
-          ∙ ap (λ (kept : Record). down kept console) (fails.same other) ∙ down_is s console is_down ∙ is
+          ap (λ x. member_of x console) (left_down f store old new at fell stays (inr other))
+          ∙ ap (λ kept. down kept console) (fails.same other) ∙ down_is s console is_down ∙ is
         where
           no_store : fault.Memory ≡ fault.Store → ⊥
           no_store e = absurd cc

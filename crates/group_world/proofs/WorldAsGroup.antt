@@ -11,7 +11,7 @@ use Rattle.pcode_file.specs.Parts.{Parts}
 use Rattle.paxos_msg.specs.Records.{empty_record}
 use Rattle.paxos_msg.specs.declared.message.Group.{Group}
 use Rattle.paxos_msg.specs.declared.value.Value.{Value}
-use Rattle.paxos_msg.specs.Batches.{Msg, Sent}
+use Rattle.paxos_msg.specs.Batches.{Msg}
 use Rattle.paxos_msg.specs.Fits.{IsBody, IsNode}
 use Rattle.paxos_msg.specs.Grammar.{IsGroup}
 use Rattle.paxos_msg.specs.Keys.{keys_of}
@@ -26,7 +26,7 @@ use Rattle.group_node.specs.States.{input}
 use Rattle.group_node.specs.Steps.{messages_handed_out}
 use Rattle.pcode_machine.specs.Runs.{after_steps}
 use Rattle.group_node.specs.World.{after_call, with_seat}
-use Rattle.group_world.specs.Group.{IsUp, me_of, member_at, message_of, messages_in, new_world, seat_of_member, with_member, World, world_after_call, world_state}
+use Rattle.group_world.specs.Group.{IsUp, me_of, member_at, messages_in, new_world, seat_of_member, with_member, World, world_after_call, world_state}
 use Rattle.group_world.specs.Member.{Member, member_after_call, Running}
 use Rattle.group_world.specs.Sound.{IsMemberSound, IsRunningSound, IsSound, IsSpelling}
 
@@ -60,8 +60,7 @@ pub changed_here : (members : List Member) (i : ℕ) (m new : Member) → member
 changed_here members zero m new e = absurd cc
 changed_here members (suc k) m new e =
     let same : suc k - 1 ≡ k = omega arith in
-    subst (λ (j : ℕ). slice_get (slice_set members j new) k ≡ Some new) (sym same)
-    (set_there members k new (slice_get_within members k m e))
+    subst (λ j. slice_get (slice_set members j new) k ≡ Some new) (sym same) (set_there members k new (slice_get_within members k m e))
 
 pub changed_elsewhere : (members : List Member) (i j : ℕ) (m new : Member) → member_at members i ≡ Some m → j ≢ i
     → member_at (slice_set members (i - 1) new) j ≡ member_at members j
@@ -69,7 +68,7 @@ changed_elsewhere members i zero m new e ne = refl
 changed_elsewhere members zero (suc l) m new e ne = absurd cc
 changed_elsewhere members (suc k) (suc l) m new e ne =
     let same : suc k - 1 ≡ k = omega arith in
-    subst (λ (j : ℕ). slice_get (slice_set members j new) l ≡ slice_get members l) (sym same)
+    subst (λ j. slice_get (slice_set members j new) l ≡ slice_get members l) (sym same)
     (set_elsewhere members k l new (λ f. ne (ap suc f)))
 
 -- what holds of each node after node `i` has changed
@@ -108,13 +107,13 @@ module _ (read : ReadLaw) (me : Me) (session : IsGroup me.group) (node : IsNode 
 
   -- each of a call's packets spells a message
   pub packets_read : (packets : List Packet) → AllFit me packets → All (IsSpelling me.group) (datagrams_of me packets)
-  packets_read [] fits = All-nil (IsSpelling me.group)
+  packets_read [] fits = All-nil _
   packets_read (packet ∷ more) fits =
       let P : Packet → Type 0 = λ packet. IsBody me.group.size me.node packet.body in
-      All-cons (IsSpelling me.group) (datagram_of me packet) (datagrams_of me more)
+      All-cons (IsSpelling me.group) (datagram_of me packet) _
       (packet_read packet (All-head P packet more fits)).0 (packets_read more (All-tail P packet more fits))
 
-  -- these are the messages that the node hands out
+  -- these are the messages that the node sends
   pub packets_spell : (packets : List Packet) → AllFit me packets
       → messages_in me.group (datagrams_of me packets) ≡ messages_handed_out me.node packets
   packets_spell [] fits = refl
@@ -141,8 +140,7 @@ pub sent_called : ReadLaw → (w : World) (i : ℕ) (packets : List Packet) → 
     → AllFit (me_of w i) packets
     → messages_in w.group (w.sent ++ datagrams_of (me_of w i) packets) ≡ (world_state w).sent ++ messages_handed_out i packets
 sent_called read w i packets session node fits =
-    filter_map-append (message_of w.group) w.sent (datagrams_of (me_of w i) packets)
-    ∙ ap (λ (more : Sent). (world_state w).sent ++ more) (packets_spell read (me_of w i) session node packets fits)
+    filter_map-append _ w.sent _ ∙ ap (λ more. (world_state w).sent ++ more) (packets_spell read (me_of w i) session node packets fits)
 
 -- a call was made
 pub called_state : ReadLaw
@@ -181,7 +179,7 @@ is_node {w} {m} i h e =
 -- each node of the world before all events
 pub first_node : (p : Parts) (group : Group) (i : ℕ) (m : Member) → member_at (new_world p group).members i ≡ Some m
     → record { kept = empty_record; console = []; node = None } ≡ m
-first_node p group zero m e = absurd (cc)
+first_node p group zero m e = absurd cc
 first_node p group (suc k) m e =
     let first : Member = record { kept = empty_record; console = []; node = None } in
     let within : k < group.size = omega (arith, slice_get_within (replicate group.size first) k m e, length-replicate group.size first) in

@@ -3,7 +3,7 @@ use Rattle.std.proofs.Common.{◌≡◌, ◌≢◌, ◌∙◌, ℕ, List, [], �
 use Rattle.std.specs.FinMap.{empty, get, get-empty, insert}
 use Rattle.std.specs.Ordering.{nat_cmp}
 use Rattle.paxos_msg.specs.declared.ballot.Ballot.{Ballot}
-use Rattle.paxos_msg.specs.declared.message.Body.TheVariants.{Accepted, Prepare}
+use Rattle.paxos_msg.specs.declared.message.Body.TheVariants.{Prepare}
 use Rattle.paxos_msg.specs.declared.value.Value.{Value}
 use Rattle.paxos_msg.specs.declared.value.Value.TheVariants.{Noop}
 use Rattle.paxos_msg.specs.Ballots.{IsBelow}
@@ -13,7 +13,7 @@ use Rattle.paxos_msg.specs.Messages.{messages_of}
 use Rattle.paxos_msg.specs.Records.{empty_record}
 use Rattle.paxos_learner.specs.Backed.{MayLearn}
 use Rattle.paxos_learner.proofs.OnePlace.{get_here}
-use Rattle.group_node.specs.World.{CallOrFall, MakesCall, MayCause, Seat, Up, WorldState, WorldStep}
+use Rattle.group_node.specs.World.{CallOrFall, MayCause, Seat, Up, WorldState, WorldStep}
 use Rattle.group_node.specs.World as group
 use Rattle.group_world.specs.WrongWorlds.{accepted_message, first_node, knows, prepares, promised, runs_with, stopped_with}
 use Rattle.group_world.proofs.OrderLists.{none_in}
@@ -27,24 +27,23 @@ ballot round = record { round = round; node = 1 }
 no_vote : (learned : ℕ → Option Value) (bodies : List Body)
     → accepted_message 1 1 0 Noop ∷ [] ≡ messages_of 1 bodies
     → MaySendAll 5 [] learned [] 1 empty_record bodies → ⊥
-no_vote learned [] e may = (cc)
+no_vote learned [] e may = cc
 no_vote learned (body ∷ more) e may =
     let first : accepted_message 1 1 0 Noop ≡ record { sender = 1; body = body } = cc in
-    let same : body ≡ Accepted (ballot 1) 0 Noop = sym (ap (λ (m : Msg). m.body) first) in
+    let same = sym (ap (λ (m : Msg). m.body) first) in
     let voted = subst (MaySend 5 [] learned [] 1 empty_record) same may.0 in
     let none = voted.1 in
-    (cc)
+    cc
 
 pub unproposed : ¬ WorldStep (first_node (runs_with empty_record empty) []) (group.Tick 1)
     (first_node (runs_with empty_record empty) (accepted_message 1 1 0 Noop ∷ []))
-unproposed h = no_vote (get h.now.learned) h.bodies h.rest.sent h.sends
+unproposed h = no_vote _ h.bodies h.rest.sent h.sends
 
 -- nothing is chosen if nothing was sent
 none_chosen : (v : Value) → ¬ IsChosen 5 [] 0 v
 none_chosen v (b, (members, majority, each)) =
     few (members 1) (members 2) (members 3) (members 4) (members 5) (λ e. none_in _ (each 1 e))
-    (λ e. none_in _ (each 2 e))
-    (λ e f. none_in _ (each 3 e)) (λ e f. none_in _ (each 3 e)) majority
+    (λ e. none_in _ (each 2 e)) (λ e f. none_in _ (each 3 e)) (λ e f. none_in _ (each 3 e)) majority
 
 none_to_learn : (v : Value) → ¬ MayLearn 5 [] 0 v
 none_to_learn v (inl said) = none_in _ said.1
@@ -53,17 +52,16 @@ none_to_learn v (inr chosen) = none_chosen v chosen
 pub alone : ¬ WorldStep (first_node (runs_with empty_record empty) []) (group.Tick 1)
     (first_node (runs_with empty_record (insert empty 0 Noop)) [])
 alone h =
-    let up : Some (knows (insert empty 0 Noop)) ≡ Some h.now = ap (λ (s : Seat). s.up) h.left in
+    let up = ap (λ (s : Seat). s.up) h.left in
     let now : knows (insert empty 0 Noop) ≡ h.now = cc in
-    let from : Some (knows empty) ≡ Some h.was = h.from in
+    let from = h.from in
     let was : knows empty ≡ h.was = cc in
     elim (h.learns.gains 0 Noop
     (ap (λ (u : Up). get u.learned 0) (sym now) ∙ get_here empty 0 Noop)) [
       | inl old ↦
-          let before : get (empty {X = Value} {R = nat_cmp}) 0 ≡ Some Noop =
-          ap (λ (u : Up). get u.learned 0) was ∙ old in
+          let before = ap (λ (u : Up). get u.learned 0) was ∙ old in
           let none : get (empty {X = Value} {R = nat_cmp}) 0 ≡ None = get-empty nat_cmp 0 in
-          (cc)
+          cc
       | inr may ↦ none_to_learn Noop may
     ]
 
@@ -85,8 +83,7 @@ gone_back = first_node (runs_with (promised 1 1) empty) (prepares 1)
 no_way_back : (saved : Option Change) → MayCause (Prepare (ballot 1) 0) saved
     → CallOrFall hears gone_back 1 saved → ⊥
 no_way_back saved (inl none) call =
-    let made : MakesCall hears gone_back 1 None [] =
-    subst (CallOrFall hears gone_back 1) none call in
+    let made = subst (CallOrFall hears gone_back 1) none call in
     not_same 1 2 (ap (λ (s : Seat). s.kept.promised) made.left) (omega arith)
 no_way_back saved (inr some) call =
     elim (subst (CallOrFall hears gone_back 1) some call) [
@@ -96,16 +93,15 @@ no_way_back saved (inr some) call =
 
 pub lower : ¬ WorldStep hears (group.Deliver 0 1) gone_back
 lower h =
-    let there : Some (record { sender = 1; body = Prepare (ballot 1) 0 }) ≡ Some h.message =
-    h.is_sent in
+    let there = h.is_sent in
     let same : record { sender = 1; body = Prepare (ballot 1) 0 } ≡ h.message = cc in
     no_way_back h.saved (subst (λ (m : Msg). MayCause m.body h.saved) (sym same) h.cause) h.call
 
 pub forgotten : ¬ WorldStep (first_node (stopped_with (promised 1 2)) []) (group.Start 1)
     (first_node (runs_with (record (promised 2 2) { promised = None }) empty) [])
 forgotten (down, inl h) =
-    let none : None ≡ Some (ballot 2) = ap (λ (s : Seat). s.kept.promised) h.left in
-    (cc)
+    let none = ap (λ (s : Seat). s.kept.promised) h.left in
+    cc
 forgotten (down, inr h) =
-    let none : Some (knows empty) ≡ None = h.down in
-    (cc)
+    let none = h.down in
+    cc

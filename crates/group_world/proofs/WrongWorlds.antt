@@ -15,7 +15,7 @@ use Rattle.group_node.specs.Inputs.{AreChosen, IsInput}
 use Rattle.group_node.specs.World.{WorldState}
 use Rattle.group_world.specs.Headline.{ConsolesAgree, ConsolesGrow, ConsolesHoldOutput, HasLearned, HasNoGap, LearnedAgree, LearnedChosen, LearnedStays}
 use Rattle.group_world.specs.Order.{KeysOnce, SerialsInOrder}
-use Rattle.group_world.specs.WrongWorlds.{accepted_message, chosen, chosen_two, early_byte, key, knows, not_chosen, not_typed, other_byte, silent, two_consoles, two_values, writes, wrong_console}
+use Rattle.group_world.specs.WrongWorlds.{accepted_message, chosen, chosen_two, early_byte, key, knows, not_chosen, not_typed, other_byte, silent, two_consoles, two_values, wrong_console}
 use Rattle.group_world.proofs.OrderExample.{each_of}
 use Rattle.group_world.proofs.OrderLists.{none_in}
 use Rattle.group_world.proofs.OrderWrong.{early, gap, twice}
@@ -25,13 +25,10 @@ use Rattle.std.specs.FinMap.{empty, insert}
 
 -- nodes 3, 4 and 5
 abbrev three : ℕ → Bool
-three zero = false
-three (suc zero) = false
-three (suc (suc zero)) = false
 three (suc (suc (suc zero))) = true
 three (suc (suc (suc (suc zero)))) = true
 three (suc (suc (suc (suc (suc zero))))) = true
-three (suc (suc (suc (suc (suc (suc i)))))) = false
+three other = false
 
 abbrev ballot_1 : Ballot
 ballot_1 = record { round = 1; node = 1 }
@@ -42,44 +39,38 @@ by_three : (sent : Sent) (s : ℕ) (v : Value) → Contains sent (accepted_messa
 by_three sent s v third fourth fifth = (ballot_1, (three, lit< tt, each))
   where
     each : (i : ℕ) → IsTrue (three i) → IsSent sent i (Accepted ballot_1 s v)
-    each zero h = absurd (cc)
-    each (suc zero) h = absurd (cc)
-    each (suc (suc zero)) h = absurd (cc)
+    each zero h = absurd cc
+    each (suc zero) h = absurd cc
+    each (suc (suc zero)) h = absurd cc
     each (suc (suc (suc zero))) h = third
     each (suc (suc (suc (suc zero)))) h = fourth
     each (suc (suc (suc (suc (suc zero))))) h = fifth
-    each (suc (suc (suc (suc (suc (suc i)))))) h = absurd (cc)
+    each (suc (suc (suc (suc (suc (suc i)))))) h = absurd cc
 
 pub is_chosen : IsChosen 5 (chosen 0 (key 1 65)) 0 (key 1 65)
-is_chosen = by_three (chosen 0 (key 1 65)) 0 (key 1 65) (0, lit< tt, refl) (1, lit< tt, refl)
-    (2, lit< tt, refl)
+is_chosen = by_three (chosen 0 (key 1 65)) 0 _ (0, lit< tt, refl) (1, lit< tt, refl) (2, lit< tt, refl)
 
 -- ---- what was learned
 
 has_learned : (w : WorldState) (i : ℕ) (v : Value)
     → (w.seats i).up ≡ Some (knows (insert empty 0 v)) → HasLearned w i 0 v
-has_learned w i v e =
-    record { node = knows (insert empty 0 v); up = e; learned = get_here empty 0 v }
+has_learned w i v e = record { node = knows _; up = e; learned = get_here empty 0 v }
 
 pub values_differ : ¬ LearnedAgree two_values
 values_differ h =
-    let same : key 1 65 ≡ Noop =
-    h 4 5 0 (key 1 65) Noop (has_learned two_values 4 (key 1 65) refl)
-    (has_learned two_values 5 Noop refl) in
-    (cc)
+    let same = h 4 5 0 _ Noop (has_learned two_values 4 (key 1 65) refl) (has_learned two_values 5 Noop refl) in
+    cc
 
 pub untyped : ¬ LearnedChosen not_typed
 untyped h =
-    let among = (h 4 0 (key 1 65) (has_learned not_typed 4 (key 1 65) refl)).1
+    let among = (h 4 0 _ (has_learned not_typed 4 (key 1 65) refl)).1
     (record { node = 2; start = 1; serial = 1; byte = 65 }) (0, lit< tt, refl) in
     none_in _ among
 
 pub another_later : ¬ LearnedStays not_typed two_values
 another_later h =
-    let same : key 1 65 ≡ Noop =
-    h 4 5 0 (key 1 65) Noop (has_learned not_typed 4 (key 1 65) refl)
-    (has_learned two_values 5 Noop refl) in
-    (cc)
+    let same = h 4 5 0 _ Noop (has_learned not_typed 4 (key 1 65) refl) (has_learned two_values 5 Noop refl) in
+    cc
 
 -- ---- no majority under one ballot
 
@@ -90,30 +81,17 @@ IsOneOf b i = ((i ≡ 3) × (b.round ≡ 1)) ⊎ ((2 < i) × (i ≢ 3) × (b.rou
 abbrev SaysOne : Msg → Type 0
 SaysOne m = (b : Ballot) → m.body ≡ Accepted b 0 Noop → IsOneOf b m.sender
 
+-- the round under which a message accepts
+round_is : (round : ℕ) (c : Ballot) → Accepted (record { round = round; node = 1 }) 0 Noop ≡ Accepted c 0 Noop → c.round ≡ round
+round_is round c e = let same : record { round = round; node = 1 } ≡ c = cc in sym (ap (λ (x : Ballot). x.round) same)
+
 who : (b : Ballot) (i : ℕ) → IsSent not_chosen.sent i (Accepted b 0 Noop) → IsOneOf b i
 who b i among =
     each_of SaysOne not_chosen.sent (record { sender = i; body = Accepted b 0 Noop }) (
-      (λ c e. inl (
-        refl,
-        (let same : record { round = 1; node = 1 } ≡ c =
-            cc in sym (ap (λ (x : Ballot). x.round) same)),
-      )),
+      (λ c e. inl (refl, round_is 1 c e)),
       (
-        (λ c e. inr (
-          omega arith,
-          (λ f. absurd (omega arith)),
-          (let same : record { round = 2; node = 1 } ≡ c =
-              cc in sym (ap (λ (x : Ballot). x.round) same)),
-        )),
-        (
-          (λ c e. inr (
-            omega arith,
-            (λ f. absurd (omega arith)),
-            (let same : record { round = 2; node = 1 } ≡ c =
-                cc in sym (ap (λ (x : Ballot). x.round) same)),
-          )),
-          tt,
-        ),
+        (λ c e. inr (omega arith, (λ f. absurd (omega arith)), round_is 2 c e)),
+        ((λ c e. inr (omega arith, (λ f. absurd (omega arith)), round_is 2 c e)), tt),
       ),
     ) among b refl
 
@@ -154,8 +132,7 @@ not_by_three b (members, majority, each) =
 
 pub no_majority : ¬ LearnedChosen not_chosen
 no_majority h =
-    let found : IsChosen 5 not_chosen.sent 0 Noop =
-    (h 4 0 Noop (has_learned not_chosen 4 Noop refl)).0 in
+    let found : IsChosen 5 not_chosen.sent 0 Noop = (h 4 0 Noop (has_learned not_chosen 4 Noop refl)).0 in
     not_by_three found.0 found.1
 
 -- ---- consoles
@@ -164,7 +141,7 @@ no_majority h =
 stays : (x : List ℕ) (n : ℕ) → after_steps silent x n ≡ begin silent
 unfolding after_steps
 stays x zero = refl
-stays x (suc n) = ap (λ (c : Configuration). led c (outcome silent x c)) (stays x n)
+stays x (suc n) = ap (λ c. led c (outcome silent x c)) (stays x n)
 
 silent_output : (x : List ℕ) (n : ℕ) → out silent x n ≡ []
 unfolding out
@@ -178,8 +155,8 @@ pub never_written : InputLaw → ¬ ConsolesHoldOutput wrong_console
 never_written laws h =
     let (x, input) = laws.there 5 [] in
     let (n, begins) = h x 2 input in
-    let none : [] ≡ 65 ∷ begins.rest = sym (silent_output x n) ∙ begins.whole in
-    (cc)
+    let none = sym (silent_output x n) ∙ begins.whole in
+    cc
 
 not_first : (a b : ℕ) (xs ys : List ℕ) → a ∷ xs ≡ b ∷ ys → a ≢ b → ⊥
 not_first a b xs ys e ne = let same : a ≡ b = cc in ne same
@@ -192,18 +169,18 @@ pub consoles_differ : ¬ ConsolesAgree two_consoles
 consoles_differ h = not_both (h 2 5)
 
 pub too_early : ¬ HasNoGap early_byte
-too_early h = (h 3 66 (writes (65 ∷ 66 ∷ []) 1) refl refl).0 refl
+too_early h = (h 3 66 _ refl refl).0 refl
 
 not_same : (a b : ℕ) → Some a ≡ Some b → a ≢ b → ⊥
 not_same a b e ne = let same : a ≡ b = cc in ne same
 
 pub another_there : ¬ HasNoGap other_byte
-another_there h = not_same 65 66 ((h 3 66 (writes (66 ∷ []) 0) refl refl).1 refl) (omega arith)
+another_there h = not_same 65 66 ((h 3 66 _ refl refl).1 refl) (omega arith)
 
 pub byte_lost : ¬ ConsolesGrow two_consoles wrong_console
 byte_lost h =
     let none : [] ≡ 66 ∷ (h 5).rest = (h 5).whole in
-    (cc)
+    cc
 
 -- ---- the order of keys
 
@@ -215,14 +192,12 @@ two_chosen v u = record { chosen = at }
     at zero w e =
         let same : v ≡ w = cc in
         subst (IsChosen 5 (chosen 0 v ++ chosen 1 u) 0) same
-        (by_three (chosen 0 v ++ chosen 1 u) 0 v (0, lit< tt, refl) (1, lit< tt, refl)
-        (2, lit< tt, refl))
+        (by_three (chosen 0 v ++ chosen 1 u) 0 v (0, lit< tt, refl) (1, lit< tt, refl) (2, lit< tt, refl))
     at (suc zero) w e =
         let same : u ≡ w = cc in
         subst (IsChosen 5 (chosen 0 v ++ chosen 1 u) 1) same
-        (by_three (chosen 0 v ++ chosen 1 u) 1 u (3, lit< tt, refl) (4, lit< tt, refl)
-        (5, lit< tt, refl))
-    at (suc (suc s)) w e = absurd (cc)
+        (by_three (chosen 0 v ++ chosen 1 u) 1 u (3, lit< tt, refl) (4, lit< tt, refl) (5, lit< tt, refl))
+    at (suc (suc s)) w e = absurd cc
 
 pub serial_twice : ¬ KeysOnce (chosen_two (key 1 65) (key 1 66))
 serial_twice h = twice (h (key 1 65 ∷ key 1 66 ∷ []) (two_chosen (key 1 65) (key 1 66)))

@@ -1,5 +1,5 @@
--- What each event makes of a world. Each act has one case, in the order of `WorldStep`, so that the
--- two can be read side by side.
+-- A world before and after each event. Each act has one case, in the order of `WorldStep`, so that
+-- the two can be read side by side.
 use Rattle.std.specs.Prelude.{◌≡◌, ℕ, ◌<◌, Bool, true, false, List, [], ◌∷◌, slice_get, Option, Some, None}
 use Rattle.paxos_msg.specs.Batches.{Msg}
 use Rattle.group_node.specs.declared.player.Ran.{Ran}
@@ -66,9 +66,12 @@ LeavesBy w i m progress o d v = (d ≡ done_of o) × (v ≡ group_after w i m pr
 abbrev pub Leaves : World → ℕ → Member → Progress → Option Bool → NodeCall → Done → World → Type 0
 Leaves w i m progress plan call d v = LeavesBy w i m progress (call_outcome plan m.kept call) d v
 
--- An act leads from the world `w` to `v`, with the answer `d`. `plan` says whether its save fails.
--- Each act but a crash is that call of the node. A delivery hands it the message that the datagram
--- of that number spells, and a run makes steps that exist.
+-- An act that leads from the world `w` to `v`, with the answer `d`. `plan` says whether its save
+-- fails.
+-- Each act but a crash is that call of the node. A delivery is the message that the datagram of
+-- that number spells, and a run makes steps that exist. After a save that fails the node is down,
+-- nothing was sent, and its record is the old one or the changed one, as planned. A crash leaves
+-- record and console.
 -- Source: Simple 2.1.
 -- Allows: any message that was ever sent, at any node, again and again.
 -- Forbids: a message that nobody sent; a change of another node.
@@ -100,18 +103,18 @@ Performs w plan (Start i) d v =
     (m : Member) × IsDown w i m
     × Leaves w i m (no_progress w.program) plan (call_of_start (me_of w i) m.kept) d v
 
--- An event leads from the world `w` to `v`, with the answer `d`.
+-- An event that leads from the world `w` to `v`, with the answer `d`.
 abbrev pub Goes : World → Event → Done → World → Type 0
 Goes w e d v = Performs w (plan_of e.save) e.act d v
 
--- An event that is not refused is that event of its group, by `WorldStep`. One that is refused
--- changes nothing.
+-- The claim that an event which its node does not refuse is that event of its group, by
+-- `WorldStep`, and that one which it refuses changes nothing.
 abbrev pub IsStep : WorldState → Act → Done → WorldState → Type 0
 IsStep w act Applied v = WorldStep w (event_of act) v
 IsStep w act Fell v = WorldStep w (event_of act) v
 IsStep w act (Refused f) v = v ≡ w
 
--- Events lead from the world `w` to `v`, one after the other.
+-- Events that lead from the world `w` to `v`, one after the other.
 -- Allows: any list of events.
 abbrev pub LeadsBy : World → List Event → World → Type 0
 LeadsBy w [] v = v ≡ w

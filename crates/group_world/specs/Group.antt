@@ -1,4 +1,4 @@
--- A group that runs a program: its nodes, what was sent and typed, and what a call leaves of it.
+-- A group that runs a program: its nodes, what was sent and typed, and the group after a call.
 use Rattle.std.specs.Prelude.{◌≡◌, ℕ, zero, suc, ◌-◌, List, [], ◌++◌, filter_map, flat_map, replicate, slice_get, slice_set, Option, Some, None, option_map}
 use Rattle.std.specs.Result.{result_ok}
 use Rattle.pcode_file.specs.Parts.{Parts}
@@ -49,7 +49,7 @@ abbrev pub member_at : List Member → ℕ → Option Member
 member_at members zero = None
 member_at members (suc k) = slice_get members k
 
--- Node `i` is `m`, and is up as `q`.
+-- The claim that node `i` is `m`, and is up as `q`.
 pub record IsUp (w : World) (i : ℕ) (m : Member) (q : Running) : Type 0 where
   pub there : member_at w.members i ≡ Some m
   pub up : m.node ≡ Some q
@@ -58,7 +58,7 @@ pub record IsUp (w : World) (i : ℕ) (m : Member) (q : Running) : Type 0 where
 abbrev pub HasUp : World → ℕ → Type 0
 HasUp w i = (m : Member) × (q : Running) × IsUp w i m q
 
--- Node `i` is `m`, and is down.
+-- The claim that node `i` is `m`, and is down.
 pub record IsDown (w : World) (i : ℕ) (m : Member) : Type 0 where
   pub there : member_at w.members i ≡ Some m
   pub down : m.node ≡ None

@@ -45,7 +45,7 @@ IsRefused w act f = (refusal w act ≡ Some f) ⊎ ((refusal w act ≡ None) × 
 
 -- What an event does: it happens, or it is refused and changes nothing.
 -- `w` is the world before it, and `v` the one after it.
--- Forbids: a refusal of an event that can happen, if there is memory.
+-- Forbids: a refusal other than `Memory` of an event that can happen.
 pub record Applies (w : World) (e : Event) (result : Result Done WorldFault) (v : World)
     : Type 0 where
   pub goes : IfOk result (λ d. Goes w e d v)

@@ -17,14 +17,14 @@ abbrev pub first_word : List ℕ → List ℕ
 first_word text = before_first (λ b. b == 32) text
 
 -- The text after the first space, if there is one.
-abbrev pub words_behind : List ℕ → Option (List ℕ)
-words_behind text =
+abbrev pub words_after : List ℕ → Option (List ℕ)
+words_after text =
     if nat_lt (position_or_len (λ b. b == 32) text) (length text)
     then Some (after_first (λ b. b == 32) text) else None
 
 -- The text after the word `word` and a space, if the text begins with them.
 abbrev pub text_past : List ℕ → List ℕ → Option (List ℕ)
-text_past word text = if bytes_eq (first_word text) word then words_behind text else None
+text_past word text = if bytes_eq (first_word text) word then words_after text else None
 
 -- Two values made one, if both exist.
 abbrev pub both : {A B C : Type 0} → (A → B → C) → Option A → Option B → Option C
@@ -41,7 +41,7 @@ header_of line = option_and_then size_and_session (text_past (codes "size") line
     size_and_session : List ℕ → Option (ℕ × ℕ)
     size_and_session words = both (λ n k. (n, k)) (decimal_of 8 (first_word words))
         (option_and_then (decimal_of 32)
-        (option_and_then (text_past (codes "session")) (words_behind words)))
+        (option_and_then (text_past (codes "session")) (words_after words)))
 
 -- The act that a word and a node's number spell, if they do.
 abbrev pub act_of_one : List ℕ → List ℕ → Option Act
@@ -72,7 +72,7 @@ abbrev pub event_of_two : List ℕ → List ℕ → Option (List ℕ) → Option
 event_of_two word a None = None
 event_of_two word a (Some rest) =
     both (λ act save. record { act = act; save = save }) (act_of_two word a (first_word rest))
-    (outcome_of (words_behind rest))
+    (outcome_of (words_after rest))
 
 -- The event of a word, the word `a`, and the text after them.
 abbrev pub event_of_one : List ℕ → List ℕ → Option (List ℕ) → Option Event
@@ -85,14 +85,14 @@ event_of_one word a rest =
 -- Forbids: a word after the outcome.
 abbrev pub event_of_words : List ℕ → Option (List ℕ) → Option Event
 event_of_words word None = None
-event_of_words word (Some words) = event_of_one word (first_word words) (words_behind words)
+event_of_words word (Some words) = event_of_one word (first_word words) (words_after words)
 
 -- What a line other than the first says.
 abbrev pub line_of : List ℕ → Option Line
 line_of line =
     if bytes_eq line (codes "settle") then Some Settle else (
     if bytes_eq line (codes "show") then Some Show
-    else option_map Happens (event_of_words (first_word line) (words_behind line)))
+    else option_map Happens (event_of_words (first_word line) (words_after line)))
 
 -- Lines with the byte `b` put in front of the first.
 abbrev pub begins_with : ℕ → List (List ℕ) → List (List ℕ)
@@ -125,16 +125,16 @@ pub record ScriptText : Type 0 where
   pub lines : List Line
 
 -- The script of its first line and what the lines after it say.
-abbrev pub script_behind : Option (ℕ × ℕ) → Result (List Line) ℕ → Result ScriptText ℕ
-script_behind None lines = Err 1
-script_behind (Some group) (Ok lines) =
+abbrev pub script_after : Option (ℕ × ℕ) → Result (List Line) ℕ → Result ScriptText ℕ
+script_after None lines = Err 1
+script_after (Some group) (Ok lines) =
     Ok (record { size = group.0; session = group.1; lines = lines })
-script_behind (Some group) (Err bad) = Err bad
+script_after (Some group) (Err bad) = Err bad
 
 -- The script that lines spell, or the number of the first line that is not a line of a script.
 abbrev pub script_in : List (List ℕ) → Result ScriptText ℕ
 script_in [] = Err 1
-script_in (header ∷ more) = script_behind (header_of header) (lines_say 2 more)
+script_in (header ∷ more) = script_after (header_of header) (lines_say 2 more)
 
 -- The script that a text spells, or the number of its first line that is not a line of a script.
 -- Allows: nodes and messages that do not exist.
@@ -142,7 +142,8 @@ script_in (header ∷ more) = script_behind (header_of header) (lines_say 2 more
 abbrev pub script_of : List ℕ → Result ScriptText ℕ
 script_of text = script_in (lines_of text)
 
--- The text has a line with this number, counted from 1, and the lines before it are a script.
+-- The claim that the text has a line with this number, counted from 1, and that the lines before it
+-- are a script.
 pub record IsReached (text : List ℕ) (number : ℕ) : Type 0 where
   pub there : number ≤ length (lines_of text)
   pub before : IsOk (script_in (take (number - 1) (lines_of text)))

@@ -1,5 +1,5 @@
--- Groups of five nodes, written down by hand, each of which breaks one claim of the headline or of
--- the order.
+-- Groups of five nodes, written down by hand. Each breaks one claim of the headline or of the
+-- order.
 use Rattle.std.specs.Prelude.{ℕ, ◌==◌, if◌then◌else◌, List, [], ◌∷◌, ◌++◌, Some, None}
 use Rattle.std.specs.Ordering.{nat_cmp}
 use Rattle.std.specs.FinMap.{FinMap, empty, insert}

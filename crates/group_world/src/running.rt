@@ -14,17 +14,16 @@ use crate::world::World;
 use pcode_ops::Program;
 use std::alloc::Global;
 
-/// Performs a list of events, one after the other, on a group in which nothing has happened, and
-/// returns the group after them.
+/// Performs `events`, one after the other, on a group in which nothing has happened, and returns
+/// the group after them. Fails at the first event that is refused, with its number and refusal.
+/// Fails at number 0 with `Size` exactly if `size` is even or above 9, or with `Memory` if memory
+/// runs out for the group.
 ///
 /// The contract is the main theorem. Whatever the events, no two nodes have learned different
 /// values for one place. What is learned is chosen, and was typed or is a no-op. Each console holds
 /// a prefix of the program's output on the chosen input; so of two consoles one holds a prefix of
 /// the other. No released byte comes too early. Each typed key is read once, and the keys of a
 /// start in the order in which they were typed.
-///
-/// Fails at the first event that is refused, with its number and refusal. Fails at number 0 with
-/// `Size` if the size is even or above 9, and with `Memory` if memory runs out for the group.
 pub fn run<'a>(
     alloc: Global,
     program: &'a Program,

@@ -52,7 +52,10 @@ pub struct ScriptFault {
     pub memory: bool,
 }
 
-/// Reads the script that `text` spells.
+/// Reads the script that `text` spells (`script_of`): the group of its first line, and what each
+/// further line says, in order. Fails at the first line that is not one of a script, which is line
+/// 1 of an empty text. Fails also at a line for which memory runs out: then `text` has this line,
+/// and the lines before it are a script.
 ///
 /// Line 1 is `size N session K`. Each further line is `start N`, `crash N`, `campaign N`, `tick N`,
 /// `type N HH`, `deliver M N`, `run N STEPS` or `release N`, each followed by ` failold` or
@@ -61,10 +64,6 @@ pub struct ScriptFault {
 /// 4,294,967,295, M up to `usize::MAX`. HH is a byte in two hexadecimal digits of either case. Each
 /// line ends in a line feed, which the last may lack. A line may name a node or message that does
 /// not exist: `World::apply` refuses it.
-///
-/// Fails at the first line that is none of these, which is line 1 of an empty text. Fails also at a
-/// line for which memory runs out: then the text has this line, and the lines before it are a
-/// script.
 pub fn read_script(alloc: Global, text: &str) -> Result<Script, ScriptFault>
     ensures read { IfOk result
         (λ s. script_of text.now

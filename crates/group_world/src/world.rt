@@ -53,9 +53,8 @@ impl<'a> Model for World<'a> {
 impl<'a> World<'a> {
     /// Makes a group of `size` nodes in which nothing has happened: all are down, with empty
     /// records, and their consoles have shown nothing. `session` is a number that distinguishes
-    /// groups.
-    ///
-    /// Fails with `Size` if `size` is even or above 9, and else with `Memory` if memory runs out.
+    /// groups. Fails with `Size` exactly if `size` is even or above 9, and otherwise only with
+    /// `Memory`.
     pub fn new(
         alloc: Global,
         program: &'a Program,
@@ -79,12 +78,14 @@ impl<'a> World<'a> {
         }
     }
 
-    /// Performs one event. Each event but a crash is that call of its node. If the node saves, the
-    /// save succeeds or fails as the event says.
+    /// Performs `event`: each but a crash is that call of its node. Its save, if it makes one, goes
+    /// as `event` says. Fails with `NoNode` if there is no such node, else with `NoMessage` if no
+    /// message of that number was sent, else with `NodeDown` if the node is down, or at a start
+    /// `NodeUp` if it is up, else only with `Memory`. A refusal changes nothing.
     ///
-    /// Fails with `NoNode` if the group has no such node; else with `NoMessage` if no message of
-    /// that number was sent; else with `NodeDown` if the node is down, or at a start with `NodeUp`
-    /// if it is up; else with `Memory` if memory runs out. Then nothing has changed.
+    /// A delivery passes the node the message that the datagram of that number spells. After a save
+    /// that fails the node is down, nothing was sent, and the next start finds the old record or
+    /// the changed one. A crash leaves the record and the console.
     #[tactic(none)]
     pub fn apply(&mut self, event: &Event) -> Result<Done, WorldFault>
         ensures goes { IfOk result (λ d. Goes self.old event.now d self.new) }
@@ -112,23 +113,23 @@ impl<'a> World<'a> {
         self.group.apply(event)
     }
 
-    /// Returns how many messages were sent.
+    /// Returns the number of messages that were sent.
     pub fn sent(&self) -> usize
         ensures { result ≡ length self.now.sent }
     {
         self.group.sent.len()
     }
 
-    /// Returns the message with the number `number`: its datagram, and to whom it goes. Messages
-    /// are counted from 0 in the order in which they were sent.
+    /// Returns the message with the number `number`, if there is one: its datagram, and to whom it
+    /// goes. Messages are counted from 0 in the order in which they were sent.
     pub fn message(&self, number: usize) -> Option<&Packet>
         ensures { option_map (λ packet. packet.now) result ≡ slice_get self.now.sent number }
     {
         self.group.sent.get(number)
     }
 
-    /// Returns the typed key with the number `number`, as a batch of one. Keys are counted from 0
-    /// in the order in which they were typed.
+    /// Returns the typed key with the number `number`, if there is one, as a batch of one. Keys are
+    /// counted from 0 in the order in which they were typed.
     pub fn typed(&self, number: usize) -> Option<Value>
         ensures { result ≡ slice_get self.now.typed number }
     {

@@ -24,10 +24,8 @@ unread text = record { spelled = sym (bytes_none (hex_bytes_of text)); begun = i
 
 first_pair : (pair left : List ℕ) (byte : ℕ) → hex_byte_of pair ≡ Some byte
     → hex_bytes_of (pair ++ left) ≡ byte_before (Some byte) (hex_bytes_of left)
-first_pair [] left byte e = absurd cc
-first_pair (h ∷ []) left byte e = absurd cc
 first_pair (h ∷ l ∷ []) left byte e = ap (λ o. byte_before o (hex_bytes_of left)) e
-first_pair (h ∷ l ∷ x ∷ more) left byte e = absurd cc
+first_pair other left byte e = absurd cc
 
 one_behind : (done : List ℕ) (byte : ℕ) (o : Option (List ℕ))
     → bytes_before done (byte_before (Some byte) o) ≡ bytes_before (done ++ byte ∷ []) o
@@ -35,10 +33,8 @@ one_behind done byte None = refl
 one_behind done byte (Some bytes) = ap (λ it. Some it) (sym (append_assoc done (byte ∷ []) bytes))
 
 begins : (pair left : List ℕ) (byte : ℕ) → hex_byte_of pair ≡ Some byte → hex_byte_of (take 2 (pair ++ left)) ≡ Some byte
-begins [] left byte e = absurd cc
-begins (h ∷ []) left byte e = absurd cc
 begins (h ∷ l ∷ []) left byte e = e
-begins (h ∷ l ∷ x ∷ more) left byte e = absurd cc
+begins other left byte e = absurd cc
 
 some_byte : (o : Option ℕ) (byte : ℕ) → o ≡ Some byte → IsSome o
 some_byte None byte e = absurd cc

@@ -31,7 +31,9 @@ IsRunOver p r input n steps finish.Waits =
     (n < steps) × (outcome p input (after_steps p input n) ≡ Waiting) × IsAtEnd r
 
 -- A run that is over and met no fault.
--- Its n steps took all bytes that were read, and their output was written.
+-- Its `n` steps took exactly the bytes that were read, and exactly their output was written. No
+-- fault was counted. It is `Steps` exactly if all allowed steps were made, `Normal` or `Error` only
+-- at that end, and `Waits` only if the reader has ended and the machine waits.
 pub record Finishes (p : Parts) (from to : Streams) (steps : ℕ) (f : Finish) : Type 0 where
   pub input : List ℕ
   pub n : ℕ
@@ -41,7 +43,8 @@ pub record Finishes (p : Parts) (from to : Streams) (steps : ℕ) (f : Finish) :
   pub over : IsRunOver p to.reader input n steps f
 
 -- A run that ended at a failed read, while the machine waited.
--- Fewer steps than were allowed took all bytes that were read, and their output was written.
+-- Fewer steps than were allowed took exactly the bytes that were read, and exactly their output was
+-- written. One more failed read was counted, and no failed write.
 pub record FailsToRead (p : Parts) (from to : Streams) (steps : ℕ) : Type 0 where
   pub input : List ℕ
   pub n : ℕ
@@ -52,8 +55,9 @@ pub record FailsToRead (p : Parts) (from to : Streams) (steps : ℕ) : Type 0 wh
   pub fault : HasReadFault from to
 
 -- A run that ended at a failed write, of the byte that the next step writes.
--- Fewer steps than were allowed were made, and their output was written. They took all bytes that
--- were read, except one that the next step takes.
+-- Fewer steps than were allowed were made, and exactly their output was written. They took exactly
+-- the bytes that were read, except one that the next step takes, if it takes one. One more failed
+-- write was counted, and no failed read.
 pub record FailsToWrite (p : Parts) (from to : Streams) (steps : ℕ) : Type 0 where
   pub input : List ℕ
   pub n : ℕ

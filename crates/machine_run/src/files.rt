@@ -22,9 +22,11 @@ pub enum FileError {
     Memory,
 }
 
-/// Reads all bytes that a reader has left. Fails with `Unreadable` if a read fails or there are
-/// more than `LONGEST_FILE`, and with `Memory` only once there is a byte to hold. After a refusal
-/// what was read is gone from the reader.
+/// Returns all bytes that `reader` has left, which are at most 67,108,864. After a refusal the
+/// bytes read until then are gone from the reader, and no others. Fails with `Memory` only after it
+/// has read at least one byte.
+///
+/// Fails with `Unreadable` if a read fails or there are more than `LONGEST_FILE` bytes.
 pub fn read_whole<R: Read>(alloc: Global, reader: &mut R) -> Result<Vec<u8>, FileError>
     ensures whole { IfOk result
         (λ bytes. HasReadAll (R.remaining reader.old) (R.remaining reader.new) bytes.items) }
@@ -58,8 +60,12 @@ pub fn read_file<H: Files + AllocGlobal>(rt: &H, path: &str) -> Result<Vec<u8>, 
     }
 }
 
-/// Reads all of an input that is not a file, as `read_whole` does. Fails with `RunIo::Read` if a
-/// read fails or the input has more than `LONGEST_FILE` bytes.
+/// Returns all bytes that `reader` has left, which are at most 67,108,864. After a refusal the
+/// bytes read until then are gone from the reader, and no others. Fails with `Memory` only after it
+/// has read at least one byte, and never with `Write`.
+///
+/// It is for an input that is not a file. Fails with `Read` if a read fails or there are more than
+/// `LONGEST_FILE` bytes.
 pub fn read_input<R: Read>(alloc: Global, reader: &mut R) -> Result<Vec<u8>, RunIo>
     ensures whole { IfOk result
         (λ bytes. HasReadAll (R.remaining reader.old) (R.remaining reader.new) bytes.items) }

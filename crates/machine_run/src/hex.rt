@@ -16,7 +16,9 @@ pub enum HexError {
     Memory,
 }
 
-/// Returns the bytes that the digits of `text` spell, two for each, the high one first.
+/// Returns the bytes that `text` spells in hexadecimal digits of either case, two for each byte,
+/// the high one first. Fails with `Bad` only if `text` is not all pairs of digits, and with
+/// `Memory` only if it begins with a pair.
 pub fn bytes_of(alloc: Global, text: &str) -> Result<Vec<u8>, HexError>
     ensures bytes { IfOk result (λ bytes. hex_bytes_of text.now ≡ Some bytes.items) }
     ensures bad { result ≡ Err Bad → hex_bytes_of text.now ≡ None }

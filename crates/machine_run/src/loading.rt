@@ -9,8 +9,9 @@ use pcode_file::CodeFile;
 use pcode_ops::Program;
 use std::alloc::Global;
 
-/// Returns the program of a code file's bytes. Fails with the first fault of the file or of its
-/// loading.
+/// Returns the program of `bytes` exactly if they are a code file with no faulty reached offset,
+/// memory aside. Else fails with the first check of the file that fails, or with the least faulty
+/// reached offset and its first fault.
 pub fn load(alloc: Global, bytes: &[u8]) -> Result<Program, MachineRefusal>
     ensures ok { IfOk result (λ program. InFile bytes.now program × IsLoadable program) }
     ensures err { IfErr result (IsNoProgram bytes.now) }

@@ -108,9 +108,14 @@ fn turn<R: ByteReader, W: ByteWriter>(
     }
 }
 
-/// Runs a program for at most `steps` steps. Before each step it checks first whether the steps are
-/// spent. It reads a byte only when the machine waits for it, and writes each byte by itself. Fails
-/// with `Memory` before the first step if the machine finds no room.
+/// Runs `program` for at most `steps` steps and returns how the run ended (`Finishes`). It read
+/// exactly the bytes that its steps took, and wrote exactly their output. After `Read`
+/// (`FailsToRead`) this holds too. After `Write` (`FailsToWrite`) it holds but for the next step,
+/// whose byte was not written. After `Memory` reader and writer are as they were.
+///
+/// Before each step it checks first whether the steps are spent. It reads a byte only when the
+/// machine waits for it, and writes each byte by itself. Fails with `Memory` before the first step
+/// if the machine finds no room.
 pub fn run_program<R: ByteReader, W: ByteWriter>(
     alloc: Global,
     reader: &mut R,

@@ -27,8 +27,8 @@ pub trait ByteReader {
     /// The number of its reads that failed.
     ghost read_faults: { Self → ℕ };
 
-    /// Reads the next byte. Returns `None` at the end. A read that fails takes no byte and counts
-    /// one more fault.
+    /// Reads the next byte, and returns `None` only at the end of the bytes. A call that fails
+    /// takes no byte and counts one more fault. No other call counts one.
     fn read_byte(&mut self) -> Result<Option<u8>, ReadFault>
         ensures bytes { MatchResult result
             (λ found. Consumes (remaining self.old) (remaining self.new) (option_to_list found)
@@ -47,7 +47,10 @@ pub trait ByteWriter {
     /// The number of its writes that failed or took nothing.
     ghost write_faults: { Self → ℕ };
 
-    /// Writes a byte. A write that fails, or takes nothing, counts one more fault.
+    /// Appends `byte` to what the writer holds. A call that fails appends nothing and counts one
+    /// more fault. No other call counts one.
+    ///
+    /// A write that takes nothing is a failed one.
     fn write_byte(&mut self, byte: u8) -> Result<(), WriteFault>
         ensures bytes { MatchResult result
             (λ _. Appends (contents self.old) (contents self.new) (byte ∷ []))
@@ -65,7 +68,7 @@ pub struct CountingReader<R: Read> {
 }
 
 impl<R: Read> CountingReader<R> {
-    /// Wraps a reader, with no fault counted.
+    /// Wraps any `Read` as a `ByteReader`, with no fault counted.
     pub fn new(inner: R) -> CountingReader<R>
         ensures inner { result.inner ≡ inner }
         ensures faults { result.faults ≡ 0 }
@@ -100,7 +103,7 @@ pub struct CountingWriter<W: Write> {
 }
 
 impl<W: Write> CountingWriter<W> {
-    /// Wraps a writer, with no fault counted.
+    /// Wraps any `Write` as a `ByteWriter`, with no fault counted.
     pub fn new(inner: W) -> CountingWriter<W>
         ensures inner { result.inner ≡ inner }
         ensures faults { result.faults ≡ 0 }

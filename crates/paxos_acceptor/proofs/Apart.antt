@@ -1,4 +1,4 @@
--- The first bytes of a file tell its form.
+-- The first bytes of a file determine its form.
 use Rattle.std.proofs.Common.{◌≡◌, ◌∙◌, ℕ, List, ◌++◌, slice_index, sym, ap, arith}
 use Rattle.paxos_msg.specs.Batches.{Record}
 use Rattle.paxos_acceptor.specs.declared.me.Me.{Me}

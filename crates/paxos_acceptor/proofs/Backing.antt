@@ -44,9 +44,6 @@ below_at_most (Some p) b h = grind arith
 if_some : {X : Type 0} (o : Option X) (x : X) (P : X → Type 0) → o ≡ Some x → P x → IfSome o P
 if_some o x P e h = rw e h
 
-if_none : {X : Type 0} (o : Option X) (P : X → Type 0) → o ≡ None → IfSome o P
-if_none o P e = rw e tt
-
 of_some : {X : Type 0} (o : Option X) (x : X) (P : X → Type 0) → o ≡ Some x → IfSome o P → P x
 of_some o x P e h = rw e at h
 

@@ -14,7 +14,7 @@ use Rattle.paxos_acceptor.specs.declared.me.Me.{Me}
 use Rattle.paxos_acceptor.specs.declared.version.Version.{Version}
 use Rattle.paxos_acceptor.specs.declared.version.Version.TheVariants.{One, Two}
 use Rattle.paxos_acceptor.specs.Records.{AreKept, IsRecord, Rec, record_header, promised_bytes, record_bytes}
-use Rattle.paxos_acceptor.specs.RecordReading.{behind_byte, version_byte, record_header_at, zero_at, some_ballot_at, promised_at, votes_in, votes_of, head_at, record_at}
+use Rattle.paxos_acceptor.specs.RecordReading.{after_byte, version_byte, record_header_at, zero_at, some_ballot_at, promised_at, votes_in, votes_of, head_at, record_at}
 use Rattle.paxos_acceptor.specs.Version1.{AreSingle, Rec1, record_bytes_v1, votes_bytes_v1}
 use Rattle.paxos_acceptor.proofs.Fields.{Fields, others, others_of}
 use Rattle.paxos_acceptor.proofs.FewVotes.{few_votes}
@@ -55,7 +55,7 @@ record IsText (version : Version) (me : Me) (bytes : List ℕ) (r : Record) : Ty
 
 -- ---- the parts
 
-byte_found : (byte : ℕ) (bytes rest : List ℕ) → behind_byte byte bytes ≡ Ok rest → bytes ≡ byte ∷ rest
+byte_found : (byte : ℕ) (bytes rest : List ℕ) → after_byte byte bytes ≡ Ok rest → bytes ≡ byte ∷ rest
 byte_found byte [] rest h = absurd cc
 byte_found byte (x ∷ bytes) rest h =
     elim (eqb x byte) as
@@ -63,9 +63,6 @@ byte_found byte (x ∷ bytes) rest h =
       | true ↦ λ e k. let same : x ≡ byte = eqb-true x byte e in let tail : bytes ≡ rest = cc in λ i. same i ∷ tail i
       | false ↦ λ e k. absurd cc
     ] refl h
-
-byte_again : (byte : ℕ) (rest : List ℕ) → behind_byte byte (byte ∷ rest) ≡ Ok rest
-byte_again byte rest = rw (eq-eqb byte byte refl) refl
 
 -- the promised ballot is in its ranges
 abbrev IsPromise : ℕ → Option Ballot → Type 0
@@ -91,11 +88,11 @@ module _ (F : Fields) (version : Version) where
       → bytes ≡ record_header (version_byte version) me ++ rest
   unfolding record_header_at
   header_found me bytes rest are e =
-      let a = bind_ok (behind_byte 80 bytes) _ rest e in
-      let b = bind_ok (behind_byte 82 a.0) _ rest a.2 in
-      let c = bind_ok (behind_byte (version_byte version) b.0) _ rest b.2 in
-      let d = bind_ok (behind_byte me.node c.0) _ rest c.2 in
-      let g = bind_ok (behind_byte me.group.size d.0) _ rest d.2 in
+      let a = bind_ok (after_byte 80 bytes) _ rest e in
+      let b = bind_ok (after_byte 82 a.0) _ rest a.2 in
+      let c = bind_ok (after_byte (version_byte version) b.0) _ rest b.2 in
+      let d = bind_ok (after_byte me.node c.0) _ rest c.2 in
+      let g = bind_ok (after_byte me.group.size d.0) _ rest d.2 in
       let s = bind_ok (number_at g.0) _ rest g.2 in
       let t = last_ok fault.Group (not (eqb s.0.0 me.group.session)) s.0.1 rest s.2 in
       let front : bytes ≡ 80 ∷ 82 ∷ version_byte version ∷ me.node ∷ me.group.size ∷ g.0 =
@@ -143,7 +140,7 @@ module _ (F : Fields) (version : Version) where
           (if t then zero_at behind else some_ballot_at size bytes) ≡ Ok (p, rest) →
           IsPromise size p × (bytes ≡ promised_bytes p ++ rest)
       by_round round behind parts true z h =
-          let k = bind_ok (behind_byte 0 behind) _ (p, rest) h in
+          let k = bind_ok (after_byte 0 behind) _ (p, rest) h in
           let both : (None, k.0) ≡ (p, rest) = ok_is (None, k.0) (p, rest) k.2 in
           let none : p ≡ None = sym (ap (λ (x : Option Ballot × List ℕ). x.0) both) in
           let same : k.0 ≡ rest = ap (λ (x : Option Ballot × List ℕ). x.1) both in

@@ -29,29 +29,31 @@ pub record IsAcceptorInStep {S : Type 0} (honest : Type 0) (state : S → StoreS
 pub record Follows {S T : Type 0} (honest at_will : Type 0) (state : S → StoreState)
     (old new : AcceptorState S) (change : Option Change)
     (result : Result T AcceptorFault) : Type 0 where
-  -- Its node stays. At Ok its record has changed; at Err it is as it was.
+  -- Its node stays. `Ok` makes the change in its record; an error leaves the record as it was.
   pub me : new.me ≡ old.me
   pub ok : OnOk result (new.kept ≡ after old.kept change)
   pub err : OnErr result (new.kept ≡ old.kept)
-  -- A closed acceptor refuses. Only a fault of the device closes it.
+  -- A call is `Closed` exactly if the acceptor was closed before. `Store` closes it, and no other
+  -- answer does.
   pub closed : IsErrOf result Closed ↔ (old.is_closed ≡ true)
   pub closes : (new.is_closed ≡ true) ↔ ((old.is_closed ≡ true) ⊎ IsErrOf result Store)
-  -- Where nothing is saved, nothing changes.
+  -- Where there is nothing to save, and after `Closed` and `StartsSpent`, the acceptor and its
+  -- store are as they were.
   pub idle : change ≡ None → new ≡ old
   pub refused : IsErrOf result Closed ⊎ IsErrOf result StartsSpent → new ≡ old
-  -- An honest store has the new record at Ok, the old or the new one after a fault of the device,
-  -- and else the same one as before.
+  -- An honest store has the new record after `Ok`, the old or the new one after `Store`, and after
+  -- any other error the same one as before.
   pub saved : honest → OnOk result ((state new.store).stored ≡ after old.kept change)
   pub device : honest → IsErrOf result Store
       → IsOneOf (state new.store).stored old.kept (after old.kept change)
   pub unsaved : honest
       → OnErr result (¬ IsErrOf result Store → (state new.store).stored ≡ (state old.store).stored)
-  -- No save succeeds under a plan, and a fault uses it up. A store that fails at will fails as
-  -- planned, and at no other time.
+  -- No save succeeds under a plan. `Store` uses the plan up, and nothing else changes it. An honest
+  -- store that fails at will fails only under a plan, and then has the record that the plan says.
   pub unplanned : change ≢ None → OnOk result ((state old.store).plan ≡ None)
   pub used_up : IsErrOf result Store → (state new.store).plan ≡ None
   pub plan : ¬ IsErrOf result Store → (state new.store).plan ≡ (state old.store).plan
   pub told : honest → at_will → IsErrOf result Store
       → FailsAsTold (state old.store).plan old.kept (after old.kept change) (state new.store).stored
-  -- The faults of the device are counted.
+  -- `Store` counts one more fault, and no other answer counts one.
   pub cause : HasCause (IsErrOf result Store) (state old.store).faults (state new.store).faults

@@ -94,7 +94,7 @@ AreEntries version size r (c ∷ cs) =
     IsEntry size r c × IsFor version c × AreEntries version size (changed r c) cs
 
 -- A batch with missing bytes after its tag. A batch has its node, start and first serial, nine
--- bytes, and then a key's byte or, from version 2 on, a count from 1 to 32 and that many bytes.
+-- bytes. Then comes a key's byte or, from version 2 on, a count from 1 to 32 and the bytes counted.
 -- Forbids: A batch whose count is 33.
 abbrev pub IsCutBatch : Version → List ℕ → Type 0
 IsCutBatch One bytes = length bytes < 10

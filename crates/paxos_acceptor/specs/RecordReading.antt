@@ -16,9 +16,9 @@ use Rattle.paxos_acceptor.specs.declared.store.StoreFault.TheVariants as store
 use Rattle.paxos_msg.specs.declared.limits.TheConstants.{LAST_PLACE, PLACES}
 
 -- The bytes after `byte`, which has to be the first one.
-abbrev pub behind_byte : ℕ → List ℕ → Result (List ℕ) WireFault
-behind_byte byte [] = Err fault.Short
-behind_byte byte (b ∷ bytes) = if b == byte then Ok bytes else Err fault.Magic
+abbrev pub after_byte : ℕ → List ℕ → Result (List ℕ) WireFault
+after_byte byte [] = Err fault.Short
+after_byte byte (b ∷ bytes) = if b == byte then Ok bytes else Err fault.Magic
 
 -- The byte of a version.
 abbrev pub version_byte : Version → ℕ
@@ -28,17 +28,17 @@ version_byte Two = 2
 -- The bytes after a header of this record in that version.
 unfoldable pub record_header_at : Version → Me → List ℕ → Result (List ℕ) WireFault
 record_header_at version me bytes = do
-  p ← behind_byte 80 bytes
-  r ← behind_byte 82 p
-  told ← behind_byte (version_byte version) r
-  node ← behind_byte me.node told
-  size ← behind_byte me.group.size node
+  p ← after_byte 80 bytes
+  r ← after_byte 82 p
+  told ← after_byte (version_byte version) r
+  node ← after_byte me.node told
+  size ← after_byte me.group.size node
   session ← number_at size
   unless fault.Group (not (session.0 == me.group.session)) session.1
 
 -- No ballot, after a round of 0: one more zero.
 abbrev pub zero_at : List ℕ → Result (Option Ballot × List ℕ) WireFault
-zero_at bytes = behind_byte 0 bytes >>= λ rest. Ok (None, rest)
+zero_at bytes = after_byte 0 bytes >>= λ rest. Ok (None, rest)
 
 -- A ballot at the front of bytes, and the bytes after it.
 abbrev pub some_ballot_at : ℕ → List ℕ → Result (Option Ballot × List ℕ) WireFault

@@ -122,9 +122,15 @@ fn accepted(vote: &Vote) -> Body
 }
 
 impl<S: Store> Acceptor<S> {
-    /// Loads the store's record and opens an acceptor over it. Fails with `Memory`, `Store` or
-    /// `BadRecord` if the load does, and then with `BadRecord` if the record is out of its ranges.
-    /// A refusal gives the store back.
+    /// Loads the record of `store` once, and opens an acceptor of node and group `me` that has it
+    /// and is not closed (`Opens`). Fails with `Memory` or `Store` if the load answers `Memory` or
+    /// `Device`, and with `BadRecord` if it answers `Bad` or the record is out of its ranges. There
+    /// is no other refusal. Each gives the store back.
+    ///
+    /// An honest store keeps its record, also after a refusal, and the acceptor has that record.
+    /// `BadRecord` then comes only where it is out of its ranges. The plan of any store stays. A
+    /// store that fails at will is never refused with `Store`. `Store` counts one more fault, and
+    /// nothing else counts one.
     pub fn open(alloc: Global, store: S, me: Me) -> Result<Acceptor<S>, OpenRefused<S>>
         ensures loads { (answer : Result Kept StoreFault) × (left : S) × S.loads store answer left
             × Opens me answer left result }
@@ -158,8 +164,8 @@ impl<S: Store> Acceptor<S> {
         }
     }
 
-    /// Returns the record, which is in its ranges. An honest store has the same one, unless it has
-    /// failed.
+    /// Returns the acceptor's record, which is in its ranges. An honest store has it too while the
+    /// acceptor is open.
     pub fn record(&self) -> &Record
         ensures same { result.now ≡ self.now.kept }
         ensures ranges { IsRecord self.now.me.group.size self.now.kept }
@@ -169,15 +175,21 @@ impl<S: Store> Acceptor<S> {
         &self.record
     }
 
-    /// Returns true if the store has failed. Then each further call fails with `Closed`.
+    /// Returns true if the acceptor is closed.
+    ///
+    /// A call that fails with `Store` closes it, and each later `new_start`, `prepare` and `accept`
+    /// fails with `Closed`.
     pub fn is_closed(&self) -> bool
         ensures { result ≡ self.now.is_closed }
     {
         self.is_closed
     }
 
-    /// Counts one more start, and returns the number of starts with it. Fails with `StartsSpent`
-    /// after 4,294,967,295.
+    /// Counts one more start, saves it, and returns the number of starts with it. Fails with
+    /// `StartsSpent` exactly if the acceptor is open and has counted 4,294,967,295 starts. It never
+    /// fails with `BadRecord`.
+    ///
+    /// `Follows` says what each answer leaves in the acceptor and its store.
     pub fn new_start(&mut self) -> Result<u32, AcceptorFault>
         ensures answer { IfOk result (λ starts. starts ≡ self.new.kept.starts) }
         ensures follows { Follows S.honest S.fails_at_will S.state self.old self.new
@@ -197,9 +209,12 @@ impl<S: Store> Acceptor<S> {
         Ok(self.record.starts)
     }
 
-    /// Answers a Prepare: promises the ballot, unless a greater one is promised, and reports the
-    /// votes at places from `from` on, at most 8. A new promise is saved before it is answered. A
-    /// refusal takes no memory.
+    /// Answers a Prepare: Refused if a greater ballot is promised, else a part of a promise, with
+    /// the first 8 votes from place `from` on. It covers the places up to its last vote, or all
+    /// places if it leaves out no vote. A new promise is saved first. `Memory` comes only where no
+    /// greater ballot is promised; `BadRecord` and `StartsSpent` never come.
+    ///
+    /// `Follows` says what each answer leaves in the acceptor and its store.
     pub fn prepare(&mut self, ballot: Ballot, from: u32) -> Result<Body, AcceptorFault>
         requires ballot { IsBallot self.old.me.group.size ballot }
         ensures answer { IfOk result (λ body. body ≡ (prepare_of self.old.kept ballot from).says) }
@@ -229,9 +244,12 @@ impl<S: Store> Acceptor<S> {
         Ok(part)
     }
 
-    /// Answers an Accept: votes for the value at the place, unless a greater ballot is promised. A
-    /// new vote is saved before it is answered. A vote under the same ballot is reported again. An
-    /// answer that saves nothing takes no memory.
+    /// Answers an Accept: Refused if a greater ballot is promised. Else it is Accepted with
+    /// `value`, or with the value voted for at `place` under the same ballot before. A new vote is
+    /// saved first. `Memory` comes only where a vote is to be saved; `BadRecord` and `StartsSpent`
+    /// never come.
+    ///
+    /// `Follows` says what each answer leaves in the acceptor and its store.
     pub fn accept(
         &mut self,
         ballot: Ballot,
@@ -292,7 +310,9 @@ impl<S: Store> Acceptor<S> {
         store
     }
 
-    /// Passes a plan on to the store: how its next save is to fail, or `None`.
+    /// Gives `plan` to the store: how its next save is to fail, or `None`. A store that fails at
+    /// will then has it. The acceptor's node and record, whether it is closed, the record of an
+    /// honest store, and the count of faults stay.
     pub fn fail_next(&mut self, plan: Option<bool>)
         ensures same { S.honest
             → (S.state self.new.store).stored ≡ (S.state self.old.store).stored }

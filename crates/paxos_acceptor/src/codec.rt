@@ -36,8 +36,8 @@ fn are_kept(size: u8, promised: Option<Ballot>, votes: &[Vote]) -> bool
     }
 }
 
-/// Returns true if the record is in its ranges: no vote is above the promised ballot, and their
-/// places ascend.
+/// Returns true if the record is in its ranges: the votes ascend by place, none is above the
+/// promised ballot, and each field is in its range. Without a promised ballot there are no votes.
 pub fn record_fits(kept: &Record, me: Me) -> bool
     ensures { IsTrue result ↔ IsRecord me.group.size kept.now }
 {
@@ -46,8 +46,9 @@ pub fn record_fits(kept: &Record, me: Me) -> bool
     are_kept(me.group.size, kept.promised, kept.votes.as_slice())
 }
 
-/// Reads the record whose spelling in version 2 is all of the bytes. Fails with `Bad` if they are
-/// the spelling of none in that version, and with `Memory` if memory runs out.
+/// Returns the record of `me` whose spelling in version 2 is all of the bytes. Each spelling is
+/// read, memory aside. Fails with `Bad` only if they are no such spelling, and else only with
+/// `Memory`.
 pub fn record_decode(alloc: Global, bytes: &[u8], me: Me) -> Result<Record, StoreFault>
     // The record that is read has this spelling.
     ensures found { IfOk result (λ kept. Rec me bytes.now kept) }
@@ -60,9 +61,9 @@ pub fn record_decode(alloc: Global, bytes: &[u8], me: Me) -> Result<Record, Stor
     record_of(alloc, Version::Two, bytes, me)
 }
 
-/// Reads the record whose spelling in version 1 is all of the bytes. Each of its votes is for one
-/// key at most, a batch of one. Fails with `Bad` if they are the spelling of none in that version,
-/// and with `Memory` if memory runs out.
+/// Returns the record of `me` whose spelling in version 1 is all of the bytes. Each of its votes is
+/// for a no-op or a batch of one key. Each spelling is read, memory aside. Fails with `Bad` only if
+/// they are no such spelling, and else only with `Memory`.
 pub fn record_migrate(alloc: Global, bytes: &[u8], me: Me) -> Result<Record, StoreFault>
     // The record that is read has this spelling.
     ensures found { IfOk result (λ kept. Rec1 me bytes.now kept) }
@@ -147,8 +148,8 @@ pub(crate) fn put_record(kept: &Record, me: Me, out: &mut Vec<u8>)
     put_kept(kept.votes.as_slice(), out);
 }
 
-/// Returns the spelling of the record in version 2. The record is in its ranges. Fails with
-/// `Memory` if memory runs out, and with nothing else.
+/// Returns the one spelling of the record in version 2. The record must be in its ranges. Fails
+/// only with `Memory`.
 pub fn record_encode(alloc: Global, kept: &Record, me: Me) -> Result<Vec<u8>, StoreFault>
     requires { IsRecord me.group.size kept.now }
     ensures ok { IfOk result (λ bytes. bytes.items ≡ record_bytes me kept.now) }

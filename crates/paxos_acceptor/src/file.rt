@@ -76,7 +76,10 @@ impl<R> FileStore<R> {
 }
 
 impl<R: Files + AllocGlobal + Copy + Drop> FileStore<R> {
-    /// Returns a store in the file at `path`, for the record of node `me`. It touches no file yet.
+    /// Returns a store in the file at `path`, for the record of node `me`. It knows no record and
+    /// has counted no fault.
+    ///
+    /// It touches no file yet.
     pub fn new(rt: R, path: &str, me: Me) -> Result<FileStore<R>, AllocError>
         ensures { IfOk result (λ store. store ≡ record { me = me; found = None; faults = 0 }) }
     {
@@ -102,6 +105,10 @@ impl<R: Files + AllocGlobal + Copy + Drop> Store for FileStore<R> {
 
     ghost loads = { λ old answer new. Finds old new answer };
 
+    /// Returns a record, which the store knows from then on. After an error it knows none. `Device`
+    /// counts one more fault, and nothing else counts one.
+    ///
+    /// The record is read from the file, of whose bytes contracts know nothing.
     fn load(&mut self) -> Result<Record, StoreFault>
         ensures { Finds self.old self.new result }
     {
@@ -119,6 +126,9 @@ impl<R: Files + AllocGlobal + Copy + Drop> Store for FileStore<R> {
         Ok(record)
     }
 
+    /// Saves `change`. It is `Ok` only where a record is known, and then the changed record is
+    /// known. After `Device`, which alone counts one more fault, none is known. After `Memory`, the
+    /// only other fault, nothing has changed.
     fn save(&mut self, change: &Change) -> Result<(), StoreFault>
         ensures notes { Notes self.old self.new change.now result }
         ensures good { ¬ IsErrOf result StoreFault.Bad }
@@ -150,6 +160,7 @@ impl<R: Files + AllocGlobal + Copy + Drop> Store for FileStore<R> {
         self.faults
     }
 
+    /// Changes nothing: a store in a file takes no plan.
     fn fail_next(&mut self, _plan: Option<bool>)
         ensures { self.new ≡ self.old }
     {}

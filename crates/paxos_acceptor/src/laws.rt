@@ -49,9 +49,9 @@ pub fn greater_ballots_are_promised()
         → (prepare_of r b from).saves ≡ Some (Promise b) }
 {}
 
-/// The change that a Prepare's answer asks for may be saved. If the record is backed and in its
-/// ranges, the answer may be sent over the record after the save; if it is backed, it stays so. The
-/// ranges matter, since a part for all places covers only those below 65,536.
+/// The change that the answer to a Prepare asks for may be saved. If the record is backed and in
+/// its ranges, the answer may be sent over the record after the save. A backed record stays backed.
+/// The ranges matter, since a part for all places covers only those below 65,536.
 pub fn promises_may_be_sent()
     ensures saves { (sent : Sent) (r : Record) (b : Ballot) (from : ℕ)
         → IfSome (prepare_of r b from).saves (MaySave sent r) }
@@ -63,7 +63,7 @@ pub fn promises_may_be_sent()
         → HasBackedVotes sent (after r (prepare_of r b from).saves) }
 {}
 
-/// The change that the answer to an Accept that was sent asks for may be saved. If the record is
+/// For an Accept that was sent, the change that its answer asks for may be saved. If the record is
 /// backed, also out of its ranges, the answer may be sent over the record after the save, and it
 /// stays backed.
 pub fn votes_may_be_sent()
@@ -80,10 +80,10 @@ pub fn votes_may_be_sent()
     votes_are_by_place();
 }
 
-/// A header is a log of the empty record. A log without a cut entry, followed by a change that can
-/// be made, is a log of the changed record; followed by only the first bytes of that entry, it is
-/// one of the record before. A log without what was cut is a log of the same record. So a save that
-/// is cut short while it appends leaves the old record or the changed one.
+/// In version 2 a header is a log of the empty record. A log without a cut entry, followed by a
+/// change that can be made, is a log of the changed record; followed by only the first bytes of
+/// that entry, it is one of the record before. A log without what was cut is a log of the same
+/// record. So a save that is cut short while it appends leaves the old record or the changed one.
 pub fn logs_grow()
     ensures new { (me : Me) → IsUncut me (log_header Two me) empty_record }
     ensures grown { (me : Me) (bytes : List ℕ) (r : Record) (c : Change) → IsUncut me bytes r

@@ -217,9 +217,11 @@ pub(crate) fn log_of(
     Ok((kept, bytes.len() - end.len()))
 }
 
-/// Returns the record whose log the bytes are, in version 2 or 1, and the length of its header and
-/// whole entries. An entry that was cut at the end is left out. Fails with `Bad` if they are no
-/// log, and with `Memory` if memory runs out.
+/// Returns the record of `me` that the bytes are a log of, in version 2 or 1, and the length of its
+/// header and whole entries. The record is in its ranges. Each log is read, memory aside. Fails
+/// with `Bad` only if they are no log, and else only with `Memory`.
+///
+/// An entry that was cut at the end is left out.
 pub fn log_decode(alloc: Global, bytes: &[u8], me: Me) -> Result<(Record, usize), StoreFault>
     // The bytes are a log of the record that is read.
     ensures found { IfOk result (λ x. Log me bytes.now x.0 x.1) }

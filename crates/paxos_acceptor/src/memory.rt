@@ -36,7 +36,7 @@ impl Model for MemoryStore {
 }
 
 impl MemoryStore {
-    /// Returns a store that has the record, and no planned fault.
+    /// Returns a store that has the record `kept`, no plan, and no counted fault.
     pub fn new(kept: Record) -> MemoryStore
         ensures { (result.stored ≡ kept) × (result.plan ≡ None) × (result.faults ≡ 0) }
     {
@@ -64,12 +64,16 @@ impl Store for MemoryStore {
 
     ghost loads = { λ old answer new. Loads old new answer };
 
+    /// Returns the record, and changes nothing. Fails only with `Memory`.
     fn load(&mut self) -> Result<Record, StoreFault>
         ensures { Loads self.old self.new result }
     {
         Ok(self.record.clone()?)
     }
 
+    /// Makes `change`. It is `Ok` only without a plan, and fails with `Device` only under one.
+    /// After `Device` the store has the record that the plan says and no plan, and has counted one
+    /// more fault. After `Memory`, the only other fault, nothing has changed.
     fn save(&mut self, change: &Change) -> Result<(), StoreFault>
         requires starts { change.now ≡ Start → self.old.stored.starts < LAST_START }
         requires ascending { IsAscending self.old.stored.votes }
@@ -93,6 +97,7 @@ impl Store for MemoryStore {
         self.faults
     }
 
+    /// Sets the plan to `plan`, and changes nothing else.
     fn fail_next(&mut self, plan: Option<bool>)
         ensures { self.new ≡ record self.old { plan = plan } }
     {

@@ -1,7 +1,7 @@
 //! Reads the bytes of a record, in either version.
 ghost use Rattle.std.specs.Prelude.{◌≡◌, ◌≤◌, length, IfOk, Some};
 ghost use Rattle.paxos_msg.specs.Reading.{Gives, number_at};
-ghost use Rattle.paxos_acceptor.specs.RecordReading.{behind_byte, head_at, record_header_at, promised_at, ReadsAs, record_at, votes_of};
+ghost use Rattle.paxos_acceptor.specs.RecordReading.{after_byte, head_at, record_header_at, promised_at, ReadsAs, record_at, votes_of};
 ghost use Rattle.paxos_acceptor.specs.declared.version.Version.TheVariants.{Two};
 
 use crate::me::Me;
@@ -23,7 +23,7 @@ pub(crate) fn number_of(bytes: &[u8]) -> Result<(u32, &[u8]), WireFault>
 
 /// Returns the bytes after `byte`, which has to be the first one.
 fn after_byte(byte: u8, bytes: &[u8]) -> Result<&[u8], WireFault>
-    ensures { Gives (λ rest. rest.now) result (behind_byte byte bytes.now) }
+    ensures { Gives (λ rest. rest.now) result (after_byte byte bytes.now) }
 {
     match bytes {
         [] => Err(WireFault::Short),

@@ -59,7 +59,9 @@ pub trait Store {
     /// honest or not.
     ghost loads: { Self → Result Kept StoreFault → Self → Type 0 };
 
-    /// Returns the stored record.
+    /// Returns the stored record. An honest store returns the one that it has, which stays, and
+    /// never fails with `Bad`. A store that fails at will never fails with `Device`. The plan of
+    /// any store stays. `Device` counts one more fault, and nothing else counts one.
     fn load(&mut self) -> Result<Record, StoreFault>
         ensures loads { loads self.old result self.new }
         ensures found { honest → IfOk result (λ found. found ≡ (state self.old).stored) }
@@ -70,9 +72,14 @@ pub trait Store {
         ensures cause { HasCause (IsErrOf result Device) (state self.old).faults
             (state self.new).faults };
 
-    /// Changes the stored record. Its votes are in order, and it has a start to spare. A save that
-    /// fails by the device leaves the old record or the changed one, and uses up the plan. A store
-    /// that fails at will leaves the one that was planned.
+    /// Makes `change` in the stored record. An honest store has the changed record after `Ok`, the
+    /// old one after `Memory`, and one of the two after `Device`. The call never fails with `Bad`.
+    /// `Device` counts one more fault, and nothing else counts one.
+    ///
+    /// The votes of an honest store's record must ascend by place, and for a start it must have
+    /// fewer than 4,294,967,295 starts. No save is `Ok` under a plan. `Device` uses the plan up,
+    /// and nothing else changes it. A store that fails at will fails with `Device` only under a
+    /// plan, and then has the record that the plan says.
     fn save(&mut self, change: &Change) -> Result<(), StoreFault>
         requires starts { honest → change.now ≡ Start
             → (state self.old).stored.starts < LAST_START }
@@ -94,14 +101,15 @@ pub trait Store {
         ensures cause { HasCause (IsErrOf result Device) (state self.old).faults
             (state self.new).faults };
 
-    /// Returns how often the device has failed. The count stops at its greatest value, where it
-    /// counts as risen.
+    /// Returns how often the device has failed.
+    ///
+    /// The count stops at its greatest value. One more fault leaves it there.
     fn faults(&self) -> u64
         ensures { result ≡ (state self.now).faults };
 
-    /// Plans a fault of the device for the next save of a store that can fail at will. That save
-    /// leaves the changed record (`Some(true)`) or the old one (`Some(false)`). `None` takes the
-    /// plan back. A save that runs out of memory leaves the plan.
+    /// Gives a store that fails at will this plan for its next save: a fault that leaves the
+    /// changed record (`Some(true)`) or the old one (`Some(false)`), or no fault (`None`). The
+    /// record of an honest store and the count of faults stay.
     fn fail_next(&mut self, plan: Option<bool>)
         ensures same { honest → (state self.new).stored ≡ (state self.old).stored }
         ensures plan { fails_at_will → (state self.new).plan ≡ plan }

@@ -150,6 +150,7 @@ impl<'a> Clone for InputAfter<'a> {
 
     ghost is_infallible = { λ _. ⊤ };
 
+    /// Returns an iterator over the same bytes, from the next one on. It never fails.
     fn clone(&self) -> Result<InputAfter<'a>, AllocError> {
         Ok(InputAfter { keys: self.keys })
     }
@@ -164,6 +165,7 @@ impl<'a> Iterator for InputAfter<'a> {
 
     ghost remaining = { item_count (λ bytes. bytes) };
 
+    /// Returns the next byte. It returns each byte once, in order, and then no more.
     fn next(&mut self) -> Option<u8> {
         let (first, rest) = self.keys.split_first()?;
         self.keys = rest;

@@ -48,7 +48,9 @@ impl Model for KeySet {
 }
 
 impl KeySet {
-    /// Returns a set without keys. It takes no memory.
+    /// Returns a set without keys.
+    ///
+    /// It takes no memory.
     pub fn new(alloc: Global) -> KeySet
         ensures { result.keys ≡ [] }
     {
@@ -57,7 +59,8 @@ impl KeySet {
         }
     }
 
-    /// Makes room for `additional` more keys. After an error nothing has changed.
+    /// Makes room for `additional` more keys. Fails if memory runs out. The keys stay in both
+    /// cases, and the room never shrinks.
     pub fn reserve(&mut self, additional: usize) -> Result<(), AllocError>
         ensures keys { self.new.keys ≡ self.old.keys }
         ensures ok { OnOk result (additional ≤ self.new.room) }
@@ -97,7 +100,8 @@ impl KeySet {
         }
     }
 
-    /// Inserts the keys of a value, at most 32: each new one at the end. There is room for them.
+    /// Inserts the keys of `value`, at most 32, each new one at the end. There must be room for 32.
+    /// The room shrinks by at most 32.
     pub fn insert(&mut self, value: Value)
         requires { MOST_CHARACTERS ≤ self.old.room }
         ensures keys { self.new.keys ≡ keys_with self.old.keys value }
@@ -137,7 +141,7 @@ impl KeySet {
         self.keys.contains(&key)
     }
 
-    /// Returns the character of the key at `index`.
+    /// Returns the character of the key at `index`, if there is one.
     pub fn byte_at(&self, index: usize) -> Option<u8>
         ensures { result ≡ option_map (λ k. k.byte) (slice_get self.now.keys index) }
     {
@@ -145,7 +149,7 @@ impl KeySet {
         Some(key.byte)
     }
 
-    /// Returns the keys from `index` on.
+    /// Returns the keys from `index` on. `index` must be at most their number.
     pub fn from_index(&self, index: usize) -> &[TypedKey]
         requires { index ≤ length self.now.keys }
         ensures { map key_of result.now ≡ drop index self.now.keys }

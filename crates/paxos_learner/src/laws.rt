@@ -44,7 +44,8 @@ pub fn learned_stays()
 {}
 
 /// There is one front for each map, and the definition finds it. It does not fall when more is
-/// learned. It is at most 65,536 if no learned place is above 65,535.
+/// learned. It is at most 65,536 if the learned places are at most 65,535 and less than 1,024 above
+/// it.
 pub fn one_front()
     ensures there { (learned : FinMap nat_cmp Value) → IsFront learned (front_of learned) }
     ensures one { (learned : FinMap nat_cmp Value) (front : ℕ) → IsFront learned front

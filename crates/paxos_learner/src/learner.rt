@@ -84,8 +84,9 @@ fn raise_front(learned: &PlaceMap<Value>, input: &mut Input)
 }
 
 impl Learner {
-    /// Returns a learner that has heard nothing, for a group of at most 9 nodes. It takes no
-    /// memory.
+    /// Returns a learner that has heard nothing, in a group of `size` nodes, at most 9.
+    ///
+    /// It takes no memory.
     pub fn new(alloc: Global, size: u8) -> Learner
         requires { size ≤ MOST_NODES }
         ensures { result ≡ new_learner size }
@@ -125,15 +126,16 @@ impl Learner {
         Ok(())
     }
 
-    /// Hears that node `sender`, 0 to 9, has accepted the value at `place` under `ballot`.
+    /// Hears that node `sender` has accepted `value` at `place` under `ballot` (`heard_accepted`).
+    /// Returns `Learned` if the place is learned now, `Counted` if its tally alone has changed, and
+    /// `Passed` if nothing has. Fails only with `Memory`, and only where something would change;
+    /// then nothing has changed.
     ///
-    /// A place counts if it is not learned, and less than 1,024 above the front. There a greater
-    /// ballot than before begins a new tally, and a node counts once.
-    ///
-    /// Returns `Learned` if more than half of the nodes 1 to `size` have now accepted the value
-    /// under one ballot, `Counted` if this node is new but no majority yet, and `Passed` if nothing
-    /// has changed. Fails with `Memory` if there is no room for the change, counted with 32 keys at
-    /// each place up to a learned one. Then nothing has changed.
+    /// A message is ignored if its place is learned, or 1,024 or more above the front. At any other
+    /// place a greater ballot than before begins a new tally, and a node counts once. A smaller
+    /// ballot, or another value under the same one, is ignored. The place is learned if more than
+    /// half of the nodes 1 to `size` have now accepted the value under one ballot. Room is made as
+    /// for 32 keys at each place from the front up to a learned one.
     ///
     /// A message takes a search of the learned places, and for an open place one of the tallies. A
     /// tally that changes is written where that search has found it. A second search puts the first
@@ -174,9 +176,12 @@ impl Learner {
         Ok(Heard::Counted)
     }
 
-    /// Hears that a node has learned the value at `place`. Returns `Learned` if this learner has
-    /// now learned it, or `Passed` if the place was learned before, or is 1,024 or more above the
-    /// front; then nothing has changed. After `Memory` nothing has changed.
+    /// Hears that a node has learned `value` at `place` (`heard_tell`). Returns `Learned` if this
+    /// learner has now learned it. Returns `Passed` if nothing has changed: the place was learned
+    /// before, or is 1,024 or more above the front. Fails only with `Memory`, and only where it
+    /// would learn; then nothing has changed.
+    ///
+    /// Room is made as for 32 keys at each place from the front up to the learned one.
     pub fn on_tell(&mut self, place: u32, value: Value) -> Result<Heard, LearnerFault>
         requires { place ≤ LAST_PLACE }
         ensures ok { OnOk result (self.new ≡ (heard_tell self.old place value).learner) }
@@ -191,7 +196,8 @@ impl Learner {
         Ok(Heard::Passed)
     }
 
-    /// Returns the value that is learned at `place`, if any. The place may be any number.
+    /// Returns the value that is learned at `place`, if any. `place` may be any number. A learned
+    /// place is at most 65,535, and less than 1,024 above the known front.
     pub fn learned(&self, place: u32) -> Option<Value>
         ensures value { result ≡ get self.now.learned place }
         ensures place { IsSome result → place ≤ LAST_PLACE }
@@ -200,7 +206,8 @@ impl Learner {
         self.learned.get(place)
     }
 
-    /// Returns the known front: the least place that is not learned, 0 to 65,536.
+    /// Returns the known front: the least place that is not learned, at most 65,536. Each learned
+    /// place is at most 65,535, and less than 1,024 above it.
     pub fn known_front(&self) -> u32
         ensures front { result ≡ front_of self.now.learned }
         ensures least { IsFront self.now.learned result }
@@ -210,9 +217,10 @@ impl Learner {
         self.input.places()
     }
 
-    /// Returns the input bytes that the places from `place` up to the front add, none from the
-    /// front on. A key at several places is read at the first. So of a batch that overlaps an
-    /// earlier one only the new keys are added. The place may be any number.
+    /// Returns the input bytes that the places from `place` up to and without the front add, in
+    /// order: none if `place` is not below the front. A key at several places is read at the first
+    /// alone. So of a batch that overlaps an earlier one only the new keys are added. `place` may
+    /// be any number.
     pub fn input_after(&self, place: u32) -> InputAfter<'_>
         ensures { input_of (values_below self.now.learned (min place (front_of self.now.learned)))
             ++ result ≡ learned_input self.now.learned }
@@ -220,21 +228,22 @@ impl Learner {
         self.input.after(place)
     }
 
-    /// Returns the length in bytes of the learned input.
+    /// Returns the number of bytes of the learned input.
     pub fn input_len(&self) -> usize
         ensures { result ≡ length (learned_input self.now.learned) }
     {
         self.input.len()
     }
 
-    /// Returns the byte of the learned input at `index`, from 0 on.
+    /// Returns the byte of the learned input at `index`, from 0 on, if there is one.
     pub fn input_at(&self, index: usize) -> Option<u8>
         ensures { result ≡ slice_get (learned_input self.now.learned) index }
     {
         self.input.byte_at(index)
     }
 
-    /// Returns true if the key is read in the learned input: it is at a place below the front.
+    /// Returns true if the key is read in the learned input, that is, if it is in the value of a
+    /// place below the front.
     pub fn has_read(&self, key: TypedKey) -> bool
         ensures { IsTrue result
             ↔ Contains (keys_in_order (front_values self.now.learned)) (key_of key) }

@@ -17,12 +17,6 @@ pub both_known : {X : Type 0} (o : Option X) (P Q : X → Type 0) → IsSomeAnd 
 both_known None P Q h k = elim h [ ]
 both_known (Some x) P Q h k = (x, h, k)
 
-pub some_at : {X : Type 0} (o : Option X) (x : X) (P : X → Type 0) → o ≡ Some x → P x → IsSomeAnd o P
-some_at o x P e h = rw e h
-
-pub if_at : {X : Type 0} (o : Option X) (x : X) (P : X → Type 0) → o ≡ Some x → P x → IfSome o P
-if_at o x P e h = rw e h
-
 -- the record has promised b or a greater ballot
 abbrev pub HasPromised : Ballot → Record → Type 0
 HasPromised b r = IsSomeAnd r.promised (λ p. IsAtMost b p)
@@ -69,8 +63,7 @@ module _ (sent : Sent) (old : Record) where
       let vote : Vote = record { place = place; ballot = c; value = v } in
       let new : Record = changed old (Ballotted place c v) in
       elim (cases_eq s place) [
-        | inl e ↦ rw e (if_at (kept_vote_at new.votes place) vote (IsRight sent new place)
-            (vote_at-with_vote_same old.votes vote) (record { proposed = may.0; in_promise = at_most_refl c }))
+        | inl e ↦ rw (e, vote_at-with_vote_same old.votes vote) (record { proposed = may.0; in_promise = at_most_refl c })
         | inr ne ↦ stays_right (Ballotted place c v) s may (vote_at-with_vote_other old.votes vote s ne) right
       ]
 
@@ -88,9 +81,8 @@ module _ (sent : Sent) (old : Record) where
             let (p, above, at_c) =
             both_known old.promised (λ p. IsAtMost before.ballot p)
             (λ p. IsAtMost p c) right_before.in_promise may.1 in
-            rw e (some_at (kept_vote_at new.votes place) vote (λ vote. IsAtMost b vote.ballot)
-            (vote_at-with_vote_same old.votes vote)
-            (at_most_trans b before.ballot c at_before (at_most_trans before.ballot p c above at_c)))
+            rw (e, vote_at-with_vote_same old.votes vote)
+            (at_most_trans b before.ballot c at_before (at_most_trans before.ballot p c above at_c))
         | inr ne ↦ rw (vote_at-with_vote_other old.votes vote s ne) h
       ]
 

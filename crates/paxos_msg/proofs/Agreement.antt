@@ -1,12 +1,11 @@
 -- The invariant holds of all that grew, and gives agreement.
-use Rattle.std.proofs.Common.{◌≡◌, ℕ, inl, inr, [], Option, None, IfSome, sym, ap, arith}
+use Rattle.std.proofs.Common.{◌≡◌, ℕ, inl, inr, [], sym, arith}
 use Rattle.paxos_msg.specs.declared.ballot.Ballot.{Ballot}
 use Rattle.paxos_msg.specs.declared.value.Value.{Value}
-use Rattle.paxos_msg.proofs.Advances.{IsRight}
 use Rattle.paxos_msg.specs.Ballots.{IsBelow, IsAtMost}
 use Rattle.paxos_msg.specs.Batches.{Body, Grew, IsFree, Record, Sent}
 use Rattle.paxos_msg.specs.declared.message.Body.TheVariants.{Promise, Accept, Accepted}
-use Rattle.paxos_msg.specs.Messages.{IsSent, IsSaid, kept_vote_at}
+use Rattle.paxos_msg.specs.Messages.{IsSent, IsSaid}
 use Rattle.paxos_msg.specs.Records.{empty_record}
 use Rattle.paxos_msg.specs.Chosen.{IsChosen, IsChosenBy}
 use Rattle.paxos_msg.specs.Growth.{nothing, sends, saves}
@@ -15,9 +14,6 @@ use Rattle.paxos_msg.proofs.Meeting.{majorities_meet}
 use Rattle.paxos_msg.proofs.Invariant.{Invariant}
 use Rattle.paxos_msg.proofs.Saves.{saves_keep}
 use Rattle.paxos_msg.proofs.Sends.{sends_keep}
-
-if_none : {X : Type 0} (o : Option X) (P : X → Type 0) → o ≡ None → IfSome o P
-if_none o P e = rw e tt
 
 none_sent : (i : ℕ) (body : Body) → IsSent [] i body → ⊥
 none_sent i body (k, below, at) = omega arith
@@ -31,9 +27,7 @@ nothing_holds size records empty = record {
   one_value = λ b s v w h k. absurd (none_said (Accept b s v) h);
   submitted = λ b s v h. absurd (none_said (Accept b s v) h);
   kept = λ i b s v h. absurd (none_sent i (Accepted b s v) h);
-  right =
-      λ i s. if_none (kept_vote_at (records i).votes s) (IsRight [] (records i) s)
-      (ap (λ (r : Record). kept_vote_at r.votes s) (empty i));
+  right = λ i s. rw (empty i) tt;
   held = λ i b s reported h. absurd (none_sent i (Promise b h.first h.upto h.votes) h.is_sent);
   reports = λ i b s reported h. absurd (none_sent i (Promise b h.first h.upto h.votes) h.is_sent);
   decided = λ c s w h b below. absurd (none_said (Accept c s w) h);
@@ -46,26 +40,26 @@ invariant_of {size} (sends sent records typed learned i body grew may) =
 invariant_of {size} (saves sent records next i change grew may saved) =
     saves_keep size sent records next i change may saved (invariant_of grew)
 
--- what is chosen was proposed
-chosen_proposed : (size : ℕ) (sent : Sent) (records : ℕ → Record) (b : Ballot) (s : ℕ) (v : Value)
-    → Invariant size sent records → IsChosenBy size sent b s v → IsSaid sent (Accept b s v)
-chosen_proposed size sent records b s v inv (members, majority, accepted) =
-    let (i, low, high, here, there) = majorities_meet size members members majority majority in
-    inv.accepted i b s v (accepted i here)
+module _ (size : ℕ) (sent : Sent) (records : ℕ → Record) (b : Ballot) (s : ℕ) (v : Value) (inv : Invariant size sent records)
+    (chosen : IsChosenBy size sent b s v) where
+  -- what is chosen was proposed
+  chosen_proposed : IsSaid sent (Accept b s v)
+  chosen_proposed =
+      let (i, low, high, here, there) = majorities_meet size chosen.0 chosen.0 chosen.1 chosen.1 in
+      inv.accepted i b s v (chosen.2 i here)
 
-later_same : (size : ℕ) (sent : Sent) (records : ℕ → Record) (b c : Ballot) (s : ℕ) (v w : Value)
-    → Invariant size sent records → IsChosenBy size sent b s v → IsSaid sent (Accept c s w) → IsBelow b c → w ≡ v
-later_same size sent records b c s v w inv (members, majority, accepted) said below =
-    let d = inv.decided c s w said b below in
-    let (i, low, high, here, there) = majorities_meet size members d.members majority d.majority in
-    sym ((d.past i there).only v (accepted i here))
+  later_same : (c : Ballot) (w : Value) → IsSaid sent (Accept c s w) → IsBelow b c → w ≡ v
+  later_same c w said below =
+      let d = inv.decided c s w said b below in
+      let (i, low, high, here, there) = majorities_meet size chosen.0 d.members chosen.1 d.majority in
+      sym ((d.past i there).only v (chosen.2 i here))
 
 pub kept : (size s : ℕ) (sent : Sent) (records : ℕ → Record) (b c : Ballot) (v w : Value) → Grew size sent records
     → IsChosenBy size sent b s v → IsSaid sent (Accept c s w) → IsAtMost b c → w ≡ v
 kept size s sent records b c v w grew chosen said at_most =
     let inv = invariant_of grew in
     elim (at_most_cases b c at_most) [
-      | inl below ↦ later_same size sent records b c s v w inv chosen said below
+      | inl below ↦ later_same size sent records b s v inv chosen c w said below
       | inr e ↦ inv.one_value c s w v said (rw e at (chosen_proposed size sent records b s v inv chosen))
     ]
 

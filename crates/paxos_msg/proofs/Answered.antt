@@ -1,16 +1,15 @@
 -- An answer that gives what is read gives what is spelled, and the other way round.
 use Rattle.std.proofs.Common.{ℕ, List, Result, Ok, Err, IfOk, rules, sym, ◌∙◌}
-use Rattle.paxos_msg.specs.declared.message.Body.TheVariants.{Prepare, Promise, Accept, Accepted, Refused, Submit, Ask, Tell}
 use Rattle.paxos_msg.specs.declared.message.Group.{Group}
-use Rattle.paxos_msg.specs.Batches.{Body, Msg}
+use Rattle.paxos_msg.specs.Batches.{Msg}
 use Rattle.paxos_msg.specs.declared.fault.WireFault.{WireFault}
-use Rattle.paxos_msg.specs.Fits.{IsBody}
 use Rattle.paxos_msg.specs.Reading.{Gives, message_at}
 use Rattle.paxos_msg.specs.Spelling.{Msgs}
 use Rattle.paxos_msg.specs.Grammar.{AreBytes, IsGroup}
 use Rattle.paxos_msg.specs.Views.{HasUpTo}
 use Rattle.paxos_msg.specs.declared.limits.TheConstants.{MOST_VOTES}
 use Rattle.paxos_msg.proofs.MessagesRead.{message_found, message_again}
+use Rattle.paxos_msg.proofs.SpellingLengths.{few_votes}
 
 pub found : {X : Type 0} (view : X → Msg) (r : Result X WireFault) (group : Group) (bytes : List ℕ) → AreBytes bytes
     → Gives view r (message_at group bytes) → IfOk r (λ x. Msgs group bytes (view x))
@@ -22,18 +21,7 @@ pub only : {X : Type 0} (view : X → Msg) (r : Result X WireFault) (group : Gro
 only view (Ok x) group bytes m g e k = sym (message_again group bytes m g k) ∙ e
 only view (Err f) group bytes m g e k = sym (message_again group bytes m g k) ∙ e
 
--- a body in its ranges reports at most 8 votes
-body_few : (size sender : ℕ) (body : Body) → IsBody size sender body → HasUpTo MOST_VOTES body
-body_few size sender (Prepare b from) h = tt
-body_few size sender (Promise b first upto votes) h = h.4
-body_few size sender (Accept b s v) h = tt
-body_few size sender (Accepted b s v) h = tt
-body_few size sender (Refused b promised) h = tt
-body_few size sender (Submit v) h = tt
-body_few size sender (Ask from) h = tt
-body_few size sender (Tell s v) h = tt
-
 pub few : {X : Type 0} (view : X → Msg) (r : Result X WireFault) (group : Group) (bytes : List ℕ)
     → IfOk r (λ x. Msgs group bytes (view x)) → IfOk r (λ x. HasUpTo MOST_VOTES (view x).body)
-few view (Ok x) group bytes h = body_few group.size (view x).sender (view x).body h.fits.1
+few view (Ok x) group bytes h = few_votes group.size (view x).sender (view x).body h.fits.1
 few view (Err f) group bytes h = search rules

@@ -1,5 +1,5 @@
 -- Votes in ascending order of place: what a search in them finds, and what is put keeps the order.
-use Rattle.std.proofs.Common.{◌≡◌, ℕ, zero, suc, ◌<◌, ◌≤◌, List, [], ◌∷◌, length, get_or, set, Some, None, Result, Ok, Err, IfOk, IfErr, refl, sym, ap, subst, inl, inr, arith}
+use Rattle.std.proofs.Common.{◌≡◌, ℕ, zero, suc, ◌<◌, ◌≤◌, List, [], ◌∷◌, length, get_or, set, Some, None, Result, Ok, Err, IfOk, IfErr, refl, sym, ap, inl, inr, arith}
 use Rattle.std.specs.List.{insert}
 use Rattle.std.specs.List.Sorted.{IsSearchInRange, IsBinarySearchResult, IsNonDecreasingBy}
 use Rattle.std.specs.Ordering.{nat_cmp, ordering_index}
@@ -67,7 +67,7 @@ searched votes s d h (Ok at) in_range equal = record {
   found = record {
     in_range = in_range;
     same = λ d. ranked _ s _ (sym (equal d));
-    before = λ j d lt. subst (λ p. (get_or votes j d).place < p) (ranked _ s _ (sym (equal d))) (places_rise votes j at d h lt in_range);
+    before = λ j d lt. rw (← ranked _ s _ (sym (equal d))) (places_rise votes j at d h lt in_range);
   };
   absent = tt;
 }

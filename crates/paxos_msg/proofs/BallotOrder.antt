@@ -12,9 +12,6 @@ at_most_trans a b c h k = grind arith
 pub below_at_most : (a b c : Ballot) → IsBelow a b → IsAtMost b c → IsBelow a c
 below_at_most a b c h k = grind arith
 
-pub at_most_below : (a b c : Ballot) → IsAtMost a b → IsBelow b c → IsBelow a c
-at_most_below a b c h k = grind arith
-
 pub at_most_from_below : (a b : Ballot) → IsBelow a b → IsAtMost a b
 at_most_from_below a b h = grind arith
 

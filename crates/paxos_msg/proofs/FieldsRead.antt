@@ -1,5 +1,5 @@
 -- Ballots and places: what is read was written, and what is written is read.
-use Rattle.std.proofs.Common.{◌≡◌, ℕ, ◌^◌, ◌<◌, ◌≤◌, not, eqb, ltb, List, [], ◌∷◌, ◌++◌, Ok, refl, subst, arith}
+use Rattle.std.proofs.Common.{◌≡◌, ℕ, ◌^◌, ◌<◌, ◌≤◌, not, eqb, ltb, List, ◌∷◌, ◌++◌, Ok, refl, arith}
 use Rattle.std.proofs.lemmas.Bool.{eq-eqb, eqb-true, le-ltb, ltb-false, not-false}
 use Rattle.paxos_msg.specs.declared.ballot.Ballot.{Ballot}
 use Rattle.paxos_msg.specs.declared.fault.WireFault.TheVariants as fault
@@ -24,8 +24,8 @@ ballot_found size bytes p h e =
     let n = number_found bytes a.0 h a.1 in
     let t = byte_found a.0.1 c.0 n.0.others c.1 in
     let made : Ballot × List ℕ = (record { round = a.0.0; node = c.0.0 }, c.0.1) in
-    subst (λ (q : Ballot × List ℕ). Takes bytes (ballot_bytes q.0) q.1 × IsBallot size q.0) (ok_is made p d.1) (
-      takes_then bytes (number_bytes a.0.0) a.0.1 (c.0.0 ∷ []) c.0.1 n.0 t.0,
+    rw (← ok_is made p d.1) (
+      takes_then n.0 t.0,
       ((zero_false a.0.0 b.0, n.1), node_found size c.0.0 (not-false _ d.0)),
     )
 
@@ -42,7 +42,7 @@ own_found size sender bytes p h e =
     let a = bind_ok (ballot_at size bytes) _ p e in
     let b = last_ok fault.Ballot (not (eqb a.0.0.node sender)) a.0 p a.2 in
     let f = ballot_found size bytes a.0 h a.1 in
-    subst (λ (q : Ballot × List ℕ). Takes bytes (ballot_bytes q.0) q.1 × IsBallot size q.0 × (q.0.node ≡ sender)) b.1
+    rw (← b.1)
     (f.0, f.1, eqb-true a.0.0.node sender (not-false _ b.0))
 
 pub own_again : (size sender : ℕ) (b : Ballot) (rest : List ℕ) → IsBallot size b → b.node ≡ sender
@@ -59,7 +59,7 @@ place_found most bytes p h e =
     let a = bind_ok (number_at bytes) _ p e in
     let b = last_ok fault.Place (ltb most a.0.0) a.0 p a.2 in
     let f = number_found bytes a.0 h a.1 in
-    subst (λ (q : ℕ × List ℕ). Takes bytes (number_bytes q.0) q.1 × (q.0 ≤ most)) b.1 (f.0, ltb-false most a.0.0 b.0)
+    rw (← b.1) (f.0, ltb-false most a.0.0 b.0)
 
 pub place_again : (most n : ℕ) (rest : List ℕ) → most < 2 ^ 32 → n ≤ most → place_at most (number_bytes n ++ rest) ≡ Ok (n, rest)
 unfolding place_at

@@ -1,14 +1,13 @@
 -- What goes on with a growth: more messages, a call of a node, and a restart; and which rules still
 -- hold after it.
-use Rattle.std.proofs.Common.{◌≡◌, ◌≢◌, ◌↔◌, ℕ, inl, inr, List, [], ◌∷◌, ◌++◌, Option, Contains, subst, sym}
+use Rattle.std.proofs.Common.{◌≡◌, ◌≢◌, ◌↔◌, ℕ, inl, inr, List, [], ◌∷◌, ◌++◌, Option, Contains, sym}
 use Rattle.std.proofs.lemmas.Bool.{cases_eq}
 use Rattle.std.proofs.lemmas.List.{append-nil, append_assoc}
 use Rattle.std.proofs.lemmas.List.Elements.{Contains-append_left}
 use Rattle.paxos_msg.specs.declared.value.Value.{Value}
 use Rattle.paxos_msg.specs.Batches.{Body, Change, Grew, MaySend, MaySendAll, Msg, Record, Sent}
 use Rattle.paxos_msg.specs.declared.record.Change.TheVariants.{Start, Promise, Ballotted}
-use Rattle.paxos_msg.specs.declared.message.Body.TheVariants as message
-use Rattle.paxos_msg.specs.declared.message.Body.TheVariants.{Prepare, Accept, Accepted, Refused, Submit, Ask, Tell}
+use Rattle.paxos_msg.specs.declared.message.Body.TheVariants.{Accept, Accepted, Submit, Tell}
 use Rattle.paxos_msg.specs.Keys.{Key}
 use Rattle.paxos_msg.specs.Messages.{IsSaid, messages_of}
 use Rattle.paxos_msg.specs.Records.{MaySave, Stored}
@@ -52,67 +51,35 @@ pub restarts : (size i : ℕ) (sent : Sent) (records next : ℕ → Record) (fai
     → Stored (records i) failed (next i) → ((j : ℕ) → j ≢ i → next j ≡ records j) → Grew size sent next
 restarts size i sent records next failed grew may (inl same) others =
     let each : (j : ℕ) → next j ≡ records j = λ j. elim (cases_eq j i) [ inl e ↦ rw e same | inr ne ↦ others j ne ] in
-    subst (λ (r : ℕ → Record). Grew size sent r) (same_records records next each) grew
+    rw (← same_records records next each) grew
 restarts size i sent records next failed grew may (inr (change, tried, e)) others =
     saves sent records next i change grew (may change tried) (record { own = e; others = others })
 
 -- ---- rules that still hold
 
 -- what may be sent, and is no new proposal, may still be sent when more was sent, typed and learned
-pub may_still_send : (size i : ℕ) (typed newer : List Key) (learned now : ℕ → Option Value) (sent more : Sent)
-    (r : Record) (body : Body) → KnowsMore typed newer learned now → IsNoNewProposal sent i body
-    → MaySend size typed learned sent i r body → MaySend size newer now (sent ++ more) i r body
-may_still_send size i typed newer learned now sent more r (Prepare b from) knows old may = may
-may_still_send size i typed newer learned now sent more r (message.Promise b first upto votes) knows old may = may
-may_still_send size i typed newer learned now sent more r (Accept b s v) knows old (own, rule) =
-    (own, inl (Contains-append_left sent more (record { sender = i; body = Accept b s v }) old))
-may_still_send size i typed newer learned now sent more r (Accepted b s v) knows old (said, vote, promised) =
-    (stays_said sent more (Accept b s v) said, vote, promised)
-may_still_send size i typed newer learned now sent more r (Refused b promised) knows old may = may
-may_still_send size i typed newer learned now sent more r (Submit v) knows old may =
-    record { own = may.own; known = λ key k. knows.keys key (may.known key k) }
-may_still_send size i typed newer learned now sent more r (Ask from) knows old may = may
-may_still_send size i typed newer learned now sent more r (Tell s v) knows old may = knows.values s v may
+module _ (size i : ℕ) (typed newer : List Key) (learned now : ℕ → Option Value) (sent more : Sent) (r : Record) where
+  pub may_still_send : (body : Body) → KnowsMore typed newer learned now → IsNoNewProposal sent i body
+      → MaySend size typed learned sent i r body → MaySend size newer now (sent ++ more) i r body
+  may_still_send (Accept b s v) knows old (own, rule) =
+      (own, inl (Contains-append_left sent more (record { sender = i; body = Accept b s v }) old))
+  may_still_send (Accepted b s v) knows old (said, vote, promised) = (stays_said sent more (Accept b s v) said, vote, promised)
+  may_still_send (Submit v) knows old may = record { own = may.own; known = λ key k. knows.keys key (may.known key k) }
+  may_still_send (Tell s v) knows old may = knows.values s v may
+  may_still_send _ knows old may = may
 
 -- ---- a call in two halves
 
-both_halves : (size i : ℕ) (typed : List Key) (learned : ℕ → Option Value) (sent : Sent) (r : Record)
-    (bodies more : List Body) → MaySendAll size typed learned sent i r bodies
-    → MaySendAll size typed learned (sent ++ messages_of i bodies) i r more
-    → MaySendAll size typed learned sent i r (bodies ++ more)
-both_halves size i typed learned sent r [] more first then = rw (append-nil sent) at then
-both_halves size i typed learned sent r (body ∷ bodies) more (may, rest) then =
-    let m : Msg = record { sender = i; body = body } in (
-      may,
-      both_halves size i typed learned (sent ++ m ∷ []) r bodies more rest
-          (rw (← append_assoc sent (m ∷ []) (messages_of i bodies)) at then),
-    )
-
-first_half : (size i : ℕ) (typed : List Key) (learned : ℕ → Option Value) (sent : Sent) (r : Record)
-    (bodies more : List Body) → MaySendAll size typed learned sent i r (bodies ++ more)
-    → MaySendAll size typed learned sent i r bodies
-first_half size i typed learned sent r [] more all = tt
-first_half size i typed learned sent r (body ∷ bodies) more (may, rest) =
-    (may, first_half size i typed learned (sent ++ record { sender = i; body = body } ∷ []) r bodies more rest)
-
-second_half : (size i : ℕ) (typed : List Key) (learned : ℕ → Option Value) (sent : Sent) (r : Record)
-    (bodies more : List Body) → MaySendAll size typed learned sent i r (bodies ++ more)
-    → MaySendAll size typed learned (sent ++ messages_of i bodies) i r more
-second_half size i typed learned sent r [] more all = rw (append-nil sent) all
-second_half size i typed learned sent r (body ∷ bodies) more (may, rest) =
-    let m : Msg = record { sender = i; body = body } in
-    rw (append_assoc sent (m ∷ []) (messages_of i bodies)) at (second_half size i typed learned (sent ++ m ∷ []) r bodies more rest)
-
-pub halves : (size i : ℕ) (typed : List Key) (learned : ℕ → Option Value) (sent : Sent) (r : Record)
-    (bodies more : List Body)
-    → MaySendAll size typed learned sent i r (bodies ++ more)
-    ↔ (MaySendAll size typed learned sent i r bodies
-    × MaySendAll size typed learned (sent ++ messages_of i bodies) i r more)
-halves size i typed learned sent r bodies more = (
-  λ all. (
-    first_half size i typed learned sent r bodies more all,
-    second_half size i typed learned sent r bodies more
-        all,
-  ),
-  λ parts. both_halves size i typed learned sent r bodies more parts.0 parts.1,
-)
+module _ (size i : ℕ) (typed : List Key) (learned : ℕ → Option Value) where
+  pub halves : (sent : Sent) (r : Record) (bodies more : List Body)
+      → MaySendAll size typed learned sent i r (bodies ++ more)
+      ↔ (MaySendAll size typed learned sent i r bodies
+      × MaySendAll size typed learned (sent ++ messages_of i bodies) i r more)
+  halves sent r [] more = (λ all. (tt, rw (append-nil sent) all), λ parts. rw (append-nil sent) at parts.1)
+  halves sent r (body ∷ bodies) more =
+      let m : Msg = record { sender = i; body = body } in
+      let rest = halves (sent ++ m ∷ []) r bodies more in
+      let same = append_assoc sent (m ∷ []) (messages_of i bodies) in (
+        λ all. ((all.0, (rest.0 all.1).0), rw same at (rest.0 all.1).1),
+        λ parts. (parts.0.0, rest.1 (parts.0.1, rw (← same) at parts.1)),
+      )

@@ -9,7 +9,7 @@ use Rattle.paxos_msg.specs.declared.value.Value.TheVariants as value
 use Rattle.paxos_msg.specs.Batches.{Body, Change, Grew, IsTyped, MaySend, Msg, Record, Sent, Vote}
 use Rattle.paxos_msg.specs.declared.record.Change.TheVariants.{Ballotted}
 use Rattle.paxos_msg.specs.declared.record.Change.TheVariants.{Promise as ToPromise}
-use Rattle.paxos_msg.specs.declared.message.Body.TheVariants.{Prepare, Promise, Accept, Accepted, Refused, Submit, Ask, Tell}
+use Rattle.paxos_msg.specs.declared.message.Body.TheVariants.{Promise, Accept, Accepted}
 use Rattle.paxos_msg.specs.Ballots.{IsAtMost}
 use Rattle.paxos_msg.specs.Chosen.{is_listed}
 use Rattle.paxos_msg.specs.Growth.{sends, saves}
@@ -56,21 +56,15 @@ learned s = None
 
 -- whether the body proposes under a ballot of that round
 abbrev proposes : ℕ → Body → Bool
-proposes round (Prepare b from) = false
-proposes round (Promise b first upto votes) = false
 proposes round (Accept b s v) = b.round == round
-proposes round (Accepted b s v) = false
-proposes round (Refused b promised) = false
-proposes round (Submit v) = false
-proposes round (Ask from) = false
-proposes round (Tell s v) = false
+proposes round other = false
 
 pub none_proposed : (sent : Sent) (b : Ballot) (s : ℕ) → list_any (λ m. proposes b.round m.body) sent ≡ false
     → IsUnproposed sent b s
 none_proposed sent b s none v (i, (k, below, at)) =
     let proposed : list_any (λ m. proposes b.round m.body) sent ≡ true =
     list_any_at (λ (m : Msg). proposes b.round m.body) sent k (record { sender = i; body = Accept b s v }) below
-    (subst (λ (m : Msg). proposes b.round m.body ≡ true) (sym at) (eq-eqb b.round b.round refl)) in
+    (rw at (eq-eqb b.round b.round refl)) in
     cc
 
 -- a Promise for one place reports on that place
@@ -94,6 +88,10 @@ silent r first upto e = record {
   whole = λ s from below. rw e refl;
 }
 
+-- one message more
+abbrev pub and_sent : Sent → ℕ → Body → Sent
+and_sent sent i body = sent ++ record { sender = i; body = body } ∷ []
+
 -- ---- one node more saves, and sends what it saved
 
 -- the records after node i has saved the change
@@ -111,7 +109,7 @@ module _ (size : ℕ) (sent : Sent) (records : ℕ → Record) (i : ℕ) where
   own : (change : Change) (body : Body) → MaySend size [] learned sent i (changed (records i) change) body
       → MaySend size [] learned sent i (with_change records i change i) body
   own change body may =
-      subst (λ (r : Record). MaySend size [] learned sent i r body) (sym (with_change-saved records i change).own) may
+      rw (with_change-saved records i change).own may
 
   pub saved : (change : Change) → Grew size sent records → MaySave sent (records i) change
       → Grew size sent (with_change records i change)
@@ -120,7 +118,7 @@ module _ (size : ℕ) (sent : Sent) (records : ℕ → Record) (i : ℕ) where
   -- a node without votes promises the ballot, for one place
   pub promises : (b : Ballot) (s : ℕ) → Grew size sent records → MaySave sent (records i) (ToPromise b)
       → (records i).votes ≡ []
-      → Grew size (sent ++ record { sender = i; body = Promise b s (suc s) [] } ∷ []) (with_change records i (ToPromise b))
+      → Grew size (and_sent sent i (Promise b s (suc s) [])) (with_change records i (ToPromise b))
   promises b s grew may none =
       sends sent (with_change records i (ToPromise b)) [] learned i (Promise b s (suc s) []) (saved (ToPromise b) grew may)
       (own (ToPromise b) (Promise b s (suc s) []) (refl, silent (changed (records i) (ToPromise b)) s (suc s) none))
@@ -128,7 +126,7 @@ module _ (size : ℕ) (sent : Sent) (records : ℕ → Record) (i : ℕ) where
   -- a node accepts what was proposed
   pub accepts : (b : Ballot) (s : ℕ) (v : Value) → Grew size sent records → IsSaid sent (Accept b s v)
       → IfSome (records i).promised (λ p. IsAtMost p b)
-      → Grew size (sent ++ record { sender = i; body = Accepted b s v } ∷ []) (with_change records i (Ballotted s b v))
+      → Grew size (and_sent sent i (Accepted b s v)) (with_change records i (Ballotted s b v))
   accepts b s v grew said at_most =
       sends sent (with_change records i (Ballotted s b v)) [] learned i (Accepted b s v)
       (saved (Ballotted s b v) grew (said, at_most))

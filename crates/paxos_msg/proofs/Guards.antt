@@ -11,8 +11,9 @@ pub record Takes (bytes text rest : List ℕ) : Type 0 where
   pub parts : bytes ≡ text ++ rest
   pub others : AreBytes rest
 
-pub takes_then : (a x b y c : List ℕ) → Takes a x b → Takes b y c → Takes a (x ++ y) c
-takes_then a x b y c p q = record { parts = p.parts ∙ ap (λ (t : List ℕ). x ++ t) q.parts ∙ sym (append_assoc x y c); others = q.others }
+pub takes_then : {a x b y c : List ℕ} → Takes a x b → Takes b y c → Takes a (x ++ y) c
+takes_then {x} {y} {c} p q =
+    record { parts = p.parts ∙ ap (λ (t : List ℕ). x ++ t) q.parts ∙ sym (append_assoc x y c); others = q.others }
 
 -- ---- bytes before others, and after them
 
@@ -34,6 +35,9 @@ zero_false n h = grind (arith, nat_tests)
 
 pub false_zero : (n : ℕ) → 0 < n → eqb n 0 ≡ false
 false_zero n h = grind (arith, nat_tests)
+
+pub past_one : (b : ℕ) → (eqb (suc (suc b)) 0 ≡ false) × (eqb (suc (suc b)) 1 ≡ false)
+past_one b = (grind (arith, nat_tests), grind (arith, nat_tests))
 
 pub node_found : (size node : ℕ) → is_node size node ≡ true → IsNode size node
 node_found size node h =

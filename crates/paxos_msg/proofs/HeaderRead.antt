@@ -1,5 +1,5 @@
 -- The header: what is read was written, and what is written is read.
-use Rattle.std.proofs.Common.{◌≡◌, ℕ, suc, ◌<◌, ◌≤◌, true, false, not, ◌&&◌, ◌||◌, eqb, ltb, List, [], ◌∷◌, ◌++◌, length, Ok, refl, sym, ap, subst, arith}
+use Rattle.std.proofs.Common.{◌≡◌, ℕ, suc, ◌<◌, ◌≤◌, true, false, not, ◌&&◌, ◌||◌, eqb, ltb, List, [], ◌∷◌, ◌++◌, length, Ok, refl, sym, ap, arith}
 use Rattle.std.proofs.lemmas.Bool.{eq-eqb, eqb-true, le-ltb, ltb-false, or_parts, and_parts, not-false}
 use Rattle.byteorder.specs.Endian.{big_number}
 use Rattle.byteorder.specs.Numbers.{big_number-reads_back}
@@ -61,7 +61,7 @@ ten_found group a b c kind sender size g h i j rest p are e =
     let takes =
     ten_are group a b c kind sender size g h i j rest are (eqb-true a 80 magic.0) (eqb-true b 71 magic.1)
     (eqb-true c 2 (not-false _ version.0)) (eqb-true size group.size same.0) (eqb-true _ group.session same.1) in
-    subst (λ (q : (ℕ × ℕ) × List ℕ). IsHeader group bytes q) (ok_is ((kind, sender), rest) p node.1)
+    rw (← ok_is ((kind, sender), rest) p node.1)
     (record {
       takes = takes;
       above = zero_false kind range.0;
@@ -71,21 +71,9 @@ ten_found group a b c kind sender size g h i j rest p are e =
 
 pub header_found : (group : Group) (bytes : List ℕ) (p : (ℕ × ℕ) × List ℕ) → AreBytes bytes
     → header_at group bytes ≡ Ok p → IsHeader group bytes p
-header_found group [] p are e = absurd (short_refused group [] p (omega arith) e)
-header_found group (a ∷ []) p are e = absurd (short_refused group (a ∷ []) p (omega arith) e)
-header_found group (a ∷ b ∷ []) p are e = absurd (short_refused group (a ∷ b ∷ []) p (omega arith) e)
-header_found group (a ∷ b ∷ c ∷ []) p are e = absurd (short_refused group (a ∷ b ∷ c ∷ []) p (omega arith) e)
-header_found group (a ∷ b ∷ c ∷ k ∷ []) p are e = absurd (short_refused group (a ∷ b ∷ c ∷ k ∷ []) p (omega arith) e)
-header_found group (a ∷ b ∷ c ∷ k ∷ s ∷ []) p are e = absurd (short_refused group (a ∷ b ∷ c ∷ k ∷ s ∷ []) p (omega arith) e)
-header_found group (a ∷ b ∷ c ∷ k ∷ s ∷ z ∷ []) p are e = absurd (short_refused group (a ∷ b ∷ c ∷ k ∷ s ∷ z ∷ []) p (omega arith) e)
-header_found group (a ∷ b ∷ c ∷ k ∷ s ∷ z ∷ g ∷ []) p are e =
-    absurd (short_refused group (a ∷ b ∷ c ∷ k ∷ s ∷ z ∷ g ∷ []) p (omega arith) e)
-header_found group (a ∷ b ∷ c ∷ k ∷ s ∷ z ∷ g ∷ h ∷ []) p are e =
-    absurd (short_refused group (a ∷ b ∷ c ∷ k ∷ s ∷ z ∷ g ∷ h ∷ []) p (omega arith) e)
-header_found group (a ∷ b ∷ c ∷ k ∷ s ∷ z ∷ g ∷ h ∷ i ∷ []) p are e =
-    absurd (short_refused group (a ∷ b ∷ c ∷ k ∷ s ∷ z ∷ g ∷ h ∷ i ∷ []) p (omega arith) e)
 header_found group (a ∷ b ∷ c ∷ k ∷ s ∷ z ∷ g ∷ h ∷ i ∷ j ∷ rest) p are e =
     ten_found group a b c k s z g h i j rest p (λ n. are (suc (suc (suc (suc (suc (suc n))))))) e
+header_found group other p are e = absurd (short_refused group other p (omega arith) e)
 
 pub header_again : (group : Group) (kind sender : ℕ) (rest : List ℕ) → IsGroup group → 0 < kind → kind ≤ 8 → IsNode group.size sender
     → header_at group (header_bytes group kind sender ++ rest) ≡ Ok ((kind, sender), rest)

@@ -1,12 +1,12 @@
 -- The law: a datagram is read as a message just where it is the message's spelling.
-use Rattle.std.proofs.Common.{◌≡◌, ◌↔◌, ℕ, ◌<◌, ◌≤◌, not, eqb, List, [], ◌++◌, length, Ok, refl, sym, ap, subst, ◌∙◌, arith}
+use Rattle.std.proofs.Common.{◌≡◌, ◌↔◌, ℕ, ◌<◌, ◌≤◌, not, eqb, List, [], ◌++◌, length, Ok, refl, sym, ap, ◌∙◌, arith}
 use Rattle.std.proofs.lemmas.Bool.{eqb-true, not-false}
 use Rattle.std.proofs.lemmas.List.{append-nil, nil_from_length}
 use Rattle.paxos_msg.specs.declared.ballot.Ballot.{Ballot}
 use Rattle.paxos_msg.specs.declared.value.Value.{Value}
 use Rattle.paxos_msg.specs.Batches.{Body, Msg, Vote}
 use Rattle.paxos_msg.specs.declared.message.Group.{Group}
-use Rattle.paxos_msg.specs.declared.message.Body.TheVariants.{Prepare, Promise, Accept, Accepted, Refused, Submit, Ask, Tell}
+use Rattle.paxos_msg.specs.declared.message.Body.TheVariants.{Prepare}
 use Rattle.paxos_msg.specs.declared.fault.WireFault.TheVariants as fault
 use Rattle.paxos_msg.specs.Fits.{AreVotes, IsBallot, IsValue, Fits}
 use Rattle.paxos_msg.specs.Spelling.{ballot_bytes, value_bytes, votes_bytes, kind_of, body_bytes, header_bytes, spelling, Msgs}
@@ -22,36 +22,22 @@ use Rattle.paxos_msg.proofs.HeaderRead.{header_found, header_again}
 
 -- ---- the fields
 
-ballot_there : (size : ℕ) (bytes : List ℕ) (b : Ballot) (rest : List ℕ)
-    → IsBallot size b × (bytes ≡ ballot_bytes b ++ rest) → ballot_at size bytes ≡ Ok (b, rest)
-ballot_there size bytes b rest h = rw (h.1) (ballot_again size b rest h.0)
-
 pub ballot_is_spelling : (size : ℕ) (bytes : List ℕ) (b : Ballot) (rest : List ℕ) → AreBytes bytes
     → (ballot_at size bytes ≡ Ok (b, rest)) ↔ (IsBallot size b × (bytes ≡ ballot_bytes b ++ rest))
 ballot_is_spelling size bytes b rest are =
-    (λ e. (let f = ballot_found size bytes (b, rest) are e in (f.1, f.0.parts)), λ h. ballot_there size bytes b rest h)
-
-value_there : (size : ℕ) (bytes : List ℕ) (v : Value) (rest : List ℕ) → IsValue size v × (bytes ≡ value_bytes v ++ rest)
-    → value_at size bytes ≡ Ok (v, rest)
-value_there size bytes v rest h = rw (h.1) (value_again size v rest h.0)
+    (λ e. (let f = ballot_found size bytes (b, rest) are e in (f.1, f.0.parts)), λ h. rw h.1 (ballot_again size b rest h.0))
 
 pub value_is_spelling : (size : ℕ) (bytes : List ℕ) (v : Value) (rest : List ℕ) → AreBytes bytes
     → (value_at size bytes ≡ Ok (v, rest)) ↔ (IsValue size v × (bytes ≡ value_bytes v ++ rest))
 value_is_spelling size bytes v rest are =
-    (λ e. (let f = value_found size bytes (v, rest) are e in (f.1, f.0.parts)), λ h. value_there size bytes v rest h)
-
-votes_there : (size n : ℕ) (b : Ballot) (bytes : List ℕ) (votes : List Vote) (rest : List ℕ)
-    → AreVotes size b 0 65536 votes × (length votes ≡ n) × (bytes ≡ votes_bytes votes ++ rest)
-    → votes_at size b 0 65536 0 n bytes ≡ Ok (votes, rest)
-votes_there size n b bytes votes rest h =
-    rw (h.2, ← h.1) (votes_again size b 0 65536 0 0 votes rest (omega arith) (omega arith) (omega arith) h.0)
+    (λ e. (let f = value_found size bytes (v, rest) are e in (f.1, f.0.parts)), λ h. rw h.1 (value_again size v rest h.0))
 
 pub votes_are_spelling : (size n : ℕ) (b : Ballot) (bytes : List ℕ) (votes : List Vote) (rest : List ℕ) → AreBytes bytes
     → (votes_at size b 0 65536 0 n bytes ≡ Ok (votes, rest))
     ↔ (AreVotes size b 0 65536 votes × (length votes ≡ n) × (bytes ≡ votes_bytes votes ++ rest))
 votes_are_spelling size n b bytes votes rest are = (
   λ e. (let f = votes_found size b 0 65536 0 0 n bytes (votes, rest) are (λ k x y. x) e in (f.1, f.2, f.0.parts)),
-  λ h. votes_there size n b bytes votes rest h,
+  λ h. rw (h.2, ← h.1) (votes_again size b 0 65536 0 0 votes rest (omega arith) (omega arith) (omega arith) h.0),
 )
 
 -- ---- the message
@@ -64,38 +50,23 @@ message_found group bytes m are e =
     let c = last_ok fault.Trailing (not (eqb (length b.0.1) 0)) (record { sender = a.0.0.1; body = b.0.0 }) m b.2 in
     let header = header_found group bytes a.0 are a.1 in
     let body = body_found group.size a.0.0.1 a.0.0.0 a.0.1 b.0 header.above header.below header.takes.others b.1 in
-    let both = takes_then bytes (header_bytes group a.0.0.0 a.0.0.1) a.0.1 (body_bytes b.0.0) b.0.1 header.takes body.takes in
+    let both = takes_then header.takes body.takes in
     let end : b.0.1 ≡ [] = nil_from_length b.0.1 (eqb-true (length b.0.1) 0 (not-false _ c.0)) in
     let whole : bytes ≡ header_bytes group (kind_of b.0.0) a.0.0.1 ++ body_bytes b.0.0 =
     rw (body.kind_is) (both.parts
     ∙ ap (λ (t : List ℕ). (header_bytes group a.0.0.0 a.0.0.1 ++ body_bytes b.0.0) ++ t) end
     ∙ append-nil (header_bytes group a.0.0.0 a.0.0.1 ++ body_bytes b.0.0)) in
-    subst (λ (n : Msg). Msgs group bytes n) c.1 (record { fits = (header.sender, body.fits); spelled = whole })
+    rw (← c.1) (record { fits = (header.sender, body.fits); spelled = whole })
 
-kind_above : (body : Body) → 0 < kind_of body
-kind_above (Prepare b from) = omega arith
-kind_above (Promise b first upto votes) = omega arith
-kind_above (Accept b s v) = omega arith
-kind_above (Accepted b s v) = omega arith
-kind_above (Refused b promised) = omega arith
-kind_above (Submit v) = omega arith
-kind_above (Ask from) = omega arith
-kind_above (Tell s v) = omega arith
-
-kind_below : (body : Body) → kind_of body ≤ 8
-kind_below (Prepare b from) = omega arith
-kind_below (Promise b first upto votes) = omega arith
-kind_below (Accept b s v) = omega arith
-kind_below (Accepted b s v) = omega arith
-kind_below (Refused b promised) = omega arith
-kind_below (Submit v) = omega arith
-kind_below (Ask from) = omega arith
-kind_below (Tell s v) = omega arith
+kind_within : (body : Body) → (0 < kind_of body) × (kind_of body ≤ 8)
+kind_within (Prepare b from) = (omega arith, omega arith)
+kind_within _ = (omega arith, omega arith)
 
 pub spelling_read : (group : Group) (m : Msg) → IsGroup group → Fits group m → message_at group (spelling group m) ≡ Ok m
 unfolding message_at
 spelling_read group m small fits =
-    let header = header_again group (kind_of m.body) m.sender (body_bytes m.body) small (kind_above m.body) (kind_below m.body) fits.0 in
+    let kind = kind_within m.body in
+    let header = header_again group (kind_of m.body) m.sender (body_bytes m.body) small kind.0 kind.1 fits.0 in
     let body : body_at group.size (kind_of m.body) m.sender (body_bytes m.body) ≡ Ok (m.body, []) =
     rw (← append-nil (body_bytes m.body)) (body_again group.size m.sender m.body [] fits.1) in
     rw (header, body) refl

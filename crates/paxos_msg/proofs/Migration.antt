@@ -10,7 +10,7 @@ use Rattle.paxos_msg.specs.declared.record.Record.{Record}
 use Rattle.paxos_msg.specs.declared.record.Change.{Change}
 use Rattle.paxos_msg.specs.declared.record.Change.TheVariants as change
 use Rattle.paxos_msg.specs.declared.message.Body.{Body}
-use Rattle.paxos_msg.specs.declared.message.Body.TheVariants.{Prepare, Promise, Accept, Accepted, Refused, Submit, Ask, Tell}
+use Rattle.paxos_msg.specs.declared.message.Body.TheVariants.{Promise, Accept, Accepted, Submit, Tell}
 use Rattle.paxos_msg.specs.declared.message.Msg.{Msg}
 use Rattle.paxos_msg.specs.Ballots.{IsAtMost}
 use Rattle.paxos_msg.specs.Chosen.{IsChosen}
@@ -79,13 +79,7 @@ module _ {V W : Type 0} (f : V → W) where
           let at_place : t ≡ s = cc in
           let says : m.body ≡ Accept b s v = d ∙ (λ j. Accept (under j) (at_place j) v) in
           (v, λ j. record { sender = same j; body = says j })
-      by_body (Prepare c from) d k same = absurd cc
-      by_body (Promise c first upto votes) d k same = absurd cc
-      by_body (Accepted c t v) d k same = absurd cc
-      by_body (Refused c promised) d k same = absurd cc
-      by_body (Submit v) d k same = absurd cc
-      by_body (Ask from) d k same = absurd cc
-      by_body (Tell t v) d k same = absurd cc
+      by_body _ d k same = absurd cc
 
   unproposed_still : (sent : Sent V) (b : Ballot) (s : ℕ) → IsUnproposed sent b s → IsUnproposed (sent_with f sent) b s
   unproposed_still sent b s h w (i, k) =
@@ -179,28 +173,26 @@ module _ {V W : Type 0} (values : Values V) (others : Values W) (f : V → W) (n
     known = rw (keys v) h.known;
   }
 
-  may_send_still : (size : ℕ) (typed : List Key) (learned : ℕ → Option V) (sent : Sent V) (i : ℕ) (r : Record V) (body : Body V)
-      → MaySend values size typed learned sent i r body
-      → MaySend others size typed (λ s. option_map f (learned s)) (sent_with f sent) i (record_with f r)
-      (body_with f body)
-  may_send_still size typed learned sent i r (Prepare b from) may = may
-  may_send_still size typed learned sent i r (Promise b first upto votes) may = (may.0, report_still f r first upto votes may.1)
-  may_send_still size typed learned sent i r (Accept b s v) (own, inl again) = (own, inl (sent_still f sent i (Accept b s v) again))
-  may_send_still size typed learned sent i r (Accept b s v) (own, inr new) =
-      (own, inr (unproposed_still f sent b s new.0, safe_still size sent b s v new.1))
-  may_send_still size typed learned sent i r (Accepted b s v) may =
-      (said_still f sent (Accept b s v) may.0, vote_at_with f r.votes s ∙ ap (option_map (vote_with f)) may.1, may.2)
-  may_send_still size typed learned sent i r (Refused b promised) may = may
-  may_send_still size typed learned sent i r (Submit v) may = typed_still typed i v may
-  may_send_still size typed learned sent i r (Ask from) may = tt
-  may_send_still size typed learned sent i r (Tell s v) may = ap (option_map f) may
+  module _ (size : ℕ) (typed : List Key) (learned : ℕ → Option V) (sent : Sent V) (i : ℕ) (r : Record V) where
+    may_send_still : (body : Body V) → MaySend values size typed learned sent i r body
+        → MaySend others size typed (λ s. option_map f (learned s)) (sent_with f sent) i (record_with f r)
+        (body_with f body)
+    may_send_still (Promise b first upto votes) may = (may.0, report_still f r first upto votes may.1)
+    may_send_still (Accept b s v) (own, inl again) = (own, inl (sent_still f sent i (Accept b s v) again))
+    may_send_still (Accept b s v) (own, inr new) =
+        (own, inr (unproposed_still f sent b s new.0, safe_still size sent b s v new.1))
+    may_send_still (Accepted b s v) may =
+        (said_still f sent (Accept b s v) may.0, vote_at_with f r.votes s ∙ ap (option_map (vote_with f)) may.1, may.2)
+    may_send_still (Submit v) may = typed_still typed i v may
+    may_send_still (Tell s v) may = ap (option_map f) may
+    may_send_still _ may = may
 
   pub grew_still : {size : ℕ} {sent : Sent V} {records : ℕ → Record V} → Grew values size sent records
       → Grew others size (sent_with f sent) (λ i. record_with f (records i))
   grew_still (nothing records empty) = nothing (λ i. record_with f (records i)) (λ i. ap (record_with f) (empty i))
   grew_still {size} (sends sent records typed learned i body grew may) =
       let m : Msg V = record { sender = i; body = body } in
-      subst (λ (all : Sent W). Grew others size all (λ j. record_with f (records j))) (sym (map-append (msg_with f) sent (m ∷ [])))
+      rw (map-append (msg_with f) sent (m ∷ []))
       (sends (sent_with f sent) (λ j. record_with f (records j)) typed (λ s. option_map f (learned s)) i
       (body_with f body) (grew_still grew) (may_send_still size typed learned sent i (records i) body may))
   grew_still (saves sent records next i change grew may saved) =

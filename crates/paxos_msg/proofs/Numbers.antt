@@ -1,5 +1,5 @@
 -- Numbers of one and of four bytes: what is read was written, and what is written is read.
-use Rattle.std.proofs.Common.{◌≡◌, ℕ, suc, ◌+◌, ◌*◌, ◌/◌, ◌%◌, ◌^◌, ◌<◌, ◌≤◌, false, ltb, List, [], ◌∷◌, ◌++◌, length, drop, Ok, refl, sym, ap, subst, arith}
+use Rattle.std.proofs.Common.{◌≡◌, ℕ, suc, ◌+◌, ◌*◌, ◌/◌, ◌%◌, ◌^◌, ◌<◌, ◌≤◌, false, ltb, List, [], ◌∷◌, ◌++◌, length, drop, Ok, refl, sym, ap, arith}
 use Rattle.std.proofs.lemmas.Bool.{le-ltb, ltb-false}
 use Rattle.byteorder.specs.Endian.{big_number}
 use Rattle.byteorder.specs.Numbers.{big_number-reads_back}
@@ -13,8 +13,7 @@ use Rattle.paxos_msg.proofs.Guards.{Takes}
 pub byte_found : (bytes : List ℕ) (x : ℕ × List ℕ) → AreBytes bytes → first_byte bytes ≡ Ok x → Takes bytes (x.0 ∷ []) x.1 × (x.0 < 256)
 byte_found [] x h e = absurd cc
 byte_found (b ∷ bytes) x h e =
-    subst (λ (y : ℕ × List ℕ). Takes (b ∷ bytes) (y.0 ∷ []) y.1 × (y.0 < 256)) (ok_is (b, bytes) x e)
-    (record { parts = refl; others = λ i. h (suc i) }, h 0)
+    rw (← ok_is (b, bytes) x e) (record { parts = refl; others = λ i. h (suc i) }, h 0)
 
 -- four bytes are those of the number in them
 pub four_again : (a b c d : ℕ) → a < 256 → b < 256 → c < 256 → d < 256
@@ -39,17 +38,14 @@ short_refused bytes x lt e =
 
 pub number_found : (bytes : List ℕ) (x : ℕ × List ℕ) → AreBytes bytes → number_at bytes ≡ Ok x
     → Takes bytes (number_bytes x.0) x.1 × (x.0 < 2 ^ 32)
-number_found [] x h e = absurd (short_refused [] x (omega arith) e)
-number_found (a ∷ []) x h e = absurd (short_refused (a ∷ []) x (omega arith) e)
-number_found (a ∷ b ∷ []) x h e = absurd (short_refused (a ∷ b ∷ []) x (omega arith) e)
-number_found (a ∷ b ∷ c ∷ []) x h e = absurd (short_refused (a ∷ b ∷ c ∷ []) x (omega arith) e)
 number_found (a ∷ b ∷ c ∷ d ∷ bytes) x h e =
     let n = big_number 4 (a ∷ b ∷ c ∷ d ∷ []) in
     let parts : a ∷ b ∷ c ∷ d ∷ bytes ≡ number_bytes n ++ bytes =
     ap (λ (t : List ℕ). t ++ bytes) (sym (four_again a b c d (h 0) (h 1) (h 2) (h 3))) in
     let g = last_ok Short (ltb (length (a ∷ b ∷ c ∷ d ∷ bytes)) 4) (n, bytes) x e in
-    subst (λ (y : ℕ × List ℕ). Takes (a ∷ b ∷ c ∷ d ∷ bytes) (number_bytes y.0) y.1 × (y.0 < 2 ^ 32)) g.1
+    rw (← g.1)
     (record { parts = parts; others = λ i. h (suc (suc (suc (suc i)))) }, four_below a b c d (h 0) (h 1) (h 2) (h 3))
+number_found other x h e = absurd (short_refused other x (omega arith) e)
 
 number_with : (n : ℕ) (bytes rest : List ℕ) → 4 ≤ length bytes → big_number 4 bytes ≡ n → drop 4 bytes ≡ rest
     → number_at bytes ≡ Ok (n, rest)

@@ -1,6 +1,6 @@
 -- A growth of a group of five, written out: a greater ballot gets a vote reported and proposes its
 -- value again.
-use Rattle.std.proofs.Common.{◌≡◌, ℕ, zero, suc, ◌==◌, inr, List, [], ◌∷◌, ◌++◌, Option, None, Some, IfSome, Contains, if◌then◌else◌, ap, refl, arith, lit<}
+use Rattle.std.proofs.Common.{◌≡◌, ℕ, zero, suc, ◌==◌, inr, List, [], ◌∷◌, Option, None, Some, IfSome, Contains, if◌then◌else◌, ap, refl, arith, lit<}
 use Rattle.paxos_msg.specs.declared.ballot.Ballot.{Ballot}
 use Rattle.paxos_msg.specs.declared.value.Value.{Value}
 use Rattle.paxos_msg.specs.Batches.{Grew, IsSafe, Record, Sent, Vote}
@@ -13,7 +13,7 @@ use Rattle.paxos_msg.specs.Records.{empty_record}
 use Rattle.paxos_msg.specs.Sending.{IsGreatest, IsReport}
 use Rattle.paxos_msg.specs.Chosen.{IsChosenBy, is_listed}
 use Rattle.paxos_msg.specs.Growth.{nothing, sends}
-use Rattle.paxos_msg.proofs.GrowthSteps.{accepts, at_listed, is_typed, key_at, learned, none_proposed, promised, promises, saved, silent, typed_at, with_change}
+use Rattle.paxos_msg.proofs.GrowthSteps.{accepts, and_sent, at_listed, is_typed, key_at, learned, none_proposed, promised, promises, saved, silent, typed_at, with_change}
 
 -- ---- the records
 
@@ -71,40 +71,40 @@ abbrev s1 : Sent
 s1 = record { sender = 4; body = Submit key } ∷ []
 
 abbrev s2 : Sent
-s2 = s1 ++ record { sender = 1; body = Promise lower 3 4 [] } ∷ []
+s2 = and_sent s1 1 (Promise lower 3 4 [])
 
 abbrev s3 : Sent
-s3 = s2 ++ record { sender = 2; body = Promise lower 3 4 [] } ∷ []
+s3 = and_sent s2 2 (Promise lower 3 4 [])
 
 abbrev s4 : Sent
-s4 = s3 ++ record { sender = 3; body = Promise lower 3 4 [] } ∷ []
+s4 = and_sent s3 3 (Promise lower 3 4 [])
 
 abbrev s5 : Sent
-s5 = s4 ++ record { sender = 1; body = Accept lower 3 key } ∷ []
+s5 = and_sent s4 1 (Accept lower 3 key)
 
 abbrev s6 : Sent
-s6 = s5 ++ record { sender = 5; body = Prepare greater 3 } ∷ []
+s6 = and_sent s5 5 (Prepare greater 3)
 
 abbrev s7 : Sent
-s7 = s6 ++ record { sender = 3; body = Promise greater 3 4 (vote ∷ []) } ∷ []
+s7 = and_sent s6 3 (Promise greater 3 4 (vote ∷ []))
 
 abbrev s8 : Sent
-s8 = s7 ++ record { sender = 4; body = Promise greater 3 4 [] } ∷ []
+s8 = and_sent s7 4 (Promise greater 3 4 [])
 
 abbrev s9 : Sent
-s9 = s8 ++ record { sender = 5; body = Promise greater 3 4 [] } ∷ []
+s9 = and_sent s8 5 (Promise greater 3 4 [])
 
 abbrev s10 : Sent
-s10 = s9 ++ record { sender = 5; body = Accept greater 3 key } ∷ []
+s10 = and_sent s9 5 (Accept greater 3 key)
 
 abbrev s11 : Sent
-s11 = s10 ++ record { sender = 3; body = Accepted greater 3 key } ∷ []
+s11 = and_sent s10 3 (Accepted greater 3 key)
 
 abbrev s12 : Sent
-s12 = s11 ++ record { sender = 4; body = Accepted greater 3 key } ∷ []
+s12 = and_sent s11 4 (Accepted greater 3 key)
 
 abbrev s13 : Sent
-s13 = s12 ++ record { sender = 5; body = Accepted greater 3 key } ∷ []
+s13 = and_sent s12 5 (Accepted greater 3 key)
 
 -- ---- what each message needs
 

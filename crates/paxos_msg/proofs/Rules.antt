@@ -15,21 +15,15 @@ there_is : {X : Type 0} (o : Option X) (P : X → Type 0) → IsSomeAnd o P → 
 there_is None P h = absurd h
 there_is (Some x) P h = (x, refl, h)
 
-is_there : {X : Type 0} (o : Option X) (P : X → Type 0) → ((x : X) × (o ≡ Some x) × P x) → IsSomeAnd o P
-is_there o P (x, e, h) = rw e h
-
 pub some_and : {X : Type 0} (o : Option X) (P : X → Type 0) → IsSomeAnd o P ↔ ((x : X) × (o ≡ Some x) × P x)
-some_and o P = (there_is o P, is_there o P)
-
-if_there : {X : Type 0} (o : Option X) (P : X → Type 0) → IfSome o P → (x : X) → o ≡ Some x → P x
-if_there o P h x e = rw e at h
+some_and o P = (there_is o P, λ h. rw h.1 h.2)
 
 there_if : {X : Type 0} (o : Option X) (P : X → Type 0) → ((x : X) → o ≡ Some x → P x) → IfSome o P
 there_if None P h = tt
 there_if (Some x) P h = h x refl
 
 pub some_if : {X : Type 0} (o : Option X) (P : X → Type 0) → IfSome o P ↔ ((x : X) → o ≡ Some x → P x)
-some_if o P = (if_there o P, there_if o P)
+some_if o P = (λ h x e. rw e at h, there_if o P)
 
 -- ---- a Submit
 
@@ -45,18 +39,12 @@ typed_is typed i v = (
 
 -- ---- a save
 
-raised_by : (o : Option Ballot) (b : Ballot) → IfSome o (λ p. IsAtMost p b) → (p : Ballot) → o ≡ Some p → IsAtMost p b
-raised_by o b h p e = rw e at h
-
-below_raised : (o : Option Ballot) (b : Ballot) → IfSome o (λ p. IsBelow p b) → (p : Ballot) → o ≡ Some p → IsAtMost p b
-below_raised o b h p e = let below : IsBelow p b = rw e at h in at_most_from_below p b below
-
 -- no save that is allowed lowers a promise
 pub promise_rises : (sent : Sent) (r : Record) (change : Change) (p : Ballot) → MaySave sent r change
     → r.promised ≡ Some p → IsSomeAnd (changed r change).promised (λ q. IsAtMost p q)
 promise_rises sent r Start p may e = rw e (at_most_refl p)
-promise_rises sent r (Promise b) p may e = below_raised r.promised b may p e
-promise_rises sent r (Ballotted s b v) p (said, open_to) e = raised_by r.promised b open_to p e
+promise_rises sent r (Promise b) p may e = let below : IsBelow p b = rw e at may in at_most_from_below p b below
+promise_rises sent r (Ballotted s b v) p (said, open_to) e = rw e at open_to
 
 -- a change that is no start leaves the starts
 pub starts_stay : (r : Record) (change : Change) → change ≢ Start → (changed r change).starts ≡ r.starts

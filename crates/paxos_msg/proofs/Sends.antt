@@ -11,22 +11,12 @@ use Rattle.paxos_msg.specs.Messages.{IsSent, IsSaid, IsPromised, kept_vote_at}
 use Rattle.paxos_msg.specs.Sending.{IsGreatest, IsBest}
 use Rattle.paxos_msg.proofs.BallotOrder.{at_most_refl, at_most_trans, at_most_both, below_at_most, not_both, order_cases}
 use Rattle.paxos_msg.proofs.SentLemmas.{still_said, sent_cases, rule_of, sent_or_may}
-use Rattle.paxos_msg.proofs.Advances.{HasPromised, HasVoted, IsRight, some_at, both_known}
+use Rattle.paxos_msg.proofs.Advances.{HasPromised, HasVoted, IsRight, both_known}
 use Rattle.paxos_msg.proofs.Invariant.{Invariant, IsTrueReport, IsPast, IsDecided}
-
--- of a known value
-known : {X : Type 0} (o : Option X) (x : X) (P : X → Type 0) → o ≡ Some x → IsSomeAnd o P → P x
-known o x P e h = rw e at h
-
-known_if : {X : Type 0} (o : Option X) (x : X) (P : X → Type 0) → o ≡ Some x → IfSome o P → P x
-known_if o x P e h = rw e at h
 
 some_then : {X : Type 0} (o : Option X) (P Q : X → Type 0) → IsSomeAnd o P → ((x : X) → P x → Q x) → IsSomeAnd o Q
 some_then None P Q h f = elim h [ ]
 some_then (Some x) P Q h f = f x h
-
-none_at : {X : Type 0} (o : Option X) (P : X → Type 0) → o ≡ None → IsSomeAnd o P → ⊥
-none_at o P e h = rw e at h
 
 -- what a node of a majority reported was proposed
 great_proposed : (size : ℕ) (sent : Sent) (records : ℕ → Record) (c : Ballot) (s : ℕ) (w : Value)
@@ -34,7 +24,7 @@ great_proposed : (size : ℕ) (sent : Sent) (records : ℕ → Record) (c : Ball
     → IsGreatest safe.members safe.reported vote → IsSaid sent (Accept vote.ballot s vote.value)
 great_proposed size sent records c s w inv safe vote great =
     let report = inv.reports great.reporter c s (safe.reported great.reporter) (safe.promised great.reporter great.is_member) in
-    known_if (safe.reported great.reporter) vote (λ vote. IsSaid sent (Accept vote.ballot s vote.value)) great.reports report.proposed
+    rw great.reports at report.proposed
 
 safe_submitted : (size : ℕ) (sent : Sent) (records : ℕ → Record) (c : Ballot) (s : ℕ) (w : Value)
     → Invariant size sent records → IsSafe size sent c s w → IsFree sent w
@@ -70,8 +60,7 @@ module _ (size : ℕ) (sent : Sent) (records : ℕ → Record) (c : Ballot) (s :
   by_best : (best : Option Vote) → IsBest safe.members safe.reported best
       → MatchOption best (IsFree sent w) (λ vote. w ≡ vote.value) → IsDecided size sent records b s w
   by_best None silent free =
-      by_majority (λ i member v h.
-      absurd (none_at (safe.reported i) (λ vote. IsAtMost b vote.ballot) (silent i member) (latest i member v h)))
+      by_majority (λ i member v h. absurd (rw (silent i member) at (latest i member v h)))
   by_best (Some vote) great e =
       let proposed = great_proposed size sent records c s w inv safe vote great in
       elim (order_cases b vote.ballot) [
@@ -134,8 +123,7 @@ module _ (size : ℕ) (typed : List Key) (learned : ℕ → Option Value) (sent 
   kept i b s v h =
       elim (cases i (Accepted b s v) h) [
         | inl old ↦ inv.kept i b s v old
-        | inr rule ↦ some_at (kept_vote_at (records i).votes s) (record { place = s; ballot = b; value = v })
-            (λ vote. IsAtMost b vote.ballot) rule.1 (at_most_refl b)
+        | inr rule ↦ rw rule.1 (at_most_refl b)
       ]
 
   right : (i s : ℕ) → IfSome (kept_vote_at (records i).votes s) (IsRight (sent ++ m ∷ []) (records i) s)
@@ -168,7 +156,7 @@ module _ (size : ℕ) (typed : List Key) (learned : ℕ → Option Value) (sent 
   held i b s reported h =
       elim (promise_cases i b s reported h) [
         | inl old ↦ inv.held i b s reported old
-        | inr new ↦ some_at (records i).promised b (λ p. IsAtMost b p) new.0 (at_most_refl b)
+        | inr new ↦ rw new.0 (at_most_refl b)
       ]
 
   -- who has promised b accepts nothing below it any more
@@ -177,7 +165,7 @@ module _ (size : ℕ) (typed : List Key) (learned : ℕ → Option Value) (sent 
   too_late i b c s v past h =
       elim (cases i (Accepted c s v) h) [
         | inl old ↦ old
-        | inr rule ↦ absurd (not_both c c (known (records i).promised c (λ p. IsBelow c p) rule.2 past) (at_most_refl c))
+        | inr rule ↦ absurd (not_both c c (rw rule.2 at past) (at_most_refl c))
       ]
 
   reports : (i : ℕ) (b : Ballot) (s : ℕ) (reported : Option Vote) → IsPromised (sent ++ m ∷ []) i b s reported

@@ -6,10 +6,11 @@ use Rattle.paxos_msg.specs.declared.value.Value.{Value}
 use Rattle.paxos_msg.specs.declared.value.Value.TheVariants.{Noop, Keys}
 use Rattle.paxos_msg.specs.Batches.{Body, Msg, Vote}
 use Rattle.paxos_msg.specs.declared.message.Group.{Group}
-use Rattle.paxos_msg.specs.declared.message.Body.TheVariants.{Prepare, Promise, Accept, Accepted, Refused, Submit, Ask, Tell}
+use Rattle.paxos_msg.specs.declared.message.Body.TheVariants.{Promise, Accept, Accepted, Submit, Tell}
 use Rattle.paxos_msg.specs.Fits.{AreVotes, IsBody, IsValue, IsVote, Fits}
 use Rattle.paxos_msg.specs.Spelling.{value_bytes, vote_bytes, votes_bytes, body_bytes, spelling}
 use Rattle.paxos_msg.specs.Views.{HasUpTo}
+use Rattle.paxos_msg.specs.declared.limits.TheConstants.{MOST_VOTES}
 
 pub value_short : (size : ℕ) (v : Value) → IsValue size v → length (value_bytes v) ≤ 43
 value_short size Noop h = omega arith
@@ -27,25 +28,18 @@ votes_short size low upto b (v ∷ votes) h =
     let c = length-append (vote_bytes v) (votes_bytes votes) in
     omega arith
 
-pub counted : (size sender : ℕ) (body : Body) → IsBody size sender body → HasUpTo 8 body
-counted size sender (Prepare b from) h = tt
-counted size sender (Promise b first upto votes) h = h.4
-counted size sender (Accept b s v) h = tt
-counted size sender (Accepted b s v) h = tt
-counted size sender (Refused b promised) h = tt
-counted size sender (Submit v) h = tt
-counted size sender (Ask from) h = tt
-counted size sender (Tell s v) h = tt
+-- a body in its ranges reports at most 8 votes
+pub few_votes : (size sender : ℕ) (body : Body) → IsBody size sender body → HasUpTo MOST_VOTES body
+few_votes size sender (Promise b first upto votes) h = h.4
+few_votes size sender other h = tt
 
 pub body_short : (size sender : ℕ) (body : Body) → IsBody size sender body → length (body_bytes body) ≤ 430
-body_short size sender (Prepare b from) h = omega arith
 body_short size sender (Promise b first upto votes) h = let a = votes_short size first upto b votes h.5 in omega (arith, h.4)
 body_short size sender (Accept b s v) h = let a = value_short size v h.3 in omega arith
 body_short size sender (Accepted b s v) h = let a = value_short size v h.2 in omega arith
-body_short size sender (Refused b promised) h = omega arith
 body_short size sender (Submit v) h = let a = value_short size v h.0 in omega arith
-body_short size sender (Ask from) h = omega arith
 body_short size sender (Tell s v) h = let a = value_short size v h.1 in omega arith
+body_short size sender other h = omega arith
 
 pub spelling_short : (group : Group) (m : Msg) → Fits group m → length (spelling group m) ≤ 440
 spelling_short group m h = let a = body_short group.size m.sender m.body h.1 in omega arith

@@ -1,7 +1,7 @@
 -- Values: what is read was written, and what is written is read.
-use Rattle.std.proofs.Common.{◌≡◌, ◌↔◌, ◌∙◌, IsTrue, ℕ, zero, suc, ◌+◌, ◌^◌, ◌<◌, ◌≤◌, Bool, true, false, not, ◌&&◌, eqb, ltb, leb, List, [], ◌∷◌, ◌++◌, length, take, drop, Ok, refl, sym, ap, subst, arith}
+use Rattle.std.proofs.Common.{◌≡◌, ◌∙◌, ℕ, zero, suc, ◌+◌, ◌^◌, ◌<◌, ◌≤◌, Bool, true, false, not, ◌&&◌, eqb, ltb, leb, List, [], ◌∷◌, ◌++◌, length, take, drop, Ok, refl, sym, ap, arith}
 use Rattle.std.proofs.Math.Seq.{drop-append_seam, take-append_seam}
-use Rattle.std.proofs.lemmas.Bool.{eq-eqb, ne_eqb, eqb-true, le-ltb, lt-ltb, le-leb, ltb-false, ltb-true, leb-true, and_parts, not-false}
+use Rattle.std.proofs.lemmas.Bool.{eq-eqb, eqb-true, le-ltb, lt-ltb, le-leb, ltb-false, ltb-true, leb-true, and_parts, not-false}
 use Rattle.std.proofs.lemmas.List.{length-append, length-take-le, take-append-drop}
 use Rattle.paxos_msg.specs.declared.value.Value.{Value}
 use Rattle.paxos_msg.specs.declared.value.Value.TheVariants.{Noop, Keys}
@@ -9,10 +9,10 @@ use Rattle.paxos_msg.specs.declared.fault.WireFault.TheVariants as fault
 use Rattle.paxos_msg.specs.Fits.{IsBatch, IsCount, IsValue}
 use Rattle.paxos_msg.specs.Grammar.{AreBytes}
 use Rattle.paxos_msg.specs.Keys.{AreOwnKeys, batches}
-use Rattle.paxos_msg.specs.Reading.{first_byte, number_at, is_batch, is_node, characters_at, keys_at, tagged_value, value_at, own_keys_at}
+use Rattle.paxos_msg.specs.Reading.{first_byte, number_at, is_batch, is_node, characters_at, keys_at, value_at, own_keys_at}
 use Rattle.paxos_msg.specs.Spelling.{number_bytes, value_bytes}
 use Rattle.base.proofs.Steps.{bind_ok, guard_ok, unless_ok, ok_is}
-use Rattle.paxos_msg.proofs.Guards.{Takes, bytes_before, bytes_behind, takes_then, zero_false, false_zero, node_found, node_again}
+use Rattle.paxos_msg.proofs.Guards.{Takes, bytes_before, bytes_behind, takes_then, zero_false, false_zero, past_one, node_found, node_again}
 use Rattle.paxos_msg.proofs.Numbers.{byte_found, number_found, number_again}
 use Rattle.paxos_msg.proofs.OwnKeys.{own_keys, owner}
 
@@ -29,13 +29,6 @@ batch_again : (first : ℕ) (bytes : List ℕ) → IsBatch first bytes → is_ba
 batch_again first bytes h =
     rw (lt-ltb 0 first h.0, lt-ltb 0 (length bytes) h.1, le-leb (length bytes) 32 h.2, le-leb (first + length bytes) 4294967296 h.3) refl
 
-pub batch_test : (first count : ℕ) (bytes : List ℕ) (r : Bool) → count ≡ length bytes → r ≡ is_batch first count
-    → AreBytes bytes → IsTrue r ↔ IsBatch first bytes
-batch_test first count bytes r e same h = (
-  λ t. (let good = batch_found first count (sym same ∙ t) in (good.0, rw e at good.1, rw e at good.2, rw e at good.3, h)),
-  λ batch. same ∙ (rw e (batch_again first bytes batch)),
-)
-
 characters_found : (first : ℕ) (bytes : List ℕ) (p : List ℕ × List ℕ) → AreBytes bytes
     → characters_at first bytes ≡ Ok p → Takes bytes (length p.0 ∷ p.0) p.1 × IsBatch first p.0
 unfolding characters_at
@@ -51,7 +44,7 @@ characters_found first bytes p h e =
     let taken : Takes bytes (length made.0 ∷ made.0) made.1 =
     record { parts = rw len parts; others = bytes_behind a.0.0 a.0.1 count.0.others } in
     let batch : IsBatch first made.0 = rw len (good.0, good.1, good.2, good.3, bytes_before a.0.0 a.0.1 count.0.others) in
-    subst (λ (q : List ℕ × List ℕ). Takes bytes (length q.0 ∷ q.0) q.1 × IsBatch first q.0) (ok_is made p g.1) (taken, batch)
+    rw (← ok_is made p g.1) (taken, batch)
 
 characters_again : (first : ℕ) (bytes rest : List ℕ) → IsBatch first bytes
     → characters_at first (length bytes ∷ (bytes ++ rest)) ≡ Ok (bytes, rest)
@@ -84,14 +77,8 @@ keys_found is_good bytes p h e =
     let characters = characters_found f.0.0 f.0.1 k.0 first.0.others k.1 in
     let one : Takes (1 ∷ bytes) (1 ∷ a.0.0 ∷ []) a.0.1 =
     record { parts = ap (λ (t : List ℕ). 1 ∷ t) node.0.parts; others = node.0.others } in
-    let two = takes_then (1 ∷ bytes) (1 ∷ a.0.0 ∷ []) a.0.1 (number_bytes c.0.0) c.0.1 one start.0 in
-    let three = takes_then (1 ∷ bytes) (1 ∷ a.0.0 ∷ number_bytes c.0.0) c.0.1 (number_bytes f.0.0) f.0.1 two first.0 in
-    let four =
-    takes_then (1 ∷ bytes) (1 ∷ a.0.0 ∷ (number_bytes c.0.0 ++ number_bytes f.0.0)) f.0.1
-    (length k.0.0 ∷ k.0.0) k.0.1 three characters.0 in
-    subst (λ (q : Value × List ℕ). Takes (1 ∷ bytes) (value_bytes q.0) q.1 × KeysFit is_good q.0)
-    (ok_is (Keys a.0.0 c.0.0 f.0.0 k.0.0, k.0.1) p k.2)
-    (four, (not-false _ b.0, (zero_false c.0.0 d.0, start.1), characters.1))
+    let four = takes_then (takes_then (takes_then one start.0) first.0) characters.0 in
+    rw (← ok_is (Keys a.0.0 c.0.0 f.0.0 k.0.0, k.0.1) p k.2) (four, (not-false _ b.0, (zero_false c.0.0 d.0, start.1), characters.1))
 
 keys_again : (is_good : ℕ → Bool) (node start first : ℕ) (bytes rest : List ℕ) → is_good node ≡ true → IsCount start → IsBatch first bytes
     → keys_at is_good (node ∷ (number_bytes start ++ (number_bytes first ++ length bytes ∷ (bytes ++ rest))))
@@ -113,24 +100,16 @@ keys_fit : (size : ℕ) (v : Value) → KeysFit (is_node size) v → IsValue siz
 keys_fit size Noop h = tt
 keys_fit size (Keys node start first bytes) h = (node_found size node h.0, h.1, h.2)
 
-tag_refused : (size tag : ℕ) (bytes : List ℕ) (p : Value × List ℕ) → 2 ≤ tag → tagged_value size tag bytes ≡ Ok p → ⊥
-tag_refused size tag bytes p le e =
-    let a : eqb tag 0 ≡ false = ne_eqb tag 0 (λ s. absurd (omega arith)) in
-    let b : eqb tag 1 ≡ false = ne_eqb tag 1 (λ s. absurd (omega arith)) in
-    let f = rw (a, b) at e in
-    absurd cc
-
 pub value_found : (size : ℕ) (bytes : List ℕ) (p : Value × List ℕ) → AreBytes bytes → value_at size bytes ≡ Ok p
     → Takes bytes (value_bytes p.0) p.1 × IsValue size p.0
 unfolding value_at
 value_found size [] p h e = absurd cc
 value_found size (zero ∷ bytes) p h e =
-    subst (λ (q : Value × List ℕ). Takes (0 ∷ bytes) (value_bytes q.0) q.1 × IsValue size q.0) (ok_is (Noop, bytes) p e)
-    (record { parts = refl; others = λ i. h (suc i) }, tt)
+    rw (← ok_is (Noop, bytes) p e) (record { parts = refl; others = λ i. h (suc i) }, tt)
 value_found size (suc zero ∷ bytes) p h e =
     let f = keys_found (is_node size) bytes p (λ i. h (suc i)) e in
     (f.0, keys_fit size p.0 f.1)
-value_found size (suc (suc b) ∷ bytes) p h e = absurd (tag_refused size (suc (suc b)) bytes p (omega arith) e)
+value_found size (suc (suc b) ∷ bytes) p h e = let f = rw ((past_one b).0, (past_one b).1) at e in absurd cc
 
 pub value_again : (size : ℕ) (v : Value) (rest : List ℕ) → IsValue size v → value_at size (value_bytes v ++ rest) ≡ Ok (v, rest)
 unfolding value_at
@@ -157,12 +136,7 @@ own_keys_found size sender (suc zero ∷ bytes) p h e =
     let f = keys_found (λ node. is_node size node && eqb node sender) bytes p (λ i. h (suc i)) e in
     let g = own_fit size sender p.0 f.1 in
     (f.0, g.0, g.1)
-own_keys_found size sender (suc (suc b) ∷ bytes) p h e =
-    let a =
-    unless_ok fault.Value (not (eqb (suc (suc b)) 1)) (suc (suc b), bytes)
-    (λ keys. keys_at (λ node. is_node size node && eqb node sender) keys.1) p e in
-    let f = eqb-true (suc (suc b)) 1 (not-false _ a.0) in
-    absurd (omega arith)
+own_keys_found size sender (suc (suc b) ∷ bytes) p h e = let f = rw (past_one b).1 at e in absurd cc
 
 pub own_keys_again : (size sender : ℕ) (v : Value) (rest : List ℕ) → IsValue size v → AreOwnKeys batches sender v
     → own_keys_at size sender (value_bytes v ++ rest) ≡ Ok (v, rest)

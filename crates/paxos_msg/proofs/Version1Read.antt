@@ -1,6 +1,6 @@
 -- Values of version 1: what is read was written, and what is written is read.
-use Rattle.std.proofs.Common.{◌≡◌, ◌↔◌, ℕ, zero, suc, ◌+◌, ◌^◌, ◌<◌, ◌≤◌, false, not, eqb, List, [], ◌∷◌, ◌++◌, Ok, refl, ap, subst, arith}
-use Rattle.std.proofs.lemmas.Bool.{ne_eqb, not-false}
+use Rattle.std.proofs.Common.{◌≡◌, ◌↔◌, ℕ, zero, suc, ◌+◌, ◌^◌, ◌<◌, ◌≤◌, not, eqb, List, [], ◌∷◌, ◌++◌, Ok, refl, ap, arith}
+use Rattle.std.proofs.lemmas.Bool.{not-false}
 use Rattle.paxos_msg.specs.declared.value.Value.{Value}
 use Rattle.paxos_msg.specs.declared.value.Value.TheVariants.{Noop, Keys}
 use Rattle.paxos_msg.specs.declared.fault.WireFault.TheVariants as fault
@@ -8,9 +8,9 @@ use Rattle.paxos_msg.specs.Fits.{IsValue}
 use Rattle.paxos_msg.specs.Grammar.{AreBytes}
 use Rattle.paxos_msg.specs.Reading.{first_byte, is_node, number_at}
 use Rattle.paxos_msg.specs.Spelling.{number_bytes}
-use Rattle.paxos_msg.specs.Version1.{IsSingle, key_at_v1, key_rest_at_v1, tagged_v1, value_at_v1, value_bytes_v1}
+use Rattle.paxos_msg.specs.Version1.{IsSingle, key_at_v1, key_rest_at_v1, value_at_v1, value_bytes_v1}
 use Rattle.base.proofs.Steps.{bind_ok, unless_ok, ok_is}
-use Rattle.paxos_msg.proofs.Guards.{Takes, takes_then, zero_false, false_zero, node_found, node_again}
+use Rattle.paxos_msg.proofs.Guards.{Takes, takes_then, zero_false, false_zero, past_one, node_found, node_again}
 use Rattle.paxos_msg.proofs.Numbers.{byte_found, number_found, number_again}
 
 -- what was read
@@ -35,9 +35,7 @@ key_found size bytes p h e =
     let byte = byte_found f.0.1 k.0 serial.0.others k.1 in
     let one : Takes (1 ∷ bytes) (1 ∷ a.0.0 ∷ []) a.0.1 =
     record { parts = ap (λ (t : List ℕ). 1 ∷ t) node.0.parts; others = node.0.others } in
-    let two = takes_then (1 ∷ bytes) (1 ∷ a.0.0 ∷ []) a.0.1 (number_bytes c.0.0) c.0.1 one start.0 in
-    let three = takes_then (1 ∷ bytes) (1 ∷ a.0.0 ∷ number_bytes c.0.0) c.0.1 (number_bytes f.0.0) f.0.1 two serial.0 in
-    let four = takes_then (1 ∷ bytes) (1 ∷ a.0.0 ∷ (number_bytes c.0.0 ++ number_bytes f.0.0)) f.0.1 (k.0.0 ∷ []) k.0.1 three byte.0 in
+    let four = takes_then (takes_then (takes_then one start.0) serial.0) byte.0 in
     let above : 0 < f.0.0 = zero_false f.0.0 g.0 in
     let last : f.0.0 + 1 ≤ 2 ^ 32 = omega (arith, serial.1) in
     let batch : IsValue size (Keys a.0.0 c.0.0 f.0.0 (k.0.0 ∷ [])) = (
@@ -45,28 +43,19 @@ key_found size bytes p h e =
       (zero_false c.0.0 d.0, start.1),
       (above, omega arith, omega arith, last, only k.0.0 byte.1),
     ) in
-    subst (λ (q : Value × List ℕ). IsRead size (1 ∷ bytes) q) (ok_is (Keys a.0.0 c.0.0 f.0.0 (k.0.0 ∷ []), k.0.1) p k.2)
-    (record { takes = four; fits = batch; single = omega arith })
+    rw (← ok_is (Keys a.0.0 c.0.0 f.0.0 (k.0.0 ∷ []), k.0.1) p k.2) (record { takes = four; fits = batch; single = omega arith })
   where
     only : (byte : ℕ) → byte < 256 → AreBytes (byte ∷ [])
     only byte small zero = small
     only byte small (suc i) = omega arith
 
-tag_refused : (size tag : ℕ) (bytes : List ℕ) (p : Value × List ℕ) → 2 ≤ tag → tagged_v1 size tag bytes ≡ Ok p → ⊥
-tag_refused size tag bytes p le e =
-    let a : eqb tag 0 ≡ false = ne_eqb tag 0 (λ s. absurd (omega arith)) in
-    let b : eqb tag 1 ≡ false = ne_eqb tag 1 (λ s. absurd (omega arith)) in
-    let f = rw (a, b) at e in
-    absurd cc
-
 value_found : (size : ℕ) (bytes : List ℕ) (p : Value × List ℕ) → AreBytes bytes → value_at_v1 size bytes ≡ Ok p → IsRead size bytes p
 unfolding value_at_v1
 value_found size [] p h e = absurd cc
 value_found size (zero ∷ bytes) p h e =
-    subst (λ (q : Value × List ℕ). IsRead size (0 ∷ bytes) q) (ok_is (Noop, bytes) p e)
-    (record { takes = record { parts = refl; others = λ i. h (suc i) }; fits = tt; single = omega arith })
+    rw (← ok_is (Noop, bytes) p e) (record { takes = record { parts = refl; others = λ i. h (suc i) }; fits = tt; single = omega arith })
 value_found size (suc zero ∷ bytes) p h e = key_found size bytes p (λ i. h (suc i)) e
-value_found size (suc (suc b) ∷ bytes) p h e = absurd (tag_refused size (suc (suc b)) bytes p (omega arith) e)
+value_found size (suc (suc b) ∷ bytes) p h e = let f = rw ((past_one b).0, (past_one b).1) at e in absurd cc
 
 value_again : (size : ℕ) (v : Value) (rest : List ℕ) → IsValue size v → IsSingle v
     → value_at_v1 size (value_bytes_v1 v ++ rest) ≡ Ok (v, rest)

@@ -77,11 +77,11 @@ pub at_start : (size : ℕ) (b : Ballot) (first upto count left : ℕ) (bytes : 
 at_start size b first upto count left bytes e = rw e (record { ok = λ behind h. h; err = λ fault h. h })
 
 -- a vote more is read
-pub goes_on : (size : ℕ) (b : Ballot) (first upto count : ℕ) (bytes : List ℕ) (low left less : ℕ) (rest behind : List ℕ)
-    (v : Vote) → less + 1 ≡ left
+pub goes_on : {size : ℕ} {b : Ballot} {first upto count : ℕ} {bytes : List ℕ} {low left : ℕ} (less : ℕ) {rest behind : List ℕ}
+    {v : Vote} → LeadsTo size b first upto count bytes low left rest → less + 1 ≡ left
     → vote_at size b first upto low rest ≡ Ok (v, behind) → raw_vote_at rest ≡ Ok (v, behind)
-    → LeadsTo size b first upto count bytes low left rest → LeadsTo size b first upto count bytes (v.place + 1) less behind
-goes_on size b first upto count bytes low left less rest behind v one_less h raw so_far =
+    → LeadsTo size b first upto count bytes (v.place + 1) less behind
+goes_on {size} {b} {first} {upto} {low} {left} less {rest} {behind} {v} so_far one_less h raw =
     let e : left - 1 ≡ less = omega arith in
     let lt : 0 < left = omega arith in
     record {

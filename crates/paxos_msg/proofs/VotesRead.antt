@@ -1,55 +1,20 @@
 -- Votes: what is read was written, and what is written is read.
-use Rattle.std.proofs.Common.{◌≡◌, ℕ, zero, suc, ◌+◌, ◌^◌, ◌<◌, ◌≤◌, inl, inr, Bool, true, false, ◌&&◌, ◌||◌, eqb, ltb, leb, List, [], ◌∷◌, ◌++◌, length, Ok, refl, sym, ap, subst, append_assoc, arith}
-use Rattle.std.proofs.lemmas.Bool.{eq-eqb, ne_eqb, eqb-true, eqb-false, lt-ltb, le-ltb, ltb-true, ltb-false, lt-leb, leb-false, or_parts}
+use Rattle.std.proofs.Common.{◌≡◌, ℕ, zero, suc, ◌+◌, ◌^◌, ◌<◌, ◌≤◌, false, ◌||◌, ltb, leb, List, [], ◌∷◌, ◌++◌, length, Ok, refl, ap, append_assoc, arith}
+use Rattle.std.proofs.lemmas.Bool.{le-ltb, ltb-false, lt-leb, leb-false, or_parts}
 use Rattle.paxos_msg.specs.declared.ballot.Ballot.{Ballot}
 use Rattle.paxos_msg.specs.Batches.{Vote}
 use Rattle.paxos_msg.specs.declared.fault.WireFault.TheVariants as fault
-use Rattle.paxos_msg.specs.Ballots.{IsBelow, IsAtMost}
 use Rattle.paxos_msg.specs.Fits.{IsVote, AreVotes}
-use Rattle.paxos_msg.specs.Spelling.{number_bytes, ballot_bytes, value_bytes, vote_bytes, votes_bytes}
+use Rattle.paxos_msg.specs.Spelling.{ballot_bytes, value_bytes, vote_bytes, votes_bytes}
 use Rattle.paxos_msg.specs.Reading.{number_at, ballot_at, value_at, vote_at, votes_at}
 use Rattle.paxos_msg.specs.Tests.{ballot_lt}
 use Rattle.paxos_msg.specs.Grammar.{AreBytes}
 use Rattle.base.proofs.Steps.{bind_ok, unless_ok, ok_is}
+use Rattle.paxos_msg.proofs.Exact.{not_below}
 use Rattle.paxos_msg.proofs.Guards.{Takes, takes_then}
 use Rattle.paxos_msg.proofs.Numbers.{number_found, number_again}
 use Rattle.paxos_msg.proofs.FieldsRead.{ballot_found, ballot_again}
 use Rattle.paxos_msg.proofs.ValuesRead.{value_found, value_again}
-
--- ---- the order of ballots
-
-pub below_true : (a b : Ballot) → IsBelow a b → ballot_lt a b ≡ true
-below_true a b (inl h) = rw (lt-ltb a.round b.round h) refl
-below_true a b (inr h) = rw (le-ltb a.round b.round (omega arith), eq-eqb a.round b.round h.0, lt-ltb a.node b.node h.1) refl
-
-below_by : (a b : Ballot) (s t : Bool) → ltb a.round b.round ≡ s → eqb a.round b.round ≡ t
-    → (s || (t && ltb a.node b.node)) ≡ true → IsBelow a b
-below_by a b true t p q h = inl (ltb-true a.round b.round p)
-below_by a b false true p q h = inr (eqb-true a.round b.round q, ltb-true a.node b.node h)
-below_by a b false false p q h = absurd cc
-
-pub true_below : (a b : Ballot) → ballot_lt a b ≡ true → IsBelow a b
-true_below a b h = below_by a b (ltb a.round b.round) (eqb a.round b.round) refl refl h
-
-most_by : (a b : Ballot) (s t : Bool) → ltb b.round a.round ≡ s → eqb b.round a.round ≡ t
-    → (s || (t && ltb b.node a.node)) ≡ false → IsAtMost a b
-most_by a b true t p q h = absurd cc
-most_by a b false true p q h =
-    let same = eqb-true b.round a.round q in
-    let least = ltb-false b.node a.node h in
-    inr (sym same, least)
-most_by a b false false p q h =
-    let least = ltb-false b.round a.round p in
-    let other = eqb-false b.round a.round q in
-    inl (omega arith)
-
--- b is not below a
-pub false_most : (a b : Ballot) → ballot_lt b a ≡ false → IsAtMost a b
-false_most a b h = most_by a b (ltb b.round a.round) (eqb b.round a.round) refl refl h
-
-pub most_false : (a b : Ballot) → IsAtMost a b → ballot_lt b a ≡ false
-most_false a b (inl h) = rw (le-ltb b.round a.round (omega arith), ne_eqb b.round a.round (λ s. absurd (omega arith))) refl
-most_false a b (inr h) = rw (le-ltb b.round a.round (omega arith), eq-eqb b.round a.round (sym h.0), le-ltb b.node a.node h.1) refl
 
 -- ---- one vote
 
@@ -67,17 +32,15 @@ vote_found size b first upto low bytes p h e =
     let place = number_found bytes a.0 h a.1 in
     let ballot = ballot_found size a.0.1 f.0 place.0.others f.1 in
     let value = value_found size f.0.1 k.0 ballot.0.others k.1 in
-    let two = takes_then bytes (number_bytes a.0.0) a.0.1 (ballot_bytes f.0.0) f.0.1 place.0 ballot.0 in
-    let three = takes_then bytes (number_bytes a.0.0 ++ ballot_bytes f.0.0) f.0.1 (value_bytes k.0.0) k.0.1 two value.0 in
+    let three = takes_then (takes_then place.0 ballot.0) value.0 in
     let range = or_parts _ _ d.0 in
-    subst (λ (q : Vote × List ℕ). Takes bytes (vote_bytes q.0) q.1 × IsVote size b first upto q.0 × (low ≤ q.0.place))
-    (ok_is (record { place = a.0.0; ballot = f.0.0; value = k.0.0 }, k.0.1) p k.2) (
+    rw (← ok_is (record { place = a.0.0; ballot = f.0.0; value = k.0.0 }, k.0.1) p k.2) (
       three,
       record {
         from_low = ltb-false a.0.0 first range.0;
         below_upto = leb-false upto a.0.0 range.1;
         ballot = ballot.1;
-        not_above = false_most f.0.0 b g.0;
+        not_above = (not_below b f.0.0).0 g.0;
         value = value.1;
       },
       ltb-false a.0.0 low c.0,
@@ -99,7 +62,7 @@ vote_again size b first upto low v rest small h above =
       upper,
       ballot_again size v.ballot
           (value_bytes v.value ++ rest) h.ballot,
-      most_false v.ballot b h.not_above,
+      (not_below b v.ballot).1 h.not_above,
       value_again size v.value rest
           h.value,
     ) refl
@@ -117,18 +80,15 @@ pub votes_found : (size : ℕ) (b : Ballot) (first upto low from n : ℕ) (bytes
     → votes_at size b first upto low n bytes ≡ Ok p → Takes bytes (votes_bytes p.0) p.1 × AreVotes size b from upto p.0 × (length p.0 ≡ n)
 unfolding votes_at
 votes_found size b first upto low from zero bytes p h bound e =
-    subst (λ (q : List Vote × List ℕ). Takes bytes (votes_bytes q.0) q.1 × AreVotes size b from upto q.0
-    × (length q.0 ≡ zero)) (ok_is ([], bytes) p e)
-    (record { parts = refl; others = h }, tt, refl)
+    rw (← ok_is ([], bytes) p e) (record { parts = refl; others = h }, tt, refl)
 votes_found size b first upto low from (suc n) bytes p h bound e =
     let a = bind_ok (vote_at size b first upto low bytes) _ p e in
     let c = bind_ok (votes_at size b first upto (a.0.0.place + 1) n a.0.1) _ p a.2 in
     let one = vote_found size b first upto low bytes a.0 h a.1 in
     let more = votes_found size b first upto (a.0.0.place + 1) (a.0.0.place + 1) n a.0.1 c.0 one.0.others (λ k x y. x) c.1 in
     let above : from ≤ a.0.0.place = bound a.0.0.place one.2 one.1.from_low in
-    subst (λ (q : List Vote × List ℕ). Takes bytes (votes_bytes q.0) q.1 × AreVotes size b from upto q.0
-    × (length q.0 ≡ suc n)) (ok_is (a.0.0 ∷ c.0.0, c.0.1) p c.2) (
-      takes_then bytes (vote_bytes a.0.0) a.0.1 (votes_bytes c.0.0) c.0.1 one.0 more.0,
+    rw (← ok_is (a.0.0 ∷ c.0.0, c.0.1) p c.2) (
+      takes_then one.0 more.0,
       (vote_from size b first from upto a.0.0 above one.1, more.1),
       ap suc more.2,
     )

@@ -1,5 +1,5 @@
 -- A growth of a group of three, written out, in which a submitted key is chosen.
-use Rattle.std.proofs.Common.{ℕ, inr, List, [], ◌∷◌, ◌++◌, None, refl, arith, lit<}
+use Rattle.std.proofs.Common.{ℕ, inr, List, [], ◌∷◌, None, refl, arith, lit<}
 use Rattle.paxos_msg.specs.declared.ballot.Ballot.{Ballot}
 use Rattle.paxos_msg.specs.Batches.{Grew, IsSafe, Record, Sent}
 use Rattle.paxos_msg.specs.declared.record.Change.TheVariants.{Ballotted}
@@ -9,7 +9,7 @@ use Rattle.paxos_msg.specs.Messages.{IsSent, IsPromised}
 use Rattle.paxos_msg.specs.Records.{empty_record}
 use Rattle.paxos_msg.specs.Chosen.{IsChosen, is_listed}
 use Rattle.paxos_msg.specs.Growth.{nothing, sends}
-use Rattle.paxos_msg.proofs.GrowthSteps.{accepts, at_listed, is_typed, key_at, learned, none_proposed, promised, promises, typed_at, with_change}
+use Rattle.paxos_msg.proofs.GrowthSteps.{accepts, and_sent, at_listed, is_typed, key_at, learned, none_proposed, promised, promises, typed_at, with_change}
 
 -- ---- the records
 
@@ -38,22 +38,22 @@ abbrev s1 : Sent
 s1 = record { sender = 2; body = Submit (key_at 2) } ∷ []
 
 abbrev s2 : Sent
-s2 = s1 ++ record { sender = 1; body = Promise ballot 0 1 [] } ∷ []
+s2 = and_sent s1 1 (Promise ballot 0 1 [])
 
 abbrev s3 : Sent
-s3 = s2 ++ record { sender = 1; body = Prepare ballot 0 } ∷ []
+s3 = and_sent s2 1 (Prepare ballot 0)
 
 abbrev s4 : Sent
-s4 = s3 ++ record { sender = 2; body = Promise ballot 0 1 [] } ∷ []
+s4 = and_sent s3 2 (Promise ballot 0 1 [])
 
 abbrev s5 : Sent
-s5 = s4 ++ record { sender = 1; body = Accept ballot 0 (key_at 2) } ∷ []
+s5 = and_sent s4 1 (Accept ballot 0 (key_at 2))
 
 abbrev s6 : Sent
-s6 = s5 ++ record { sender = 1; body = Accepted ballot 0 (key_at 2) } ∷ []
+s6 = and_sent s5 1 (Accepted ballot 0 (key_at 2))
 
 abbrev s7 : Sent
-s7 = s6 ++ record { sender = 2; body = Accepted ballot 0 (key_at 2) } ∷ []
+s7 = and_sent s6 2 (Accepted ballot 0 (key_at 2))
 
 -- ---- the growth
 

@@ -1,11 +1,10 @@
--- Codes of ballots, values and votes, so that a value that holds them can be the view of a type,
+-- Codes of ballots and values, so that a value that holds them can be the view of a type,
 -- for example a finite map.
 use Rattle.std.specs.Prelude.{◌≡◌, ℕ, List, Option, None, Some, refl}
 use Rattle.std.specs.Coded.{Coded, code_by, coded×, coded_ℕ, coded_list, coded_option}
 use Rattle.paxos_msg.specs.declared.ballot.Ballot.{Ballot}
 use Rattle.paxos_msg.specs.declared.value.Value.{Value}
 use Rattle.paxos_msg.specs.declared.value.Value.TheVariants.{Noop, Keys}
-use Rattle.paxos_msg.specs.Batches.{Vote}
 
 -- The code of a ballot: the pair of its fields.
 abbrev pub ballot_code : Coded Ballot
@@ -34,10 +33,3 @@ value_code =
     code_by (Option (ℕ × (ℕ × (ℕ × List ℕ))))
     (coded_option (coded× coded_ℕ (coded× coded_ℕ (coded× coded_ℕ (coded_list coded_ℕ)))))
     value_fields value_from value_back
-
--- The code of a vote: its three fields.
-abbrev pub vote_code : Coded Vote
-vote_code =
-    code_by (ℕ × (Ballot × Value)) (coded× coded_ℕ (coded× ballot_code value_code))
-    (λ v. (v.place, (v.ballot, v.value)))
-    (λ p. record { place = p.0; ballot = p.1.0; value = p.1.1 }) (λ _. refl)

@@ -11,7 +11,7 @@ use Rattle.paxos_msg.specs.declared.message.Body.TheVariants.{Prepare, Promise, 
 use Rattle.paxos_msg.specs.declared.fault.WireFault.{WireFault}
 use Rattle.paxos_msg.specs.declared.fault.WireFault.TheVariants as fault
 use Rattle.paxos_msg.specs.Tests.{ballot_lt}
-use Rattle.paxos_msg.specs.declared.limits.TheConstants.{LAST_PLACE, MOST_CHARACTERS, MOST_VOTES, PLACES}
+use Rattle.paxos_msg.specs.declared.limits.TheConstants.{LAST_KIND, LAST_PLACE, MOST_CHARACTERS, MOST_VOTES, PLACES}
 
 -- The answer of a call, seen by `view`, is the result of reading.
 -- Allows: The same fault.
@@ -216,7 +216,7 @@ header_at group bytes = do
   ours ← unless fault.Magic (not ((slice_index long 0 == 80) && (slice_index long 1 == 71))) long
   version ← unless fault.Version (not (slice_index ours 2 == 2)) ours
   kind ← unless fault.Kind
-      ((slice_index version 3 == 0) || nat_lt 8 (slice_index version 3)) version
+      ((slice_index version 3 == 0) || nat_lt LAST_KIND (slice_index version 3)) version
   here ← unless fault.Group
       (not ((slice_index kind 5 == group.size) && (big_number 4 (drop 6 kind) == group.session)))
       kind

@@ -73,6 +73,7 @@ impl Characters {
 impl From<u8> for Characters {
     ghost from_gives = { λ byte c. c ≡ byte ∷ [] };
 
+    /// Returns the one character `byte`.
     fn from(byte: u8) -> Self {
         let mut bytes = [0; MOST_CHARACTERS];
         bytes[0] = byte;

@@ -10,10 +10,10 @@ ghost use Rattle.paxos_msg.specs.declared.limits.TheConstants.{MOST_VOTES, PLACE
 use crate::ballot::Ballot;
 use crate::fault::WireFault;
 use crate::lent::LentVotes;
-use crate::limits::{LAST_PLACE, MOST_VOTES, PLACES};
+use crate::limits::{LAST_KIND, LAST_PLACE, MOST_VOTES, PLACES};
 use crate::message::Group;
 use crate::reading::{
-    Part, ballot_of, byte_of, number_of, own_ballot_of, own_keys_of, place_of, value_of, vote_of,
+    Part, ballot_of, first_byte, number_of, own_ballot_of, own_keys_of, place_of, value_of, vote_of,
 };
 use crate::value::Value;
 use crate::view::{BodyView, View};
@@ -74,7 +74,7 @@ fn promise_of(size: u8, bytes: &[u8]) -> Result<(BodyView<'_>, &[u8]), WireFault
     if upto <= first {
         return Err(WireFault::Place);
     }
-    let (count, rest) = byte_of(rest)?;
+    let (count, rest) = first_byte(rest)?;
     if usize::from(count) > MOST_VOTES {
         return Err(WireFault::Count);
     }
@@ -202,7 +202,7 @@ fn header_of(group: Group, bytes: &[u8]) -> Result<((u8, u8), &[u8]), WireFault>
     if bytes[2] != 2 {
         return Err(WireFault::Version);
     }
-    if bytes[3] == 0 || bytes[3] > 8 {
+    if bytes[3] == 0 || bytes[3] > LAST_KIND {
         return Err(WireFault::Kind);
     }
     if !(bytes[5] == group.size && BigEndian::read_u32(&bytes[6..]) == group.session) {
@@ -229,8 +229,11 @@ fn message_of(bytes: &[u8], group: Group) -> Result<View<'_>, WireFault>
     }
 }
 
-/// Reads the message that is all of the datagram. Fails with the first fault from the left. Its
-/// votes, at most 8, stay in the datagram. It takes no memory, so it never fails with `Memory`.
+/// Reads the message that all of the datagram spells (`Msgs`). The spelling of each message that
+/// fits is read. Any other datagram is refused with the first check that fails, from the left, in
+/// the order of docs/FORMATS.md. A promise that is read has at most 8 votes.
+///
+/// The votes stay in the datagram. The call takes no memory, so it never fails with `Memory`.
 pub fn decode(bytes: &[u8], group: Group) -> Result<View<'_>, WireFault>
     // The datagram is the spelling of the message that is read.
     ensures found { IfOk result (λ view. Msgs group bytes.now view) }
@@ -244,8 +247,9 @@ pub fn decode(bytes: &[u8], group: Group) -> Result<View<'_>, WireFault>
     message_of(bytes, group)
 }
 
-/// Reads the ballot at the front of the bytes, and the number of its bytes, 5. Fails with `Ballot`
-/// if the round is 0 or the node is not of the group, and with `Short` if it ends too soon.
+/// Returns the ballot at the front of the bytes, and the number of bytes that it takes, 5. Fails
+/// with the first check that fails, from the left: with `Ballot` if the round is 0 or the node is
+/// not of the group, and with `Short` if the bytes end too soon.
 pub fn read_ballot(bytes: &[u8], group: Group) -> Result<(Ballot, usize), WireFault>
     ensures exact { GivesField bytes.now result (ballot_at group.size bytes.now) }
 {
@@ -253,21 +257,25 @@ pub fn read_ballot(bytes: &[u8], group: Group) -> Result<(Ballot, usize), WireFa
     Ok((ballot, 5))
 }
 
-/// Reads the value at the front of the bytes, and the number of its bytes: 1 for a no-op, else 11
-/// and one for each of its 1 to 32 characters. Fails with `Value` if its tag is neither 0 nor 1,
-/// its node is not of the group, or its start is 0. Fails with `Value` at the count if the first
-/// serial is 0, the count is 0 or above 32, or the last serial is above 4,294,967,295. Fails with
-/// `Short` if it ends too soon.
+/// Returns the value at the front of the bytes, and the number of bytes that it takes: 1 for a
+/// no-op, else 11 and one for each of its 1 to 32 characters. Fails with the first check that
+/// fails, from the left: with `Value` if a field is out of its range, and with `Short` if the bytes
+/// end too soon.
+///
+/// The tag is 0 or 1, the node is of the group, and the start is not 0. The first serial is checked
+/// at the count: it is not 0, the count is 1 to 32, and the last serial is at most 4,294,967,295.
 pub fn read_value(bytes: &[u8], group: Group) -> Result<(Value, usize), WireFault>
     ensures exact { GivesField bytes.now result (value_at group.size bytes.now) }
 {
     value_of(group.size, bytes)
 }
 
-/// Reads `count` votes at the front of the bytes, and returns the bytes after them. Their places
-/// ascend, and none is under a ballot above `ballot`. Fails with `Place`, `Order`, `Ballot` and
-/// `Value` as in a Promise of all places, and with `Short` if they end too soon. The votes stay in
-/// the bytes.
+/// Returns the `count` votes at the front of the bytes, and the bytes after them. The places
+/// ascend, and no vote is under a ballot above `ballot`. Fails with the first check that fails,
+/// from the left: with `Order`, `Place`, `Ballot` or `Value` as in a Promise for all places, and
+/// with `Short` if the bytes end too soon.
+///
+/// The votes stay in the bytes.
 pub fn read_votes(
     bytes: &[u8],
     group: Group,
@@ -288,8 +296,8 @@ pub fn read_votes(
     Ok((LentVotes::new(bytes, count), behind))
 }
 
-/// Reads the number at the front of the bytes, and the number of its bytes, 4. Fails with `Short`
-/// if there are fewer.
+/// Returns the number at the front of the bytes, and the number of bytes that it takes, 4. Fails
+/// with `Short` if there are fewer.
 pub fn read_number(bytes: &[u8]) -> Result<(u32, usize), WireFault>
     ensures exact { GivesField bytes.now result (number_at bytes.now) }
 {

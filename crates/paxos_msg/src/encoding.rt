@@ -54,8 +54,10 @@ fn put_body(body: &Body, out: &mut Vec<u8>)
     }
 }
 
-/// Writes the datagram of a message that fits, at most 440 bytes, into an empty vector with room
-/// for 1,400. It takes no memory.
+/// Writes the spelling of a message that fits into an empty vector with room for 1,400 bytes. The
+/// capacity stays, and the call cannot fail.
+///
+/// The spelling has at most 440 bytes. The call takes no memory.
 pub fn encode_into(message: &Msg, group: Group, out: &mut Vec<u8>)
     requires fits { Fits group message.now }
     requires empty { vec_len out.old ≡ 0 }
@@ -67,8 +69,9 @@ pub fn encode_into(message: &Msg, group: Group, out: &mut Vec<u8>)
     put_body(&message.body, out);
 }
 
-/// Returns the datagram of a message that fits, at most 440 bytes. Fails with `Memory` if there is
-/// no memory for 1,400 bytes.
+/// Returns the spelling of a message that fits. Fails only with `Memory`.
+///
+/// The spelling has at most 440 bytes. Memory is asked for 1,400.
 pub fn encode(alloc: Global, message: &Msg, group: Group) -> Result<Vec<u8>, WireFault>
     requires fits { Fits group message.now }
     ensures ok { IfOk result (λ bytes. bytes.items ≡ spelling group message.now) }

@@ -18,14 +18,15 @@ pub fn reading_is_spelling()
         → (message_at group bytes ≡ Ok m) ↔ Msgs group bytes m }
 {}
 
-/// The spelling of a message is read as that message. No premise says that the numbers are bytes.
+/// The spelling of a message that fits is read as that message. No premise says that the numbers
+/// are bytes.
 #[tactic(auto, using(crate::proofs::MessagesRead::message_again))]
 pub fn spelling_is_read()
     ensures read { (group : Group) (bytes : List ℕ) (m : Msg) → IsGroup group → Msgs group bytes m
         → message_at group bytes ≡ Ok m }
 {}
 
-/// No two messages share a spelling.
+/// No two messages that fit share a spelling.
 #[tactic(auto, using(crate::proofs::MessagesRead::one_message))]
 pub fn one_message()
     ensures one { (group : Group) (bytes : List ℕ) (m n : Msg) → IsGroup group → Msgs group bytes m

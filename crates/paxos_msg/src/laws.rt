@@ -36,14 +36,14 @@ pub fn ballots_are_ordered()
     ensures at_most { (a b : Ballot) → IsAtMost a b ↔ (IsBelow a b ⊎ (a ≡ b)) }
 {}
 
-/// Returns true if `a` is below `b`.
+/// Returns true if `a` is below `b`, by the comparison that the code uses.
 pub fn is_below(a: Ballot, b: Ballot) -> bool
     ensures { IsTrue result ↔ IsBelow a b }
 {
     a < b
 }
 
-/// Returns true if `a` is not above `b`.
+/// Returns true if `a` is not above `b`, by the comparison that the code uses.
 pub fn is_at_most(a: Ballot, b: Ballot) -> bool
     ensures { IsTrue result ↔ IsAtMost a b }
 {
@@ -93,10 +93,10 @@ pub fn votes_are_by_place()
 {}
 
 /// The rules for messages of a node with record `r`. It may send a Prepare under a ballot of its
-/// own that is not above the promised one; a Refused with the promised ballot; a Submit of keys
-/// that were typed at it; an Ask always; a Tell of a value that it has learned. A value is free to
-/// be proposed if it is a no-op or was submitted. The rules of Promise, Accept and Accepted are the
-/// premises of `agreement`.
+/// own that is not above the promised one; a Refused of a lower ballot with the promised one; a
+/// Submit of keys that were typed at it; an Ask always; a Tell of a value that it has learned. A
+/// value is free to be proposed if it is a no-op or was submitted. The rules of Promise, Accept and
+/// Accepted are the premises of `agreement`.
 pub fn sending_rules()
     ensures prepare { (size i from : ℕ) (typed : List Key) (learned : ℕ → Option Value)
         (sent : Sent) (r : Record) (b : Ballot)
@@ -166,7 +166,7 @@ pub fn growth()
 
 /// As more is sent, a chosen value stays chosen, and a change that may be saved may still be saved.
 /// A message that may be sent may still be sent, also when more was typed and learned. The
-/// exception is a new proposal: it needs that nothing else was proposed under its ballot.
+/// exception is a new proposal: it needs that nothing was proposed at its place under its ballot.
 pub fn sent_only_grows()
     ensures chosen { (size s : ℕ) (sent more : Sent) (v : Value) →
         IsChosen size sent s v → IsChosen size (sent ++ more) s v }

@@ -51,6 +51,7 @@ impl<'a> Clone for LentVotes<'a> {
 
     ghost is_infallible = { λ _. ⊤ };
 
+    /// Returns an iterator over the same votes, from the next one on. It never fails.
     fn clone(&self) -> Result<LentVotes<'a>, AllocError> {
         Ok(self.iter())
     }
@@ -65,6 +66,7 @@ impl<'a> Iterator for LentVotes<'a> {
 
     ghost remaining = { item_count (λ votes. votes) };
 
+    /// Returns the next vote. It returns each vote once, in order, and then no more.
     #[tactic(auto, using(crate::proofs::VotesLeft::none_left, crate::proofs::VotesLeft::first_left, crate::proofs::VotesLeft::none_more))]
     fn next(&mut self) -> Option<Vote> {
         if self.count == 0 {

@@ -93,8 +93,8 @@ fn fits_vote(size: u8, ballot: Ballot, low: u32, upto: u32, vote: Vote) -> bool
         && fits_value(size, vote.value)
 }
 
-/// Returns true if `votes` are in their ranges, under ballots that are not above `ballot`. Their
-/// places ascend from `first` on, up to and without `upto`.
+/// Returns true if `votes` are in their ranges, at ascending places from `first` up to and without
+/// `upto`, under ballots that are not above `ballot`.
 pub fn fits_votes(size: u8, ballot: Ballot, first: u32, upto: u32, votes: &[Vote]) -> bool
     ensures { IsTrue result ↔ AreVotes size ballot first upto votes.now }
 {

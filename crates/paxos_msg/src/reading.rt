@@ -27,7 +27,7 @@ pub(crate) struct Part {
 
 /// Reads one byte. Fails with `Short` if there is none.
 #[inline]
-pub(crate) fn byte_of(bytes: &[u8]) -> Result<(u8, &[u8]), WireFault>
+pub(crate) fn first_byte(bytes: &[u8]) -> Result<(u8, &[u8]), WireFault>
     ensures exact { Gives (λ x. (x.0, x.1.now)) result (first_byte bytes.now) }
     ensures taken { IfOk result (λ x. Takes 1 bytes.now x.1.now) }
 {
@@ -57,7 +57,7 @@ fn raw_ballot_of(bytes: &[u8]) -> Result<(Ballot, &[u8]), WireFault>
     ensures taken { IfOk result (λ x. Takes 5 bytes.now x.1.now) }
 {
     let (round, rest) = number_of(bytes)?;
-    let (node, rest) = byte_of(rest)?;
+    let (node, rest) = first_byte(rest)?;
     Ok((Ballot { round, node }, rest))
 }
 
@@ -74,7 +74,7 @@ pub(crate) fn ballot_of(size: u8, bytes: &[u8]) -> Result<(Ballot, &[u8]), WireF
     if round == 0 {
         return Err(WireFault::Ballot);
     }
-    let (node, rest) = byte_of(rest)?;
+    let (node, rest) = first_byte(rest)?;
     if node == 0 || node > size {
         return Err(WireFault::Ballot);
     }
@@ -134,7 +134,7 @@ fn characters_in(count: u8, bytes: &[u8]) -> Result<(Characters, usize), WireFau
 fn raw_characters_of(bytes: &[u8]) -> Result<(Characters, usize), WireFault>
     ensures { GivesField bytes.now result (raw_characters_at bytes.now) }
 {
-    let (count, rest) = byte_of(bytes)?;
+    let (count, rest) = first_byte(bytes)?;
     if count == 0 || usize::from(count) > MOST_CHARACTERS {
         return Err(WireFault::Value);
     }
@@ -162,7 +162,7 @@ fn characters_of(first: u32, bytes: &[u8]) -> Result<(Characters, usize), WireFa
     ensures exact { GivesField bytes.now result (characters_at first bytes.now) }
     ensures raw { IfOk result (λ x. raw_characters_at bytes.now ≡ Ok (x.0, drop x.1 bytes.now)) }
 {
-    let (count, rest) = byte_of(bytes)?;
+    let (count, rest) = first_byte(bytes)?;
     if !is_batch(first, count) {
         return Err(WireFault::Value);
     }
@@ -195,14 +195,14 @@ fn raw_keys_of(node: u8, bytes: &[u8]) -> Result<(Value, usize), WireFault>
 fn raw_value_of(bytes: &[u8]) -> Result<(Value, usize), WireFault>
     ensures { GivesField bytes.now result (raw_value_at bytes.now) }
 {
-    let (tag, rest) = byte_of(bytes)?;
+    let (tag, rest) = first_byte(bytes)?;
     if tag == 0 {
         return Ok((Value::Noop, 1));
     }
     if tag != 1 {
         return Err(WireFault::Value);
     }
-    let (node, rest) = byte_of(rest)?;
+    let (node, rest) = first_byte(rest)?;
     let (keys, taken) = raw_keys_of(node, rest)?;
     Ok((keys, 2 + taken))
 }
@@ -256,14 +256,14 @@ pub(crate) fn value_of(size: u8, bytes: &[u8]) -> Result<(Value, usize), WireFau
     ensures exact { GivesField bytes.now result (value_at size bytes.now) }
     ensures raw { IfOk result (λ x. raw_value_at bytes.now ≡ Ok (x.0, drop x.1 bytes.now)) }
 {
-    let (tag, rest) = byte_of(bytes)?;
+    let (tag, rest) = first_byte(bytes)?;
     if tag == 0 {
         return Ok((Value::Noop, 1));
     }
     if tag != 1 {
         return Err(WireFault::Value);
     }
-    let (node, rest) = byte_of(rest)?;
+    let (node, rest) = first_byte(rest)?;
     if !(0 < node && node <= size) {
         return Err(WireFault::Value);
     }
@@ -279,11 +279,11 @@ pub(crate) fn value_of(size: u8, bytes: &[u8]) -> Result<(Value, usize), WireFau
 pub(crate) fn own_keys_of(size: u8, sender: u8, bytes: &[u8]) -> Result<(Value, usize), WireFault>
     ensures { GivesField bytes.now result (own_keys_at size sender bytes.now) }
 {
-    let (tag, rest) = byte_of(bytes)?;
+    let (tag, rest) = first_byte(bytes)?;
     if tag != 1 {
         return Err(WireFault::Value);
     }
-    let (node, rest) = byte_of(rest)?;
+    let (node, rest) = first_byte(rest)?;
     if !(0 < node && node <= size && node == sender) {
         return Err(WireFault::Value);
     }

@@ -43,7 +43,9 @@ pub enum Change<V = Value> {
 }
 
 impl Record {
-    /// Returns the record before the first start. It takes no memory.
+    /// Returns the record before the first start.
+    ///
+    /// It takes no memory.
     pub fn new(alloc: Global) -> Record
         ensures { result ≡ empty_record }
     {
@@ -54,8 +56,8 @@ impl Record {
         }
     }
 
-    /// Makes `change`. There is a start to spare below 4,294,967,295, and the votes ascend by
-    /// place. After an error nothing has changed.
+    /// Makes `change` in the record (`changed`). The votes must ascend by place, and for a start
+    /// there must be fewer than 4,294,967,295 starts. After an error the record is as it was.
     pub fn change(&mut self, change: Change) -> Result<(), AllocError>
         requires starts { change ≡ Start → self.old.starts < LAST_START }
         requires ascending { IsAscending self.old.votes }

@@ -35,7 +35,7 @@ fn put_bytes(bytes: &[u8], out: &mut Vec<u8>)
     }
 }
 
-/// Appends a number: four bytes, high byte first. The vector has room for them.
+/// Appends a number: four bytes, high byte first. The vector must have room for them.
 #[inline(always)]
 pub fn put_number(number: u32, out: &mut Vec<u8>)
     requires room { vec_len out.old + 4 ≤ vec_capacity out.old }
@@ -48,7 +48,7 @@ pub fn put_number(number: u32, out: &mut Vec<u8>)
     out.push_reserved(fourth);
 }
 
-/// Appends a ballot: its round and its node, five bytes. The vector has room for them.
+/// Appends a ballot: its round and its node, five bytes. The vector must have room for them.
 pub fn put_ballot(ballot: Ballot, out: &mut Vec<u8>)
     requires room { vec_len out.old + 5 ≤ vec_capacity out.old }
     ensures { Puts out.old out.new (ballot_bytes ballot) }
@@ -67,8 +67,8 @@ fn put_characters(characters: Characters, out: &mut Vec<u8>)
     put_bytes(characters.as_slice(), out);
 }
 
-/// Appends a value: a 0 for a no-op, and else a 1, the node, start, first serial, number of keys in
-/// one byte, and characters, 12 to 43 bytes. The vector has room for them.
+/// Appends a value. A no-op is a 0. Keys are a 1, the node, start and first serial, the number of
+/// keys in one byte, and the characters: 12 to 43 bytes. The vector must have room for them.
 pub fn put_value(value: Value, out: &mut Vec<u8>)
     requires room { vec_len out.old + length (value_bytes value) ≤ vec_capacity out.old }
     ensures { Puts out.old out.new (value_bytes value) }
@@ -105,7 +105,7 @@ fn put_vote(vote: Vote, out: &mut Vec<u8>)
     put_value(vote.value, out);
 }
 
-/// Appends votes, each as its place, ballot and value. The vector has room for them.
+/// Appends votes, each as its place, ballot and value. The vector must have room for them.
 pub fn put_votes(votes: &[Vote], out: &mut Vec<u8>)
     requires room { vec_len out.old + length (votes_bytes votes.now) ≤ vec_capacity out.old }
     ensures { Puts out.old out.new (votes_bytes votes.now) }

@@ -16,7 +16,9 @@ fn search(votes: &[Vote], place: u32) -> Result<usize, usize>
     votes.binary_search_by_key(&place, |vote| vote.place)
 }
 
-/// Returns the vote at `place`, if there is one, by one search. The votes ascend by place.
+/// Returns the vote at `place`, if there is one. The votes must ascend by place.
+///
+/// It takes one search.
 pub fn find_vote(votes: &[Vote], place: u32) -> Option<Vote>
     requires { IsAscending votes.now }
     ensures { result ≡ kept_vote_at votes.now place }
@@ -27,9 +29,11 @@ pub fn find_vote(votes: &[Vote], place: u32) -> Option<Vote>
     }
 }
 
-/// Puts `vote` in the place of the one at its place, or between its neighbours. The votes ascend by
-/// place, before and after. It takes no memory where there is room for one more. After an error
-/// nothing has changed.
+/// Puts `vote` among votes that ascend by place. It replaces the vote at its place, if there is
+/// one. The votes ascend after it too, and there is at most one more. The capacity never shrinks.
+/// With room for one more vote the call never fails. After an error the votes are as they were.
+///
+/// With such room it takes no memory.
 pub fn insert_vote(votes: &mut Vec<Vote>, vote: Vote) -> Result<(), AllocError>
     requires { IsAscending votes.old.items }
     ensures ok { OnOk result (votes.new.items ≡ with_vote votes.old.items vote) }

@@ -53,8 +53,8 @@ impl Votes {
         self.items.as_slice()
     }
 
-    /// Puts `vote` in the place of the one at its place, or between its neighbours. The votes
-    /// ascend by place. After an error nothing has changed.
+    /// Puts `vote` among votes that ascend by place. It replaces the vote at its place, if there is
+    /// one. After an error the votes are as they were.
     pub fn insert(&mut self, vote: Vote) -> Result<(), AllocError>
         requires { IsAscending self.old }
         ensures ok { OnOk result (self.new ≡ with_vote self.old vote) }

@@ -1,5 +1,5 @@
 -- Votes in ascending order of place are known by what is found at each place.
-use Rattle.std.proofs.Common.{◌≡◌, ◌∙◌, ℕ, ◌+◌, ◌<◌, ◌≤◌, nat_eq, nat_lt, ◌==◌, Bool, true, false, cond, List, [], ◌∷◌, Option, Some, None, option_map, if◌then◌else◌, inl, inr, refl, sym, ap, arith}
+use Rattle.std.proofs.Common.{◌≡◌, ◌∙◌, ℕ, ◌+◌, ◌<◌, ◌≤◌, nat_eq, nat_lt, ◌==◌, Bool, true, false, cond, List, [], ◌∷◌, Some, None, option_map, if◌then◌else◌, inl, inr, refl, sym, ap, arith}
 use Rattle.std.specs.Prelude.{All}
 use Rattle.std.specs.Map.{lookup}
 use Rattle.std.proofs.lemmas.Bool.{cases_eq, cases_lt, eq-eqb, ne_eqb, lt-ltb, le-ltb, le-leb, lt-leb}
@@ -26,11 +26,6 @@ vote_at-with_vote : (votes : List Vote) (vote : Vote) (s : ℕ)
     → kept_vote_at (with_vote votes vote) s ≡ (if vote.place == s then Some vote else kept_vote_at votes s)
 vote_at-with_vote [] vote s = refl
 vote_at-with_vote (x ∷ xs) vote s = put_step x vote xs s (vote_at-with_vote xs vote s)
-
-mapped : (t : Bool) (s : ℕ) (r : Report) (o : Option Report)
-    → (if t then Some (vote_of s r) else option_map (vote_of s) o) ≡ option_map (vote_of s) (cond t (Some r) o)
-mapped true s r o = refl
-mapped false s r o = refl
 
 -- the votes have at a place what a search of the reports finds
 pub vote_at-votes_of : (es : List (ℕ × Report)) (s : ℕ) → kept_vote_at (reported_votes es) s ≡ option_map (vote_of s) (lookup (nat_eq s) es)

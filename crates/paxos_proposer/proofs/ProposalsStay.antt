@@ -23,14 +23,8 @@ same_itself : (p : Proposer) → IsSame p p
 same_itself p = record { ballot = refl; size = refl; first = refl; values = refl }
 
 after_same : (p : Proposer) (j : ℕ) (b : Body) → IsSame p (heard_promise p j b)
-after_same p j (body.Prepare b from) = same_itself p
 after_same p j (body.Promise b first upto votes) = same_if (rises p j first upto) p _ _
-after_same p j (body.Accept b s v) = same_itself p
-after_same p j (body.Accepted b s v) = same_itself p
-after_same p j (body.Refused b promised) = same_itself p
-after_same p j (body.Submit v) = same_itself p
-after_same p j (body.Ask from) = same_itself p
-after_same p j (body.Tell s v) = same_itself p
+after_same p j other = same_itself p
 
 pub after_ballot : (p : Proposer) (j : ℕ) (b : Body) → ((heard_promise p j b).ballot ≡ p.ballot) × ((heard_promise p j b).size ≡ p.size)
 after_ballot p j b = let h = after_same p j b in (h.ballot, h.size)

@@ -58,8 +58,10 @@ impl Model for Proposer {
 }
 
 impl Proposer {
-    /// Returns a proposer under `ballot`, for places from `from` on, in a group of `size` nodes. It
-    /// has heard nothing, and takes no memory.
+    /// Returns a proposer under `ballot` in a group of `size` nodes, at most 9. It has heard
+    /// nothing and proposed nothing. Its next place is `from`, at most 65,535.
+    ///
+    /// It takes no memory.
     pub fn begin(alloc: Global, ballot: Ballot, from: u32, size: u8) -> Proposer
         requires from { from ≤ LAST_PLACE }
         requires size { size ≤ MOST_NODES }
@@ -75,14 +77,14 @@ impl Proposer {
         }
     }
 
-    /// Returns its ballot.
+    /// Returns the proposer's ballot.
     pub fn ballot(&self) -> Ballot
         ensures { result ≡ self.now.known.ballot }
     {
         self.ballot
     }
 
-    /// Returns the place at which it proposes next, at most 65,536.
+    /// Returns the next place to propose at, at most 65,536.
     pub fn next_place(&self) -> u32
         ensures next { result ≡ next_of self.now.known }
         ensures few { result ≤ PLACES }
@@ -90,8 +92,7 @@ impl Proposer {
         self.first + self.values.len() as u32
     }
 
-    /// Returns the place up to which, and without which, the acceptor's promises reach, at most
-    /// 65,536.
+    /// Returns the place below which the promises of acceptor `node` reach, at most 65,536.
     pub fn coverage(&self, node: u8) -> u32
         requires { node ≤ MOST_NODES }
         ensures coverage { result ≡ coverage_of self.now.known node }
@@ -114,7 +115,7 @@ impl Proposer {
         self.kept.is_from(place)
     }
 
-    /// Returns the value that is proposed at `place`, if any. The place may be any number.
+    /// Returns the value that is proposed at `place`, if any. `place` may be any number.
     pub fn proposed(&self, place: u32) -> Option<Value>
         ensures { result ≡ proposed_at self.now.known place }
     {
@@ -124,9 +125,14 @@ impl Proposer {
         self.values.get((place - self.first) as usize).copied()
     }
 
-    /// Hears a part of the acceptor's promise under the proposer's own ballot. Returns the place
-    /// from which to ask that acceptor for more, if its coverage rose and does not reach all
-    /// places. After `Memory` nothing has changed.
+    /// Hears a part of a promise of acceptor `sender` under the proposer's own ballot
+    /// (`heard_promise`). Returns the place from which to ask it for more, at most 65,535, exactly
+    /// if its coverage rose and does not reach all places. What is proposed never changes. Fails
+    /// only with `Memory`; then nothing that is known has changed.
+    ///
+    /// A part that does not raise the coverage is ignored. Of the votes of one that does, those
+    /// count that are at places from the old coverage on where nothing is proposed yet. At each
+    /// place the vote with the greatest ballot is kept.
     pub fn on_promise(&mut self, sender: u8, view: &View<'_>) -> Result<Option<u32>, ProposerFault>
         requires sender { sender ≤ MOST_NODES }
         requires part { IsPromisePart self.old.known.ballot view.now.body }
@@ -183,11 +189,14 @@ impl Proposer {
         offered
     }
 
-    /// Proposes at the next place, if a majority's promises reach beyond it. It proposes the value
-    /// of the vote that is kept there; without one a no-op if a vote is kept above; and else
-    /// `offered`. Returns the proposal, and drops the vote that was kept there. Fails with
-    /// `PlacesSpent` if a value is offered and the next place is 65,536; this comes before
-    /// `Memory`. After an error nothing has changed.
+    /// Proposes at the next place, at most 65,535, exactly if `next_value` gives a value. Returns
+    /// and remembers the proposal; a vote kept there is dropped. Nothing else that is known
+    /// changes, nothing at an error. Fails with `PlacesSpent` exactly if a value is offered and the
+    /// next place is 65,536, never with `RoundsSpent`.
+    ///
+    /// It proposes if a majority's promises reach beyond the place. The value is that of the vote
+    /// that is kept there; without one a no-op if a vote is kept above; and else `offered`.
+    /// `PlacesSpent` comes before `Memory`.
     pub fn next_accept(&mut self, offered: Option<Value>) -> Result<Option<Vote>, ProposerFault>
         ensures ok { OnOk result
             (self.new.known ≡ proposing self.old.known (next_value self.old.known offered)) }
@@ -219,7 +228,10 @@ impl Proposer {
         Ok(Some(proposal))
     }
 
-    /// Makes room for 17 more proposals. None of the next 17 `next_accept` fails with `Memory`.
+    /// Makes room for 17 more proposals. Nothing that is known changes. Fails only with `Memory`.
+    ///
+    /// After `Ok` the next 17 `next_accept` never fail with `Memory`, also with calls of
+    /// `on_promise` and `reserve` between them.
     pub fn reserve(&mut self) -> Result<(), ProposerFault>
         ensures same { self.new.known ≡ self.old.known }
         ensures ok { OnOk result (17 ≤ self.new.room) }
@@ -230,7 +242,8 @@ impl Proposer {
         Ok(())
     }
 
-    /// Returns true if a Refused for `ballot` ends the proposer: it is the proposer's own.
+    /// Returns true exactly if `ballot` is the proposer's own, so that a Refused for it ends the
+    /// proposer.
     pub fn on_refused(&self, ballot: Ballot) -> bool
         ensures { IsTrue result ↔ (self.now.known.ballot ≡ ballot) }
     {

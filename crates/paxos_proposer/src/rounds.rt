@@ -16,9 +16,9 @@ fn round_of(ballot: Option<Ballot>) -> u32
     }
 }
 
-/// Returns the next ballot of `node`. Its round is one more than the greater round of the ballot
-/// that the node has promised and the one that it has seen. Fails with `RoundsSpent` if that is
-/// 4,294,967,295.
+/// Returns the next ballot of `node`. Its round is one above the greater round of the promised and
+/// the seen ballot, or 1 with neither. Fails only with `RoundsSpent`, exactly if that greater round
+/// is 4,294,967,295.
 pub fn next_ballot(
     promised: Option<Ballot>,
     seen: Option<Ballot>,

@@ -33,7 +33,7 @@ fn whole_of_first(length: usize) -> usize {
     }
 }
 
-/// Returns true if the record is that of the first `length` bytes of either log, of which an entry
+/// Returns true if the record is that of the first `length` bytes of either log, whose last entry
 /// was cut.
 fn is_of_first(record: &Record, length: usize) -> bool {
     let starts = if length < 10 { 0 } else { 1 };

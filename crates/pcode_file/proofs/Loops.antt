@@ -60,13 +60,6 @@ low_next segment at low k n total lt h =
     rw more refl in
     omega (arith, one)
 
--- with none left, all tables were looked at
-pub low_done : (segment : List ℕ) (at low k n total : ℕ) → n ≤ k → max low (low_from segment at (k + 1) (n - k)) ≡ total → low ≡ total
-low_done segment at low k n total le h =
-    let none : n - k ≡ 0 = omega arith in
-    let one : low_from segment at (k + 1) (n - k) ≡ 0 = rw none refl in
-    omega (arith, one)
-
 -- ---- what was collected, and what is still collected
 
 -- what was kept, before what is still to come

@@ -178,8 +178,11 @@ fn read_checked(alloc: Global, bytes: &[u8]) -> Result<CodeFile, FileFault>
 }
 
 impl CodeFile {
-    /// Reads a whole file. Fails with the first check that fails, and with `Memory` only if none
-    /// does: all checks come before memory is allocated.
+    /// Reads a whole code file. Returns one exactly if `bytes` are a code file, memory aside, and
+    /// then with the parts of `bytes`. Otherwise fails with the first check that fails, in the
+    /// order of docs/FORMATS.md. Fails with `Memory` only if all checks pass.
+    ///
+    /// All checks come before memory is allocated.
     pub fn read(alloc: Global, bytes: &[u8]) -> Result<CodeFile, FileFault>
         // What is read is a code file with these parts.
         ensures found { IfOk result (InFile bytes.now) }
@@ -221,7 +224,8 @@ impl CodeFile {
         self.procs.len() as u8
     }
 
-    /// Returns the procedure of number `i`, from 1 to the count, or `None`.
+    /// Returns the procedure of number `i`, and `None` if `i` is 0 or above the count. Its table,
+    /// ENTER and EXIT lie where its part and the segment allow.
     pub fn procedure(&self, i: u8) -> Option<Proc>
         ensures value { result ≡ procedure_of self.now.procs i }
         ensures part { IfSome result (HasProc self.now.segment (length self.now.procs) i) }
@@ -229,7 +233,9 @@ impl CodeFile {
         procedure_of(self.procs.as_slice(), i)
     }
 
-    /// Returns all procedures, in the order of their numbers.
+    /// Returns all procedures, at least one, in the order of their numbers. Their tables, ENTER and
+    /// EXIT lie where their parts and the segment allow. Each part begins after the next table
+    /// below, or at 0.
     pub fn procedures(&self) -> &[Proc]
         ensures value { result.now ≡ self.now.procs }
         ensures parts { AreProcs self.now.segment self.now.procs }

@@ -7,15 +7,16 @@ use crate::memory::Memory;
 use crate::stack::Stack;
 
 impl Memory {
-    /// Returns true if the `words` words from address `word` on are live. If `words` is 0, they
-    /// are.
+    /// Returns true exactly if the `words` words from address `word` on are live. If `words` is 0,
+    /// they are.
     pub fn is_live(&self, word: u16, words: u16) -> bool
         ensures { result ≡ is_live self.now word words }
     {
         words == 0 || word > 0 && u32::from(word) - 1 + u32::from(words) <= u32::from(self.top())
     }
 
-    /// Copies `words` words from `from` on to `to` on. It reads all before it writes any.
+    /// Copies `words` live words from `from` on to the live words from `to` on. It reads all before
+    /// it writes any.
     pub fn copy(&mut self, to: u16, from: u16, words: u16)
         requires to { IsTrue (is_live self.old to words) }
         requires from { IsTrue (is_live self.old from words) }
@@ -29,7 +30,8 @@ impl Memory {
         self.words.copy_within(start..end, usize::from(to) - 1);
     }
 
-    /// Pushes `words` words from `word` on, the highest first, so that the first becomes the top.
+    /// Pushes `words` live words from `word` on, the highest first, so that the first becomes the
+    /// top.
     pub fn push_block(&self, stack: &mut Stack, word: u16, words: u16)
         requires live { IsTrue (is_live self.now word words) }
         requires room { length stack.old + words ≤ STACK_WORDS }
@@ -41,7 +43,7 @@ impl Memory {
         }
     }
 
-    /// Pops `words` words to memory from `word` on, the top to the first.
+    /// Pops `words` words to the live words from `word` on, the top to the first.
     pub fn pop_block(&mut self, stack: &mut Stack, word: u16, words: u16)
         requires live { IsTrue (is_live self.old word words) }
         requires there { words ≤ length stack.old }

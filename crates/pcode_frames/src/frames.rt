@@ -121,8 +121,8 @@ impl Frames {
     }
 
     /// Makes the main frame, of procedure 1, with `words` words, all zero. There is no frame and no
-    /// live word yet. Fails with `Halt::Overflow` if `words` is more than 16,383; then nothing has
-    /// changed.
+    /// live word yet. Fails with `Halt::Overflow` exactly if `words` is more than 16,383. Then
+    /// nothing has changed.
     pub fn start(&mut self, memory: &mut Memory, words: u16) -> Result<(), Halt>
         requires frames { self.old ≡ [] }
         requires words { memory.old ≡ [] }
@@ -145,13 +145,13 @@ impl Frames {
         Ok(())
     }
 
-    /// Calls `procedure`. Its `params` words of parameters leave the stack for a new frame above
-    /// all live words: the top gets offset 1, and the next offset 2. The `vars` words of its data
-    /// follow, all zero. `link`, the static link, is the index of a frame that exists. `back` is
-    /// the offset at which the caller goes on, in bytes from the segment's start.
+    /// Calls `procedure`. Moves `params` words from the stack to a new frame above all live words,
+    /// the top to offset 1; `vars` zeros follow. Fails with `Halt::Empty` if the stack has too few
+    /// words, else with `Halt::Overflow` if there are 1,024 frames or more than 16,383 words would
+    /// be live. Then nothing has changed.
     ///
-    /// Fails with `Halt::Empty` if the stack has too few words, else with `Halt::Overflow` if there
-    /// are 1,024 frames, or more than 16,383 words would be live. Then nothing has changed.
+    /// The word below the top gets offset 2. `link`, the static link, is the index of a frame that
+    /// exists. `back` is the offset at which the caller goes on, in bytes from the segment's start.
     pub fn call(
         &mut self,
         memory: &mut Memory,
@@ -189,12 +189,10 @@ impl Frames {
         Ok(())
     }
 
-    /// Returns from the current frame, which is not the main frame, and returns that frame. Its
-    /// first `words` words are pushed as results, offset 1 last. The frame and all words above its
-    /// base are gone.
-    ///
-    /// Fails with `Halt::BadMemory` if one of these words is not live, else with `Halt::Overflow`
-    /// if they do not fit on the stack. Then nothing has changed.
+    /// Returns from the current frame, not the main one, and returns that frame. Pushes its first
+    /// `words` words, offset 1 last, and lowers memory to its base. Fails with `Halt::BadMemory` if
+    /// one of these words is not live, else with `Halt::Overflow` if they do not fit on the stack.
+    /// Then nothing has changed.
     pub fn ret(&mut self, memory: &mut Memory, stack: &mut Stack, words: u16) -> Result<Frame, Halt>
         requires { 2 ≤ length self.old }
         ensures value { (frame : Frame) → current_of self.old ≡ Some frame →
@@ -242,8 +240,8 @@ impl Frames {
         Some(self.below.len() as u16)
     }
 
-    /// Returns the index of the frame `n` static links up from the current one, if there is one.
-    /// The main frame's link is not followed.
+    /// Returns the index of the frame `n` static links up from the current one, if there is such a
+    /// frame. The main frame's link is not followed.
     #[tactic(auto, using(crate::proofs::Links::up_more, crate::proofs::Links::up_ends, crate::proofs::Links::up_from_last))]
     pub fn link_up(&self, n: u8) -> Option<u16>
         ensures value { result ≡ link_up_of self.now n }

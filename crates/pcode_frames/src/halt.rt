@@ -19,7 +19,8 @@ pub enum Halt {
 }
 
 impl Halt {
-    /// Returns the number of the execution error: 0, 4 or 7.
+    /// Returns the number of the execution error: 0 for `Empty`, 4 for `Overflow`, and 7 for
+    /// `BadMemory`.
     pub fn number(self) -> u8
         ensures { result ≡ halt_number self }
     {

@@ -103,8 +103,8 @@ impl Memory {
         self.words.get(index).copied()
     }
 
-    /// Stores `value` at address `word`. Returns true if that word is live; if it is not, nothing
-    /// changes.
+    /// Stores `value` at address `word` if that word is live, and changes nothing else. Returns
+    /// whether it is live.
     pub fn put(&mut self, word: u16, value: u16) -> bool
         ensures value { self.new ≡ with_word self.old word value }
         ensures live { result ≡ is_some (live_word_at self.old word) }
@@ -164,8 +164,8 @@ impl Memory {
         }
     }
 
-    /// Stores `value` at byte address `address`. Returns true if its word is live; if it is not,
-    /// nothing changes. The other byte of the word stays.
+    /// Stores `value` at byte address `address` if its word is live, and changes nothing else: the
+    /// other byte of the word stays. Returns whether the word is live.
     pub fn put_byte(&mut self, address: i32, value: u8) -> bool
         ensures value { self.new ≡ with_byte self.old address value }
         ensures live { result ≡ is_some (live_byte_at self.old address) }

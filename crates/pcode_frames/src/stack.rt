@@ -49,7 +49,7 @@ impl Stack {
         })
     }
 
-    /// Returns the number of words on the stack.
+    /// Returns the number of words on the stack, at most 1,024.
     #[inline(always)]
     pub fn len(&self) -> usize
         ensures value { result ≡ length self.now }
@@ -65,7 +65,7 @@ impl Stack {
         self.room.get(self.free + usize::from(depth)).copied()
     }
 
-    /// Returns the top word.
+    /// Returns the top word, of at least one.
     #[inline(always)]
     pub fn top(&self) -> u16
         requires { 1 ≤ length self.now }
@@ -75,7 +75,7 @@ impl Stack {
         self.room[top]
     }
 
-    /// Replaces the top word by `top`.
+    /// Replaces the top word, of at least one, by `top`.
     #[inline(always)]
     pub fn set_top(&mut self, top: u16)
         requires { 1 ≤ length self.old }
@@ -84,8 +84,8 @@ impl Stack {
         self.room[self.free] = top;
     }
 
-    /// Pushes `word`. Fails with `Halt::Overflow` if there are 1,024 words; then nothing has
-    /// changed.
+    /// Pushes `word`. Fails with `Halt::Overflow` exactly if there are 1,024 words. Then nothing
+    /// has changed.
     #[inline(always)]
     pub fn push(&mut self, word: u16) -> Result<(), Halt>
         ensures pushed { OnOk result (self.new ≡ word ∷ self.old) }
@@ -101,7 +101,7 @@ impl Stack {
         Ok(())
     }
 
-    /// Drops `words` words from the top.
+    /// Drops `words` words from the top, of at least as many.
     #[inline(always)]
     pub fn discard(&mut self, words: usize)
         requires { words ≤ length self.old }
@@ -110,7 +110,8 @@ impl Stack {
         self.free += words;
     }
 
-    /// Pops the top word. Fails with `Halt::Empty` if there is none; then nothing has changed.
+    /// Pops the top word and returns it. Fails with `Halt::Empty` exactly if there is none. Then
+    /// nothing has changed.
     #[inline(always)]
     pub fn pop(&mut self) -> Result<u16, Halt>
         ensures popped { IfOk result (λ word. self.old ≡ word ∷ self.new) }

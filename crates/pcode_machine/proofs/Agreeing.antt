@@ -1,9 +1,10 @@
 -- The claim that an answer agrees with the relations of its effect.
-use Rattle.std.proofs.Common.{◌≡◌, ℕ, ◌<◌, List, [], ◌∷◌, length, Option, Some, None, IsSome, IsNone, MatchOption, Result, Ok, Err, MatchResult, refl, arith}
+use Rattle.std.proofs.Common.{◌≡◌, ℕ, ◌<◌, Bool, true, false, cond, List, [], ◌∷◌, length, Option, Some, None, IsSome, IsNone, MatchOption, Result, Ok, Err, MatchResult, refl, arith}
 use Rattle.pcode_machine.specs.declared.turn.Stop.{Stop}
 use Rattle.pcode_machine.specs.declared.turn.Stop.TheVariants.{Normal, Error}
 use Rattle.pcode_machine.specs.Configuration.{State}
 use Rattle.pcode_machine.specs.Effects.{Effect, Finish}
+use Rattle.pcode_machine.specs.Operations.{put_above}
 use Rattle.pcode_machine.specs.Step.{HasEffect, FailsBy}
 use Rattle.pcode_machine.specs.declared.errors.ExecutionError.{ExecutionError}
 
@@ -22,6 +23,19 @@ pub record Agrees (N : Type 0) (A : State → Type 0) (F : ExecutionError → Ty
 -- what an effect's answer has to meet
 abbrev pub Meets : Effect → ℕ → State → Result State Stop → Type 0
 Meets x j s r = MatchResult r (HasEffect x j s) (Stopped (x ≡ Finish) (FailsBy x s))
+
+-- an answer by a test
+pub tested : (x : Effect) (j : ℕ) (s : State) (b : Bool) (t : State) (e : ExecutionError) → (b ≡ true → HasEffect x j s t)
+    → (b ≡ false → Stopped (x ≡ Finish) (FailsBy x s) (Error e)) → Meets x j s (cond b (Ok t) (Err (Error e)))
+tested x j s true t e good bad = good refl
+tested x j s false t e good bad = bad refl
+
+-- an answer by a word that is put above others, or its error
+pub put_by : (x : Effect) (j : ℕ) (s : State) (rest : List ℕ) (r : Result ℕ ExecutionError)
+    → ((v : ℕ) → r ≡ Ok v → HasEffect x j s (record s { stack = v ∷ rest; next = j }))
+    → ((e : ExecutionError) → r ≡ Err e → FailsBy x s e) → Meets x j s (put_above r j s rest)
+put_by x j s rest (Ok v) good bad = good v refl
+put_by x j s rest (Err e) good bad = bad e refl
 
 -- an option that is none is no value
 pub not_some : {A : Type 0} (o : Option A) (v : A) → o ≡ Some v → IsNone o → ⊥

@@ -1,5 +1,5 @@
 -- Blocks of words, word by word.
-use Rattle.std.proofs.Common.{◌≡◌, ℕ, zero, suc, ◌+◌, ◌-◌, ◌/◌, ◌<◌, ◌≤◌, nat_lt, ◌&&◌, if◌then◌else◌, Bool, true, false, List, [], ◌∷◌, ◌++◌, length, take, drop, Option, Some, slice_get, Ok, Err, ◌⊎◌, inl, inr, refl, sym, ap, ◌∙◌, subst, arith}
+use Rattle.std.proofs.Common.{◌≡◌, ℕ, zero, suc, ◌+◌, ◌-◌, ◌/◌, ◌<◌, ◌≤◌, nat_lt, ◌&&◌, if◌then◌else◌, Bool, true, false, List, [], ◌∷◌, ◌++◌, length, take, drop, Option, Some, slice_get, Ok, Err, ◌⊎◌, inl, inr, refl, ap, ◌∙◌, arith}
 use Rattle.std.proofs.lemmas.Bool.Decides.{nat_tests}
 use Rattle.std.proofs.lemmas.Bool.{and_parts}
 use Rattle.std.proofs.lemmas.List.{length-take-le, length-drop, take-append-drop}
@@ -11,7 +11,7 @@ use Rattle.pcode_machine.specs.declared.turn.Stop.{Stop}
 use Rattle.pcode_machine.specs.declared.turn.Stop.TheVariants.{Error}
 use Rattle.pcode_machine.specs.declared.errors.ExecutionError.TheVariants.{NoRoom, BadAddress}
 use Rattle.pcode_machine.specs.Configuration.{State}
-use Rattle.pcode_machine.specs.Blocks.{is_block, block_moved, block_loaded, block_stored_at, block_stored, HasBlock}
+use Rattle.pcode_machine.specs.Blocks.{is_block, block_moved, block_loaded, block_stored, HasBlock}
 
 -- ---- lists
 
@@ -69,8 +69,7 @@ above_placed live a n block front e (suc i) le =
     let m = i - (a + n) in
     let here : i ≡ a + (n + m) = omega (arith, le) in
     let sum : a + n + m ≡ a + (n + m) = omega arith in
-    let P : ℕ → Type 0 = λ k. slice_get (take a live ++ (block ++ drop (a + n) live)) k ≡ slice_get live k in
-    subst P (sym here) (get_behind (take a live) (block ++ drop (a + n) live) a (n + m) front
+    rw here (get_behind (take a live) (block ++ drop (a + n) live) a (n + m) front
     ∙ (get_behind block (drop (a + n) live) n m e ∙ (get_drop (a + n) live m ∙ ap (λ k. slice_get live k) sum)))
 
 some_placed : (live : List ℕ) (a n : ℕ) (block : List ℕ) → length block ≡ n → a + n ≤ length live
@@ -78,10 +77,9 @@ some_placed : (live : List ℕ) (a n : ℕ) (block : List ℕ) → length block 
 some_placed live a n block e h =
     let front : length (take a live) ≡ a = length-take-le a live (omega (arith, h)) in
     let rest = block ++ drop (a + n) live in
-    let P : List ℕ → Type 0 = λ new. HasBlock live new (suc a) n (slice_get block) in
     let before : suc a - 1 ≡ a = omega arith in
     let same : with_block live (suc a) block ≡ take a live ++ rest = rw (before, e) refl in
-    subst P (sym same) (record {
+    rw same (record {
       inside = λ k lt.
           let at : suc a + k ≡ suc (a + k) = omega arith in
           rw at (get_behind (take a live) rest a k front ∙ get_first block (drop (a + n) live) k (omega (arith, lt, e)));
@@ -92,9 +90,7 @@ some_placed live a n block e h =
 placed_block : (live : List ℕ) (word n : ℕ) (block : List ℕ) → length block ≡ n → (n ≡ 0) ⊎ IsThere live word n
     → HasBlock live (with_block live word block) word n (slice_get block)
 placed_block live word n [] e (inl none) =
-    let P : List ℕ → Type 0 = λ new. HasBlock live new word n (slice_get []) in
-    subst P (sym (none_placed live word))
-    (record { inside = λ k lt. absurd (omega (arith, lt, none)); below = λ w lt. refl; above = λ w le. refl })
+    rw (none_placed live word) (record { inside = λ k lt. absurd (omega (arith, lt, none)); below = λ w lt. refl; above = λ w le. refl })
 placed_block live word n (x ∷ xs) e (inl none) = absurd (omega (arith, e, none))
 placed_block live zero n block e (inr there) = absurd (omega (arith, there.above))
 placed_block live (suc a) n block e (inr there) = some_placed live a n block e (omega (arith, there.within))
@@ -126,8 +122,7 @@ moved n j from to s t rest e =
     (record s { words = with_block s.words (to / 2) block; stack = rest; next = j }) t (Error BadAddress) e in
     let both = and_parts _ _ h.0 in
     let here = block_there s.words from n both.0 in
-    let P : State → Type 0 = λ u. HasBlock s.words u.words (to / 2) n (λ k. live_word_at s.words (from / 2 + k)) × (u.stack ≡ rest) in
-    subst P h.1 (
+    rw (← h.1) (
       same_block _ _ _ _ (slice_get block) (λ k. live_word_at s.words (from / 2 + k))
           (placed_block s.words (to / 2) n block (block_length s.words (from / 2) n here)
           (block_there s.words to n both.1))
@@ -150,13 +145,9 @@ loaded n j pointer s t rest e =
     (record s { stack = block ++ rest; next = j }) t (Error NoRoom) (Error BadAddress) e in
     let here = block_there s.words pointer n h.0 in
     let count = block_length s.words (pointer / 2) n here in
-    let P : State → Type 0 =
-    λ u. ((k : ℕ) → k < n → slice_get u.stack k ≡ live_word_at s.words (pointer / 2 + k)) × (drop n u.stack ≡ rest)
-    × (u.words ≡ s.words) in
-    let Q : ℕ → Type 0 = λ m. drop m (block ++ rest) ≡ rest in
-    subst P h.1 (
+    rw (← h.1) (
       λ k lt. get_first block rest k (omega (arith, lt, count)) ∙ block_get s.words (pointer / 2) n here k lt,
-      subst Q count (drop-append_seam block rest),
+      rw count at (drop-append_seam block rest),
       refl,
     )
 
@@ -164,14 +155,12 @@ pub stored : (n j pointer : ℕ) (s t : State) → slice_get s.stack n ≡ Some 
     → HasBlock s.words t.words (pointer / 2) n (λ k. slice_get s.stack k) × (t.stack ≡ drop (n + 1) s.stack)
 stored n j pointer s t at e =
     let block = take n s.stack in
-    let R : Option ℕ → Type 0 = λ o. block_stored_at o n j s ≡ Ok t in
     let h =
     by_test (is_block s.words pointer n)
     (record s { words = with_block s.words (pointer / 2) block; stack = drop (n + 1) s.stack; next = j }) t
-    (Error BadAddress) (subst R at e) in
+    (Error BadAddress) (rw at at e) in
     let count = length-take-le n s.stack (omega (arith, slice_get_within s.stack n pointer at)) in
-    let P : State → Type 0 = λ u. HasBlock s.words u.words (pointer / 2) n (λ k. slice_get s.stack k) × (u.stack ≡ drop (n + 1) s.stack) in
-    subst P h.1 (
+    rw (← h.1) (
       same_block _ _ _ _ (slice_get block) (λ k. slice_get s.stack k)
           (placed_block s.words (pointer / 2) n block count (block_there s.words pointer n h.0))
           (get_take n s.stack),

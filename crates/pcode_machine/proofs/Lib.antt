@@ -8,6 +8,7 @@ pub mod Powers
 pub mod RelatedValues
 pub mod RelatedCalls
 pub mod Related
+pub mod Ways
 pub mod Loaded
 pub mod LinksExist
 pub mod NamedExists

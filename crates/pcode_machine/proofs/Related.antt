@@ -1,5 +1,5 @@
 -- The function of an instruction and its relations agree.
-use Rattle.std.proofs.Common.{◌≡◌, ℕ, ◌+◌, ltb, length, Option, Some, MatchOption, Result, Ok, Err, slice_get, refl}
+use Rattle.std.proofs.Common.{◌≡◌, ℕ, ◌+◌, ltb, length, Option, Some, MatchOption, Result, Ok, Err, slice_get, refl, ap}
 use Rattle.pcode_file.specs.Parts.{Parts}
 use Rattle.pcode_ops.specs.declared.instr.Instr.{Instr}
 use Rattle.pcode_frames.specs.declared.frame.Frame.{Frame}
@@ -23,7 +23,7 @@ abbrev IsMet : Effect → ℕ → State → Option (Result State Stop) → Type 
 IsMet x j s o = MatchOption o (Unit {0}) (λ r. Meets x j s r)
 
 holds : (x : Effect) (j : ℕ) (s : State) → IsMet x j s (made x j s)
-holds (Push n) j s = push_holds n j s (ltb (length s.stack) 1024) refl
+holds (Push n) j s = push_holds n j s
 holds (Load n) j s = load_holds n j s (live_word_at s.words n) refl
 holds (Store n) j s = store_holds n j s s.stack refl
 holds (Fetch n) j s = fetch_holds n j s s.stack refl
@@ -51,60 +51,54 @@ holds (Fail n) j s = refl
 holds Finish j s = refl
 holds Nowhere j s = tt
 
--- an answer, where one is made
-some_is : (r q : Result State Stop) → r ≡ q → Some r ≡ Some q
-some_is r q e = rw e refl
-
 goes : (x : Effect) (j : ℕ) (s t : State) → HasEffect x j s t → made x j s ≡ Some (Ok t)
-goes (Push n) j s t h = some_is _ _ (push_goes n j s t h)
+goes (Push n) j s t h = ap Some (push_goes n j s t h)
 goes (Load n) j s t h = rw (h.1, push_goes h.0 j s t h.2) refl
 goes (Store n) j s t h = rw (h.2, h.3, h.4) refl
 goes (Fetch n) j s t h = rw (h.3, h.4, h.5) refl
 goes StoreAt j s t h = rw (h.3, h.4, h.5) refl
 goes (MoveBlock n) j s t h = rw (h.3, h.4, h.5, h.6) refl
-goes (LoadBlock n) j s t h = some_is _ _ (load_block_goes n j h.0 s t h.1 h.2 h.3 h.4 h.5)
+goes (LoadBlock n) j s t h = ap Some (load_block_goes n j h.0 s t h.1 h.2 h.3 h.4 h.5)
 goes (StoreBlock n) j s t h = rw (h.1, h.2, h.3) refl
-goes LoadByte j s t h = rw (h.4, h.5, h.6) refl
-goes StoreByte j s t h = rw (h.4, h.5, h.6) refl
-goes (IndexField n w) j s t h = some_is _ _ (rw h.6 (index_goes n w j s h.0 h.1 h.2 h.3 h.4 h.5))
+goes (IndexField n w) j s t h = ap Some (rw h.6 (index_goes n w j s h.0 h.1 h.2 h.3 h.4 h.5))
 goes LoadField j s t h = rw (h.5, h.6, h.7) refl
 goes StoreField j s t h = rw (h.6, h.7, h.8) refl
 goes (Replace f) j s t h = rw (h.2, h.3) refl
-goes (Combine f) j s t h = rw (h.4, h.5, h.6) refl
 goes Check j s t h = rw (h.5, h.6, h.7) refl
 goes (Go offset) j s t h = rw h refl
 goes (Branch to) j s t h = rw (h.2, h.3) refl
 goes (BranchByTwo to) j s t h = rw (h.3, h.4) refl
-goes (Call n q k) j s t h = some_is _ _ (enter_goes n q k j s t h)
-goes (Return n f) j s t h = some_is _ _ (leave_goes n f s t h)
+goes (Call n q k) j s t h = ap Some (enter_goes n q k j s t h)
+goes (Return n f) j s t h = ap Some (leave_goes n f s t h)
 goes (Begin d) j s t h = rw (h.7, h.8) refl
 goes (Fail n) j s t h = absurd h
 goes Finish j s t h = absurd h
 goes Nowhere j s t h = absurd h
+goes other j s t h = rw (h.4, h.5, h.6) refl
 
 fails : (x : Effect) (j : ℕ) (e : ExecutionError) (s : State) → FailsBy x s e → made x j s ≡ Some (Err (Error e))
-fails (Push n) j e s h = some_is _ _ (rw h.0 (push_fails n j s h.1))
-fails (Load n) j e s h = some_is _ _ (load_fails n j e s (live_word_at s.words n) refl h)
-fails (Store n) j e s h = some_is _ _ (store_fails n j e s s.stack refl h)
-fails (Fetch n) j e s h = some_is _ _ (fetch_fails n j e s h)
-fails StoreAt j e s h = some_is _ _ (store_at_fails j e s h)
-fails (MoveBlock n) j e s h = some_is _ _ (move_fails n j e s h)
-fails (LoadBlock n) j e s h = some_is _ _ (load_block_fails n j e s h)
-fails (StoreBlock n) j e s h = some_is _ _ (store_block_fails n j e s h)
-fails LoadByte j e s h = some_is _ _ (load_byte_fails j e s h)
-fails StoreByte j e s h = some_is _ _ (store_byte_fails j e s h)
-fails (IndexField n w) j e s h = some_is _ _ (index_fails n w j e s h)
-fails LoadField j e s h = some_is _ _ (load_field_fails j e s h)
-fails StoreField j e s h = some_is _ _ (store_field_fails j e s h)
-fails (Replace f) j e s h = some_is _ _ (replace_fails f j e s h)
-fails (Combine f) j e s h = some_is _ _ (combine_fails f j e s h)
-fails Check j e s h = some_is _ _ (check_fails j e s h)
+fails (Push n) j e s h = ap Some (rw h.0 (push_fails n j s h.1))
+fails (Load n) j e s h = ap Some (load_fails n j e s (live_word_at s.words n) refl h)
+fails (Store n) j e s h = ap Some (store_fails n j e s s.stack refl h)
+fails (Fetch n) j e s h = ap Some (fetch_fails n j e s h)
+fails StoreAt j e s h = ap Some (store_at_fails j e s h)
+fails (MoveBlock n) j e s h = ap Some (move_fails n j e s h)
+fails (LoadBlock n) j e s h = ap Some (load_block_fails n j e s h)
+fails (StoreBlock n) j e s h = ap Some (store_block_fails n j e s h)
+fails LoadByte j e s h = ap Some (load_byte_fails j e s h)
+fails StoreByte j e s h = ap Some (store_byte_fails j e s h)
+fails (IndexField n w) j e s h = ap Some (index_fails n w j e s h)
+fails LoadField j e s h = ap Some (load_field_fails j e s h)
+fails StoreField j e s h = ap Some (store_field_fails j e s h)
+fails (Replace f) j e s h = ap Some (replace_fails f j e s h)
+fails (Combine f) j e s h = ap Some (combine_fails f j e s h)
+fails Check j e s h = ap Some (check_fails j e s h)
 fails (Go offset) j e s h = absurd h
-fails (Branch to) j e s h = some_is _ _ (branch_fails to e s h)
-fails (BranchByTwo to) j e s h = some_is _ _ (branch_two_fails to e s h)
-fails (Call n q k) j e s h = some_is _ _ (enter_fails n q k j e s h)
-fails (Return n f) j e s h = some_is _ _ (leave_fails n f j e s h)
-fails (Begin d) j e s h = some_is _ _ (rw h.0 (begin_fails d j s s.stack h.1))
+fails (Branch to) j e s h = ap Some (branch_fails to e s h)
+fails (BranchByTwo to) j e s h = ap Some (branch_two_fails to e s h)
+fails (Call n q k) j e s h = ap Some (enter_fails n q k j e s h)
+fails (Return n f) j e s h = ap Some (leave_fails n f j e s h)
+fails (Begin d) j e s h = ap Some (rw h.0 (begin_fails d j s s.stack h.1))
 fails (Fail n) j e s h = rw h refl
 fails Finish j e s h = absurd h
 fails Nowhere j e s h = absurd h

@@ -1,36 +1,27 @@
 -- Effects that move blocks and bytes, as relations and as functions.
-use Rattle.std.proofs.Common.{◌≡◌, ℕ, ◌+◌, ◌/◌, ◌%◌, ◌<◌, ◌≤◌, Bool, true, false, ◌&&◌, cond, ltb, List, [], ◌∷◌, ◌++◌, length, take, drop, Option, Some, None, is_some, Ok, Err, slice_get, refl, arith, inl, inr}
+use Rattle.std.proofs.Common.{◌≡◌, ℕ, ◌+◌, ◌/◌, ◌<◌, ◌≤◌, Bool, true, false, cond, ltb, List, [], ◌∷◌, ◌++◌, length, Option, Some, None, Ok, Err, slice_get, refl, arith, inl, inr}
 use Rattle.std.proofs.lemmas.Option.{slice_get_past}
-use Rattle.std.proofs.lemmas.Bool.{ltb-true, ltb-false, lt-ltb, le-ltb}
-use Rattle.pcode_frames.specs.Words.{live_byte_at, with_byte}
-use Rattle.pcode_frames.specs.Blocks.{block_of, with_block}
+use Rattle.std.proofs.lemmas.Bool.{and_parts, ltb-true, ltb-false, lt-ltb, le-ltb}
+use Rattle.pcode_frames.specs.Words.{live_byte_at}
+use Rattle.pcode_frames.specs.Blocks.{block_of}
 use Rattle.pcode_machine.specs.declared.turn.Stop.TheVariants.{Error}
 use Rattle.pcode_machine.specs.Configuration.{State}
 use Rattle.pcode_machine.specs.Blocks.{is_block, block_moved, block_loaded, block_stored_at, block_stored}
 use Rattle.pcode_machine.specs.Bytes.{byte_address, byte_pushed, byte_loaded, byte_stored}
 use Rattle.pcode_machine.specs.Effects.{MoveBlock, LoadBlock, StoreBlock, LoadByte, StoreByte}
 use Rattle.pcode_machine.specs.Step.{FailsBy}
-use Rattle.pcode_machine.proofs.Agreeing.{Meets, none_is, below_one, below_two, below_three}
+use Rattle.pcode_machine.proofs.Agreeing.{Meets, tested, none_is, below_one, below_two, below_three}
 use Rattle.base.proofs.Lists.{get_none}
 use Rattle.pcode_machine.specs.declared.errors.ExecutionError.TheVariants.{NoRoom, BadAddress}
 use Rattle.pcode_machine.specs.declared.errors.ExecutionError.{ExecutionError}
 
 -- ---- words are copied
 
-move_by : (n j from to : ℕ) (s : State) (rest : List ℕ) (b c : Bool) → s.stack ≡ from ∷ to ∷ rest
-    → is_block s.words from n ≡ b → is_block s.words to n ≡ c
-    → Meets (MoveBlock n) j s
-    (cond (b && c) (Ok (record s
-    { words = with_block s.words (to / 2) (block_of s.words (from / 2) n); stack = rest; next = j }))
-    (Err (Error BadAddress)))
-move_by n j from to s rest true true e f g = (from, to, rest, e, f, g, refl)
-move_by n j from to s rest true false e f g = inr (refl, from, to, rest, e, rw (f, g) refl)
-move_by n j from to s rest false c e f g = inr (refl, from, to, rest, e, rw f refl)
-
 pub move_holds : (n j : ℕ) (s : State) (st : List ℕ) → s.stack ≡ st → Meets (MoveBlock n) j s (block_moved n j s st)
-move_holds n j s [] e = inl (refl, rw e (omega arith))
-move_holds n j s (from ∷ []) e = inl (refl, rw e (omega arith))
-move_holds n j s (from ∷ to ∷ rest) e = move_by n j from to s rest (is_block s.words from n) (is_block s.words to n) e refl refl
+move_holds n j s (from ∷ to ∷ rest) e =
+    tested (MoveBlock n) j s _ _ _ (λ h. (let both = and_parts _ _ h in (from, to, rest, e, both.0, both.1, refl)))
+    (λ h. inr (refl, from, to, rest, e, h))
+move_holds n j s other e = inl (refl, rw e (omega arith))
 
 pub move_fails : (n j : ℕ) (e : ExecutionError) (s : State) → FailsBy (MoveBlock n) s e → block_moved n j s s.stack ≡ Err (Error e)
 move_fails n j e s (inl h) = rw (below_two (block_moved n j s) _ refl (λ v. refl) s.stack h.1, h.0) refl
@@ -66,17 +57,10 @@ load_block_fails n j e s (inr (pointer, rest, st, inr h)) = rw (st, h.1, lt-ltb 
 past_end : (st : List ℕ) (n : ℕ) → slice_get st n ≡ None → length st < n + 1
 past_end st n e = omega (arith, get_none st n e)
 
-store_by : (n j pointer : ℕ) (s : State) (b : Bool) → slice_get s.stack n ≡ Some pointer → is_block s.words pointer n ≡ b
-    → Meets (StoreBlock n) j s
-    (cond b (Ok (record s
-    { words = with_block s.words (pointer / 2) (take n s.stack); stack = drop (n + 1) s.stack; next = j }))
-    (Err (Error BadAddress)))
-store_by n j pointer s true e f = (pointer, e, f, refl)
-store_by n j pointer s false e f = inr (refl, pointer, e, f)
-
 pub store_block_holds : (n j : ℕ) (s : State) (o : Option ℕ) → slice_get s.stack n ≡ o → Meets (StoreBlock n) j s (block_stored_at o n j s)
 store_block_holds n j s None e = inl (refl, past_end s.stack n e)
-store_block_holds n j s (Some pointer) e = store_by n j pointer s (is_block s.words pointer n) e refl
+store_block_holds n j s (Some pointer) e =
+    tested (StoreBlock n) j s _ _ _ (λ h. (pointer, e, h, refl)) (λ h. inr (refl, pointer, e, h))
 
 pub store_block_fails : (n j : ℕ) (e : ExecutionError) (s : State) → FailsBy (StoreBlock n) s e → block_stored n j s ≡ Err (Error e)
 store_block_fails n j e s (inl h) = rw (slice_get_past s.stack n (omega (arith, h.1)), h.0) refl
@@ -91,28 +75,17 @@ byte_by j index base s rest None e f = inr (refl, index, base, rest, e, rw f ref
 byte_by j index base s rest (Some b) e f = (index, base, rest, b, e, f, refl)
 
 pub load_byte_holds : (j : ℕ) (s : State) (st : List ℕ) → s.stack ≡ st → Meets LoadByte j s (byte_loaded j s st)
-load_byte_holds j s [] e = inl (refl, rw e (omega arith))
-load_byte_holds j s (index ∷ []) e = inl (refl, rw e (omega arith))
 load_byte_holds j s (index ∷ base ∷ rest) e = byte_by j index base s rest (live_byte_at s.words (byte_address base index)) e refl
+load_byte_holds j s other e = inl (refl, rw e (omega arith))
 
 pub load_byte_fails : (j : ℕ) (e : ExecutionError) (s : State) → FailsBy LoadByte s e → byte_loaded j s s.stack ≡ Err (Error e)
 load_byte_fails j e s (inl h) = rw (below_two (byte_loaded j s) _ refl (λ v. refl) s.stack h.1, h.0) refl
 load_byte_fails j e s (inr h) = rw (h.4, none_is _ h.5, h.0) refl
 
-byte_to : (j v index base : ℕ) (s : State) (rest : List ℕ) (o : Option ℕ) → s.stack ≡ v ∷ index ∷ base ∷ rest
-    → live_byte_at s.words (byte_address base index) ≡ o
-    → Meets StoreByte j s
-    (cond (is_some o) (Ok
-    (record s { words = with_byte s.words (byte_address base index) (v % 256); stack = rest; next = j }))
-    (Err (Error BadAddress)))
-byte_to j v index base s rest None e f = inr (refl, v, index, base, rest, e, rw f refl)
-byte_to j v index base s rest (Some b) e f = (v, index, base, rest, e, rw f refl, refl)
-
 pub store_byte_holds : (j : ℕ) (s : State) (st : List ℕ) → s.stack ≡ st → Meets StoreByte j s (byte_stored j s st)
-store_byte_holds j s [] e = inl (refl, rw e (omega arith))
-store_byte_holds j s (v ∷ []) e = inl (refl, rw e (omega arith))
-store_byte_holds j s (v ∷ index ∷ []) e = inl (refl, rw e (omega arith))
-store_byte_holds j s (v ∷ index ∷ base ∷ rest) e = byte_to j v index base s rest (live_byte_at s.words (byte_address base index)) e refl
+store_byte_holds j s (v ∷ index ∷ base ∷ rest) e =
+    tested StoreByte j s _ _ _ (λ h. (v, index, base, rest, e, h, refl)) (λ h. inr (refl, v, index, base, rest, e, rw h refl))
+store_byte_holds j s other e = inl (refl, rw e (omega arith))
 
 pub store_byte_fails : (j : ℕ) (e : ExecutionError) (s : State) → FailsBy StoreByte s e → byte_stored j s s.stack ≡ Err (Error e)
 store_byte_fails j e s (inl h) = rw (below_three (byte_stored j s) _ refl (λ v. refl) (λ v w. refl) s.stack h.1, h.0) refl

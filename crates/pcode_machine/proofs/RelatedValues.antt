@@ -1,16 +1,15 @@
 -- Effects that pop their operands: changes, operations, the check and branches, as relations and as
 -- functions.
-use Rattle.std.proofs.Common.{◌≡◌, ℕ, List, [], ◌∷◌, Result, Ok, Err, refl, arith, inl, inr}
+use Rattle.std.proofs.Common.{◌≡◌, ℕ, List, [], ◌∷◌, Err, refl, arith, inl, inr}
 use Rattle.pcode_machine.specs.declared.operations.Change.{Change}
 use Rattle.pcode_machine.specs.declared.operations.Operation.{Operation}
 use Rattle.pcode_machine.specs.declared.turn.Stop.TheVariants.{Error}
 use Rattle.pcode_machine.specs.Configuration.{State}
-use Rattle.pcode_machine.specs.Arithmetic.{checked_of}
-use Rattle.pcode_machine.specs.Operations.{value_of, replaced, put_above, combined, checked}
+use Rattle.pcode_machine.specs.Operations.{replaced, combined, checked}
 use Rattle.pcode_machine.specs.Jumps.{branched, branched_by_two}
 use Rattle.pcode_machine.specs.Effects.{Replace, Combine, Check, Branch, BranchByTwo}
 use Rattle.pcode_machine.specs.Step.{HasTooFew, FailsBy}
-use Rattle.pcode_machine.proofs.Agreeing.{Meets, below_one, below_two, below_three}
+use Rattle.pcode_machine.proofs.Agreeing.{Meets, put_by, below_one, below_two, below_three}
 use Rattle.pcode_machine.specs.declared.errors.ExecutionError.{ExecutionError}
 
 -- ---- a word gives way to another
@@ -24,15 +23,10 @@ replace_fails f j e s h = rw (below_one (replaced f j s) _ refl s.stack h.1, h.0
 
 -- ---- two words give way to one
 
-combine_by : (f : Operation) (j b a : ℕ) (s : State) (rest : List ℕ) (r : Result ℕ ExecutionError)
-    → s.stack ≡ b ∷ a ∷ rest → value_of f a b ≡ r → Meets (Combine f) j s (put_above r j s rest)
-combine_by f j b a s rest (Ok v) e g = (b, a, rest, v, e, g, refl)
-combine_by f j b a s rest (Err n) e g = inr (b, a, rest, e, g)
-
 pub combine_holds : (f : Operation) (j : ℕ) (s : State) (st : List ℕ) → s.stack ≡ st → Meets (Combine f) j s (combined f j s st)
-combine_holds f j s [] e = inl (refl, rw e (omega arith))
-combine_holds f j s (b ∷ []) e = inl (refl, rw e (omega arith))
-combine_holds f j s (b ∷ a ∷ rest) e = combine_by f j b a s rest (value_of f a b) e refl
+combine_holds f j s (b ∷ a ∷ rest) e =
+    put_by (Combine f) j s rest _ (λ v g. (b, a, rest, v, e, g, refl)) (λ n g. inr (b, a, rest, e, g))
+combine_holds f j s other e = inl (refl, rw e (omega arith))
 
 pub combine_fails : (f : Operation) (j : ℕ) (e : ExecutionError) (s : State) → FailsBy (Combine f) s e
     → combined f j s s.stack ≡ Err (Error e)
@@ -41,16 +35,10 @@ combine_fails f j e s (inr h) = rw (h.3, h.4) refl
 
 -- ---- a word stays that lies between two others
 
-check_by : (j high low v : ℕ) (s : State) (rest : List ℕ) (r : Result ℕ ExecutionError)
-    → s.stack ≡ high ∷ low ∷ v ∷ rest → checked_of v low high ≡ r → Meets Check j s (put_above r j s rest)
-check_by j high low v s rest (Ok w) e g = (high, low, v, rest, w, e, g, refl)
-check_by j high low v s rest (Err n) e g = inr (high, low, v, rest, e, g)
-
 pub check_holds : (j : ℕ) (s : State) (st : List ℕ) → s.stack ≡ st → Meets Check j s (checked j s st)
-check_holds j s [] e = inl (refl, rw e (omega arith))
-check_holds j s (high ∷ []) e = inl (refl, rw e (omega arith))
-check_holds j s (high ∷ low ∷ []) e = inl (refl, rw e (omega arith))
-check_holds j s (high ∷ low ∷ v ∷ rest) e = check_by j high low v s rest (checked_of v low high) e refl
+check_holds j s (high ∷ low ∷ v ∷ rest) e =
+    put_by Check j s rest _ (λ w g. (high, low, v, rest, w, e, g, refl)) (λ n g. inr (high, low, v, rest, e, g))
+check_holds j s other e = inl (refl, rw e (omega arith))
 
 pub check_fails : (j : ℕ) (e : ExecutionError) (s : State) → FailsBy Check s e → checked j s s.stack ≡ Err (Error e)
 check_fails j e s (inl h) = rw (below_three (checked j s) _ refl (λ v. refl) (λ v w. refl) s.stack h.1, h.0) refl
@@ -67,9 +55,8 @@ branch_fails to e s h = rw (below_one (branched to s) _ refl s.stack h.1, h.0) r
 
 pub branch_two_holds : (to : ℕ → ℕ → ℕ) (j : ℕ) (s : State) (st : List ℕ) → s.stack ≡ st
     → Meets (BranchByTwo to) j s (branched_by_two to s st)
-branch_two_holds to j s [] e = (refl, rw e (omega arith))
-branch_two_holds to j s (b ∷ []) e = (refl, rw e (omega arith))
 branch_two_holds to j s (b ∷ a ∷ rest) e = (b, a, rest, e, refl)
+branch_two_holds to j s other e = (refl, rw e (omega arith))
 
 pub branch_two_fails : (to : ℕ → ℕ → ℕ) (e : ExecutionError) (s : State) → HasTooFew 2 s e → branched_by_two to s s.stack ≡ Err (Error e)
 branch_two_fails to e s h = rw (below_two (branched_by_two to s) _ refl (λ v. refl) s.stack h.1, h.0) refl

@@ -1,7 +1,7 @@
 -- Effects that move single words, as relations and as functions.
-use Rattle.std.proofs.Common.{◌≡◌, ℕ, ◌/◌, ◌≤◌, Bool, true, false, cond, ltb, List, [], ◌∷◌, length, Option, Some, None, is_some, Ok, Err, refl, ap, arith, inl, inr}
+use Rattle.std.proofs.Common.{◌≡◌, ℕ, ◌≤◌, List, [], ◌∷◌, length, Option, Some, None, Ok, Err, refl, ap, arith, inl, inr}
 use Rattle.std.proofs.lemmas.Bool.{ltb-true, ltb-false, lt-ltb, le-ltb}
-use Rattle.pcode_frames.specs.Words.{live_word_at, with_word}
+use Rattle.pcode_frames.specs.Words.{live_word_at}
 use Rattle.pcode_machine.specs.declared.turn.Stop.TheVariants.{Error}
 use Rattle.pcode_machine.specs.Configuration.{State}
 use Rattle.pcode_machine.specs.Loads.{pushed, loaded_by}
@@ -9,16 +9,15 @@ use Rattle.pcode_machine.specs.Stores.{stored}
 use Rattle.pcode_machine.specs.Pointers.{pointer_past, pointed, fetched_by, fetched, stored_at}
 use Rattle.pcode_machine.specs.Effects.{Push, Load, Store, Fetch, StoreAt}
 use Rattle.pcode_machine.specs.Step.{Pushes, FailsBy}
-use Rattle.pcode_machine.proofs.Agreeing.{Meets, not_some, not_none, none_is, below_one, below_two}
-use Rattle.pcode_machine.specs.declared.errors.ExecutionError.TheVariants.{NoRoom, BadAddress}
+use Rattle.pcode_machine.proofs.Agreeing.{Meets, tested, not_some, not_none, none_is, below_one, below_two}
+use Rattle.pcode_machine.specs.declared.errors.ExecutionError.TheVariants.{NoRoom}
 use Rattle.pcode_machine.specs.declared.errors.ExecutionError.{ExecutionError}
 
 -- ---- a word is pushed, which needs room
 
-pub push_holds : (n j : ℕ) (s : State) (b : Bool) → ltb (length s.stack) 1024 ≡ b
-    → Meets (Push n) j s (cond b (Ok (record s { stack = n ∷ s.stack; next = j })) (Err (Error NoRoom)))
-push_holds n j s true e = (ltb-true (length s.stack) 1024 e, refl)
-push_holds n j s false e = (refl, ltb-false (length s.stack) 1024 e)
+pub push_holds : (n j : ℕ) (s : State) → Meets (Push n) j s (pushed n j s)
+push_holds n j s =
+    tested (Push n) j s _ _ _ (λ h. (ltb-true (length s.stack) 1024 h, refl)) (λ h. (refl, ltb-false (length s.stack) 1024 h))
 
 pub push_goes : (n j : ℕ) (s t : State) → Pushes n j s t → pushed n j s ≡ Ok t
 push_goes n j s t h = rw (lt-ltb (length s.stack) 1024 h.0, h.1) refl
@@ -28,14 +27,11 @@ push_fails n j s h = rw (le-ltb (length s.stack) 1024 h) refl
 
 -- ---- a word at a word address is pushed
 
-load_room : (n j v : ℕ) (s : State) (b : Bool) → live_word_at s.words n ≡ Some v → ltb (length s.stack) 1024 ≡ b
-    → Meets (Load n) j s (cond b (Ok (record s { stack = v ∷ s.stack; next = j })) (Err (Error NoRoom)))
-load_room n j v s true e f = (v, e, (ltb-true (length s.stack) 1024 f, refl))
-load_room n j v s false e f = inr (refl, rw e refl, ltb-false (length s.stack) 1024 f)
-
 pub load_holds : (n j : ℕ) (s : State) (o : Option ℕ) → live_word_at s.words n ≡ o → Meets (Load n) j s (loaded_by o j s)
 load_holds n j s None e = inl (refl, rw e refl)
-load_holds n j s (Some v) e = load_room n j v s (ltb (length s.stack) 1024) e refl
+load_holds n j s (Some v) e =
+    tested (Load n) j s _ _ _ (λ h. (v, e, (ltb-true (length s.stack) 1024 h, refl)))
+    (λ h. inr (refl, rw e refl, ltb-false (length s.stack) 1024 h))
 
 pub load_fails : (n j : ℕ) (e : ExecutionError) (s : State) (o : Option ℕ) → live_word_at s.words n ≡ o
     → FailsBy (Load n) s e → loaded_by o j s ≡ Err (Error e)
@@ -46,16 +42,10 @@ load_fails n j e s (Some v) f (inr h) = rw h.0 (push_fails v j s h.2)
 
 -- ---- a word is popped to a word address
 
-store_at : (n j v : ℕ) (s : State) (rest : List ℕ) (o : Option ℕ) → s.stack ≡ v ∷ rest → live_word_at s.words n ≡ o
-    → Meets (Store n) j s
-    (cond (is_some o) (Ok (record s { words = with_word s.words n v; stack = rest; next = j }))
-    (Err (Error BadAddress)))
-store_at n j v s rest None e f = inr (refl, rw e (omega arith), rw f refl)
-store_at n j v s rest (Some x) e f = (v, rest, e, rw f refl, refl)
-
 pub store_holds : (n j : ℕ) (s : State) (st : List ℕ) → s.stack ≡ st → Meets (Store n) j s (stored n j s st)
 store_holds n j s [] e = inl (refl, rw e (omega arith))
-store_holds n j s (v ∷ rest) e = store_at n j v s rest (live_word_at s.words n) e refl
+store_holds n j s (v ∷ rest) e =
+    tested (Store n) j s _ _ _ (λ h. (v, rest, e, h, refl)) (λ h. inr (refl, rw e (omega arith), rw h refl))
 
 pub store_fails : (n j : ℕ) (e : ExecutionError) (s : State) (st : List ℕ) → s.stack ≡ st → FailsBy (Store n) s e
     → stored n j s st ≡ Err (Error e)
@@ -81,16 +71,10 @@ fetch_fails n j e s (inr h) = rw (h.3, none_is _ h.4, h.0) refl
 
 -- ---- a word is popped to where the pointer below it points
 
-store_to : (j v pointer : ℕ) (s : State) (rest : List ℕ) (o : Option ℕ) → s.stack ≡ v ∷ pointer ∷ rest → pointed s.words pointer ≡ o
-    → Meets StoreAt j s (cond (is_some o)
-    (Ok (record s { words = with_word s.words (pointer / 2) v; stack = rest; next = j })) (Err (Error BadAddress)))
-store_to j v pointer s rest None e f = inr (refl, v, pointer, rest, e, rw f refl)
-store_to j v pointer s rest (Some x) e f = (v, pointer, rest, e, rw f refl, refl)
-
 pub store_at_holds : (j : ℕ) (s : State) (st : List ℕ) → s.stack ≡ st → Meets StoreAt j s (stored_at j s st)
-store_at_holds j s [] e = inl (refl, rw e (omega arith))
-store_at_holds j s (v ∷ []) e = inl (refl, rw e (omega arith))
-store_at_holds j s (v ∷ pointer ∷ rest) e = store_to j v pointer s rest (pointed s.words pointer) e refl
+store_at_holds j s (v ∷ pointer ∷ rest) e =
+    tested StoreAt j s _ _ _ (λ h. (v, pointer, rest, e, h, refl)) (λ h. inr (refl, v, pointer, rest, e, rw h refl))
+store_at_holds j s other e = inl (refl, rw e (omega arith))
 
 pub store_at_fails : (j : ℕ) (e : ExecutionError) (s : State) → FailsBy StoreAt s e → stored_at j s s.stack ≡ Err (Error e)
 store_at_fails j e s (inl h) = rw (below_two (stored_at j s) _ refl (λ v. refl) s.stack h.1, h.0) refl

@@ -1,10 +1,9 @@
 -- A step as a relation is a step of the function.
-use Rattle.std.proofs.Common.{◌≡◌, ◌↔◌, ℕ, ◌≤◌, List, length, Option, Some, None, IsSome, slice_get, MatchOption, Result, Ok, Err, MatchResult, refl, sym, subst}
+use Rattle.std.proofs.Common.{◌≡◌, ◌↔◌, ℕ, ◌≤◌, List, length, Option, Some, None, IsSome, Ok, refl, sym, subst}
 use Rattle.std.proofs.lemmas.Option.{slice_get_past}
 use Rattle.base.proofs.Lists.{get_none}
 use Rattle.pcode_file.specs.Parts.{Parts}
 use Rattle.pcode_ops.specs.declared.instr.Instr.{Instr}
-use Rattle.pcode_ops.specs.declared.fault.OpFault.{OpFault}
 use Rattle.pcode_ops.specs.At.{At}
 use Rattle.pcode_ops.specs.Decoding.{instr_at}
 use Rattle.pcode_machine.specs.declared.turn.Direction.{Direction}
@@ -16,10 +15,11 @@ use Rattle.pcode_machine.specs.declared.turn.End.TheVariants as ends
 use Rattle.pcode_machine.specs.declared.turn.Stop.{Stop}
 use Rattle.pcode_machine.specs.declared.turn.Stop.TheVariants.{Normal, Error}
 use Rattle.pcode_frames.specs.Words.{live_byte_at}
-use Rattle.pcode_machine.specs.Configuration.{State, Configuration, current_of}
+use Rattle.pcode_machine.specs.Configuration.{Configuration, current_of}
 use Rattle.pcode_machine.specs.Execute.{execute}
-use Rattle.pcode_machine.specs.Outcome.{Outcome, Goes, Stops, Waiting, Stuck, outcome, in_frame, pending, moved, decoded, after_effect, on_some, written, taken}
-use Rattle.pcode_machine.specs.Step.{Executes, Moves, Acts, Step, StopsBy, StopsIn, EndsIn, Ends, WaitsIn, Awaits}
+use Rattle.pcode_machine.specs.Outcome.{Goes, Stops, Waiting, outcome, in_frame, pending, moved, after_effect, end_by}
+use Rattle.pcode_machine.specs.Step.{Moves, Acts, Step, StopsBy, StopsIn, EndsIn, Ends, WaitsIn, Awaits}
+use Rattle.pcode_machine.proofs.Ways.{Went, Executed, Wrote, Took, Ended, Frameless, Stopped, Unlive, way}
 use Rattle.pcode_machine.proofs.Related.{Fails, execute_agrees}
 use Rattle.pcode_machine.specs.Errors.{error_number}
 use Rattle.pcode_machine.specs.declared.errors.ExecutionError.TheVariants.{BadAddress}
@@ -92,92 +92,51 @@ pending_waits p x c f None h = absurd h
 pending_waits p x c f (Some t) h = moved_waits t.direction x c f t h.0 h.1 h.2
 
 pub wait_is : (p : Parts) (x : List ℕ) (c : Configuration) → Awaits x c → outcome p x c ≡ Waiting
-wait_is p x c h = let P : Option Frame → Type 0 =
-    λ o. in_frame p x c o ≡ Waiting in subst P (sym h.1) (pending_waits p x c h.0 c.state.transfer h.2)
+wait_is p x c h = rw h.1 (pending_waits p x c h.0 c.state.transfer h.2)
 
 -- ---- what the function gives meets the relations
 
--- the outcome of a configuration in a frame, as the relations say it
-abbrev Meets : Parts → List ℕ → Configuration → Frame → Option Transfer → Outcome → Type 0
-Meets p x c f o (Goes d) = Acts p x c f o d
-Meets p x c f o (Stops e) = StopsIn p c f o e
-Meets p x c f o Waiting = WaitsIn x c o
-Meets p x c f o Stuck = Unit {0}
+stops_by : (p : Parts) (c : Configuration) (f : Frame) (i : Instr) (j : ℕ) (stop : Stop) → Fails p f i j c.state stop
+    → StopsBy p c f i j (end_by stop f c.state.next)
+stops_by p c f i j Normal h = h
+stops_by p c f i j (Error e) h = (e, h, refl, refl, refl)
 
-write_meets : (p : Parts) (x : List ℕ) (c : Configuration) (f : Frame) (t : Transfer) (o : Option ℕ)
-    → t.direction ≡ Writing → live_byte_at c.state.words t.address ≡ o
-    → Meets p x c f (Some t) (on_some o (Stops (ends.Error (error_number BadAddress) f.procedure t.at)) (λ b. Goes (written c t b)))
-write_meets p x c f t None w e = (e, refl)
-write_meets p x c f t (Some b) w e = let P : Direction → Type 0 = λ k. Moves k x c t (written c t b) in subst P (sym w) (b, e, refl)
+module _ (p : Parts) (known : Decodes p.segment) (x : List ℕ) (c : Configuration) where
+  in_transfer : (f : Frame) (d : Configuration) (k o : Option Transfer) → k ≡ o → Acts p x c f o d → Acts p x c f k d
+  in_transfer f d k o e h = rw e h
 
-found_meets : (p : Parts) (x : List ℕ) (c : Configuration) (f : Frame) (t : Transfer) (old : ℕ) (o : Option ℕ)
-    → t.direction ≡ Reading → live_byte_at c.state.words t.address ≡ Some old → slice_get x c.read ≡ o
-    → Meets p x c f (Some t) (on_some o Waiting (λ b. Goes (taken c t b)))
-found_meets p x c f t old None w e g = (w, rw e refl, get_none x c.read g)
-found_meets p x c f t old (Some b) w e g = let P : Direction → Type 0 =
-    λ k. Moves k x c t (taken c t b) in subst P (sym w) (old, b, e, g, refl)
+  in_direction : (t : Transfer) (d : Configuration) (k o : Direction) → k ≡ o → Moves o x c t d → Moves k x c t d
+  in_direction t d k o e h = rw e h
 
-read_meets : (p : Parts) (x : List ℕ) (c : Configuration) (f : Frame) (t : Transfer) (o : Option ℕ)
-    → t.direction ≡ Reading → live_byte_at c.state.words t.address ≡ o
-    → Meets p x c f (Some t)
-    (on_some o (Stops (ends.Error (error_number BadAddress) f.procedure t.at))
-    (λ _. on_some (slice_get x c.read) Waiting (λ b. Goes (taken c t b))))
-read_meets p x c f t None w e = (e, refl)
-read_meets p x c f t (Some old) w e = found_meets p x c f t old (slice_get x c.read) w e refl
+  stops_in : (f : Frame) (e : End) (o : Option Frame) (k : Option Transfer) → o ≡ Some f → c.state.transfer ≡ k → StopsIn p c f k e
+      → EndsIn p c o e
+  stops_in f e o k at idle h =
+      let P : Option Transfer → Type 0 = λ k. StopsIn p c f k e in
+      rw at (subst P (sym idle) h)
 
-moved_meets : (p : Parts) (x : List ℕ) (c : Configuration) (f : Frame) (t : Transfer) (dir : Direction)
-    → t.direction ≡ dir → Meets p x c f (Some t) (moved dir x c f t)
-moved_meets p x c f t Writing w = write_meets p x c f t (live_byte_at c.state.words t.address) w refl
-moved_meets p x c f t Reading w = read_meets p x c f t (live_byte_at c.state.words t.address) w refl
+  step_by : (d : Configuration) → Went p x c d → Step p x c d
+  step_by d (Executed f i j s at made is) =
+      let h = rw made at (execute_agrees p f i j c.state).holds in
+      (f, at.current, in_transfer f d _ None at.idle (i, j, s, (known c.state.next i j).0 at.decoded, h, is))
+  step_by d (Wrote f t b m w live is) =
+      (f, m.current, in_transfer f d _ (Some t) m.pending (in_direction t d _ Writing w (b, live, is)))
+  step_by d (Took f t old b m r live found is) =
+      (f, m.current, in_transfer f d _ (Some t) m.pending (in_direction t d _ Reading r (old, b, live, found, is)))
 
-effect_meets : (p : Parts) (x : List ℕ) (c : Configuration) (f : Frame) (i : Instr) (j : ℕ)
-    (o : Option (Result State Stop)) → At p.segment c.state.next i j
-    → MatchOption o (Unit {0}) (λ r. MatchResult r (Executes p f i j c.state) (Fails p f i j c.state))
-    → Meets p x c f None (after_effect c f o)
-effect_meets p x c f i j None at h = tt
-effect_meets p x c f i j (Some (Ok s)) at h = (i, j, s, at, h, refl)
-effect_meets p x c f i j (Some (Err Normal)) at h = (i, j, at, h)
-effect_meets p x c f i j (Some (Err (Error e))) at h = (i, j, at, (e, h, refl, refl, refl))
-
-instruction_meets : (p : Parts) → Decodes p.segment
-    → (x : List ℕ) (c : Configuration) (f : Frame) (r : Result (Instr × ℕ) OpFault)
-    → instr_at p.segment c.state.next ≡ r
-    → Meets p x c f None (decoded p c f r)
-instruction_meets p known x c f (Err fault) e = tt
-instruction_meets p known x c f (Ok found) e =
-    effect_meets p x c f found.0 found.1 (execute p f found.0 found.1 c.state)
-    ((known c.state.next found.0 found.1).0 e) (execute_agrees p f found.0 found.1 c.state).holds
-
-pending_meets : (p : Parts) → Decodes p.segment → (x : List ℕ) (c : Configuration) (f : Frame) (o : Option Transfer)
-    → Meets p x c f o (pending p x c f o)
-pending_meets p known x c f None = instruction_meets p known x c f (instr_at p.segment c.state.next) refl
-pending_meets p known x c f (Some t) = moved_meets p x c f t t.direction refl
-
--- the same with the current frame
-abbrev MeetsIn : Parts → List ℕ → Configuration → Option Frame → Outcome → Type 0
-MeetsIn p x c o (Goes d) = (f : Frame) × (o ≡ Some f) × Acts p x c f c.state.transfer d
-MeetsIn p x c o (Stops e) = EndsIn p c o e
-MeetsIn p x c o Waiting = (f : Frame) × (o ≡ Some f) × WaitsIn x c c.state.transfer
-MeetsIn p x c o Stuck = Unit {0}
-
-in_its_frame : (p : Parts) (x : List ℕ) (c : Configuration) (f : Frame) (o : Outcome) → Meets p x c f c.state.transfer o
-    → MeetsIn p x c (Some f) o
-in_its_frame p x c f (Goes d) h = (f, refl, h)
-in_its_frame p x c f (Stops e) h = h
-in_its_frame p x c f Waiting h = (f, refl, h)
-in_its_frame p x c f Stuck h = tt
-
-frame_meets : (p : Parts) → Decodes p.segment → (x : List ℕ) (c : Configuration) (o : Option Frame) → MeetsIn p x c o (in_frame p x c o)
-frame_meets p known x c None = refl
-frame_meets p known x c (Some f) = in_its_frame p x c f (pending p x c f c.state.transfer) (pending_meets p known x c f c.state.transfer)
+  ends_by : (e : End) → Ended p c e → Ends p c e
+  ends_by e (Frameless none is) = rw none is
+  ends_by e (Stopped f i j stop at made is) =
+      let h = rw made at (execute_agrees p f i j c.state).holds in
+      rw is (stops_in f _ _ None at.current at.idle (i, j, (known c.state.next i j).0 at.decoded, stops_by p c f i j stop h))
+  ends_by e (Unlive f t m live is) = stops_in f e _ (Some t) m.current m.pending (live, is)
 
 pub is_step : (p : Parts) → Decodes p.segment → (x : List ℕ) (c d : Configuration) → outcome p x c ≡ Goes d → Step p x c d
-is_step p known x c d e = let P =
-    MeetsIn p x c (current_of c.state.frames) in subst P e (frame_meets p known x c (current_of c.state.frames))
+is_step p known x c d e = step_by p known x c d (way p x c _ e)
 
 pub is_end : (p : Parts) → Decodes p.segment → (x : List ℕ) (c : Configuration) (e : End) → outcome p x c ≡ Stops e → Ends p c e
-is_end p known x c end e = let P =
-    MeetsIn p x c (current_of c.state.frames) in subst P e (frame_meets p known x c (current_of c.state.frames))
+is_end p known x c end e = ends_by p known x c end (way p x c _ e)
 
-pub is_wait : (p : Parts) → Decodes p.segment → (x : List ℕ) (c : Configuration) → outcome p x c ≡ Waiting → Awaits x c
-is_wait p known x c e = let P = MeetsIn p x c (current_of c.state.frames) in subst P e (frame_meets p known x c (current_of c.state.frames))
+pub is_wait : (p : Parts) (x : List ℕ) (c : Configuration) → outcome p x c ≡ Waiting → Awaits x c
+is_wait p x c e =
+    let w = way p x c _ e in
+    (w.frame, w.moving.current, rw w.moving.pending (w.reading, rw w.live refl, get_none x c.read w.none))

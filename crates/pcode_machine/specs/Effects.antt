@@ -30,22 +30,22 @@ pub data Effect : Type 0 where
   Load : (word : ℕ) → Effect
   -- A word is popped to a word address.
   Store : (word : ℕ) → Effect
-  -- The word that many words after a pointer takes the pointer's place.
+  -- The word at a distance in words after a pointer takes the pointer's place.
   Fetch : (words : ℕ) → Effect
   -- A word is popped to where the pointer below it points.
   StoreAt : Effect
-  -- That many words are copied, all read first, from the pointer on top to the one below it.
+  -- A number of words are copied, all read first, from the pointer on top to the one below it.
   MoveBlock : (words : ℕ) → Effect
-  -- That many words from a pointer on take its place, the first on top.
+  -- A number of words from a pointer on take its place, the first on top.
   LoadBlock : (words : ℕ) → Effect
-  -- That many words are popped to where the pointer below them points.
+  -- A number of words are popped to where the pointer below them points.
   StoreBlock : (words : ℕ) → Effect
   -- The byte at an index after a pointer takes their place.
   LoadByte : Effect
   -- A word's low byte is popped to an index after a pointer.
   StoreByte : Effect
-  -- An index and a pointer are replaced by the field there, in words of that many elements of this
-  -- width.
+  -- An index and a pointer are replaced by the field there, in words of this number of elements of
+  -- this width.
   IndexField : (elements width : ℕ) → Effect
   -- The bits of the field that three words name take their place.
   LoadField : Effect
@@ -65,7 +65,7 @@ pub data Effect : Type 0 where
   BranchByTwo : (to : ℕ → ℕ → ℕ) → Effect
   -- The procedure of a number is called. Its static link is the frame at an index.
   Call : (number : ℕ) (callee : Proc) (link : ℕ) → Effect
-  -- The procedure of the current frame returns with that many words.
+  -- The procedure of the current frame returns with a number of words.
   Return : (words : ℕ) (frame : Frame) → Effect
   -- A transfer starts.
   Begin : (direction : Direction) → Effect

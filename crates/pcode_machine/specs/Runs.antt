@@ -37,8 +37,8 @@ out p x n = (after_steps p x n).output
 abbrev pub IsOutput : Parts → List ℕ → List ℕ → Type 0
 IsOutput p x y = (n : ℕ) × IsPrefix y (out p x n)
 
--- The configuration `c` to which `n` steps on the input `x` lead from the start, each of which
--- exists.
+-- The configuration `c` to which `n` steps on the input `x` lead from the start.
+-- Each of these steps exists.
 unfoldable pub LeadsIn : Parts → List ℕ → ℕ → Configuration → Type 0
 LeadsIn p x zero c = c ≡ begin p
 LeadsIn p x (suc n) c = (b : Configuration) × LeadsIn p x n b × (outcome p x b ≡ Goes c)

@@ -9,7 +9,7 @@ use Rattle.pcode_ops.specs.declared.fault.OpFault.TheVariants.{Cut}
 use Rattle.pcode_ops.specs.declared.instr.Instr.{Instr}
 use Rattle.pcode_ops.specs.declared.loading.Onward.{Onward}
 use Rattle.pcode_ops.specs.Decoding.{instr_at}
-use Rattle.pcode_ops.specs.Loading.{is_in, jump_to, goes_on, Flow, On, Jumps, Branches, Switches, Ends, flow_of, flows_to, onward, IsFine, HasNextBy, HasNext}
+use Rattle.pcode_ops.specs.Loading.{is_in, jump_to, goes_on, Flow, On, Branches, flow_of, flows_to, onward, IsFine, HasNextBy, HasNext}
 use Rattle.pcode_ops.specs.Reach.{Reach, followed}
 use Rattle.pcode_ops.proofs.LongerCode.{decoded_longer}
 use Rattle.pcode_ops.proofs.Looking.{looked_is, fine_leads}
@@ -29,9 +29,7 @@ next_of : (segment : List ℕ) (q : Proc) (flow : Flow) (j : ℕ) (o : Onward) �
     → flows_to segment q flow j ≡ Ok o → o.next ≡ Some j
 next_of segment q On j o h e = goes_next q j None o e
 next_of segment q (Branches sb) j o h e = branch_next q j (jump_to segment q sb j) o e
-next_of segment q (Jumps sb) j o h e = absurd h
-next_of segment q (Switches low high table) j o h e = absurd h
-next_of segment q Ends j o h e = absurd h
+next_of segment q other j o h e = absurd h
 
 pub next_is : (segment : List ℕ) (q : Proc) (instr : Instr) (j : ℕ) (o : Onward) → HasNext instr
     → onward segment q instr j ≡ Ok o → o.next ≡ Some j

@@ -15,7 +15,7 @@ use Rattle.pcode_ops.specs.declared.loading.Onward.{Onward}
 use Rattle.pcode_ops.specs.At.{cases}
 use Rattle.pcode_ops.specs.Decoding.{instr_at}
 use Rattle.pcode_ops.specs.Jumps.{jump_in, StaysWith, pointed_by, case_of, IsCaseTable}
-use Rattle.pcode_ops.specs.Loading.{is_in, owner, jump_to, entries_in, goes_on, ends_at, Flow, On, Jumps, Branches, Switches, Ends, flow_of, flows_to, LeadsTo, JumpsWith, JumpsBy}
+use Rattle.pcode_ops.specs.Loading.{is_in, owner, jump_to, entries_in, goes_on, ends_at, Flow, Jumps, Branches, flow_of, flows_to, LeadsTo, JumpsWith, JumpsBy}
 use Rattle.pcode_ops.specs.Reach.{Reach, MayStand}
 use Rattle.pcode_ops.proofs.Operating.{case_jump_at_is}
 use Rattle.pcode_ops.proofs.DecodedIsAt.{decoded_at}
@@ -56,9 +56,7 @@ flow_target segment q (Jumps by) sb next o same e = let P : ℤ → Type 0 =
     λ x. HasTarget (jump_to segment q x next) o in subst P same (jump_target (jump_to segment q by next) o e)
 flow_target segment q (Branches by) sb next o same e = let P : ℤ → Type 0 =
     λ x. HasTarget (jump_to segment q x next) o in subst P same (branch_target q next (jump_to segment q by next) o e)
-flow_target segment q On sb next o same e = absurd same
-flow_target segment q (Switches low high table) sb next o same e = absurd same
-flow_target segment q Ends sb next o same e = absurd same
+flow_target segment q other sb next o same e = absurd same
 
 pub jump_stays : (p : Parts) (n : ℕ) (q : Proc) (instr : Instr) (sb : ℤ) (next : ℕ) → JumpsBy instr sb
     → MayStand p q instr next → procedure_of p.procs n ≡ Some q → StaysWith p n q sb next

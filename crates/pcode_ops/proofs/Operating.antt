@@ -3,7 +3,7 @@ use Rattle.std.proofs.Common.{◌≡◌, ℕ, ◌+◌, ◌%◌, true, List, leng
 use Rattle.pcode_ops.specs.declared.instr.Instr.{Instr}
 use Rattle.pcode_ops.specs.declared.instr.Instr.TheVariants.{Ixp, Xjp}
 use Rattle.pcode_ops.specs.declared.fault.OpFault.{OpFault}
-use Rattle.pcode_ops.specs.Opcodes.{Form, Alone, Numbered, WithByte, WithBig, WithWord, WithLevels, WithSigned, Typed, Packed, Standard, CaseJump}
+use Rattle.pcode_ops.specs.Opcodes.{Form, Alone, Numbered, WithLevels, WithSigned, Typed, Packed, Standard, CaseJump}
 use Rattle.pcode_ops.specs.At.{FitsWord, HasElements, Cases, Stands, At}
 use Rattle.pcode_ops.specs.Decoding.{instr_at}
 use Rattle.pcode_ops.specs.Walks.{IsTableIn}
@@ -31,9 +31,6 @@ stands_operands : (code : List ℕ) (i op : ℕ) (form : Form) (instr : Instr) (
     → ((a b : ℕ) → makes_plain form a b ≡ true) → Stands code i op form instr j → HasOperands code i instr j
 stands_operands code i op (Alone made) instr j p h = made_operands code i made instr j (p 0 0) h.1
 stands_operands code i op (Numbered count number make) instr j p h = made_operands code i _ instr j (p (h.0 + number) 0) h.3
-stands_operands code i op (WithByte make) instr j p h = made_operands code i _ instr j (p h.0 0) h.3
-stands_operands code i op (WithBig make) instr j p h = made_operands code i _ instr j (p h.0 0) h.3
-stands_operands code i op (WithWord make) instr j p h = made_operands code i _ instr j (p h.0 0) h.3
 stands_operands code i op (WithLevels make) instr j p h = made_operands code i _ instr j (p h.0 h.1) h.5
 stands_operands code i op (WithSigned make) instr j p h =
     let P : ℤ → Type 0 = λ sb. is_plain (make sb) ≡ true in
@@ -42,6 +39,7 @@ stands_operands code i op (Typed made) instr j p h = made_operands code i made i
 stands_operands code i op Packed instr j p h = let P : Instr → Type 0 = λ x. HasOperands code i x j in subst P (sym h.6) h.5
 stands_operands code i op Standard instr j p h = made_operands code i _ instr j refl h.3
 stands_operands code i op CaseJump instr j p h = let P : Instr → Type 0 = λ x. HasOperands code i x j in subst P (sym h.6) h.5
+stands_operands code i op other instr j p h = made_operands code i _ instr j (p h.0 0) h.3
 
 at_operands : (code : List ℕ) (i : ℕ) (instr : Instr) (j : ℕ) → At code i instr j → HasOperands code i instr j
 at_operands code i instr j h = stands_operands code i h.opcode h.form instr j (row_makes_plain h.row.0 h.opcode h.form h.row.1) h.stands

@@ -5,7 +5,7 @@ use Rattle.base.specs.Steps.{◌>>=◌}
 use Rattle.pcode_ops.specs.declared.instr.Instr.{Instr}
 use Rattle.pcode_ops.specs.declared.fault.OpFault.{OpFault}
 use Rattle.pcode_ops.specs.declared.opcodes.Row.{Row}
-use Rattle.pcode_ops.specs.Opcodes.{Form, Alone, Numbered, WithByte, WithBig, WithWord, WithLevels, WithSigned, Typed, Packed, Standard, CaseJump, row_of, opcodes, opcode_refusal}
+use Rattle.pcode_ops.specs.Opcodes.{Form, WithByte, WithBig, WithWord, WithLevels, WithSigned, row_of, opcodes, opcode_refusal}
 use Rattle.pcode_ops.specs.Decoding.{byte_at, word_at, big_at, or_zero, first_or_zero, operands_at, row_with, made_by, finished_at, read_at, by_row, instr_of}
 
 one_read : (r : Result ℕ OpFault) (g : ℕ → Result (Instr × ℕ) OpFault) → (r >>= λ n. g (or_zero r)) ≡ (r >>= g)
@@ -38,12 +38,7 @@ finished_is code i op first (WithSigned make) = one_read (byte_at code (i + 1)) 
 finished_is code i op first (WithWord make) = one_read (word_at code (i + 1)) (λ n. Ok (make n, i + 3))
 finished_is code i op first (WithBig make) = big_read (big_at code (i + 1)) make
 finished_is code i op first (WithLevels make) = levels_read (byte_at code (i + 1)) (big_at code (i + 2)) make
-finished_is code i op first (Alone made) = refl
-finished_is code i op first (Numbered count number make) = refl
-finished_is code i op first (Typed made) = refl
-finished_is code i op first Packed = refl
-finished_is code i op first Standard = refl
-finished_is code i op first CaseJump = refl
+finished_is code i op first other = refl
 
 some_by : (code : List ℕ) (i op : ℕ) (row : Row) (o : Option (ℕ × Form)) → made_by (operands_at code i) op o ≡ Some row
     → finished_at code i op row ≡ by_row code i op o

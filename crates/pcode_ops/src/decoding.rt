@@ -201,8 +201,9 @@ fn instruction(code: &[u8], at: usize, opcode: u8) -> Result<(Instr, usize), OpF
     }
 }
 
-/// Returns the instruction at `at`, and the offset after it. Fails with the first check that fails.
-/// The code ends where its bytes end.
+/// Returns the instruction at offset `at` exactly if `code` has one there, and the offset after it,
+/// at most the code's length. A case table lies in the code, with room for a UJP before it.
+/// Otherwise fails with the first check that fails.
 pub fn decode(code: &[u8], at: usize) -> Result<(Instr, usize), OpFault>
     // What is decoded is in the code.
     ensures found { IfOk result (λ r. At code.now at r.0 r.1) }

@@ -21,7 +21,7 @@ pub enum StandardProcedure {
 impl StandardProcedure {
     ghost use Rattle.pcode_ops.specs.At.{standard_number};
 
-    /// Returns its number.
+    /// Returns the number of the standard procedure.
     pub fn number(self) -> u8
         ensures { result ≡ standard_number self }
     {

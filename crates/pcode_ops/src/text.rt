@@ -13,7 +13,8 @@ pub trait TextWriter {
     /// True if a write has failed.
     ghost has_failed: { Self → Bool };
 
-    /// Writes a text. After a write has failed nothing more may be written.
+    /// Writes a text to a writer that has not failed. The writer has then failed exactly if the
+    /// answer is `Err`. After an `Err` nothing more may be written.
     fn write_fmt<D: Display + Drop>(&mut self, text: D) -> io::Result<()>
         requires { has_failed self.old ≡ false }
         ensures { has_failed self.new ≡ is_err result };
@@ -27,7 +28,7 @@ pub struct UpToFault<'a, W: Write> {
 }
 
 impl<'a, W: Write> UpToFault<'a, W> {
-    /// Wraps a writer, as one that has not failed.
+    /// Wraps any `Write`, as a writer that has not failed.
     pub fn new(inner: &'a mut W) -> UpToFault<'a, W>
         ensures { result.failed ≡ false }
     {

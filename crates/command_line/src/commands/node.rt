@@ -121,8 +121,8 @@ const OTHER: &str = "an address that no other node has";
 
 const OWN: &str = "an address that no node has";
 
-/// Reads the address of one more node: not 0.0.0.0, from which no datagram comes, and none of those
-/// before it.
+/// Reads the address of one more node: not 0.0.0.0, from which no datagram comes, and not one of
+/// those before it.
 fn read_address<'a>(text: &'a str, others: &[SocketAddr]) -> Result<SocketAddr, WordFault<'a>> {
     let address = address_in(ADDR, text)?;
     if address.ip().is_unspecified() {

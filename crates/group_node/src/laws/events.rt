@@ -18,7 +18,7 @@ ghost use Rattle.group_node.specs.Tick.{on_tick};
 ghost use Rattle.group_node.specs.Ranges.{IsHeardFit, IsInRange};
 ghost use Rattle.group_node.specs.World.{after_call, Campaign, Deliver, Press, Sits, Start as Starting, Tick, with_seat, WorldState, WorldStep};
 
-use crate::laws::lawful::{campaign_is_lawful, message_is_lawful, tick_is_lawful, typed_is_lawful};
+use crate::laws::lawful::calls_are_lawful;
 use paxos_learner::laws::{
     key_tests_are_exact, learned_stays, stays_backed as learner_stays_backed, values_fit,
     window_holds,
@@ -70,10 +70,7 @@ pub fn calls_are_events()
         → WorldStep w (Starting me.node)
         (with_seat w me.node (record { kept = left; console = console; up = None })) }
 {
-    campaign_is_lawful();
-    tick_is_lawful();
-    typed_is_lawful();
-    message_is_lawful();
+    calls_are_lawful();
     learned_stays();
     key_tests_are_exact();
 }

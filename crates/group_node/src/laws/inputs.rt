@@ -10,8 +10,9 @@ use paxos_learner::laws::input_grows;
 use paxos_msg::laws::{agreement, majorities_meet, sent_only_grows, tests_are_exact};
 use pcode_machine::laws::prefixes_are_ordered;
 
-/// What was sent chooses an input. If it grew from nothing, there is exactly one. The input of any
-/// chosen values from place 0 on is a prefix of it. It only grows at its end as more is sent.
+/// What was sent chooses an input. If what was sent grew from nothing, there is only this one, the
+/// input of any chosen values from place 0 on is a prefix of it, and it only grows at its end as
+/// more is sent.
 pub fn input_is_chosen()
     ensures there { (size : ℕ) (sent : Sent) → (x : List ℕ) × IsInput size sent x }
     ensures one { (size : ℕ) (sent : Sent) (records : ℕ → Record) (x y : List ℕ)

@@ -32,56 +32,63 @@ use paxos_proposer::laws::{
     stays_backed as proposer_stays_backed,
 };
 
-// ---- one law for each call and each kind of message
-
-/// A start over any backed record is lawful: the first two parts of `Backs` are enough.
-pub fn start_is_lawful()
-    ensures { (sent : Sent) (typed : List Key) (me : Me) (r : Record)
+/// The calls of a node that is in its ranges and backed are lawful: a typed character, which types
+/// its key; a campaign; a tick; and a message of any kind that was sent and has a spelling, with
+/// the waiting keys that leave after it. So is a start over any backed record: the first two parts
+/// of `Backs` are enough.
+pub fn calls_are_lawful()
+    ensures start { (sent : Sent) (typed : List Key) (me : Me) (r : Record)
         → IsRecordBacked sent me.node r → IsLawful sent typed r empty (on_start me r) }
-{
-    backing();
-    learner_stays_backed();
-}
-
-/// A typed character is lawful at a node that is in its ranges and backed, and types its key.
-pub fn typed_is_lawful()
-    ensures { (sent : Sent) (typed : List Key) (n : Known) (byte : ℕ) → IsInRange n
+    ensures typed { (sent : Sent) (typed : List Key) (n : Known) (byte : ℕ) → IsInRange n
         → Backs sent typed n
         → IsLawfulCall sent (typed ++ keys_of (new_key n byte)) n (on_typed n byte) }
-{}
-
-/// So is a campaign.
-pub fn campaign_is_lawful()
-    ensures { (sent : Sent) (typed : List Key) (n : Known) → IsInRange n → Backs sent typed n →
-        IsLawfulCall sent typed n (on_campaign n) }
+    ensures campaign { (sent : Sent) (typed : List Key) (n : Known) → IsInRange n
+        → Backs sent typed n → IsLawfulCall sent typed n (on_campaign n) }
+    ensures tick { (sent : Sent) (typed : List Key) (n : Known) → IsInRange n
+        → Backs sent typed n → IsLawfulCall sent typed n (on_tick n) }
+    ensures message { (sent : Sent) (typed : List Key) (n : Known) (j : ℕ) (body : Body)
+        → IsInRange n → Backs sent typed n → IsDelivered sent n j body
+        → IsLawfulCall sent typed n (on_message n j body) }
 {
+    rows_are_lawful();
     backing();
     proposer_stays_backed();
     learner_stays_backed();
     sends_in_order();
     sent_only_grows();
     saves_only_raise();
+    proposals_may_be_sent();
     begins_backed();
 }
 
-/// So is a tick.
-pub fn tick_is_lawful()
-    ensures { (sent : Sent) (typed : List Key) (n : Known) → IsInRange n → Backs sent typed n →
-        IsLawfulCall sent typed n (on_tick n) }
-{
-    backing();
-    proposer_stays_backed();
-    learner_stays_backed();
-    sends_in_order();
-    sent_only_grows();
-    proposals_may_be_sent();
-}
-
-/// A Prepare that was sent and has a spelling is lawful at such a node.
-pub fn prepare_is_lawful()
-    ensures { (sent : Sent) (typed : List Key) (n : Known) (j from : ℕ) (b : Ballot) → IsInRange n
-        → Backs sent typed n → IsDelivered sent n j (Prepare b from)
+/// A message of each kind that was sent and has a spelling is lawful at a node that is in its
+/// ranges and backed, before the waiting keys below the front leave.
+pub fn rows_are_lawful()
+    ensures prepare { (sent : Sent) (typed : List Key) (n : Known) (j from : ℕ) (b : Ballot)
+        → IsInRange n → Backs sent typed n → IsDelivered sent n j (Prepare b from)
         → IsLawfulCall sent typed n (on_prepare n b from) }
+    ensures promise { (sent : Sent) (typed : List Key) (n : Known) (j first upto : ℕ) (b : Ballot)
+        (votes : List Vote) → IsInRange n → Backs sent typed n
+        → IsDelivered sent n j (Promise b first upto votes)
+        → IsLawfulCall sent typed n (on_promise n j b first upto votes) }
+    ensures accept { (sent : Sent) (typed : List Key) (n : Known) (j s : ℕ) (b : Ballot)
+        (v : Value) → IsInRange n → Backs sent typed n → IsDelivered sent n j (Accept b s v)
+        → IsLawfulCall sent typed n (on_accept n b s v) }
+    ensures accepted { (sent : Sent) (typed : List Key) (n : Known) (j s : ℕ) (b : Ballot)
+        (v : Value) → IsInRange n → Backs sent typed n → IsDelivered sent n j (Accepted b s v)
+        → IsLawfulCall sent typed n (on_accepted n j b s v) }
+    ensures tell { (sent : Sent) (typed : List Key) (n : Known) (j s : ℕ) (v : Value)
+        → IsInRange n → Backs sent typed n → IsDelivered sent n j (Tell s v)
+        → IsLawfulCall sent typed n (on_tell n s v) }
+    ensures refused { (sent : Sent) (typed : List Key) (n : Known) (j : ℕ) (b promised : Ballot)
+        → IsInRange n → Backs sent typed n → IsDelivered sent n j (Refused b promised)
+        → IsLawfulCall sent typed n (on_refused n b promised) }
+    ensures submit { (sent : Sent) (typed : List Key) (n : Known) (j : ℕ) (v : Value)
+        → IsInRange n → Backs sent typed n → IsDelivered sent n j (Submit v)
+        → IsLawfulCall sent typed n (on_submit n v) }
+    ensures ask { (sent : Sent) (typed : List Key) (n : Known) (j from : ℕ) → IsInRange n
+        → Backs sent typed n → IsDelivered sent n j (Ask from)
+        → IsLawfulCall sent typed n (on_ask n j from) }
 {
     backing();
     proposer_stays_backed();
@@ -91,113 +98,12 @@ pub fn prepare_is_lawful()
     tests_are_exact();
     saves_only_raise();
     promises_may_be_sent();
-}
-
-/// So is a Promise, or a part of one, with the pump after it.
-pub fn promise_is_lawful()
-    ensures { (sent : Sent) (typed : List Key) (n : Known) (j first upto : ℕ) (b : Ballot)
-        (votes : List Vote) → IsInRange n → Backs sent typed n
-        → IsDelivered sent n j (Promise b first upto votes)
-        → IsLawfulCall sent typed n (on_promise n j b first upto votes) }
-{
-    backing();
-    proposer_stays_backed();
-    learner_stays_backed();
-    sends_in_order();
-    sent_only_grows();
-    tests_are_exact();
+    votes_may_be_sent();
     parts_keep_it_backed();
     ballot_stays();
     proposals_may_be_sent();
-}
-
-/// So is an Accept.
-pub fn accept_is_lawful()
-    ensures { (sent : Sent) (typed : List Key) (n : Known) (j s : ℕ) (b : Ballot) (v : Value)
-        → IsInRange n → Backs sent typed n → IsDelivered sent n j (Accept b s v)
-        → IsLawfulCall sent typed n (on_accept n b s v) }
-{
-    backing();
-    proposer_stays_backed();
-    learner_stays_backed();
-    sends_in_order();
-    sent_only_grows();
-    tests_are_exact();
-    saves_only_raise();
-    votes_may_be_sent();
-}
-
-/// So is an Accepted.
-pub fn accepted_is_lawful()
-    ensures { (sent : Sent) (typed : List Key) (n : Known) (j s : ℕ) (b : Ballot) (v : Value)
-        → IsInRange n → Backs sent typed n → IsDelivered sent n j (Accepted b s v)
-        → IsLawfulCall sent typed n (on_accepted n j b s v) }
-{
-    learner_stays_backed();
     learned_stays();
 }
-
-/// So is a Tell.
-pub fn tell_is_lawful()
-    ensures { (sent : Sent) (typed : List Key) (n : Known) (j s : ℕ) (v : Value) → IsInRange n
-        → Backs sent typed n → IsDelivered sent n j (Tell s v)
-        → IsLawfulCall sent typed n (on_tell n s v) }
-{
-    learner_stays_backed();
-    learned_stays();
-}
-
-/// So is a Refused.
-pub fn refused_is_lawful()
-    ensures { (sent : Sent) (typed : List Key) (n : Known) (j : ℕ) (b promised : Ballot)
-        → IsInRange n → Backs sent typed n → IsDelivered sent n j (Refused b promised)
-        → IsLawfulCall sent typed n (on_refused n b promised) }
-{}
-
-/// So is a Submit, with the pump and the offer.
-pub fn submit_is_lawful()
-    ensures { (sent : Sent) (typed : List Key) (n : Known) (j : ℕ) (v : Value) → IsInRange n
-        → Backs sent typed n → IsDelivered sent n j (Submit v)
-        → IsLawfulCall sent typed n (on_submit n v) }
-{
-    backing();
-    proposer_stays_backed();
-    learner_stays_backed();
-    sends_in_order();
-    sent_only_grows();
-    proposals_may_be_sent();
-}
-
-/// So is an Ask.
-pub fn ask_is_lawful()
-    ensures { (sent : Sent) (typed : List Key) (n : Known) (j from : ℕ) → IsInRange n
-        → Backs sent typed n → IsDelivered sent n j (Ask from)
-        → IsLawfulCall sent typed n (on_ask n j from) }
-{
-    backing();
-    proposer_stays_backed();
-    learner_stays_backed();
-    sends_in_order();
-    sent_only_grows();
-}
-
-/// So is a message of any kind, with the waiting keys that leave after it.
-pub fn message_is_lawful()
-    ensures { (sent : Sent) (typed : List Key) (n : Known) (j : ℕ) (body : Body) → IsInRange n
-        → Backs sent typed n → IsDelivered sent n j body
-        → IsLawfulCall sent typed n (on_message n j body) }
-{
-    prepare_is_lawful();
-    promise_is_lawful();
-    accept_is_lawful();
-    accepted_is_lawful();
-    tell_is_lawful();
-    refused_is_lawful();
-    submit_is_lawful();
-    ask_is_lawful();
-}
-
-// ---- the others, and all of them together
 
 /// What other nodes may send keeps a node backed, and the stored record of one that is down. So do
 /// typed keys.
@@ -219,8 +125,8 @@ pub fn others_keep_it_backed()
 }
 
 /// A lawful call continues the growth on which agreement rests. If all that Tells have said is
-/// chosen, then what the node learns and tells is chosen; if all that was submitted was typed, so
-/// is what it submits. A save that failed, with nothing sent, leaves a backed record.
+/// chosen, then what the node learns, and what its Tells say, is chosen; if all that was submitted
+/// was typed, so is what it submits. A save that failed, with nothing sent, leaves a backed record.
 pub fn lawful_calls_go_on()
     ensures grew { (sent : Sent) (typed : List Key) (records next : ℕ → Record)
         (before : FinMap nat_cmp Value) (done : Response)

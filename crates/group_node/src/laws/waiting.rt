@@ -11,8 +11,8 @@ ghost use Rattle.group_node.specs.WaitingKeys.{without_read};
 use paxos_learner::laws::key_tests_are_exact;
 
 /// The waiting keys are a queue: a typed one is the last; a tick submits the first, at most 32, as
-/// long as any wait; they leave only from the front, each of them read; and after a message the
-/// first that waits is not below the front.
+/// long as any wait; they leave only at its head, each of them read; and after a message the first
+/// that waits is not below the known front.
 pub fn waiting_keys_are_a_row()
     ensures typed { (n : Known) (byte : ℕ)
         → waiting_keys (on_typed n byte).node ≡ waiting_keys n ++ keys_of (new_key n byte) }

@@ -12,9 +12,8 @@ ghost use Rattle.group_world.specs.Headline.{ConsolesAgree, ConsolesHoldOutput, 
 ghost use Rattle.group_world.specs.Sound.{IsSound};
 
 use group_node::laws::{
-    calls_are_events, campaign_is_lawful, input_is_chosen, lawful_calls_go_on,
-    learning_keeps_the_output, message_is_lawful, others_keep_it_backed, output_is_an_event,
-    start_is_lawful, tick_is_lawful, typed_is_lawful, what_goes_out_fits,
+    calls_are_events, calls_are_lawful, input_is_chosen, lawful_calls_go_on,
+    learning_keeps_the_output, others_keep_it_backed, output_is_an_event, what_goes_out_fits,
 };
 use paxos_acceptor::laws::backing;
 use paxos_learner::laws::{one_front, values_are_learned};
@@ -32,11 +31,7 @@ pub fn events_keep_it_sound()
     ensures step { (w v : World) (plan : Option Bool) (act : Act) (d : Done) → IsSound w
         → Performs w plan act d v → IsStep (world_state w) act d (world_state v) }
 {
-    typed_is_lawful();
-    campaign_is_lawful();
-    tick_is_lawful();
-    message_is_lawful();
-    start_is_lawful();
+    calls_are_lawful();
     what_goes_out_fits();
     learning_keeps_the_output();
     lawful_calls_go_on();

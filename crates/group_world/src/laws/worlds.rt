@@ -58,7 +58,7 @@ pub fn headline()
     ordered_worlds_are_orderly();
 }
 
-/// What more events leave of what was learned and shown, for every program and every group of 1, 3,
+/// What was learned and shown stays after more events, for every program and every group of 1, 3,
 /// 5, 7 or 9 nodes. `events` lead from the world in which nothing has happened to `w`, and `more`
 /// from `w` to `v`. A value that a node has learned in `w`, and one that the same node or another
 /// has learned for the same place in `v`, are equal, also if nodes have crashed and started again

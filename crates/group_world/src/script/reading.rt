@@ -3,7 +3,7 @@ ghost use Rattle.std.specs.Prelude.{◌≡◌, ◌<◌, ◌==◌, length, codes}
 ghost use Rattle.std.specs.List.{before_first, after_first};
 ghost use Rattle.std.specs.Option.{option_copied};
 ghost use Rattle.digits.specs.Digits.{decimal_of};
-ghost use Rattle.group_world.specs.Scripts.{act_of_one, act_of_two, text_past, event_of_one, event_of_two, event_of_words, first_word, header_of, line_of, outcome_of, words_behind};
+ghost use Rattle.group_world.specs.Scripts.{act_of_one, act_of_two, text_past, event_of_one, event_of_two, event_of_words, first_word, header_of, line_of, outcome_of, words_after};
 
 use super::Line;
 use crate::event::{Act, Event, Outcome};
@@ -22,7 +22,7 @@ pub fn first_line(text: &str) -> (&str, &str)
 /// is one.
 fn first_of(text: &str) -> (&str, Option<&str>)
     ensures word { result.0.now ≡ first_word text.now }
-    ensures rest { option_copied result.1 ≡ words_behind text.now }
+    ensures rest { option_copied result.1 ≡ words_after text.now }
 {
     match text.split_once(' ') {
         Some((word, rest)) => (word, Some(rest)),
@@ -115,7 +115,7 @@ fn read_event_of_one(verb: &str, first: &str, rest: Option<&str>) -> Option<Even
 
 /// Reads the event of a line.
 fn read_event(line: &str) -> Option<Event>
-    ensures { result ≡ event_of_words (first_word line.now) (words_behind line.now) }
+    ensures { result ≡ event_of_words (first_word line.now) (words_after line.now) }
 {
     let (verb, rest) = first_of(line);
     let (first, rest) = first_of(rest?);

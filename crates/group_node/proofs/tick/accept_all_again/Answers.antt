@@ -17,11 +17,12 @@ loop-place-preserved c =
     let more =
     counted_more (accept_again c.args.learner.now.learned c.args.proposer.now.known) first
     (c.loop-place.place - first) c.loop-place.place (c.loop-place.place + 1 - first) here next in
+    let put = more_put c.loop-place.place (c.loop-place.place + 1 - first) i.put here next c.accept_again.ensures.packets in
     elim c.if-accept_again.branch [
       | then-accept_again w ↦
           let one = length_some _ (sym c.accept_again.ensures.some ∙ w.if-accept_again.true) in
           record {
-            put = more_put c.loop-place.place (c.loop-place.place + 1 - first) i.put here next c.accept_again.ensures.packets;
+            put = put;
             counted = omega (arith, more, one, i.counted, w.sent-is);
             few = omega (arith, i.few, w.sent-is);
             end = omega arith;
@@ -32,7 +33,7 @@ loop-place-preserved c =
           let none = length_none _ (sym c.accept_again.ensures.some ∙ w.if-accept_again.false) in
           let same = c.accept_again.ensures.none (λ t. let e : false ≡ true = rw w.if-accept_again.false at t in absurd cc) in
           record {
-            put = more_put c.loop-place.place (c.loop-place.place + 1 - first) i.put here next c.accept_again.ensures.packets;
+            put = put;
             counted = omega (arith, more, none, i.counted, w.sent-is);
             few = omega (arith, i.few, w.sent-is);
             end = omega arith;

@@ -6,13 +6,12 @@ use Rattle.group_world.proofs.running.run.Goals as goal
 
 pub loop-event-preserved : goal.loop-event-preserved
 loop-event-preserved c =
-    happens_next _ c.args.events.now c.loop-event.world c.loop-event.event _
-    c.in_default.field-0 c.apply.new.self c.loop-event-test.true c.loop-event.invariant c.in_default.ensures.goes
+    happens_next _ _ _ _ _ c.in_default.field-0 _ c.loop-event-test.true c.loop-event.invariant c.in_default.ensures.goes
 
 -- all events of the list have happened
 happened : (c : goal.After-loop-event)
     → LeadsBy (new_world c.args.program.now (record { size = c.args.size; session = c.args.session })) c.args.events.now c.loop-event.world
-happened c = happens_all _ c.args.events.now c.loop-event.world c.loop-event.event c.loop-event-test.false c.loop-event.invariant
+happened c = happens_all _ _ _ _ c.loop-event-test.false c.loop-event.invariant
 
 pub returns-clause-learned_agree : goal.returns-clause-learned_agree
 returns-clause-learned_agree c = c.headline.ensures.learned_agree _ _ _ _ c.in-Ok.ensures.fit c.ranges.session.fits (happened c)
@@ -40,6 +39,6 @@ pub returns-in-Err-apply-clause-refused : goal.returns-in-Err-apply-clause-refus
 returns-in-Err-apply-clause-refused c =
     inr (
       c.in-Ok.ensures.fit,
-      inr (first_refused _ c.args.events.now c.loop-event.world c.loop-event.event _ c.in-Err-apply.fault c.loop-event-test.true
+      inr (first_refused _ _ _ _ _ _ c.loop-event-test.true
           c.loop-event.invariant c.in-Err-apply.ensures.refused),
     )

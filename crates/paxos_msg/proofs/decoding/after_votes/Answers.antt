@@ -19,10 +19,7 @@ returns-in_err-place-clause-exact c =
 pub loop-preserved : goal.loop-preserved
 loop-preserved c =
     let one = c.in_ok-place.ensures.read in
-    rw (← one.at_place) (goes_on c.args.part.size c.args.part.ballot c.args.part.first c.args.part.upto c.args.count
-    c.args.bytes.now c.loop.low
-    (c.args.count - c.loop.counter) (c.args.count - (c.loop.counter + 1)) c.loop.rest.now c.in_ok-place.behind.now one.vote (omega arith)
-    one.read one.raw c.loop.invariant)
+    rw (← one.at_place) (goes_on (c.args.count - (c.loop.counter + 1)) c.loop.invariant (omega arith) one.read one.raw)
 
 pub returns-clause-exact : goal.returns-clause-exact
 returns-clause-exact c =

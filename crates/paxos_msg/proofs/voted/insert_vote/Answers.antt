@@ -8,9 +8,7 @@ returns-in-Ok-clause-ok c = put_over c.args.votes.now.items c.in-Ok.at c.args.vo
 
 pub returns-in-Ok-clause-ascending : goal.returns-in-Ok-clause-ascending
 returns-in-Ok-clause-ascending c =
-    subst IsAscending (sym
-    (put_over c.args.votes.now.items c.in-Ok.at c.args.vote (rw c.deref.ensures.value at c.in-Ok.ensures.found)))
-    (ascending_with c.args.votes.now.items c.args.vote c.requires)
+    subst IsAscending (sym (returns-in-Ok-clause-ok c)) (ascending_with c.args.votes.now.items c.args.vote c.requires)
 
 pub returns-in_ok-insert-in-Err-clause-ok : goal.returns-in_ok-insert-in-Err-clause-ok
 returns-in_ok-insert-in-Err-clause-ok c =
@@ -20,8 +18,4 @@ returns-in_ok-insert-in-Err-clause-ok c =
 
 pub returns-in_ok-insert-in-Err-clause-ascending : goal.returns-in_ok-insert-in-Err-clause-ascending
 returns-in_ok-insert-in-Err-clause-ascending c =
-    subst IsAscending (sym
-    (c.in_ok-insert-in-Err.ensures.items
-    ∙ put_between c.args.votes.now.items c.in-Err.at c.args.vote
-    (rw c.deref.ensures.value at c.in-Err.ensures.absent)))
-    (ascending_with c.args.votes.now.items c.args.vote c.requires)
+    subst IsAscending (sym (returns-in_ok-insert-in-Err-clause-ok c)) (ascending_with c.args.votes.now.items c.args.vote c.requires)

@@ -1,4 +1,4 @@
-use Rattle.std.proofs.Common.{◌-◌, ◌<◌, ◌∙◌, length, sym, arith}
+use Rattle.std.proofs.Common.{◌<◌, ◌∙◌, length, sym, arith}
 use Rattle.std.proofs.lemmas.Bool.{true≢false}
 use Rattle.group_node.proofs.RunsToItsEnd.{Laws, run_full, run_goes_on, run_is_over}
 use Rattle.group_node.proofs.player.Player.run.Goals as goal

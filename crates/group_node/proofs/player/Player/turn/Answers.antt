@@ -12,12 +12,7 @@ returns-in-Spent-clause-turns c =
     )
 
 pub returns-in-Spent-clause-exact : goal.returns-in-Spent-clause-exact
-returns-in-Spent-clause-exact c =
-    let h = rw c.in-Spent.is at c.run-made.ensures.pauses in
-    let a =
-    advances _ c.quiet_steps_lead_on.ensures c.requires.exact h.1 c.run-made.ensures.program refl
-    (omega (arith, c.from.ensures)) refl refl in
-    a.exact
+returns-in-Spent-clause-exact c = (returns-in-Spent-clause-turns c).1.exact
 
 pub returns-in-Ended-clause-turns : goal.returns-in-Ended-clause-turns
 returns-in-Ended-clause-turns c =
@@ -29,12 +24,7 @@ returns-in-Ended-clause-turns c =
     (h.0, a, halts_ended laws a.exact c.run-made.ensures.program h.2)
 
 pub returns-in-Ended-clause-exact : goal.returns-in-Ended-clause-exact
-returns-in-Ended-clause-exact c =
-    let h = rw c.in-Ended.is at c.run-made.ensures.pauses in
-    let a =
-    advances _ c.quiet_steps_lead_on.ensures c.requires.exact h.1 c.run-made.ensures.program refl
-    (omega (arith, c.from.ensures)) refl refl in
-    a.exact
+returns-in-Ended-clause-exact c = (returns-in-Ended-clause-turns c).1.exact
 
 pub returns-in-Wrote-clause-turns : goal.returns-in-Wrote-clause-turns
 returns-in-Wrote-clause-turns c =
@@ -42,11 +32,11 @@ returns-in-Wrote-clause-turns c =
     (h.1, advanced c.args.self.now h.1 h.0, to_advanced h.1 h.0 c.quiet_steps_lead_on.ensures c.requires.exact h.4, h.3, h.2)
 
 pub returns-in-Wrote-clause-exact : goal.returns-in-Wrote-clause-exact
+unfolding returns-in-Wrote-clause-turns
 returns-in-Wrote-clause-exact c =
     let laws : Laws = record { there = c.run_is_after.ensures; longer = c.same_step_on_longer_input.ensures } in
     let h = rw c.in-Wrote.is at c.run-made.ensures.pauses in
-    let a = to_advanced h.1 h.0 c.quiet_steps_lead_on.ensures c.requires.exact h.4 in
-    rw c.write.ensures (exact_idle laws a.exact c.requires.room (record {
+    rw c.write.ensures (exact_idle laws (returns-in-Wrote-clause-turns c).2.exact c.requires.room (record {
       program = c.run-made.ensures.program;
       made = makes-wrote h.5;
       waits = refl;
@@ -67,13 +57,10 @@ returns-in-Some-clause-turns c =
     (c.run-made.result.0, mid, a, h.0, refl)
 
 pub returns-in-Some-clause-exact : goal.returns-in-Some-clause-exact
+unfolding returns-in-Some-clause-turns
 returns-in-Some-clause-exact c =
     let laws : Laws = record { there = c.run_is_after.ensures; longer = c.same_step_on_longer_input.ensures } in
-    let h = rw c.in-Wants.is at c.run-made.ensures.pauses in
-    let a =
-    advances _ c.quiet_steps_lead_on.ensures c.requires.exact h.1 c.run-made.ensures.program refl
-    (omega (arith, c.from.ensures)) refl refl in
-    exact_fed laws a.exact c.requires.room (sym c.in-Some.ensures) c.feed.ensures.1
+    exact_fed laws (returns-in-Some-clause-turns c).2.exact c.requires.room (sym c.in-Some.ensures) c.feed.ensures.1
 
 pub returns-in-None-clause-turns : goal.returns-in-None-clause-turns
 returns-in-None-clause-turns c =
@@ -85,9 +72,4 @@ returns-in-None-clause-turns c =
     (h.0, a, halts_waiting laws a.exact c.run-made.ensures.program h.2 (sym c.in-None.ensures))
 
 pub returns-in-None-clause-exact : goal.returns-in-None-clause-exact
-returns-in-None-clause-exact c =
-    let h = rw c.in-Wants.is at c.run-made.ensures.pauses in
-    let a =
-    advances _ c.quiet_steps_lead_on.ensures c.requires.exact h.1 c.run-made.ensures.program refl
-    (omega (arith, c.from.ensures)) refl refl in
-    a.exact
+returns-in-None-clause-exact c = (returns-in-None-clause-turns c).1.exact

@@ -3,7 +3,7 @@ use Rattle.std.proofs.lemmas.Result.{err_from_is_err_and}
 use Rattle.group_node.specs.declared.fault.NodeFault.TheVariants.{Memory}
 use Rattle.group_node.specs.Tick.{batch_of}
 use Rattle.group_node.specs.Packets.{Queue}
-use Rattle.group_node.proofs.TickRow.{does_tick, ticked_none, ticked_ranges, ticked_some}
+use Rattle.group_node.proofs.TickRow.{asked, does_tick, ticked_none, ticked_ranges, ticked_some}
 use Rattle.group_node.proofs.protocol.Protocol.on_tick.Goals as goal
 use Rattle.group_node.proofs.protocol.Protocol.on_tick.Goals.{in-Some+in_ok-propose_again, in_default}
 
@@ -51,16 +51,16 @@ returns-clause-does g c =
     let i = c.self.invariant in
     let batch : c.batch-batch.result ≡ batch_of c.args.self.now.known c.args.self.now.known.waiting = c.batch-batch.ensures in
     let same = rw (← c.self.view_is) at batch in
+    let last = asked c.match-self.outbox.packets i.1.ranges c.ask.ensures same c.known_front-from.ensures.front in
     elim c.match-self.branch [
       | in-Some+in_ok-propose_again w ↦
           let ticked =
           ticked_some {p = w.in-Some.proposer.known} {q = w.propose_again.new.proposer.known} i.1.ranges
-          c.ask.ensures same c.known_front-from.ensures.front c.requires.empty
-          (rw w.in-Some.is refl) w.in_ok-propose_again.ensures.known
+          last c.requires.empty (rw w.in-Some.is refl) w.in_ok-propose_again.ensures.known
           (ap (λ (q : Queue). q.packets) w.outbox-is ∙ w.in_ok-propose_again.ensures.packets) in
           does_tick c.self.view_is ticked (rw w.self-inside-is refl) (rw w.self-inside-is refl)
       | in_default w ↦
-          let ticked = ticked_none i.1.ranges c.ask.ensures same c.known_front-from.ensures.front c.requires.empty
+          let ticked = ticked_none i.1.ranges last
           (ap (λ (q : Queue). q.packets) w.outbox-is ∙ c.make_ready.ensures.packets) (rw w.in_default.is refl) in
           does_tick c.self.view_is ticked (rw w.self-inside-is refl) (rw w.self-inside-is refl)
     ]

@@ -18,7 +18,7 @@ pub returns-clause-acts : goal.returns-clause-acts
 returns-clause-acts c = λ plan.
     let (m, q, up) = c.requires.up in
     let lends = lent_is c.args.node c.self.view_is c.requires.up.2.there c.place.ensures c.index_mut.ensures.value in
-    ok_done (λ d. Performs c.args.self.now plan (act.Release c.args.node) d _) c.release.result
+    ok_done (λ d. Performs _ plan (act.Release c.args.node) d _) c.release.result
     (c.release.ensures.ok q (lent_up lends up)) c.release.ensures.done
     (λ (new_is : c.release.new.self ≡ member_after_release c.index_mut.result.now q (next_of q)) d done.
     releases_so c.self.view_is lends plan up new_is done)

@@ -1,4 +1,4 @@
-use Rattle.std.proofs.Common.{◌≡◌, ◌∙◌, ap}
+use Rattle.std.proofs.Common.{◌∙◌, ap}
 use Rattle.std.proofs.lemmas.Result.{IfOk-weaker}
 use Rattle.group_world.specs.Group.{World, me_of}
 use Rattle.group_world.specs.Member.{call_of_start}
@@ -14,8 +14,7 @@ start-requires-clause-ranges c =
 pub returns-clause-acts : goal.returns-clause-acts
 returns-clause-acts c =
     let lends = lent_is c.args.node c.self.view_is c.requires.down.1.there c.place.ensures c.index_mut.ensures.value in
-    let me : c.in-Ok.config ≡ me_of c.args.self.now c.args.node =
-    c.in-Ok.ensures.ok ∙ ap (λ (w : World). me_of w c.args.node) c.self.view_is in
+    let me = c.in-Ok.ensures.ok ∙ ap (λ w. me_of w c.args.node) c.self.view_is in
     IfOk-weaker c.start.result _ _
     (λ d ends. (
       c.requires.down.0,

@@ -20,8 +20,7 @@ returns-clause-learned_chosen c p group events w size session happens =
 
 pub returns-clause-consoles_hold_output : goal.returns-clause-consoles_hold_output
 returns-clause-consoles_hold_output c p group events w size session happens =
-    c.sound_worlds_agree.ensures.consoles_hold_output w
-    (always_holds (laws c) p group events w size session happens).sound
+    c.sound_worlds_agree.ensures.consoles_hold_output w (always_holds (laws c) p group events w size session happens).sound
 
 pub returns-clause-consoles_agree : goal.returns-clause-consoles_agree
 returns-clause-consoles_agree c p group events w size session happens =

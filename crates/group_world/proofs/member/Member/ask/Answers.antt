@@ -1,7 +1,4 @@
-use Rattle.std.proofs.Common.{◌≡◌}
 use Rattle.group_world.specs.declared.member.Ask.TheVariants.{Campaign, Hear, Tick}
-use Rattle.group_world.specs.declared.member.Place.TheVariants as place
-use Rattle.group_world.specs.Member.{member_of}
 use Rattle.group_world.proofs.AskEnds.{IsAnswered, asked_ends, asked_fits, asked_same, campaign_answered, heard, tick_answered, told_so}
 use Rattle.group_world.proofs.PlaceCalls.{up_not_down}
 use Rattle.group_world.proofs.member.Member.ask.Goals as goal
@@ -10,9 +7,9 @@ pub on_message-answer-requires : goal.on_message-answer-requires
 on_message-answer-requires c =
     let f = c.fail_next.ensures in
     let plans = told_so c.args.plan c.in-Up.node c.fail_next.new.self (f.same tt) (f.plan tt) f.rest in
-    let is : member_of (place.Up c.in-Up.node) c.self.inside.console.bytes ≡ c.args.self.now = rw c.in-Up.is at c.self.view_is in
+    let is = rw c.in-Up.is at c.self.view_is in
     record {
-      fits = asked_fits c.self.inside.console.bytes c.args.self.now c.requires.up.0 c.args.ask.now c.in-Hear.view plans is c.requires.up.1
+      fits = asked_fits c.self.inside.console.bytes _ c.requires.up.0 _ _ plans is c.requires.up.1
           c.in-Hear.is c.requires.up.2;
     }
 
@@ -30,8 +27,8 @@ hears : (c : goal.After-settle)
 hears c =
     let h = c.on_message-answer in
     let f = c.fail_next.ensures in
-    heard c.self.inside.console.bytes (told_so c.args.plan c.in-Up.node c.fail_next.new.self (f.same tt) (f.plan tt) f.rest)
-    (rw c.in-Up.is at c.self.invariant) c.requires.empty h.ensures.let_in h.ensures.progress c.in-Hear.view h.ensures.does
+    heard c.self.inside.console.bytes (told_so c.args.plan c.in-Up.node _ (f.same tt) (f.plan tt) f.rest)
+    (rw c.in-Up.is at c.self.invariant) c.requires.empty h.ensures.let_in h.ensures.progress _ h.ensures.does
     h.ensures.saves h.ensures.others
 
 pub invariant_of-self : goal.invariant_of-self
@@ -40,7 +37,7 @@ invariant_of-self c = c.settle.ensures.settled (hears c).works
 pub returns-in-Hear-clause-ends : goal.returns-in-Hear-clause-ends
 returns-in-Hear-clause-ends c =
     let h = c.settle in
-    asked_ends (hears c) (rw c.in-Up.is at c.self.view_is) h.result h.new.self h.ensures.stays h.ensures.fell h.ensures.done c.args.ask.now
+    asked_ends (hears c) (rw c.in-Up.is at c.self.view_is) h.result h.new.self h.ensures.stays h.ensures.fell h.ensures.done _
     c.in-Hear.is
 
 pub returns-in-Hear-clause-err : goal.returns-in-Hear-clause-err
@@ -59,7 +56,7 @@ campaigns : (c : goal.After-settle-in-Campaign)
 campaigns c =
     let h = c.campaign-answer in
     let f = c.fail_next.ensures in
-    campaign_answered c.self.inside.console.bytes (told_so c.args.plan c.in-Up.node c.fail_next.new.self (f.same tt) (f.plan tt) f.rest)
+    campaign_answered c.self.inside.console.bytes (told_so c.args.plan c.in-Up.node _ (f.same tt) (f.plan tt) f.rest)
     (rw c.in-Up.is at c.self.invariant) c.requires.empty h.ensures.let_in h.ensures.progress h.ensures.does h.ensures.saves
     (λ is_open. record {
       rounds = λ e. (h.ensures.rounds.0 e).1;
@@ -95,7 +92,7 @@ ticks : (c : goal.After-settle-in-Tick)
 ticks c =
     let h = c.tick-answer in
     let f = c.fail_next.ensures in
-    tick_answered c.self.inside.console.bytes (told_so c.args.plan c.in-Up.node c.fail_next.new.self (f.same tt) (f.plan tt) f.rest)
+    tick_answered c.self.inside.console.bytes (told_so c.args.plan c.in-Up.node _ (f.same tt) (f.plan tt) f.rest)
     (rw c.in-Up.is at c.self.invariant) c.requires.empty h.ensures.let_in h.ensures.progress h.ensures.does h.ensures.store h.ensures.others
 
 pub invariant_of-self-in-Tick : goal.invariant_of-self-in-Tick
@@ -104,7 +101,7 @@ invariant_of-self-in-Tick c = c.settle-in-Tick.ensures.settled (ticks c).works
 pub returns-in-Tick-clause-ends : goal.returns-in-Tick-clause-ends
 returns-in-Tick-clause-ends c =
     let h = c.settle-in-Tick in
-    asked_ends (ticks c) (rw c.in-Up.is at c.self.view_is) h.result h.new.self h.ensures.stays h.ensures.fell h.ensures.done c.args.ask.now
+    asked_ends (ticks c) (rw c.in-Up.is at c.self.view_is) h.result h.new.self h.ensures.stays h.ensures.fell h.ensures.done _
     c.in-Tick.is
 
 pub returns-in-Tick-clause-err : goal.returns-in-Tick-clause-err

@@ -35,5 +35,5 @@ returns c =
     record {
       ends = λ q up plan.
           as_member (λ q m. Presses q m plan c.args.byte new c.typed.result) c.in-Up.node console (rw c.in-Up.is at c.self.view_is) up
-          (presses c.in-Up.node c.typed.new.self plan console c.args.byte c.typed.result (rw c.in-Up.is at c.self.invariant) (types c));
+          (presses c.in-Up.node _ plan console c.args.byte c.typed.result (rw c.in-Up.is at c.self.invariant) (types c));
     }

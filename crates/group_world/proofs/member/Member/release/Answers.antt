@@ -1,4 +1,4 @@
-use Rattle.std.proofs.Common.{◌≡◌, ◌∙◌, ℕ, List, ap, refl, rules}
+use Rattle.std.proofs.Common.{◌≡◌, ◌∙◌, ap, refl, rules}
 use Rattle.group_world.specs.declared.member.Place.TheVariants as place
 use Rattle.group_world.specs.Member.{member_after_release, member_of}
 use Rattle.group_world.proofs.AskEnds.{as_member}
@@ -10,7 +10,7 @@ pub invariant_of-self : goal.invariant_of-self
 invariant_of-self c = c.self.invariant
 
 pub returns-then-is_err-clause-err : goal.returns-then-is_err-clause-err
-returns-then-is_err-clause-err c = ap (λ (bytes : List ℕ). member_of c.self.inside.place bytes) c.reserve.ensures.bytes ∙ c.self.view_is
+returns-then-is_err-clause-err c = ap (λ bytes. member_of c.self.inside.place bytes) c.reserve.ensures.bytes ∙ c.self.view_is
 
 pub returns-then-is_err-clause-memory : goal.returns-then-is_err-clause-memory
 returns-then-is_err-clause-memory c = refl
@@ -33,7 +33,7 @@ returns-in-Some-clause-ok c =
     let console = c.self.inside.console.bytes in
     let new = member_of (place.Up c.release-next.new.self) c.offer-shown.new.self.bytes in
     λ q up. as_member (λ q m. new ≡ member_after_release m q (next_of q)) c.in-Up.node console (rw c.in-Up.is at c.self.view_is) up
-    (releases c.in-Up.node c.release-next.new.self console c.offer-shown.new.self.bytes c.in-Some.number c.in-Some.byte
+    (releases c.in-Up.node _ console c.offer-shown.new.self.bytes _ _
     h.value h.some h.protocol
     (rw c.reserve.ensures.bytes at c.offer-shown.ensures.shown (c.offer-shown.ensures.room (search rules))))
 

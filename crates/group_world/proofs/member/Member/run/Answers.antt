@@ -21,6 +21,6 @@ returns c =
     record {
       runs = λ q up.
           as_member (λ q m. RunsMember m q c.args.steps new) c.in-Up.node console (rw c.in-Up.is at c.self.view_is) up
-          (runs c.in-Up.node c.run-ran.new.self console c.args.steps c.run-ran.result (rw c.in-Up.is at c.self.invariant) h.runs h.protocol
+          (runs c.in-Up.node _ console c.args.steps c.run-ran.result (rw c.in-Up.is at c.self.invariant) h.runs h.protocol
           h.stopped.0 h.others c.unreleased-waits.ensures.replay);
     }

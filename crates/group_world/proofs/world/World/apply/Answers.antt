@@ -18,8 +18,7 @@ laws c = record {
 -- the world after the event is sound and ordered
 holds : (c : goal.After-apply) → Holds c.apply.new.self
 holds c =
-    event_holds (laws c) c.self.inside.group c.apply.new.self c.args.event.now c.apply.result c.self.invariant
-    c.apply.ensures.goes c.apply.ensures.same
+    event_holds (laws c) c.self.inside.group _ _ c.apply.result c.self.invariant c.apply.ensures.goes c.apply.ensures.same
 
 pub apply-requires : goal.apply-requires
 apply-requires c = record { sound = c.self.invariant.sound }
@@ -33,8 +32,7 @@ returns-clause-goes c = rw (← c.self.view_is) c.apply.ensures.goes
 pub returns-clause-step : goal.returns-clause-step
 returns-clause-step c =
     rw (← c.self.view_is) (IfOk-weaker c.apply.result _ _
-    (λ d goes. c.events_keep_it_sound.ensures.step c.self.inside.group c.apply.new.self
-    (plan_of c.args.event.now.save) c.args.event.now.act d c.self.invariant.sound goes)
+    (λ d goes. c.events_keep_it_sound.ensures.step c.self.inside.group _ (plan_of _) _ d c.self.invariant.sound goes)
     c.apply.ensures.goes)
 
 pub returns-clause-taken : goal.returns-clause-taken
@@ -49,10 +47,9 @@ returns-clause-refused c = rw (← c.self.view_is) c.apply.ensures.refused
 -- the world has grown by it
 grows : (c : goal.After-apply) → Grows (world_state c.self.inside.group) (world_state c.apply.new.self)
 grows c =
-    answer_grows c.self.inside.group c.apply.new.self c.args.event.now.act c.apply.result
+    answer_grows c.self.inside.group _ _ c.apply.result
     (IfOk-weaker c.apply.result _ _
-    (λ d goes. c.events_keep_it_sound.ensures.step c.self.inside.group c.apply.new.self
-    (plan_of c.args.event.now.save) c.args.event.now.act d c.self.invariant.sound goes)
+    (λ d goes. c.events_keep_it_sound.ensures.step c.self.inside.group _ (plan_of _) _ d c.self.invariant.sound goes)
     c.apply.ensures.goes) c.apply.ensures.same
 
 pub returns-clause-learned_stays : goal.returns-clause-learned_stays
@@ -61,28 +58,28 @@ returns-clause-learned_stays c =
       learned = c.sound_worlds_agree.ensures.learned_chosen;
       one = c.agreement.ensures.one_value;
       stays = c.sent_only_grows.ensures.chosen;
-    }) c.self.inside.group c.apply.new.self c.self.invariant.sound (holds c).sound (grows c))
+    }) c.self.inside.group _ c.self.invariant.sound (holds c).sound (grows c))
 
 pub returns-clause-consoles_grow : goal.returns-clause-consoles_grow
 returns-clause-consoles_grow c = rw (← c.self.view_is) (grows c).consoles
 
 pub returns-clause-learned_agree : goal.returns-clause-learned_agree
-returns-clause-learned_agree c = c.sound_worlds_agree.ensures.learned_agree c.apply.new.self (holds c).sound
+returns-clause-learned_agree c = c.sound_worlds_agree.ensures.learned_agree _ (holds c).sound
 
 pub returns-clause-learned_chosen : goal.returns-clause-learned_chosen
-returns-clause-learned_chosen c = c.sound_worlds_agree.ensures.learned_chosen c.apply.new.self (holds c).sound
+returns-clause-learned_chosen c = c.sound_worlds_agree.ensures.learned_chosen _ (holds c).sound
 
 pub returns-clause-consoles_hold_output : goal.returns-clause-consoles_hold_output
-returns-clause-consoles_hold_output c = c.sound_worlds_agree.ensures.consoles_hold_output c.apply.new.self (holds c).sound
+returns-clause-consoles_hold_output c = c.sound_worlds_agree.ensures.consoles_hold_output _ (holds c).sound
 
 pub returns-clause-consoles_agree : goal.returns-clause-consoles_agree
-returns-clause-consoles_agree c = c.sound_worlds_agree.ensures.consoles_agree c.apply.new.self (holds c).sound
+returns-clause-consoles_agree c = c.sound_worlds_agree.ensures.consoles_agree _ (holds c).sound
 
 pub returns-clause-no_gap : goal.returns-clause-no_gap
-returns-clause-no_gap c = c.sound_worlds_agree.ensures.no_gap c.apply.new.self (holds c).sound
+returns-clause-no_gap c = c.sound_worlds_agree.ensures.no_gap _ (holds c).sound
 
 pub returns-clause-key_once : goal.returns-clause-key_once
-returns-clause-key_once c = c.ordered_worlds_are_orderly.ensures.once c.apply.new.self (holds c).sound (holds c).ordered
+returns-clause-key_once c = c.ordered_worlds_are_orderly.ensures.once _ (holds c).sound (holds c).ordered
 
 pub returns-clause-serials_in_order : goal.returns-clause-serials_in_order
-returns-clause-serials_in_order c = c.ordered_worlds_are_orderly.ensures.order c.apply.new.self (holds c).sound (holds c).ordered
+returns-clause-serials_in_order c = c.ordered_worlds_are_orderly.ensures.order _ (holds c).sound (holds c).ordered

@@ -1,5 +1,5 @@
--- The reports without the first place make the votes above it, of which the greatest place is the
--- same, or which are none.
+-- The reports without the first place make the votes above it. Their greatest place is the same, or
+-- there are no votes.
 use Rattle.std.proofs.Common.{◌+◌, ◌≤◌, ◌∙◌, List, ap, subst, sym}
 use Rattle.std.specs.Prelude.{All}
 use Rattle.paxos_msg.specs.Batches.{Vote}

@@ -17,7 +17,7 @@ use Rattle.paxos_msg.specs.Messages.{IsSaid}
 use Rattle.paxos_acceptor.specs.declared.me.Me.{Me}
 use Rattle.paxos_learner.specs.Input.{front_values, keys_in_order}
 use Rattle.group_node.specs.Inputs.{AreChosen}
-use Rattle.group_node.specs.Known.{Response, Known, on_typed, new_key, next_serial, own_batch, on_start, waiting_keys}
+use Rattle.group_node.specs.Known.{Response, on_typed, new_key, next_serial, own_batch, on_start, waiting_keys}
 use Rattle.group_node.specs.Tick.{batch_of}
 use Rattle.group_node.specs.Output.{Progress}
 use Rattle.group_node.specs.Packets.{Datagram, Packet, datagrams_of}
@@ -56,19 +56,19 @@ read_more : Laws → (old new : FinMap nat_cmp Value) → HasLearnedMore old new
 read_more laws old new more k among =
     let grown = laws.input_grows.ensures.values old new more in
     let keys = laws.input_grows.ensures.keys (front_values old) grown.0 in
-    subst (λ (values : List Value). Contains (keys_in_order values) k) (sym grown.1)
-    (subst (λ (l : List Key). Contains l k) (sym keys.1) (Contains-append_left (keys_in_order (front_values old)) keys.0 k among))
+    subst (λ values. Contains (keys_in_order values) k) (sym grown.1)
+    (subst (λ l. Contains l k) (sym keys.1) (Contains-append_left _ keys.0 k among))
 
 module _ (laws : Laws) {w : World} (sound : IsSound w) (h : IsOrdered w) (i : ℕ) {m : Member}
     (there : member_at w.members i ≡ Some m) where
   -- nothing is typed or sent
   pub put_world : (new : Member) → m.kept.starts ≤ new.kept.starts
       → IfSome new.node (λ q. IsRowOf (world_state w).typed i new.kept q.known) → IsOrdered (with_member w i new)
-  put_world new more own = record { keys = put_ordered (world_state w).typed w.members h.keys i m there new more own; due = h.due }
+  put_world new more own = record { keys = put_ordered _ w.members h.keys i m there new more own; due = h.due }
 
   -- the node is down
   pub fallen_world : (kept : Record) → m.kept.starts ≤ kept.starts → IsOrdered (world_after_fall w i m kept)
-  fallen_world kept more = put_world (record { kept = kept; console = m.console; node = None }) more tt
+  fallen_world kept more = put_world _ more tt
 
   -- what is submitted is due, also by these packets
   module _ (packets : List Packet) (o : Option Value) (asked : AreAsked o packets)
@@ -81,8 +81,7 @@ module _ (laws : Laws) {w : World} (sound : IsSound w) (h : IsOrdered w) (i : �
     sent_due : (v : Value) → IsSaid (messages_in w.group (w.sent ++ datagrams_of (me_of w i) packets)) (Submit v)
         → IsDue w.group.size (messages_in w.group (w.sent ++ datagrams_of (me_of w i) packets)) v
     sent_due v (j, among) =
-        let parts : messages_in w.group (w.sent ++ datagrams_of (me_of w i) packets) ≡ (world_state w).sent ++ more =
-        filter_map-append (message_of w.group) w.sent (datagrams_of (me_of w i) packets) in
+        let parts = filter_map-append (message_of w.group) w.sent (datagrams_of (me_of w i) packets) in
         let now : IsDue w.group.size (world_state w).sent v =
         elim (Contains-append_cases (world_state w).sent more _ (rw parts at among)) [
           | inl before ↦ h.due v (j, before)
@@ -98,13 +97,10 @@ module _ (laws : Laws) {w : World} (sound : IsSound w) (h : IsOrdered w) (i : �
       → m.kept.starts ≤ made.node.kept.starts → IsRowOf (world_state w).typed i made.node.kept made.node
       → IsOrdered (world_after_call w i made console progress [])
   called_world made console progress o asked after fits due more own = record {
-    keys =
-        rw (append-nil w.typed)
-        (put_ordered (world_state w).typed w.members h.keys i m there (member_after_call made console progress) more own);
+    keys = rw (append-nil w.typed) (put_ordered _ w.members h.keys i m there _ more own);
     due =
         sent_due made.sends o asked
-        (λ d among. All-contains (IsSpelling w.group) (w.sent ++ datagrams_of (me_of w i) made.sends) d after.spelled
-        (Contains-append_right w.sent (datagrams_of (me_of w i) made.sends) d among)) fits due;
+        (λ d among. All-contains (IsSpelling w.group) _ d after.spelled (Contains-append_right w.sent _ d among)) fits due;
   }
 
   -- ---- a start, in which no key was typed
@@ -112,12 +108,12 @@ module _ (laws : Laws) {w : World} (sound : IsSound w) (h : IsOrdered w) (i : �
       → IsSound (world_after_call w i (on_start (me_of w i) m.kept) console progress [])
       → IsOrdered (world_after_call w i (on_start (me_of w i) m.kept) console progress [])
   started_world console progress after =
-      called_world (on_start (me_of w i) m.kept) console progress None (none_asked None) after (λ u e. absurd (cc))
-      (λ u e. absurd (cc)) (omega arith) (record {
+      called_world (on_start (me_of w i) m.kept) console progress None (none_asked None) after (λ u e. absurd cc)
+      (λ u e. absurd cc) (omega arith) (record {
         start = refl;
         last = 0;
         next = refl;
-        row = fresh_row (world_state w).typed i (m.kept.starts + 1) (read_of (on_start (me_of w i) m.kept).node)
+        row = fresh_row _ i (m.kept.starts + 1) (read_of (on_start (me_of w i) m.kept).node)
             (λ k among e f. omega (arith, h.keys.past k m among (rw e there)));
       })
 
@@ -155,7 +151,7 @@ module _ (laws : Laws) {w : World} (sound : IsSound w) (h : IsOrdered w) {i : �
         start = refl;
         last = own.last;
         next = own.next ∙ sym goes.next;
-        row = subst (λ (s : ℕ). AreTypedKeys (world_state w).typed i s own.last (waiting_keys done.node) (read_of done.node))
+        row = subst (λ s. AreTypedKeys (world_state w).typed i s own.last (waiting_keys done.node) (read_of done.node))
             (sym goes.starts) (parted_row own.row (read_of done.node) (waiting_keys done.node)
             (read_more laws q.known.learner.learned done.node.learner.learned goes.learns) (goes.parted own.row.first));
       })
@@ -164,12 +160,12 @@ module _ (laws : Laws) {w : World} (sound : IsSound w) (h : IsOrdered w) {i : �
 
   batch_by : (bytes : List ℕ) → q.known.waiting ≡ bytes → (u : Value) → batch_of q.known bytes ≡ Some u
       → IsDue w.group.size (world_state w).sent u
-  batch_by [] e u at = absurd (cc)
+  batch_by [] e u at = absurd cc
   batch_by (byte ∷ bytes) e u at =
-      let n : Known = q.known in
+      let n = q.known in
       let is : own_batch n n.first (take 32 (byte ∷ bytes)) ≡ u = cc in
       subst (IsDue w.group.size (world_state w).sent) is
-      (first_due front own.row h.keys.once was_typed (record { node = n.me.node; start = n.kept.starts; serial = n.first; byte = byte })
+      (first_due front own.row h.keys.once was_typed _
       (keys_from n.me.node n.kept.starts (n.first + 1) bytes) (ap (keys_from n.me.node n.kept.starts n.first) e))
 
   pub batch_due : (u : Value) → batch_of q.known q.known.waiting ≡ Some u → IsDue w.group.size (world_state w).sent u
@@ -186,9 +182,9 @@ module _ (laws : Laws) {w : World} (sound : IsSound w) (h : IsOrdered w) {i : �
   pub pressed_world : (byte : ℕ) (console : List ℕ) (progress : Progress)
       → IsOrdered (world_after_call w i (on_typed q.known byte) console progress (new_key q.known byte ∷ []))
   pressed_world byte console progress =
-      let n : Known = q.known in
+      let n = q.known in
       let key : Key = record { node = n.me.node; start = n.kept.starts; serial = next_serial n; byte = byte } in
-      let new : Member = member_after_call (on_typed n byte) console progress in
+      let new = member_after_call (on_typed n byte) console progress in
       let row : IsRowOf ((world_state w).typed ++ key ∷ []) i n.kept (on_typed n byte).node = record {
         start = refl;
         last = own.last + 1;
@@ -197,9 +193,9 @@ module _ (laws : Laws) {w : World} (sound : IsSound w) (h : IsOrdered w) {i : �
       } in
       record {
         keys =
-            rw (flat_map-append keys_of w.typed (new_key n byte ∷ []))
+            rw (flat_map-append keys_of w.typed _)
             (typed_ordered (world_state w).typed w.members h.keys i m up.there new (omega (arith, own.start)) key node_is
             (omega (arith, own.start)) (new_name own.row key node_is refl (sym own.next)) row);
-        due = sent_due laws sound h i up.there [] None (none_asked None) (λ d among. absurd (none_in d among)) (λ u e. absurd (cc))
-            (λ u e. absurd (cc));
+        due = sent_due laws sound h i up.there [] None (none_asked None) (λ d among. absurd (none_in d among)) (λ u e. absurd cc)
+            (λ u e. absurd cc);
       }

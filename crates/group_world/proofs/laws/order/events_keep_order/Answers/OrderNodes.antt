@@ -1,28 +1,26 @@
--- What the calls of a node leave of its start, its serials, the keys that wait and what it has
--- learned, and which Submits they send.
-use Rattle.std.proofs.Common.{◌≡◌, ◌∙◌, ℕ, suc, ◌+◌, ◌≤◌, ◌&&◌, not, Bool, true, false, List, [], ◌∷◌, ◌++◌, length, Option, Some, None, Contains, if◌then◌else◌, refl, sym, ap, arith}
+-- The start of a node, its serials, the keys that wait and what it has learned, after its calls; and
+-- the Submits that they send.
+use Rattle.std.proofs.Common.{◌≡◌, ◌∙◌, ℕ, suc, ◌+◌, ◌≤◌, Bool, true, false, List, [], ◌∷◌, length, Option, Some, None, Contains, if◌then◌else◌, refl, sym, ap, arith}
 use Rattle.std.proofs.lemmas.List.{length-drop}
 use Rattle.paxos_msg.specs.declared.ballot.Ballot.{Ballot}
 use Rattle.paxos_msg.specs.declared.message.Body.TheVariants.{Accept, Accepted, Ask, Prepare, Promise, Refused, Submit, Tell}
 use Rattle.paxos_msg.specs.declared.record.Change.TheVariants as change
 use Rattle.paxos_msg.specs.declared.value.Value.{Value}
 use Rattle.paxos_msg.specs.Batches.{Body, Record, Vote}
-use Rattle.paxos_msg.specs.Keys.{Key, keys_from, keys_of}
-use Rattle.paxos_msg.specs.Tests.{same_ballot}
-use Rattle.paxos_acceptor.specs.Answers.{accept_of, accepted, after, Answer, prepare_of, prepared, voted}
-use Rattle.paxos_acceptor.specs.Cases.{greater_promise, is_promised, value_under}
-use Rattle.paxos_proposer.specs.Proposer.{proposer_after_part, asks_on, is_covered, next_of, Proposer}
+use Rattle.paxos_msg.specs.Keys.{Key, keys_from}
+use Rattle.paxos_acceptor.specs.Answers.{accepted, after, Answer, prepared, voted}
+use Rattle.paxos_acceptor.specs.Cases.{greater_promise}
+use Rattle.paxos_proposer.specs.Proposer.{proposer_after_part, asks_on, Proposer}
 use Rattle.paxos_learner.specs.Learner.{HasLearnedMore}
-use Rattle.paxos_learner.specs.Input.{front_values, has_key, keys_in_order}
-use Rattle.paxos_msg.specs.Messages.{kept_vote_at}
+use Rattle.paxos_learner.specs.Input.{front_values, keys_in_order}
 use Rattle.group_node.specs.declared.packet.To.{To}
 use Rattle.group_node.specs.Protocol.{on_message, row}
 use Rattle.group_node.specs.AcceptorRows.{answering}
 use Rattle.group_node.specs.Known.{Response, next_serial, Known, quiet, waiting_keys}
-use Rattle.group_node.specs.ProposerRows.{are_known, offer_after, offering, prepare_from, proposing_on, submitted, taking_part, on_campaign}
-use Rattle.group_node.specs.Tick.{accepts_again, asks, on_tick, batch_of, prepares_again, ticked}
+use Rattle.group_node.specs.ProposerRows.{offer_after, offering, prepare_from, proposing_on, submitted, taking_part, on_campaign}
+use Rattle.group_node.specs.Tick.{asks, on_tick, batch_of, ticked}
 use Rattle.group_node.specs.WaitingKeys.{count_read, count_gone, without_read}
-use Rattle.group_node.specs.Pump.{accepts_of, pump}
+use Rattle.group_node.specs.Pump.{pump}
 use Rattle.group_world.specs.Ordered.{IsFirstUnread}
 use Rattle.group_world.proofs.OrderPackets.{accepts_asked, again_asked, AreAsked, asks_asked, both_asked, IsAsked, none_asked, one_asked, prepare_asked, prepares_asked, tells_asked}
 use Rattle.group_world.proofs.laws.order.events_keep_order.Answers.Laws.{Laws}
@@ -70,7 +68,7 @@ promise_plain r b false = refl
 
 prepared_plain : (o : Option Ballot) (r : Record) (b : Ballot) (from : ℕ) → IsPlain r (prepared o r b from)
 prepared_plain (Some p) r b from = record { starts = refl; says = tt }
-prepared_plain None r b from = record { starts = promise_plain r b (is_promised r.promised b); says = tt }
+prepared_plain None r b from = record { starts = promise_plain r b _; says = tt }
 
 voted_plain : (o : Option Value) (r : Record) (b : Ballot) (s : ℕ) (v : Value) → IsPlain r (voted o b s v)
 voted_plain (Some w) r b s v = record { starts = refl; says = tt }
@@ -78,15 +76,15 @@ voted_plain None r b s v = record { starts = refl; says = tt }
 
 accepted_plain : (o : Option Ballot) (r : Record) (b : Ballot) (s : ℕ) (v : Value) → IsPlain r (accepted o r b s v)
 accepted_plain (Some p) r b s v = record { starts = refl; says = tt }
-accepted_plain None r b s v = voted_plain (value_under (kept_vote_at r.votes s) b) r b s v
+accepted_plain None r b s v = voted_plain _ r b s v
 
 answering_stays : (n : Known) (to : To) (answer : Answer) → IsPlain n.kept answer → Stays n None (answering n to answer)
 answering_stays n to answer h = record {
   starts = h.starts;
   next = refl;
-  waiting = ap (λ (start : ℕ). keys_from n.me.node start n.first n.waiting) h.starts;
+  waiting = ap (λ start. keys_from n.me.node start n.first n.waiting) h.starts;
   learns = same_learned n;
-  asked = one_asked None (record { to = to; body = answer.says }) h.says;
+  asked = one_asked None _ h.says;
 }
 
 -- ---- the calls that a proposer answers
@@ -100,15 +98,14 @@ promise_if n p j first upto b votes true = record {
   next = refl;
   waiting = refl;
   learns = same_learned n;
-  asked = both_asked None (prepare_from b j (asks_on p j first upto)) (accepts_of (pump 16 (proposer_after_part p j first upto votes)).made)
-      (prepare_asked None b j (asks_on p j first upto)) (accepts_asked None (pump 16 (proposer_after_part p j first upto votes)).made);
+  asked = both_asked None _ _ (prepare_asked None b j _) (accepts_asked None (pump 16 (proposer_after_part p j first upto votes)).made);
 }
 promise_if n p j first upto b votes false = quiet_stays n None
 
 promise_stays : (n : Known) (o : Option Proposer) (j first upto : ℕ) (b : Ballot) (votes : List Vote)
     → Stays n None (taking_part n o j b first upto votes)
 promise_stays n None j first upto b votes = quiet_stays n None
-promise_stays n (Some p) j first upto b votes = promise_if n p j first upto b votes (same_ballot p.ballot b)
+promise_stays n (Some p) j first upto b votes = promise_if n p j first upto b votes _
 
 submit_if : (n : Known) (p : Proposer) (v : Value) (t : Bool)
     → Stays n None (if t then offering n v (pump 16 p) (offer_after (pump 16 p) v) else quiet n)
@@ -117,24 +114,20 @@ submit_if n p v true = record {
   next = refl;
   waiting = refl;
   learns = same_learned n;
-  asked =
-      both_asked None (accepts_of (pump 16 p).made) (accepts_of (offer_after (pump 16 p) v).made)
-      (accepts_asked None (pump 16 p).made) (accepts_asked None (offer_after (pump 16 p) v).made);
+  asked = both_asked None _ _ (accepts_asked None _) (accepts_asked None (offer_after (pump 16 p) v).made);
 }
 submit_if n p v false = quiet_stays n None
 
 submit_stays : (n : Known) (o : Option Proposer) (v : Value) → Stays n None (submitted n o v)
 submit_stays n None v = quiet_stays n None
-submit_stays n (Some p) v = submit_if n p v (is_covered p (next_of p) && not (are_known n (keys_of v)))
+submit_stays n (Some p) v = submit_if n p v _
 
 -- ---- messages
 
 row_stays : Laws → (n : Known) (j : ℕ) (body : Body) → Stays n None (row n j body)
-row_stays laws n j (Prepare b from) =
-    answering_stays n _ (prepare_of n.kept b from) (prepared_plain (greater_promise n.kept.promised b) n.kept b from)
+row_stays laws n j (Prepare b from) = answering_stays n _ _ (prepared_plain (greater_promise _ b) n.kept b from)
 row_stays laws n j (Promise b first upto votes) = promise_stays n n.proposer j first upto b votes
-row_stays laws n j (Accept b s v) =
-    answering_stays n _ (accept_of n.kept b s v) (accepted_plain (greater_promise n.kept.promised b) n.kept b s v)
+row_stays laws n j (Accept b s v) = answering_stays n _ _ (accepted_plain (greater_promise _ b) n.kept b s v)
 row_stays laws n j (Accepted b s v) =
     record {
       starts = refl;
@@ -147,13 +140,7 @@ row_stays laws n j (Refused b promised) =
     record { starts = refl; next = refl; waiting = refl; learns = same_learned n; asked = none_asked None }
 row_stays laws n j (Submit v) = submit_stays n n.proposer v
 row_stays laws n j (Ask from) =
-    record {
-      starts = refl;
-      next = refl;
-      waiting = refl;
-      learns = same_learned n;
-      asked = tells_asked None n.learner.learned j _;
-    }
+    record { starts = refl; next = refl; waiting = refl; learns = same_learned n; asked = tells_asked None _ j _ }
 row_stays laws n j (Tell s v) =
     record { starts = refl; next = refl; waiting = refl; learns = laws.learned_stays.ensures.told n.learner s v; asked = none_asked None }
 
@@ -164,7 +151,7 @@ count_by read ks false h = omega arith
 
 count_few : (read keys : List Key) → count_read read keys ≤ length keys
 count_few read [] = omega arith
-count_few read (k ∷ ks) = count_by read ks (has_key read k) (count_few read ks)
+count_few read (k ∷ ks) = count_by read ks _ (count_few read ks)
 
 keys_many : (node start serial : ℕ) (bytes : List ℕ) → length (keys_from node start serial bytes) ≡ length bytes
 keys_many node start serial [] = refl
@@ -175,8 +162,7 @@ gone_next : (n : Known) → next_serial (without_read n) ≡ next_serial n
 gone_next n =
     omega (
       arith,
-      count_few (read_of n)
-          (waiting_keys n),
+      count_few (read_of n) (waiting_keys n),
       keys_many n.me.node n.kept.starts n.first n.waiting,
       length-drop (count_gone n) n.waiting,
     )
@@ -199,7 +185,7 @@ message_goes laws n j body =
             gone = parts.0;
             parts = sym stays.waiting ∙ parts.1;
             below = parts.2;
-            first = first_by (read_of at) (waiting_keys (without_read at)) (laws.waiting_keys_are_a_row.ensures.first at);
+            first = first_by _ _ (laws.waiting_keys_are_a_row.ensures.first at);
           };
       asked = stays.asked;
     }
@@ -218,10 +204,10 @@ ticked_goes n (Some p) = record {
   learns = same_learned n;
   parted = still_parted n;
   asked =
-      let o : Option Value = batch_of n n.waiting in
-      both_asked o (prepares_again p ++ accepts_again n.learner.learned p) (accepts_of (pump 16 p).made ++ asks n)
-      (both_asked o (prepares_again p) (accepts_again n.learner.learned p) (prepares_asked o p) (again_asked o n.learner.learned p))
-      (both_asked o (accepts_of (pump 16 p).made) (asks n) (accepts_asked o (pump 16 p).made) (asks_asked n));
+      let o = batch_of n n.waiting in
+      both_asked o _ _
+      (both_asked o _ _ (prepares_asked o p) (again_asked o _ p))
+      (both_asked o _ (asks n) (accepts_asked o (pump 16 p).made) (asks_asked n));
 }
 
 pub tick_goes : (n : Known) → Goes n (batch_of n n.waiting) (on_tick n)

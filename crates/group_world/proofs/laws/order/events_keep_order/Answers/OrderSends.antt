@@ -2,7 +2,7 @@
 use Rattle.std.proofs.Common.{◌≡◌, ◌∙◌, ℕ, List, [], ◌∷◌, get_or, Option, Some, None, refl, sym, ap, subst, inl, inr, arith}
 use Rattle.std.proofs.lemmas.List.Elements.{All-contains}
 use Rattle.std.specs.List.{Contains, cons_option, filter_map}
-use Rattle.paxos_msg.specs.declared.message.Body.TheVariants.{Accept, Accepted, Ask, Prepare, Promise, Refused, Submit, Tell}
+use Rattle.paxos_msg.specs.declared.message.Body.TheVariants.{Submit}
 use Rattle.paxos_msg.specs.declared.message.Group.{Group}
 use Rattle.paxos_msg.specs.declared.value.Value.{Value}
 use Rattle.paxos_msg.specs.Batches.{Body, Msg}
@@ -37,20 +37,14 @@ of_filter_map f (x ∷ xs) y h = of_cons f x xs y (f x) refl (of_filter_map f xs
 
 -- by the kind of the body
 kind_asked : (o : Option Value) (body : Body) → IsAsked o body → kind_of body ≡ 6 → (u : Value) × (o ≡ Some u) × (body ≡ Submit u)
-kind_asked o (Prepare b from) h e = absurd (omega arith)
-kind_asked o (Promise b first upto votes) h e = absurd (omega arith)
-kind_asked o (Accept b s v) h e = absurd (omega arith)
-kind_asked o (Accepted b s v) h e = absurd (omega arith)
-kind_asked o (Refused b promised) h e = absurd (omega arith)
 kind_asked o (Submit v) h e = (v, h, refl)
-kind_asked o (Ask from) h e = absurd (omega arith)
-kind_asked o (Tell s v) h e = absurd (omega arith)
+kind_asked o other h e = absurd (omega arith)
 
 -- a packet whose spelling is that of a Submit is one
 spelled_asked : (group : Group) (i j : ℕ) (o : Option Value) (body : Body) (v : Value) → IsAsked o body
     → spelling group (record { sender = i; body = body }) ≡ spelling group (record { sender = j; body = Submit v })
     → (u : Value) × (o ≡ Some u) × (body ≡ Submit u)
-spelled_asked group i j o body v h e = kind_asked o body h (ap (λ (l : List ℕ). get_or l 3 0) e)
+spelled_asked group i j o body v h e = kind_asked o body h (ap (λ l. get_or l 3 0) e)
 
 module _ (laws : Laws) (me : Me) (packets : List Packet) (o : Option Value) (session : IsGroup me.group) (asked : AreAsked o packets)
     (spelled : (d : Datagram) → Contains (datagrams_of me packets) d → IsSpelling me.group d)
@@ -59,25 +53,22 @@ module _ (laws : Laws) (me : Me) (packets : List Packet) (o : Option Value) (ses
   submit_at : (d : Datagram) → Contains (datagrams_of me packets) d → (j : ℕ) (v : Value)
       → message_of me.group d ≡ Some (record { sender = j; body = Submit v }) → o ≡ Some v
   submit_at d among j v read =
-      let group : Group = me.group in
+      let group = me.group in
       let told : Msg = record { sender = j; body = Submit v } in
       let from = of_map (datagram_of me) packets d among in
-      let packet : Packet = from.0 in
-      let bytes : d.bytes ≡ spelling group (record { sender = me.node; body = packet.body }) =
-      ap (λ (x : Datagram). x.bytes) (sym from.2) in
-      let one : IsSpelling group d = spelled d among in
-      let is : one.message ≡ told = opened (sym one.read ∙ read) in
-      let theirs : Msgs group d.bytes told = subst (Msgs group d.bytes) is one.spells in
-      let of_packet : IsAsked o packet.body = All-contains (λ (p : Packet). IsAsked o p.body) packets packet asked from.1 in
+      let packet = from.0 in
+      let bytes = ap (λ (x : Datagram). x.bytes) (sym from.2) in
+      let one = spelled d among in
+      let is = opened (sym one.read ∙ read) in
+      let theirs = subst (Msgs group d.bytes) is one.spells in
+      let of_packet = All-contains (λ (p : Packet). IsAsked o p.body) packets packet asked from.1 in
       let made = spelled_asked group me.node j o packet.body v of_packet (sym bytes ∙ theirs.spelled) in
       let mine : Msgs group d.bytes (record { sender = me.node; body = Submit made.0 }) = record {
         fits = fits made.0 made.1;
-        spelled = bytes ∙ ap (λ (b : Body). spelling group (record { sender = me.node; body = b })) made.2;
+        spelled = bytes ∙ ap (λ b. spelling group (record { sender = me.node; body = b })) made.2;
       } in
-      let same : made.0 ≡ v =
-      submitted (ap (λ (x : Msg). x.body)
-      (laws.one_message.ensures.one group d.bytes (record { sender = me.node; body = Submit made.0 }) told session mine theirs)) in
-      made.1 ∙ ap (λ (u : Value). Some u) same
+      let same = submitted (ap (λ (x : Msg). x.body) (laws.one_message.ensures.one group d.bytes _ told session mine theirs)) in
+      made.1 ∙ ap (λ u. Some u) same
     where
       opened : {a b : Msg} → Some a ≡ Some b → a ≡ b
       opened e = cc
@@ -88,5 +79,5 @@ module _ (laws : Laws) (me : Me) (packets : List Packet) (o : Option Value) (ses
   -- what is submitted by the call
   pub submit_found : (v : Value) → IsSaid (messages_in me.group (datagrams_of me packets)) (Submit v) → o ≡ Some v
   submit_found v (j, among) =
-      let found = of_filter_map (message_of me.group) (datagrams_of me packets) (record { sender = j; body = Submit v }) among in
+      let found = of_filter_map (message_of me.group) _ _ among in
       submit_at found.0 found.1 j v found.2

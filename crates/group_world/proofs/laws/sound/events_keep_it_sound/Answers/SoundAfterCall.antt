@@ -3,14 +3,13 @@ use Rattle.std.proofs.Common.{◌≡◌, ◌∙◌, ℕ, ◌-◌, ◌≤◌, ◌
 use Rattle.std.proofs.lemmas.Grind.{flat_map-append}
 use Rattle.std.proofs.lemmas.List.{length-set}
 use Rattle.std.proofs.lemmas.List.Elements.{All-append, Contains-append_left}
-use Rattle.std.specs.FinMap.{FinMap, get}
+use Rattle.std.specs.FinMap.{FinMap}
 use Rattle.std.specs.Ordering.{nat_cmp}
 use Rattle.paxos_msg.specs.declared.value.Value.{Value}
 use Rattle.paxos_msg.specs.Batches.{Grew, Sent}
 use Rattle.paxos_msg.specs.Keys.{Key, keys_of}
 use Rattle.group_node.specs.Known.{Response}
 use Rattle.group_node.specs.Output.{IsReplay, Progress}
-use Rattle.group_node.specs.Packets.{bodies_of, datagrams_of}
 use Rattle.group_node.specs.Ranges.{AllFit, IsInRange}
 use Rattle.group_node.specs.States.{input}
 use Rattle.group_node.specs.Steps.{messages_handed_out, IsLawful}
@@ -57,15 +56,15 @@ module _ (laws : Laws) {w : World} (h : IsSound w) (i : ℕ) {m : Member} (there
       own_sound = record {
         ranges = may.ranges.kept;
         backed = may.lawful.backs.kept;
-        shown = shown_then laws (messages_handed_out i made.sends) (h.members i m there).shown;
+        shown = shown_then laws _ (h.members i m there).shown;
         running = record {
           me_is = refl;
           kept_is = refl;
           ranges = may.ranges;
           backs = may.lawful.backs;
           learned = record {
-            chosen = λ s v e. laws.sent_only_grows.ensures.chosen w.group.size s (world_state w).sent (messages_handed_out i made.sends) v
-                (laws.lawful_calls_go_on.ensures.learned (world_state w).sent more_typed m.kept may.before made h.told
+            chosen = λ s v e. laws.sent_only_grows.ensures.chosen w.group.size s _ _ v
+                (laws.lawful_calls_go_on.ensures.learned _ more_typed m.kept may.before made h.told
                 may.ranges may.lawful s v e);
           };
           program = may.program;
@@ -77,9 +76,9 @@ module _ (laws : Laws) {w : World} (h : IsSound w) (i : ℕ) {m : Member} (there
       member_sound : (j : ℕ) (x : Member) → member_at after_it.members j ≡ Some x
           → IsMemberSound w.program (me_of w j) more_sent more_typed x
       member_sound =
-          each_changed w.members i m new there (λ j x. IsMemberSound w.program (me_of w j) more_sent more_typed x) own_sound
-          (λ j x ne old. member_then laws w.program (me_of w j) (world_state w).sent (world_state w).typed (flat_map keys_of keys)
-          more_typed i (get made.node.learner.learned) made.node.kept (bodies_of made.sends) (λ f. ne (sym f)) may.lawful.sends x
+          each_changed w.members i m new there _ own_sound
+          (λ j x ne old. member_then laws w.program _ _ _ _
+          more_typed i _ _ _ (λ f. ne (sym f)) may.lawful.sends x
           (h.members j x old))
 
       sent_is : (world_state after_it).sent ≡ more_sent
@@ -87,10 +86,9 @@ module _ (laws : Laws) {w : World} (h : IsSound w) (i : ℕ) {m : Member} (there
 
       grew : Grew w.group.size more_sent (λ j. ((world_state after_it).seats j).kept)
       grew =
-          laws.lawful_calls_go_on.ensures.grew (world_state w).sent more_typed (λ j. ((world_state w).seats j).kept)
+          laws.lawful_calls_go_on.ensures.grew _ more_typed (λ j. ((world_state w).seats j).kept)
           (λ j. ((world_state after_it).seats j).kept) may.before made h.grew (rw there may.lawful)
-          (rw (changed_here w.members i m new there) refl)
-          (λ j ne. rw (changed_elsewhere w.members i j m new there ne) refl)
+          (rw (changed_here w.members i m new there) refl) (λ j ne. rw (changed_elsewhere w.members i j m new there ne) refl)
 
       made_sound : IsSound after_it
       made_sound = record {
@@ -98,15 +96,13 @@ module _ (laws : Laws) {w : World} (h : IsSound w) (i : ℕ) {m : Member} (there
         session = h.session;
         places = length-set w.members (i - 1) new ∙ h.places;
         spelled =
-            All-append (IsSpelling w.group) w.sent (datagrams_of (me_of w i) made.sends) h.spelled
-            (packets_read laws.spelling_is_read.ensures.read (me_of w i) h.session (is_node i h there) made.sends may.fits);
+            All-append (IsSpelling w.group) w.sent _ h.spelled
+            (packets_read laws.spelling_is_read.ensures.read _ h.session (is_node i h there) made.sends may.fits);
         grew = rw sent_is grew;
-        told =
-            rw sent_is
-            (laws.lawful_calls_go_on.ensures.told (world_state w).sent more_typed m.kept may.before made h.told may.ranges may.lawful);
+        told = rw sent_is (laws.lawful_calls_go_on.ensures.told _ more_typed m.kept may.before made h.told may.ranges may.lawful);
         submitted =
             rw (sent_is, flat_map-append keys_of w.typed keys)
-            (laws.lawful_calls_go_on.ensures.submitted (world_state w).sent more_typed m.kept may.before made (λ j v is_sent.
+            (laws.lawful_calls_go_on.ensures.submitted _ more_typed m.kept may.before made (λ j v is_sent.
             let known = h.submitted j v is_sent in
             record { own = known.own; known = λ key among. Contains-append_left _ _ key (known.known key among) }) may.lawful);
         members = λ j x e. rw (sent_is, flat_map-append keys_of w.typed keys) (member_sound j x e);
@@ -116,5 +112,4 @@ module _ (laws : Laws) {w : World} (h : IsSound w) (i : ℕ) {m : Member} (there
   pub call_sound : (made : Response) → MayMake w i m made progress keys → IsSound (world_after_call w i made m.console progress keys)
   call_sound raw may =
       let same : made raw ≡ raw = λ t. record raw { node = record raw.node { me = sym may.me_is t } } in
-      subst (λ (x : Response). MayMake w i m x progress keys → IsSound (world_after_call w i x m.console progress keys)) same
-      (made_sound raw) may
+      subst (λ x. MayMake w i m x progress keys → IsSound (world_after_call w i x m.console progress keys)) same (made_sound raw) may

@@ -28,8 +28,7 @@ module _ (laws : Laws) {w : World} (h : IsSound w) (i : ℕ) {m : Member} (there
     grew =
         laws.restarts.ensures w.group.size i (world_state w).sent (λ j. ((world_state w).seats j).kept)
         (λ j. ((world_state (with_member w i new)).seats j).kept) failed h.grew (rw there may)
-        (rw (there, changed_here w.members i m new there) stored)
-        (λ j ne. rw (changed_elsewhere w.members i j m new there ne) refl);
+        (rw (there, changed_here w.members i m new there) stored) (λ j ne. rw (changed_elsewhere w.members i j m new there ne) refl);
     told = h.told;
     submitted = h.submitted;
     members = each_changed w.members i m new there (SoundAt w) own (λ j x ne e. h.members j x e);
@@ -60,7 +59,7 @@ module _ (laws : Laws) {w : World} (h : IsSound w) (i : ℕ) {m : Member} (there
       (record {
         ranges = rw may.me_is at may.ranges.kept;
         backed = rw may.me_is at
-            (laws.lawful_calls_go_on.ensures.saved (world_state w).sent _ m.kept made.node.kept may.before made
+            (laws.lawful_calls_go_on.ensures.saved _ _ m.kept made.node.kept may.before made
             (rw may.me_is own.backed) may.lawful (inr refl));
         shown = own.shown;
         running = tt;

@@ -8,8 +8,8 @@ use Rattle.group_world.specs.declared.event.Act.{Act}
 use Rattle.group_world.specs.declared.event.Act.TheVariants.{Press, Deliver, Campaign, Tick, Run, Release, Crash, Start}
 use Rattle.group_world.specs.declared.event.Done.{Done}
 use Rattle.group_world.specs.Event.{Leaves, LeavesBy, Performs}
-use Rattle.group_world.specs.Group.{me_of, member_at, World}
-use Rattle.group_world.specs.Member.{NodeCall, call_of_campaign, failing, Makes, Member, call_of_press, Refuses, save_outcome, call_of_start}
+use Rattle.group_world.specs.Group.{member_at, World}
+use Rattle.group_world.specs.Member.{NodeCall, failing, Makes, Member, Refuses, save_outcome}
 use Rattle.group_world.specs.Sound.{IsSound}
 use Rattle.group_world.proofs.laws.sound.events_keep_it_sound.Answers.Laws.{Laws}
 use Rattle.group_world.proofs.laws.sound.events_keep_it_sound.Answers.LawfulCalls.{campaign_by, may_make, message_allowed, press_by, start_by, tick_allowed}
@@ -40,17 +40,17 @@ module _ (laws : Laws) {w : World} (h : IsSound w) (i : ℕ) {m : Member} (there
   -- the world after a call is sound
   leaves_sound : (call : NodeCall) → MayCall w i m progress call → Leaves w i m progress plan call d v → IsSound v
   leaves_sound (Refuses f) may (answer, same) = rw same h
-  leaves_sound (Makes made keys) may leaves = saves_sound made keys (failing made.saves plan) refl may leaves
+  leaves_sound (Makes made keys) may leaves = saves_sound made keys _ refl may leaves
 
 -- each event keeps the world sound
 pub acts_sound : Laws → (w v : World) (plan : Option Bool) (act : Act) (d : Done) → IsSound w → Performs w plan act d v → IsSound v
 acts_sound laws w v plan (Press i byte) d h (m, q, up, low, leaves) =
-    leaves_sound laws h i up.there q.progress plan (call_of_press q.known byte)
+    leaves_sound laws h i up.there q.progress plan _
     (press_by laws h up (MayCall w i m q.progress) (λ f. tt) byte low (may_make laws h up _ (new_key q.known byte ∷ []))) leaves
 acts_sound laws w v plan (Deliver k i) d h (m, q, message, up, e, leaves) =
     leaves_sound laws h i up.there q.progress plan (Makes _ []) (may_make laws h up _ [] (message_allowed laws h up k message e)) leaves
 acts_sound laws w v plan (Campaign i) d h (m, q, up, leaves) =
-    leaves_sound laws h i up.there q.progress plan (call_of_campaign q.known)
+    leaves_sound laws h i up.there q.progress plan _
     (campaign_by laws h up (MayCall w i m q.progress) (λ f. tt) (may_make laws h up _ [])) leaves
 acts_sound laws w v plan (Tick i) d h (m, q, up, leaves) =
     leaves_sound laws h i up.there q.progress plan (Makes _ []) (may_make laws h up _ [] (tick_allowed laws h up)) leaves
@@ -60,5 +60,5 @@ acts_sound laws w v plan (Run i most) d h (m, q, progress, ran, up, runs, replay
 acts_sound laws w v plan (Release i) d h (m, q, up, answer, leaves) = rw leaves (release_sound laws h up)
 acts_sound laws w v plan (Crash i) d h (m, q, up, answer, leaves) = rw leaves (crash_sound laws h i up.there)
 acts_sound laws w v plan (Start i) d h (m, down, leaves) =
-    leaves_sound laws h i down.there (no_progress w.program) plan (call_of_start (me_of w i) m.kept)
+    leaves_sound laws h i down.there _ plan _
     (start_by laws h i down (MayCall w i m (no_progress w.program)) (λ f. tt) (λ may. may)) leaves

@@ -71,7 +71,7 @@ module _ (laws : Laws) {w : World} (h : IsSound w) {i : ℕ} {m : Member} {q : R
           output = (q.progress.steps, rw sound.program at begins);
         }
       ] in
-      played_sound (record q.progress { released = q.progress.released + 1 }) (offered m.console q.progress.released byte) refl (record {
+      played_sound (record q.progress { released = q.progress.released + 1 }) _ refl (record {
         made = sound.replay.made;
         released = omega (arith, slice_get_within (written q) q.progress.released byte e);
         few = omega (

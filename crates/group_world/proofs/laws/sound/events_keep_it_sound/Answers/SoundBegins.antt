@@ -10,8 +10,8 @@ use Rattle.paxos_msg.specs.Grammar.{IsGroup}
 use Rattle.paxos_msg.specs.Messages.{IsSent}
 use Rattle.paxos_msg.specs.Records.{empty_record}
 use Rattle.group_node.specs.States.{IsSize}
-use Rattle.group_world.specs.Sound.{IsSound, IsSpelling}
-use Rattle.group_world.specs.Group.{member_at, new_world, seat_of_member, world_state}
+use Rattle.group_world.specs.Sound.{IsSound}
+use Rattle.group_world.specs.Group.{new_world, seat_of_member, world_state}
 use Rattle.group_world.specs.Member.{Member}
 use Rattle.group_world.proofs.laws.sound.events_keep_it_sound.Answers.Laws.{Laws}
 use Rattle.group_world.proofs.WorldAsGroup.{SoundAt, first_node}
@@ -32,7 +32,7 @@ module _ (laws : Laws) (p : Parts) (group : Group) where
     shown =
         record {
           values = [];
-          chosen = record { chosen = λ s v e. absurd (cc) };
+          chosen = record { chosen = λ s v e. absurd cc };
           output = (0, record { rest = out p _ 0; whole = refl });
         };
     running = tt;
@@ -47,11 +47,11 @@ module _ (laws : Laws) (p : Parts) (group : Group) where
   begun_sound size session = record {
     size = size;
     session = session;
-    places = length-replicate group.size (record { kept = empty_record; console = []; node = None });
-    spelled = All-nil (IsSpelling group);
+    places = length-replicate group.size _;
+    spelled = All-nil _;
     grew =
         laws.growth.ensures.begins group.size (λ i. ((world_state (new_world p group)).seats i).kept)
-        (λ i. no_record (member_at (new_world p group).members i) (first_node p group i));
+        (λ i. no_record _ (first_node p group i));
     told = λ s v said. absurd (nothing_sent said.1);
     submitted = λ i v said. absurd (nothing_sent said);
     members = λ i m there. subst (SoundAt (new_world p group) i) (first_node p group i m there) (first_sound i);

@@ -7,7 +7,7 @@ use Rattle.paxos_msg.specs.Batches.{Body, MaySend, MaySendAll, Msg, Record, Sent
 use Rattle.paxos_msg.specs.Keys.{Key}
 use Rattle.paxos_msg.specs.Messages.{messages_of}
 use Rattle.paxos_acceptor.specs.declared.me.Me.{Me}
-use Rattle.group_node.specs.Backs.{Backs, IsRecordBacked}
+use Rattle.group_node.specs.Backs.{Backs}
 use Rattle.group_world.specs.Sound.{IsMemberSound, IsRunningSound, IsShown}
 use Rattle.group_world.specs.Member.{Member, Running}
 use Rattle.group_world.proofs.laws.sound.events_keep_it_sound.Answers.Laws.{Laws}
@@ -30,7 +30,7 @@ sent_then P size known learned j r step [] sent may h = subst P (sym (append-nil
 sent_then P size known learned j r step (body ∷ more) sent may h =
     let message : Msg = record { sender = j; body = body } in
     subst P (append_assoc sent (message ∷ []) (messages_of j more))
-    (sent_then P size known learned j r step more (sent ++ message ∷ []) may.1 (step sent body may.0 h))
+    (sent_then P size known learned j r step more _ may.1 (step sent body may.0 h))
 
 module _ (laws : Laws) (p : Parts) (me : Me) (sent : Sent) (typed keys known : List Key) (j : ℕ) (learned : ℕ → Option Value)
     (r : Record) (bodies : List Body) (ne : j ≢ me.node) (may : MaySendAll me.group.size known learned sent j r bodies) where
@@ -42,12 +42,12 @@ module _ (laws : Laws) (p : Parts) (me : Me) (sent : Sent) (typed keys known : L
     kept_is = h.kept_is;
     ranges = h.ranges;
     backs =
-        laws.others_keep_it_backed.ensures.types (sent ++ messages_of j bodies) typed keys q.known
+        laws.others_keep_it_backed.ensures.types _ typed keys q.known
         (sent_then (λ all. Backs all typed q.known) me.group.size known learned j r
         (λ all body. laws.others_keep_it_backed.ensures.sends all typed known q.known me.group.size j learned r body (rw h.me_is ne))
         bodies sent may h.backs);
     learned = record {
-      chosen = λ s v e. laws.sent_only_grows.ensures.chosen me.group.size s sent (messages_of j bodies) v (h.learned.chosen s v e);
+      chosen = λ s v e. laws.sent_only_grows.ensures.chosen me.group.size s sent _ v (h.learned.chosen s v e);
     };
     program = h.program;
     replay = h.replay;
@@ -59,9 +59,9 @@ module _ (laws : Laws) (p : Parts) (me : Me) (sent : Sent) (typed keys known : L
   member_then m h = record {
     ranges = h.ranges;
     backed =
-        sent_then (λ all. IsRecordBacked all me.node m.kept) me.group.size known learned j r
+        sent_then _ me.group.size known learned j r
         (λ all body. laws.others_keep_it_backed.ensures.sends_record all known me.node me.group.size j learned m.kept r body ne)
         bodies sent may h.backed;
-    shown = shown_then laws (messages_of j bodies) h.shown;
+    shown = shown_then laws _ h.shown;
     running = IfSome_then m.node h.running (running_then m.kept m.console);
   }

@@ -1,16 +1,15 @@
 -- Each kind of event of a world is that event of its group.
-use Rattle.std.proofs.Common.{◌≡◌, ◌∙◌, ℕ, ◌+◌, ◌-◌, ◌<◌, ◌≤◌, Bool, true, false, if◌then◌else◌, List, [], ◌∷◌, slice_get, Option, None, Some, inl, inr, refl, sym, ap, subst, append-nil, arith}
+use Rattle.std.proofs.Common.{◌≡◌, ◌∙◌, ℕ, ◌+◌, ◌-◌, ◌<◌, ◌≤◌, Bool, true, false, if◌then◌else◌, List, [], slice_get, Option, None, Some, inl, inr, refl, sym, ap, subst, append-nil, arith}
 use Rattle.pcode_file.specs.Parts.{Parts}
-use Rattle.pcode_machine.specs.Configuration.{Configuration}
 use Rattle.pcode_machine.specs.Runs.{LeadsIn, after_steps, begin, out}
-use Rattle.paxos_msg.specs.Batches.{Msg, Record}
+use Rattle.paxos_msg.specs.Batches.{Msg}
 use Rattle.paxos_msg.specs.declared.record.Change.TheVariants as change
 use Rattle.paxos_msg.specs.Records.{changed}
 use Rattle.paxos_acceptor.specs.Stores.{IsOneOf}
 use Rattle.paxos_proposer.specs.Proposer.{Proposer}
 use Rattle.group_node.specs.declared.player.Ran.{Ran}
 use Rattle.group_node.specs.Protocol.{on_message}
-use Rattle.group_node.specs.Known.{Response, Known, on_typed, new_key, on_start, waiting_keys}
+use Rattle.group_node.specs.Known.{Known, on_start, waiting_keys}
 use Rattle.group_node.specs.ProposerRows.{on_campaign}
 use Rattle.group_node.specs.Tick.{on_tick, ticked}
 use Rattle.group_node.specs.Output.{IsReplay, Progress, RunsOn, no_progress}
@@ -45,8 +44,8 @@ module _ (laws : Laws) {w : World} (h : IsSound w) {i : ℕ} {m : Member} {q : R
   press_steps byte low =
       press_by laws h up (StepsCall w (Press i byte) i m q.progress) (λ f. tt) byte low (λ allowed.
       let sound = running h up in (
-        call_step laws h up (λ j. group.Press j byte) (on_typed q.known byte) (new_key q.known byte ∷ []) allowed
-            (laws.calls_are_events.ensures.press s q.known byte q.progress.released (configuration laws h up) m.console (sits laws h up)
+        call_step laws h up (λ j. group.Press j byte) _ _ allowed
+            (laws.calls_are_events.ensures.press s q.known byte _ (configuration laws h up) m.console (sits laws h up)
             sound.ranges sound.backs),
         λ is_kept saves. absurd (saves refl),
       ))
@@ -55,19 +54,19 @@ module _ (laws : Laws) {w : World} (h : IsSound w) {i : ℕ} {m : Member} {q : R
   campaign_steps =
       campaign_by laws h up (StepsCall w (Campaign i) i m q.progress) (λ f. tt) (λ allowed.
       let sound = running h up in (
-        call_step laws h up group.Campaign (on_campaign q.known) [] allowed
-            (laws.calls_are_events.ensures.campaign s q.known q.progress.released (configuration laws h up) m.console (sits laws h up)
+        call_step laws h up group.Campaign _ [] allowed
+            (laws.calls_are_events.ensures.campaign s q.known _ (configuration laws h up) m.console (sits laws h up)
             sound.ranges sound.backs),
         λ is_kept saves. fall_step laws h up group.Campaign (on_campaign q.known) is_kept (λ left one.
-            laws.calls_are_events.ensures.falls_campaign s q.known q.progress.released left (configuration laws h up) m.console
+            laws.calls_are_events.ensures.falls_campaign s q.known _ left (configuration laws h up) m.console
             (sits laws h up) sound.ranges sound.backs one),
       ))
 
   tick_steps : StepsCall w (Tick i) i m q.progress (Makes (on_tick q.known) [])
   tick_steps =
       let sound = running h up in (
-        call_step laws h up group.Tick (on_tick q.known) [] (tick_allowed laws h up)
-            (laws.calls_are_events.ensures.tick s q.known q.progress.released (configuration laws h up) m.console (sits laws h up)
+        call_step laws h up group.Tick _ [] (tick_allowed laws h up)
+            (laws.calls_are_events.ensures.tick s q.known _ (configuration laws h up) m.console (sits laws h up)
             sound.ranges sound.backs),
         λ is_kept saves. absurd (saves (tick_saves q.known)),
       )
@@ -77,11 +76,11 @@ module _ (laws : Laws) {w : World} (h : IsSound w) {i : ℕ} {m : Member} {q : R
   deliver_steps k message e =
       let sound = running h up in
       let heard = heard_fits laws h up k message e in (
-        call_step laws h up (group.Deliver k) (on_message q.known message.sender message.body) [] (message_allowed laws h up k message e)
-            (laws.calls_are_events.ensures.deliver s q.known k message.sender q.progress.released message.body
+        call_step laws h up (group.Deliver k) _ [] (message_allowed laws h up k message e)
+            (laws.calls_are_events.ensures.deliver s q.known k _ _ message.body
             (configuration laws h up) m.console (sits laws h up) sound.ranges sound.backs heard e),
-        λ is_kept saves. fall_step laws h up (group.Deliver k) (on_message q.known message.sender message.body) is_kept (λ left one.
-            laws.calls_are_events.ensures.falls_delivered s q.known k message.sender q.progress.released message.body left
+        λ is_kept saves. fall_step laws h up (group.Deliver k) (on_message q.known _ message.body) is_kept (λ left one.
+            laws.calls_are_events.ensures.falls_delivered s q.known k _ _ message.body left
             (configuration laws h up) m.console (sits laws h up) sound.ranges sound.backs heard e saves one),
       )
 
@@ -125,18 +124,18 @@ module _ (laws : Laws) {w : World} (h : IsSound w) {i : ℕ} {m : Member} {q : R
       → WorldStep s (group.Run i most) (world_state (with_member w i (at_progress m q progress)))
   run_steps most progress ran runs replay =
       let sound = running h up in
-      let x : List ℕ = input q.known in
-      let more : ℕ = progress.steps - q.progress.steps in
+      let x = input q.known in
+      let more = progress.steps - q.progress.steps in
       let count : progress.steps ≡ q.progress.steps + more = omega (arith, runs.more) in
-      let program : progress.program ≡ w.program = ap (λ (y : Progress). y.program) runs.rest ∙ sound.program in
+      let program = ap (λ (y : Progress). y.program) runs.rest ∙ sound.program in
       let few : more ≤ most = omega (arith, laws.output_is_an_event.ensures.few x most q.progress progress ran runs) in
-      let seated = subst (λ (p : Parts). Sits s q.known (after_steps p x q.progress.steps) q.progress.released m.console) sound.program
+      let seated = subst (λ p. Sits s q.known (after_steps p x q.progress.steps) q.progress.released m.console) sound.program
       (sits laws h up) in
-      let leads = subst (λ (p : Parts). LeadsIn p x (q.progress.steps + more) (after_steps p x (q.progress.steps + more))) program
-      (subst (λ (n : ℕ). LeadsIn progress.program x n (after_steps progress.program x n)) count replay.made) in
+      let leads = subst (λ p. LeadsIn p x (q.progress.steps + more) (after_steps p x (q.progress.steps + more))) program
+      (subst (λ n. LeadsIn progress.program x n (after_steps progress.program x n)) count replay.made) in
       let step = at_number laws h up (λ j. WorldStep s (group.Run j most) (with_seat s j (group.seat_of q.known
       (after_steps w.program x (q.progress.steps + more)) q.progress.released m.console)))
-      (laws.output_is_an_event.ensures.run s q.known most q.progress.steps more q.progress.released m.console seated few leads) in
+      (laws.output_is_an_event.ensures.run s q.known most _ more _ m.console seated few leads) in
       let seat : seat_of_member (Some (at_progress m q progress))
       ≡ group.seat_of q.known (after_steps w.program x (q.progress.steps + more)) q.progress.released m.console =
       λ t. record {
@@ -150,8 +149,7 @@ module _ (laws : Laws) {w : World} (h : IsSound w) {i : ℕ} {m : Member} {q : R
               waiting = waiting_keys q.known;
             });
       } in
-      subst (WorldStep s (group.Run i most))
-      (sym (member_state w i m (at_progress m q progress) up.there ∙ ap (with_seat s i) seat)) step
+      subst (WorldStep s (group.Run i most)) (sym (member_state w i m (at_progress m q progress) up.there ∙ ap (with_seat s i) seat)) step
 
 -- a start
 module _ (laws : Laws) {w : World} (h : IsSound w) (i : ℕ) {m : Member} (down : IsDown w i m) where
@@ -161,40 +159,39 @@ module _ (laws : Laws) {w : World} (h : IsSound w) (i : ℕ) {m : Member} (down 
   first_configuration p x = refl
 
   start_one : (is_kept : Bool)
-      → IsOneOf (if is_kept then (on_start (me_of w i) m.kept).node.kept else m.kept) m.kept
-      (changed m.kept change.Start)
+      → IsOneOf (if is_kept then (on_start (me_of w i) m.kept).node.kept else m.kept) m.kept (changed m.kept change.Start)
   start_one true = inr refl
   start_one false = inl refl
 
   start_steps : StepsCall w (Start i) i m (no_progress w.program) (call_of_start (me_of w i) m.kept)
   start_steps =
       start_by laws h i down (StepsCall w (Start i) i m (no_progress w.program)) (λ f. tt) (λ may.
-      let made : Response = on_start (me_of w i) m.kept in
+      let made = on_start _ m.kept in
       let seated : (world_state w).seats i ≡ record { kept = m.kept; console = m.console; up = None } = rw (down.there, down.down) refl in
       let state =
-      called_state laws.spelling_is_read.ensures.read w i m made (no_progress w.program) [] down.there h.session
+      called_state laws.spelling_is_read.ensures.read w i m made _ [] down.there h.session
       (is_node i h down.there) may.fits
-      ∙ ap (λ (c : Configuration). after_call (world_state w) i made [] c 0 m.console)
-      (first_configuration w.program (input made.node)) in (
+      ∙ ap (λ c. after_call (world_state w) i made [] c 0 m.console)
+      (first_configuration w.program _) in (
         subst (WorldStep (world_state w) (group.Start i)) (sym state)
-            (laws.calls_are_events.ensures.start (world_state w) (me_of w i) m.kept m.console refl seated),
+            (laws.calls_are_events.ensures.start _ (me_of w i) m.kept m.console refl seated),
         λ is_kept saves.
-            let left : Record = if is_kept then made.node.kept else m.kept in
+            let left = if is_kept then made.node.kept else m.kept in
             subst (WorldStep (world_state w) (group.Start i))
-            (sym (member_state w i m (record { kept = left; console = m.console; node = None }) down.there))
-            (laws.calls_are_events.ensures.falls_start (world_state w) (me_of w i) m.kept left m.console seated (start_one is_kept)),
+            (sym (member_state w i m _ down.there))
+            (laws.calls_are_events.ensures.falls_start _ (me_of w i) m.kept left m.console seated (start_one is_kept)),
       ))
 
 -- an event that is not refused is one of the group, and one that is refused changes nothing
 pub acts_step : Laws → (w v : World) (plan : Option Bool) (act : Act) (d : Done)
     → IsSound w → Performs w plan act d v → IsStep (world_state w) act d (world_state v)
 acts_step laws w v plan (Press i byte) d h (m, q, up, low, leaves) =
-    leaves_step w (Press i byte) i m q.progress plan (call_of_press q.known byte) (press_steps laws h up byte low) leaves
+    leaves_step w (Press i byte) i m q.progress plan _ (press_steps laws h up byte low) leaves
 acts_step laws w v plan (Deliver k i) d h (m, q, message, up, e, leaves) =
-    leaves_step w (Deliver k i) i m q.progress plan (Makes (on_message q.known message.sender message.body) [])
+    leaves_step w (Deliver k i) i m q.progress plan (Makes (on_message q.known _ message.body) [])
     (deliver_steps laws h up k message e) leaves
 acts_step laws w v plan (Campaign i) d h (m, q, up, leaves) =
-    leaves_step w (Campaign i) i m q.progress plan (call_of_campaign q.known) (campaign_steps laws h up) leaves
+    leaves_step w (Campaign i) i m q.progress plan _ (campaign_steps laws h up) leaves
 acts_step laws w v plan (Tick i) d h (m, q, up, leaves) =
     leaves_step w (Tick i) i m q.progress plan (Makes (on_tick q.known) []) (tick_steps laws h up) leaves
 acts_step laws w v plan (Run i most) d h (m, q, progress, ran, up, runs, replay, answer, leaves) =
@@ -202,5 +199,4 @@ acts_step laws w v plan (Run i most) d h (m, q, progress, ran, up, runs, replay,
 acts_step laws w v plan (Release i) d h (m, q, up, answer, leaves) =
     rw (answer, leaves) (release_of laws h up (next_of q) (next_written q))
 acts_step laws w v plan (Crash i) d h (m, q, up, answer, leaves) = rw (answer, leaves) (crash_steps laws h up)
-acts_step laws w v plan (Start i) d h (m, down, leaves) =
-    leaves_step w (Start i) i m (no_progress w.program) plan (call_of_start (me_of w i) m.kept) (start_steps laws h i down) leaves
+acts_step laws w v plan (Start i) d h (m, down, leaves) = leaves_step w (Start i) i m _ plan _ (start_steps laws h i down) leaves

@@ -11,7 +11,7 @@ use Rattle.group_node.specs.Known.{Response}
 use Rattle.group_node.specs.Output.{Progress}
 use Rattle.group_node.specs.States.{input}
 use Rattle.group_node.specs.World as group
-use Rattle.group_node.specs.World.{Seat, Sits, Up, WorldState, WorldStep, after_call, with_seat}
+use Rattle.group_node.specs.World.{Sits, WorldStep, after_call, with_seat}
 use Rattle.group_world.specs.declared.event.Act.{Act}
 use Rattle.group_world.specs.declared.event.Done.{Done}
 use Rattle.group_world.specs.Event.{event_of, IsStep, Leaves, LeavesBy}
@@ -49,11 +49,11 @@ module _ (laws : Laws) {w : World} (h : IsSound w) {i : ℕ} {m : Member} {q : R
       → WorldStep (world_state w) (e i) (world_state (world_after_call w i made m.console q.progress keys))
   call_step e made keys (lawful, fits) step =
       let may = may_make laws h up made keys (lawful, fits) in
-      let same = laws.learning_keeps_the_output.ensures.configuration q.known.learner.learned made.node.learner.learned q.progress
+      let same = laws.learning_keeps_the_output.ensures.configuration q.known.learner.learned _ q.progress
       lawful.keeps (running h up).replay in
       let state =
       called_state laws.spelling_is_read.ensures.read w i m made q.progress keys up.there h.session (is_node i h up.there) may.fits in
-      subst (WorldStep (world_state w) (e i)) (sym (state ∙ ap (λ (c : Configuration).
+      subst (WorldStep (world_state w) (e i)) (sym (state ∙ ap (λ c.
       after_call (world_state w) i made (flat_map keys_of keys) c q.progress.released m.console) same))
       (at_number (λ j. WorldStep (world_state w) (e j)
       (after_call (world_state w) j made (flat_map keys_of keys) configuration q.progress.released m.console)) step)
@@ -64,7 +64,7 @@ module _ (laws : Laws) {w : World} (h : IsSound w) {i : ℕ} {m : Member} {q : R
       (with_seat (world_state w) q.known.me.node (record { kept = left; console = m.console; up = None })))
       → WorldStep (world_state w) (e i) (world_state (world_after_fall w i m (if is_kept then made.node.kept else m.kept)))
   fall_step e made is_kept step =
-      let left : Record = if is_kept then made.node.kept else m.kept in
+      let left = if is_kept then made.node.kept else m.kept in
       subst (WorldStep (world_state w) (e i)) (sym (member_state w i m (record { kept = left; console = m.console; node = None }) up.there))
       (at_number (λ j. WorldStep (world_state w) (e j)
       (with_seat (world_state w) j (record { kept = left; console = m.console; up = None }))) (step left (one_of is_kept)))
@@ -86,8 +86,7 @@ module _ (w : World) {v : World} (act : Act) (i : ℕ) (m : Member) (progress : 
   saves_step : (made : Response) (keys : List Value) (o : Option Bool) → failing made.saves plan ≡ o
       → StepsCall w act i m progress (Makes made keys)
       → LeavesBy w i m progress (save_outcome m.kept made keys o) d v → IsStep (world_state w) act d (world_state v)
-  saves_step made keys None e steps (answer, leaves) =
-      rw (answer, leaves) steps.0
+  saves_step made keys None e steps (answer, leaves) = rw (answer, leaves) steps.0
   saves_step made keys (Some is_kept) e steps (answer, leaves) =
       let (c, some) = fails_some made.saves plan is_kept e in
       rw (answer, leaves) (steps.1 is_kept (λ none. absurd cc))
@@ -95,4 +94,4 @@ module _ (w : World) {v : World} (act : Act) (i : ℕ) (m : Member) (progress : 
   pub leaves_step : (call : NodeCall) → StepsCall w act i m progress call → Leaves w i m progress plan call d v
       → IsStep (world_state w) act d (world_state v)
   leaves_step (Refuses f) steps (answer, same) = rw answer (ap world_state same)
-  leaves_step (Makes made keys) steps leaves = saves_step made keys (failing made.saves plan) refl steps leaves
+  leaves_step (Makes made keys) steps leaves = saves_step made keys _ refl steps leaves
