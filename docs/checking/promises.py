@@ -78,12 +78,14 @@ def check_turned(functions, named, spared):
             fault(f"crates/{crate}: no edit or test names {call} ({', '.join(clauses)}), and {PATH} does not list it as not turned")
 
 
-def sentence_of(function, what):
-    """The first paragraph of the comment of a call or a law, for a cell of a table."""
+def cells_for(function, what, title):
+    """The cells of a call or a law: its title, and the first paragraph of its comment."""
     comment = function.comment().replace("|", "\\|")
     if not re.match(r"[A-Z`].*\.\)?$", comment):
         fault(f"{function.path}: the comment of the {what} {function.name} is no sentence")
-    return comment
+    if len(title) + len(comment) > MOST:
+        fault(f"{function.path}: the first paragraph of the comment of {function.name} has more than {MOST} characters, with its title")
+    return [title, comment]
 
 
 class Call(Row):
@@ -92,9 +94,7 @@ class Call(Row):
     def __init__(self, function, clauses):
         names = ", ".join(f"`{it}`" for it in clauses if it)
         title = f"`{function.title()}`" + (f" ({names})" if names else "")
-        super().__init__(None, [title, sentence_of(function, "call")], function.crate, {(function, it) for it in clauses})
-        if len(self.cells[0]) + len(self.cells[1]) > MOST:
-            fault(f"{function.path}: the first paragraph of the comment of {function.name} has more than {MOST} characters, with its clauses")
+        super().__init__(None, cells_for(function, "call", title), function.crate, {(function, it) for it in clauses})
 
 
 class Law(Row):
@@ -103,7 +103,7 @@ class Law(Row):
     def __init__(self, function):
         module = "laws" if "laws" in function.modules else min(function.modules)
         keys = {(function, clause) for clause in function.promises()}
-        super().__init__(None, [f"`{module}::{function.name}`", sentence_of(function, "law")], function.crate, keys)
+        super().__init__(None, cells_for(function, "law", f"`{module}::{function.name}`"), function.crate, keys)
 
     def text(self):
         names = ", ".join(f"`{it}`" for it in sorted(set(self.tests + self.edits)))

@@ -159,14 +159,14 @@ fn enter_first<'a>(
         → ¬ Folds version me.group.size kept.old bytes.now made end }
     ensures others { ¬ IsErrOf result StoreFault.Device }
 {
-    let Ok((change, behind)) = first_entry(version, me.group, bytes) else {
+    let Ok((change, after)) = first_entry(version, me.group, bytes) else {
         return Err(StoreFault::Bad);
     };
     if !is_next(kept, &change) {
         return Err(StoreFault::Bad);
     }
     enter(kept, change, me)?;
-    Ok(behind)
+    Ok(after)
 }
 
 /// Makes the changes of all entries, one after another. Returns the bytes after the last whole one.

@@ -59,12 +59,12 @@ pub(crate) fn votes_of_v1(
     let mut rest = bytes;
     let mut low = 0;
     for _ in 0..count {
-        let Ok((vote, behind)) = vote_of_v1(group, ballot, low, rest) else {
+        let Ok((vote, after)) = vote_of_v1(group, ballot, low, rest) else {
             return Err(StoreFault::Bad);
         };
         low = vote.place + 1;
         votes.push(vote)?;
-        rest = behind;
+        rest = after;
     }
     if !rest.is_empty() {
         return Err(StoreFault::Bad);

@@ -45,8 +45,8 @@ fn after_votes(part: Part, count: u32, bytes: &[u8]) -> Result<&[u8], WireFault>
     let mut rest = bytes;
     let mut low = 0;
     for _ in 0..count {
-        let (place, behind) = pass_vote(part, low, rest)?;
-        rest = behind;
+        let (place, after) = pass_vote(part, low, rest)?;
+        rest = after;
         low = place + 1;
     }
     Ok(rest)
@@ -85,14 +85,14 @@ fn promise_of(size: u8, bytes: &[u8]) -> Result<(BodyView<'_>, &[u8]), WireFault
         upto,
     };
     let count = u32::from(count);
-    let behind = after_votes(part, count, rest)?;
+    let after = after_votes(part, count, rest)?;
     let body = BodyView::Promise {
         ballot,
         first,
         upto,
         votes: LentVotes::new(rest, count),
     };
-    Ok((body, behind))
+    Ok((body, after))
 }
 
 /// Reads the body of an Accept: a ballot of the sender's own, a place and a value.
@@ -292,8 +292,8 @@ pub fn read_votes(
         first: 0,
         upto: PLACES,
     };
-    let behind = after_votes(part, count, bytes)?;
-    Ok((LentVotes::new(bytes, count), behind))
+    let after = after_votes(part, count, bytes)?;
+    Ok((LentVotes::new(bytes, count), after))
 }
 
 /// Returns the number at the front of the bytes, and the number of bytes that it takes, 4. Fails

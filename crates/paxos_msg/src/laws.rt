@@ -92,11 +92,10 @@ pub fn votes_are_by_place()
         Contains votes vote × (vote.place ≡ s) }
 {}
 
-/// The rules for messages of a node with record `r`. It may send a Prepare under a ballot of its
-/// own that is not above the promised one; a Refused of a lower ballot with the promised one; a
-/// Submit of keys that were typed at it; an Ask always; a Tell of a value that it has learned. A
-/// value is free to be proposed if it is a no-op or was submitted. The rules of Promise, Accept and
-/// Accepted are the premises of `agreement`.
+/// The rules for messages of a node with record `r`. It may send a Prepare under its own ballot,
+/// not above the promised one; a Refused of a lower ballot with the promised one; a Submit of keys
+/// typed at it; an Ask always; a Tell of a value that it has learned. A value is free to propose if
+/// it is a no-op or was submitted. `agreement` has the rules of Promise, Accept and Accepted.
 pub fn sending_rules()
     ensures prepare { (size i from : ℕ) (typed : List Key) (learned : ℕ → Option Value)
         (sent : Sent) (r : Record) (b : Ballot)

@@ -11,14 +11,14 @@ returns-in_default-clause-bad c =
 
 pub returns-then-not-is_next-clause-bad : goal.returns-then-not-is_next-clause-bad
 returns-then-not-is_next-clause-bad c =
-    λ _. not_next c.args.version c.args.me.group.size c.args.kept.now c.args.bytes.now c.in-Ok.change c.in-Ok.behind.now
+    λ _. not_next c.args.version c.args.me.group.size c.args.kept.now c.args.bytes.now c.in-Ok.change c.in-Ok.after.now
     c.in-Ok.ensures.found c.in-Ok.ensures.only c.requires.more (search rules)
 
 pub returns-clause-same : goal.returns-clause-same
 returns-clause-same c =
     let same =
     same_folds c.args.version c.args.me.group.size c.args.kept.now c.args.bytes.now c.in-Ok.change
-    c.in-Ok.behind.now c.in-Ok.ensures.found c.in-Ok.ensures.only c.requires.more (search rules) in
+    c.in-Ok.after.now c.in-Ok.ensures.found c.in-Ok.ensures.only c.requires.more (search rules) in
     subst (λ (r : Record).
-    SameFolds c.args.version c.args.me.group.size c.args.kept.now c.args.bytes.now r c.in-Ok.behind.now)
+    SameFolds c.args.version c.args.me.group.size c.args.kept.now c.args.bytes.now r c.in-Ok.after.now)
     (sym c.in_ok-enter.ensures.ok) same

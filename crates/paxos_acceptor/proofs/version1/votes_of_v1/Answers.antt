@@ -19,7 +19,7 @@ pub loop-preserved : goal.loop-preserved
 loop-preserved c =
     rw (c.in_ok-push.ensures.items)
     (c.loop.invariant ∙ one_more c.args.group.size c.args.ballot c.loop.low (c.args.count - c.loop.counter)
-    (c.args.count - (c.loop.counter + 1)) c.loop.votes.items c.loop.rest.now c.in-Ok.behind.now c.in-Ok.vote
+    (c.args.count - (c.loop.counter + 1)) c.loop.votes.items c.loop.rest.now c.in-Ok.after.now c.in-Ok.vote
     (omega arith) c.in-Ok.ensures.exact)
 
 pub returns-then-not-is_empty : goal.returns-then-not-is_empty
