@@ -110,13 +110,30 @@ class Law(Row):
         return f"| {self.cells[0]} | {self.cells[1]} | {names} |"
 
 
+def by_type(functions):
+    """The functions, those of one type together: first those of the file that defines it, in its order."""
+    home = {}
+    for it in functions:
+        if it.owner and re.search(rf"\b(?:struct|enum|trait) {it.owner}\b", text_of(it.path)):
+            home[it.crate, it.owner] = it.path
+    for it in functions:
+        home.setdefault((it.crate, it.owner), it.path)
+    crates = tree.all_crates()
+
+    def key(it):
+        place = home[it.crate, it.owner] if it.owner else it.path
+        return crates.index(it.crate), place, it.owner or "", it.path != place
+
+    return sorted(functions, key=key)
+
+
 def calls_of(functions, rows):
     """The public calls with clauses that no row names. An `impl` of a trait may leave the comment to the trait."""
     named = set().union(*(row.keys for row in rows))
     found = []
-    for it in functions:
+    for it in by_type([it for it in functions if it.is_public and not it.is_law]):
         clauses = [name for name in it.promises() if (it, name) not in named]
-        if it.is_public and not it.is_law and clauses and (it.is_inherent or it.comment()):
+        if clauses and (it.is_inherent or it.comment()):
             found.append(Call(it, clauses))
     return found
 
