@@ -1,5 +1,6 @@
 -- Elements of a list, of a longer one, and of its front: lemmas that std lacks.
-use Rattle.std.proofs.Common.{◌⊎◌, ◌≡◌, ℕ, zero, suc, ◌+◌, ◌<◌, ◌≤◌, List, [], ◌∷◌, ◌++◌, length, take, drop, Option, Some, None, slice_get, refl, ap, inl, inr, arith}
+use Rattle.std.proofs.Common.{◌⊎◌, ◌≡◌, ℕ, zero, suc, ◌+◌, ◌<◌, ◌≤◌, List, [], ◌∷◌, ◌++◌, length, take, drop, Option, Some, None, slice_get, All, refl, ap, inl, inr, arith}
+use Rattle.std.proofs.lemmas.List.Elements.{All-cons, All-nil}
 
 -- what is found is one
 pub same_found : {A : Type 0} (o : Option A) (a b : A) → o ≡ Some a → o ≡ Some b → a ≡ b
@@ -62,3 +63,7 @@ drop_suc (suc n) (x ∷ xs) y ys e = drop_suc n xs y ys e
 -- what is left after one more
 pub drop_next : {A : Type 0} (n : ℕ) (xs : List A) (y : A) (ys : List A) → drop n xs ≡ y ∷ ys → ys ≡ drop (n + 1) xs
 drop_next n xs y ys e = let one : n + 1 ≡ suc n = omega arith in rw one (drop_suc n xs y ys e)
+
+-- what holds of one holds of each of a list of it
+pub all_of_one : {X : Type 0} (P : X → Type 0) (x : X) → P x → All P (x ∷ [])
+all_of_one P x h = All-cons P x [] h (All-nil P)

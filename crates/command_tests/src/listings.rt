@@ -1,11 +1,12 @@
 //! Listings to a writer that fails, and to one that counts its writes.
-use super::files::{PRINTS_A, write_program};
+use super::files::write_program;
 use super::refusals::is_refused;
 use machine_run::{MachineRefusal, list_file};
 use std::alloc::{AllocError, Global};
 use std::fs;
 use std::io::{self, ErrorKind, Write};
 use std::test::Fail;
+use test_programs::PRINTS_A;
 
 /// A writer that takes at most `takes` bytes of a write, and fails at one of its writes or at each
 /// flush.

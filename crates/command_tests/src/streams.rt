@@ -1,6 +1,6 @@
 //! Runs and scripts over a reader or a writer that fails, and help that is printed to such a
 //! writer.
-use super::files::{PRINTS_A, READS, write_file, write_program};
+use super::files::{write_file, write_program};
 use super::refusals::{is_code, is_refused};
 use command_line::{DEFAULT_STEPS, NotAsked, read_words};
 use group_sim::{ScriptRefusal, sim_file};
@@ -9,6 +9,7 @@ use std::alloc::{AllocError, Global};
 use std::fs;
 use std::io::{self, ErrorKind, Read, Write};
 use std::test::Fail;
+use test_programs::{PRINTS_A, READS};
 
 /// A reader that gives an H, and then fails.
 #[derive(Drop)]

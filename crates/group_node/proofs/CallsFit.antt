@@ -6,6 +6,7 @@ use Rattle.std.proofs.lemmas.List.{get_or_append_left, get_or_past, get_or_push,
 use Rattle.std.proofs.lemmas.List.Elements.{All-append, All-nil}
 use Rattle.std.specs.Ordering.{nat_cmp}
 use Rattle.std.specs.FinMap.{FinMap}
+use Rattle.base.proofs.Lists.{all_of_one}
 use Rattle.paxos_msg.specs.declared.ballot.Ballot.{Ballot}
 use Rattle.paxos_msg.specs.declared.value.Value.{Value}
 use Rattle.paxos_msg.specs.declared.record.Change.TheVariants as change
@@ -29,7 +30,7 @@ use Rattle.group_node.specs.Pump.{accepts_of, pump}
 use Rattle.group_node.specs.Ranges.{AllFit, IsFit, IsInRange, IsMember, IsOwnProposer, IsWaiting}
 use Rattle.group_node.proofs.ByProposer.{by_tick}
 use Rattle.group_node.proofs.Campaigning.{next_is_above}
-use Rattle.group_node.proofs.EachPacket.{each_accept, each_last, each_prepare, one_all}
+use Rattle.group_node.proofs.EachPacket.{each_accept, each_last, each_prepare}
 use Rattle.group_node.proofs.PacketsFit.{ask_fits, submit_fits}
 use Rattle.group_node.proofs.ProposalsFit.{AcceptLaws, again_fits, own_prepare, pump_fits}
 use Rattle.group_node.proofs.RowsFit.{led_range, quiet_fits}
@@ -139,7 +140,7 @@ module _ (begins : BeginLaws) (laws : PromiseLaws) (n : Known) (h : IsInRange n)
       waiting = h.waiting;
     };
     sends =
-        one_all (λ (packet : Packet). IsBody n.me.group.size n.me.node packet.body)
+        all_of_one (λ (packet : Packet). IsBody n.me.group.size n.me.node packet.body)
         (to_all (Prepare (next_ballot n) (front n))) (next_fits, refl, omega arith);
   }
 
@@ -164,11 +165,11 @@ module _ (laws : AcceptLaws)
       let before = All-append IsPacketFit (prepares_again p) (accepts_again n.learner.learned p)
       (each_prepare IsPacketFit p (λ i low. own_prepare n.me p own (coverage_of p i) (ltb-true (coverage_of p i) 65536 low)))
       (each_accept IsPacketFit n.learner.learned p (again_fits n.me p own laws)) in
-      let behind = All-append IsPacketFit (accepts_of (pump 16 p).made) (asks n) pumped.sends asks_fit in
+      let later = All-append IsPacketFit (accepts_of (pump 16 p).made) (asks n) pumped.sends asks_fit in
       record {
         same = refl;
         ranges = led_range n h pumped.own h.learner;
         sends =
             All-append IsPacketFit (prepares_again p ++ accepts_again n.learner.learned p)
-            (accepts_of (pump 16 p).made ++ asks n) before behind;
+            (accepts_of (pump 16 p).made ++ asks n) before later;
       })

@@ -4,6 +4,7 @@ use Rattle.std.specs.Ordering.{nat_cmp}
 use Rattle.std.specs.FinMap.{FinMap, get}
 use Rattle.std.specs.List.{cons_option, filter_map, range_with_len}
 use Rattle.std.proofs.lemmas.List.Elements.{All-append, All-cons, All-nil, All-take}
+use Rattle.base.proofs.Lists.{all_of_one}
 use Rattle.paxos_msg.specs.declared.ballot.Ballot.{Ballot}
 use Rattle.paxos_msg.specs.declared.value.Value.{Value}
 use Rattle.paxos_msg.specs.declared.message.Body.TheVariants.{Accept, Ask, Prepare, Submit, Tell}
@@ -24,10 +25,6 @@ cons_all P (Some x) xs h all = All-cons P x xs h all
 filter_map_all : {X Y : Type 0} (P : Y → Type 0) (f : X → Option Y) (xs : List X) → ((x : X) → IfSome (f x) P) → All P (filter_map f xs)
 filter_map_all P f [] h = All-nil P
 filter_map_all P f (x ∷ xs) h = cons_all P (f x) (filter_map f xs) (h x) (filter_map_all P f xs h)
-
--- what holds of one holds of a list of it
-pub one_all : {X : Type 0} (P : X → Type 0) (x : X) → P x → All P (x ∷ [])
-one_all P x h = All-cons P x [] h (All-nil P)
 
 module _ (P : Packet → Type 0) where
   -- an acceptor is asked on only from a place that there is
@@ -79,16 +76,16 @@ module _ (P : Packet → Type 0) where
   -- the Prepare that asks an acceptor on, if there is one
   pub each_asked : (b : Ballot) (j : ℕ) (o : Option ℕ) → ((s : ℕ) → o ≡ Some s → P (to_one j (Prepare b s))) → All P (prepare_from b j o)
   each_asked b j None h = All-nil P
-  each_asked b j (Some s) h = one_all P (to_one j (Prepare b s)) (h s refl)
+  each_asked b j (Some s) h = all_of_one P (to_one j (Prepare b s)) (h s refl)
 
   -- the Submit of the first keys, if there is one
   submit_if : (o : Option Value) → ((v : Value) → o ≡ Some v → P (to_all (Submit v))) → All P (submits o)
   submit_if None h = All-nil P
-  submit_if (Some v) h = one_all P (to_all (Submit v)) (h v refl)
+  submit_if (Some v) h = all_of_one P (to_all (Submit v)) (h v refl)
 
   -- it, and the Ask, with which a tick ends
   pub each_last : (n : Known) → ((v : Value) → batch_of n n.waiting ≡ Some v → P (to_all (Submit v))) → P (to_all (Ask (front n)))
       → All P (asks n)
   each_last n submit ask =
       All-append P (submits (batch_of n n.waiting)) (to_all (Ask (front n)) ∷ []) (submit_if (batch_of n n.waiting) submit)
-      (one_all P (to_all (Ask (front n))) ask)
+      (all_of_one P (to_all (Ask (front n))) ask)

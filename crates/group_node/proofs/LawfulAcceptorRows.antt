@@ -1,5 +1,6 @@
 -- The answers of a node's acceptor.
 use Rattle.std.proofs.Common.{◌≡◌, ◌∙◌, ◌↔◌, ℕ, Bool, true, false, List, [], ◌∷◌, Option, Some, None, is_some, IfSome, IsSomeAnd, if◌then◌else◌, inl, inr, refl, ap, arith}
+use Rattle.base.proofs.Lists.{all_of_one}
 use Rattle.paxos_msg.specs.declared.ballot.Ballot.{Ballot}
 use Rattle.paxos_msg.specs.declared.record.Change.TheVariants as change
 use Rattle.paxos_msg.specs.declared.value.Value.{Value}
@@ -22,7 +23,6 @@ use Rattle.group_node.specs.Packets.{Packet}
 use Rattle.group_node.specs.Steps.{IsLawful, IsSavedBy}
 use Rattle.group_node.specs.World.{IsNoneOr}
 use Rattle.group_node.specs.declared.packet.To.{To}
-use Rattle.group_node.proofs.EachPacket.{one_all}
 use Rattle.group_node.proofs.Proposing.{promised_same}
 use Rattle.group_node.proofs.Saving.{promised_still, RaisingLaw}
 use Rattle.group_node.proofs.Sending.{IsStable, Sender, sender_of, SendingLaws, stable_goes}
@@ -154,7 +154,7 @@ answer_lawful laws sent typed n to change answer h may =
     let stable : IsStable (sender_of typed next) sent packet = record { may = may.may_send; old = may.reply.old } in
     let goes =
     stable_goes laws.sending sent typed next (packet ∷ []) (answering_backed laws sent typed n change answer h may)
-    (one_all (IsStable (sender_of typed next) sent) packet stable) in
+    (all_of_one (IsStable (sender_of typed next) sent) packet stable) in
     record {
       saves = saved_by sent n.kept answer.saves may.may_save;
       learns = h.learner;

@@ -4,6 +4,7 @@ use Rattle.std.proofs.Common.{ℕ, ◌+◌, List, [], ◌∷◌, ◌++◌, Optio
 use Rattle.std.specs.FinMap.{empty}
 use Rattle.std.proofs.lemmas.List.{append-nil}
 use Rattle.std.proofs.lemmas.List.Elements.{Contains-append_cases, Contains-append_left, Contains-append_right}
+use Rattle.base.proofs.Lists.{all_of_one}
 use Rattle.paxos_msg.specs.declared.ballot.Ballot.{Ballot}
 use Rattle.paxos_msg.specs.declared.value.Value.{Value}
 use Rattle.paxos_msg.specs.declared.message.Body.TheVariants.{Accept, Prepare}
@@ -27,7 +28,7 @@ use Rattle.group_node.specs.ProposerRows.{on_campaign, next_ballot}
 use Rattle.group_node.specs.WaitingKeys.{count_gone}
 use Rattle.group_node.specs.Packets.{to_all}
 use Rattle.group_node.specs.Steps.{IsLawful}
-use Rattle.group_node.proofs.EachPacket.{each_tell, one_all}
+use Rattle.group_node.proofs.EachPacket.{each_tell}
 use Rattle.group_node.proofs.LawfulProposerRows.{sent_lawful}
 use Rattle.group_node.proofs.Proposing.{at_most_same}
 use Rattle.group_node.proofs.Saving.{record_saved, RecordLaws}
@@ -151,6 +152,6 @@ campaign_lawful laws sent typed n h =
     } in
     let goes =
     stable_goes laws.sending sent typed next (on_campaign n).sends backs
-    (one_all (IsStable (sender_of typed next) sent) (to_all (Prepare b (front n)))
+    (all_of_one (IsStable (sender_of typed next) sent) (to_all (Prepare b (front n)))
     (record { may = (refl, at_most_same b); old = tt })) in
     record { saves = (may, refl); learns = h.learner; keeps = record { stays = λ s v e. e }; sends = goes.sends; backs = goes.backs }

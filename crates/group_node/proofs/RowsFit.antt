@@ -3,6 +3,7 @@
 use Rattle.std.proofs.Common.{◌≡◌, ◌∙◌, ◌↔◌, ℕ, suc, ◌+◌, ◌≤◌, Bool, true, false, if◌then◌else◌, List, [], ◌∷◌, length, drop, Option, Some, None, is_some, IfSome, refl, sym, subst, arith}
 use Rattle.std.proofs.lemmas.List.{get_or-drop, length-drop}
 use Rattle.std.proofs.lemmas.List.Elements.{All-append, All-nil}
+use Rattle.base.proofs.Lists.{all_of_one}
 use Rattle.paxos_msg.specs.declared.ballot.Ballot.{Ballot}
 use Rattle.paxos_msg.specs.declared.value.Value.{Value}
 use Rattle.paxos_msg.specs.declared.record.Change.TheVariants as change
@@ -31,7 +32,7 @@ use Rattle.group_node.specs.Pump.{accepts_of, Proposals, pump}
 use Rattle.group_node.specs.Ranges.{AllFit, AreFit, IsFit, IsHeardFit, IsInRange, IsOwnLearner, IsOwnProposer, IsWaiting}
 use Rattle.group_node.proofs.ByProposer.{by_offer, by_part}
 use Rattle.group_node.proofs.LawfulAcceptorRows.{accept_reply, prepare_reply, starts_same}
-use Rattle.group_node.proofs.EachPacket.{each_asked, each_tell, one_all}
+use Rattle.group_node.proofs.EachPacket.{each_asked, each_tell}
 use Rattle.group_node.proofs.PacketsFit.{tell_fits}
 use Rattle.group_node.proofs.ProposalsFit.{AcceptLaws, asks_on_fits, offer_after_fits, part_own, PartLaws, pump_fits}
 
@@ -156,7 +157,7 @@ module _ (n : Known) (h : IsInRange n) where
       learner = h.learner;
       waiting = h.waiting;
     };
-    sends = one_all IsPacketFit (record { to = to; body = answer.says }) says;
+    sends = all_of_one IsPacketFit (record { to = to; body = answer.says }) says;
   }
 
   -- a Prepare

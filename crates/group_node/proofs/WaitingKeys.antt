@@ -119,8 +119,8 @@ first_unread law read [] k ks e = absurd cc
 first_unread law read (x ∷ keys) k ks e = by (has_key read x) refl e (first_unread law read keys k ks) where
   by : (t : Bool) → has_key read x ≡ t → drop (if t then suc (count_read read keys) else 0) (x ∷ keys) ≡ k ∷ ks
       → (drop (count_read read keys) keys ≡ k ∷ ks → ¬ Contains read k) → ¬ Contains read k
-  by true is e behind = behind e
-  by false is e behind = λ there.
+  by true is e later = later e
+  by false is e later = λ there.
       let same : x ≡ k = cc in
       let found : has_key read k ≡ true = (law.has read k).1 there in
       let none : has_key read k ≡ false = rw (← same) is in

@@ -73,9 +73,9 @@ pub item-failed : {E : Type 0} (f : ℕ → List ℕ) (xs : List ℕ) (i d : ℕ
 item-failed f xs i d old mid new r less e p q =
     let before : List ℕ = flat_map f (take i xs) in
     let with_it : List ℕ = flat_map f (take (i + 1) xs) in
-    let behind : List ℕ = flat_map f (drop (i + 1) xs) in
+    let tail : List ℕ = flat_map f (drop (i + 1) xs) in
     failed old new r (flat_map f xs) e
-    (rw (← flat_whole f xs (i + 1)) (front-first old new with_it behind
+    (rw (← flat_whole f xs (i + 1)) (front-first old new with_it tail
     (rw (flat_more f xs i d less) (front-second old mid new before (f (get_or xs i d)) p q))))
 
 -- ---- a text for each number

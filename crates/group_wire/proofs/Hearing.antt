@@ -3,6 +3,7 @@ use Rattle.std.proofs.Common.{◌≡◌, ◌≢◌, ◌∙◌, ◌+◌, ◌<◌,
 use Rattle.std.proofs.lemmas.List.{map-append}
 use Rattle.std.proofs.lemmas.List.Elements.{All-append, All-cons, All-nil, filter_map-append}
 use Rattle.std.proofs.lemmas.List.Sums.{sum_by-append}
+use Rattle.base.proofs.Lists.{all_of_one}
 use Rattle.paxos_msg.specs.declared.message.Group.{Group}
 use Rattle.paxos_msg.specs.Batches.{Msg}
 use Rattle.paxos_acceptor.specs.Stores.{HasCause, IsOneOf, StoreState}
@@ -32,10 +33,6 @@ sent_then n (m ∷ ms) more =
     let done = on_message n m.sender m.body in
     ap (λ (rest : List Packet). done.sends ++ rest) (sent_then done.node ms more)
     ∙ sym (append_assoc done.sends (sent_at done.node ms) (sent_at (after_heard done.node ms) more))
-
--- it holds of each of one
-pub all_of_one : {X : Type 0} (P : X → Type 0) → (x : X) → P x → All P (x ∷ [])
-all_of_one P x p = All-cons P x [] p (All-nil P)
 
 -- the messages of some arrivals, and then of others
 heard_of_both : (came later : List Arrival) → heard_of (came ++ later) ≡ heard_of came ++ heard_of later

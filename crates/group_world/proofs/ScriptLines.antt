@@ -91,10 +91,10 @@ group_and_lines text group r e f =
 pub grown : (xs ys : List Line) (n m : ℕ) (rest more : List ℕ) (l : Line) → 0 < length rest
     → line_of (line_in rest) ≡ Some l → more ≡ rest_of rest → ys ≡ xs ++ l ∷ [] → m ≡ n + 1
     → after xs (lines_say n (lines_of rest)) ≡ after ys (lines_say m (lines_of more))
-grown xs ys n m rest more l h e behind items number =
+grown xs ys n m rest more l h e tail items number =
     let first = ap (λ zs. after zs (lines_say m (lines_of more))) items in
     let second = ap (λ k. after (xs ++ l ∷ []) (lines_say k (lines_of more))) number in
-    let third = ap (λ t. after (xs ++ l ∷ []) (lines_say (n + 1) (lines_of t))) behind in
+    let third = ap (λ t. after (xs ++ l ∷ []) (lines_say (n + 1) (lines_of t))) tail in
     one_more xs n rest l h e ∙ sym ((first ∙ second) ∙ third)
 
 -- ---- the lines that were read

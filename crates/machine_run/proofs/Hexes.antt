@@ -27,10 +27,10 @@ first_pair : (pair left : List ℕ) (byte : ℕ) → hex_byte_of pair ≡ Some b
 first_pair (h ∷ l ∷ []) left byte e = ap (λ o. byte_before o (hex_bytes_of left)) e
 first_pair other left byte e = absurd cc
 
-one_behind : (done : List ℕ) (byte : ℕ) (o : Option (List ℕ))
+one_after : (done : List ℕ) (byte : ℕ) (o : Option (List ℕ))
     → bytes_before done (byte_before (Some byte) o) ≡ bytes_before (done ++ byte ∷ []) o
-one_behind done byte None = refl
-one_behind done byte (Some bytes) = ap (λ it. Some it) (sym (append_assoc done (byte ∷ []) bytes))
+one_after done byte None = refl
+one_after done byte (Some bytes) = ap (λ it. Some it) (sym (append_assoc done (byte ∷ []) bytes))
 
 begins : (pair left : List ℕ) (byte : ℕ) → hex_byte_of pair ≡ Some byte → hex_byte_of (take 2 (pair ++ left)) ≡ Some byte
 begins (h ∷ l ∷ []) left byte e = e
@@ -54,6 +54,6 @@ pub read_pair : (text rest done pair left : List ℕ) (byte : ℕ) → IsReadUpT
 read_pair text rest done pair left byte h split e = record {
   spelled =
       h.spelled ∙ (ap (λ (r : List ℕ). bytes_before done (hex_bytes_of r)) split
-      ∙ (ap (bytes_before done) (first_pair pair left byte e) ∙ one_behind done byte (hex_bytes_of left)));
+      ∙ (ap (bytes_before done) (first_pair pair left byte e) ∙ one_after done byte (hex_bytes_of left)));
   begun = inr (is_begun text rest done pair left byte h split e);
 }

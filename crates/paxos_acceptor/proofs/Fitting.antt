@@ -64,41 +64,41 @@ module _ (size upto : ℕ) (b : Ballot) where
   value_fits (x ∷ xs) s low vote h e = found_fits x xs s low vote h.0 (x.place == s) e (λ k. value_fits xs s (x.place + 1) vote h.1 k)
 
 -- the place after the last vote, by recursion
-behind : Vote → List Vote → ℕ
-behind x [] = x.place + 1
-behind x (y ∷ ys) = behind y ys
+end : Vote → List Vote → ℕ
+end x [] = x.place + 1
+end x (y ∷ ys) = end y ys
 
-last_get : (x : Vote) (xs : List Vote) → option_map_or (λ (vote : Vote). vote.place + 1) (slice_get (x ∷ xs) (length xs)) 0 ≡ behind x xs
-unfolding behind
+last_get : (x : Vote) (xs : List Vote) → option_map_or (λ (vote : Vote). vote.place + 1) (slice_get (x ∷ xs) (length xs)) 0 ≡ end x xs
+unfolding end
 last_get x [] = refl
 last_get x (y ∷ ys) = last_get y ys
 
-behind_is : (x : Vote) (xs : List Vote) → place_after (x ∷ xs) ≡ behind x xs
-behind_is x xs = let e : suc (length xs) - 1 ≡ length xs = omega arith in rw e (last_get x xs)
+end_is : (x : Vote) (xs : List Vote) → place_after (x ∷ xs) ≡ end x xs
+end_is x xs = let e : suc (length xs) - 1 ≡ length xs = omega arith in rw e (last_get x xs)
 
 module _ (size upto : ℕ) (b : Ballot) where
   -- it is above each bound below the votes, and not above the one above them
-  behind_above : (x : Vote) (xs : List Vote) (low : ℕ) → AreVotes size b low upto (x ∷ xs) → low < behind x xs
-  unfolding behind
-  behind_above x [] low h = omega (arith, h.0.from_low)
-  behind_above x (y ∷ ys) low h =
-      let more : x.place + 1 < behind y ys = behind_above y ys (x.place + 1) h.1 in
+  end_above : (x : Vote) (xs : List Vote) (low : ℕ) → AreVotes size b low upto (x ∷ xs) → low < end x xs
+  unfolding end
+  end_above x [] low h = omega (arith, h.0.from_low)
+  end_above x (y ∷ ys) low h =
+      let more : x.place + 1 < end y ys = end_above y ys (x.place + 1) h.1 in
       omega (arith, h.0.from_low)
 
-  behind_within : (x : Vote) (xs : List Vote) (low : ℕ) → AreVotes size b low upto (x ∷ xs) → behind x xs ≤ upto
-  unfolding behind
-  behind_within x [] low h = omega (arith, h.0.below_upto)
-  behind_within x (y ∷ ys) low h = behind_within y ys (x.place + 1) h.1
+  end_within : (x : Vote) (xs : List Vote) (low : ℕ) → AreVotes size b low upto (x ∷ xs) → end x xs ≤ upto
+  unfolding end
+  end_within x [] low h = omega (arith, h.0.below_upto)
+  end_within x (y ∷ ys) low h = end_within y ys (x.place + 1) h.1
 
   -- all of them are below it
-  tight : (x : Vote) (xs : List Vote) (low : ℕ) → AreVotes size b low upto (x ∷ xs) → AreVotes size b low (behind x xs) (x ∷ xs)
-  unfolding behind
+  tight : (x : Vote) (xs : List Vote) (low : ℕ) → AreVotes size b low upto (x ∷ xs) → AreVotes size b low (end x xs) (x ∷ xs)
+  unfolding end
   tight x [] low h = (below_too x low (x.place + 1) (omega arith) h.0, tt) where
     below_too : (x : Vote) (low over : ℕ) → x.place < over → IsVote size b low upto x → IsVote size b low over x
     below_too x low over lt h =
         record { from_low = h.from_low; below_upto = lt; ballot = h.ballot; not_above = h.not_above; value = h.value }
   tight x (y ∷ ys) low h =
-      let above : x.place + 1 < behind y ys = behind_above y ys (x.place + 1) h.1 in (
+      let above : x.place + 1 < end y ys = end_above y ys (x.place + 1) h.1 in (
         record {
           from_low = h.0.from_low;
           below_upto = omega arith;
@@ -113,8 +113,8 @@ module _ (size upto : ℕ) (b : Ballot) where
       → (place_after votes ≤ 65536) × (low < place_after votes) × AreVotes size b low (place_after votes) votes
   first_part [] low more few h = absurd (omega arith)
   first_part (x ∷ xs) low more few h =
-      let within : behind x xs ≤ upto = behind_within x xs low h in
-      rw (behind_is x xs) (omega arith, behind_above x xs low h, tight x xs low h)
+      let within : end x xs ≤ upto = end_within x xs low h in
+      rw (end_is x xs) (omega arith, end_above x xs low h, tight x xs low h)
 
 -- the bounds of a part, by whether it has all votes
 part_if : (size : ℕ) (b : Ballot) (from : ℕ) (votes : List Vote) (t : Bool) → nat_lt 8 (length votes) ≡ t → IsPlace from

@@ -119,19 +119,19 @@ module _ (F : Fields) (V : ReadsValues) (version : Version) (size : ℕ) where
       rw ((F.ballots size (ballot_bytes b ++ rest) b rest (others (2 ∷ []) (ballot_bytes b ++ rest) are)).1
       (fits, refl)) refl
   again (Ballotted s b v) rest are fits is_for =
-      let behind_ballot : List ℕ = value_spelling version v ++ rest in
-      let behind_place : List ℕ = ballot_bytes b ++ behind_ballot in
-      let are_one : AreBytes (number_bytes s ++ behind_place) = others (3 ∷ []) (number_bytes s ++ behind_place) are in
-      let are_two : AreBytes behind_place = others (number_bytes s) behind_place are_one in
-      let are_three : AreBytes behind_ballot = others (ballot_bytes b) behind_ballot are_two in
+      let after_ballot : List ℕ = value_spelling version v ++ rest in
+      let after_place : List ℕ = ballot_bytes b ++ after_ballot in
+      let are_one : AreBytes (number_bytes s ++ after_place) = others (3 ∷ []) (number_bytes s ++ after_place) are in
+      let are_two : AreBytes after_place = others (number_bytes s) after_place are_one in
+      let are_three : AreBytes after_ballot = others (ballot_bytes b) after_ballot are_two in
       let place : s ≤ 65535 = fits.0 in
       let small : s < 2 ^ 32 = omega arith in
       let within : nat_lt 65535 s ≡ false = grind (arith, nat_tests) in
       rw (
-        (F.numbers (number_bytes s ++ behind_place) s behind_place are_one).1 (small, refl),
+        (F.numbers (number_bytes s ++ after_place) s after_place are_one).1 (small, refl),
         within,
-        (F.ballots size behind_place b behind_ballot are_two).1 (fits.1, refl),
-        (value_law version behind_ballot v rest are_three).1 (fits.2, for_value version is_for, refl),
+        (F.ballots size after_place b after_ballot are_two).1 (fits.1, refl),
+        (value_law version after_ballot v rest are_three).1 (fits.2, for_value version is_for, refl),
       ) refl
     where
       for_value : (version : Version) → IsFor version (Ballotted s b v) → IsForValue version v

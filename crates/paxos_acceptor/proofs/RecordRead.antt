@@ -108,10 +108,10 @@ module _ (F : Fields) (version : Version) where
       (F.numbers g.0 s.0.0 s.0.1
       (others_of bytes (80 ∷ 82 ∷ version_byte version ∷ me.node ∷ me.group.size ∷ []) g.0 are front)).0 s.1 in
       let session : s.0.0 ≡ me.group.session = eqb-true s.0.0 me.group.session (not-false _ t.0) in
-      let behind : g.0 ≡ number_bytes me.group.session ++ rest =
+      let later : g.0 ≡ number_bytes me.group.session ++ rest =
       number.1 ∙ ap (λ (n : ℕ). number_bytes n ++ s.0.1) session
       ∙ ap (λ (xs : List ℕ). number_bytes me.group.session ++ xs) t.1 in
-      front ∙ ap (λ (xs : List ℕ). 80 ∷ 82 ∷ version_byte version ∷ me.node ∷ me.group.size ∷ xs) behind
+      front ∙ ap (λ (xs : List ℕ). 80 ∷ 82 ∷ version_byte version ∷ me.node ∷ me.group.size ∷ xs) later
 
   header_again : (me : Me) (rest : List ℕ) → me.group.session < 2 ^ 32
       → AreBytes (number_bytes me.group.session ++ rest)
@@ -136,22 +136,22 @@ module _ (F : Fields) (version : Version) where
       let number = (F.numbers bytes a.0.0 a.0.1 are).0 a.1 in
       by_round a.0.0 a.0.1 (number.1) (eqb a.0.0 0) refl a.2
     where
-      by_round : (round : ℕ) (behind : List ℕ) → bytes ≡ number_bytes round ++ behind → (t : Bool) → eqb round 0 ≡ t →
-          (if t then zero_at behind else some_ballot_at size bytes) ≡ Ok (p, rest) →
+      by_round : (round : ℕ) (later : List ℕ) → bytes ≡ number_bytes round ++ later → (t : Bool) → eqb round 0 ≡ t →
+          (if t then zero_at later else some_ballot_at size bytes) ≡ Ok (p, rest) →
           IsPromise size p × (bytes ≡ promised_bytes p ++ rest)
-      by_round round behind parts true z h =
-          let k = bind_ok (after_byte 0 behind) _ (p, rest) h in
+      by_round round later parts true z h =
+          let k = bind_ok (after_byte 0 later) _ (p, rest) h in
           let both : (None, k.0) ≡ (p, rest) = ok_is (None, k.0) (p, rest) k.2 in
           let none : p ≡ None = sym (ap (λ (x : Option Ballot × List ℕ). x.0) both) in
           let same : k.0 ≡ rest = ap (λ (x : Option Ballot × List ℕ). x.1) both in
           let zero_round : round ≡ 0 = eqb-true round 0 z in
           rw none (
             tt,
-            parts ∙ ap (λ (n : ℕ). number_bytes n ++ behind) zero_round
+            parts ∙ ap (λ (n : ℕ). number_bytes n ++ later) zero_round
                 ∙ ap (λ (xs : List ℕ). 0 ∷ 0 ∷ 0 ∷ 0 ∷ xs)
-                (byte_found 0 behind k.0 k.1 ∙ ap (λ (xs : List ℕ). 0 ∷ xs) same),
+                (byte_found 0 later k.0 k.1 ∙ ap (λ (xs : List ℕ). 0 ∷ xs) same),
           )
-      by_round round behind parts false z h =
+      by_round round later parts false z h =
           let k = bind_ok (ballot_at size bytes) _ (p, rest) h in
           let both : (Some k.0.0, k.0.1) ≡ (p, rest) = ok_is (Some k.0.0, k.0.1) (p, rest) k.2 in
           let some : p ≡ Some k.0.0 = sym (ap (λ (x : Option Ballot × List ℕ). x.0) both) in

@@ -81,8 +81,8 @@ cut zero (x ∷ xs) d s up h k = cut_step x [] xs s (sym (none_above xs x.place 
 cut (suc n) (x ∷ xs) d s up h k = cut_step x (take (suc n) xs) xs s (cut n xs d s up.1 (omega arith) k)
 
 -- the place after the last of the first votes
-behind_first : (n : ℕ) (xs : List Vote) (d : Vote) → n < length xs → place_after (take (suc n) xs) ≡ (get_or xs n d).place + 1
-behind_first n xs d h =
+end_of_front : (n : ℕ) (xs : List Vote) (d : Vote) → n < length xs → place_after (take (suc n) xs) ≡ (get_or xs n d).place + 1
+end_of_front n xs d h =
     let long : length (take (suc n) xs) ≡ suc n = omega (arith, length-take (suc n) xs) in
     let last : length (take (suc n) xs) - 1 ≡ n = omega arith in
     let at : slice_get (take (suc n) xs) n ≡ Some (get_or xs n d) =
@@ -106,7 +106,7 @@ whole_by : (n : ℕ) (xs : List Vote) (s : ℕ) (t : Bool) → nat_lt (suc n) (l
 whole_by n xs s true e up below =
     let many : suc n < length xs = ltb-true (suc n) (length xs) e in
     let d : Vote = record { place = 0; ballot = record { round = 0; node = 0 }; value = Noop } in
-    let behind = behind_first n xs d (omega arith) in
+    let later = end_of_front n xs d (omega arith) in
     cut n xs d s up (omega arith) (omega arith)
 whole_by n xs s false e up below = let few : length xs ≤ suc n = grind (arith, nat_tests) in rw (take_all (suc n) xs few)
 
@@ -115,7 +115,7 @@ within_by : (n : ℕ) (xs : List Vote) (vote : Vote) (t : Bool) → nat_lt (suc 
     → vote.place < (if t then place_after (take (suc n) xs) else 65536)
 within_by n xs vote true e up place h =
     let many : suc n < length xs = ltb-true (suc n) (length xs) e in
-    let behind = behind_first n xs vote (omega arith) in
+    let later = end_of_front n xs vote (omega arith) in
     let before = before_last n xs vote up (omega arith) h in
     omega arith
 within_by n xs vote false e up place h = omega arith

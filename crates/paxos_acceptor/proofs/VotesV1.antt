@@ -76,16 +76,16 @@ module _ (F : Fields) (size : ℕ) (b : Ballot) where
       → IsSingle v.value → vote_at_v1 size b low (vote_bytes_v1 v ++ rest) ≡ Ok (v, rest)
   unfolding vote_at_v1
   vote_again low v rest are h single =
-      let behind_place : List ℕ = ballot_bytes v.ballot ++ (value_bytes_v1 v.value ++ rest) in
-      let are_one : AreBytes behind_place = others (number_bytes v.place) behind_place are in
+      let after_place : List ℕ = ballot_bytes v.ballot ++ (value_bytes_v1 v.value ++ rest) in
+      let are_one : AreBytes after_place = others (number_bytes v.place) after_place are in
       let are_two : AreBytes (value_bytes_v1 v.value ++ rest) = others (ballot_bytes v.ballot) (value_bytes_v1 v.value ++ rest) are_one in
       let place : v.place < 2 ^ 32 = omega (arith, h.below_upto) in
       let last : v.place ≤ 65535 = omega (arith, h.below_upto) in
       rw (
-        (F.numbers (number_bytes v.place ++ behind_place) v.place behind_place are).1 (place, refl),
+        (F.numbers (number_bytes v.place ++ after_place) v.place after_place are).1 (place, refl),
         is_not_below v.place low h.from_low,
         is_not_below 65535 v.place last,
-        (F.ballots size behind_place v.ballot (value_bytes_v1 v.value ++ rest) are_one).1 (h.ballot, refl),
+        (F.ballots size after_place v.ballot (value_bytes_v1 v.value ++ rest) are_one).1 (h.ballot, refl),
         most_false v.ballot b h.not_above,
         (F.values_v1 size (value_bytes_v1 v.value ++ rest) v.value rest are_two).1 (h.value, single, refl),
       ) refl

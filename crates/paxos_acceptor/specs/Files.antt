@@ -77,8 +77,8 @@ pub record Filed : Type 0 where
   pub found : Option Record
   pub faults : ℕ
 
--- The store after a load. The record of the load is known, and after a load that failed none is. A
--- fault of the device is counted.
+-- The store after a load. Its node is the same. The record of the load is known, and after a load
+-- that failed none is. A fault of the device is counted.
 -- Allows: A file with a record of version 1.
 -- Forbids: A record that is known after a failed load.
 pub record Finds (old new : Filed) (answer : Result Record StoreFault) : Type 0 where
@@ -87,9 +87,9 @@ pub record Finds (old new : Filed) (answer : Result Record StoreFault) : Type 0 
   pub lost : OnErr answer (new.found ≡ None)
   pub cause : HasCause (IsErrOf answer fault.Device) old.faults new.faults
 
--- The store after a save. The save is built on the known record, and its record is known after it.
--- After a fault of the device, which is counted, nothing is known. If memory runs out, nothing
--- changes.
+-- The store after a save. Its node is the same. The save is built on the known record, and its
+-- record is known after it. After a fault of the device, which is counted, nothing is known. If
+-- memory runs out, nothing changes.
 -- Allows: The changed record, where a fault came after the writing.
 -- Forbids: A second save built on the record that was loaded.
 pub record Notes {T : Type 0} (old new : Filed) (change : Change)

@@ -84,8 +84,8 @@ votes_of version size (Some b) n bytes =
 -- The fields before the votes: starts, promised ballot and number of votes.
 unfoldable pub head_at : Version → Me → List ℕ → Result ((ℕ × Option Ballot × ℕ) × List ℕ) WireFault
 head_at version me bytes = do
-  behind ← record_header_at version me bytes
-  starts ← number_at behind
+  later ← record_header_at version me bytes
+  starts ← number_at later
   promised ← promised_at me.group.size starts.1
   count ← number_at promised.1
   Ok ((starts.0, promised.0, count.0), count.1)

@@ -25,9 +25,9 @@ found_first : (e : ℕ × Value) (es : List (ℕ × Value)) → find nat_cmp e.0
 found_first e es = ap (λ (t : Bool). cond t (Some e.1) (find nat_cmp e.0 es)) (unsigned_tied e.0 e.0 ∙ eq-eqb e.0 e.0 refl)
 
 -- the others are found where they were
-found_behind : (e : ℕ × Value) (es : List (ℕ × Value)) (q : ℕ) (v : Value) → q ≢ e.0 → find nat_cmp q es ≡ Some v
+found_after : (e : ℕ × Value) (es : List (ℕ × Value)) (q : ℕ) (v : Value) → q ≢ e.0 → find nat_cmp q es ≡ Some v
     → find nat_cmp q (e ∷ es) ≡ Some v
-found_behind e es q v ne is = ap (λ (t : Bool). cond t (Some e.1) (find nat_cmp q es)) (unsigned_tied q e.0 ∙ ne_eqb q e.0 ne) ∙ is
+found_after e es q v ne is = ap (λ (t : Bool). cond t (Some e.1) (find nat_cmp q es)) (unsigned_tied q e.0 ∙ ne_eqb q e.0 ne) ∙ is
 
 -- of sorted entries, if one passes, it is found
 any_found : (f : Value → Bool) (es : List (ℕ × Value)) → T (is_sorted nat_cmp es) → list_any f (map (λ e. e.1) es) ≡ true → IsFound f es
@@ -38,14 +38,14 @@ any_found f (e ∷ es) sorted h =
       by : (t : Bool) → f e.1 ≡ t → (t || list_any f (map (λ d. d.1) es)) ≡ true
           → (list_any f (map (λ d. d.1) es) ≡ true → IsFound f es) → T (below_all nat_cmp e.0 es)
           → T (is_sorted nat_cmp es) → IsFound f (e ∷ es)
-      by true is all behind below rest = record { place = e.0; value = e.1; found = found_first e es; passes = is }
-      by false is all behind below rest =
-          let there = behind all in
+      by true is all later below rest = record { place = e.0; value = e.1; found = found_first e es; passes = is }
+      by false is all later below rest =
+          let there = later all in
           let above : e.0 < there.place = found_above e.0 there.place es there.value below rest there.found in
           record {
             place = there.place;
             value = there.value;
-            found = found_behind e es there.place there.value (λ same. omega arith) there.found;
+            found = found_after e es there.place there.value (λ same. omega arith) there.found;
             passes =
                 there.passes;
           }
@@ -54,14 +54,14 @@ any_found f (e ∷ es) sorted h =
 found_any : (f : Value → Bool) (es : List (ℕ × Value)) (q : ℕ) (v : Value) → find nat_cmp q es ≡ Some v → f v ≡ true
     → list_any f (map (λ e. e.1) es) ≡ true
 found_any f [] q v is passes = absurd cc
-found_any f (e ∷ es) q v is passes = by (eq_by_cmp nat_cmp q e.0) is (λ behind. found_any f es q v behind passes) where
+found_any f (e ∷ es) q v is passes = by (eq_by_cmp nat_cmp q e.0) is (λ later. found_any f es q v later passes) where
   by : (t : Bool) → cond t (Some e.1) (find nat_cmp q es) ≡ Some v
       → (find nat_cmp q es ≡ Some v → list_any f (map (λ d. d.1) es) ≡ true)
       → list_any f (map (λ d. d.1) (e ∷ es)) ≡ true
-  by true here behind =
+  by true here later =
       let same : e.1 ≡ v = cc in
       or_left (f e.1) _ (ap f same ∙ passes)
-  by false here behind = or_right (f e.1) _ (behind here)
+  by false here later = or_right (f e.1) _ (later here)
 
 module _ (learned : FinMap nat_cmp Value) (k : Key) where
   pub learned_stands : IsTrue (is_learned learned k) → StandsIn learned k

@@ -81,12 +81,12 @@ searched votes s d h (Err at) in_range parted = record {
 }
 
 -- one index further in a list is the same index in its rest
-place_behind : (x : Vote) (xs : List Vote) (s i : ℕ) → IsPlaceIn (x ∷ xs) s (suc i) → IsPlaceIn xs s i
-place_behind x xs s i h =
+place_later : (x : Vote) (xs : List Vote) (s i : ℕ) → IsPlaceIn (x ∷ xs) s (suc i) → IsPlaceIn xs s i
+place_later x xs s i h =
     record { in_range = omega (arith, h.in_range); same = h.same; before = λ j d lt. h.before (suc j) d (omega arith) }
 
-gap_behind : (x : Vote) (xs : List Vote) (s i : ℕ) → IsGapIn (x ∷ xs) s (suc i) → IsGapIn xs s i
-gap_behind x xs s i h = record {
+gap_after : (x : Vote) (xs : List Vote) (s i : ℕ) → IsGapIn (x ∷ xs) s (suc i) → IsGapIn xs s i
+gap_after x xs s i h = record {
   in_range = omega (arith, h.in_range);
   before = λ j d lt. h.before (suc j) d (omega arith);
   after = λ j d le lt. h.after (suc j) d (omega arith) (omega arith);
@@ -98,7 +98,7 @@ vote_there [] s i d h = absurd (omega (arith, h.in_range))
 vote_there (x ∷ xs) s zero d h = rw (eq-eqb x.place s (h.same d)) refl
 vote_there (x ∷ xs) s (suc i) d h =
     rw (ne_eqb x.place s (λ e. omega (arith, h.before 0 d (omega arith))))
-    (vote_there xs s i d (place_behind x xs s i h))
+    (vote_there xs s i d (place_later x xs s i h))
 
 -- at the index where the place would be there is no vote for it
 pub none_there : (votes : List Vote) (s i : ℕ) → IsGapIn votes s i → kept_vote_at votes s ≡ None
@@ -112,17 +112,17 @@ none_there (x ∷ xs) s zero h =
       after = λ j d le lt. h.after (suc j) d (omega arith) (omega arith);
     }))
 none_there (x ∷ xs) s (suc i) h =
-    rw (ne_eqb x.place s (λ e. omega (arith, h.before 0 x (omega arith)))) (none_there xs s i (gap_behind x xs s i h))
+    rw (ne_eqb x.place s (λ e. omega (arith, h.before 0 x (omega arith)))) (none_there xs s i (gap_after x xs s i h))
 
 -- a vote is put over the one at its place
 pub put_over : (votes : List Vote) (i : ℕ) (vote : Vote) → IsPlaceIn votes vote.place i → set votes i vote ≡ with_vote votes vote
 put_over [] i vote h = absurd (omega (arith, h.in_range))
 put_over (x ∷ xs) zero vote h = grind (arith, nat_tests, h.same x)
-put_over (x ∷ xs) (suc i) vote h = grind (arith, nat_tests, h.before 0 x, put_over xs i vote (place_behind x xs vote.place i h))
+put_over (x ∷ xs) (suc i) vote h = grind (arith, nat_tests, h.before 0 x, put_over xs i vote (place_later x xs vote.place i h))
 
 -- or into the gap for its place
 pub put_between : (votes : List Vote) (i : ℕ) (vote : Vote) → IsGapIn votes vote.place i → insert votes i vote ≡ with_vote votes vote
 put_between [] zero vote h = refl
 put_between [] (suc i) vote h = absurd (omega (arith, h.in_range))
 put_between (x ∷ xs) zero vote h = grind (arith, nat_tests, h.after 0 x)
-put_between (x ∷ xs) (suc i) vote h = grind (arith, nat_tests, h.before 0 x, put_between xs i vote (gap_behind x xs vote.place i h))
+put_between (x ∷ xs) (suc i) vote h = grind (arith, nat_tests, h.before 0 x, put_between xs i vote (gap_after x xs vote.place i h))

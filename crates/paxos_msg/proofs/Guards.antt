@@ -23,10 +23,10 @@ bytes_before (suc n) [] h i = omega arith
 bytes_before (suc n) (b ∷ bytes) h zero = h zero
 bytes_before (suc n) (b ∷ bytes) h (suc i) = bytes_before n bytes (λ j. h (suc j)) i
 
-pub bytes_behind : (n : ℕ) (bytes : List ℕ) → AreBytes bytes → AreBytes (drop n bytes)
-bytes_behind zero bytes h = h
-bytes_behind (suc n) [] h = λ i. omega arith
-bytes_behind (suc n) (b ∷ bytes) h = bytes_behind n bytes (λ i. h (suc i))
+pub bytes_after : (n : ℕ) (bytes : List ℕ) → AreBytes bytes → AreBytes (drop n bytes)
+bytes_after zero bytes h = h
+bytes_after (suc n) [] h = λ i. omega arith
+bytes_after (suc n) (b ∷ bytes) h = bytes_after n bytes (λ i. h (suc i))
 
 -- ---- tests
 

@@ -12,7 +12,7 @@ use Rattle.paxos_msg.specs.Keys.{AreOwnKeys, batches}
 use Rattle.paxos_msg.specs.Reading.{first_byte, number_at, is_batch, is_node, characters_at, keys_at, value_at, own_keys_at}
 use Rattle.paxos_msg.specs.Spelling.{number_bytes, value_bytes}
 use Rattle.base.proofs.Steps.{bind_ok, guard_ok, unless_ok, ok_is}
-use Rattle.paxos_msg.proofs.Guards.{Takes, bytes_before, bytes_behind, takes_then, zero_false, false_zero, past_one, node_found, node_again}
+use Rattle.paxos_msg.proofs.Guards.{Takes, bytes_before, bytes_after, takes_then, zero_false, false_zero, past_one, node_found, node_again}
 use Rattle.paxos_msg.proofs.Numbers.{byte_found, number_found, number_again}
 use Rattle.paxos_msg.proofs.OwnKeys.{own_keys, owner}
 
@@ -42,7 +42,7 @@ characters_found first bytes p h e =
     let good = batch_found first a.0.0 (not-false _ b.0) in
     let parts : bytes ≡ a.0.0 ∷ (made.0 ++ made.1) = count.0.parts ∙ ap (λ (t : List ℕ). a.0.0 ∷ t) (sym (take-append-drop a.0.0 a.0.1)) in
     let taken : Takes bytes (length made.0 ∷ made.0) made.1 =
-    record { parts = rw len parts; others = bytes_behind a.0.0 a.0.1 count.0.others } in
+    record { parts = rw len parts; others = bytes_after a.0.0 a.0.1 count.0.others } in
     let batch : IsBatch first made.0 = rw len (good.0, good.1, good.2, good.3, bytes_before a.0.0 a.0.1 count.0.others) in
     rw (← ok_is made p g.1) (taken, batch)
 

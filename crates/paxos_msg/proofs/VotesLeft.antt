@@ -67,34 +67,34 @@ few_left (suc n) bytes = few_more (raw_vote_at bytes) n (few_left n)
 
 -- reading from a state of the loop leads to the answer of the whole
 pub record LeadsTo (size : ℕ) (b : Ballot) (first upto count : ℕ) (bytes : List ℕ) (low left : ℕ) (rest : List ℕ) : Type 0 where
-  pub ok : (behind : List ℕ) → votes_at size b first upto low left rest ≡ Ok (votes_left left rest, behind)
-      → votes_at size b first upto 0 count bytes ≡ Ok (votes_left count bytes, behind)
+  pub ok : (later : List ℕ) → votes_at size b first upto low left rest ≡ Ok (votes_left left rest, later)
+      → votes_at size b first upto 0 count bytes ≡ Ok (votes_left count bytes, later)
   pub err : (e : WireFault) → votes_at size b first upto low left rest ≡ Err e → votes_at size b first upto 0 count bytes ≡ Err e
 
 -- the loop begins with the whole
 pub at_start : (size : ℕ) (b : Ballot) (first upto count left : ℕ) (bytes : List ℕ) → left ≡ count
     → LeadsTo size b first upto count bytes 0 left bytes
-at_start size b first upto count left bytes e = rw e (record { ok = λ behind h. h; err = λ fault h. h })
+at_start size b first upto count left bytes e = rw e (record { ok = λ later h. h; err = λ fault h. h })
 
 -- a vote more is read
-pub goes_on : {size : ℕ} {b : Ballot} {first upto count : ℕ} {bytes : List ℕ} {low left : ℕ} (less : ℕ) {rest behind : List ℕ}
+pub goes_on : {size : ℕ} {b : Ballot} {first upto count : ℕ} {bytes : List ℕ} {low left : ℕ} (less : ℕ) {rest later : List ℕ}
     {v : Vote} → LeadsTo size b first upto count bytes low left rest → less + 1 ≡ left
-    → vote_at size b first upto low rest ≡ Ok (v, behind) → raw_vote_at rest ≡ Ok (v, behind)
-    → LeadsTo size b first upto count bytes (v.place + 1) less behind
-goes_on {size} {b} {first} {upto} {low} {left} less {rest} {behind} {v} so_far one_less h raw =
+    → vote_at size b first upto low rest ≡ Ok (v, later) → raw_vote_at rest ≡ Ok (v, later)
+    → LeadsTo size b first upto count bytes (v.place + 1) less later
+goes_on {size} {b} {first} {upto} {low} {left} less {rest} {later} {v} so_far one_less h raw =
     let e : left - 1 ≡ less = omega arith in
     let lt : 0 < left = omega arith in
     record {
       ok =
           λ end k. so_far.ok end
-          (rw (first_left left rest behind v lt raw, first_at size b first upto low left rest behind v lt h, e)
+          (rw (first_left left rest later v lt raw, first_at size b first upto low left rest later v lt h, e)
           (ap (with_first v) k));
-      err = λ fault k. so_far.err fault (rw (first_at size b first upto low left rest behind v lt h, e) (ap (with_first v) k));
+      err = λ fault k. so_far.err fault (rw (first_at size b first upto low left rest later v lt h, e) (ap (with_first v) k));
     }
 
 -- ---- the bytes of a value, after the place and the ballot of its vote
 
-pub behind_ballot : (bytes a b : List ℕ) (n : ℕ) → Takes 4 bytes a → Takes 5 a b → drop n b ≡ drop (9 + n) bytes
-behind_ballot bytes a b n place ballot =
+pub ballot_drop : (bytes a b : List ℕ) (n : ℕ) → Takes 4 bytes a → Takes 5 a b → drop n b ≡ drop (9 + n) bytes
+ballot_drop bytes a b n place ballot =
     ap (λ (t : List ℕ). drop n t) (ballot.1 ∙ ap (λ (t : List ℕ). drop 5 t) place.1 ∙ drop-drop 5 4 bytes)
     ∙ drop-drop n 9 bytes

@@ -31,8 +31,8 @@ vote_at-with_vote_other [] vote s ne = found_later vote [] s (λ e. ne (sym e))
 vote_at-with_vote_other (x ∷ xs) vote s ne = other_step x vote xs s ne (vote_at-with_vote_other xs vote s ne)
 
 -- what is further back in a list is in the list
-behind : (x vote : Vote) (xs : List Vote) → Contains xs vote → Contains (x ∷ xs) vote
-behind x vote xs (k, in_range, is) = (suc k, omega arith, is)
+one_more : (x vote : Vote) (xs : List Vote) → Contains xs vote → Contains (x ∷ xs) vote
+one_more x vote xs (k, in_range, is) = (suc k, omega arith, is)
 
 -- a vote that is found is one of the votes, and at the place
 pub vote_found : (votes : List Vote) (s : ℕ) (vote : Vote) → kept_vote_at votes s ≡ Some vote → Contains votes vote × (vote.place ≡ s)
@@ -44,5 +44,5 @@ vote_found (x ∷ xs) s vote e =
           ((0, omega arith, (cc)), (cc))
       | inr other ↦
           let later = vote_found xs s vote (sym (found_later x xs s other) ∙ e) in
-          (behind x vote xs later.0, later.1)
+          (one_more x vote xs later.0, later.1)
     ]

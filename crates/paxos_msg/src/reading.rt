@@ -209,7 +209,7 @@ fn raw_value_of(bytes: &[u8]) -> Result<(Value, usize), WireFault>
 
 /// Reads a vote without a test of its numbers.
 #[inline]
-#[tactic(auto, using(crate::proofs::VotesLeft::behind_ballot), unfolding(crate::specs::Raw::raw_vote_at))]
+#[tactic(auto, using(crate::proofs::VotesLeft::ballot_drop), unfolding(crate::specs::Raw::raw_vote_at))]
 pub(crate) fn raw_vote_of(bytes: &[u8]) -> Result<(Vote, usize), WireFault>
     ensures { GivesField bytes.now result (raw_vote_at bytes.now) }
 {
@@ -295,7 +295,7 @@ pub(crate) fn own_keys_of(size: u8, sender: u8, bytes: &[u8]) -> Result<(Value, 
 /// with `Order` if its place is below `low`, with `Place` if the promise does not report on it,
 /// with `Ballot` if its ballot is out of range or above the promise's, and as `value_of` does.
 #[inline]
-#[tactic(auto, using(crate::proofs::VotesLeft::behind_ballot), unfolding(crate::specs::Reading::vote_at, crate::specs::Raw::raw_vote_at))]
+#[tactic(auto, using(crate::proofs::VotesLeft::ballot_drop), unfolding(crate::specs::Reading::vote_at, crate::specs::Raw::raw_vote_at))]
 pub(crate) fn vote_of(part: Part, low: u32, bytes: &[u8]) -> Result<(Vote, usize), WireFault>
     ensures exact { GivesField bytes.now result
         (vote_at part.size part.ballot part.first part.upto low bytes.now) }

@@ -13,16 +13,16 @@ Leads segment i procs = (k : ℕ) (q : Proc) → slice_get procs k ≡ Some q �
 abbrev IsFirst : List Proc → ℕ → ℕ → Type 0
 IsFirst procs at low = (low ≡ 0) ⊎ ((k : ℕ) × (q : Proc) × (slice_get procs k ≡ Some q) × (q.jtab < at) × (low ≡ q.jtab + 2))
 
-abbrev AreBehind : List Proc → ℕ → ℕ → Type 0
-AreBehind procs at low = (k : ℕ) (q : Proc) → slice_get procs k ≡ Some q → q.jtab < at → q.jtab + 2 ≤ low
+abbrev AreAfter : List Proc → ℕ → ℕ → Type 0
+AreAfter procs at low = (k : ℕ) (q : Proc) → slice_get procs k ≡ Some q → q.jtab < at → q.jtab + 2 ≤ low
 
-behind_cons : (q : Proc) (procs : List Proc) (at low : ℕ) → (q.jtab < at → q.jtab + 2 ≤ low) → AreBehind procs at low
-    → AreBehind (q ∷ procs) at low
-behind_cons q procs at low here rest zero p g below =
+after_cons : (q : Proc) (procs : List Proc) (at low : ℕ) → (q.jtab < at → q.jtab + 2 ≤ low) → AreAfter procs at low
+    → AreAfter (q ∷ procs) at low
+after_cons q procs at low here rest zero p g below =
     let P : Proc → Type 0 = λ x. x.jtab < at → x.jtab + 2 ≤ low in
     let same : q ≡ p = cc (g) in
     subst P same here below
-behind_cons q procs at low here rest (suc k) p g below = rest k p g below
+after_cons q procs at low here rest (suc k) p g below = rest k p g below
 
 first_cons : (q : Proc) (procs : List Proc) (at low : ℕ) → IsFirst procs at low → IsFirst (q ∷ procs) at low
 first_cons q procs at low (inl e) = inl e
@@ -33,9 +33,9 @@ cons_by : (q : Proc) (procs : List Proc) (at low : ℕ) (c : Bool) → ltb q.jta
 cons_by q procs at low true e h =
     let below = ltb-true q.jtab at e in
     let top = max (q.jtab + 2) low in
-    let rest : AreBehind procs at top = λ k p g lt. (let one = h.behind k p g lt in omega arith) in
+    let rest : AreAfter procs at top = λ k p g lt. (let one = h.tables k p g lt in omega arith) in
     record {
-      behind = behind_cons q procs at top (λ lt. omega arith) rest;
+      tables = after_cons q procs at top (λ lt. omega arith) rest;
       first = elim (cases_lt low (q.jtab + 2)) [
         | inl less ↦ inr (0, q, refl, below, omega arith)
         | inr more ↦ (let same : top ≡ low = omega arith in rw same (first_cons q procs at low h.first))
@@ -45,7 +45,7 @@ cons_by q procs at low false e h =
     let least : at ≤ q.jtab = ltb-false q.jtab at e in
     let same : max 0 low ≡ low = omega arith in
     rw same (record {
-      behind = behind_cons q procs at low (λ lt. absurd (omega arith)) h.behind;
+      tables = after_cons q procs at low (λ lt. absurd (omega arith)) h.tables;
       first = first_cons q procs at low h.first;
     })
 
@@ -56,7 +56,7 @@ begins_cons q procs t at low e h = rw e (cons_by q procs at low (ltb q.jtab at) 
 -- what the dictionary says of where a part begins is so
 pub low_begins : (segment : List ℕ) (at i : ℕ) (procs : List Proc) → Leads segment i procs
     → BeginsAt procs at (low_from segment at i (length procs))
-low_begins segment at i [] h = record { behind = λ k q g lt. absurd cc; first = inl refl }
+low_begins segment at i [] h = record { tables = λ k q g lt. absurd cc; first = inl refl }
 low_begins segment at i (q ∷ procs) h =
     let here : table_of segment i ≡ q.jtab = (let same : i + 0 ≡ i = omega arith in rw same at (h zero q refl)) in
     let rest : Leads segment (i + 1) procs = λ k p g. (let same : i + 1 + k ≡ i + suc k = omega arith in rw same (h (suc k) p g)) in
@@ -65,7 +65,7 @@ low_begins segment at i (q ∷ procs) h =
 begins_least : (procs : List Proc) (at x y : ℕ) → BeginsAt procs at x → BeginsAt procs at y → x ≤ y
 begins_least procs at x y h g = elim h.first [
   | inl e ↦ omega arith
-  | inr f ↦ (let one = g.behind f.0 f.1 f.2 f.3 in omega (arith, one, f.4))
+  | inr f ↦ (let one = g.tables f.0 f.1 f.2 f.3 in omega (arith, one, f.4))
 ]
 
 -- a part begins at one place

@@ -31,7 +31,7 @@ pub record Points (segment : List ℕ) (place low end x : ℕ) : Type 0 where
 -- The place at which a procedure's part begins: after the greatest table below its own, or at 0.
 -- Source: Manual, attribute tables.
 pub record BeginsAt (procs : List Proc) (table low : ℕ) : Type 0 where
-  pub behind : (k : ℕ) (q : Proc) → slice_get procs k ≡ Some q → q.jtab < table → q.jtab + 2 ≤ low
+  pub tables : (k : ℕ) (q : Proc) → slice_get procs k ≡ Some q → q.jtab < table → q.jtab + 2 ≤ low
   pub first : (low ≡ 0)
       ⊎ ((k : ℕ) × (q : Proc) × (slice_get procs k ≡ Some q) × (q.jtab < table)
       × (low ≡ q.jtab + 2))

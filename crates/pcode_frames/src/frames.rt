@@ -189,10 +189,10 @@ impl Frames {
         Ok(())
     }
 
-    /// Returns from the current frame, not the main one, and returns that frame. Pushes its first
-    /// `words` words, offset 1 last, and lowers memory to its base. Fails with `Halt::BadMemory` if
-    /// one of these words is not live, else with `Halt::Overflow` if they do not fit on the stack.
-    /// Then nothing has changed.
+    /// Ends the current frame, not the main one, and returns it. Pushes that frame's first `words`
+    /// words, offset 1 last, and lowers memory to that frame's base. Fails with `Halt::BadMemory`
+    /// if one of these words is not live, else with `Halt::Overflow` if they do not fit on the
+    /// stack. Then nothing has changed.
     pub fn ret(&mut self, memory: &mut Memory, stack: &mut Stack, words: u16) -> Result<Frame, Halt>
         requires { 2 ≤ length self.old }
         ensures value { (frame : Frame) → current_of self.old ≡ Some frame →

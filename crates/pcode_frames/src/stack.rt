@@ -65,7 +65,7 @@ impl Stack {
         self.room.get(self.free + usize::from(depth)).copied()
     }
 
-    /// Returns the top word, of at least one.
+    /// Returns the top word. Requires that the stack has a word.
     #[inline(always)]
     pub fn top(&self) -> u16
         requires { 1 ≤ length self.now }
@@ -75,7 +75,7 @@ impl Stack {
         self.room[top]
     }
 
-    /// Replaces the top word, of at least one, by `top`.
+    /// Replaces the top word by `top`. Requires that the stack has a word.
     #[inline(always)]
     pub fn set_top(&mut self, top: u16)
         requires { 1 ≤ length self.old }
@@ -101,7 +101,7 @@ impl Stack {
         Ok(())
     }
 
-    /// Drops `words` words from the top, of at least as many.
+    /// Drops the top `words` words. Requires that the stack has at least `words`.
     #[inline(always)]
     pub fn discard(&mut self, words: usize)
         requires { words ≤ length self.old }

@@ -16,10 +16,10 @@ use Rattle.pcode_machine.specs.Blocks.{is_block, block_moved, block_loaded, bloc
 -- ---- lists
 
 -- an element of the second of two lists
-get_behind : {A : Type 0} (xs ys : List A) (n i : ℕ) → length xs ≡ n → slice_get (xs ++ ys) (n + i) ≡ slice_get ys i
-get_behind [] ys n i e = let none : n + i ≡ i = omega (arith, e) in rw none refl
-get_behind (x ∷ xs) ys zero i e = absurd (omega (arith, e))
-get_behind (x ∷ xs) ys (suc n) i e = let one : suc n + i ≡ suc (n + i) = omega arith in rw one (get_behind xs ys n i (omega (arith, e)))
+get_after : {A : Type 0} (xs ys : List A) (n i : ℕ) → length xs ≡ n → slice_get (xs ++ ys) (n + i) ≡ slice_get ys i
+get_after [] ys n i e = let none : n + i ≡ i = omega (arith, e) in rw none refl
+get_after (x ∷ xs) ys zero i e = absurd (omega (arith, e))
+get_after (x ∷ xs) ys (suc n) i e = let one : suc n + i ≡ suc (n + i) = omega arith in rw one (get_after xs ys n i (omega (arith, e)))
 
 -- an element of the first of two lists
 get_first : {A : Type 0} (xs ys : List A) (i : ℕ) → i < length xs → slice_get (xs ++ ys) i ≡ slice_get xs i
@@ -69,8 +69,8 @@ above_placed live a n block front e (suc i) le =
     let m = i - (a + n) in
     let here : i ≡ a + (n + m) = omega (arith, le) in
     let sum : a + n + m ≡ a + (n + m) = omega arith in
-    rw here (get_behind (take a live) (block ++ drop (a + n) live) a (n + m) front
-    ∙ (get_behind block (drop (a + n) live) n m e ∙ (get_drop (a + n) live m ∙ ap (λ k. slice_get live k) sum)))
+    rw here (get_after (take a live) (block ++ drop (a + n) live) a (n + m) front
+    ∙ (get_after block (drop (a + n) live) n m e ∙ (get_drop (a + n) live m ∙ ap (λ k. slice_get live k) sum)))
 
 some_placed : (live : List ℕ) (a n : ℕ) (block : List ℕ) → length block ≡ n → a + n ≤ length live
     → HasBlock live (with_block live (suc a) block) (suc a) n (slice_get block)
@@ -82,7 +82,7 @@ some_placed live a n block e h =
     rw same (record {
       inside = λ k lt.
           let at : suc a + k ≡ suc (a + k) = omega arith in
-          rw at (get_behind (take a live) rest a k front ∙ get_first block (drop (a + n) live) k (omega (arith, lt, e)));
+          rw at (get_after (take a live) rest a k front ∙ get_first block (drop (a + n) live) k (omega (arith, lt, e)));
       below = below_placed live a rest front;
       above = above_placed live a n block front e;
     })

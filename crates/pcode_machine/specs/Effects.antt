@@ -12,7 +12,7 @@ use Rattle.pcode_frames.specs.Frames.{link_up_of}
 use Rattle.pcode_machine.specs.declared.turn.Direction.{Direction}
 use Rattle.pcode_machine.specs.declared.turn.Direction.TheVariants.{Reading, Writing}
 use Rattle.pcode_machine.specs.declared.operations.Change.{Change}
-use Rattle.pcode_machine.specs.declared.operations.Change.TheVariants.{Absolute, Negation, Square, Complement, Behind}
+use Rattle.pcode_machine.specs.declared.operations.Change.TheVariants.{Absolute, Negation, Square, Complement, Past}
 use Rattle.pcode_machine.specs.declared.operations.Operation.{Operation}
 use Rattle.pcode_machine.specs.declared.operations.Operation.TheVariants.{Sum, Difference, Product, Quotient, Remainder, Both, Either, Compare, CompareBits, Element}
 use Rattle.pcode_machine.specs.declared.comparisons.Comparison.TheVariants.{Equal, NotEqual, LessOrEqual, Less, GreaterOrEqual, Greater}
@@ -116,7 +116,7 @@ effect_of p f (Lda levels n) j s =
 effect_of p f Sto j s = StoreAt
 effect_of p f (Sind n) j s = Fetch n
 effect_of p f (Ind n) j s = Fetch n
-effect_of p f (Inc n) j s = Replace (Behind n)
+effect_of p f (Inc n) j s = Replace (Past n)
 effect_of p f (Ixa n) j s = Combine (Element n)
 effect_of p f (Mov n) j s = MoveBlock n
 effect_of p f (Ldm n) j s = LoadBlock n

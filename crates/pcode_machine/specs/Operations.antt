@@ -1,7 +1,7 @@
 -- Instructions that compute words: arithmetic, logic, comparisons, pointers that move, and CHK.
 use Rattle.std.specs.Prelude.{ℕ, List, [], ◌∷◌, Result, Ok, Err}
 use Rattle.pcode_machine.specs.declared.operations.Change.{Change}
-use Rattle.pcode_machine.specs.declared.operations.Change.TheVariants.{Absolute, Negation, Square, Complement, Behind}
+use Rattle.pcode_machine.specs.declared.operations.Change.TheVariants.{Absolute, Negation, Square, Complement, Past}
 use Rattle.pcode_machine.specs.declared.operations.Operation.{Operation}
 use Rattle.pcode_machine.specs.declared.operations.Operation.TheVariants.{Sum, Difference, Product, Quotient, Remainder, Both, Either, Compare, CompareBits, Element}
 use Rattle.pcode_machine.specs.declared.turn.Stop.{Stop}
@@ -20,7 +20,7 @@ changed_of Absolute a = absolute_of a
 changed_of Negation a = negation_of a
 changed_of Square a = square_of a
 changed_of Complement a = complement_of a
-changed_of (Behind words) a = pointer_past a words
+changed_of (Past words) a = pointer_past a words
 
 -- The result of an operation on two words, or its error.
 -- Source: Manual, p-machine arithmetic.

@@ -75,7 +75,7 @@ impl MachineParts {
             Instr::Sto => self.store_at(next),
             Instr::Sind(words) => self.fetch(u16::from(words), next),
             Instr::Ind(words) => self.fetch(words, next),
-            Instr::Inc(words) => self.replace(Change::Behind(words), next),
+            Instr::Inc(words) => self.replace(Change::Past(words), next),
             Instr::Ixa(words) => self.combine(Operation::Element(words), next),
             Instr::Mov(words) => self.move_block(words, next),
             Instr::Ldm(words) => self.load_block(u16::from(words), next),

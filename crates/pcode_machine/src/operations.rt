@@ -18,7 +18,7 @@ pub enum Change {
     Square,
     Complement,
     /// A pointer, moved on by this number of words.
-    Behind(u16),
+    Past(u16),
 }
 
 /// A combination of two words.
@@ -49,7 +49,7 @@ fn changed(change: Change, a: u16) -> u16
         Change::Negation => words::negation(a),
         Change::Square => words::square(a),
         Change::Complement => words::complement(a),
-        Change::Behind(words) => pointer_past(a, words),
+        Change::Past(words) => pointer_past(a, words),
     }
 }
 

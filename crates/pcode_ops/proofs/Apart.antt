@@ -24,7 +24,7 @@ same_table segment procs h a b q r at_a at_b e =
 below_other : (segment : List ℕ) (procs : List Proc) → AreProcs segment procs → (a b i : ℕ) (q r : Proc)
     → slice_get procs a ≡ Some q → slice_get procs b ≡ Some r → q.jtab < r.jtab → i < end_of q → r.low ≤ i → ⊥
 below_other segment procs h a b i q r at_a at_b lt ends begins =
-    let behind = (h.lows b r at_b).behind a q at_a lt in
+    let tables = (h.lows b r at_b).tables a q at_a lt in
     omega arith
 
 -- two procedures in whose parts an offset lies are one
@@ -42,12 +42,12 @@ one_owner segment procs h a b i q r at_a at_b in_q in_r =
     ]
 
 -- after a procedure in whose part the offset does not lie
-owner_behind : (r : Proc) (rs : List Proc) (i k : ℕ) (q : Proc)
+owner_after : (r : Proc) (rs : List Proc) (i k : ℕ) (q : Proc)
     → ((n : ℕ) → slice_get rs n ≡ Some q → owner rs i ≡ Ok q) → is_in r i ≡ false → slice_get (r ∷ rs) k ≡ Some q
     → IsTrue (is_in q i) → owner rs i ≡ Ok q
-owner_behind r rs i zero q rest e at_k in_q =
+owner_after r rs i zero q rest e at_k in_q =
     absurd (let same : r ≡ q = cc in let out : is_in q i ≡ false = subst (λ (x : Proc). is_in x i ≡ false) same e in cc)
-owner_behind r rs i (suc k) q rest e at_k in_q = rest k at_k
+owner_after r rs i (suc k) q rest e at_k in_q = rest k at_k
 
 -- the first of some procedures
 owner_by : (r : Proc) (rs : List Proc) (i k : ℕ) (q : Proc) → (IsTrue (is_in r i) → r ≡ q)
@@ -55,7 +55,7 @@ owner_by : (r : Proc) (rs : List Proc) (i k : ℕ) (q : Proc) → (IsTrue (is_in
     → slice_get (r ∷ rs) k ≡ Some q → IsTrue (is_in q i)
     → (if t then Ok r else owner rs i) ≡ Ok q
 owner_by r rs i k q first rest true e at_k in_q = ap (λ (x : Proc). Ok x) (first e)
-owner_by r rs i k q first rest false e at_k in_q = owner_behind r rs i k q rest e at_k in_q
+owner_by r rs i k q first rest false e at_k in_q = owner_after r rs i k q rest e at_k in_q
 
 -- the first procedure in whose part an offset lies, where they all are q
 first_owner : (procs : List Proc) (i k : ℕ) (q : Proc)

@@ -100,7 +100,7 @@ pub case_table : (p : Parts) (i : ℕ) (q : Proc) (low high sb : ℤ) (table nex
 case_table p i q low high sb table next at m =
     let stands = case_jump_at_is p.segment i low high sb table next (decoded_at p.segment i (Xjp low high sb table) next at) in
     record {
-      behind = omega (arith, stands.4.3);
+      room = omega (arith, stands.4.3);
       ends = omega (arith, stands.5, stands.6);
       entries = (entries p q low high sb table next m).0;
     }

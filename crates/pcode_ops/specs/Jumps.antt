@@ -37,6 +37,6 @@ case_of segment low high table w =
 -- The facts of a case jump's table: it lies in the segment after its UJP, and each entry leads into
 -- the part of procedure `q`.
 pub record IsCaseTable (segment : List ℕ) (q : Proc) (low high : ℤ) (table : ℕ) : Type 0 where
-  pub behind : 2 ≤ table
+  pub room : 2 ≤ table
   pub ends : table + 2 * cases low high ≤ length segment
   pub entries : entries_in segment q table (cases low high) ≡ true

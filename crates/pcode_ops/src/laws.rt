@@ -39,21 +39,21 @@ pub fn reached_stays_in_part()
     ensures { (p : Parts) (i : ℕ) → IsLoadable p → Reach p i → (q : Proc) × StaysInPart p i q }
 {}
 
-/// What the checks of calls, static links and returns let pass is what the rules, as a relation,
-/// let a procedure hold.
+/// What the checks accept, the rules allow in that procedure, and the other way round: the checks
+/// are of calls, static links and returns, and the rules are a relation.
 pub fn legal_may_be_held()
     ensures { (procs : List Proc) (q : Proc) (instr : Instr) →
         (legal procs q instr ≡ Ok tt) ↔ MayHold procs q instr }
 {}
 
-/// Where a jump leads, as a function and as a relation, is one.
+/// The target of a jump, as a function and as a relation, is the same.
 pub fn jump_leads()
     ensures { (segment : List ℕ) (q : Proc) (sb : ℤ) (j t : ℕ) →
         (jump_to segment q sb j ≡ Ok t) ↔ JumpsTo segment q sb j t }
 {}
 
-/// Where an instruction leads is what the rules of its flow say. It leads nowhere out of its
-/// procedure's part exactly if they hold.
+/// The offsets that an instruction may lead to are those that the rules of its flow give. All of
+/// them are in its procedure's part exactly if the rules hold.
 pub fn onward_is_led_to()
     ensures leads { (segment : List ℕ) (q : Proc) (instr : Instr) (j t : ℕ) (o : Onward) →
         onward segment q instr j ≡ Ok o →

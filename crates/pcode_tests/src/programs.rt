@@ -2,33 +2,9 @@
 use pcode_file::CodeFile;
 use pcode_machine::{End, Machine, Pause, Turn};
 use pcode_ops::Program;
-use std::alloc::{AllocError, Global};
+use std::alloc::Global;
 use std::test::Fail;
-
-/// Writes the letter A: SLDC 65, SRO 3, and UNITWRITE of one byte at word 3 to unit 1.
-const PRINTS_A: [u8; 28] = [
-    0x41, 0xab, 0x03, 0x01, 0xa5, 0x03, 0x00, 0x01, 0x00, 0x00, 0x9e, 0x06, 0xc1, 0x00, 0x02, 0x00,
-    0x04, 0x00, 0x06, 0x00, 0x14, 0x00, 0x01, 0x00, 0x02, 0x00, 0x01, 0x01,
-];
-
-/// Returns a code file with this name, this segment as its entry 1, and zeros up to 1,024 bytes.
-fn code_file(alloc: Global, name: &[u8; 8], segment: &[u8]) -> Result<Vec<u8>, AllocError> {
-    let [low, high] = u16::try_from(segment.len()).unwrap_or(0).to_le_bytes();
-    let mut file = Vec::new(alloc);
-    file.extend_from_slice(&[0, 0, 0, 0, 1, 0, low, high])?;
-    for _ in file.len()..72 {
-        file.push(0)?;
-    }
-    file.extend_from_slice(name)?;
-    for _ in file.len()..512 {
-        file.push(0)?;
-    }
-    file.extend_from_slice(segment)?;
-    for _ in file.len()..1024 {
-        file.push(0)?;
-    }
-    Ok(file)
-}
+use test_programs::{PRINTS_A, code_file};
 
 /// Returns the file that prints A, with a name.
 fn letter(alloc: Global) -> Result<CodeFile, Fail> {

@@ -134,7 +134,7 @@ pub fn read_line(line: &str) -> Option<Line>
 }
 
 /// Returns the text after `word` and a space, if `text` begins with them.
-fn read_behind<'a>(word: &str, text: &'a str) -> Option<&'a str>
+fn read_after<'a>(word: &str, text: &'a str) -> Option<&'a str>
     ensures { option_copied result ≡ text_past word.now text.now }
 {
     let (first, rest) = first_of(text);
@@ -145,7 +145,7 @@ fn read_behind<'a>(word: &str, text: &'a str) -> Option<&'a str>
 pub fn read_header(line: &str) -> Option<(u8, u32)>
     ensures { result ≡ header_of line.now }
 {
-    let (size, rest) = first_of(read_behind("size", line)?);
-    let session = read_behind("session", rest?)?;
+    let (size, rest) = first_of(read_after("size", line)?);
+    let session = read_after("session", rest?)?;
     Some((number_u8(size)?, number_u32(session)?))
 }

@@ -1,4 +1,5 @@
 use Rattle.std.proofs.Common.{rules, ◌≡◌, ◌≢◌, ◌∙◌, ◌<◌, [], ◌∷◌, length, Err, Ok, refl, ap, subst, sym, arith}
+use Rattle.base.proofs.Lists.{all_of_one}
 use Rattle.paxos_msg.specs.declared.message.Group.{Group}
 use Rattle.paxos_msg.specs.Batches.{Msg}
 use Rattle.paxos_msg.specs.Fits.{Fits}
@@ -8,7 +9,7 @@ use Rattle.group_node.specs.declared.fault.NodeFault.{NodeFault}
 use Rattle.group_node.specs.declared.fault.NodeFault.TheVariants.{Memory}
 use Rattle.group_wire.specs.declared.answers.Heard.TheVariants.{Lost, Message}
 use Rattle.group_wire.specs.Arrivals.{Arrival, Hears, Loses, NoMessage, TooLong, GoesOn, IsFateOf}
-use Rattle.group_wire.proofs.Hearing.{all_of_one, drops_longer, hears_nothing, hears_of, hears_one, is_not_refused, refused_as, refused_others, refuses_one}
+use Rattle.group_wire.proofs.Hearing.{drops_longer, hears_nothing, hears_of, hears_one, is_not_refused, refused_as, refused_others, refuses_one}
 use Rattle.group_wire.proofs.host.Host.hear_bytes.Goals as goal
 
 pub returns-then-bytes-gt-LONGEST_DATAGRAM-clause-hears : goal.returns-then-bytes-gt-LONGEST_DATAGRAM-clause-hears
