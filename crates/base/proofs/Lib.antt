@@ -1,2 +1,3 @@
+pub mod Branches
 pub mod Lists
 pub mod Steps

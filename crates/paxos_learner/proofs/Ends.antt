@@ -1,8 +1,8 @@
 -- How many keys there were after each place, when one place more comes.
-use Rattle.std.proofs.Common.{◌≡◌, ◌∙◌, ℕ, ◌+◌, ◌<◌, ◌≤◌, Bool, true, false, List, [], ◌∷◌, ◌++◌, length, inl, inr, if◌then◌else◌, slice_index, length-append, sym, ap, arith}
+use Rattle.std.proofs.Common.{◌≡◌, ◌∙◌, ℕ, ◌+◌, ◌<◌, ◌≤◌, Bool, true, false, List, [], ◌∷◌, ◌++◌, length, if◌then◌else◌, slice_index, length-append, sym, ap, arith}
 use Rattle.std.proofs.lemmas.Bool.{cases_lt}
 use Rattle.std.proofs.lemmas.List.{get_or_append_left, get_or_push, length_push}
-use Rattle.std.specs.List.{list_any}
+use Rattle.std.proofs.lemmas.Bool.Decides.{nat_tests}
 use Rattle.indexmap.specs.IndexSet.{insert_all, insert_key}
 use Rattle.paxos_msg.specs.declared.value.Value.{Value}
 use Rattle.paxos_msg.specs.Keys.{Key, keys_of}
@@ -27,11 +27,7 @@ module _ (ends more : List ℕ) (last : ℕ) (is : more ≡ ends ++ last ∷ [])
   -- whatever holds of each place so far and of this one
   pub each_place : (P : ℕ → Type 0) → ((s : ℕ) → s < length ends → P s) → ((s : ℕ) → s ≡ length ends → P s) → (s : ℕ)
       → s < length more → P s
-  each_place P before at_end s low =
-      elim (cases_lt s (length ends)) [
-        | inl less ↦ before s less
-        | inr high ↦ at_end s (omega (arith, longer))
-      ]
+  each_place P before at_end s low = grind (arith, nat_tests, cases_lt, longer)
 
 -- ---- no key is taken away
 
@@ -43,9 +39,7 @@ no_fewer false keys more = omega (arith, length-append keys more)
 -- there are no fewer keys with more
 pub entered_no_fewer : (keys more : List Key) → length keys ≤ length (insert_all same_key keys more)
 entered_no_fewer keys [] = omega arith
-entered_no_fewer keys (k ∷ more) =
-    let one = no_fewer (list_any (same_key k) keys) keys (k ∷ []) in
-    omega (arith, entered_no_fewer (insert_key same_key keys k) more)
+entered_no_fewer keys (k ∷ more) = grind (arith, nat_tests, no_fewer, entered_no_fewer (insert_key same_key keys k) more)
 
 -- ---- the counts
 

@@ -7,6 +7,7 @@ use Rattle.std.proofs.lemmas.List.Elements.{filter-append, filter_map-append}
 use Rattle.std.specs.List.{filter_map, cons_option, flat_map, range_with_len}
 use Rattle.std.specs.Ordering.{nat_cmp}
 use Rattle.std.specs.FinMap.{FinMap, get}
+use Rattle.std.proofs.lemmas.Bool.Decides.{nat_tests}
 use Rattle.paxos_msg.specs.declared.value.Value.{Value}
 use Rattle.paxos_msg.specs.Keys.{Key, keys_of}
 use Rattle.paxos_learner.specs.Learner.{front_of, HasLearnedMore}
@@ -40,9 +41,7 @@ next_of_more (Some v) rest s h = refl
 get_range : (f : ℕ → Option Value) (a n s : ℕ) → ((i : ℕ) → a ≤ i → i < a + n → IsTrue (is_some (f i))) → s < n
     → slice_get (filter_map f (range_with_len a n)) s ≡ f (a + s)
 get_range f a zero s h low = absurd (omega arith)
-get_range f a (suc n) zero h low =
-    let e : a ≡ a + 0 = omega arith in
-    first_of_more (f a) (filter_map f (range_with_len (a + 1) n)) (h a (omega arith) (omega arith)) ∙ ap f e
+get_range f a (suc n) zero h low = grind (arith, nat_tests)
 get_range f a (suc n) (suc s) h low =
     let e : (a + 1) + s ≡ a + suc s = omega arith in
     next_of_more (f a) (filter_map f (range_with_len (a + 1) n)) s (h a (omega arith) (omega arith))

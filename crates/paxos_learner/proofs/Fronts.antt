@@ -1,6 +1,6 @@
 -- The front: there is one least place that isn't learned, and the definition finds it.
 use Rattle.std.proofs.Common.{◌≡◌, ◌∙◌, ℕ, ◌+◌, ◌<◌, ◌≤◌, Bool, true, false, ◌||◌, ◌&&◌, T, List, [], ◌∷◌, map, nat_eq, Option, None, Some, is_some, inl, inr, refl, sym, ap, arith}
-use Rattle.std.proofs.lemmas.Bool.{cases_eq, cases_lt, cases_order, eq-eqb, ne_eqb, or_left, or_right, or_from, true≢false}
+use Rattle.std.proofs.lemmas.Bool.{cases_eq, cases_lt, eq-eqb, ne_eqb, or_left, or_right, or_from, true≢false}
 use Rattle.std.specs.List.{list_any}
 use Rattle.std.specs.Ordering.{nat_cmp, is_lt, eq_by_cmp}
 use Rattle.std.specs.Cmp.{ranked, unsigned_tied}
@@ -8,6 +8,7 @@ use Rattle.std.specs.declared.cmp.Ordering.{Ordering}
 use Rattle.std.specs.declared.cmp.Ordering.TheVariants.{Less, Equal, Greater}
 use Rattle.std.specs.FinMap.{FinMap, get, keys, entries, entries_sorted, is_sorted, contains_key-keys}
 use Rattle.std.specs.FinMap.Entries.{below_all, find, is_some-find}
+use Rattle.std.proofs.lemmas.Bool.Decides.{nat_tests}
 use Rattle.paxos_msg.specs.declared.value.Value.{Value}
 use Rattle.paxos_learner.specs.Learner.{first_missing, front_of, IsFront}
 
@@ -38,11 +39,7 @@ stops s k ks ne = rw (ne_eqb k s ne) refl
 -- the search never goes back
 from_start : (s : ℕ) (ks : List ℕ) → s ≤ first_missing s ks
 from_start s [] = omega arith
-from_start s (k ∷ ks) =
-    elim (cases_eq k s) [
-      | inl e ↦ omega (arith, goes_on s k ks e, from_start (s + 1) ks)
-      | inr ne ↦ omega (arith, stops s k ks ne)
-    ]
+from_start s (k ∷ ks) = grind (arith, nat_tests, cases_eq, goes_on, stops, from_start (s + 1) ks)
 
 -- each place from s on that is below the first missing one is there
 here_below : (s i : ℕ) (ks : List ℕ) → Ascend s ks → s ≤ i → i < first_missing s ks → has ks i ≡ true
@@ -145,12 +142,7 @@ learned_below m a b x y h = true≢false (sym (y.below a h) ∙ ap is_some x.her
 
 -- there is one front alone
 pub front_unique : (m : FinMap nat_cmp Value) (a b : ℕ) → IsFront m a → IsFront m b → a ≡ b
-front_unique m a b x y =
-    elim (cases_order a b) [
-      | inl e ↦ e
-      | inr (inl h) ↦ absurd (learned_below m a b x y h)
-      | inr (inr h) ↦ absurd (learned_below m b a y x h)
-    ]
+front_unique m a b x y = grind (arith, nat_tests)
 
 -- so what is the front is what the definition finds
 pub front_found : (m : FinMap nat_cmp Value) (f : ℕ) → IsFront m f → f ≡ front_of m

@@ -1,17 +1,17 @@
 -- What a learner keeps stays true when a place is learned, and when the front rises.
-use Rattle.std.proofs.Common.{◌≡◌, ◌∙◌, ℕ, zero, suc, ◌+◌, ◌*◌, ◌<◌, ◌≤◌, nat_lt, min, Bool, true, false, IsTrue, List, [], ◌∷◌, ◌++◌, length, take, drop, map, Option, None, Some, is_some, is_none, inl, inr, if◌then◌else◌, slice_index, refl, sym, ap, arith}
-use Rattle.std.proofs.lemmas.Bool.{and_parts, cases_eq, cases_lt, lt-ltb, le-ltb, true≢false}
+use Rattle.std.proofs.Common.{◌≡◌, ◌∙◌, ℕ, zero, suc, ◌+◌, ◌*◌, ◌<◌, ◌≤◌, min, Bool, true, false, IsTrue, List, [], ◌∷◌, ◌++◌, length, take, drop, map, Option, None, Some, is_some, is_none, inl, inr, if◌then◌else◌, slice_index, refl, sym, ap, arith}
+use Rattle.std.proofs.lemmas.Bool.{cases_eq, cases_lt, lt-ltb, le-ltb, true≢false}
 use Rattle.std.proofs.lemmas.List.{take_all, take-append-le, take-append-drop, map-append}
-use Rattle.std.specs.List.{list_any}
 use Rattle.std.specs.Ordering.{nat_cmp}
 use Rattle.std.specs.FinMap.{FinMap, get, insert, empty, get-empty}
+use Rattle.std.proofs.lemmas.Bool.Decides.{nat_tests}
 use Rattle.paxos_msg.specs.declared.value.Value.{Value}
 use Rattle.indexmap.specs.IndexSet.{insert_all, insert_key}
 use Rattle.paxos_msg.specs.Keys.{Key, keys_of}
 use Rattle.paxos_learner.specs.Input.{same_key, keys_in_order, values_below, input_of}
 use Rattle.paxos_learner.specs.Entered.{Entered, keys_with, count_below}
 use Rattle.paxos_learner.specs.Kept.{IsInputOf}
-use Rattle.paxos_learner.specs.Learner.{Learner, IsFront, front_of, is_open}
+use Rattle.paxos_learner.specs.Learner.{Learner, IsFront, is_open}
 use Rattle.paxos_learner.proofs.Ends.{each_place, end_before, end_here, entered_no_fewer, longer, no_fewer}
 use Rattle.paxos_learner.proofs.KeysOnce.{keys_entered}
 use Rattle.paxos_learner.proofs.ValuesBelow.{values_more, same_below}
@@ -21,27 +21,17 @@ use Rattle.paxos_learner.proofs.OnePlace.{get_other}
 
 -- what is not learned comes after the places so far
 pub not_below : (learned : FinMap nat_cmp Value) (e : Entered) (s : ℕ) → IsInputOf learned e → get learned s ≡ None → length e.ends ≤ s
-not_below learned e s h none =
-    elim (cases_lt s (length e.ends)) [
-      | inl low ↦ absurd (true≢false (sym (h.below s low) ∙ ap is_some none))
-      | inr high ↦ high
-    ]
+not_below learned e s h none = grind (arith, nat_tests)
 
 module _ (learned : FinMap nat_cmp Value) (e : Entered) (s : ℕ) (v : Value) (h : IsInputOf learned e) (none : get learned s ≡ None) where
   -- the places so far have the values that they had
   same_values : (n : ℕ) → n ≤ length e.ends → values_below (insert learned s v) n ≡ values_below learned n
-  same_values n low =
-      same_below (insert learned s v) learned n
-      (λ i less. get_other learned s v i (λ same. omega (arith, not_below learned e s h none)))
+  same_values n low = grind (arith, nat_tests, same_below, get_other, not_below)
 
   -- what holds of this place and of the places that were learned holds of those that are now
   one_or_other : (P : ℕ → Type 0) → P s → ((q : ℕ) → IsTrue (is_some (get learned q)) → P q) → (q : ℕ)
       → IsTrue (is_some (get (insert learned s v) q)) → P q
-  one_or_other P at_s others q there =
-      elim (cases_eq q s) [
-        | inl same ↦ rw same at_s
-        | inr ne ↦ others q (ap is_some (sym (get_other learned s v q ne)) ∙ there)
-      ]
+  one_or_other P at_s others q there = grind (arith, nat_tests, cases_eq, get_other)
 
   -- the input is that of the map with this place more, if there is room for it
   pub input_of_learned : s < length e.ends + e.room → 32 * (s + 1) ≤ e.key_room + 32 * length e.ends → s < 65536
@@ -63,22 +53,12 @@ none_from_test (Some v) e = absurd (true≢false (sym e))
 
 -- an open place isn't learned
 pub open_is_none : (l : Learner) (s : ℕ) → IsTrue (is_open l s) → get l.learned s ≡ None
-open_is_none l s test =
-    none_from_test (get l.learned s)
-    (and_parts (is_none (get l.learned s)) (nat_lt s (front_of l.learned + 1024)) test).0
+open_is_none l s test = grind (arith, nat_tests)
 
 -- more room changes nothing
 input_of_roomier : (learned : FinMap nat_cmp Value) (e new : Entered) → IsInputOf learned e → new.keys ≡ e.keys
     → new.ends ≡ e.ends → e.room ≤ new.room → e.key_room ≤ new.key_room → IsInputOf learned new
-input_of_roomier learned e new h keys ends room key_room = record {
-  below = rw ends h.below;
-  keys = rw (keys, ends) h.keys;
-  within = rw (keys, ends) h.within;
-  ends = rw (keys, ends) h.ends;
-  room = λ s there. omega (arith, ap length ends, h.room s there);
-  key_room = λ s there. omega (arith, ap length ends, h.key_room s there);
-  small = h.small;
-}
+input_of_roomier learned e new h keys ends room key_room = grind (arith, nat_tests)
 
 -- a place is learned once there is room for it
 pub input_of_more : (learned more : FinMap nat_cmp Value) (e new : Entered) (s : ℕ) (v : Value) → IsInputOf learned e
@@ -101,9 +81,7 @@ take_more_or_same false keys more n low = take-append-le n keys more low
 take_entered : (keys more : List Key) (n : ℕ) → n ≤ length keys → take n (insert_all same_key keys more) ≡ take n keys
 take_entered keys [] n low = refl
 take_entered keys (k ∷ more) n low =
-    take_entered (insert_key same_key keys k) more n
-    (omega (arith, no_fewer (list_any (same_key k) keys) keys (k ∷ [])))
-    ∙ take_more_or_same (list_any (same_key k) keys) keys (k ∷ []) n low
+    grind (arith, nat_tests, keys, no_fewer, take_more_or_same, take_entered (insert_key same_key keys k) more n)
 
 -- the next place has entered the input
 pub record IsNext (e : Entered) (v : Value) (new : Entered) : Type 0 where

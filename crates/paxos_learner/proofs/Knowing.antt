@@ -3,6 +3,7 @@ use Rattle.std.proofs.Common.{◌≡◌, ◌∙◌, ℕ, ◌≤◌, List, [], le
 use Rattle.std.specs.Prelude.{Contains}
 use Rattle.std.specs.Ordering.{nat_cmp}
 use Rattle.std.specs.FinMap.{FinMap, get, insert, empty, get-empty}
+use Rattle.std.proofs.lemmas.Bool.Decides.{nat_tests}
 use Rattle.paxos_msg.specs.declared.value.Value.{Value}
 use Rattle.paxos_msg.specs.Keys.{Key, keys_of}
 use Rattle.paxos_learner.specs.Entered.{Entered, keys_with}
@@ -40,7 +41,7 @@ known_more learned more keys new s v h none is now = rw (is, now) (record {
 
 -- no key is known yet
 known_none : (keys : List Key) → keys ≡ [] → AreKnown empty keys
-known_none keys none = rw none (record { stand = λ k there. absurd (omega (arith, there.1)); all = λ s v e k has. absurd (none_in s v e) })
+known_none keys none = grind (arith, nat_tests, none_in)
 
 -- nothing is learned yet
 pub kept_none : (size : ℕ) (learned : FinMap nat_cmp Value) (e : Entered) (known : List Key) → size ≤ 9

@@ -1,12 +1,12 @@
 -- Keys of learned values, as a test finds them.
 use Rattle.std.proofs.Common.{◌≡◌, ◌∙◌, ℕ, ◌<◌, Bool, true, false, ◌||◌, cond, T, IsTrue, List, [], ◌∷◌, map, Some, refl, ap, sym, arith}
 use Rattle.std.specs.Prelude.{◌≢◌}
-use Rattle.std.proofs.lemmas.Bool.{eq-eqb, ne_eqb, or_left, or_right, true≢false}
+use Rattle.std.proofs.lemmas.Bool.{or_left, or_right, true≢false}
 use Rattle.std.specs.List.{list_any}
 use Rattle.std.specs.Ordering.{nat_cmp, eq_by_cmp}
-use Rattle.std.specs.Cmp.{unsigned_tied}
 use Rattle.std.specs.FinMap.{FinMap, entries, entries_sorted, get-entries, is_sorted}
 use Rattle.std.specs.FinMap.Entries.{below_all, find}
+use Rattle.std.proofs.lemmas.Bool.Decides.{nat_tests}
 use Rattle.paxos_msg.specs.declared.value.Value.{Value}
 use Rattle.paxos_msg.specs.Keys.{Key, keys_of}
 use Rattle.paxos_learner.specs.Input.{has_key, is_learned, StandsIn}
@@ -22,12 +22,12 @@ record IsFound (f : Value → Bool) (es : List (ℕ × Value)) : Type 0 where
 
 -- the first entry is found at its place
 found_first : (e : ℕ × Value) (es : List (ℕ × Value)) → find nat_cmp e.0 (e ∷ es) ≡ Some e.1
-found_first e es = ap (λ (t : Bool). cond t (Some e.1) (find nat_cmp e.0 es)) (unsigned_tied e.0 e.0 ∙ eq-eqb e.0 e.0 refl)
+found_first e es = grind (arith, nat_tests)
 
 -- the others are found where they were
 found_after : (e : ℕ × Value) (es : List (ℕ × Value)) (q : ℕ) (v : Value) → q ≢ e.0 → find nat_cmp q es ≡ Some v
     → find nat_cmp q (e ∷ es) ≡ Some v
-found_after e es q v ne is = ap (λ (t : Bool). cond t (Some e.1) (find nat_cmp q es)) (unsigned_tied q e.0 ∙ ne_eqb q e.0 ne) ∙ is
+found_after e es q v ne is = grind (arith, nat_tests)
 
 -- of sorted entries, if one passes, it is found
 any_found : (f : Value → Bool) (es : List (ℕ × Value)) → T (is_sorted nat_cmp es) → list_any f (map (λ e. e.1) es) ≡ true → IsFound f es

@@ -1,8 +1,9 @@
 -- What stays of a learner, whatever it hears.
-use Rattle.std.proofs.Common.{◌≡◌, ◌∙◌, ℕ, ◌+◌, ◌<◌, ◌≤◌, nat_lt, IsTrue, Option, Some, None, is_none, is_some, inl, inr, refl, sym, arith}
-use Rattle.std.proofs.lemmas.Bool.{and_parts, cases_eq, cases_lt, ltb-true, true≢false}
+use Rattle.std.proofs.Common.{◌≡◌, ℕ, ◌+◌, ◌<◌, ◌≤◌, IsTrue, Option, Some, None, is_some, inl, inr, refl, sym, arith}
+use Rattle.std.proofs.lemmas.Bool.{cases_eq, cases_lt, true≢false}
 use Rattle.std.specs.Ordering.{nat_cmp}
 use Rattle.std.specs.FinMap.{FinMap, get, insert}
+use Rattle.std.proofs.lemmas.Bool.Decides.{nat_tests}
 use Rattle.paxos_msg.specs.declared.ballot.Ballot.{Ballot}
 use Rattle.paxos_msg.specs.declared.value.Value.{Value}
 use Rattle.paxos_msg.specs.Fits.{IsValue}
@@ -24,12 +25,7 @@ same_more : (learned : FinMap nat_cmp Value) → HasLearnedMore learned learned
 same_more learned = record { stays = λ s v e. e }
 
 pub insert_more : (learned : FinMap nat_cmp Value) (s : ℕ) (v : Value) → get learned s ≡ None → HasLearnedMore learned (insert learned s v)
-insert_more learned s v none = record {
-  stays = λ q w e. elim (cases_eq q s) [
-    | inl same ↦ let there : get learned s ≡ Some w = rw same at e in absurd cc
-    | inr ne ↦ get_other learned s v q ne ∙ e
-  ];
-}
+insert_more learned s v none = grind (arith, nat_tests, cases_eq, get_other)
 
 -- the front does not fall
 pub front_rises : (old new : FinMap nat_cmp Value) → HasLearnedMore old new → front_of old ≤ front_of new
@@ -46,9 +42,7 @@ front_rises old new h =
 module _ (l : Learner) where
   -- an open place is less than 1,024 above the front
   pub open_below : (s : ℕ) → IsTrue (is_open l s) → s < front_of l.learned + 1024
-  open_below s here =
-      ltb-true s (front_of l.learned + 1024)
-      (and_parts (is_none (get l.learned s)) (nat_lt s (front_of l.learned + 1024)) here).1
+  open_below s here = grind (arith, nat_tests)
 
   learn_more : (s : ℕ) (v : Value) → IsTrue (is_open l s) → HasLearnedMore l.learned (learn l s v).learner.learned
   learn_more s v here = insert_more l.learned s v (open_is_none l s here)
@@ -62,7 +56,7 @@ module _ (l : Learner) where
   told_more s v = told_by (λ m. HasLearnedMore l.learned m.learned) l (same_more l.learned) s v (learn_more s v)
 
   pub accepted_size : (i : ℕ) (b : Ballot) (s : ℕ) (v : Value) → (heard_accepted l i b s v).learner.size ≡ l.size
-  accepted_size i b s v = accepted_by (λ m. m.size ≡ l.size) l refl i b s v (λ t here e majority. refl) (λ t e. refl)
+  accepted_size i b s v = grind (arith, nat_tests)
 
   pub told_size : (s : ℕ) (v : Value) → (heard_tell l s v).learner.size ≡ l.size
   told_size s v = told_by (λ m. m.size ≡ l.size) l refl s v (λ here. refl)
@@ -104,7 +98,7 @@ module _ (l : Learner) (s : ℕ) (place : s ≤ 65535) (h : AreInWindow l.learne
   told_in_window v = told_by (λ m. AreInWindow m.learned) l h s v (learn_in_window v)
 
 pub begun_in_window : (size : ℕ) → AreInWindow (new_learner size).learned
-begun_in_window size = record { place = λ s v e. absurd (none_in s v e); window = λ s v e. absurd (none_in s v e) }
+begun_in_window size = grind (arith, nat_tests, none_in)
 
 -- ---- ranges
 
@@ -126,4 +120,4 @@ module _ (l : Learner) (h : IsLearnerInRange l) where
   told_in_range s v fits = told_by IsLearnerInRange l h s v (λ here. learn_in_range s v fits)
 
 pub begun_in_range : (size : ℕ) → IsLearnerInRange (new_learner size)
-begun_in_range size = record { learned = λ s v e. absurd (none_in s v e); tallied = λ s t e. absurd (none_in s t e) }
+begun_in_range size = grind (arith, nat_tests, none_in)

@@ -1,10 +1,11 @@
 -- A set of nodes, and the word that has their bits.
-use Rattle.std.proofs.Common.{◌≡◌, ◌∙◌, ℕ, zero, suc, ◌+◌, ◌-◌, ◌*◌, ◌/◌, ◌%◌, ◌^◌, ◌<◌, ◌≤◌, ◌==◌, ◌∷◌, Bool, true, false, List, if◌then◌else◌, bit_and, bit_or, get_or, set, nat_eq, refl, sym, ap, arith}
+use Rattle.std.proofs.Common.{◌≡◌, ◌∙◌, ℕ, zero, suc, ◌+◌, ◌-◌, ◌*◌, ◌/◌, ◌%◌, ◌^◌, ◌<◌, ◌≤◌, ◌==◌, ◌∷◌, Bool, true, false, if◌then◌else◌, bit_and, bit_or, get_or, set, nat_eq, refl, sym, ap, arith}
 use Rattle.std.specs.Int.Count.{ones, ones_step}
 use Rattle.std.specs.Int.{bit_at}
 use Rattle.std.proofs.Math.Nat.{pow-suc}
 use Rattle.std.proofs.lemmas.Nat.{and_mask, mod-pow-add, mod_below, one_shl, ones-le, ones_cat, or_comm, or_shr, pow_pos}
 use Rattle.std.proofs.lemmas.Nat.Bits.{bit_at-pow_other, bit_at-suc, bit_at_lowest, bit_at_or, shr_and_one}
+use Rattle.std.proofs.lemmas.Bool.Decides.{nat_tests}
 use Rattle.paxos_msg.specs.Ballots.{count_of}
 use Rattle.paxos_learner.specs.Masks.{low_bits, nodes_of}
 use Rattle.paxos_learner.specs.Tallies.{has_node, no_nodes, with_node}
@@ -49,9 +50,7 @@ low_bit_set : (k mask i : ℕ) → i < k → low_bits k (bit_or mask (2 ^ i)) �
 unfolding low_bits
 low_bit_set zero mask i h = absurd (omega arith)
 low_bit_set (suc k) mask zero h = let e = lowest_set mask in λ j. (e.0 j == 1) ∷ low_bits k (e.1 j)
-low_bit_set (suc k) mask (suc i) h =
-    let e = higher_set mask i in
-    (λ j. (e.0 j == 1) ∷ low_bits k (e.1 j)) ∙ ap (λ (bs : List Bool). (mask % 2 == 1) ∷ bs) (low_bit_set k (mask / 2) i (omega arith))
+low_bit_set (suc k) mask (suc i) h = grind (arith, nat_tests, higher_set, low_bit_set k (mask / 2) i (omega arith))
 
 pub insert_node : (mask i : ℕ) → i ≤ 9 → nodes_of (bit_or mask (1 * 2 ^ i % 65536)) ≡ with_node (nodes_of mask) i
 unfolding nodes_of

@@ -1,9 +1,10 @@
 -- A map with one place more, or without one.
-use Rattle.std.proofs.Common.{◌≡◌, ◌≢◌, ◌∙◌, ℕ, Bool, cond, Some, None, inl, inr, sym, ap, refl}
+use Rattle.std.proofs.Common.{◌≡◌, ◌≢◌, ◌∙◌, ℕ, Bool, cond, Some, None, inl, inr, sym, ap, refl, arith}
 use Rattle.std.proofs.lemmas.Bool.{cases_eq, eq-eqb, ne_eqb}
 use Rattle.std.specs.Ordering.{nat_cmp}
 use Rattle.std.specs.Cmp.{nat_cmp_total, unsigned_tied}
 use Rattle.std.specs.FinMap.{FinMap, get, insert, remove, get-insert, get-remove}
+use Rattle.std.proofs.lemmas.Bool.Decides.{nat_tests}
 
 module _ {X : Type 0} where
   -- the place has what was put there
@@ -33,11 +34,4 @@ module _ {X : Type 0} where
   -- what holds of what is put at a place, and of what was at the others, holds of all
   pub each_put : (P : ℕ → X → Type 0) (m : FinMap nat_cmp X) (s : ℕ) (x : X) → P s x → ((q : ℕ) (y : X) → get m q ≡ Some y → P q y)
       → (q : ℕ) (y : X) → get (insert m s x) q ≡ Some y → P q y
-  each_put P m s x here there q y e =
-      elim (cases_eq q s) [
-        | inl same ↦
-            let put : get (insert m s x) q ≡ Some x = rw same (get_here m s x) in
-            let is : x ≡ y = cc in
-            rw (same, ← is) here
-        | inr ne ↦ there q y (sym (get_other m s x q ne) ∙ e)
-      ]
+  each_put P m s x here there q y e = grind (arith, nat_tests, cases_eq, get_here, get_other)

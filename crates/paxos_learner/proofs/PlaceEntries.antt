@@ -1,5 +1,5 @@
 -- A list of entries by place, and the finite map that it makes.
-use Rattle.std.proofs.Common.{◌≡◌, ◌∙◌, ◌<◌, ℕ, cond, nat_eq, List, [], ◌∷◌, length, position, slice_get, get_or, Some, None, ap, refl, sym}
+use Rattle.std.proofs.Common.{◌≡◌, ◌∙◌, ◌<◌, ℕ, cond, nat_eq, List, [], ◌∷◌, length, position, slice_get, Some, None, ap, refl, sym, arith}
 use Rattle.std.proofs.lemmas.Bool.{eqb-true}
 use Rattle.std.proofs.lemmas.List.Quantifiers.{position-Some}
 use Rattle.std.proofs.lemmas.Option.{get_or_from_slice_get, slice_get-map}
@@ -9,12 +9,11 @@ use Rattle.std.specs.Ordering.{nat_cmp}
 use Rattle.std.specs.Cmp.{nat_cmp_total, nat_eq_equiv, unsigned_tied}
 use Rattle.std.specs.Map.{lookup}
 use Rattle.std.specs.FinMap.{find, get, insert, remove, from_entries, get-from_entries, get-insert, get-remove, same_map, nat_cmp-IsAntisymmetric}
+use Rattle.std.proofs.lemmas.Bool.Decides.{nat_tests}
 
 -- a search ends at an index where the place is
 pub found_place : (places : List ℕ) (q i : ℕ) → position (nat_eq q) places ≡ Some i → (i < length places) × (slice_index places i ≡ q)
-found_place places q i h =
-    let found = position-Some (nat_eq q) places i 0 h in
-    (found.0, sym (eqb-true q (get_or places i 0) found.1))
+found_place places q i h = grind (arith, nat_tests, position-Some, eqb-true)
 
 module _ {V : Type 0} where
   -- the place of the entry at an index

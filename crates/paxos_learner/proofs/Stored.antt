@@ -1,7 +1,8 @@
 -- Keys as they are stored, and as they are seen.
-use Rattle.std.proofs.Common.{◌≡◌, ◌∙◌, ℕ, ◌==◌, ◌&&◌, Bool, true, false, if◌then◌else◌, ◌||◌, List, [], ◌∷◌, ◌++◌, map, refl, ap}
+use Rattle.std.proofs.Common.{◌≡◌, ℕ, ◌==◌, ◌&&◌, Bool, true, false, if◌then◌else◌, ◌||◌, List, [], ◌∷◌, ◌++◌, map, refl, ap, arith}
 use Rattle.std.proofs.lemmas.List.{map-append}
 use Rattle.std.specs.List.{list_any}
+use Rattle.std.proofs.lemmas.Bool.Decides.{nat_tests}
 use Rattle.indexmap.specs.IndexSet.{insert_key}
 use Rattle.paxos_msg.specs.Keys.{Key}
 use Rattle.paxos_learner.specs.declared.keys.TypedKey.{TypedKey}
@@ -23,7 +24,7 @@ any_order false false false d = refl
 pub same_stored : (a b : TypedKey)
     → (a.serial == b.serial)
     && ((a.start == b.start) && ((a.node == b.node) && (a.byte == b.byte))) ≡ same_key (key_of a) (key_of b)
-same_stored a b = any_order (a.node == b.node) (a.start == b.start) (a.serial == b.serial) (a.byte == b.byte)
+same_stored a b = grind (arith, nat_tests)
 
 -- a test that distinguishes stored keys as their models are distinguished
 module _ (test : TypedKey → TypedKey → Bool) (alike : (a b : TypedKey) → test a b ≡ same_key (key_of a) (key_of b)) where
@@ -42,9 +43,7 @@ module _ (test : TypedKey → TypedKey → Bool) (alike : (a b : TypedKey) → t
   -- a key that is stored is seen among the keys
   pub insert_stored : (keys : List TypedKey) (k : TypedKey)
       → map key_of (insert_key test keys k) ≡ insert_key same_key (map key_of keys) (key_of k)
-  insert_stored keys k =
-      by_test (list_any (test k) keys) keys k
-      ∙ ap (λ b. if b then map key_of keys else map key_of keys ++ key_of k ∷ []) (any_stored keys k)
+  insert_stored keys k = grind (arith, nat_tests, by_test, any_stored)
 
 -- the bytes of stored keys are those of the keys that are seen
 pub bytes_stored : (keys : List TypedKey) → map (λ (k : TypedKey). k.byte) keys ≡ map (λ (k : Key). k.byte) (map key_of keys)

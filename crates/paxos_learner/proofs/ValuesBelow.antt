@@ -1,9 +1,10 @@
 -- The values below a place, and what they depend on.
-use Rattle.std.proofs.Common.{◌≡◌, ◌∙◌, ℕ, zero, suc, ◌+◌, ◌<◌, ◌≤◌, List, [], ◌∷◌, ◌++◌, Option, Some, refl, ap, add-one, arith}
+use Rattle.std.proofs.Common.{◌≡◌, ◌∙◌, ℕ, zero, suc, ◌+◌, ◌<◌, ◌≤◌, List, [], ◌∷◌, ◌++◌, Option, Some, refl, ap, arith}
 use Rattle.std.proofs.lemmas.List.Elements.{filter_map-append}
 use Rattle.std.specs.List.{filter_map, cons_option, range_with_len}
 use Rattle.std.specs.Ordering.{nat_cmp}
 use Rattle.std.specs.FinMap.{FinMap, get}
+use Rattle.std.proofs.lemmas.Bool.Decides.{nat_tests}
 use Rattle.paxos_msg.specs.declared.value.Value.{Value}
 use Rattle.paxos_learner.specs.Input.{values_below}
 
@@ -12,8 +13,7 @@ range_more : (a n j : ℕ) → a + n ≡ j → range_with_len a (n + 1) ≡ rang
 range_more a zero j e =
     let same : a ≡ j = omega arith in
     ap (λ (x : ℕ). x ∷ []) same
-range_more a (suc n) j e =
-    rw (add-one (suc n)) (ap (λ (rest : List ℕ). a ∷ rest) (rw (add-one n) at (range_more (a + 1) n j (omega arith))))
+range_more a (suc n) j e = grind (arith, nat_tests, range_more (a + 1) n j (omega arith))
 
 -- one place more, with its value last
 pub values_more : (learned : FinMap nat_cmp Value) (n : ℕ) (v : Value) → get learned n ≡ Some v

@@ -1,6 +1,7 @@
 -- What is chosen, by a count of those who accepted it.
 use Rattle.std.specs.Prelude.{slice_index_or}
 use Rattle.std.proofs.Common.{◌≡◌, ℕ, ◌*◌, ◌<◌, ◌≤◌, ◌↔◌, length, arith}
+use Rattle.std.proofs.lemmas.Bool.Decides.{nat_tests}
 use Rattle.paxos_msg.specs.declared.ballot.Ballot.{Ballot}
 use Rattle.paxos_msg.specs.declared.value.Value.{Value}
 use Rattle.paxos_msg.specs.declared.message.Body.TheVariants.{Accepted}
@@ -24,13 +25,7 @@ chosen_from_count size sent b s v count counted more = (counted.members, rw coun
 
 pub count_from_chosen : (size : ℕ) (sent : Sent) (b : Ballot) (s : ℕ) (v : Value) (count : ℕ)
     → IsCounted (HasAccepted sent b s v) size count → IsChosenBy size sent b s v → size < 2 * count
-count_from_chosen size sent b s v count counted (members, majority, accepted) =
-    omega (
-      arith,
-      counted.counted,
-      count_grows members counted.members size
-          (λ i low high member. counted.complete i low high (accepted i member)),
-    )
+count_from_chosen size sent b s v count counted (members, majority, accepted) = grind (arith, nat_tests, count_grows)
 
 -- no ballot that one of the messages below n accepts v under at s has chosen it
 abbrev pub IsUnchosen : ℕ → Sent → ℕ → ℕ → Value → Type 0
@@ -46,7 +41,4 @@ chosen_by_count size n sent b s v count e counted =
 
 -- what is chosen was accepted by one of the messages
 pub all_unchosen : (size n s : ℕ) (sent : Sent) (v : Value) → length sent ≤ n → IsUnchosen size sent n s v → ¬ IsChosen size sent s v
-all_unchosen size n s sent v long unchosen (b, (members, majority, accepted)) =
-    let (i, low, high, here, there) = majorities_meet size members members majority majority in
-    let (k, below, e) = accepted i here in
-    unchosen i b (members, majority, accepted) k (omega arith) e
+all_unchosen size n s sent v long unchosen (b, (members, majority, accepted)) = grind (arith, nat_tests, majorities_meet)

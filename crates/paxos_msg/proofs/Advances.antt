@@ -1,15 +1,15 @@
 -- What a change of a record keeps.
-use Rattle.std.proofs.Common.{◌≡◌, ℕ, inl, inr, Option, Some, None, IfSome, IsSomeAnd, subst, sym, refl}
+use Rattle.std.proofs.Common.{◌≡◌, ℕ, inl, inr, Option, Some, None, IfSome, IsSomeAnd, refl, arith}
 use Rattle.std.proofs.lemmas.Bool.{cases_eq}
-use Rattle.std.proofs.lemmas.Option.{IfSome_then}
+use Rattle.std.proofs.lemmas.Bool.Decides.{nat_tests}
 use Rattle.paxos_msg.specs.declared.ballot.Ballot.{Ballot}
 use Rattle.paxos_msg.specs.Batches.{Change, Record, Sent, Vote}
 use Rattle.paxos_msg.specs.declared.record.Change.TheVariants.{Start, Promise, Ballotted}
-use Rattle.paxos_msg.specs.Ballots.{IsBelow, IsAtMost}
+use Rattle.paxos_msg.specs.Ballots.{IsAtMost}
 use Rattle.paxos_msg.specs.declared.message.Body.TheVariants.{Accept}
 use Rattle.paxos_msg.specs.Messages.{IsSaid, kept_vote_at}
 use Rattle.paxos_msg.specs.Records.{changed, MaySave, IsSaved}
-use Rattle.paxos_msg.proofs.BallotOrder.{at_most_refl, at_most_trans, at_most_from_below}
+use Rattle.paxos_msg.proofs.BallotOrder.{at_most_refl, at_most_trans}
 use Rattle.paxos_msg.proofs.WithVote.{vote_at-with_vote_same, vote_at-with_vote_other}
 
 -- of a value that is there, two facts at once
@@ -35,24 +35,18 @@ module _ (sent : Sent) (old : Record) where
   pub promise_rises : (change : Change) (P : Ballot → Type 0) → ((p q : Ballot) → IsAtMost p q → P p → P q)
       → MaySave sent old change → IsSomeAnd old.promised P → IsSomeAnd (changed old change).promised P
   promise_rises Start P up may h = h
-  promise_rises (Promise c) P up may h =
-      let (p, known, below) = both_known old.promised P (λ p. IsBelow p c) h may in
-      up p c (at_most_from_below p c below) known
-  promise_rises (Ballotted s c v) P up may h =
-      let (p, known, at_most) = both_known old.promised P (λ p. IsAtMost p c) h may.1 in
-      up p c at_most known
+  promise_rises (Promise c) P up may h = grind (arith, nat_tests)
+  promise_rises (Ballotted s c v) P up may h = grind (arith, nat_tests)
 
   pub promise_kept : (change : Change) (b : Ballot) → MaySave sent old change → HasPromised b old → HasPromised b (changed old change)
-  promise_kept change b may h = promise_rises change (λ p. IsAtMost b p) (λ p q pq bp. at_most_trans b p q bp pq) may h
+  promise_kept change b may h = grind (arith, nat_tests)
 
   -- a vote that stays is right in the new record too
   stays_right : (change : Change) (s : ℕ) → MaySave sent old change
       → kept_vote_at (changed old change).votes s ≡ kept_vote_at old.votes s
       → IfSome (kept_vote_at old.votes s) (IsRight sent old s)
       → IfSome (kept_vote_at (changed old change).votes s) (IsRight sent (changed old change) s)
-  stays_right change s may same right =
-      rw same (IfSome_then (kept_vote_at old.votes s) right
-      (λ vote r. record { proposed = r.proposed; in_promise = promise_kept change vote.ballot may r.in_promise }))
+  stays_right change s may same right = grind (arith, nat_tests)
 
   pub votes_right : (change : Change) (s : ℕ) → MaySave sent old change
       → IfSome (kept_vote_at old.votes s) (IsRight sent old s)
@@ -91,8 +85,4 @@ module _ (sent : Sent) (old : Record) where
 pub after_save : (sent : Sent) (records : ℕ → Record) (i : ℕ) (change : Change) (next : ℕ → Record) (j : ℕ)
     (Q : Record → Type 0) → MaySave sent (records i) change → IsSaved records i change next
     → (MaySave sent (records j) change → Q (changed (records j) change)) → Q (records j) → Q (next j)
-after_save sent records i change next j Q may saved then same =
-    elim (cases_eq j i) [
-      | inl e ↦ subst Q (sym (rw (sym e) at saved.own)) (then (rw (sym e) at may))
-      | inr ne ↦ subst Q (sym (saved.others j ne)) same
-    ]
+after_save sent records i change next j Q may saved then same = grind (arith, nat_tests)

@@ -1,10 +1,11 @@
 -- The invariant holds of all that grew, and gives agreement.
 use Rattle.std.proofs.Common.{◌≡◌, ℕ, inl, inr, [], sym, arith}
+use Rattle.std.proofs.lemmas.Bool.Decides.{nat_tests}
 use Rattle.paxos_msg.specs.declared.ballot.Ballot.{Ballot}
 use Rattle.paxos_msg.specs.declared.value.Value.{Value}
 use Rattle.paxos_msg.specs.Ballots.{IsBelow, IsAtMost}
 use Rattle.paxos_msg.specs.Batches.{Body, Grew, IsFree, Record, Sent}
-use Rattle.paxos_msg.specs.declared.message.Body.TheVariants.{Promise, Accept, Accepted}
+use Rattle.paxos_msg.specs.declared.message.Body.TheVariants.{Accept}
 use Rattle.paxos_msg.specs.Messages.{IsSent, IsSaid}
 use Rattle.paxos_msg.specs.Records.{empty_record}
 use Rattle.paxos_msg.specs.Chosen.{IsChosen, IsChosenBy}
@@ -22,16 +23,7 @@ none_said : (body : Body) → IsSaid [] body → ⊥
 none_said body (i, h) = none_sent i body h
 
 nothing_holds : (size : ℕ) (records : ℕ → Record) → ((i : ℕ) → records i ≡ empty_record) → Invariant size [] records
-nothing_holds size records empty = record {
-  accepted = λ i b s v h. absurd (none_sent i (Accepted b s v) h);
-  one_value = λ b s v w h k. absurd (none_said (Accept b s v) h);
-  submitted = λ b s v h. absurd (none_said (Accept b s v) h);
-  kept = λ i b s v h. absurd (none_sent i (Accepted b s v) h);
-  right = λ i s. rw (empty i) tt;
-  held = λ i b s reported h. absurd (none_sent i (Promise b h.first h.upto h.votes) h.is_sent);
-  reports = λ i b s reported h. absurd (none_sent i (Promise b h.first h.upto h.votes) h.is_sent);
-  decided = λ c s w h b below. absurd (none_said (Accept c s w) h);
-}
+nothing_holds size records empty = grind (arith, nat_tests)
 
 pub invariant_of : {size : ℕ} {sent : Sent} {records : ℕ → Record} → Grew size sent records → Invariant size sent records
 invariant_of {size} (nothing records empty) = nothing_holds size records empty

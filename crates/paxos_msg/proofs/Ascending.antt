@@ -1,5 +1,5 @@
 -- Votes in ascending order of place: what a search in them finds, and what is put keeps the order.
-use Rattle.std.proofs.Common.{◌≡◌, ℕ, zero, suc, ◌<◌, ◌≤◌, List, [], ◌∷◌, length, get_or, set, Some, None, Result, Ok, Err, IfOk, IfErr, refl, sym, ap, inl, inr, arith}
+use Rattle.std.proofs.Common.{◌≡◌, ℕ, zero, suc, ◌<◌, ◌≤◌, List, [], ◌∷◌, length, get_or, set, Some, None, Result, Ok, Err, IfOk, IfErr, refl, sym, arith}
 use Rattle.std.specs.List.{insert}
 use Rattle.std.specs.List.Sorted.{IsSearchInRange, IsBinarySearchResult, IsNonDecreasingBy}
 use Rattle.std.specs.Ordering.{nat_cmp, ordering_index}
@@ -45,19 +45,12 @@ above_with (x ∷ xs) vote s h k = grind (arith, nat_tests, above_with xs vote s
 -- putting a vote keeps the order
 pub ascending_with : (votes : List Vote) (vote : Vote) → IsAscending votes → IsAscending (with_vote votes vote)
 ascending_with [] vote h = (tt, tt)
-ascending_with (x ∷ xs) vote h =
-    elim (cases_lt vote.place x.place) [
-      | inl below ↦ grind (arith, nat_tests, above_less xs x.place vote.place, h)
-      | inr not_below ↦ grind (arith, nat_tests, above_with xs vote x.place, ascending_with xs vote h.1, h)
-    ]
+ascending_with (x ∷ xs) vote h = grind (arith, nat_tests, cases_lt, above_less, above_with, ascending_with xs vote h.1)
 
 -- the comparisons with a place rise along the votes, as a binary search asks
 comparisons_rise : (votes : List Vote) (s : ℕ) (d : Vote) → IsAscending votes
     → IsNonDecreasingBy (λ vote. ordering_index (nat_cmp vote.place s)) votes
-comparisons_rise votes s d h = IsNonDecreasingBy-from_default (λ vote. ordering_index (nat_cmp vote.place s)) votes d (λ i j le in_range.
-    let rise : (get_or votes i d).place ≤ (get_or votes j d).place =
-    grind (arith, places_rise votes i j d h, λ (same : i ≡ j). ap (λ (k : ℕ). (get_or votes k d).place) same) in
-    grind (arith, nat_tests))
+comparisons_rise votes s d h = grind (arith, nat_tests, IsNonDecreasingBy-from_default, places_rise)
 
 -- a binary search by place ends at the place, or at the gap for it
 pub searched : (votes : List Vote) (s : ℕ) (d : Vote) → IsAscending votes → (r : Result ℕ ℕ)

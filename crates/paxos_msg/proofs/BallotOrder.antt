@@ -1,5 +1,6 @@
 -- The order of ballots is total and transitive.
-use Rattle.std.proofs.Common.{◌≡◌, ◌≢◌, ◌⊎◌, ◌↔◌, inl, inr, sym, arith}
+use Rattle.std.proofs.Common.{◌≡◌, ◌≢◌, ◌⊎◌, ◌↔◌, inl, inr, arith}
+use Rattle.std.proofs.lemmas.Bool.Decides.{nat_tests}
 use Rattle.paxos_msg.specs.declared.ballot.Ballot.{Ballot}
 use Rattle.paxos_msg.specs.Ballots.{IsBelow, IsAtMost}
 
@@ -43,11 +44,7 @@ pub never_same : (a b : Ballot) → IsBelow a b → a ≢ b
 never_same a b h e = not_below_itself b (rw e at h)
 
 pub one_of_three : (a b : Ballot) → IsBelow a b ⊎ (a ≡ b) ⊎ IsBelow b a
-one_of_three a b =
-    elim (order_cases a b) [
-      | inl below ↦ inl below
-      | inr at_most ↦ elim (at_most_cases b a at_most) [ inl above ↦ inr (inr above) | inr e ↦ inr (inl (sym e)) ]
-    ]
+one_of_three a b = grind (arith, nat_tests)
 
 at_most_of : (a b : Ballot) → IsBelow a b ⊎ (a ≡ b) → IsAtMost a b
 at_most_of a b (inl below) = at_most_from_below a b below

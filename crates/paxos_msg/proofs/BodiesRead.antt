@@ -1,11 +1,12 @@
 -- Bodies: what is read was written, and what is written is read.
 use Rattle.std.proofs.Common.{◌≡◌, ℕ, zero, suc, ◌<◌, ◌≤◌, false, not, ltb, leb, List, ◌∷◌, ◌++◌, length, Ok, refl, arith}
 use Rattle.std.proofs.lemmas.Bool.{le-ltb, ltb-false, lt-leb, leb-false, not-false}
+use Rattle.std.proofs.lemmas.Bool.Decides.{nat_tests}
 use Rattle.paxos_msg.specs.Batches.{Body}
 use Rattle.paxos_msg.specs.declared.message.Body.TheVariants.{Prepare, Promise, Accept, Accepted, Refused, Submit, Ask, Tell}
 use Rattle.paxos_msg.specs.declared.fault.WireFault.TheVariants as fault
 use Rattle.paxos_msg.specs.Fits.{IsBody}
-use Rattle.paxos_msg.specs.Spelling.{number_bytes, ballot_bytes, value_bytes, votes_bytes, kind_of, body_bytes}
+use Rattle.paxos_msg.specs.Spelling.{number_bytes, votes_bytes, kind_of, body_bytes}
 use Rattle.paxos_msg.specs.Reading.{first_byte, ballot_at, own_ballot_at, place_at, value_at, own_keys_at, votes_at, prepare_at, promise_at, accept_at, accepted_at, refused_at, submit_at, ask_at, tell_at, body_at}
 use Rattle.paxos_msg.specs.Tests.{ballot_lt}
 use Rattle.paxos_msg.specs.Grammar.{AreBytes}
@@ -135,8 +136,7 @@ body_found size sender (suc (suc (suc (suc (suc (suc (suc (suc (suc more))))))))
 pub body_again : (size sender : ℕ) (body : Body) (rest : List ℕ) → IsBody size sender body
     → body_at size (kind_of body) sender (body_bytes body ++ rest) ≡ Ok (body, rest)
 unfolding body_at prepare_at promise_at accept_at accepted_at refused_at submit_at ask_at tell_at
-body_again size sender (Prepare b from) rest h =
-    rw (own_again size sender b (number_bytes from ++ rest) h.0 h.1, place_again 65535 from rest (omega arith) h.2) refl
+body_again size sender (Prepare b from) rest h = grind (arith, nat_tests, own_again, place_again)
 body_again size sender (Promise b first upto votes) rest h =
     let low : leb upto first ≡ false = lt-leb upto first h.3 in
     let few : ltb 8 (length votes) ≡ false = le-ltb 8 (length votes) h.4 in
@@ -153,23 +153,9 @@ body_again size sender (Promise b first upto votes) rest h =
       votes_again size b first upto 0 first votes rest h.2 (omega arith)
           (omega arith) h.5,
     ) refl
-body_again size sender (Accept b s v) rest h =
-    rw (
-      own_again size sender b (number_bytes s ++ (value_bytes v ++ rest)) h.0 h.1,
-      place_again 65535 s
-          (value_bytes v ++ rest) (omega arith) h.2,
-      value_again size v rest h.3,
-    ) refl
-body_again size sender (Accepted b s v) rest h =
-    rw (
-      ballot_again size b (number_bytes s ++ (value_bytes v ++ rest)) h.0,
-      place_again 65535 s (value_bytes v ++ rest)
-          (omega arith) h.1,
-      value_again size v rest h.2,
-    ) refl
-body_again size sender (Refused b promised) rest h =
-    rw (ballot_again size b (ballot_bytes promised ++ rest) h.0, ballot_again size promised rest h.1, (below b promised).1 h.2) refl
+body_again size sender (Accept b s v) rest h = grind (arith, nat_tests, own_again, place_again, value_again)
+body_again size sender (Accepted b s v) rest h = grind (arith, nat_tests, ballot_again, place_again, value_again)
+body_again size sender (Refused b promised) rest h = grind (arith, nat_tests, ballot_again, below)
 body_again size sender (Submit v) rest h = rw (own_keys_again size sender v rest h.0 h.1) refl
 body_again size sender (Ask from) rest h = rw (place_again 65536 from rest (omega arith) h) refl
-body_again size sender (Tell s v) rest h =
-    rw (place_again 65535 s (value_bytes v ++ rest) (omega arith) h.0, value_again size v rest h.1) refl
+body_again size sender (Tell s v) rest h = grind (arith, nat_tests, place_again, value_again)

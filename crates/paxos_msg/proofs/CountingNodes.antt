@@ -1,6 +1,7 @@
 -- Counting the nodes for which something holds, one after another.
-use Rattle.std.proofs.Common.{◌≡◌, ◌≢◌, ◌∙◌, ℕ, zero, suc, ◌+◌, ◌<◌, ◌≤◌, ◌==◌, Bool, true, false, IsTrue, inl, inr, if◌then◌else◌, add-one, refl, sym, arith}
-use Rattle.std.proofs.lemmas.Bool.{cases_eq, eq-eqb, ne_eqb}
+use Rattle.std.proofs.Common.{◌≡◌, ◌≢◌, ◌∙◌, ℕ, zero, suc, ◌+◌, ◌<◌, ◌≤◌, ◌==◌, Bool, true, false, IsTrue, if◌then◌else◌, add-one, refl, sym, arith}
+use Rattle.std.proofs.lemmas.Bool.{eq-eqb, ne_eqb}
+use Rattle.std.proofs.lemmas.Bool.Decides.{nat_tests}
 use Rattle.paxos_msg.specs.Ballots.{count_of}
 
 -- one node more is counted if it is a member
@@ -62,18 +63,10 @@ module _ (P : ℕ → Type 0) (n count : ℕ) (before : IsCounted P n count) whe
       rw (at_next x, rest)
 
   next_sound : (x : Bool) → (IsTrue x → P (suc n)) → (i : ℕ) → IsTrue (with_next x i) → P i
-  next_sound x f i h =
-      elim (cases_eq i (suc n)) [
-        | inl e ↦ rw e (f (rw (at_next x) at (rw e at h)))
-        | inr ne ↦ before.sound i (rw (at_other x i ne) at h)
-      ]
+  next_sound x f i h = grind (arith, nat_tests)
 
   next_complete : (x : Bool) → (P (suc n) → IsTrue x) → (i : ℕ) → 0 < i → i ≤ suc n → P i → IsTrue (with_next x i)
-  next_complete x f i low high h =
-      elim (cases_eq i (suc n)) [
-        | inl e ↦ rw e (rw (at_next x) (f (rw e at h)))
-        | inr ne ↦ rw (at_other x i ne) (before.complete i low (omega arith) h)
-      ]
+  next_complete x f i low high h = grind (arith, nat_tests)
 
   pub counted_in : P (n + 1) → IsCounted P (n + 1) (count + 1)
   counted_in h = rw (add-one n) (record {
@@ -84,9 +77,4 @@ module _ (P : ℕ → Type 0) (n count : ℕ) (before : IsCounted P n count) whe
   })
 
   pub counted_out : ¬ P (n + 1) → IsCounted P (n + 1) count
-  counted_out h = rw add-one (record {
-    members = with_next false;
-    counted = omega (arith, counted_next false);
-    sound = next_sound false (λ t. absurd (not_true t));
-    complete = next_complete false (λ p. absurd (h (rw add-one p)));
-  })
+  counted_out h = grind (arith, nat_tests)

@@ -17,13 +17,10 @@ pub not_below : (a b : Ballot) → (ballot_lt a b ≡ false) ↔ IsAtMost b a
 not_below a b = (λ e. grind (arith, nat_tests), λ h. grind (arith, nat_tests))
 
 both : (a b : ℕ) (c d : ℕ) → (a == b) && (c == d) ≡ true → (a ≡ b) × (c ≡ d)
-both a b c d e = let parts = and_parts (a == b) (c == d) e in (eqb-true a b parts.0, eqb-true c d parts.1)
+both a b c d e = grind (arith, nat_tests)
 
 pub same : (a b : Ballot) → (same_ballot a b ≡ true) ↔ (a ≡ b)
-same a b = (
-  λ e. (let parts = both a.round b.round a.node b.node e in λ i. record { round = parts.0 i; node = parts.1 i }),
-  λ e. rw (e, eq-eqb b.round b.round refl, eq-eqb b.node b.node refl) refl,
-)
+same a b = grind (arith, nat_tests)
 
 value_true : (v w : Value) → same_value v w ≡ true → v ≡ w
 value_true Noop Noop e = refl
@@ -41,8 +38,7 @@ value_true (Keys node start first bytes) (Keys n s f b) e =
 
 itself : (v : Value) → same_value v v ≡ true
 itself Noop = refl
-itself (Keys node start first bytes) =
-    rw (eq-eqb node node refl, eq-eqb start start refl, eq-eqb first first refl, nat_list_eq_equiv.refl bytes) refl
+itself (Keys node start first bytes) = grind (arith, nat_tests, eq-eqb, nat_list_eq_equiv)
 
 pub same_values : (v w : Value) → (same_value v w ≡ true) ↔ (v ≡ w)
 same_values v w = (value_true v w, λ e. rw e (itself w))

@@ -1,14 +1,15 @@
 -- Ballots and places: what is read was written, and what is written is read.
-use Rattle.std.proofs.Common.{◌≡◌, ℕ, ◌^◌, ◌<◌, ◌≤◌, not, eqb, ltb, List, ◌∷◌, ◌++◌, Ok, refl, arith}
-use Rattle.std.proofs.lemmas.Bool.{eq-eqb, eqb-true, le-ltb, ltb-false, not-false}
+use Rattle.std.proofs.Common.{◌≡◌, ℕ, ◌^◌, ◌<◌, ◌≤◌, not, eqb, List, ◌++◌, Ok, refl, arith}
+use Rattle.std.proofs.lemmas.Bool.{eq-eqb, le-ltb, not-false}
+use Rattle.std.proofs.lemmas.Bool.Decides.{nat_tests}
 use Rattle.paxos_msg.specs.declared.ballot.Ballot.{Ballot}
 use Rattle.paxos_msg.specs.declared.fault.WireFault.TheVariants as fault
 use Rattle.paxos_msg.specs.Fits.{IsBallot}
 use Rattle.paxos_msg.specs.Spelling.{number_bytes, ballot_bytes}
 use Rattle.paxos_msg.specs.Reading.{first_byte, number_at, is_node, ballot_at, own_ballot_at, place_at}
 use Rattle.paxos_msg.specs.Grammar.{AreBytes}
-use Rattle.base.proofs.Steps.{bind_ok, unless_ok, last_ok, ok_is}
-use Rattle.paxos_msg.proofs.Guards.{Takes, takes_then, zero_false, false_zero, node_found, node_again}
+use Rattle.base.proofs.Steps.{bind_ok, unless_ok, ok_is}
+use Rattle.paxos_msg.proofs.Guards.{Takes, takes_then, zero_false, node_found}
 use Rattle.paxos_msg.proofs.Numbers.{byte_found, number_found, number_again}
 
 -- ---- ballots
@@ -31,19 +32,13 @@ ballot_found size bytes p h e =
 
 pub ballot_again : (size : ℕ) (b : Ballot) (rest : List ℕ) → IsBallot size b → ballot_at size (ballot_bytes b ++ rest) ≡ Ok (b, rest)
 unfolding ballot_at
-ballot_again size b rest h =
-    rw (number_again b.round (b.node ∷ rest) h.0.1, false_zero b.round h.0.0, node_again size b.node h.1) refl
+ballot_again size b rest h = grind (arith, nat_tests)
 
 pub own_found : (size sender : ℕ) (bytes : List ℕ) (p : Ballot × List ℕ) → AreBytes bytes
     → own_ballot_at size sender bytes ≡ Ok p
     → Takes bytes (ballot_bytes p.0) p.1 × IsBallot size p.0 × (p.0.node ≡ sender)
 unfolding own_ballot_at
-own_found size sender bytes p h e =
-    let a = bind_ok (ballot_at size bytes) _ p e in
-    let b = last_ok fault.Ballot (not (eqb a.0.0.node sender)) a.0 p a.2 in
-    let f = ballot_found size bytes a.0 h a.1 in
-    rw (← b.1)
-    (f.0, f.1, eqb-true a.0.0.node sender (not-false _ b.0))
+own_found size sender bytes p h e = let f = ballot_found size bytes p h in grind (arith, nat_tests)
 
 pub own_again : (size sender : ℕ) (b : Ballot) (rest : List ℕ) → IsBallot size b → b.node ≡ sender
     → own_ballot_at size sender (ballot_bytes b ++ rest) ≡ Ok (b, rest)
@@ -55,11 +50,7 @@ own_again size sender b rest h e = rw (ballot_again size b rest h, eq-eqb b.node
 pub place_found : (most : ℕ) (bytes : List ℕ) (p : ℕ × List ℕ) → AreBytes bytes → place_at most bytes ≡ Ok p
     → Takes bytes (number_bytes p.0) p.1 × (p.0 ≤ most)
 unfolding place_at
-place_found most bytes p h e =
-    let a = bind_ok (number_at bytes) _ p e in
-    let b = last_ok fault.Place (ltb most a.0.0) a.0 p a.2 in
-    let f = number_found bytes a.0 h a.1 in
-    rw (← b.1) (f.0, ltb-false most a.0.0 b.0)
+place_found most bytes p h e = let f = number_found bytes p h in grind (arith, nat_tests)
 
 pub place_again : (most n : ℕ) (rest : List ℕ) → most < 2 ^ 32 → n ≤ most → place_at most (number_bytes n ++ rest) ≡ Ok (n, rest)
 unfolding place_at

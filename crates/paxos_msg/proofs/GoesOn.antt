@@ -1,9 +1,9 @@
 -- What goes on with a growth: more messages, a call of a node, and a restart; and which rules still
 -- hold after it.
-use Rattle.std.proofs.Common.{◌≡◌, ◌≢◌, ◌↔◌, ℕ, inl, inr, List, [], ◌∷◌, ◌++◌, Option, Contains, sym}
-use Rattle.std.proofs.lemmas.Bool.{cases_eq}
+use Rattle.std.proofs.Common.{◌≡◌, ◌≢◌, ◌↔◌, ℕ, inl, inr, List, [], ◌∷◌, ◌++◌, Option, Contains, sym, arith}
 use Rattle.std.proofs.lemmas.List.{append-nil, append_assoc}
 use Rattle.std.proofs.lemmas.List.Elements.{Contains-append_left}
+use Rattle.std.proofs.lemmas.Bool.Decides.{nat_tests}
 use Rattle.paxos_msg.specs.declared.value.Value.{Value}
 use Rattle.paxos_msg.specs.Batches.{Body, Change, Grew, MaySend, MaySendAll, Msg, Record, Sent}
 use Rattle.paxos_msg.specs.declared.record.Change.TheVariants.{Start, Promise, Ballotted}
@@ -49,9 +49,7 @@ same_records records next same = λ k j. sym (same j) k
 pub restarts : (size i : ℕ) (sent : Sent) (records next : ℕ → Record) (failed : List Change) → Grew size sent records
     → ((change : Change) → Contains failed change → MaySave sent (records i) change)
     → Stored (records i) failed (next i) → ((j : ℕ) → j ≢ i → next j ≡ records j) → Grew size sent next
-restarts size i sent records next failed grew may (inl same) others =
-    let each : (j : ℕ) → next j ≡ records j = λ j. elim (cases_eq j i) [ inl e ↦ rw e same | inr ne ↦ others j ne ] in
-    rw (← same_records records next each) grew
+restarts size i sent records next failed grew may (inl same) others = grind (arith, nat_tests)
 restarts size i sent records next failed grew may (inr (change, tried, e)) others =
     saves sent records next i change grew (may change tried) (record { own = e; others = others })
 
@@ -61,8 +59,7 @@ restarts size i sent records next failed grew may (inr (change, tried, e)) other
 module _ (size i : ℕ) (typed newer : List Key) (learned now : ℕ → Option Value) (sent more : Sent) (r : Record) where
   pub may_still_send : (body : Body) → KnowsMore typed newer learned now → IsNoNewProposal sent i body
       → MaySend size typed learned sent i r body → MaySend size newer now (sent ++ more) i r body
-  may_still_send (Accept b s v) knows old (own, rule) =
-      (own, inl (Contains-append_left sent more (record { sender = i; body = Accept b s v }) old))
+  may_still_send (Accept b s v) knows old (own, rule) = grind (arith, nat_tests, Contains-append_left)
   may_still_send (Accepted b s v) knows old (said, vote, promised) = (stays_said sent more (Accept b s v) said, vote, promised)
   may_still_send (Submit v) knows old may = record { own = may.own; known = λ key k. knows.keys key (may.known key k) }
   may_still_send (Tell s v) knows old may = knows.values s v may

@@ -1,12 +1,13 @@
 -- The steps of a growth that is written out.
-use Rattle.std.proofs.Common.{◌≡◌, ℕ, zero, suc, ◌==◌, inl, inr, Bool, false, true, IsTrue, List, [], ◌∷◌, ◌++◌, Option, None, IfSome, Contains, if◌then◌else◌, subst, sym, ap, refl, arith}
+use Rattle.std.proofs.Common.{◌≡◌, ℕ, zero, suc, ◌==◌, inl, inr, Bool, false, IsTrue, List, [], ◌∷◌, ◌++◌, Option, None, IfSome, Contains, if◌then◌else◌, subst, sym, ap, refl, arith}
 use Rattle.std.proofs.lemmas.Bool.{ne_eqb, eq-eqb, eqb-true, or_cases}
 use Rattle.std.proofs.lemmas.List.Folds.{list_any_at}
 use Rattle.std.specs.List.{list_any}
+use Rattle.std.proofs.lemmas.Bool.Decides.{nat_tests}
 use Rattle.paxos_msg.specs.declared.ballot.Ballot.{Ballot}
 use Rattle.paxos_msg.specs.declared.value.Value.{Value}
 use Rattle.paxos_msg.specs.declared.value.Value.TheVariants as value
-use Rattle.paxos_msg.specs.Batches.{Body, Change, Grew, IsTyped, MaySend, Msg, Record, Sent, Vote}
+use Rattle.paxos_msg.specs.Batches.{Body, Change, Grew, IsTyped, MaySend, Record, Sent, Vote}
 use Rattle.paxos_msg.specs.declared.record.Change.TheVariants.{Ballotted}
 use Rattle.paxos_msg.specs.declared.record.Change.TheVariants.{Promise as ToPromise}
 use Rattle.paxos_msg.specs.declared.message.Body.TheVariants.{Promise, Accept, Accepted}
@@ -46,7 +47,7 @@ only_key node k (zero, below, e) = sym (ap (λ (x : Key). x.node) e)
 only_key node k (suc n, below, e) = absurd (omega arith)
 
 pub is_typed : (node : ℕ) → IsTyped (typed_at node) node (key_at node)
-is_typed node = record { own = record { has_key = λ e. cc; at_node = only_key node }; known = λ k h. h }
+is_typed node = grind (arith, nat_tests)
 
 -- no node has learned anything
 abbrev pub learned : ℕ → Option Value
@@ -61,32 +62,16 @@ proposes round other = false
 
 pub none_proposed : (sent : Sent) (b : Ballot) (s : ℕ) → list_any (λ m. proposes b.round m.body) sent ≡ false
     → IsUnproposed sent b s
-none_proposed sent b s none v (i, (k, below, at)) =
-    let proposed : list_any (λ m. proposes b.round m.body) sent ≡ true =
-    list_any_at (λ (m : Msg). proposes b.round m.body) sent k (record { sender = i; body = Accept b s v }) below
-    (rw at (eq-eqb b.round b.round refl)) in
-    cc
+none_proposed sent b s none v (i, (k, below, at)) = grind (arith, nat_tests, list_any_at, eq-eqb)
 
 -- a Promise for one place reports on that place
 pub promised : (sent : Sent) (i s : ℕ) (b : Ballot) (votes : List Vote) → IsSent sent i (Promise b s (suc s) votes)
     → IsPromised sent i b s (kept_vote_at votes s)
-promised sent i s b votes is_sent = record {
-  first = s;
-  upto = suc s;
-  votes = votes;
-  is_sent = is_sent;
-  from_first = omega arith;
-  below_upto = omega arith;
-  reports = refl;
-}
+promised sent i s b votes is_sent = grind (arith, nat_tests)
 
 -- a record without votes reports none
 pub silent : (r : Record) (first upto : ℕ) → r.votes ≡ [] → IsReport r first upto []
-silent r first upto e = record {
-  own = λ vote (k, below, at). absurd (omega arith);
-  within = λ vote (k, below, at). absurd (omega arith);
-  whole = λ s from below. rw e refl;
-}
+silent r first upto e = grind (arith, nat_tests)
 
 -- one message more
 abbrev pub and_sent : Sent → ℕ → Body → Sent

@@ -1,6 +1,5 @@
 -- What a reading takes from the front of bytes, and the tests of a reading.
-use Rattle.std.proofs.Common.{◌≡◌, ℕ, zero, suc, ◌<◌, true, false, eqb, ltb, leb, List, [], ◌∷◌, ◌++◌, take, drop, slice_index, refl, ap, ◌∙◌, sym, append_assoc, arith}
-use Rattle.std.proofs.lemmas.Bool.{and_parts, lt-ltb, ltb-true, le-leb, leb-true}
+use Rattle.std.proofs.Common.{◌≡◌, ℕ, zero, suc, ◌<◌, true, false, eqb, List, [], ◌∷◌, ◌++◌, take, drop, slice_index, ap, ◌∙◌, sym, append_assoc, arith}
 use Rattle.std.proofs.lemmas.Bool.Decides.{nat_tests}
 use Rattle.paxos_msg.specs.Reading.{is_node}
 use Rattle.paxos_msg.specs.Fits.{IsNode}
@@ -40,12 +39,7 @@ pub past_one : (b : ℕ) → (eqb (suc (suc b)) 0 ≡ false) × (eqb (suc (suc b
 past_one b = (grind (arith, nat_tests), grind (arith, nat_tests))
 
 pub node_found : (size node : ℕ) → is_node size node ≡ true → IsNode size node
-node_found size node h =
-    let a = and_parts (ltb 0 node) (leb node size) h in
-    (ltb-true 0 node a.0, leb-true node size a.1)
+node_found size node h = grind (arith, nat_tests)
 
 pub node_again : (size node : ℕ) → IsNode size node → is_node size node ≡ true
-node_again size node h =
-    let a = lt-ltb 0 node h.0 in
-    let b = le-leb node size h.1 in
-    rw (a, b) refl
+node_again size node h = grind (arith, nat_tests)

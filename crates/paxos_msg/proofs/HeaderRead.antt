@@ -1,8 +1,8 @@
 -- The header: what is read was written, and what is written is read.
-use Rattle.std.proofs.Common.{◌≡◌, ℕ, suc, ◌<◌, ◌≤◌, true, false, not, ◌&&◌, ◌||◌, eqb, ltb, List, [], ◌∷◌, ◌++◌, length, Ok, refl, sym, ap, arith}
-use Rattle.std.proofs.lemmas.Bool.{eq-eqb, eqb-true, le-ltb, ltb-false, or_parts, and_parts, not-false}
+use Rattle.std.proofs.Common.{◌≡◌, ℕ, suc, ◌<◌, ◌≤◌, not, ◌&&◌, ◌||◌, eqb, ltb, List, [], ◌∷◌, ◌++◌, length, Ok, sym, ap, arith}
+use Rattle.std.proofs.lemmas.Bool.{eqb-true, ltb-false, or_parts, and_parts, not-false}
+use Rattle.std.proofs.lemmas.Bool.Decides.{nat_tests}
 use Rattle.byteorder.specs.Endian.{big_number}
-use Rattle.byteorder.specs.Numbers.{big_number-reads_back}
 use Rattle.paxos_msg.specs.declared.message.Group.{Group}
 use Rattle.paxos_msg.specs.declared.fault.WireFault.TheVariants as fault
 use Rattle.paxos_msg.specs.Fits.{IsNode}
@@ -10,7 +10,7 @@ use Rattle.paxos_msg.specs.Spelling.{number_bytes, header_bytes}
 use Rattle.paxos_msg.specs.Reading.{is_node, header_at}
 use Rattle.paxos_msg.specs.Grammar.{AreBytes, IsGroup}
 use Rattle.base.proofs.Steps.{unless_ok, ok_is}
-use Rattle.paxos_msg.proofs.Guards.{Takes, zero_false, false_zero, node_found, node_again}
+use Rattle.paxos_msg.proofs.Guards.{Takes, zero_false, node_found}
 use Rattle.paxos_msg.proofs.Numbers.{four_again}
 
 -- a header of the group was read
@@ -22,10 +22,7 @@ pub record IsHeader (group : Group) (bytes : List ℕ) (p : (ℕ × ℕ) × List
 
 short_refused : (group : Group) (bytes : List ℕ) (p : (ℕ × ℕ) × List ℕ) → length bytes < 10 → header_at group bytes ≡ Ok p → ⊥
 unfolding header_at
-short_refused group bytes p lt e =
-    let a = unless_ok fault.Short (ltb (length bytes) 10) bytes _ p e in
-    let b = ltb-false (length bytes) 10 a.0 in
-    omega arith
+short_refused group bytes p lt e = grind (arith, nat_tests)
 
 -- ten bytes that pass the tests are a header
 ten_are : (group : Group) (a b c kind sender size g h i j : ℕ) (rest : List ℕ) → AreBytes (g ∷ h ∷ i ∷ j ∷ rest)
@@ -78,12 +75,4 @@ header_found group other p are e = absurd (short_refused group other p (omega ar
 pub header_again : (group : Group) (kind sender : ℕ) (rest : List ℕ) → IsGroup group → 0 < kind → kind ≤ 8 → IsNode group.size sender
     → header_at group (header_bytes group kind sender ++ rest) ≡ Ok ((kind, sender), rest)
 unfolding header_at
-header_again group kind sender rest small above below node =
-    let long : ltb (length (header_bytes group kind sender ++ rest)) 10 ≡ false = le-ltb _ _ (omega arith) in
-    let some : eqb kind 0 ≡ false = false_zero kind above in
-    let few : ltb 8 kind ≡ false = le-ltb 8 kind below in
-    let size : eqb group.size group.size ≡ true = eq-eqb _ _ refl in
-    let session : eqb (big_number 4 (number_bytes group.session ++ rest)) group.session ≡ true =
-    eq-eqb _ _ (big_number-reads_back 4 group.session rest small) in
-    let there : is_node group.size sender ≡ true = node_again group.size sender node in
-    rw (long, some, few, size, session, there) refl
+header_again group kind sender rest small above below node = grind (arith, nat_tests)

@@ -1,5 +1,6 @@
 -- Two majorities share a node.
 use Rattle.std.proofs.Common.{◌≡◌, ℕ, zero, suc, ◌+◌, ◌*◌, ◌<◌, ◌≤◌, Bool, true, false, IsTrue, ◌↔◌, refl, arith}
+use Rattle.std.proofs.lemmas.Bool.Decides.{nat_tests}
 use Rattle.paxos_msg.specs.Ballots.{count_of, IsMajority}
 
 -- a node of both sets, from 1 to n
@@ -15,10 +16,7 @@ one_more : (p q : ℕ → Bool) (n : ℕ) (x y : Bool) → p (suc n) ≡ x → q
     → Shared p q (suc n)
 one_more p q n true true e f below h = (suc n, omega arith, omega arith, e, f)
 one_more p q n true false e f below h = still_shared p q n (below (omega (arith, rw (e, f) at h)))
-one_more p q n false y e f below h =
-    still_shared p q n (below
-    (elim y as (λ z. q (suc n) ≡ z → n < count_of p n + count_of q n)
-    [ true ↦ λ g. omega (arith, rw (e, g) at h) | false ↦ λ g. omega (arith, rw (e, g) at h) ] f))
+one_more p q n false y e f below h = grind (arith, nat_tests)
 
 shared : (p q : ℕ → Bool) (n : ℕ) → n < count_of p n + count_of q n → Shared p q n
 shared p q zero h = absurd (omega arith)

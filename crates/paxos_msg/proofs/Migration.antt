@@ -40,11 +40,7 @@ module _ {V W : Type 0} (f : V → W) where
   vote_at_with : (votes : List (Vote V)) (s : ℕ)
       → kept_vote_at (map (vote_with f) votes) s ≡ option_map (vote_with f) (kept_vote_at votes s)
   vote_at_with [] s = refl
-  vote_at_with (x ∷ xs) s =
-      elim (cases_eq x.place s) [
-        | inl e ↦ rw (eq-eqb x.place s e) refl
-        | inr ne ↦ rw (ne_eqb x.place s ne) (vote_at_with xs s)
-      ]
+  vote_at_with (x ∷ xs) s = grind (arith, nat_tests, cases_eq, eq-eqb, ne_eqb, vote_at_with xs s)
 
   with_vote_with : (votes : List (Vote V)) (vote : Vote V)
       → map (vote_with f) (with_vote votes vote) ≡ with_vote (map (vote_with f) votes) (vote_with f vote)
@@ -54,9 +50,7 @@ module _ {V W : Type 0} (f : V → W) where
   changed_with : (r : Record V) (change : Change V) → record_with f (changed r change) ≡ changed (record_with f r) (change_with f change)
   changed_with r change.Start = refl
   changed_with r (change.Promise b) = refl
-  changed_with r (change.Ballotted s b v) =
-      ap (λ (votes : List (Vote W)). record { starts = r.starts; promised = Some b; votes = votes })
-      (with_vote_with r.votes (record { place = s; ballot = b; value = v }))
+  changed_with r (change.Ballotted s b v) = grind (arith, nat_tests, with_vote_with)
 
   -- ---- what was sent
 
@@ -118,19 +112,11 @@ module _ {V W : Type 0} (f : V → W) where
       → IsBest members reported best
       → IsBest members (λ i. option_map (vote_with f) (reported i)) (option_map (vote_with f) best)
   best_still members reported None h = λ i member. ap (option_map (vote_with f)) (h i member)
-  best_still members reported (Some vote) h = record {
-    reporter = h.reporter;
-    is_member = h.is_member;
-    reports = ap (option_map (vote_with f)) h.reports;
-    greatest = λ i member. greatest_still (reported i) vote (h.greatest i member);
-  }
+  best_still members reported (Some vote) h = grind (arith, nat_tests)
 
   saved_still : (records next : ℕ → Record V) (i : ℕ) (change : Change V) → IsSaved records i change next
       → IsSaved (λ j. record_with f (records j)) i (change_with f change) (λ j. record_with f (next j))
-  saved_still records next i change h = record {
-    own = ap (record_with f) h.own ∙ changed_with (records i) change;
-    others = λ j ne. ap (record_with f) (h.others j ne);
-  }
+  saved_still records next i change h = grind (arith, nat_tests, changed_with)
 
   may_save_still : (sent : Sent V) (r : Record V) (change : Change V) → MaySave sent r change
       → MaySave (sent_with f sent) (record_with f r) (change_with f change)

@@ -1,8 +1,7 @@
 -- Numbers of one and of four bytes: what is read was written, and what is written is read.
-use Rattle.std.proofs.Common.{◌≡◌, ℕ, suc, ◌+◌, ◌*◌, ◌/◌, ◌%◌, ◌^◌, ◌<◌, ◌≤◌, false, ltb, List, [], ◌∷◌, ◌++◌, length, drop, Ok, refl, sym, ap, arith}
-use Rattle.std.proofs.lemmas.Bool.{le-ltb, ltb-false}
+use Rattle.std.proofs.Common.{◌≡◌, ℕ, suc, ◌^◌, ◌<◌, ◌≤◌, ltb, List, [], ◌∷◌, ◌++◌, length, drop, Ok, refl, sym, ap, arith}
+use Rattle.std.proofs.lemmas.Bool.Decides.{nat_tests}
 use Rattle.byteorder.specs.Endian.{big_number}
-use Rattle.byteorder.specs.Numbers.{big_number-reads_back}
 use Rattle.paxos_msg.specs.declared.fault.WireFault.TheVariants.{Short}
 use Rattle.paxos_msg.specs.Spelling.{number_bytes}
 use Rattle.paxos_msg.specs.Reading.{first_byte, number_at}
@@ -18,23 +17,14 @@ byte_found (b ∷ bytes) x h e =
 -- four bytes are those of the number in them
 pub four_again : (a b c d : ℕ) → a < 256 → b < 256 → c < 256 → d < 256
     → number_bytes (big_number 4 (a ∷ b ∷ c ∷ d ∷ [])) ≡ a ∷ b ∷ c ∷ d ∷ []
-four_again a b c d ha hb hc hd =
-    let one : (a * 16777216 + (b * 65536 + (c * 256 + d))) / 16777216 % 256 ≡ a = omega arith in
-    let two : (a * 16777216 + (b * 65536 + (c * 256 + d))) / 65536 % 256 ≡ b = omega arith in
-    let three : (a * 16777216 + (b * 65536 + (c * 256 + d))) / 256 % 256 ≡ c = omega arith in
-    let four : (a * 16777216 + (b * 65536 + (c * 256 + d))) % 256 ≡ d = omega arith in
-    let same : big_number 4 (a ∷ b ∷ c ∷ d ∷ []) ≡ a * 16777216 + (b * 65536 + (c * 256 + d)) = omega arith in
-    rw (same, one, two, three, four) refl
+four_again a b c d ha hb hc hd = grind (arith, nat_tests)
 
 -- the number in four bytes is below 2 ^ 32
 four_below : (a b c d : ℕ) → a < 256 → b < 256 → c < 256 → d < 256 → big_number 4 (a ∷ b ∷ c ∷ d ∷ []) < 2 ^ 32
 four_below a b c d ha hb hc hd = omega arith
 
 short_refused : (bytes : List ℕ) (x : ℕ × List ℕ) → length bytes < 4 → number_at bytes ≡ Ok x → ⊥
-short_refused bytes x lt e =
-    let a = last_ok Short (ltb (length bytes) 4) (big_number 4 bytes, drop 4 bytes) x e in
-    let b = ltb-false (length bytes) 4 a.0 in
-    omega arith
+short_refused bytes x lt e = grind (arith, nat_tests)
 
 pub number_found : (bytes : List ℕ) (x : ℕ × List ℕ) → AreBytes bytes → number_at bytes ≡ Ok x
     → Takes bytes (number_bytes x.0) x.1 × (x.0 < 2 ^ 32)
@@ -49,9 +39,7 @@ number_found other x h e = absurd (short_refused other x (omega arith) e)
 
 number_with : (n : ℕ) (bytes rest : List ℕ) → 4 ≤ length bytes → big_number 4 bytes ≡ n → drop 4 bytes ≡ rest
     → number_at bytes ≡ Ok (n, rest)
-number_with n bytes rest le e d =
-    let long : ltb (length bytes) 4 ≡ false = le-ltb _ _ le in
-    rw (long, e, d) refl
+number_with n bytes rest le e d = grind (arith, nat_tests)
 
 pub number_again : (n : ℕ) (rest : List ℕ) → n < 2 ^ 32 → number_at (number_bytes n ++ rest) ≡ Ok (n, rest)
-number_again n rest h = number_with n (number_bytes n ++ rest) rest (omega arith) (big_number-reads_back 4 n rest h) refl
+number_again n rest h = grind (arith, nat_tests)

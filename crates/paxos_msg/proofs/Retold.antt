@@ -1,6 +1,7 @@
 -- A growth of a group of five, written out: a greater ballot gets a vote reported and proposes its
 -- value again.
-use Rattle.std.proofs.Common.{◌≡◌, ℕ, zero, suc, ◌==◌, inr, List, [], ◌∷◌, Option, None, Some, IfSome, Contains, if◌then◌else◌, ap, refl, arith, lit<}
+use Rattle.std.proofs.Common.{◌≡◌, ℕ, zero, suc, ◌==◌, inr, List, [], ◌∷◌, Option, None, Some, IfSome, Contains, if◌then◌else◌, refl, arith, lit<}
+use Rattle.std.proofs.lemmas.Bool.Decides.{nat_tests}
 use Rattle.paxos_msg.specs.declared.ballot.Ballot.{Ballot}
 use Rattle.paxos_msg.specs.declared.value.Value.{Value}
 use Rattle.paxos_msg.specs.Batches.{Grew, IsSafe, Record, Sent, Vote}
@@ -120,11 +121,7 @@ only_vote x (suc n, below, e) = absurd (omega arith)
 
 -- a record with that vote alone reports it
 tells : (r : Record) → r.votes ≡ vote ∷ [] → IsReport r 3 4 (vote ∷ [])
-tells r e = record {
-  own = λ x h. rw e h;
-  within = λ x h. let place : 3 ≡ x.place = ap (λ (v : Vote). v.place) (only_vote x h) in (omega arith, omega arith);
-  whole = λ s from below. rw e refl;
-}
+tells r e = grind (arith, nat_tests)
 
 safe : IsSafe 5 s4 lower 3 key
 safe = record {

@@ -1,28 +1,21 @@
 -- A save keeps the invariant.
-use Rattle.std.proofs.Common.{ℕ, IfSome, IsSomeAnd}
+use Rattle.std.proofs.Common.{ℕ, IfSome, arith}
+use Rattle.std.proofs.lemmas.Bool.Decides.{nat_tests}
 use Rattle.paxos_msg.specs.declared.ballot.Ballot.{Ballot}
 use Rattle.paxos_msg.specs.declared.value.Value.{Value}
 use Rattle.paxos_msg.specs.Batches.{Change, Record, Sent}
-use Rattle.paxos_msg.specs.Ballots.{IsBelow}
 use Rattle.paxos_msg.specs.Messages.{kept_vote_at}
 use Rattle.paxos_msg.specs.Records.{MaySave, IsSaved}
-use Rattle.paxos_msg.proofs.BallotOrder.{below_at_most}
-use Rattle.paxos_msg.proofs.Advances.{HasPromised, HasVoted, IsRight, after_save, promise_rises, promise_kept, votes_right, vote_kept}
+use Rattle.paxos_msg.proofs.Advances.{HasPromised, HasVoted, IsRight, after_save, promise_kept, votes_right, vote_kept}
 use Rattle.paxos_msg.proofs.Invariant.{Invariant, IsPast, IsDecided}
 
 module _ (size : ℕ) (sent : Sent) (records next : ℕ → Record) (i : ℕ) (change : Change)
     (may : MaySave sent (records i) change) (saved : IsSaved records i change next) where
   past_kept : (b : Ballot) (s : ℕ) (w : Value) (j : ℕ) → IsPast sent records b s w j → IsPast sent next b s w j
-  past_kept b s w j h = record {
-    passed =
-        after_save sent records i change next j (λ r. IsSomeAnd r.promised (λ p. IsBelow b p)) may saved
-        (λ m. promise_rises sent (records j) change (λ p. IsBelow b p)
-        (λ p q pq bp. below_at_most b p q bp pq) m h.passed) h.passed;
-    only = h.only;
-  }
+  past_kept b s w j h = grind (arith, nat_tests)
 
   decided_kept : (b : Ballot) (s : ℕ) (w : Value) → IsDecided size sent records b s w → IsDecided size sent next b s w
-  decided_kept b s w h = record { members = h.members; majority = h.majority; past = λ j member. past_kept b s w j (h.past j member) }
+  decided_kept b s w h = grind (arith, nat_tests)
 
   pub saves_keep : Invariant size sent records → Invariant size sent next
   saves_keep inv = record {

@@ -1,6 +1,7 @@
 -- A message that a node may send keeps the invariant.
-use Rattle.std.proofs.Common.{◌≡◌, ℕ, ◌⊎◌, inl, inr, List, [], ◌∷◌, ◌++◌, Option, Some, None, IfSome, IsSomeAnd, MatchOption, IsTrue, sym, ◌∙◌, ap}
+use Rattle.std.proofs.Common.{◌≡◌, ℕ, ◌⊎◌, inl, inr, List, [], ◌∷◌, ◌++◌, Option, Some, None, IfSome, IsSomeAnd, MatchOption, IsTrue, sym, ◌∙◌, ap, arith}
 use Rattle.std.proofs.lemmas.Option.{IfSome_then}
+use Rattle.std.proofs.lemmas.Bool.Decides.{nat_tests}
 use Rattle.paxos_msg.specs.declared.ballot.Ballot.{Ballot}
 use Rattle.paxos_msg.specs.declared.value.Value.{Value}
 use Rattle.paxos_msg.specs.Batches.{Body, IsFree, IsSafe, MaySend, Msg, Record, Sent, Vote}
@@ -22,9 +23,7 @@ some_then (Some x) P Q h f = f x h
 great_proposed : (size : ℕ) (sent : Sent) (records : ℕ → Record) (c : Ballot) (s : ℕ) (w : Value)
     → Invariant size sent records → (safe : IsSafe size sent c s w) (vote : Vote)
     → IsGreatest safe.members safe.reported vote → IsSaid sent (Accept vote.ballot s vote.value)
-great_proposed size sent records c s w inv safe vote great =
-    let report = inv.reports great.reporter c s (safe.reported great.reporter) (safe.promised great.reporter great.is_member) in
-    rw great.reports at report.proposed
+great_proposed size sent records c s w inv safe vote great = grind (arith, nat_tests)
 
 safe_submitted : (size : ℕ) (sent : Sent) (records : ℕ → Record) (c : Ballot) (s : ℕ) (w : Value)
     → Invariant size sent records → IsSafe size sent c s w → IsFree sent w
@@ -41,9 +40,7 @@ safe_submitted size sent records c s w inv safe = by_best safe.best safe.is_best
 module _ (size : ℕ) (sent : Sent) (records : ℕ → Record) (c : Ballot) (s : ℕ) (w : Value)
     (inv : Invariant size sent records) (safe : IsSafe size sent c s w) (b : Ballot) (below : IsBelow b c) where
   passed : (i : ℕ) → IsTrue (safe.members i) → IsSomeAnd (records i).promised (λ p. IsBelow b p)
-  passed i member =
-      some_then (records i).promised (λ p. IsAtMost c p) (λ p. IsBelow b p)
-      (inv.held i c s (safe.reported i) (safe.promised i member)) (λ p cp. below_at_most b c p below cp)
+  passed i member = grind (arith, nat_tests)
 
   latest : (i : ℕ) → IsTrue (safe.members i) → (v : Value) → IsSent sent i (Accepted b s v)
       → IsSomeAnd (safe.reported i) (λ vote. IsAtMost b vote.ballot)
@@ -127,12 +124,7 @@ module _ (size : ℕ) (typed : List Key) (learned : ℕ → Option Value) (sent 
       ]
 
   right : (i s : ℕ) → IfSome (kept_vote_at (records i).votes s) (IsRight (sent ++ m ∷ []) (records i) s)
-  right i s =
-      IfSome_then (kept_vote_at (records i).votes s) (inv.right i s)
-      (λ vote r. record {
-        proposed = still_said sent m (Accept vote.ballot s vote.value) r.proposed;
-        in_promise = r.in_promise;
-      })
+  right i s = grind (arith, nat_tests, IfSome_then, still_said)
 
   -- a single promise was there before, or says what its node's record says now
   promise_cases : (i : ℕ) (b : Ballot) (s : ℕ) (reported : Option Vote) → IsPromised (sent ++ m ∷ []) i b s reported

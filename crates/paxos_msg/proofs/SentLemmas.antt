@@ -1,6 +1,7 @@
 -- What was sent, after one more message.
-use Rattle.std.proofs.Common.{◌≡◌, ℕ, ◌⊎◌, inl, inr, List, [], ◌∷◌, ◌++◌, Option, subst}
+use Rattle.std.proofs.Common.{◌≡◌, ℕ, ◌⊎◌, inl, inr, List, [], ◌∷◌, ◌++◌, Option, arith}
 use Rattle.std.proofs.lemmas.List.Elements.{Contains-append_left, Contains-push_cases}
+use Rattle.std.proofs.lemmas.Bool.Decides.{nat_tests}
 use Rattle.paxos_msg.specs.declared.value.Value.{Value}
 use Rattle.paxos_msg.specs.Batches.{Body, MaySend, Msg, Record, Sent}
 use Rattle.paxos_msg.specs.Keys.{Key}
@@ -22,8 +23,7 @@ pub rule_of : (size : ℕ) (typed : List Key) (learned : ℕ → Option Value) (
     (i : ℕ) (body : Body) → m ≡ record { sender = i; body = body }
     → MaySend size typed learned sent m.sender (records m.sender) m.body
     → MaySend size typed learned sent i (records i) body
-rule_of size typed learned sent records m i body e may =
-    subst (λ (n : Msg). MaySend size typed learned sent n.sender (records n.sender) n.body) e may
+rule_of size typed learned sent records m i body e may = grind (arith, nat_tests)
 
 -- what is sent now was sent before, or its node was allowed to send it
 pub sent_or_may : (size : ℕ) (typed : List Key) (learned : ℕ → Option Value) (sent : Sent) (records : ℕ → Record)

@@ -1,8 +1,9 @@
 -- Values: what is read was written, and what is written is read.
-use Rattle.std.proofs.Common.{◌≡◌, ◌∙◌, ℕ, zero, suc, ◌+◌, ◌^◌, ◌<◌, ◌≤◌, Bool, true, false, not, ◌&&◌, eqb, ltb, leb, List, [], ◌∷◌, ◌++◌, length, take, drop, Ok, refl, sym, ap, arith}
+use Rattle.std.proofs.Common.{◌≡◌, ℕ, zero, suc, ◌+◌, ◌^◌, ◌<◌, ◌≤◌, Bool, true, not, ◌&&◌, eqb, List, [], ◌∷◌, ◌++◌, length, Ok, refl, ap, arith}
 use Rattle.std.proofs.Math.Seq.{drop-append_seam, take-append_seam}
-use Rattle.std.proofs.lemmas.Bool.{eq-eqb, eqb-true, le-ltb, lt-ltb, le-leb, ltb-false, ltb-true, leb-true, and_parts, not-false}
+use Rattle.std.proofs.lemmas.Bool.{eq-eqb, eqb-true, le-ltb, ltb-false, and_parts, not-false}
 use Rattle.std.proofs.lemmas.List.{length-append, length-take-le, take-append-drop}
+use Rattle.std.proofs.lemmas.Bool.Decides.{nat_tests}
 use Rattle.paxos_msg.specs.declared.value.Value.{Value}
 use Rattle.paxos_msg.specs.declared.value.Value.TheVariants.{Noop, Keys}
 use Rattle.paxos_msg.specs.declared.fault.WireFault.TheVariants as fault
@@ -19,40 +20,21 @@ use Rattle.paxos_msg.proofs.OwnKeys.{own_keys, owner}
 -- ---- the characters of a batch
 
 batch_found : (first count : ℕ) → is_batch first count ≡ true → (0 < first) × (0 < count) × (count ≤ 32) × (first + count ≤ 2 ^ 32)
-batch_found first count h =
-    let a = and_parts (ltb 0 first) (ltb 0 count && (leb count 32 && leb (first + count) 4294967296)) h in
-    let b = and_parts (ltb 0 count) (leb count 32 && leb (first + count) 4294967296) a.1 in
-    let c = and_parts (leb count 32) (leb (first + count) 4294967296) b.1 in
-    (ltb-true 0 first a.0, ltb-true 0 count b.0, leb-true count 32 c.0, leb-true (first + count) 4294967296 c.1)
+batch_found first count h = grind (arith, nat_tests)
 
 batch_again : (first : ℕ) (bytes : List ℕ) → IsBatch first bytes → is_batch first (length bytes) ≡ true
-batch_again first bytes h =
-    rw (lt-ltb 0 first h.0, lt-ltb 0 (length bytes) h.1, le-leb (length bytes) 32 h.2, le-leb (first + length bytes) 4294967296 h.3) refl
+batch_again first bytes h = grind (arith, nat_tests)
 
 characters_found : (first : ℕ) (bytes : List ℕ) (p : List ℕ × List ℕ) → AreBytes bytes
     → characters_at first bytes ≡ Ok p → Takes bytes (length p.0 ∷ p.0) p.1 × IsBatch first p.0
 unfolding characters_at
 characters_found first bytes p h e =
-    let a = bind_ok (first_byte bytes) _ p e in
-    let b = unless_ok fault.Value (not (is_batch first a.0.0)) a.0 _ p a.2 in
-    let made : List ℕ × List ℕ = (take a.0.0 a.0.1, drop a.0.0 a.0.1) in
-    let g = guard_ok (ltb (length a.0.1) a.0.0) fault.Short (Ok made) p b.1 in
-    let count = byte_found bytes a.0 h a.1 in
-    let len : length made.0 ≡ a.0.0 = length-take-le a.0.0 a.0.1 (ltb-false (length a.0.1) a.0.0 g.0) in
-    let good = batch_found first a.0.0 (not-false _ b.0) in
-    let parts : bytes ≡ a.0.0 ∷ (made.0 ++ made.1) = count.0.parts ∙ ap (λ (t : List ℕ). a.0.0 ∷ t) (sym (take-append-drop a.0.0 a.0.1)) in
-    let taken : Takes bytes (length made.0 ∷ made.0) made.1 =
-    record { parts = rw len parts; others = bytes_after a.0.0 a.0.1 count.0.others } in
-    let batch : IsBatch first made.0 = rw len (good.0, good.1, good.2, good.3, bytes_before a.0.0 a.0.1 count.0.others) in
-    rw (← ok_is made p g.1) (taken, batch)
+    grind (arith, nat_tests, bind_ok, unless_ok, guard_ok, byte_found, length-take-le, ltb-false, batch_found, not-false, take-append-drop, Takes, bytes_after, bytes_before, ok_is)
 
 characters_again : (first : ℕ) (bytes rest : List ℕ) → IsBatch first bytes
     → characters_at first (length bytes ∷ (bytes ++ rest)) ≡ Ok (bytes, rest)
 unfolding characters_at
-characters_again first bytes rest h =
-    let long : ltb (length (bytes ++ rest)) (length bytes) ≡ false =
-    le-ltb (length (bytes ++ rest)) (length bytes) (omega (arith, length-append bytes rest)) in
-    rw (batch_again first bytes h, long, take-append_seam bytes rest, drop-append_seam bytes rest) refl
+characters_again first bytes rest h = grind (arith, nat_tests, le-ltb, length-append, batch_again, take-append_seam, drop-append_seam)
 
 -- ---- values
 
@@ -114,8 +96,7 @@ value_found size (suc (suc b) ∷ bytes) p h e = let f = rw ((past_one b).0, (pa
 pub value_again : (size : ℕ) (v : Value) (rest : List ℕ) → IsValue size v → value_at size (value_bytes v ++ rest) ≡ Ok (v, rest)
 unfolding value_at
 value_again size Noop rest h = refl
-value_again size (Keys node start first bytes) rest h =
-    keys_again (is_node size) node start first bytes rest (node_again size node h.0) h.1 h.2
+value_again size (Keys node start first bytes) rest h = grind (arith, nat_tests, keys_again, node_again)
 
 -- ---- keys of the sender
 

@@ -1,17 +1,17 @@
 -- Values of version 1: what is read was written, and what is written is read.
 use Rattle.std.proofs.Common.{◌≡◌, ◌↔◌, ℕ, zero, suc, ◌+◌, ◌^◌, ◌<◌, ◌≤◌, not, eqb, List, [], ◌∷◌, ◌++◌, Ok, refl, ap, arith}
 use Rattle.std.proofs.lemmas.Bool.{not-false}
+use Rattle.std.proofs.lemmas.Bool.Decides.{nat_tests}
 use Rattle.paxos_msg.specs.declared.value.Value.{Value}
 use Rattle.paxos_msg.specs.declared.value.Value.TheVariants.{Noop, Keys}
 use Rattle.paxos_msg.specs.declared.fault.WireFault.TheVariants as fault
 use Rattle.paxos_msg.specs.Fits.{IsValue}
 use Rattle.paxos_msg.specs.Grammar.{AreBytes}
 use Rattle.paxos_msg.specs.Reading.{first_byte, is_node, number_at}
-use Rattle.paxos_msg.specs.Spelling.{number_bytes}
 use Rattle.paxos_msg.specs.Version1.{IsSingle, key_at_v1, key_rest_at_v1, value_at_v1, value_bytes_v1}
 use Rattle.base.proofs.Steps.{bind_ok, unless_ok, ok_is}
-use Rattle.paxos_msg.proofs.Guards.{Takes, takes_then, zero_false, false_zero, past_one, node_found, node_again}
-use Rattle.paxos_msg.proofs.Numbers.{byte_found, number_found, number_again}
+use Rattle.paxos_msg.proofs.Guards.{Takes, takes_then, zero_false, past_one, node_found}
+use Rattle.paxos_msg.proofs.Numbers.{byte_found, number_found}
 
 -- what was read
 pub record IsRead (size : ℕ) (bytes : List ℕ) (p : Value × List ℕ) : Type 0 where
@@ -63,17 +63,7 @@ unfolding value_at_v1 key_at_v1 key_rest_at_v1
 value_again size Noop rest h single = refl
 value_again size (Keys node start first []) rest h single = absurd (omega (arith, h.2.1))
 value_again size (Keys node start first (byte ∷ more ∷ bytes)) rest h single = absurd (omega (arith, single))
-value_again size (Keys node start first (byte ∷ [])) rest h single =
-    let small : first < 2 ^ 32 = omega (arith, h.2.3) in
-    rw (
-      node_again size node h.0,
-      number_again start
-          (number_bytes first ++ byte ∷ rest) h.1.1,
-      false_zero start h.1.0,
-      number_again first
-          (byte ∷ rest) small,
-      false_zero first h.2.0,
-    ) refl
+value_again size (Keys node start first (byte ∷ [])) rest h single = grind (arith, nat_tests)
 
 pub value_v1_is_spelling : (size : ℕ) (bytes : List ℕ) (v : Value) (rest : List ℕ) → AreBytes bytes
     → (value_at_v1 size bytes ≡ Ok (v, rest)) ↔ (IsValue size v × IsSingle v × (bytes ≡ value_bytes_v1 v ++ rest))

@@ -1,11 +1,12 @@
 -- Votes: what is read was written, and what is written is read.
-use Rattle.std.proofs.Common.{◌≡◌, ℕ, zero, suc, ◌+◌, ◌^◌, ◌<◌, ◌≤◌, false, ◌||◌, ltb, leb, List, [], ◌∷◌, ◌++◌, length, Ok, refl, ap, append_assoc, arith}
+use Rattle.std.proofs.Common.{◌≡◌, ℕ, zero, suc, ◌+◌, ◌≤◌, ◌||◌, ltb, leb, List, [], ◌∷◌, ◌++◌, length, Ok, refl, ap, append_assoc, arith}
 use Rattle.std.proofs.lemmas.Bool.{le-ltb, ltb-false, lt-leb, leb-false, or_parts}
+use Rattle.std.proofs.lemmas.Bool.Decides.{nat_tests}
 use Rattle.paxos_msg.specs.declared.ballot.Ballot.{Ballot}
 use Rattle.paxos_msg.specs.Batches.{Vote}
 use Rattle.paxos_msg.specs.declared.fault.WireFault.TheVariants as fault
 use Rattle.paxos_msg.specs.Fits.{IsVote, AreVotes}
-use Rattle.paxos_msg.specs.Spelling.{ballot_bytes, value_bytes, vote_bytes, votes_bytes}
+use Rattle.paxos_msg.specs.Spelling.{vote_bytes, votes_bytes}
 use Rattle.paxos_msg.specs.Reading.{number_at, ballot_at, value_at, vote_at, votes_at}
 use Rattle.paxos_msg.specs.Tests.{ballot_lt}
 use Rattle.paxos_msg.specs.Grammar.{AreBytes}
@@ -51,28 +52,13 @@ pub vote_again : (size : ℕ) (b : Ballot) (first upto low : ℕ) (v : Vote) (re
     → vote_at size b first upto low (vote_bytes v ++ rest) ≡ Ok (v, rest)
 unfolding vote_at
 vote_again size b first upto low v rest small h above =
-    let place : v.place < 2 ^ 32 = omega (arith, h.below_upto) in
-    let upper : leb upto v.place ≡ false = lt-leb upto v.place h.below_upto in
-    rw (
-      number_again v.place
-          (ballot_bytes v.ballot ++ (value_bytes v.value ++ rest)) place,
-      le-ltb v.place low above,
-      le-ltb v.place first
-          h.from_low,
-      upper,
-      ballot_again size v.ballot
-          (value_bytes v.value ++ rest) h.ballot,
-      (not_below b v.ballot).1 h.not_above,
-      value_again size v.value rest
-          h.value,
-    ) refl
+    grind (arith, nat_tests, lt-leb, number_again, le-ltb, ballot_again, not_below, value_again)
 
 -- ---- all votes
 
 -- a vote from another place on
 vote_from : (size : ℕ) (b : Ballot) (first low upto : ℕ) (v : Vote) → low ≤ v.place → IsVote size b first upto v → IsVote size b low upto v
-vote_from size b first low upto v le h =
-    record { from_low = le; below_upto = h.below_upto; ballot = h.ballot; not_above = h.not_above; value = h.value }
+vote_from size b first low upto v le h = grind (arith, nat_tests)
 
 -- from is a bound on places that are neither below low nor below first
 pub votes_found : (size : ℕ) (b : Ballot) (first upto low from n : ℕ) (bytes : List ℕ) (p : List Vote × List ℕ)

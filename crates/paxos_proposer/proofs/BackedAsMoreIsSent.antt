@@ -1,10 +1,11 @@
 -- What backs a proposer goes on to back it as more is sent, if that proposes nothing under its
 -- ballot.
-use Rattle.std.proofs.Common.{ℕ, ◌++◌, [], ◌∷◌, Bool, Option}
+use Rattle.std.proofs.Common.{ℕ, ◌++◌, [], ◌∷◌, Bool, Option, arith}
 use Rattle.std.proofs.lemmas.List.Elements.{Contains-append_left}
+use Rattle.std.proofs.lemmas.Bool.Decides.{nat_tests}
 use Rattle.paxos_msg.specs.declared.ballot.Ballot.{Ballot}
 use Rattle.paxos_msg.specs.Batches.{Body, Msg, Sent, Vote}
-use Rattle.paxos_msg.specs.declared.message.Body.TheVariants.{Promise, Accept}
+use Rattle.paxos_msg.specs.declared.message.Body.TheVariants.{Accept}
 use Rattle.paxos_msg.specs.Messages.{IsSent, IsPromised, kept_vote_at}
 use Rattle.paxos_proposer.specs.Proposer.{Proposer, is_covered_by}
 use Rattle.paxos_proposer.specs.Backed.{HasPromises, IsProposerBacked, IsQuietUnder}
@@ -19,26 +20,11 @@ stays_with sent m = record { stays = λ i body h. Contains-append_left sent (m �
 
 module _ (sent next : Sent) (later : Stays sent next) where
   promised_stays : (i : ℕ) (b : Ballot) (s : ℕ) (reported : Option Vote) → IsPromised sent i b s reported → IsPromised next i b s reported
-  promised_stays i b s reported h =
-      record {
-        first = h.first;
-        upto = h.upto;
-        votes = h.votes;
-        is_sent = later.stays i (Promise b h.first h.upto h.votes) h.is_sent;
-        from_first = h.from_first;
-        below_upto =
-            h.below_upto;
-        reports = h.reports;
-      }
+  promised_stays i b s reported h = grind (arith, nat_tests)
 
   pub heard_stays : (b : Ballot) (s : ℕ) (members : ℕ → Bool) (kept : Option Vote) → HasPromises sent b s members kept
       → HasPromises next b s members kept
-  heard_stays b s members kept h =
-      record {
-        reported = h.reported;
-        promised = λ i member. promised_stays i b s (h.reported i) (h.promised i member);
-        is_best = h.is_best;
-      }
+  heard_stays b s members kept h = grind (arith, nat_tests)
 
 pub backed_later : (sent next : Sent) (me : ℕ) (p : Proposer) → IsQuietUnder p.ballot sent next
     → IsProposerBacked sent me p → IsProposerBacked next me p

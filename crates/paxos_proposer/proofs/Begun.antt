@@ -1,7 +1,8 @@
 -- A proposer that has heard nothing is backed.
-use Rattle.std.proofs.Common.{◌≡◌, ℕ, ◌-◌, ◌<◌, ◌≤◌, nat_lt, Bool, true, false, IsTrue, [], replicate, slice_index, slice_get, Some, None, if◌then◌else◌, inl, inr, refl, arith}
+use Rattle.std.proofs.Common.{◌≡◌, ℕ, ◌-◌, ◌≤◌, nat_lt, Bool, true, false, IsTrue, [], replicate, slice_index, slice_get, Some, None, if◌then◌else◌, refl, arith}
 use Rattle.std.proofs.lemmas.Bool.{cases_lt, ltb-true}
 use Rattle.std.proofs.lemmas.List.{length-replicate, get_or-replicate, get_or_past}
+use Rattle.std.proofs.lemmas.Bool.Decides.{nat_tests}
 use Rattle.paxos_msg.specs.declared.ballot.Ballot.{Ballot}
 use Rattle.paxos_msg.specs.declared.value.Value.{Value}
 use Rattle.paxos_msg.specs.declared.message.Body.TheVariants.{Accept}
@@ -12,17 +13,11 @@ use Rattle.paxos_proposer.specs.Backed.{IsProposerBacked}
 
 -- the same number everywhere is at most that number, and 0 past the end
 pub replicated : (n i from : ℕ) → slice_index (replicate n from) i ≤ from
-replicated n i from =
-    elim (cases_lt i n) [
-      | inl lt ↦ omega (arith, get_or-replicate n i from 0 lt)
-      | inr le ↦ let len = length-replicate n from in omega (arith, get_or_past (replicate n from) i 0 (omega arith))
-    ]
+replicated n i from = grind (arith, nat_tests, cases_lt, get_or-replicate, length-replicate, get_or_past)
 
 -- no acceptor covers a place from the first one on
 none_covers : (n i from s : ℕ) → from ≤ s → IsTrue (is_covered_by (replicate n from) s i) → ⊥
-none_covers n i from s le member =
-    let lt : s < slice_index (replicate n from) i = ltb-true s (slice_index (replicate n from) i) member in
-    omega (arith, replicated n i from)
+none_covers n i from s le member = grind (arith, nat_tests, ltb-true, replicated)
 
 -- and nothing is proposed
 pub none_proposed : (t : Bool) (i : ℕ) (v : Value) → (if t then None else slice_get {X = Value} [] i) ≡ Some v → ⊥

@@ -1,10 +1,11 @@
 -- Votes in ascending order of place are known by what is found at each place.
-use Rattle.std.proofs.Common.{◌≡◌, ◌∙◌, ℕ, ◌+◌, ◌<◌, ◌≤◌, nat_eq, nat_lt, ◌==◌, Bool, true, false, cond, List, [], ◌∷◌, Some, None, option_map, if◌then◌else◌, inl, inr, refl, sym, ap, arith}
+use Rattle.std.proofs.Common.{◌≡◌, ◌∙◌, ℕ, ◌+◌, ◌<◌, ◌≤◌, nat_eq, nat_le, ◌==◌, cond, List, [], ◌∷◌, Some, None, option_map, if◌then◌else◌, inl, inr, refl, sym, ap, arith}
 use Rattle.std.specs.Prelude.{All}
 use Rattle.std.specs.Map.{lookup}
-use Rattle.std.proofs.lemmas.Bool.{cases_eq, cases_lt, eq-eqb, ne_eqb, lt-ltb, le-ltb, le-leb, lt-leb}
+use Rattle.std.proofs.lemmas.Bool.{cases_eq, cases_lt, eq-eqb, ne_eqb, lt-ltb, le-ltb}
 use Rattle.std.proofs.lemmas.Bool.Decides.{nat_tests}
 use Rattle.std.proofs.lemmas.List.Elements.{All-head, All-tail}
+use Rattle.base.proofs.Branches.{either}
 use Rattle.paxos_msg.specs.Batches.{Vote}
 use Rattle.paxos_msg.specs.Messages.{AreAbove, IsAscending, kept_vote_at}
 use Rattle.paxos_msg.specs.Records.{with_vote}
@@ -30,18 +31,9 @@ vote_at-with_vote (x ∷ xs) vote s = put_step x vote xs s (vote_at-with_vote xs
 -- the votes have at a place what a search of the reports finds
 pub vote_at-votes_of : (es : List (ℕ × Report)) (s : ℕ) → kept_vote_at (reported_votes es) s ≡ option_map (vote_of s) (lookup (nat_eq s) es)
 vote_at-votes_of [] s = refl
-vote_at-votes_of (e ∷ es) s =
-    vote_at-with_vote (reported_votes es) (vote_of e.0 e.1) s
-    ∙ elim (cases_eq e.0 s) [
-      | inl same ↦ rw (same, eq-eqb s s refl) refl
-      | inr ne ↦ rw (ne_eqb e.0 s ne, ne_eqb s e.0 (λ same. ne (sym same))) (vote_at-votes_of es s)
-    ]
+vote_at-votes_of (e ∷ es) s = grind (arith, nat_tests, vote_at-with_vote, cases_eq, eq-eqb, ne_eqb, vote_at-votes_of es s)
 
 -- ---- ascending order
-
-either : (P : List Vote → Type 0) (t : Bool) (xs ys : List Vote) → P xs → P ys → P (if t then xs else ys)
-either P true xs ys h k = h
-either P false xs ys h k = k
 
 above_less : (low s : ℕ) (votes : List Vote) → low ≤ s → AreAbove s votes → AreAbove low votes
 above_less low s [] le h = tt
@@ -49,20 +41,12 @@ above_less low s (x ∷ xs) le h = (omega (arith, h.0), above_less low s xs le h
 
 above_with : (s : ℕ) (votes : List Vote) (vote : Vote) → s < vote.place → AreAbove s votes → AreAbove s (with_vote votes vote)
 above_with s [] vote lt h = (lt, tt)
-above_with s (x ∷ xs) vote lt h =
-    either (AreAbove s) (nat_lt vote.place x.place) _ _ (lt, h)
-    (either (AreAbove s) (x.place == vote.place) _ _ (lt, h.1) (h.0, above_with s xs vote lt h.1))
+above_with s (x ∷ xs) vote lt h = grind (arith, nat_tests, either, above_with s xs vote lt h.1)
 
 ascending_with : (votes : List Vote) (vote : Vote) → IsAscending votes → IsAscending (with_vote votes vote)
 ascending_with [] vote h = (tt, tt)
 ascending_with (x ∷ xs) vote h =
-    elim (cases_lt vote.place x.place) [
-      | inl less ↦ rw (lt-ltb vote.place x.place less) ((less, above_less vote.place x.place xs (omega arith) h.0), h)
-      | inr from ↦ rw (le-ltb vote.place x.place from) (elim (cases_eq x.place vote.place) [
-        | inl same ↦ rw (eq-eqb x.place vote.place same) (rw same at h.0, h.1)
-        | inr ne ↦ rw (ne_eqb x.place vote.place ne) (above_with x.place xs vote (omega arith) h.0, ascending_with xs vote h.1)
-      ])
-    ]
+    grind (arith, nat_tests, cases_lt, lt-ltb, above_less, le-ltb, cases_eq, eq-eqb, ne_eqb, above_with, ascending_with xs vote h.1)
 
 ascending_of : (es : List (ℕ × Report)) → IsAscending (reported_votes es)
 ascending_of [] = tt
@@ -70,19 +54,11 @@ ascending_of (e ∷ es) = ascending_with (reported_votes es) (vote_of e.0 e.1) (
 
 above_left : (s n : ℕ) (votes : List Vote) → AreAbove s votes → AreAbove s (votes_from n votes)
 above_left s n [] h = tt
-above_left s n (x ∷ xs) h =
-    elim (cases_lt x.place n) [
-      | inl low ↦ rw (lt-leb n x.place low) (above_left s n xs h.1)
-      | inr high ↦ rw (le-leb n x.place high) (h.0, above_left s n xs h.1)
-    ]
+above_left s n (x ∷ xs) h = either (AreAbove s) (nat_le n x.place) (h.0, above_left s n xs h.1) (above_left s n xs h.1)
 
 ascending_left : (n : ℕ) (votes : List Vote) → IsAscending votes → IsAscending (votes_from n votes)
 ascending_left n [] h = tt
-ascending_left n (x ∷ xs) h =
-    elim (cases_lt x.place n) [
-      | inl low ↦ rw (lt-leb n x.place low) (ascending_left n xs h.1)
-      | inr high ↦ rw (le-leb n x.place high) (above_left x.place n xs h.0, ascending_left n xs h.1)
-    ]
+ascending_left n (x ∷ xs) h = grind (arith, nat_tests, either, above_left, ascending_left n xs h.1)
 
 -- ---- votes that agree at each place
 
@@ -110,11 +86,7 @@ same_first x y xs ys e same =
 same_later : (x y : Vote) (xs ys : List Vote) → x.place ≡ y.place → AreAbove x.place xs → AreAbove y.place ys
     → ((s : ℕ) → kept_vote_at (x ∷ xs) s ≡ kept_vote_at (y ∷ ys) s)
     → (s : ℕ) → kept_vote_at xs s ≡ kept_vote_at ys s
-same_later x y xs ys e h k same s =
-    elim (cases_eq x.place s) [
-      | inl at ↦ none_above xs s (rw at at h) ∙ sym (none_above ys s (rw (sym e ∙ at) at k))
-      | inr ne ↦ sym (found_later x xs s ne) ∙ same s ∙ found_later y ys s (λ at. ne (e ∙ at))
-    ]
+same_later x y xs ys e h k same s = grind (arith, nat_tests, cases_eq, none_above)
 
 pub same_votes : (xs ys : List Vote) → IsAscending xs → IsAscending ys → ((s : ℕ) → kept_vote_at xs s ≡ kept_vote_at ys s) → xs ≡ ys
 same_votes [] [] h k same = refl

@@ -1,5 +1,5 @@
 -- Counting the nodes for which something holds, and those that have promised above a place.
-use Rattle.std.proofs.Common.{◌≡◌, ℕ, zero, suc, ◌+◌, ◌<◌, ◌≤◌, Bool, true, false, List, length, slice_set, if◌then◌else◌, add-one, refl, inl, inr, arith}
+use Rattle.std.proofs.Common.{◌≡◌, ℕ, zero, suc, ◌+◌, ◌<◌, ◌≤◌, Bool, true, false, List, length, slice_set, if◌then◌else◌, add-one, refl, arith}
 use Rattle.std.proofs.lemmas.Bool.{cases_eq, cases_lt}
 use Rattle.std.proofs.lemmas.List.{get_or-set_other, get_or-set_same}
 use Rattle.std.proofs.lemmas.Bool.Decides.{nat_tests}
@@ -24,18 +24,9 @@ none_counted coverages s (suc n) high h = rw (not_covered coverages s (suc n) hi
 -- a place that a majority's promises reach above is a place
 pub covered_below : (size s : ℕ) (coverages : List ℕ) → AreInRange coverages
     → is_majority size (is_covered_by coverages s) ≡ true → s ≤ 65535
-covered_below size s coverages h covered =
-    elim (cases_lt s 65536) [
-      | inl below ↦ omega arith
-      | inr high ↦ let none = none_counted coverages s size high h in absurd (grind (arith, nat_tests))
-    ]
+covered_below size s coverages h covered = grind (arith, nat_tests, cases_lt, none_counted)
 
 -- a part that reaches no further than the last place leaves all within it
 pub set_reach : (coverages : List ℕ) (j upto : ℕ) → j < length coverages → upto ≤ 65536 → AreInRange coverages
     → AreInRange (slice_set coverages j upto)
-set_reach coverages j upto node low h = record {
-  upto = λ i. elim (cases_eq i j) [
-    | inl same ↦ rw (same, get_or-set_same coverages j upto 0 node) low
-    | inr ne ↦ rw (get_or-set_other coverages j i upto 0 ne) (h.upto i)
-  ];
-}
+set_reach coverages j upto node low h = grind (arith, nat_tests, cases_eq, get_or-set_same, get_or-set_other)

@@ -1,11 +1,9 @@
 -- The greatest place that has a vote, as votes are put and passed.
-use Rattle.std.proofs.Common.{◌≡◌, ◌≢◌, ◌∙◌, ℕ, ◌+◌, ◌≤◌, nat_eq, nat_le, max, ◌||◌, Bool, true, false, List, [], ◌∷◌, Option, Some, None, inl, inr, refl, sym, ap, arith}
+use Rattle.std.proofs.Common.{◌≡◌, ◌∙◌, ℕ, ◌+◌, ◌≤◌, nat_eq, nat_le, max, ◌||◌, Bool, true, false, List, [], ◌∷◌, Option, Some, None, inl, inr, refl, sym, arith}
 use Rattle.std.specs.Prelude.{All}
-use Rattle.std.specs.Cmp.{nat_cmp_is}
 use Rattle.std.specs.Option.{option_cmp, option_eq}
 use Rattle.std.specs.Ordering.{nat_cmp, ord_max}
-use Rattle.std.specs.declared.cmp.Ordering.TheVariants.{Less, Equal, Greater}
-use Rattle.std.proofs.lemmas.Bool.{cases_lt, cases_order, eqb-false, eqb-true, le-leb, lt-leb}
+use Rattle.std.proofs.lemmas.Bool.{cases_lt, eqb-false, eqb-true, le-leb, lt-leb}
 use Rattle.std.proofs.lemmas.Bool.Decides.{nat_tests}
 use Rattle.std.proofs.lemmas.List.Elements.{All-head}
 use Rattle.paxos_msg.specs.Batches.{Vote}
@@ -43,50 +41,31 @@ or_false false = refl
 raised : (greatest : Option ℕ) (place s : ℕ)
     → nat_le s place || is_upto greatest s ≡ is_upto (ord_max (option_cmp nat_cmp) greatest (Some place)) s
 raised None place s = sym (or_false (nat_le s place))
-raised (Some g) place s =
-    elim (cases_order place g) [
-      | inl same ↦ rw (← nat_cmp_is place g Equal same) (one_upto g place s (omega arith))
-      | inr other ↦ elim other [
-        | inl less ↦ rw (← nat_cmp_is place g Less less) (other_upto g place s (omega arith))
-        | inr more ↦ rw (← nat_cmp_is place g Greater more) (one_upto g place s (omega arith))
-      ]
-    ]
-  where
-    one_upto : (g place s : ℕ) → g ≤ place → nat_le s place || nat_le s g ≡ nat_le s place
-    one_upto g place s le = grind (arith, nat_tests)
-
-    other_upto : (g place s : ℕ) → place ≤ g → nat_le s place || nat_le s g ≡ nat_le s g
-    other_upto g place s le = grind (arith, nat_tests)
+raised (Some g) place s = grind (arith, nat_tests)
 
 pub greatest-put : (votes : List Vote) (greatest : Option ℕ) (vote : Vote) → IsGreatestPlace votes greatest
     → IsGreatestPlace (with_vote votes vote) (ord_max (option_cmp nat_cmp) greatest (Some vote.place))
-greatest-put votes greatest vote h = record {
-  upto = λ s. is_kept_from-with_vote votes vote s ∙ ap (λ (t : Bool). nat_le s vote.place || t) (h.upto s) ∙ raised greatest vote.place s;
-}
+greatest-put votes greatest vote h = grind (arith, nat_tests, is_kept_from-with_vote, raised)
 
 -- ---- the first place is passed
 
 -- where all votes are from a place on, one is there or above it if there is any
 any_from : (n : ℕ) (votes : List Vote) → All (λ vote. n ≤ vote.place) votes → is_kept_from votes n ≡ is_kept_from votes 0
 any_from n [] h = refl
-any_from n (x ∷ xs) h = rw (le-leb n x.place (All-head (λ vote. n ≤ vote.place) x xs h), le-leb 0 x.place (omega arith)) refl
+any_from n (x ∷ xs) h = grind (arith, nat_tests, le-leb, All-head)
 
 -- after the greatest place no vote is left
 pub greatest-passed : (votes : List Vote) (greatest : Option ℕ) (place : ℕ)
     → option_eq nat_eq greatest (Some place) ≡ true → IsGreatestPlace votes greatest
     → IsGreatestPlace (votes_from (place + 1) votes) None
 greatest-passed votes None place e h = absurd cc
-greatest-passed votes (Some g) place e h =
-    let same : g ≡ place = eqb-true g place e in
-    record {
-      upto = λ s. is_kept_from-votes_from votes (place + 1) s ∙ h.upto (max (place + 1) s) ∙ lt-leb (max (place + 1) s) g (omega arith);
-    }
+greatest-passed votes (Some g) place e h = grind (arith, nat_tests, eqb-true, is_kept_from-votes_from, lt-leb)
 
 -- after another place the greatest one is left
 pub greatest-left : (votes : List Vote) (greatest : Option ℕ) (place : ℕ)
     → option_eq nat_eq greatest (Some place) ≡ false → All (λ vote. place ≤ vote.place) votes
     → IsGreatestPlace votes greatest → IsGreatestPlace (votes_from (place + 1) votes) greatest
-greatest-left votes None place e from h = record { upto = λ s. is_kept_from-votes_from votes (place + 1) s ∙ h.upto (max (place + 1) s) }
+greatest-left votes None place e from h = grind (arith, nat_tests, is_kept_from-votes_from)
 greatest-left votes (Some g) place e from h = record {
   upto = λ s. is_kept_from-votes_from votes (place + 1) s ∙ h.upto (max (place + 1) s) ∙ above s;
 }
@@ -102,10 +81,4 @@ greatest-left votes (Some g) place e from h = record {
     ]
 
     above : (s : ℕ) → nat_le (max (place + 1) s) g ≡ nat_le s g
-    above s =
-        let low = not_below in
-        let there : place ≢ g = λ same. eqb-false g place e (sym same) in
-        elim (cases_lt g s) [
-          | inl less ↦ lt-leb (max (place + 1) s) g (omega arith) ∙ sym (lt-leb s g less)
-          | inr le ↦ le-leb (max (place + 1) s) g (omega arith) ∙ sym (le-leb s g le)
-        ]
+    above s = let low = not_below in let there = eqb-false g place e in grind (arith, nat_tests)

@@ -1,9 +1,11 @@
 -- What a proposer keeps and proposes stays in its ranges.
-use Rattle.std.proofs.Common.{◌≡◌, ◌∙◌, ℕ, ◌+◌, ◌-◌, ◌≤◌, nat_lt, max, Bool, true, false, List, [], ◌∷◌, length, slice_set, Option, Some, None, IfSome, if◌then◌else◌, inl, inr, refl, sym, subst, arith}
+use Rattle.std.proofs.Common.{◌≡◌, ◌∙◌, ℕ, ◌+◌, ◌≤◌, max, List, [], ◌∷◌, slice_set, Option, Some, None, IfSome, if◌then◌else◌, inl, inr, refl, sym, subst, arith}
 use Rattle.std.specs.Prelude.{All}
 use Rattle.std.proofs.lemmas.Bool.{cases_eq, cases_lt}
 use Rattle.std.proofs.lemmas.List.{set_past}
 use Rattle.std.proofs.lemmas.List.Elements.{All-cons, All-filter, All-nil, All-weaker}
+use Rattle.std.proofs.lemmas.Bool.Decides.{nat_tests}
+use Rattle.base.proofs.Branches.{either}
 use Rattle.paxos_msg.specs.declared.ballot.Ballot.{Ballot}
 use Rattle.paxos_msg.specs.declared.message.Body.TheVariants.{Accept, Promise}
 use Rattle.paxos_msg.specs.declared.value.Value.{Value}
@@ -11,21 +13,15 @@ use Rattle.paxos_msg.specs.declared.value.Value.TheVariants.{Noop}
 use Rattle.paxos_msg.specs.Batches.{Vote}
 use Rattle.paxos_msg.specs.Fits.{AreVotes, IsBallot, IsBody, IsPlace, IsValue}
 use Rattle.paxos_msg.specs.Messages.{kept_vote_at}
-use Rattle.paxos_proposer.specs.Proposer.{Proposer, proposer_after_part, new_proposer, coverage_of, heard, is_covered, is_kept_from, next_of, next_value, proposed_at, proposing, rises, value_or}
+use Rattle.paxos_proposer.specs.Proposer.{Proposer, proposer_after_part, new_proposer, coverage_of, is_covered, is_kept_from, next_of, next_value, proposed_at, proposing, rises, value_or}
 use Rattle.paxos_proposer.specs.States.{IsProposerInRange, AreInRange}
-use Rattle.paxos_proposer.proofs.Begun.{none_proposed, replicated}
 use Rattle.paxos_proposer.proofs.CountingCoverage.{covered_below, set_reach}
 use Rattle.paxos_proposer.proofs.Passing.{found_all, heard_all}
 use Rattle.paxos_proposer.proofs.Proposals.{if_some, proposed_there}
 use Rattle.paxos_proposer.proofs.Proposals as proposals
 
 pub begun_in_range : (b : Ballot) (from size : ℕ) → IsBallot size b → from ≤ 65536 → IsProposerInRange (new_proposer b from size)
-begun_in_range b from size ballot low = record {
-  ballot = ballot;
-  reach = record { upto = λ i. omega (arith, replicated 10 i from) };
-  kept = All-nil (λ vote. IsValue size vote.value);
-  proposed = λ s v e. absurd (none_proposed (nat_lt s from) (s - from) v e);
-}
+begun_in_range b from size ballot low = grind (arith, nat_tests)
 
 -- ---- a part
 
@@ -37,33 +33,20 @@ values_of size b low upto (x ∷ xs) h =
 
 -- coverages stay in their range, whichever one is raised
 raised_reach : (coverages : List ℕ) (j upto : ℕ) → upto ≤ 65536 → AreInRange coverages → AreInRange (slice_set coverages j upto)
-raised_reach coverages j upto low h =
-    elim (cases_lt j (length coverages)) [
-      | inl node ↦ set_reach coverages j upto node low h
-      | inr past ↦ subst AreInRange (sym (set_past coverages j upto past)) h
-    ]
-
-part_if : (t : Bool) (p : Proposer) (j first upto : ℕ) (votes : List Vote) → IsProposerInRange p → upto ≤ 65536
-    → AreVotes p.size p.ballot first upto votes
-    → IsProposerInRange (if t
-    then record p {
-      coverages = slice_set p.coverages j upto;
-      kept = heard (max (coverage_of p j) (next_of p)) p.kept votes;
-    } else p)
-part_if false p j first upto votes h low parts = h
-part_if true p j first upto votes h low parts = record {
-  ballot = h.ballot;
-  reach = raised_reach p.coverages j upto low h.reach;
-  kept = heard_all (λ vote. IsValue p.size vote.value) (max (coverage_of p j) (next_of p)) p.kept votes h.kept
-      (All-weaker (λ vote. IsValue p.size vote.value)
-      (λ vote. max (coverage_of p j) (next_of p) ≤ vote.place → IsValue p.size vote.value)
-      (λ vote fits from. fits) votes (values_of p.size p.ballot first upto votes parts));
-  proposed = h.proposed;
-}
+raised_reach coverages j upto low h = grind (arith, nat_tests, cases_lt, set_reach, set_past)
 
 pub part_in_range : (j first upto : ℕ) (p : Proposer) (votes : List Vote) → IsProposerInRange p
     → IsBody p.size j (Promise p.ballot first upto votes) → IsProposerInRange (proposer_after_part p j first upto votes)
-part_in_range j first upto p votes h body = part_if (rises p j first upto) p j first upto votes h body.2 body.5
+part_in_range j first upto p votes h body =
+    either IsProposerInRange (rises p j first upto) (record {
+      ballot = h.ballot;
+      reach = raised_reach p.coverages j upto body.2 h.reach;
+      kept = heard_all (λ vote. IsValue p.size vote.value) (max (coverage_of p j) (next_of p)) p.kept votes h.kept
+          (All-weaker (λ vote. IsValue p.size vote.value)
+          (λ vote. max (coverage_of p j) (next_of p) ≤ vote.place → IsValue p.size vote.value)
+          (λ vote fits from. fits) votes (values_of p.size p.ballot first upto votes body.5));
+      proposed = h.proposed;
+    }) h
 
 -- ---- a proposal
 
@@ -74,11 +57,6 @@ module _ (p : Proposer) (h : IsProposerInRange p) where
   kept_or None other v e fits free = rw e at free
   kept_or (Some vote) other v e fits free = let is : vote.value ≡ v = cc in subst (IsValue p.size) is (fits vote refl)
 
-  noop_or : (t : Bool) (offered : Option Value) → IfSome offered (IsValue p.size)
-      → IfSome (if t then Some Noop else offered) (IsValue p.size)
-  noop_or true offered free = tt
-  noop_or false offered free = free
-
   next_fits : (offered : Option Value) (v : Value) → IfSome offered (IsValue p.size) → next_value p offered ≡ Some v
       → IsPlace (next_of p) × IsValue p.size v
   next_fits offered v free e =
@@ -87,7 +65,7 @@ module _ (p : Proposer) (h : IsProposerInRange p) where
         covered_below p.size (next_of p) p.coverages h.reach covered,
         kept_or (kept_vote_at p.kept (next_of p)) other v value
             (λ vote found. found_all (λ k. IsValue p.size k.value) p.kept (next_of p) vote found h.kept)
-            (noop_or (is_kept_from p.kept (next_of p + 1)) offered free),
+            (either (λ o. IfSome o (IsValue p.size)) (is_kept_from p.kept (next_of p + 1)) tt free),
       )
 
   pub next_accept_fits : (offered : Option Value) (v : Value) → IfSome offered (IsValue p.size)

@@ -1,6 +1,6 @@
 -- A part raises an acceptor's coverage, and the kept votes stay the greatest that were reported.
-use Rattle.std.proofs.Common.{◌≡◌, ◌≢◌, ℕ, ◌<◌, ◌≤◌, nat_lt, max, ◌∙◌, Bool, true, false, IsTrue, ◌⊎◌, inl, inr, List, length, slice_index, slice_set, ◌==◌, Option, Some, None, IfSome, if◌then◌else◌, refl, arith, subst}
-use Rattle.std.proofs.lemmas.Bool.{ltb-true, lt-ltb, cases_eq, cases_lt, eq-eqb, ne_eqb}
+use Rattle.std.proofs.Common.{◌≡◌, ◌≢◌, ℕ, ◌<◌, ◌≤◌, max, Bool, true, false, IsTrue, ◌⊎◌, inl, inr, List, length, slice_index, slice_set, ◌==◌, Option, Some, None, IfSome, if◌then◌else◌, refl, arith}
+use Rattle.std.proofs.lemmas.Bool.{lt-ltb, cases_eq, cases_lt, eq-eqb, ne_eqb}
 use Rattle.std.proofs.lemmas.Bool.Decides.{nat_tests}
 use Rattle.std.proofs.lemmas.List.{get_or-set_same, get_or-set_other, length-set}
 use Rattle.std.proofs.lemmas.Option.{IfSome_then}
@@ -27,81 +27,53 @@ at_most_less a b c h e = grind (arith, nat_tests)
 not_less : (b c : Ballot) → ballot_lt b c ≡ false → IsAtMost c b
 not_less b c e = grind (arith, nat_tests)
 
-if_at : {X : Type 0} (o : Option X) (x : X) (P : X → Type 0) → o ≡ Some x → P x → IfSome o P
-if_at o x P e h = rw e h
-
 -- the reports with a new one of acceptor j
 abbrev with_report : (ℕ → Option Vote) → ℕ → Option Vote → ℕ → Option Vote
 with_report reported j new i = if i == j then new else reported i
 
 -- a part is heard at each place from the old coverage up to its end
 module _ (coverages : List ℕ) (j upto s : ℕ) (node : j < length coverages) (old : slice_index coverages j ≤ s)
-    (below : s < upto) (reported : ℕ → Option Vote) (new : Option Vote) where
+    (below : s < upto) (reported : ℕ → Option Vote) where
+  abbrev before : ℕ → Bool
+  before = is_covered_by coverages s
+
+  abbrev after : ℕ → Bool
+  after = is_covered_by (slice_set coverages j upto) s
+
   -- what holds of the new report, and of each older one, holds of all
-  each : (Q : ℕ → Option Vote → Type 0) → Q j new → ((i : ℕ) → IsTrue (is_covered_by coverages s i) → Q i (reported i))
-      → (i : ℕ) → IsTrue (is_covered_by (slice_set coverages j upto) s i) → Q i (with_report reported j new i)
-  each Q here there i member =
-      elim (cases_eq i j) [
-        | inl e ↦ rw (e, eq-eqb j j refl) here
-        | inr ne ↦ rw (ne_eqb i j ne) (there i (rw (get_or-set_other coverages j i upto 0 ne) at member))
-      ]
+  each : (new : Option Vote) (Q : ℕ → Option Vote → Type 0) → Q j new → ((i : ℕ) → IsTrue (before i) → Q i (reported i))
+      → (i : ℕ) → IsTrue (after i) → Q i (with_report reported j new i)
+  each new Q here there i member = grind (arith, nat_tests, cases_eq, eq-eqb, ne_eqb, get_or-set_other)
 
-  member_new : IsTrue (is_covered_by (slice_set coverages j upto) s j)
-  member_new = rw (get_or-set_same coverages j upto 0 node) (lt-ltb s upto below)
-
-  report_new : with_report reported j new j ≡ new
-  report_new = rw (eq-eqb j j refl)
-
-  not_old : (i : ℕ) → IsTrue (is_covered_by coverages s i) → i ≢ j
-  not_old i member e = let h : s < slice_index coverages j = ltb-true s (slice_index coverages j) (rw e at member) in absurd (omega arith)
+  not_old : (i : ℕ) → IsTrue (before i) → i ≢ j
+  not_old i member e = grind (arith, nat_tests)
 
   -- the greatest report of the older ones stays the greatest, if the new one is not greater
-  stays_best : (x : Vote) → IsGreatest (is_covered_by coverages s) reported x
-      → IfSome new (λ other. IsAtMost other.ballot x.ballot)
-      → IsGreatest (is_covered_by (slice_set coverages j upto) s) (with_report reported j new) x
-  stays_best x great small =
-      let ne : great.reporter ≢ j = not_old great.reporter great.is_member in
-      record {
-        reporter = great.reporter;
-        is_member = rw (get_or-set_other coverages j great.reporter upto 0 ne) great.is_member;
-        reports = rw (ne_eqb great.reporter j ne) great.reports;
-        greatest = each (λ i r. IfSome r (λ other. IsAtMost other.ballot x.ballot)) small great.greatest;
-      }
+  stays_best : (new : Option Vote) (x : Vote) → IsGreatest before reported x
+      → IfSome new (λ other. IsAtMost other.ballot x.ballot) → IsGreatest after (with_report reported j new) x
+  stays_best new x great small = grind (arith, nat_tests, not_old, get_or-set_other, ne_eqb, each)
 
-  new_best : (y : Vote) → new ≡ Some y
-      → ((i : ℕ) → IsTrue (is_covered_by coverages s i) → IfSome (reported i) (λ other. IsAtMost other.ballot y.ballot))
-      → IsGreatest (is_covered_by (slice_set coverages j upto) s) (with_report reported j new) y
-  new_best y e small = record {
+  new_best : (y : Vote) → ((i : ℕ) → IsTrue (before i) → IfSome (reported i) (λ other. IsAtMost other.ballot y.ballot))
+      → IsGreatest after (with_report reported j (Some y)) y
+  new_best y small = record {
     reporter = j;
-    is_member = member_new;
-    reports = report_new ∙ e;
-    greatest =
-        each (λ i r. IfSome r (λ other. IsAtMost other.ballot y.ballot))
-        (if_at new y (λ other. IsAtMost other.ballot y.ballot) e (at_most_refl y.ballot)) small;
+    is_member = rw (get_or-set_same coverages j upto 0 node) (lt-ltb s upto below);
+    reports = rw (eq-eqb j j refl) refl;
+    greatest = each (Some y) (λ i r. IfSome r (λ other. IsAtMost other.ballot y.ballot)) (at_most_refl y.ballot) small;
   }
 
-none_small : (o : Option Vote) (y : Vote) → o ≡ None → IfSome o (λ other. IsAtMost other.ballot y.ballot)
-none_small o y e = rw e tt
-
-module _ (coverages : List ℕ) (j upto s : ℕ) (node : j < length coverages) (old : slice_index coverages j ≤ s)
-    (below : s < upto) (reported : ℕ → Option Vote) where
-  best_heard : (kept new : Option Vote) → IsBest (is_covered_by coverages s) reported kept
-      → IsBest (is_covered_by (slice_set coverages j upto) s) (with_report reported j new) (merged kept new)
-  best_heard None None silent = each coverages j upto s node old below reported None (λ i r. r ≡ None) refl silent
-  best_heard None (Some y) silent =
-      new_best coverages j upto s node old below reported (Some y) y refl
-      (λ i member. none_small (reported i) y (silent i member))
-  best_heard (Some x) None great = stays_best coverages j upto s node old below reported None x great tt
+  best_heard : (kept new : Option Vote) → IsBest before reported kept → IsBest after (with_report reported j new) (merged kept new)
+  best_heard None None silent = each None (λ i r. r ≡ None) refl silent
+  best_heard None (Some y) silent = new_best y (λ i member. rw (silent i member) tt)
+  best_heard (Some x) None great = stays_best None x great tt
   best_heard (Some x) (Some y) great = by_test (ballot_lt x.ballot y.ballot) refl
     where
       by_test : (t : Bool) → ballot_lt x.ballot y.ballot ≡ t
-          → IsBest (is_covered_by (slice_set coverages j upto) s) (with_report reported j (Some y))
-          (Some (if t then y else x))
+          → IsBest after (with_report reported j (Some y)) (Some (if t then y else x))
       by_test true e =
-          new_best coverages j upto s node old below reported (Some y) y refl
-          (λ i member. IfSome_then (reported i) (great.greatest i member)
+          new_best y (λ i member. IfSome_then (reported i) (great.greatest i member)
           (λ other h. at_most_less other.ballot x.ballot y.ballot h e))
-      by_test false e = stays_best coverages j upto s node old below reported (Some y) x great (not_less x.ballot y.ballot e)
+      by_test false e = stays_best (Some y) x great (not_less x.ballot y.ballot e)
 
 part_heard : (sent : Sent) (b : Ballot) (coverages : List ℕ) (j first upto : ℕ) (votes : List Vote) (s : ℕ)
     (kept : Option Vote) → j < length coverages → IsSent sent j (Promise b first upto votes)
@@ -128,27 +100,7 @@ part_heard sent b coverages j first upto votes s kept node is_sent from old belo
 same_covers : (coverages : List ℕ) (j upto s i : ℕ) → j < length coverages → slice_index coverages j < upto
     → (s < slice_index coverages j) ⊎ (upto ≤ s)
     → is_covered_by coverages s i ≡ is_covered_by (slice_set coverages j upto) s i
-same_covers coverages j upto s i node rise out =
-    elim (cases_eq i j) [
-      | inl e ↦ rw (e, get_or-set_same coverages j upto 0 node)
-          (elim out [ inl low ↦ both low | inr high ↦ neither high ])
-      | inr ne ↦ rw
-          (get_or-set_other coverages j i upto 0 ne) refl
-    ]
-  where
-    both : s < slice_index coverages j → nat_lt s (slice_index coverages j) ≡ nat_lt s upto
-    both low = grind (arith, nat_tests)
-
-    neither : upto ≤ s → nat_lt s (slice_index coverages j) ≡ nat_lt s upto
-    neither high = grind (arith, nat_tests)
-
--- what was heard of a place is heard of it, if the members are the same and the kept vote too
-same_heard : (sent : Sent) (b : Ballot) (s : ℕ) (members others : ℕ → Bool) (kept now : Option Vote)
-    → ((i : ℕ) → members i ≡ others i) → kept ≡ now → HasPromises sent b s members kept
-    → HasPromises sent b s others now
-same_heard sent b s members others kept now same e h =
-    let f : members ≡ others = λ k i. same i k in
-    subst (λ (m : ℕ → Bool). HasPromises sent b s m now) f (subst (λ (k : Option Vote). HasPromises sent b s members k) e h)
+same_covers coverages j upto s i node rise out = grind (arith, nat_tests, cases_eq, get_or-set_same, get_or-set_other)
 
 rises-true : (p : Proposer) (j first upto : ℕ) → rises p j first upto ≡ true → (first ≤ coverage_of p j) × (coverage_of p j < upto)
 rises-true p j first upto e = (grind (arith, nat_tests), grind (arith, nat_tests))
@@ -163,28 +115,20 @@ module _ (by_place : AreByPlace) (sent : Sent) (me : ℕ) (p : Proposer) (h : Is
 
   -- the vote that is kept at a place where nothing is proposed yet
   kept_at : (s : ℕ) → next_of p ≤ s → coverage_of p j ≤ s → kept_vote_at kept_now s ≡ merged (kept_vote_at p.kept s) (kept_vote_at votes s)
-  kept_at s above old =
-      heard_from by_place (max (coverage_of p j) (next_of p)) s p.kept votes (omega arith)
-      (are_ascending p.size p.ballot first upto votes parts)
+  kept_at s above old = grind (arith, nat_tests, heard_from, are_ascending)
 
   -- a place below the old coverage, or from the part's end on, keeps its vote
   same_kept : (s : ℕ) → next_of p ≤ s → coverage_of p j < upto → (s < coverage_of p j) ⊎ (upto ≤ s)
       → kept_vote_at p.kept s ≡ kept_vote_at kept_now s
-  same_kept s above rise (inl low) =
-      let e : kept_vote_at kept_now s ≡ kept_vote_at p.kept s =
-      heard_below by_place (max (coverage_of p j) (next_of p)) s p.kept votes (omega arith) in
-      (cc)
-  same_kept s above rise (inr high) =
-      let none : kept_vote_at votes s ≡ None = none_upto p.size p.ballot first upto s votes high parts in
-      let e : kept_vote_at kept_now s ≡ merged (kept_vote_at p.kept s) None = rw none at (kept_at s above (omega arith)) in
-      (cc)
+  same_kept s above rise (inl low) = grind (arith, nat_tests, heard_below)
+  same_kept s above rise (inr high) = grind (arith, nat_tests, none_upto, merged, kept_at)
 
   unheard : (s : ℕ) → next_of p ≤ s → coverage_of p j < upto → (s < coverage_of p j) ⊎ (upto ≤ s)
       → HasPromises sent p.ballot s (is_covered_by (slice_set p.coverages j upto) s) (kept_vote_at kept_now s)
   unheard s above rise out =
-      same_heard sent p.ballot s (is_covered_by p.coverages s) (is_covered_by (slice_set p.coverages j upto) s)
-      (kept_vote_at p.kept s) (kept_vote_at kept_now s) (λ i. same_covers p.coverages j upto s i node rise out)
-      (same_kept s above rise out) (h.heard s above)
+      let same : is_covered_by p.coverages s ≡ is_covered_by (slice_set p.coverages j upto) s =
+      (λ k i. same_covers p.coverages j upto s i node rise out k) in
+      rw (← same, ← same_kept s above rise out) (h.heard s above)
 
   heard_at : (s : ℕ) → next_of p ≤ s → first ≤ coverage_of p j → coverage_of p j < upto
       → HasPromises sent p.ballot s (is_covered_by (slice_set p.coverages j upto) s) (kept_vote_at kept_now s)
@@ -200,18 +144,9 @@ module _ (by_place : AreByPlace) (sent : Sent) (me : ℕ) (p : Proposer) (h : Is
       ]
 
   by_rise : (t : Bool) → rises p j first upto ≡ t
-      → IsProposerBacked sent me
-      (if t then record p { coverages = slice_set p.coverages j upto; kept = kept_now } else p)
+      → IsProposerBacked sent me (if t then record p { coverages = slice_set p.coverages j upto; kept = kept_now } else p)
   by_rise false e = h
-  by_rise true e =
-      let (from, rise) = rises-true p j first upto e in
-      record {
-        own = h.own;
-        nodes = length-set p.coverages j upto ∙ h.nodes;
-        heard = λ s above. heard_at s above from rise;
-        sent_all = h.sent_all;
-        only = h.only;
-      }
+  by_rise true e = grind (arith, nat_tests, rises-true, length-set, heard_at)
 
 -- a proposer is backed still after a part
 pub part_backed : AreByPlace → (sent : Sent) (me j first upto : ℕ) (p : Proposer) (votes : List Vote)

@@ -1,8 +1,10 @@
 -- Dropping the votes that a proposer has passed.
-use Rattle.std.proofs.Common.{◌≡◌, ℕ, ◌≤◌, nat_le, nat_lt, ◌==◌, Bool, true, false, List, [], ◌∷◌, Option, Some, None, if◌then◌else◌, inl, inr, refl, arith}
+use Rattle.std.proofs.Common.{◌≡◌, ℕ, ◌≤◌, nat_le, nat_lt, ◌==◌, Bool, true, false, List, [], ◌∷◌, Option, Some, None, inl, inr, refl, arith}
 use Rattle.std.specs.Prelude.{All}
-use Rattle.std.proofs.lemmas.Bool.{cases_eq, cases_lt, eq-eqb, ne_eqb, le-leb, lt-leb, leb-true}
-use Rattle.std.proofs.lemmas.List.Elements.{All-cons, All-head, All-nil, All-tail}
+use Rattle.std.proofs.lemmas.Bool.{cases_eq, eq-eqb, ne_eqb, leb-true}
+use Rattle.std.proofs.lemmas.Bool.Decides.{nat_tests}
+use Rattle.std.proofs.lemmas.List.Elements.{All-cons, All-head, All-tail, All-weaker, filter_passes}
+use Rattle.base.proofs.Branches.{either}
 use Rattle.paxos_msg.specs.Batches.{Vote}
 use Rattle.paxos_msg.specs.Messages.{kept_vote_at}
 use Rattle.paxos_msg.specs.Records.{with_vote}
@@ -18,37 +20,16 @@ AreFrom s votes = All (λ vote. s ≤ vote.place) votes
 
 -- what is left is from the place on
 pub left_from : (s : ℕ) (votes : List Vote) → AreFrom s (votes_from s votes)
-left_from s [] = All-nil (λ vote. s ≤ vote.place)
-left_from s (x ∷ xs) =
-    elim (cases_lt x.place s) [
-      | inl low ↦ rw (lt-leb s x.place low) (left_from s xs)
-      | inr high ↦ rw (le-leb s x.place high) (All-cons (λ vote. s ≤ vote.place) x (votes_from s xs) high (left_from s xs))
-    ]
-
-found_if : (s : ℕ) (x : Vote) (xs ys : List Vote) → kept_vote_at xs s ≡ kept_vote_at ys s
-    → kept_vote_at (x ∷ xs) s ≡ kept_vote_at (x ∷ ys) s
-found_if s x xs ys e =
-    elim (cases_eq x.place s) [
-      | inl same ↦ rw (eq-eqb x.place s same) refl
-      | inr ne ↦ rw (ne_eqb x.place s ne) e
-    ]
+left_from s votes = grind (arith, nat_tests, All-weaker, leb-true, filter_passes)
 
 -- from the place on there are the votes that there were
 pub left_at : (n s : ℕ) (votes : List Vote) → n ≤ s → kept_vote_at (votes_from n votes) s ≡ kept_vote_at votes s
 left_at n s [] low = refl
-left_at n s (x ∷ xs) low =
-    elim (cases_lt x.place n) [
-      | inl less ↦ rw (lt-leb n x.place less, ne_eqb x.place s (λ e. omega arith)) (left_at n s xs low)
-      | inr high ↦ rw (le-leb n x.place high) (found_if s x (votes_from n xs) xs (left_at n s xs low))
-    ]
+left_at n s (x ∷ xs) low = let ih = left_at n s xs low in grind (arith, nat_tests)
 
 -- ---- what holds of all votes that are kept
 
 module _ (P : Vote → Type 0) where
-  if_all : (t : Bool) (xs ys : List Vote) → All P xs → All P ys → All P (if t then xs else ys)
-  if_all true xs ys h k = h
-  if_all false xs ys h k = k
-
   -- it holds of a vote that is found
   pub found_all : (votes : List Vote) (s : ℕ) (vote : Vote) → kept_vote_at votes s ≡ Some vote → All P votes → P vote
   found_all [] s vote e h = absurd cc
@@ -62,24 +43,17 @@ module _ (P : Vote → Type 0) where
   with_all : (votes : List Vote) (vote : Vote) → P vote → All P votes → All P (with_vote votes vote)
   with_all [] vote p h = All-cons P vote [] p h
   with_all (x ∷ xs) vote p h =
-      if_all (nat_lt vote.place x.place) _ _ (All-cons P vote (x ∷ xs) p h)
-      (if_all (x.place == vote.place) _ _ (All-cons P vote xs p (All-tail P x xs h))
+      either (All P) (nat_lt vote.place x.place) (All-cons P vote (x ∷ xs) p h)
+      (either (All P) (x.place == vote.place) (All-cons P vote xs p (All-tail P x xs h))
       (All-cons P x (with_vote xs vote) (All-head P x xs h) (with_all xs vote p (All-tail P x xs h))))
-
-  greater_if : (t : Bool) (x y : Vote) → P x → P y → P (if t then x else y)
-  greater_if true x y h k = h
-  greater_if false x y h k = k
 
   greater_all : (o : Option Vote) (vote : Vote) → ((k : Vote) → o ≡ Some k → P k) → P vote → P (greater o vote)
   greater_all None vote h p = p
-  greater_all (Some k) vote h p = greater_if (ballot_lt k.ballot vote.ballot) vote k p (h k refl)
+  greater_all (Some k) vote h p = either P (ballot_lt k.ballot vote.ballot) p (h k refl)
 
   one_all : (t : Bool) (low : ℕ) (kept : List Vote) (vote : Vote) → nat_le low vote.place ≡ t → All P kept
       → (low ≤ vote.place → P vote) → All P (heard_one low kept vote)
-  one_all true low kept vote e h p =
-      rw e (with_all kept _
-      (greater_all (kept_vote_at kept vote.place) vote (λ k is. found_all kept vote.place k is h)
-      (p (leb-true low vote.place e))) h)
+  one_all true low kept vote e h p = grind (arith, nat_tests, with_all, greater_all, found_all, leb-true)
   one_all false low kept vote e h p = rw e h
 
   -- and after votes are heard, if it holds of those from low on

@@ -1,17 +1,17 @@
 -- What a proposer proposes may be sent, and the proposer is backed again.
 use Rattle.std.proofs.Common.{◌≡◌, ◌≢◌, ℕ, zero, suc, ◌+◌, ◌-◌, ◌∙◌, Bool, true, false, ◌⊎◌, inl, inr, List, [], ◌∷◌, ◌++◌, length, slice_get, Option, Some, None, IfSome, MatchOption, if◌then◌else◌, sym, ap, refl, arith, subst}
-use Rattle.std.proofs.lemmas.Bool.{ltb-true, le-ltb, lt-ltb, cases_eq, cases_lt}
+use Rattle.std.proofs.lemmas.Bool.{le-ltb, lt-ltb, cases_eq, cases_lt}
 use Rattle.std.proofs.lemmas.List.{length_push}
 use Rattle.std.proofs.lemmas.List.Elements.{Contains-push, Contains-push_cases}
 use Rattle.std.proofs.lemmas.Option.{slice_get_past}
+use Rattle.std.proofs.lemmas.Bool.Decides.{nat_tests}
 use Rattle.paxos_msg.specs.declared.message.Body.TheVariants.{Accept}
 use Rattle.paxos_msg.specs.Batches.{IsFree, IsSafe, MaySend, Msg, Record, Sent, Vote}
 use Rattle.paxos_msg.specs.declared.value.Value.{Value}
-use Rattle.paxos_msg.specs.declared.value.Value.TheVariants.{Noop}
 use Rattle.paxos_msg.specs.Keys.{Key}
 use Rattle.paxos_msg.specs.Messages.{IsSent, IsSaid, kept_vote_at}
 use Rattle.paxos_msg.specs.Sending.{IsUnproposed}
-use Rattle.paxos_proposer.specs.Proposer.{Proposer, is_covered_by, is_covered, is_kept_from, value_or, next_of, next_value, proposed_at, proposing}
+use Rattle.paxos_proposer.specs.Proposer.{Proposer, is_covered_by, value_or, next_of, next_value, proposed_at, proposing}
 use Rattle.paxos_proposer.specs.Backed.{IsProposerBacked}
 use Rattle.paxos_proposer.proofs.BackedAsMoreIsSent.{stays_with, heard_stays}
 use Rattle.paxos_proposer.proofs.Passing.{left_at}
@@ -37,26 +37,17 @@ module _ (p : Proposer) (v : Value) where
   proposed_here s e = rw (le-ltb s p.first (omega arith)) (pushed_here p.values v (s - p.first) (omega arith))
 
   pub proposed_there : (s : ℕ) → s ≢ next_of p → proposed_at (proposing p (Some v)) s ≡ proposed_at p s
-  proposed_there s ne =
-      elim (cases_lt s p.first) [
-        | inl low ↦ rw (lt-ltb s p.first low) refl
-        | inr from ↦ rw (le-ltb s p.first from) (pushed_there p.values v (s - p.first) (λ e. ne (omega arith)))
-      ]
+  proposed_there s ne = grind (arith, nat_tests, cases_lt, lt-ltb, le-ltb, pushed_there)
 
 -- nothing is proposed at the next place yet
 pub none_next : (p : Proposer) → proposed_at p (next_of p) ≡ None
-none_next p = rw (le-ltb (next_of p) p.first (omega arith)) (slice_get_past p.values (next_of p - p.first) (omega arith))
+none_next p = grind (arith, nat_tests, le-ltb, slice_get_past)
 
 -- ---- the value at the next place
 
 pub if_some : {X : Type 0} (t : Bool) (x : Option X) (v : X) → (if t then x else None) ≡ Some v → (t ≡ true) × (x ≡ Some v)
 if_some true x v e = (refl, e)
 if_some false x v e = cc
-
-free_or : (sent : Sent) (t : Bool) (offered : Option Value) → IfSome offered (IsFree sent)
-    → IfSome (if t then Some Noop else offered) (IsFree sent)
-free_or sent true offered free = inl refl
-free_or sent false offered free = free
 
 by_kept : (sent : Sent) (kept : Option Vote) (other : Option Value) (v : Value) → value_or kept other ≡ Some v
     → IfSome other (IsFree sent) → MatchOption kept (IsFree sent v) (λ vote. v ≡ vote.value)
@@ -66,21 +57,7 @@ by_kept sent (Some vote) other v e free = cc
 module _ (sent : Sent) (me : ℕ) (p : Proposer) (h : IsProposerBacked sent me p) (v : Value) where
   value_safe : (offered : Option Value) → IfSome offered (IsFree sent) → next_value p offered ≡ Some v
       → IsSafe p.size sent p.ballot (next_of p) v
-  value_safe offered free e =
-      let other : Option Value = if is_kept_from p.kept (next_of p + 1) then Some Noop else offered in
-      let (covered, value) = if_some (is_covered p (next_of p)) (value_or (kept_vote_at p.kept (next_of p)) other) v e in
-      let heard = h.heard (next_of p) (omega arith) in
-      record {
-        members = is_covered_by p.coverages (next_of p);
-        reported = heard.reported;
-        best = kept_vote_at p.kept (next_of p);
-        majority = ltb-true _ _ covered;
-        promised = heard.promised;
-        is_best = heard.is_best;
-        value =
-            by_kept sent (kept_vote_at p.kept (next_of p)) other v value
-            (free_or sent (is_kept_from p.kept (next_of p + 1)) offered free);
-      }
+  value_safe offered free e = grind (arith, nat_tests)
 
   unproposed : IsUnproposed sent p.ballot (next_of p)
   unproposed w said =

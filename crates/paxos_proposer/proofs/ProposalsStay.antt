@@ -1,10 +1,11 @@
 -- What stays of a proposer, whatever it hears and proposes.
-use Rattle.std.proofs.Common.{◌≡◌, ◌∙◌, ℕ, Bool, true, false, List, Option, Some, None, if◌then◌else◌, inl, inr, refl}
+use Rattle.std.proofs.Common.{◌≡◌, ℕ, Option, Some, None, refl, arith}
 use Rattle.std.proofs.lemmas.Bool.{cases_eq}
-use Rattle.paxos_msg.specs.Batches.{Body, Vote}
+use Rattle.std.proofs.lemmas.Bool.Decides.{nat_tests}
+use Rattle.paxos_msg.specs.Batches.{Body}
 use Rattle.paxos_msg.specs.declared.message.Body.TheVariants as body
 use Rattle.paxos_msg.specs.declared.value.Value.{Value}
-use Rattle.paxos_proposer.specs.Proposer.{Proposer, next_of, heard_promise, proposed_at, proposing, rises}
+use Rattle.paxos_proposer.specs.Proposer.{Proposer, heard_promise, proposed_at, proposing}
 use Rattle.paxos_proposer.proofs.Proposals.{none_next, proposed_there}
 
 -- all but the coverages and the kept votes
@@ -14,17 +15,12 @@ record IsSame (p q : Proposer) : Type 0 where
   first : q.first ≡ p.first
   values : q.values ≡ p.values
 
-same_if : (t : Bool) (p : Proposer) (coverages : List ℕ) (kept : List Vote)
-    → IsSame p (if t then record p { coverages = coverages; kept = kept } else p)
-same_if true p coverages kept = record { ballot = refl; size = refl; first = refl; values = refl }
-same_if false p coverages kept = record { ballot = refl; size = refl; first = refl; values = refl }
-
-same_itself : (p : Proposer) → IsSame p p
-same_itself p = record { ballot = refl; size = refl; first = refl; values = refl }
+same : {p q : Proposer} → q.ballot ≡ p.ballot → q.size ≡ p.size → q.first ≡ p.first → q.values ≡ p.values → IsSame p q
+same ballot size first values = record { ballot = ballot; size = size; first = first; values = values }
 
 after_same : (p : Proposer) (j : ℕ) (b : Body) → IsSame p (heard_promise p j b)
-after_same p j (body.Promise b first upto votes) = same_if (rises p j first upto) p _ _
-after_same p j other = same_itself p
+after_same p j (body.Promise b first upto votes) = grind (arith, nat_tests)
+after_same p j other = same refl refl refl refl
 
 pub after_ballot : (p : Proposer) (j : ℕ) (b : Body) → ((heard_promise p j b).ballot ≡ p.ballot) × ((heard_promise p j b).size ≡ p.size)
 after_ballot p j b = let h = after_same p j b in (h.ballot, h.size)
@@ -39,8 +35,4 @@ proposing_ballot p (Some v) = (refl, refl)
 pub proposed_longer : (p : Proposer) (o : Option Value) (s : ℕ) (v : Value) → proposed_at p s ≡ Some v
     → proposed_at (proposing p o) s ≡ Some v
 proposed_longer p None s v e = e
-proposed_longer p (Some w) s v e =
-    elim (cases_eq s (next_of p)) [
-      | inl here ↦ let none : proposed_at p s ≡ None = rw here (none_next p) in absurd cc
-      | inr there ↦ proposed_there p w s there ∙ e
-    ]
+proposed_longer p (Some w) s v e = grind (arith, nat_tests, cases_eq, none_next, proposed_there)

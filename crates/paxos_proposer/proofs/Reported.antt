@@ -1,6 +1,8 @@
 -- What is kept at a place after votes were reported.
-use Rattle.std.proofs.Common.{◌≡◌, ◌≢◌, ◌∙◌, ℕ, ◌+◌, ◌<◌, ◌≤◌, nat_le, Bool, true, false, List, [], ◌∷◌, Option, Some, None, if◌then◌else◌, refl, sym, ap, subst, inl, inr, arith}
-use Rattle.std.proofs.lemmas.Bool.{cases_eq, cases_lt, eq-eqb, ne_eqb, le-leb, lt-leb}
+use Rattle.std.proofs.Common.{◌≡◌, ◌≢◌, ◌∙◌, ℕ, ◌+◌, ◌<◌, ◌≤◌, List, [], ◌∷◌, Option, Some, None, refl, sym, ap, inl, inr, arith}
+use Rattle.std.proofs.lemmas.Bool.{cases_eq, eq-eqb, ne_eqb}
+use Rattle.std.proofs.lemmas.Bool.Decides.{nat_tests}
+use Rattle.base.proofs.Branches.{either}
 use Rattle.paxos_msg.specs.declared.ballot.Ballot.{Ballot}
 use Rattle.paxos_msg.specs.Batches.{Vote}
 use Rattle.paxos_msg.specs.Fits.{AreVotes}
@@ -54,47 +56,25 @@ found_later x xs s ne = rw (ne_eqb x.place s ne)
 
 -- ---- what is kept
 
-if_place : (t : Bool) (x y : Vote) (s : ℕ) → x.place ≡ s → y.place ≡ s → (if t then x else y).place ≡ s
-if_place true x y s e f = e
-if_place false x y s e f = f
-
-if_found : (t : Bool) (xs ys : List Vote) (s : ℕ) → kept_vote_at xs s ≡ kept_vote_at ys s
-    → kept_vote_at (if t then xs else ys) s ≡ kept_vote_at ys s
-if_found true xs ys s e = e
-if_found false xs ys s e = refl
-
 module _ (by_place : AreByPlace) where
   -- of a kept vote at a place and another one there, the greater is there
   greater_place : (kept : Option Vote) (vote : Vote) → ((k : Vote) → kept ≡ Some k → k.place ≡ vote.place)
       → (greater kept vote).place ≡ vote.place
   greater_place None vote h = refl
-  greater_place (Some k) vote h = if_place (ballot_lt k.ballot vote.ballot) vote k vote.place refl (h k refl)
+  greater_place (Some k) vote h = either (λ (v : Vote). v.place ≡ vote.place) (ballot_lt k.ballot vote.ballot) refl (h k refl)
 
   -- a report counts at its place, if that is not below low
   one_here : (low s : ℕ) (kept : List Vote) (vote : Vote) → low ≤ s → vote.place ≡ s
       → kept_vote_at (heard_one low kept vote) s ≡ Some (greater (kept_vote_at kept s) vote)
-  one_here low s kept vote le e =
-      let k : Vote = greater (kept_vote_at kept vote.place) vote in
-      let at : k.place ≡ vote.place = greater_place (kept_vote_at kept vote.place) vote (by_place.at_place kept vote.place) in
-      let put : kept_vote_at (with_vote kept k) vote.place ≡ Some k =
-      subst (λ (t : ℕ). kept_vote_at (with_vote kept k) t ≡ Some k) at (by_place.there kept k) in
-      let here : kept_vote_at (heard_one low kept vote) vote.place ≡ Some k = rw (le-leb low vote.place (omega arith)) put in
-      subst (λ (t : ℕ). kept_vote_at (heard_one low kept vote) t ≡ Some (greater (kept_vote_at kept t) vote)) e here
+  one_here low s kept vote le e = grind (arith, nat_tests)
 
   -- and nowhere else
   one_there : (low s : ℕ) (kept : List Vote) (vote : Vote) → vote.place ≢ s → kept_vote_at (heard_one low kept vote) s ≡ kept_vote_at kept s
-  one_there low s kept vote ne =
-      let k : Vote = greater (kept_vote_at kept vote.place) vote in
-      let at : k.place ≡ vote.place = greater_place (kept_vote_at kept vote.place) vote (by_place.at_place kept vote.place) in
-      if_found (nat_le low vote.place) (with_vote kept k) kept s (by_place.elsewhere kept k s (λ e. ne (sym (e ∙ at))))
+  one_there low s kept vote ne = grind (arith, nat_tests)
 
   -- a report at a place below low changes nothing
   one_low : (low s : ℕ) (kept : List Vote) (vote : Vote) → s < low → kept_vote_at (heard_one low kept vote) s ≡ kept_vote_at kept s
-  one_low low s kept vote lt =
-      elim (cases_lt vote.place low) [
-        | inl below ↦ rw (lt-leb low vote.place below)
-        | inr from ↦ one_there low s kept vote (omega arith)
-      ]
+  one_low low s kept vote lt = grind (arith, nat_tests)
 
   -- below low nothing changes
   pub heard_below : (low s : ℕ) (kept votes : List Vote) → s < low → kept_vote_at (heard low kept votes) s ≡ kept_vote_at kept s

@@ -54,13 +54,12 @@ block_there live pointer n e = grind (arith, nat_tests)
 
 -- no words
 none_placed : (live : List ℕ) (word : ℕ) → with_block live word [] ≡ live
-none_placed live word = let none : word - 1 + 0 ≡ word - 1 = omega arith in rw none (take-append-drop (word - 1) live)
+none_placed live word = grind (arith, nat_tests, take-append-drop)
 
 below_placed : (live : List ℕ) (a : ℕ) (rest : List ℕ) → length (take a live) ≡ a → (w : ℕ) → w < suc a
     → live_word_at (take a live ++ rest) w ≡ live_word_at live w
 below_placed live a rest front zero lt = refl
-below_placed live a rest front (suc i) lt =
-    get_first (take a live) rest i (omega (arith, lt, front)) ∙ get_take a live i (omega (arith, lt))
+below_placed live a rest front (suc i) lt = grind (arith, nat_tests, get_first, get_take)
 
 above_placed : (live : List ℕ) (a n : ℕ) (block : List ℕ) → length (take a live) ≡ a → length block ≡ n → (w : ℕ)
     → suc a + n ≤ w → live_word_at (take a live ++ (block ++ drop (a + n) live)) w ≡ live_word_at live w
@@ -103,10 +102,7 @@ block_get : (live : List ℕ) (word n : ℕ) → (n ≡ 0) ⊎ IsThere live word
     → slice_get (block_of live word n) k ≡ live_word_at live (word + k)
 block_get live word n (inl none) k lt = absurd (omega (arith, lt, none))
 block_get live zero n (inr there) k lt = absurd (omega (arith, there.above))
-block_get live (suc b) n (inr there) k lt =
-    let at : suc b + k ≡ suc (b + k) = omega arith in
-    let before : suc b - 1 ≡ b = omega arith in
-    rw (at, before) (get_take n (drop b live) k lt ∙ get_drop b live k)
+block_get live (suc b) n (inr there) k lt = grind (arith, nat_tests, get_take, get_drop)
 
 -- the same block, by other words for each index
 same_block : (old new : List ℕ) (word n : ℕ) (f g : ℕ → Option ℕ) → HasBlock old new word n f

@@ -1,5 +1,5 @@
 -- A live byte address lies within the words of memory.
-use Rattle.std.proofs.Common.{◌≡◌, ℕ, zero, suc, ◌/◌, ◌≤◌, List, length, Option, Some, None, IsSome, leb, T, ℤ, pos, negsuc, ◌≤ℤ◌, refl, arith}
+use Rattle.std.proofs.Common.{◌≡◌, ℕ, zero, suc, ◌/◌, ◌≤◌, List, length, Option, Some, None, IsSome, leb, T, ℤ, pos, negsuc, ◌≤ℤ◌, arith}
 use Rattle.std.proofs.lemmas.Bool.Decides.{nat_tests}
 use Rattle.std.proofs.lemmas.Option.{slice_get_within}
 use Rattle.std.specs.Option.{option_map}
@@ -19,6 +19,5 @@ bound : (a : ℕ) → a ≤ 32767 → T (leb a 32767)
 bound a h = grind (arith, nat_tests)
 
 pub live_address : (live : List ℕ) (a : ℤ) → length live ≤ 16383 → IsSome (live_byte_at live a) → a ≤ℤ pos 32767
-live_address live (pos a) few h = let within =
-    live_by live a (live_word_at live (a / 2)) refl h in record { le = bound a (omega (arith, within, few)) }
+live_address live (pos a) few h = grind (arith, nat_tests, live_by, bound)
 live_address live (negsuc a) few h = absurd cc

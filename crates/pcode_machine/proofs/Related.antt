@@ -1,5 +1,6 @@
 -- The function of an instruction and its relations agree.
-use Rattle.std.proofs.Common.{◌≡◌, ℕ, ◌+◌, ltb, length, Option, Some, MatchOption, Result, Ok, Err, slice_get, refl, ap}
+use Rattle.std.proofs.Common.{◌≡◌, ℕ, Option, Some, MatchOption, Result, Ok, Err, slice_get, refl, ap, arith}
+use Rattle.std.proofs.lemmas.Bool.Decides.{nat_tests}
 use Rattle.pcode_file.specs.Parts.{Parts}
 use Rattle.pcode_ops.specs.declared.instr.Instr.{Instr}
 use Rattle.pcode_frames.specs.declared.frame.Frame.{Frame}
@@ -15,7 +16,7 @@ use Rattle.pcode_machine.proofs.RelatedWords.{push_holds, push_goes, push_fails,
 use Rattle.pcode_machine.proofs.RelatedBlocks.{move_holds, move_fails, load_block_holds, load_block_goes, load_block_fails, store_block_holds, store_block_fails, load_byte_holds, load_byte_fails, store_byte_holds, store_byte_fails}
 use Rattle.pcode_machine.proofs.RelatedFields.{index_holds, index_goes, index_fails, load_field_holds, load_field_fails, store_field_holds, store_field_fails}
 use Rattle.pcode_machine.proofs.RelatedValues.{replace_holds, replace_fails, combine_holds, combine_fails, check_holds, check_fails, branch_holds, branch_fails, branch_two_holds, branch_two_fails}
-use Rattle.pcode_machine.proofs.RelatedCalls.{enter_by, enter_goes, enter_fails, leave_by, leave_goes, leave_fails, begin_holds, begin_fails}
+use Rattle.pcode_machine.proofs.RelatedCalls.{enter_goes, enter_fails, leave_goes, leave_fails, begin_holds, begin_fails}
 use Rattle.pcode_machine.specs.declared.errors.ExecutionError.{ExecutionError}
 
 -- an effect that is made meets its relation
@@ -42,10 +43,8 @@ holds Check j s = check_holds j s s.stack refl
 holds (Go offset) j s = refl
 holds (Branch to) j s = branch_holds to j s s.stack refl
 holds (BranchByTwo to) j s = branch_two_holds to j s s.stack refl
-holds (Call n q k) j s =
-    enter_by n q k j s (ltb (length s.stack) q.params) (ltb 1023 (length s.frames))
-    (ltb 16383 (length s.words + (q.params + q.vars))) refl refl refl
-holds (Return n f) j s = leave_by n f j s (ltb (length s.words) (f.base + n)) (ltb 1024 (length s.stack + n)) refl refl
+holds (Call n q k) j s = grind (arith, nat_tests)
+holds (Return n f) j s = grind (arith, nat_tests)
 holds (Begin d) j s = begin_holds d j s s.stack refl
 holds (Fail n) j s = refl
 holds Finish j s = refl

@@ -1,7 +1,8 @@
 -- Effects that move blocks and bytes, as relations and as functions.
 use Rattle.std.proofs.Common.{◌≡◌, ℕ, ◌+◌, ◌/◌, ◌<◌, ◌≤◌, Bool, true, false, cond, ltb, List, [], ◌∷◌, ◌++◌, length, Option, Some, None, Ok, Err, slice_get, refl, arith, inl, inr}
 use Rattle.std.proofs.lemmas.Option.{slice_get_past}
-use Rattle.std.proofs.lemmas.Bool.{and_parts, ltb-true, ltb-false, lt-ltb, le-ltb}
+use Rattle.std.proofs.lemmas.Bool.{ltb-true, ltb-false, lt-ltb, le-ltb}
+use Rattle.std.proofs.lemmas.Bool.Decides.{nat_tests}
 use Rattle.pcode_frames.specs.Words.{live_byte_at}
 use Rattle.pcode_frames.specs.Blocks.{block_of}
 use Rattle.pcode_machine.specs.declared.turn.Stop.TheVariants.{Error}
@@ -10,7 +11,7 @@ use Rattle.pcode_machine.specs.Blocks.{is_block, block_moved, block_loaded, bloc
 use Rattle.pcode_machine.specs.Bytes.{byte_address, byte_pushed, byte_loaded, byte_stored}
 use Rattle.pcode_machine.specs.Effects.{MoveBlock, LoadBlock, StoreBlock, LoadByte, StoreByte}
 use Rattle.pcode_machine.specs.Step.{FailsBy}
-use Rattle.pcode_machine.proofs.Agreeing.{Meets, tested, none_is, below_one, below_two, below_three}
+use Rattle.pcode_machine.proofs.Agreeing.{Meets, none_is, below_one, below_two}
 use Rattle.base.proofs.Lists.{get_none}
 use Rattle.pcode_machine.specs.declared.errors.ExecutionError.TheVariants.{NoRoom, BadAddress}
 use Rattle.pcode_machine.specs.declared.errors.ExecutionError.{ExecutionError}
@@ -18,9 +19,7 @@ use Rattle.pcode_machine.specs.declared.errors.ExecutionError.{ExecutionError}
 -- ---- words are copied
 
 pub move_holds : (n j : ℕ) (s : State) (st : List ℕ) → s.stack ≡ st → Meets (MoveBlock n) j s (block_moved n j s st)
-move_holds n j s (from ∷ to ∷ rest) e =
-    tested (MoveBlock n) j s _ _ _ (λ h. (let both = and_parts _ _ h in (from, to, rest, e, both.0, both.1, refl)))
-    (λ h. inr (refl, from, to, rest, e, h))
+move_holds n j s (from ∷ to ∷ rest) e = grind (arith, nat_tests)
 move_holds n j s other e = inl (refl, rw e (omega arith))
 
 pub move_fails : (n j : ℕ) (e : ExecutionError) (s : State) → FailsBy (MoveBlock n) s e → block_moved n j s s.stack ≡ Err (Error e)
@@ -40,7 +39,7 @@ load_by n j pointer s rest false c e f g = inr (pointer, rest, e, inl (refl, f))
 
 pub load_block_holds : (n j : ℕ) (s : State) (st : List ℕ) → s.stack ≡ st → Meets (LoadBlock n) j s (block_loaded n j s st)
 load_block_holds n j s [] e = inl (refl, rw e (omega arith))
-load_block_holds n j s (pointer ∷ rest) e = load_by n j pointer s rest (is_block s.words pointer n) (ltb 1024 (length rest + n)) e refl refl
+load_block_holds n j s (pointer ∷ rest) e = grind (arith, nat_tests)
 
 pub load_block_goes : (n j pointer : ℕ) (s t : State) (rest : List ℕ) → s.stack ≡ pointer ∷ rest
     → is_block s.words pointer n ≡ true → length rest + n ≤ 1024
@@ -59,8 +58,7 @@ past_end st n e = omega (arith, get_none st n e)
 
 pub store_block_holds : (n j : ℕ) (s : State) (o : Option ℕ) → slice_get s.stack n ≡ o → Meets (StoreBlock n) j s (block_stored_at o n j s)
 store_block_holds n j s None e = inl (refl, past_end s.stack n e)
-store_block_holds n j s (Some pointer) e =
-    tested (StoreBlock n) j s _ _ _ (λ h. (pointer, e, h, refl)) (λ h. inr (refl, pointer, e, h))
+store_block_holds n j s (Some pointer) e = grind (arith, nat_tests)
 
 pub store_block_fails : (n j : ℕ) (e : ExecutionError) (s : State) → FailsBy (StoreBlock n) s e → block_stored n j s ≡ Err (Error e)
 store_block_fails n j e s (inl h) = rw (slice_get_past s.stack n (omega (arith, h.1)), h.0) refl
@@ -83,10 +81,9 @@ load_byte_fails j e s (inl h) = rw (below_two (byte_loaded j s) _ refl (λ v. re
 load_byte_fails j e s (inr h) = rw (h.4, none_is _ h.5, h.0) refl
 
 pub store_byte_holds : (j : ℕ) (s : State) (st : List ℕ) → s.stack ≡ st → Meets StoreByte j s (byte_stored j s st)
-store_byte_holds j s (v ∷ index ∷ base ∷ rest) e =
-    tested StoreByte j s _ _ _ (λ h. (v, index, base, rest, e, h, refl)) (λ h. inr (refl, v, index, base, rest, e, rw h refl))
+store_byte_holds j s (v ∷ index ∷ base ∷ rest) e = grind (arith, nat_tests)
 store_byte_holds j s other e = inl (refl, rw e (omega arith))
 
 pub store_byte_fails : (j : ℕ) (e : ExecutionError) (s : State) → FailsBy StoreByte s e → byte_stored j s s.stack ≡ Err (Error e)
-store_byte_fails j e s (inl h) = rw (below_three (byte_stored j s) _ refl (λ v. refl) (λ v w. refl) s.stack h.1, h.0) refl
+store_byte_fails j e s (inl h) = grind (arith, nat_tests)
 store_byte_fails j e s (inr h) = rw (h.5, none_is _ h.6, h.0) refl

@@ -1,6 +1,7 @@
 -- Calls, returns and the start of a transfer, as relations and as functions.
 use Rattle.std.proofs.Common.{◌⊎◌, ◌≡◌, ℕ, ◌+◌, ◌-◌, ◌<◌, ◌≤◌, Bool, true, false, ◌||◌, cond, ltb, List, [], ◌∷◌, ◌++◌, length, take, drop, replicate, Ok, Err, refl, arith, inl, inr}
-use Rattle.std.proofs.lemmas.Bool.{ltb-true, ltb-false, lt-ltb, le-ltb}
+use Rattle.std.proofs.lemmas.Bool.{ltb-true, ltb-false, lt-ltb}
+use Rattle.std.proofs.lemmas.Bool.Decides.{nat_tests}
 use Rattle.pcode_file.specs.declared.file.Proc.{Proc}
 use Rattle.pcode_frames.specs.declared.frame.Frame.{Frame}
 use Rattle.pcode_frames.specs.declared.halt.Halt.TheVariants.{Empty, Overflow, BadMemory}
@@ -40,26 +41,12 @@ pub enter_by : (n : ℕ) (q : Proc) (k j : ℕ) (s : State) (b c d : Bool) → l
     → ltb 16383 (length s.words + (q.params + q.vars)) ≡ d
     → Meets (Call n q k) j s (with_parts q.enter s (cond b (Err Empty) (cond (c || d) (Err Overflow) (Ok (with_callee n q k j s)))))
 enter_by n q k j s true c d e f g = inl (refl, ltb-true (length s.stack) q.params e)
-enter_by n q k j s false true d e f g = inr (refl, ltb-false (length s.stack) q.params e, inl (ltb-true 1023 (length s.frames) f))
-enter_by n q k j s false false true e f g =
-    inr (refl, ltb-false (length s.stack) q.params e, inr (ltb-true 16383 (length s.words + (q.params + q.vars)) g))
-enter_by n q k j s false false false e f g = (
-  ltb-false (length s.stack) q.params e,
-  omega (arith, ltb-false 1023 (length s.frames) f),
-  ltb-false 16383
-      (length s.words + (q.params + q.vars)) g,
-  refl,
-)
+enter_by n q k j s false true d e f g = grind (arith, nat_tests)
+enter_by n q k j s false false true e f g = grind (arith, nat_tests)
+enter_by n q k j s false false false e f g = grind (arith, nat_tests)
 
 pub enter_goes : (n : ℕ) (q : Proc) (k j : ℕ) (s t : State) → Enters n q k j s t → entered_state n q k j s ≡ Ok t
-enter_goes n q k j s t h =
-    rw (
-      le-ltb (length s.stack) q.params h.0,
-      le-ltb 1023 (length s.frames) (omega (arith, h.1)),
-      le-ltb 16383
-          (length s.words + (q.params + q.vars)) h.2,
-      h.3,
-    ) refl
+enter_goes n q k j s t h = grind (arith, nat_tests)
 
 by_second : (a b : Bool) → b ≡ true → (a || b) ≡ true
 by_second true b e = refl
@@ -73,9 +60,7 @@ full f w (inr h) = by_second (ltb 1023 f) (ltb 16383 w) (lt-ltb 16383 w h)
 pub enter_fails : (n : ℕ) (q : Proc) (k j : ℕ) (e : ExecutionError) (s : State) → FailsBy (Call n q k) s e
     → entered_state n q k j s ≡ Err (Error e)
 enter_fails n q k j e s (inl h) = rw (lt-ltb (length s.stack) q.params h.1, h.0) refl
-enter_fails n q k j e s (inr h) =
-    rw (le-ltb (length s.stack) q.params h.1, full (length s.frames) (length s.words + (q.params + q.vars)) h.2, h.0)
-    refl
+enter_fails n q k j e s (inr h) = grind (arith, nat_tests)
 
 -- ---- a procedure returns, whose results have to be live and to fit on the stack
 
@@ -90,12 +75,12 @@ pub leave_by : (n : ℕ) (f : Frame) (j : ℕ) (s : State) (b c : Bool) → ltb 
     → ltb 1024 (length s.stack + n) ≡ c
     → Meets (Return n f) j s (with_parts f.back s (cond b (Err BadMemory) (cond c (Err Overflow) (Ok (without_frame n f s)))))
 leave_by n f j s true c e g = inl (refl, ltb-true (length s.words) (f.base + n) e)
-leave_by n f j s false true e g = inr (refl, ltb-false (length s.words) (f.base + n) e, ltb-true 1024 (length s.stack + n) g)
+leave_by n f j s false true e g = grind (arith, nat_tests)
 leave_by n f j s false false e g = (ltb-false (length s.words) (f.base + n) e, ltb-false 1024 (length s.stack + n) g, refl)
 
 pub leave_goes : (n : ℕ) (f : Frame) (s t : State) → LeavesFrame n f s t → left n f s ≡ Ok t
-leave_goes n f s t h = rw (le-ltb (length s.words) (f.base + n) h.0, le-ltb 1024 (length s.stack + n) h.1, h.2) refl
+leave_goes n f s t h = grind (arith, nat_tests)
 
 pub leave_fails : (n : ℕ) (f : Frame) (j : ℕ) (e : ExecutionError) (s : State) → FailsBy (Return n f) s e → left n f s ≡ Err (Error e)
 leave_fails n f j e s (inl h) = rw (lt-ltb (length s.words) (f.base + n) h.1, h.0) refl
-leave_fails n f j e s (inr h) = rw (le-ltb (length s.words) (f.base + n) h.1, lt-ltb 1024 (length s.stack + n) h.2, h.0) refl
+leave_fails n f j e s (inr h) = grind (arith, nat_tests)

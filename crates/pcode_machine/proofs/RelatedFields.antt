@@ -1,6 +1,7 @@
 -- Effects on packed fields, as relations and as functions.
 use Rattle.std.proofs.Common.{◌≡◌, ℕ, ◌+◌, ◌*◌, ◌/◌, ◌%◌, ◌<◌, Bool, true, false, cond, ltb, List, ◌∷◌, length, Result, Ok, Err, refl, arith, inl, inr}
-use Rattle.std.proofs.lemmas.Bool.{ltb-true, ltb-false, lt-ltb, le-ltb}
+use Rattle.std.proofs.lemmas.Bool.{ltb-false, lt-ltb, le-ltb}
+use Rattle.std.proofs.lemmas.Bool.Decides.{nat_tests}
 use Rattle.pcode_machine.specs.declared.errors.ExecutionError.{ExecutionError}
 use Rattle.pcode_machine.specs.declared.errors.ExecutionError.TheVariants.{OutOfRange, NoRoom}
 use Rattle.pcode_machine.specs.declared.turn.Stop.TheVariants.{Error}
@@ -9,7 +10,7 @@ use Rattle.pcode_machine.specs.Effects.{IndexField, LoadField, StoreField}
 use Rattle.pcode_machine.specs.Fields.{changed_at, field_indexed, field_loaded, field_stored, put_at}
 use Rattle.pcode_machine.specs.Pointers.{pointer_past}
 use Rattle.pcode_machine.specs.Step.{FailsBy}
-use Rattle.pcode_machine.proofs.Agreeing.{Meets, tested, put_by, below_two, below_three, below_four}
+use Rattle.pcode_machine.proofs.Agreeing.{Meets, below_two}
 
 -- ---- IXP
 
@@ -18,10 +19,7 @@ index_by : (e w j index pointer : ℕ) (s : State) (rest : List ℕ) (b : Bool) 
     (cond b (cond (ltb (length rest + 2) 1024)
     (Ok (record s { stack = index % e * w ∷ w ∷ pointer_past pointer (index / e) ∷ rest; next = j }))
     (Err (Error NoRoom))) (Err (Error OutOfRange)))
-index_by e w j index pointer s rest true is small =
-    tested (IndexField e w) j s _ _ _
-    (λ room. (index, pointer, rest, is, ltb-true index 32768 small, ltb-true (length rest + 2) 1024 room, refl))
-    (λ room. inr (index, pointer, rest, is, inr (refl, ltb-true index 32768 small, ltb-false (length rest + 2) 1024 room)))
+index_by e w j index pointer s rest true is small = grind (arith, nat_tests)
 index_by e w j index pointer s rest false is large = inr (index, pointer, rest, is, inl (refl, ltb-false index 32768 large))
 
 pub index_holds : (e w j : ℕ) (s : State) (st : List ℕ) → s.stack ≡ st → Meets (IndexField e w) j s (field_indexed e w j s st)
@@ -42,13 +40,11 @@ index_fails n w j e s (inr (index, pointer, rest, is, inr h)) = rw (is, h.0, lt-
 -- ---- LDP
 
 pub load_field_holds : (j : ℕ) (s : State) (st : List ℕ) → s.stack ≡ st → Meets LoadField j s (field_loaded j s st)
-load_field_holds j s (right ∷ width ∷ pointer ∷ rest) is =
-    put_by LoadField j s rest _ (λ v found. (right, width, pointer, rest, v, is, found, refl))
-    (λ e found. inr (right, width, pointer, rest, is, found))
+load_field_holds j s (right ∷ width ∷ pointer ∷ rest) is = grind (arith, nat_tests)
 load_field_holds j s other is = inl (refl, rw is (omega arith))
 
 pub load_field_fails : (j : ℕ) (e : ExecutionError) (s : State) → FailsBy LoadField s e → field_loaded j s s.stack ≡ Err (Error e)
-load_field_fails j e s (inl h) = rw (below_three (field_loaded j s) _ refl (λ v. refl) (λ v w. refl) s.stack h.1, h.0) refl
+load_field_fails j e s (inl h) = grind (arith, nat_tests)
 load_field_fails j e s (inr h) = rw (h.4, h.5) refl
 
 -- ---- STP
@@ -60,10 +56,9 @@ store_by j value right width pointer s rest (Ok v) is found = (value, right, wid
 store_by j value right width pointer s rest (Err e) is found = inr (value, right, width, pointer, rest, is, found)
 
 pub store_field_holds : (j : ℕ) (s : State) (st : List ℕ) → s.stack ≡ st → Meets StoreField j s (field_stored j s st)
-store_field_holds j s (value ∷ right ∷ width ∷ pointer ∷ rest) is =
-    store_by j value right width pointer s rest (changed_at s.words pointer width right value) is refl
+store_field_holds j s (value ∷ right ∷ width ∷ pointer ∷ rest) is = grind (arith, nat_tests)
 store_field_holds j s other is = inl (refl, rw is (omega arith))
 
 pub store_field_fails : (j : ℕ) (e : ExecutionError) (s : State) → FailsBy StoreField s e → field_stored j s s.stack ≡ Err (Error e)
-store_field_fails j e s (inl h) = rw (below_four (field_stored j s) _ refl (λ v. refl) (λ v w. refl) (λ v w u. refl) s.stack h.1, h.0) refl
+store_field_fails j e s (inl h) = grind (arith, nat_tests)
 store_field_fails j e s (inr h) = rw (h.5, h.6) refl

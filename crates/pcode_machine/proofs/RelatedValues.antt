@@ -1,6 +1,7 @@
 -- Effects that pop their operands: changes, operations, the check and branches, as relations and as
 -- functions.
 use Rattle.std.proofs.Common.{◌≡◌, ℕ, List, [], ◌∷◌, Err, refl, arith, inl, inr}
+use Rattle.std.proofs.lemmas.Bool.Decides.{nat_tests}
 use Rattle.pcode_machine.specs.declared.operations.Change.{Change}
 use Rattle.pcode_machine.specs.declared.operations.Operation.{Operation}
 use Rattle.pcode_machine.specs.declared.turn.Stop.TheVariants.{Error}
@@ -9,7 +10,7 @@ use Rattle.pcode_machine.specs.Operations.{replaced, combined, checked}
 use Rattle.pcode_machine.specs.Jumps.{branched, branched_by_two}
 use Rattle.pcode_machine.specs.Effects.{Replace, Combine, Check, Branch, BranchByTwo}
 use Rattle.pcode_machine.specs.Step.{HasTooFew, FailsBy}
-use Rattle.pcode_machine.proofs.Agreeing.{Meets, put_by, below_one, below_two, below_three}
+use Rattle.pcode_machine.proofs.Agreeing.{Meets, below_one, below_two, below_three}
 use Rattle.pcode_machine.specs.declared.errors.ExecutionError.{ExecutionError}
 
 -- ---- a word gives way to another
@@ -24,8 +25,7 @@ replace_fails f j e s h = rw (below_one (replaced f j s) _ refl s.stack h.1, h.0
 -- ---- two words give way to one
 
 pub combine_holds : (f : Operation) (j : ℕ) (s : State) (st : List ℕ) → s.stack ≡ st → Meets (Combine f) j s (combined f j s st)
-combine_holds f j s (b ∷ a ∷ rest) e =
-    put_by (Combine f) j s rest _ (λ v g. (b, a, rest, v, e, g, refl)) (λ n g. inr (b, a, rest, e, g))
+combine_holds f j s (b ∷ a ∷ rest) e = grind (arith, nat_tests)
 combine_holds f j s other e = inl (refl, rw e (omega arith))
 
 pub combine_fails : (f : Operation) (j : ℕ) (e : ExecutionError) (s : State) → FailsBy (Combine f) s e
@@ -36,8 +36,7 @@ combine_fails f j e s (inr h) = rw (h.3, h.4) refl
 -- ---- a word stays that lies between two others
 
 pub check_holds : (j : ℕ) (s : State) (st : List ℕ) → s.stack ≡ st → Meets Check j s (checked j s st)
-check_holds j s (high ∷ low ∷ v ∷ rest) e =
-    put_by Check j s rest _ (λ w g. (high, low, v, rest, w, e, g, refl)) (λ n g. inr (high, low, v, rest, e, g))
+check_holds j s (high ∷ low ∷ v ∷ rest) e = grind (arith, nat_tests)
 check_holds j s other e = inl (refl, rw e (omega arith))
 
 pub check_fails : (j : ℕ) (e : ExecutionError) (s : State) → FailsBy Check s e → checked j s s.stack ≡ Err (Error e)

@@ -1,6 +1,7 @@
 -- Effects that move single words, as relations and as functions.
 use Rattle.std.proofs.Common.{◌≡◌, ℕ, ◌≤◌, List, [], ◌∷◌, length, Option, Some, None, Ok, Err, refl, ap, arith, inl, inr}
-use Rattle.std.proofs.lemmas.Bool.{ltb-true, ltb-false, lt-ltb, le-ltb}
+use Rattle.std.proofs.lemmas.Bool.{lt-ltb, le-ltb}
+use Rattle.std.proofs.lemmas.Bool.Decides.{nat_tests}
 use Rattle.pcode_frames.specs.Words.{live_word_at}
 use Rattle.pcode_machine.specs.declared.turn.Stop.TheVariants.{Error}
 use Rattle.pcode_machine.specs.Configuration.{State}
@@ -9,15 +10,14 @@ use Rattle.pcode_machine.specs.Stores.{stored}
 use Rattle.pcode_machine.specs.Pointers.{pointer_past, pointed, fetched_by, fetched, stored_at}
 use Rattle.pcode_machine.specs.Effects.{Push, Load, Store, Fetch, StoreAt}
 use Rattle.pcode_machine.specs.Step.{Pushes, FailsBy}
-use Rattle.pcode_machine.proofs.Agreeing.{Meets, tested, not_some, not_none, none_is, below_one, below_two}
+use Rattle.pcode_machine.proofs.Agreeing.{Meets, not_some, not_none, none_is, below_one, below_two}
 use Rattle.pcode_machine.specs.declared.errors.ExecutionError.TheVariants.{NoRoom}
 use Rattle.pcode_machine.specs.declared.errors.ExecutionError.{ExecutionError}
 
 -- ---- a word is pushed, which needs room
 
 pub push_holds : (n j : ℕ) (s : State) → Meets (Push n) j s (pushed n j s)
-push_holds n j s =
-    tested (Push n) j s _ _ _ (λ h. (ltb-true (length s.stack) 1024 h, refl)) (λ h. (refl, ltb-false (length s.stack) 1024 h))
+push_holds n j s = grind (arith, nat_tests)
 
 pub push_goes : (n j : ℕ) (s t : State) → Pushes n j s t → pushed n j s ≡ Ok t
 push_goes n j s t h = rw (lt-ltb (length s.stack) 1024 h.0, h.1) refl
@@ -29,9 +29,7 @@ push_fails n j s h = rw (le-ltb (length s.stack) 1024 h) refl
 
 pub load_holds : (n j : ℕ) (s : State) (o : Option ℕ) → live_word_at s.words n ≡ o → Meets (Load n) j s (loaded_by o j s)
 load_holds n j s None e = inl (refl, rw e refl)
-load_holds n j s (Some v) e =
-    tested (Load n) j s _ _ _ (λ h. (v, e, (ltb-true (length s.stack) 1024 h, refl)))
-    (λ h. inr (refl, rw e refl, ltb-false (length s.stack) 1024 h))
+load_holds n j s (Some v) e = grind (arith, nat_tests)
 
 pub load_fails : (n j : ℕ) (e : ExecutionError) (s : State) (o : Option ℕ) → live_word_at s.words n ≡ o
     → FailsBy (Load n) s e → loaded_by o j s ≡ Err (Error e)
@@ -44,8 +42,7 @@ load_fails n j e s (Some v) f (inr h) = rw h.0 (push_fails v j s h.2)
 
 pub store_holds : (n j : ℕ) (s : State) (st : List ℕ) → s.stack ≡ st → Meets (Store n) j s (stored n j s st)
 store_holds n j s [] e = inl (refl, rw e (omega arith))
-store_holds n j s (v ∷ rest) e =
-    tested (Store n) j s _ _ _ (λ h. (v, rest, e, h, refl)) (λ h. inr (refl, rw e (omega arith), rw h refl))
+store_holds n j s (v ∷ rest) e = grind (arith, nat_tests)
 
 pub store_fails : (n j : ℕ) (e : ExecutionError) (s : State) (st : List ℕ) → s.stack ≡ st → FailsBy (Store n) s e
     → stored n j s st ≡ Err (Error e)
@@ -72,8 +69,7 @@ fetch_fails n j e s (inr h) = rw (h.3, none_is _ h.4, h.0) refl
 -- ---- a word is popped to where the pointer below it points
 
 pub store_at_holds : (j : ℕ) (s : State) (st : List ℕ) → s.stack ≡ st → Meets StoreAt j s (stored_at j s st)
-store_at_holds j s (v ∷ pointer ∷ rest) e =
-    tested StoreAt j s _ _ _ (λ h. (v, pointer, rest, e, h, refl)) (λ h. inr (refl, v, pointer, rest, e, rw h refl))
+store_at_holds j s (v ∷ pointer ∷ rest) e = grind (arith, nat_tests)
 store_at_holds j s other e = inl (refl, rw e (omega arith))
 
 pub store_at_fails : (j : ℕ) (e : ExecutionError) (s : State) → FailsBy StoreAt s e → stored_at j s s.stack ≡ Err (Error e)

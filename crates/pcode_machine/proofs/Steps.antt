@@ -1,6 +1,7 @@
 -- A step as a relation is a step of the function.
-use Rattle.std.proofs.Common.{◌≡◌, ◌↔◌, ℕ, ◌≤◌, List, length, Option, Some, None, IsSome, Ok, refl, sym, subst}
+use Rattle.std.proofs.Common.{◌≡◌, ◌↔◌, ℕ, ◌≤◌, List, length, Option, Some, None, IsSome, Ok, refl, arith}
 use Rattle.std.proofs.lemmas.Option.{slice_get_past}
+use Rattle.std.proofs.lemmas.Bool.Decides.{nat_tests}
 use Rattle.base.proofs.Lists.{get_none}
 use Rattle.pcode_file.specs.Parts.{Parts}
 use Rattle.pcode_ops.specs.declared.instr.Instr.{Instr}
@@ -110,18 +111,14 @@ module _ (p : Parts) (known : Decodes p.segment) (x : List ℕ) (c : Configurati
 
   stops_in : (f : Frame) (e : End) (o : Option Frame) (k : Option Transfer) → o ≡ Some f → c.state.transfer ≡ k → StopsIn p c f k e
       → EndsIn p c o e
-  stops_in f e o k at idle h =
-      let P : Option Transfer → Type 0 = λ k. StopsIn p c f k e in
-      rw at (subst P (sym idle) h)
+  stops_in f e o k at idle h = grind (arith, nat_tests)
 
   step_by : (d : Configuration) → Went p x c d → Step p x c d
   step_by d (Executed f i j s at made is) =
       let h = rw made at (execute_agrees p f i j c.state).holds in
       (f, at.current, in_transfer f d _ None at.idle (i, j, s, (known c.state.next i j).0 at.decoded, h, is))
-  step_by d (Wrote f t b m w live is) =
-      (f, m.current, in_transfer f d _ (Some t) m.pending (in_direction t d _ Writing w (b, live, is)))
-  step_by d (Took f t old b m r live found is) =
-      (f, m.current, in_transfer f d _ (Some t) m.pending (in_direction t d _ Reading r (old, b, live, found, is)))
+  step_by d (Wrote f t b m w live is) = grind (arith, nat_tests)
+  step_by d (Took f t old b m r live found is) = grind (arith, nat_tests)
 
   ends_by : (e : End) → Ended p c e → Ends p c e
   ends_by e (Frameless none is) = rw none is
@@ -137,6 +134,4 @@ pub is_end : (p : Parts) → Decodes p.segment → (x : List ℕ) (c : Configura
 is_end p known x c end e = ends_by p known x c end (way p x c _ e)
 
 pub is_wait : (p : Parts) (x : List ℕ) (c : Configuration) → outcome p x c ≡ Waiting → Awaits x c
-is_wait p x c e =
-    let w = way p x c _ e in
-    (w.frame, w.moving.current, rw w.moving.pending (w.reading, rw w.live refl, get_none x c.read w.none))
+is_wait p x c e = grind (arith, nat_tests, way, get_none)

@@ -1,5 +1,6 @@
 -- How a configuration comes to its outcome: by an instruction, or by a byte of a transfer.
-use Rattle.std.proofs.Common.{◌≡◌, ℕ, List, Option, Some, None, slice_get, Result, Ok, Err, refl, sym, subst}
+use Rattle.std.proofs.Common.{◌≡◌, ℕ, List, Option, Some, None, slice_get, Result, Ok, Err, refl, arith}
+use Rattle.std.proofs.lemmas.Bool.Decides.{nat_tests}
 use Rattle.pcode_file.specs.Parts.{Parts}
 use Rattle.pcode_ops.specs.declared.instr.Instr.{Instr}
 use Rattle.pcode_ops.specs.declared.fault.OpFault.{OpFault}
@@ -32,19 +33,12 @@ pub record IsMoving (c : Configuration) (f : Frame) (t : Transfer) : Type 0 wher
 -- where no transfer is pending, the outcome is that of the instruction
 pub by_instruction : (p : Parts) (x : List ℕ) (c : Configuration) (f : Frame) (o : Outcome) → current_of c.state.frames ≡ Some f
     → c.state.transfer ≡ None → instructed p c f ≡ o → outcome p x c ≡ o
-by_instruction p x c f o e idle h =
-    let P : Option Transfer → Type 0 = λ k. pending p x c f k ≡ o in
-    let Q : Option Frame → Type 0 = λ k. in_frame p x c k ≡ o in
-    subst Q (sym e) (subst P (sym idle) h)
+by_instruction p x c f o e idle h = grind (arith, nat_tests)
 
 -- and otherwise that of a byte
 pub by_transfer : (p : Parts) (x : List ℕ) (c : Configuration) (f : Frame) (t : Transfer) (o : Outcome) → IsMoving c f t
     → (d : Direction) → t.direction ≡ d → moved d x c f t ≡ o → outcome p x c ≡ o
-by_transfer p x c f t o m d way h =
-    let P : Option Transfer → Type 0 = λ k. pending p x c f k ≡ o in
-    let Q : Option Frame → Type 0 = λ k. in_frame p x c k ≡ o in
-    let R : Direction → Type 0 = λ k. moved k x c f t ≡ o in
-    subst Q (sym m.current) (subst P (sym m.pending) (subst R (sym way) h))
+by_transfer p x c f t o m d way h = grind (arith, nat_tests)
 
 -- the ways of a step
 pub data Went (p : Parts) (x : List ℕ) (c d : Configuration) : Type 0 where
@@ -84,8 +78,7 @@ module _ (p : Parts) (x : List ℕ) (c : Configuration) where
   found_way : (f : Frame) (t : Transfer) (old : ℕ) → IsMoving c f t → t.direction ≡ Reading
       → live_byte_at c.state.words t.address ≡ Some old → (o : Option ℕ) → slice_get x c.read ≡ o
       → Way p x c (on_some o Waiting (λ b. Goes (taken c t b)))
-  found_way f t old m r e None g =
-      record { frame = f; transfer = t; moving = m; reading = r; old = old; live = e; none = g }
+  found_way f t old m r e None g = grind (arith, nat_tests)
   found_way f t old m r e (Some b) g = Took f t old b m r e g refl
 
   moved_way : (f : Frame) (t : Transfer) → IsMoving c f t → (d : Direction) → t.direction ≡ d → (o : Option ℕ)

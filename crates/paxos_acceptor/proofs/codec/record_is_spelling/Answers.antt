@@ -1,17 +1,13 @@
-use Rattle.paxos_acceptor.proofs.Fields.{Fields}
+use Rattle.paxos_acceptor.proofs.Fields.{Fields, by_law, by_law_of_two}
 use Rattle.paxos_acceptor.proofs.RecordRead.{version_one, version_two}
 use Rattle.paxos_acceptor.proofs.codec.record_is_spelling.Goals as goal
 
-fields : goal.After-votes_are_spelling → Fields
-fields c = record {
-  numbers = c.number_is_spelling.ensures.read;
-  ballots = c.ballot_is_spelling.ensures.read;
-  values_v1 = c.value_v1_is_spelling.ensures.read;
-  votes = c.votes_are_spelling.ensures.read;
-}
-
-pub returns-clause-two : goal.returns-clause-two
-returns-clause-two c = version_two (fields c)
-
-pub returns-clause-one : goal.returns-clause-one
-returns-clause-one c = version_one (fields c)
+pub returns : goal.returns
+returns c =
+    let fields : Fields = record {
+      numbers = by_law c.number_is_spelling.ensures.read;
+      ballots = λ size. by_law (c.ballot_is_spelling.ensures.read size);
+      values_v1 = λ size. by_law_of_two (c.value_v1_is_spelling.ensures.read size);
+      votes = λ size n b. by_law_of_two (c.votes_are_spelling.ensures.read size n b);
+    } in
+    record { two = version_two fields; one = version_one fields }

@@ -1,4 +1,4 @@
-use Rattle.paxos_acceptor.proofs.LogFolds.{at_end, no_more, same_on}
+use Rattle.paxos_acceptor.proofs.LogFolds.{at_end, no_more}
 use Rattle.std.proofs.Common.{arith, rules}
 use Rattle.paxos_acceptor.proofs.log.enter_all.Goals as goal
 
@@ -11,19 +11,18 @@ pub loop-version-preserved : goal.loop-version-preserved
 loop-version-preserved c = record {
   ranges = c.in_ok-rest.ensures.ranges;
   within = omega (arith, c.in_ok-rest.ensures.shorter, c.loop-version.invariant.within);
-  same =
-      same_on c.args.version c.args.me.group.size c.args.kept.now c.args.entries.now c.loop-version.kept
-      c.loop-version.rest.now c.enter_first.new.kept c.in_ok-rest.rest.now c.loop-version.invariant.same
-      c.in_ok-rest.ensures.same;
+  same = λ made end. (
+    λ h. (c.in_ok-rest.ensures.same made end).0 ((c.loop-version.invariant.same made end).0 h),
+    λ h. (c.loop-version.invariant.same made end).1 ((c.in_ok-rest.ensures.same made end).1 h),
+  );
 }
 
 pub returns-clause-found : goal.returns-clause-found
 returns-clause-found c =
-    (c.loop-version.invariant.same c.loop-version.kept c.loop-version.rest.now).1
-    (no_more c.args.version c.args.me.group.size c.loop-version.kept c.loop-version.rest.now
-    (c.is_end.ensures.0 c.loop-version-test.false))
+    (c.loop-version.invariant.same _ _).1
+    (no_more _ _ _ _ (c.is_end.ensures.0 c.loop-version-test.false))
 
 pub returns-clause-only : goal.returns-clause-only
 returns-clause-only c =
-    λ made end folds. at_end c.args.version c.args.me.group.size c.loop-version.kept c.loop-version.rest.now made end
-    (c.is_end.ensures.0 c.loop-version-test.false) ((c.loop-version.invariant.same made end).0 folds)
+    λ made end folds. at_end _ _ _ _ made end (c.is_end.ensures.0 c.loop-version-test.false)
+    ((c.loop-version.invariant.same made end).0 folds)

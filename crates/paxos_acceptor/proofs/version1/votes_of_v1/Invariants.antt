@@ -1,5 +1,5 @@
 use Rattle.std.proofs.Common.{◌-◌}
-use Rattle.paxos_acceptor.proofs.Migrating.{LeadsTo}
+use Rattle.paxos_acceptor.proofs.VotesV1.{LeadsTo}
 use Rattle.paxos_acceptor.proofs.version1.votes_of_v1.Given as goal
 
 abbrev pub invariant-loop : goal.invariant-loop
