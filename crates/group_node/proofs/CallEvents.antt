@@ -1,9 +1,9 @@
 -- The calls of a node are events of its group.
-use Rattle.std.proofs.Common.{◌≡◌, ◌≢◌, ◌∙◌, ℕ, List, [], ◌++◌, Option, Some, None, is_some, IfSome, Contains, slice_get, inl, inr, refl, sym, ap, subst, append-nil}
-use Rattle.std.proofs.lemmas.List.Elements.{All-nil}
+use Rattle.std.proofs.Common.{◌≡◌, ◌≢◌, ◌∙◌, ℕ, List, [], ◌++◌, Option, Some, None, is_some, IfSome, slice_get, inl, inr, refl, sym, ap, subst, append-nil, arith}
 use Rattle.std.proofs.lemmas.Option.{get_or_from_slice_get, slice_get_within}
 use Rattle.std.specs.Ordering.{nat_cmp}
 use Rattle.std.specs.FinMap.{FinMap, get}
+use Rattle.std.proofs.lemmas.Bool.Decides.{nat_tests}
 use Rattle.pcode_machine.specs.Configuration.{Configuration}
 use Rattle.pcode_machine.specs.Runs.{begin}
 use Rattle.paxos_msg.specs.declared.value.Value.{Value}
@@ -16,7 +16,6 @@ use Rattle.paxos_acceptor.specs.Answers.{after}
 use Rattle.paxos_acceptor.specs.Stores.{IsOneOf}
 use Rattle.paxos_acceptor.specs.declared.me.Me.{Me}
 use Rattle.paxos_learner.specs.Backed.{MayLearn}
-use Rattle.paxos_learner.specs.Input.{front_values, keys_in_order}
 use Rattle.group_node.specs.Known.{Response, Known, on_start, waiting_keys}
 use Rattle.group_node.specs.Packets.{bodies_of}
 use Rattle.group_node.specs.Ranges.{IsInRange}
@@ -27,12 +26,7 @@ use Rattle.group_node.proofs.CallsKeep.{IsOf}
 
 -- keys that all stay
 pub all_stay : {learned : FinMap nat_cmp Value} {keys stay : List Key} → stay ≡ keys → AreParted learned keys stay
-all_stay {learned} e =
-    record {
-      gone = [];
-      parts = sym e;
-      below = All-nil (λ (k : Key). Contains (keys_in_order (front_values learned)) k);
-    }
+all_stay {learned} e = grind (arith, nat_tests)
 
 -- a message by its number was sent
 pub sent_at : (sent : Sent) (m j : ℕ) (body : Body) → slice_get sent m ≡ Some (record { sender = j; body = body }) → IsSent sent j body
@@ -150,15 +144,7 @@ module _ (w : WorldState) (me : Me) (r : Record) (console : List ℕ)
     (down : w.seats me.node ≡ record { kept = r; console = console; up = None }) where
   -- a start
   pub start_made : StartsUp w (after_call w me.node (on_start me r) [] (begin w.program) 0 console) me.node
-  start_made =
-      let seat : Seat = seat_of (on_start me r).node (begin w.program) 0 console in
-      record {
-        left =
-            seat_here w me.node seat
-            ∙ ap (λ (s : Seat). record { kept = changed s.kept change.Start; console = s.console; up = seat.up })
-            (sym down);
-        rest = record { program = refl; size = refl; others = seat_elsewhere w me.node seat; sent = refl; typed = refl };
-      }
+  start_made = grind (arith, nat_tests)
 
   -- a start whose save failed
   pub start_fell : (left : Record) → IsOneOf left r (changed r change.Start)

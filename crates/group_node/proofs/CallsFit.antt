@@ -1,11 +1,12 @@
 -- What the calls of a node leave that have no message: it stays in its ranges, and what it sends
 -- has a spelling.
-use Rattle.std.proofs.Common.{◌≡◌, ℕ, ◌<◌, ◌≤◌, List, [], ◌∷◌, ◌++◌, length, Option, Some, IfSome, inl, inr, refl, sym, subst, arith}
+use Rattle.std.proofs.Common.{◌≡◌, ℕ, ◌<◌, ◌≤◌, List, [], ◌∷◌, ◌++◌, length, Option, Some, IfSome, refl, subst, arith}
 use Rattle.std.proofs.lemmas.Bool.{cases_eq, cases_lt, ltb-true}
 use Rattle.std.proofs.lemmas.List.{get_or_append_left, get_or_past, get_or_push, length_push}
 use Rattle.std.proofs.lemmas.List.Elements.{All-append, All-nil}
 use Rattle.std.specs.Ordering.{nat_cmp}
 use Rattle.std.specs.FinMap.{FinMap}
+use Rattle.std.proofs.lemmas.Bool.Decides.{nat_tests}
 use Rattle.base.proofs.Lists.{all_of_one}
 use Rattle.paxos_msg.specs.declared.ballot.Ballot.{Ballot}
 use Rattle.paxos_msg.specs.declared.value.Value.{Value}
@@ -47,7 +48,7 @@ pub record BeginLaws : Type 0 where
 
 -- no characters wait
 none_waiting : IsWaiting 1 []
-none_waiting = record { some = omega arith; fits = omega arith; few = omega arith; characters = λ i. omega arith }
+none_waiting = grind (arith, nat_tests)
 
 -- a start, where there is one to spare
 pub start_fits : BeginLaws → (me : Me) (r : Record) → IsMember me → IsRecord me.group.size r → r.starts < 4294967295
@@ -69,15 +70,7 @@ start_fits laws me r member h spare = record {
 
 -- bytes and one more are bytes
 push_bytes : (bytes : List ℕ) (byte : ℕ) → AreBytes bytes → byte < 256 → AreBytes (bytes ++ byte ∷ [])
-push_bytes bytes byte h low i =
-    let many = length_push bytes byte in
-    elim (cases_lt i (length bytes)) [
-      | inl inside ↦ rw (get_or_append_left bytes (byte ∷ []) 0 i inside) (h i)
-      | inr high ↦ elim (cases_eq i (length bytes)) [
-        | inl last ↦ rw (get_or_push bytes byte 0 i (sym last)) low
-        | inr past ↦ rw (get_or_past (bytes ++ byte ∷ []) i 0 (omega arith)) (omega arith)
-      ]
-    ]
+push_bytes bytes byte h low i = grind (arith, nat_tests, length_push, cases_lt, get_or_append_left, cases_eq, get_or_push, get_or_past)
 
 -- a key more, where there is room and a serial to spare
 pub typed_fits : (n : Known) (byte : ℕ) → IsInRange n → byte < 256 → length n.waiting < 256 → next_serial n < 4294967296

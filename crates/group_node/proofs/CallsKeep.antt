@@ -1,13 +1,13 @@
 -- What of a node stays whatever it is called for, and what its calls save.
-use Rattle.std.proofs.Common.{◌≡◌, ℕ, List, [], Option, None, refl, ap}
+use Rattle.std.proofs.Common.{◌≡◌, ℕ, List, [], Option, None, refl, arith}
+use Rattle.std.proofs.lemmas.Bool.Decides.{nat_tests}
 use Rattle.paxos_msg.specs.declared.ballot.Ballot.{Ballot}
 use Rattle.paxos_msg.specs.declared.value.Value.{Value}
-use Rattle.paxos_msg.specs.declared.record.Change.TheVariants as change
 use Rattle.paxos_msg.specs.declared.message.Body.TheVariants.{Accept, Accepted, Prepare, Promise, Submit, Tell}
 use Rattle.paxos_msg.specs.Batches.{Body, Change, Sent, Vote}
-use Rattle.paxos_msg.specs.Keys.{Key, keys_from}
+use Rattle.paxos_msg.specs.Keys.{Key}
 use Rattle.paxos_msg.specs.Records.{changed}
-use Rattle.paxos_acceptor.specs.Answers.{accept_of, Answer, prepare_of}
+use Rattle.paxos_acceptor.specs.Answers.{Answer}
 use Rattle.paxos_proposer.specs.Proposer.{Proposer}
 use Rattle.paxos_learner.specs.Learner.{Learner, heard_accepted, heard_tell}
 use Rattle.group_node.specs.declared.packet.To.{To}
@@ -18,8 +18,8 @@ use Rattle.group_node.specs.ProposerRows.{on_promise, on_submit}
 use Rattle.group_node.specs.Tick.{on_tick}
 use Rattle.group_node.specs.Packets.{Packet}
 use Rattle.group_node.specs.World.{MayCause}
-use Rattle.group_node.proofs.ByProposer.{by_offer, by_part, by_tick}
-use Rattle.group_node.proofs.LawfulAcceptorRows.{accept_reply, IsReply, prepare_reply, starts_same}
+use Rattle.group_node.proofs.ByProposer.{by_offer, by_tick}
+use Rattle.group_node.proofs.LawfulAcceptorRows.{accept_reply, IsReply, prepare_reply}
 
 -- The law of the crates below: a learner's size stays, whatever it hears.
 pub record SizeLaws : Type 0 where
@@ -46,11 +46,11 @@ pub record SavesNothing (n : Known) (done : Response) : Type 0 where
 -- a call that changes the proposer and what it has offered
 leads : (n : Known) (o : Option Proposer) (offered : List Key) (packets : List Packet)
     → SavesNothing n (record { node = record n { proposer = o; offered = offered }; saves = None; sends = packets })
-leads n o offered packets = record { stays = record { of = record { me = refl; size = refl }; waiting = refl }; saves = refl }
+leads n o offered packets = grind (arith, nat_tests)
 
 -- a part of a promise
 promise_stays : (n : Known) (j first upto : ℕ) (b : Ballot) (votes : List Vote) → SavesNothing n (on_promise n j b first upto votes)
-promise_stays n j first upto b votes = by_part (SavesNothing n) n n.proposer j first upto b votes (leads n _ _ _) (λ p e own. leads n _ _ _)
+promise_stays n j first upto b votes = grind (arith, nat_tests)
 
 -- a Submit
 submit_stays : (n : Known) (v : Value) → SavesNothing n (on_submit n v)
@@ -65,23 +65,14 @@ tick_stays n = by_tick (SavesNothing n) n n.proposer (leads n _ _ _) (λ p e. le
 -- an answer that counts no start
 answering_stays : (sent : Sent) (n : Known) (to : To) (c : Change) (answer : Answer) → IsReply sent n.me.node c answer
     → (changed n.kept c).starts ≡ n.kept.starts → Stays n (answering n to answer)
-answering_stays sent n to c answer reply counts =
-    record {
-      of = record { me = refl; size = refl };
-      waiting =
-          ap (λ (start : ℕ). keys_from n.me.node start n.first n.waiting)
-          (starts_same n.kept c answer.saves counts reply.saves);
-    }
+answering_stays sent n to c answer reply counts = grind (arith, nat_tests)
 
 -- a message of any kind
 pub row_stays : SizeLaws → (n : Known) (j : ℕ) (body : Body) → Stays n (row n j body)
-row_stays laws n j (Prepare b from) =
-    answering_stays [] n _ (change.Promise b) (prepare_of n.kept b from) (prepare_reply [] n.me.node from n.kept b) refl
+row_stays laws n j (Prepare b from) = grind (arith, nat_tests)
 row_stays laws n j (Promise b first upto votes) = (promise_stays n j first upto b votes).stays
-row_stays laws n j (Accept b s v) =
-    answering_stays [] n _ (change.Ballotted s b v) (accept_of n.kept b s v)
-    (accept_reply [] n.me.node s n.kept b v) refl
-row_stays laws n j (Accepted b s v) = record { of = record { me = refl; size = laws.accepted n.learner j s b v }; waiting = refl }
+row_stays laws n j (Accept b s v) = grind (arith, nat_tests)
+row_stays laws n j (Accepted b s v) = grind (arith, nat_tests)
 row_stays laws n j (Submit v) = (submit_stays n v).stays
 row_stays laws n j (Tell s v) = record { of = record { me = refl; size = laws.told n.learner s v }; waiting = refl }
 row_stays laws n j other = record { of = record { me = refl; size = refl }; waiting = refl }

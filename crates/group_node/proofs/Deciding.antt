@@ -1,6 +1,7 @@
 -- Whether a value is chosen, computed from what was sent.
-use Rattle.std.proofs.Common.{◌≡◌, ℕ, zero, suc, ◌+◌, ◌*◌, ◌<◌, ◌≤◌, ◌⊎◌, ◌↔◌, Bool, true, false, IsTrue, [], ◌∷◌, Contains, if◌then◌else◌, inl, inr, refl, sym, ◌∙◌, ap, arith}
-use Rattle.std.proofs.lemmas.Bool.{cases_eq, cases_lt, cases_Bool, true≢false}
+use Rattle.std.proofs.Common.{◌≡◌, ℕ, zero, suc, ◌+◌, ◌*◌, ◌<◌, ◌≤◌, ◌⊎◌, ◌↔◌, Bool, true, false, IsTrue, [], ◌∷◌, Contains, if◌then◌else◌, inl, inr, refl, ap, arith}
+use Rattle.std.proofs.lemmas.Bool.{cases_eq, cases_lt}
+use Rattle.std.proofs.lemmas.Bool.Decides.{nat_tests}
 use Rattle.paxos_msg.specs.declared.ballot.Ballot.{Ballot}
 use Rattle.paxos_msg.specs.declared.value.Value.{Value}
 use Rattle.paxos_msg.specs.declared.message.Body.TheVariants.{Accepted}
@@ -28,7 +29,7 @@ accepted i b s v = record { sender = i; body = Accepted b s v }
 
 -- what the answer of a test means
 by_test : {A : Type 0} (t : Bool) → (t ≡ true) ↔ A → Decided A
-by_test t h = elim (cases_Bool t) [ inl holds ↦ inl (h.0 holds) | inr fails ↦ inr (λ a. true≢false (sym (h.1 a) ∙ fails)) ]
+by_test t h = grind (arith, nat_tests)
 
 -- a message says that the value is accepted, or it says something else
 body_decided : Laws → (body : Body) (b : Ballot) (s : ℕ) (v : Value) → Decided (body ≡ Accepted b s v)
@@ -71,10 +72,7 @@ contains_cases m ms x (suc k, low, e) = inr (k, omega arith, e)
 
 -- a node has sent that it accepted the value, or it hasn't
 sent_decided : Laws → (sent : Sent) (i : ℕ) (b : Ballot) (s : ℕ) (v : Value) → Decided (Contains sent (accepted i b s v))
-sent_decided laws [] i b s v = inr none
-  where
-    none : Contains [] (accepted i b s v) → ⊥
-    none (k, low, e) = omega arith
+sent_decided laws [] i b s v = grind (arith, nat_tests)
 sent_decided laws (m ∷ ms) i b s v = elim (message_decided laws m i b s v) [
   | inl e ↦ inl (contains_first m ms (accepted i b s v) e)
   | inr ne ↦ elim (sent_decided laws ms i b s v) [

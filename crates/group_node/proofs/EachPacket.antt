@@ -1,9 +1,10 @@
 -- What holds of each packet that a tick, an Ask or a part of a promise makes a node send.
-use Rattle.std.proofs.Common.{◌≡◌, ℕ, ◌-◌, min, nat_lt, Bool, true, false, if◌then◌else◌, List, [], ◌∷◌, Option, Some, None, is_none, option_map, All, IfSome, refl}
+use Rattle.std.proofs.Common.{◌≡◌, ℕ, ◌-◌, min, nat_lt, Bool, true, false, if◌then◌else◌, List, [], ◌∷◌, Option, Some, None, is_none, option_map, All, IfSome, refl, arith}
 use Rattle.std.specs.Ordering.{nat_cmp}
 use Rattle.std.specs.FinMap.{FinMap, get}
 use Rattle.std.specs.List.{cons_option, filter_map, range_with_len}
-use Rattle.std.proofs.lemmas.List.Elements.{All-append, All-cons, All-nil, All-take}
+use Rattle.std.proofs.lemmas.List.Elements.{All-cons, All-nil, All-take}
+use Rattle.std.proofs.lemmas.Bool.Decides.{nat_tests}
 use Rattle.base.proofs.Lists.{all_of_one}
 use Rattle.paxos_msg.specs.declared.ballot.Ballot.{Ballot}
 use Rattle.paxos_msg.specs.declared.value.Value.{Value}
@@ -86,6 +87,4 @@ module _ (P : Packet → Type 0) where
   -- it, and the Ask, with which a tick ends
   pub each_last : (n : Known) → ((v : Value) → batch_of n n.waiting ≡ Some v → P (to_all (Submit v))) → P (to_all (Ask (front n)))
       → All P (asks n)
-  each_last n submit ask =
-      All-append P (submits (batch_of n n.waiting)) (to_all (Ask (front n)) ∷ []) (submit_if (batch_of n n.waiting) submit)
-      (all_of_one P (to_all (Ask (front n))) ask)
+  each_last n submit ask = grind (arith, nat_tests)

@@ -1,7 +1,8 @@
 -- The machine with its ring and its counts stays exact, from one step to the next.
-use Rattle.std.proofs.Common.{◌≡◌, ℕ, zero, suc, ◌+◌, ◌<◌, ◌≤◌, List, [], ◌∷◌, ◌++◌, length, take, drop, slice_get, Some, None, refl, sym, ◌∙◌, ap, subst, add-zero, add-one, append-nil, append_assoc, length-append, arith}
+use Rattle.std.proofs.Common.{◌≡◌, ℕ, zero, suc, ◌+◌, ◌<◌, ◌≤◌, List, [], ◌∷◌, ◌++◌, length, take, drop, slice_get, Some, None, refl, sym, ◌∙◌, ap, subst, add-one, append-nil, append_assoc, length-append, arith}
 use Rattle.std.proofs.lemmas.List.{drop-drop, length-drop, length-take, take-append-drop, drop-append-le}
 use Rattle.std.proofs.lemmas.Option.{slice_get_within}
+use Rattle.std.proofs.lemmas.Bool.Decides.{nat_tests}
 use Rattle.circular_buffer.specs.Buffer.{buffer, Buffer}
 use Rattle.pcode_file.specs.Parts.{Parts}
 use Rattle.pcode_machine.specs.declared.turn.End.{End}
@@ -25,7 +26,7 @@ pub record Laws : Type 0 where
 
 -- a step that writes a byte takes none
 pub makes-wrote : {p : Parts} {old new : State} {b : ℕ} → Writes p old new b → Makes p old new [] (b ∷ [])
-makes-wrote w = record { steps = λ before output. rw (add-zero (length before), append-nil before) (w.goes before (length before) output) }
+makes-wrote w = grind (arith, nat_tests)
 
 -- ---- one step more
 
@@ -126,25 +127,7 @@ pub advances : {x : List ℕ} {old new : Player} (k : ℕ) → QuietLaw → IsPl
     → AreQuiet old.machine.program k old.machine.state new.machine.state
     → new.machine.program ≡ old.machine.program → new.unreleased ≡ old.unreleased → new.steps ≡ old.steps + k
     → new.read ≡ old.read → new.released ≡ old.released → Advances x k old new
-advances {x} {old} {new} k quiet h a program waits steps read released = record {
-  exact = record {
-    output = h.output;
-    made =
-        rw (program, steps, read)
-        (quiet old.machine.program x old.steps k old.read h.output old.machine.state new.machine.state h.made a);
-    read = rw read h.read;
-    waits = rw (waits, released) h.waits;
-    released = rw released h.released;
-    few = rw steps (omega (arith, h.few));
-    seldom = rw (steps, read) (omega (arith, h.seldom));
-    room = rw waits h.room;
-    capacity = rw waits h.capacity;
-  };
-  unreleased = waits;
-  program = program;
-  released = released;
-  steps = steps;
-}
+advances {x} {old} {new} k quiet h a program waits steps read released = grind (arith, nat_tests)
 
 -- the steps before the one that wrote a byte
 abbrev pub advanced : Player → ℕ → State → Player
@@ -161,17 +144,7 @@ to_advanced k u quiet h a = advances k quiet h a refl refl refl refl refl
 pub exact_start : (x : List ℕ) (q : Player) → q.machine.state ≡ start q.machine.program → q.steps ≡ 0 → q.read ≡ 0
     → q.released ≡ 0 → q.unreleased ≡ buffer [] 256 → IsPlayed x q
 unfolding LeadsIn
-exact_start x q state steps read released waits = record {
-  output = [];
-  made = rw (state, steps, read) refl;
-  read = omega arith;
-  waits = rw (waits, released) refl;
-  released = omega arith;
-  few = omega arith;
-  seldom = omega arith;
-  room = rw waits (omega arith);
-  capacity = rw waits refl;
-}
+exact_start x q state steps read released waits = grind (arith, nat_tests)
 
 -- the first byte that waits is released
 pub exact_released : {x : List ℕ} {q : Player} {b : ℕ} → IsPlayed x q → slice_get q.unreleased.items 0 ≡ Some b

@@ -1,15 +1,15 @@
 -- All that was sent, and the records, after a lawful call.
-use Rattle.std.proofs.Common.{◌≡◌, ℕ, List, [], ◌∷◌, ◌++◌, Option, Some, All, Contains, inl, inr, sym, subst}
+use Rattle.std.proofs.Common.{◌≡◌, ℕ, List, [], ◌∷◌, ◌++◌, Option, Some, All, Contains, inl, inr, sym, subst, arith}
 use Rattle.std.specs.Ordering.{nat_cmp}
 use Rattle.std.specs.FinMap.{FinMap, get}
 use Rattle.std.proofs.lemmas.List.Elements.{All-cons, All-contains, All-nil, Contains-append_cases}
+use Rattle.std.proofs.lemmas.Bool.Decides.{nat_tests}
 use Rattle.paxos_msg.specs.declared.value.Value.{Value}
 use Rattle.paxos_msg.specs.declared.message.Body.TheVariants.{Submit, Tell}
 use Rattle.paxos_msg.specs.Batches.{Body, IsTyped, MaySend, MaySendAll, Msg, Record, Sent}
 use Rattle.paxos_msg.specs.Chosen.{IsChosen}
 use Rattle.paxos_msg.specs.Keys.{Key}
 use Rattle.paxos_msg.specs.Messages.{messages_of}
-use Rattle.paxos_learner.specs.Backed.{MayLearn}
 use Rattle.group_node.specs.Known.{Response}
 use Rattle.group_node.specs.Packets.{bodies_of}
 use Rattle.group_node.specs.Ranges.{IsInRange}
@@ -46,10 +46,7 @@ module _ (sent : Sent) (typed : List Key) (old : Record) (before : FinMap nat_cm
   -- what the node has learned after the call is chosen, if all that Tells have said is
   pub learned_chosen : AllChosen done.node.me.group.size sent → IsInRange done.node → (s : ℕ) (v : Value)
       → get done.node.learner.learned s ≡ Some v → IsChosen done.node.me.group.size sent s v
-  learned_chosen told ranges s v e =
-      let may : MayLearn done.node.me.group.size sent s v =
-      subst (λ (size : ℕ). MayLearn size sent s v) ranges.learner.size (lawful.learns.learned s v e) in
-      elim may [ inl said ↦ told s v said | inr chosen ↦ chosen ]
+  learned_chosen told ranges s v e = grind (arith, nat_tests)
 
   -- so is what Tells have said after it, as what is chosen stays chosen
   pub told_chosen : ((size s : ℕ) (sent more : Sent) (v : Value) → IsChosen size sent s v

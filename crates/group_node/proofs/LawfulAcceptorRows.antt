@@ -1,5 +1,6 @@
 -- The answers of a node's acceptor.
-use Rattle.std.proofs.Common.{◌≡◌, ◌∙◌, ◌↔◌, ℕ, Bool, true, false, List, [], ◌∷◌, Option, Some, None, is_some, IfSome, IsSomeAnd, if◌then◌else◌, inl, inr, refl, ap, arith}
+use Rattle.std.proofs.Common.{◌≡◌, ◌↔◌, ℕ, Bool, true, false, List, [], ◌∷◌, Option, Some, None, is_some, IfSome, IsSomeAnd, if◌then◌else◌, inl, inr, refl, arith}
+use Rattle.std.proofs.lemmas.Bool.Decides.{nat_tests}
 use Rattle.base.proofs.Lists.{all_of_one}
 use Rattle.paxos_msg.specs.declared.ballot.Ballot.{Ballot}
 use Rattle.paxos_msg.specs.declared.record.Change.TheVariants as change
@@ -37,10 +38,7 @@ pub record SavingLaws : Type 0 where
 
 -- two ballots that are at most one another are the same
 both_at_most : (a b : Ballot) → IsAtMost a b → IsAtMost b a → a ≡ b
-both_at_most a b low high =
-    let round : a.round ≡ b.round = grind arith in
-    let node : a.node ≡ b.node = grind arith in
-    λ i. record { round = round i; node = node i }
+both_at_most a b low high = grind (arith, nat_tests)
 
 module _ (laws : SavingLaws) (sent : Sent) (me : ℕ) (r : Record) where
   -- by whether the promised ballot is above the proposer's
@@ -48,9 +46,7 @@ module _ (laws : SavingLaws) (sent : Sent) (me : ℕ) (r : Record) where
       → (t : Bool) → ballot_lt p.ballot q ≡ t
       → IfSome (if is_some (if t then Some q else None) then None else Some p) (IsLeadingBacked sent me r)
   passed_by p q e high h true f = tt
-  passed_by p q e high h false f =
-      let same : q ≡ p.ballot = both_at_most q p.ballot ((laws.not_below p.ballot q).0 f) high in
-      record { backed = h; promised = e ∙ ap (λ (b : Ballot). Some b) same }
+  passed_by p q e high h false f = grind (arith, nat_tests)
 
   -- by the promised ballot
   passed_at : (p : Proposer) (o : Option Ballot) → r.promised ≡ o → IsSomeAnd o (λ q. IsAtMost p.ballot q)

@@ -1,5 +1,6 @@
 -- What a message leaves learned, and the machine that runs on it.
-use Rattle.std.proofs.Common.{◌≡◌, ℕ, Result, Ok, Err, OnOk, OnErr}
+use Rattle.std.proofs.Common.{◌≡◌, ℕ, Result, Ok, Err, OnOk, OnErr, arith}
+use Rattle.std.proofs.lemmas.Bool.Decides.{nat_tests}
 use Rattle.paxos_msg.specs.declared.ballot.Ballot.{Ballot}
 use Rattle.paxos_msg.specs.declared.value.Value.{Value}
 use Rattle.paxos_msg.specs.declared.message.Body.TheVariants.{Promise, Accepted, Submit, Tell}
@@ -10,7 +11,6 @@ use Rattle.group_node.specs.Protocol.{row}
 use Rattle.group_node.specs.Known.{Response, Known}
 use Rattle.group_node.specs.Tick.{on_tick}
 use Rattle.group_node.specs.ProposerRows.{on_campaign}
-use Rattle.group_node.proofs.ByProposer.{by_offer, by_part, by_tick}
 
 -- the laws of a learner that hears
 pub record HeardLaws : Type 0 where
@@ -27,16 +27,15 @@ same n = record { stays = λ s v e. e }
 
 -- each row of the table
 pub row_learns : HeardLaws → (n : Known) (j : ℕ) (body : Body) → LearnsMore n (row n j body)
-row_learns laws n j (Promise b first upto votes) =
-    by_part (LearnsMore n) n n.proposer j first upto b votes (record { more = same n }) (λ p e own. record { more = same n })
+row_learns laws n j (Promise b first upto votes) = grind (arith, nat_tests)
 row_learns laws n j (Accepted b s v) = record { more = laws.accepted n.learner j s b v }
-row_learns laws n j (Submit v) = by_offer (LearnsMore n) n n.proposer v (record { more = same n }) (λ p e. record { more = same n })
+row_learns laws n j (Submit v) = grind (arith, nat_tests)
 row_learns laws n j (Tell s v) = record { more = laws.told n.learner s v }
 row_learns laws n j other = record { more = same n }
 
 -- a tick
 pub tick_learns : (n : Known) → LearnsMore n (on_tick n)
-tick_learns n = by_tick (LearnsMore n) n n.proposer (record { more = same n }) (λ p e. record { more = same n })
+tick_learns n = grind (arith, nat_tests)
 
 -- a campaign
 pub campaign_learns : (n : Known) → LearnsMore n (on_campaign n)

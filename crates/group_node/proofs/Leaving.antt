@@ -1,5 +1,6 @@
 -- Waiting characters that leave from the front, one after another.
 use Rattle.std.proofs.Common.{◌≡◌, ℕ, suc, ◌+◌, List, [], ◌∷◌, drop, slice_get, Some, Bool, true, false, IsTrue, if◌then◌else◌, refl, arith}
+use Rattle.std.proofs.lemmas.Bool.Decides.{nat_tests}
 use Rattle.paxos_msg.specs.Keys.{Key, keys_from}
 use Rattle.paxos_learner.specs.Input.{has_key}
 use Rattle.group_node.specs.WaitingKeys.{count_read}
@@ -22,11 +23,7 @@ pub leaves : {read : List Key} {node start was first byte : ℕ} {all : List ℕ
     → has_key read (record { node = node; start = start; serial = first; byte = byte }) ≡ true
     → IsLeaving read node start was all (first + 1) (drop 1 bytes)
 leaves [] h is e = absurd cc
-leaves {read} {node} {start} {was} {first} {byte} (x ∷ xs) h is e =
-    let same : x ≡ byte = cc in
-    let count = count_by read true _ (keys_from node start (first + 1) xs) (rw (← same) at e) in
-    let s = rw count at h.serial in
-    record { rest = rw count at h.rest; serial = omega (arith, s) }
+leaves {read} {node} {start} {was} {first} {byte} (x ∷ xs) h is e = grind (arith, nat_tests)
 
 -- the first isn't read, and all that are left stay
 pub stay : {read : List Key} {node start was first byte : ℕ} {all : List ℕ} (bytes : List ℕ)
@@ -35,11 +32,7 @@ pub stay : {read : List Key} {node start was first byte : ℕ} {all : List ℕ} 
     → (bytes ≡ drop (count_read read (keys_from node start was all)) all)
     × (first ≡ was + count_read read (keys_from node start was all))
 stay [] h is e = absurd cc
-stay {read} {node} {start} {was} {first} {byte} (x ∷ xs) h is e =
-    let same : x ≡ byte = cc in
-    let count = count_by read false _ (keys_from node start (first + 1) xs) (rw (← same) at e) in
-    let s = rw count at h.serial in
-    (rw count at h.rest, omega (arith, s))
+stay {read} {node} {start} {was} {first} {byte} (x ∷ xs) h is e = grind (arith, nat_tests)
 
 -- a test that doesn't hold
 pub untrue : (t : Bool) → ¬ IsTrue t → t ≡ false

@@ -1,6 +1,7 @@
 -- What other nodes send, and keys that are typed.
-use Rattle.std.proofs.Common.{◌≡◌, ◌≢◌, ◌∙◌, ℕ, List, [], ◌∷◌, ◌++◌, Option, ◌⊎◌, inl, inr, sym, subst}
+use Rattle.std.proofs.Common.{◌≡◌, ◌≢◌, ◌∙◌, ℕ, List, [], ◌∷◌, ◌++◌, Option, ◌⊎◌, inl, inr, sym, subst, arith}
 use Rattle.std.proofs.lemmas.List.Elements.{Contains-append_left}
+use Rattle.std.proofs.lemmas.Bool.Decides.{nat_tests}
 use Rattle.paxos_msg.specs.declared.ballot.Ballot.{Ballot}
 use Rattle.paxos_msg.specs.declared.value.Value.{Value}
 use Rattle.paxos_msg.specs.declared.message.Body.TheVariants.{Accept, Prepare}
@@ -38,10 +39,4 @@ other_quiet size known learned sent me j r body ne may own = record { asked = as
 
 -- a node stays backed when more is typed
 pub typed_later : (sent : Sent) (typed more : List Key) (n : Known) → Backs sent typed n → Backs sent (typed ++ more) n
-typed_later sent typed more n h =
-    record {
-      kept = h.kept;
-      proposer = h.proposer;
-      learner = h.learner;
-      waiting = λ k has. Contains-append_left typed more k (h.waiting k has);
-    }
+typed_later sent typed more n h = grind (arith, nat_tests, Contains-append_left)

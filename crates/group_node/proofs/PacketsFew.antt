@@ -3,22 +3,21 @@ use Rattle.std.proofs.Common.{ℕ, zero, suc, ◌+◌, ◌-◌, ◌≤◌, min, 
 use Rattle.std.specs.Ordering.{nat_cmp}
 use Rattle.std.specs.FinMap.{FinMap}
 use Rattle.std.specs.List.{cons_option, filter_map, range_with_len}
-use Rattle.std.proofs.lemmas.List.{length-append, length-map, length-take}
+use Rattle.std.proofs.lemmas.List.{length-append, length-map}
 use Rattle.std.proofs.lemmas.List.FromFn.{length-range_with_len}
+use Rattle.std.proofs.lemmas.Bool.Decides.{nat_tests}
 use Rattle.paxos_msg.specs.declared.ballot.Ballot.{Ballot}
 use Rattle.paxos_msg.specs.declared.value.Value.{Value}
-use Rattle.paxos_msg.specs.declared.message.Body.TheVariants.{Promise, Accept, Submit, Ask}
+use Rattle.paxos_msg.specs.declared.message.Body.TheVariants.{Promise, Submit, Ask}
 use Rattle.paxos_msg.specs.Batches.{Body, Vote}
-use Rattle.paxos_proposer.specs.Proposer.{proposer_after_part, asks_on, is_covered, next_of, next_value, Proposer, proposing}
-use Rattle.paxos_learner.specs.Learner.{front_of}
+use Rattle.paxos_proposer.specs.Proposer.{next_value, Proposer, proposing}
 use Rattle.group_node.specs.Protocol.{on_message}
 use Rattle.group_node.specs.Known.{front, Known}
 use Rattle.group_node.specs.LearnerRows.{on_ask, tell_packet}
 use Rattle.group_node.specs.ProposerRows.{leaves_room, offer_after, on_promise, on_submit, prepare_from}
-use Rattle.group_node.specs.Tick.{accept_again, accepts_again, asks, asks_again, on_tick, batch_of, prepares_again, submits}
-use Rattle.group_node.specs.Packets.{Packet, to_all}
+use Rattle.group_node.specs.Tick.{accepts_again, asks, on_tick, prepares_again, submits}
 use Rattle.group_node.specs.Pump.{accepts_of, offer, Proposals, propose, pump, stop}
-use Rattle.group_node.specs.Ranges.{IsInRange, IsOwnProposer}
+use Rattle.group_node.specs.Ranges.{IsInRange}
 use Rattle.group_node.proofs.ByProposer.{by_offer, by_part, by_tick}
 
 -- ---- lists
@@ -39,7 +38,7 @@ places_few f a n = omega (arith, filter_map_few f (range_with_len a n), length-r
 
 -- an Accept for each proposal
 accepts_few : (most : ℕ) (votes : List Vote) → length votes ≤ most → length (accepts_of votes) ≤ most
-accepts_few most votes few = omega (arith, length-map votes (λ (vote : Vote). to_all (Accept vote.ballot vote.place vote.value)))
+accepts_few most votes few = grind (arith, nat_tests, length-map)
 
 -- two lists
 both_few : {X : Type 0} (a b : ℕ) (xs ys : List X) → length xs ≤ a → length ys ≤ b → length (xs ++ ys) ≤ a + b
@@ -85,16 +84,11 @@ prepare_few b j (Some s) = omega arith
 
 -- a Promise
 promise_few : (n : Known) (j : ℕ) (b : Ballot) (first upto : ℕ) (votes : List Vote) → length (on_promise n j b first upto votes).sends ≤ 17
-promise_few n j b first upto votes = by_part (λ done. length done.sends ≤ 17) n n.proposer j first upto b votes (omega arith) (λ p e own.
-    let next : Proposer = proposer_after_part p j first upto votes in
-    let before : List Packet = prepare_from b j (asks_on p j first upto) in
-    both_few 1 16 before (accepts_of (pump 16 next).made) (prepare_few b j (asks_on p j first upto)) (pumped_few next))
+promise_few n j b first upto votes = grind (arith, nat_tests, by_part, both_few, prepare_few, pumped_few)
 
 -- a Submit
 submit_few : (n : Known) (v : Value) → length (on_submit n v).sends ≤ 17
-submit_few n v = by_offer (λ done. length done.sends ≤ 17) n n.proposer v (omega arith) (λ p e.
-    let made : List Vote = (offer_after (pump 16 p) v).made in
-    both_few 16 1 (accepts_of (pump 16 p).made) (accepts_of made) (pumped_few p) (accepts_few 1 made (offer_few (pump 16 p) v)))
+submit_few n v = grind (arith, nat_tests, by_offer, both_few, pumped_few, accepts_few, offer_few)
 
 -- a message of any kind
 pub message_few : (n : Known) (j : ℕ) (body : Body) → length (on_message n j body).sends ≤ 17
@@ -112,18 +106,11 @@ if_few most false xs few = few
 
 -- a Prepare for each node at most
 prepares_few : (p : Proposer) → p.size ≤ 9 → length (prepares_again p) ≤ 9
-prepares_few p small =
-    let packets : List Packet = filter_map (asks_again p) (range_with_len 1 p.size) in
-    if_few 9 (is_covered p 65535) packets (omega (arith, places_few (asks_again p) 1 p.size))
+prepares_few p small = grind (arith, nat_tests, if_few, places_few)
 
 -- the Accepts that are sent again
 again_few : (learned : FinMap nat_cmp Value) (p : Proposer) → length (accepts_again learned p) ≤ 16
-again_few learned p =
-    omega (
-      arith,
-      length-take 16
-          (filter_map (accept_again learned p) (range_with_len (front_of learned) (next_of p - front_of learned))),
-    )
+again_few learned p = grind (arith, nat_tests)
 
 -- one Submit at most
 submits_few : (o : Option Value) → length (submits o) ≤ 1
@@ -132,13 +119,8 @@ submits_few (Some v) = omega arith
 
 -- it, and the Ask
 asks_few : (n : Known) → length (asks n) ≤ 2
-asks_few n = both_few 1 1 (submits (batch_of n n.waiting)) (to_all (Ask (front n)) ∷ []) (submits_few (batch_of n n.waiting)) (omega arith)
+asks_few n = grind (arith, nat_tests)
 
 -- a tick
 pub tick_few : (n : Known) → IsInRange n → length (on_tick n).sends ≤ 43
-tick_few n h = by_tick (λ done. length done.sends ≤ 43) n n.proposer (omega (arith, asks_few n)) (λ p e.
-    let own : IsOwnProposer n.me p = rw e at h.proposer in
-    let small : p.size ≤ 9 = omega (arith, own.size, h.me.few) in
-    both_few 25 18 (prepares_again p ++ accepts_again n.learner.learned p) (accepts_of (pump 16 p).made ++ asks n)
-    (both_few 9 16 (prepares_again p) (accepts_again n.learner.learned p) (prepares_few p small) (again_few n.learner.learned p))
-    (both_few 16 2 (accepts_of (pump 16 p).made) (asks n) (pumped_few p) (asks_few n)))
+tick_few n h = grind (arith, nat_tests, by_tick, asks_few, both_few, prepares_few, again_few, pumped_few)

@@ -1,13 +1,14 @@
 -- Packets of a node in its ranges have a spelling, each by itself.
-use Rattle.std.proofs.Common.{◌≡◌, ℕ, ◌+◌, ◌<◌, ◌≤◌, List, [], ◌∷◌, ap, refl, sym, length, take, Some, inl, inr, subst, arith}
+use Rattle.std.proofs.Common.{◌≡◌, ℕ, ◌+◌, ◌<◌, ◌≤◌, List, [], ◌∷◌, ap, refl, sym, length, take, Some, subst, arith}
 use Rattle.std.proofs.lemmas.Bool.{cases_lt}
 use Rattle.std.proofs.lemmas.List.{get_or-take, get_or_past, length-take}
 use Rattle.std.specs.Ordering.{nat_cmp}
 use Rattle.std.specs.FinMap.{FinMap, get}
+use Rattle.std.proofs.lemmas.Bool.Decides.{nat_tests}
 use Rattle.paxos_msg.specs.declared.value.Value.{Value}
 use Rattle.paxos_msg.specs.declared.value.Value.TheVariants.{Keys}
 use Rattle.paxos_msg.specs.declared.message.Body.TheVariants.{Ask, Submit, Tell}
-use Rattle.paxos_msg.specs.Fits.{IsBody, IsValue}
+use Rattle.paxos_msg.specs.Fits.{IsBody}
 use Rattle.paxos_msg.specs.Grammar.{AreBytes}
 use Rattle.paxos_msg.specs.Keys.{AreOwnKeys, batches, keys_from}
 use Rattle.paxos_learner.specs.Learner.{AreInWindow, front_of}
@@ -18,11 +19,7 @@ use Rattle.group_node.proofs.WaitingKeys.{batch_typed}
 
 -- the first bytes are bytes
 pub take_bytes : (n : ℕ) (bytes : List ℕ) → AreBytes bytes → AreBytes (take n bytes)
-take_bytes n bytes h i =
-    elim (cases_lt i n) [
-      | inl low ↦ rw (get_or-take n bytes i 0 low) (h i)
-      | inr high ↦ let few = length-take n bytes in rw (get_or_past (take n bytes) i 0 (omega arith)) (omega arith)
-    ]
+take_bytes n bytes h i = grind (arith, nat_tests, cases_lt, get_or-take, length-take, get_or_past)
 
 -- the keys of a node's batch are its own
 own_keys : (node start serial x : ℕ) (xs : List ℕ) → AreOwnKeys batches node (Keys node start serial (x ∷ xs))
@@ -57,7 +54,7 @@ module _ (n : Known) (h : IsInRange n) where
 
   -- the Tell of what is learned
   pub tell_fits : (s : ℕ) (v : Value) → get n.learner.learned s ≡ Some v → IsBody n.me.group.size n.me.node (Tell s v)
-  tell_fits s v e = (h.learner.window.place s v e, subst (λ (size : ℕ). IsValue size v) h.learner.size (h.learner.ranges.learned s v e))
+  tell_fits s v e = grind (arith, nat_tests)
 
   -- the Ask from the front
   pub ask_fits : ((learned : FinMap nat_cmp Value) → AreInWindow learned → front_of learned ≤ 65536)

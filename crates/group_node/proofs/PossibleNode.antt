@@ -1,8 +1,9 @@
 -- A node that leads, with a key that waits and was offered, a kept vote and a tally.
-use Rattle.std.proofs.Common.{◌≡◌, ◌∙◌, ℕ, zero, suc, ◌<◌, ◌≤◌, inl, inr, List, [], ◌∷◌, ◌++◌, length, Option, None, Some, All, IfSome, IsSome, IsSomeAnd, IsTrue, refl, sym, subst, arith}
-use Rattle.std.proofs.lemmas.List.Elements.{All-cons, All-contains, All-nil, Contains-append_left}
+use Rattle.std.proofs.Common.{◌≡◌, ◌∙◌, ℕ, zero, suc, ◌<◌, ◌≤◌, inr, List, [], ◌∷◌, ◌++◌, length, Option, None, Some, All, IfSome, IsSome, IsSomeAnd, IsTrue, refl, sym, subst, arith}
+use Rattle.std.proofs.lemmas.List.Elements.{All-cons, All-nil}
 use Rattle.std.specs.FinMap.{empty, entries, get, get-empty, insert, len-empty, len-entries}
 use Rattle.std.specs.Ordering.{nat_cmp}
+use Rattle.std.proofs.lemmas.Bool.Decides.{nat_tests}
 use Rattle.paxos_msg.specs.declared.ballot.Ballot.{Ballot}
 use Rattle.paxos_msg.specs.declared.value.Value.{Value}
 use Rattle.paxos_msg.specs.declared.value.Value.TheVariants.{Keys, Noop}
@@ -23,7 +24,6 @@ use Rattle.paxos_learner.proofs.OnePlace.{get_here}
 use Rattle.group_node.specs.Backs.{Backs, HasPromised}
 use Rattle.group_node.specs.Known.{Known}
 use Rattle.group_node.specs.Ranges.{IsInRange}
-use Rattle.group_node.proofs.NodeBackedAsMoreIsSent.{said_push}
 
 -- ---- the group, and what was sent in it
 
@@ -150,20 +150,17 @@ all_of P (m ∷ ms) each = All-cons P m ms each.0 (all_of P ms each.1)
 
 -- before the proposal nothing was proposed
 unsaid : (s : ℕ) (v : Value) → IsSaid asked (Accept b s v) → ⊥
-unsaid s v (i, h) =
-    let P : Msg → Type 0 = λ m. IsNoProposal m.body in
-    let all : All P asked = all_of P asked (tt, (tt, (tt, (tt, tt)))) in
-    All-contains P asked (record { sender = i; body = Accept b s v }) all h
+unsaid s v (i, h) = grind (arith, nat_tests)
 
 -- all was asked and proposed under the one ballot
 all_under : All (λ (m : Msg). IsUnder m.body) sent
 all_under = all_of (λ (m : Msg). IsUnder m.body) sent (refl, (tt, (tt, (tt, (refl, (tt, tt))))))
 
 asked_under : (c : Ballot) (from : ℕ) → IsSaid sent (Prepare c from) → c ≡ b
-asked_under c from (i, h) = All-contains (λ (m : Msg). IsUnder m.body) sent (record { sender = i; body = Prepare c from }) all_under h
+asked_under c from (i, h) = grind (arith, nat_tests)
 
 proposed_under : (c : Ballot) (s : ℕ) (v : Value) → IsSaid sent (Accept c s v) → c ≡ b
-proposed_under c s v (i, h) = All-contains (λ (m : Msg). IsUnder m.body) sent (record { sender = i; body = Accept c s v }) all_under h
+proposed_under c s v (i, h) = grind (arith, nat_tests)
 
 -- the record has promised it
 is_promised : (c : Ballot) → c ≡ b → HasPromised n.kept c
@@ -171,12 +168,7 @@ is_promised c e = rw e (inr (refl, omega arith))
 
 -- what came after the proposal proposes nothing
 quiet : IsQuietUnder b proposed sent
-quiet = record {
-  stays =
-      λ i body h. Contains-append_left proposed (record { sender = 2; body = Accepted b 0 batch } ∷ [])
-      (record { sender = i; body = body }) h;
-  quiet = λ s v said. elim (said_push proposed 2 (Accepted b 0 batch) (Accept b s v) said) [ inl old ↦ old | inr e ↦ absurd cc ];
-}
+quiet = grind (arith, nat_tests)
 
 -- ---- what its learner hears
 
@@ -206,29 +198,13 @@ one_byte zero = omega arith
 one_byte (suc i) = omega arith
 
 batch_fits : IsValue 3 batch
-batch_fits = ((omega arith, omega arith), (omega arith, omega arith), (omega arith, omega arith, omega arith, omega arith, one_byte))
+batch_fits = grind (arith, nat_tests)
 
 part_body : (j : ℕ) → IsBody 3 j (Promise b 0 65536 [])
 part_body j = (ballot_fits, omega arith, omega arith, omega arith, omega arith, tt)
 
 vote_body : IsBody 3 3 (Promise b 0 65536 (vote ∷ []))
-vote_body = (
-  ballot_fits,
-  omega arith,
-  omega arith,
-  omega arith,
-  omega arith,
-  (
-    record {
-      from_low = omega arith;
-      below_upto = omega arith;
-      ballot = ((omega arith, omega arith), (omega arith, omega arith));
-      not_above = inl (omega arith);
-      value = tt;
-    },
-    tt,
-  ),
-)
+vote_body = grind (arith, nat_tests)
 
 module _ (laws : FirstLaws) where
   -- ---- the proposer
@@ -249,11 +225,7 @@ module _ (laws : FirstLaws) where
       (laws.hears proposed 1 3 0 65536 p_3 (vote ∷ []) p_3_backed (omega arith) vote_body (3, omega arith, refl))
 
   p_3_fits : IsProposerInRange p_3
-  p_3_fits =
-      laws.proposal_fits p_2 (Some batch)
-      (laws.part_fits 2 0 65536 p_1 []
-      (laws.part_fits 1 0 65536 (new_proposer b 0 3) [] (laws.begins_fit b 0 3 ballot_fits (omega arith)) (part_body 1))
-      (part_body 2)) batch_fits
+  p_3_fits = grind (arith, nat_tests)
 
   -- ---- the node
 

@@ -1,14 +1,14 @@
 -- What a node's proposer proposes has a spelling, and the proposer stays in its ranges.
-use Rattle.std.proofs.Common.{◌≡◌, ◌∙◌, ℕ, zero, suc, ◌<◌, nat_lt, Bool, true, false, ◌&&◌, if◌then◌else◌, List, Option, Some, None, IfSome, refl, sym, subst, arith}
-use Rattle.std.proofs.lemmas.Bool.{and_parts, ltb-true}
+use Rattle.std.proofs.Common.{◌≡◌, ℕ, zero, suc, ◌<◌, Bool, true, false, if◌then◌else◌, List, Option, Some, None, IfSome, refl, sym, subst, arith}
 use Rattle.std.proofs.lemmas.List.Elements.{All-cons, All-nil}
+use Rattle.std.proofs.lemmas.Bool.Decides.{nat_tests}
 use Rattle.paxos_msg.specs.declared.ballot.Ballot.{Ballot}
 use Rattle.paxos_msg.specs.declared.value.Value.{Value}
 use Rattle.paxos_msg.specs.declared.message.Body.TheVariants.{Prepare, Promise, Accept}
 use Rattle.paxos_msg.specs.Batches.{Body, Vote}
 use Rattle.paxos_msg.specs.Fits.{IsBallot, IsBody, IsValue}
 use Rattle.paxos_acceptor.specs.declared.me.Me.{Me}
-use Rattle.paxos_proposer.specs.Proposer.{proposer_after_part, asks_after, asks_on, IsPromisePart, next_of, next_value, heard_promise, proposed_at, Proposer, proposing, rises}
+use Rattle.paxos_proposer.specs.Proposer.{proposer_after_part, asks_after, asks_on, IsPromisePart, next_of, next_value, heard_promise, proposed_at, Proposer, proposing}
 use Rattle.paxos_proposer.specs.States.{IsProposerInRange as IsProposerInRange}
 use Rattle.group_node.specs.ProposerRows.{leaves_room, offer_after}
 use Rattle.group_node.specs.Packets.{Packet, to_all}
@@ -42,7 +42,7 @@ pub record PartLaws : Type 0 where
 module _ (me : Me) (p : Proposer) (h : IsOwnProposer me p) where
   -- its messages are the node's
   pub own_body : (body : Body) → IsBody p.size p.ballot.node body → IsBody me.group.size me.node body
-  own_body body fits = subst (λ (size : ℕ). IsBody size me.node body) h.size (subst (λ (i : ℕ). IsBody p.size i body) h.own fits)
+  own_body body fits = grind (arith, nat_tests)
 
   -- its ballot is one of the node's group
   pub own_ballot : IsBallot me.group.size p.ballot
@@ -60,9 +60,7 @@ module _ (me : Me) (p : Proposer) (h : IsOwnProposer me p) where
 
   -- the Prepare after a part
   pub asks_on_fits : (j first upto s : ℕ) → asks_on p j first upto ≡ Some s → IsBody me.group.size me.node (Prepare p.ballot s)
-  asks_on_fits j first upto s e =
-      asks_if upto s (rises p j first upto && nat_lt upto 65536)
-      (λ t. ltb-true upto 65536 (and_parts (rises p j first upto) (nat_lt upto 65536) t).1) e
+  asks_on_fits j first upto s e = grind (arith, nat_tests)
 
   -- the same of any body; only a part asks on
   pub asks_after_fits : (j s : ℕ) (body : Body) → asks_after p j body ≡ Some s → IsBody me.group.size me.node (Prepare p.ballot s)
@@ -73,22 +71,12 @@ module _ (me : Me) (p : Proposer) (h : IsOwnProposer me p) where
   pub part_own : PartLaws → (j first upto : ℕ) (votes : List Vote)
       → IsBody me.group.size j (Promise p.ballot first upto votes)
       → IsOwnProposer me (proposer_after_part p j first upto votes)
-  part_own laws j first upto votes fits =
-      let (ballot, size) = laws.stays p j (Promise p.ballot first upto votes) in
-      record {
-        size = size ∙ h.size;
-        own = subst (λ (b : Ballot). b.node ≡ me.node) (sym ballot) h.own;
-        ranges =
-            laws.parts j first upto p votes h.ranges
-            (subst (λ (size : ℕ). IsBody size j (Promise p.ballot first upto votes)) (sym h.size) fits);
-      }
+  part_own laws j first upto votes fits = grind (arith, nat_tests)
 
   -- the same of any body; only a part changes it
   pub heard_own : PartLaws → (j : ℕ) (body : Body) → IsPromisePart p.ballot body → IsHeardFit me j body
       → IsOwnProposer me (heard_promise p j body)
-  heard_own laws j (Promise b first upto votes) part heard =
-      part_own laws j first upto votes
-      (subst (λ (c : Ballot). IsBody me.group.size j (Promise c first upto votes)) part heard.1)
+  heard_own laws j (Promise b first upto votes) part heard = grind (arith, nat_tests)
   heard_own laws j other part heard = h
 
   -- what is offered is in the ranges of the proposer's group
@@ -107,11 +95,7 @@ module _ (me : Me) (p : Proposer) (h : IsOwnProposer me p) where
 
     -- it is the node's own still after its proposal
     pub next_own : (offered : Option Value) → IfSome offered (IsValue me.group.size) → IsOwnProposer me (proposing p (next_value p offered))
-    next_own offered free = record {
-      size = kept_by p (next_value p offered) (λ ballot size. size ≡ me.group.size) h.size;
-      own = kept_by p (next_value p offered) (λ ballot size. ballot.node ≡ me.node) h.own;
-      ranges = laws.proposes p offered h.ranges (offered_fits offered free);
-    }
+    next_own offered free = grind (arith, nat_tests)
 
 module _ (laws : AcceptLaws) (me : Me) where
   -- the packet of a node has a spelling

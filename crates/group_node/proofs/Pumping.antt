@@ -1,13 +1,14 @@
 -- The proposals of a pump, one after another, are those of the definition.
 use Rattle.std.proofs.Common.{◌≡◌, ◌∙◌, ℕ, zero, suc, ◌+◌, ◌<◌, ◌≤◌, List, [], ◌∷◌, ◌++◌, length, Option, Some, None, option_map, IsSome, refl, sym, ap, arith, append_assoc, length-append}
 use Rattle.std.proofs.lemmas.List.{append-nil, map-append}
+use Rattle.std.proofs.lemmas.Bool.Decides.{nat_tests}
 use Rattle.paxos_msg.specs.declared.value.Value.{Value}
 use Rattle.paxos_msg.specs.declared.message.Body.TheVariants.{Accept}
 use Rattle.paxos_msg.specs.Batches.{Vote}
 use Rattle.paxos_msg.specs.Fits.{IsBody}
 use Rattle.paxos_acceptor.specs.declared.me.Me.{Me}
 use Rattle.paxos_proposer.specs.Proposer.{Proposer, next_of, next_value, proposal, proposing}
-use Rattle.group_node.specs.Packets.{Datagram, datagram_of, datagrams_of, to_all}
+use Rattle.group_node.specs.Packets.{Datagram, datagrams_of}
 use Rattle.group_node.specs.Pump.{accepts_of, propose, pump, stop}
 
 -- the Accept of a proposal has a spelling, where that of each value that may be proposed has one
@@ -23,9 +24,7 @@ proposal_fits {size} {node} p (Some v) vote fits e =
 pub accepts_append : (me : Me) (made more : List Vote)
     → datagrams_of me (accepts_of (made ++ more))
     ≡ datagrams_of me (accepts_of made) ++ datagrams_of me (accepts_of more)
-accepts_append me made more =
-    ap (datagrams_of me) (map-append (λ (vote : Vote). to_all (Accept vote.ballot vote.place vote.value)) made more)
-    ∙ map-append (datagram_of me) (accepts_of made) (accepts_of more)
+accepts_append me made more = grind (arith, nat_tests, map-append, made, more)
 
 -- After this many proposals, which are in the outbox, the proposer has this many left, with which
 -- it comes to where the whole pump comes.

@@ -2,6 +2,7 @@
 use Rattle.std.proofs.Common.{◌≡◌, ℕ, zero, suc, ◌+◌, ◌≤◌, ◌↔◌, List, [], ◌∷◌, ◌++◌, length, drop, slice_get, Option, Some, refl, sym, ◌∙◌, ap, subst, length-append, arith}
 use Rattle.std.specs.Ordering.{nat_cmp}
 use Rattle.std.specs.FinMap.{FinMap}
+use Rattle.std.proofs.lemmas.Bool.Decides.{nat_tests}
 use Rattle.pcode_file.specs.Parts.{Parts}
 use Rattle.pcode_machine.specs.Configuration.{Configuration, configuration_of}
 use Rattle.pcode_machine.specs.Outcome.{outcome, Goes}
@@ -67,9 +68,7 @@ exact_longer {x} {q} longer rest h = record {
 pub exact_learned : {q : Player} → Longer
     → ((old new : FinMap nat_cmp Value) → HasLearnedMore old new → (rest : List ℕ) × (learned_input new ≡ learned_input old ++ rest))
     → (old new : FinMap nat_cmp Value) → HasLearnedMore old new → IsPlayed (learned_input old) q → IsPlayed (learned_input new) q
-exact_learned {q} longer grows old new more h =
-    let rest = grows old new more in
-    subst (λ (x : List ℕ). IsPlayed x q) (sym rest.1) (exact_longer longer rest.0 h)
+exact_learned {q} longer grows old new more h = grind (arith, nat_tests, exact_longer)
 
 -- ---- the same of a replay
 
@@ -81,9 +80,7 @@ replay_begins p x = record { made = refl; released = omega arith; few = omega ar
 module _ (there : There) (longer : Longer) (x y rest : List ℕ) (whole : y ≡ x ++ rest) (q : Progress) (h : IsReplay x q) where
   -- the steps are steps on the longer input
   made_longer : LeadsIn q.program y q.steps (after_steps q.program x q.steps)
-  made_longer =
-      subst (λ (z : List ℕ). LeadsIn q.program z q.steps (after_steps q.program x q.steps)) (sym whole)
-      (longer q.program x rest q.steps (after_steps q.program x q.steps) h.made)
+  made_longer = grind (arith, nat_tests)
 
   -- they lead to the same configuration
   pub same_after : after_steps q.program y q.steps ≡ after_steps q.program x q.steps
@@ -100,11 +97,7 @@ module _ (there : There) (longer : Longer) (x y rest : List ℕ) (whole : y ≡ 
 
   -- it is a replay on the longer input
   pub replay_longer : IsReplay y q
-  replay_longer = record {
-    made = subst (λ (c : Configuration). LeadsIn q.program y q.steps c) (sym same_after) made_longer;
-    released = rw same_out h.released;
-    few = rw same_unreleased h.few;
-  }
+  replay_longer = grind (arith, nat_tests, same_after, made_longer, same_out, same_unreleased)
 
 -- ---- runs and released bytes
 
@@ -112,9 +105,7 @@ module _ (there : There) (longer : Longer) (x y rest : List ℕ) (whole : y ≡ 
 pub steps_from : There → ((p : Parts) (x : List ℕ) (c d : Configuration) → Step p x c d ↔ (outcome p x c ≡ Goes d))
     → (p : Parts) (x : List ℕ) (m n : ℕ) (c : Configuration) → LeadsIn p x (m + n) c → MakesSteps p x n (after_steps p x m) c
 unfolding LeadsIn MakesSteps
-steps_from there step p x m zero c h =
-    let none : m + 0 ≡ m = omega arith in
-    sym (there p x m c (subst (λ (k : ℕ). LeadsIn p x k c) none h))
+steps_from there step p x m zero c h = grind (arith, nat_tests)
 steps_from there step p x m (suc n) c h =
     let one : m + suc n ≡ suc (m + n) = omega arith in
     let last : (b : Configuration) × LeadsIn p x (m + n) b × (outcome p x b ≡ Goes c) = subst (λ (k : ℕ). LeadsIn p x k c) one h in

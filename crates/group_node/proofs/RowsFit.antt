@@ -1,9 +1,9 @@
 -- A node after a message that has a spelling: it stays in its ranges, and what it sends has a
 -- spelling.
-use Rattle.std.proofs.Common.{◌≡◌, ◌∙◌, ◌↔◌, ℕ, suc, ◌+◌, ◌≤◌, Bool, true, false, if◌then◌else◌, List, [], ◌∷◌, length, drop, Option, Some, None, is_some, IfSome, refl, sym, subst, arith}
+use Rattle.std.proofs.Common.{◌≡◌, ◌↔◌, ℕ, suc, ◌+◌, ◌≤◌, Bool, true, false, if◌then◌else◌, List, [], ◌∷◌, length, drop, Option, Some, None, is_some, IfSome, refl, sym, subst, arith}
 use Rattle.std.proofs.lemmas.List.{get_or-drop, length-drop}
-use Rattle.std.proofs.lemmas.List.Elements.{All-append, All-nil}
-use Rattle.base.proofs.Lists.{all_of_one}
+use Rattle.std.proofs.lemmas.List.Elements.{All-append}
+use Rattle.std.proofs.lemmas.Bool.Decides.{nat_tests}
 use Rattle.paxos_msg.specs.declared.ballot.Ballot.{Ballot}
 use Rattle.paxos_msg.specs.declared.value.Value.{Value}
 use Rattle.paxos_msg.specs.declared.record.Change.TheVariants as change
@@ -19,11 +19,11 @@ use Rattle.paxos_acceptor.specs.Cases.{greater_promise}
 use Rattle.paxos_acceptor.specs.Records.{IsRecord}
 use Rattle.paxos_proposer.specs.Proposer.{proposer_after_part, asks_on, Proposer}
 use Rattle.paxos_learner.specs.Learner.{AreInWindow, IsLearnerInRange as IsLearnerInRange, Learner, heard_accepted, heard_tell}
-use Rattle.paxos_learner.specs.Input.{front_values, has_key, keys_in_order}
+use Rattle.paxos_learner.specs.Input.{has_key}
 use Rattle.group_node.specs.declared.packet.To.{To}
 use Rattle.group_node.specs.Protocol.{without_read_keys}
 use Rattle.group_node.specs.AcceptorRows.{accept_answered_to, answering, on_accept, on_prepare, unless_passed}
-use Rattle.group_node.specs.Known.{Response, Known, quiet, waiting_keys}
+use Rattle.group_node.specs.Known.{Response, Known, quiet}
 use Rattle.group_node.specs.LearnerRows.{on_accepted, on_ask, on_tell}
 use Rattle.group_node.specs.ProposerRows.{on_promise, on_submit, offer_after, prepare_from, proposing_on, on_refused, unless_refused}
 use Rattle.group_node.specs.WaitingKeys.{count_read, count_gone, without_read}
@@ -98,19 +98,12 @@ drop_bytes n bytes h i = rw (get_or-drop n bytes i 0) (h (n + i))
 
 -- characters that wait are in their ranges when some have left from the front
 waiting_less : (first k : ℕ) (bytes : List ℕ) → k ≤ length bytes → IsWaiting first bytes → IsWaiting (first + k) (drop k bytes)
-waiting_less first k bytes low h =
-    let left = length-drop k bytes in
-    let some = h.some in
-    let fits = h.fits in
-    let few = h.few in
-    record { some = omega arith; fits = omega arith; few = omega arith; characters = drop_bytes k bytes h.characters }
+waiting_less first k bytes low h = grind (arith, nat_tests, length-drop, drop_bytes)
 
 module _ (n : Known) (h : IsInRange n) where
   -- no more leave than wait
   gone_few : count_gone n ≤ length n.waiting
-  gone_few =
-      let few : count_gone n ≤ length (waiting_keys n) = count_few (keys_in_order (front_values n.learner.learned)) (waiting_keys n) in
-      omega (arith, keys_many n.me.node n.kept.starts n.first n.waiting)
+  gone_few = grind (arith, nat_tests, count_few, keys_many)
 
   -- keys that leave keep the node in its ranges
   pub gone_fits : IsInRange (without_read n)
@@ -125,7 +118,7 @@ module _ (n : Known) (h : IsInRange n) where
 
 -- a call that sends nothing
 pub quiet_fits : (n : Known) → IsInRange n → IsFit n.me (quiet n)
-quiet_fits n h = record { same = refl; ranges = h; sends = All-nil (λ (packet : Packet). IsBody n.me.group.size n.me.node packet.body) }
+quiet_fits n h = grind (arith, nat_tests)
 
 -- and change nothing else
 pub settled_fits : (me : Me) (done : Response) → IsFit me done → IsFit me (without_read_keys done)
@@ -139,7 +132,7 @@ module _ (n : Known) (h : IsInRange n) where
   -- the node with another own proposer and learner, whatever it remembers and has offered
   pub led_range : {o : Option Proposer} {l : Learner} {remembered : Option Ballot} {offered : List Key} → IfSome o (IsOwnProposer n.me)
       → IsOwnLearner n.me l → IsInRange (record n { proposer = o; learner = l; remembered = remembered; offered = offered })
-  led_range own learner = record { me = h.me; kept = h.kept; counted = h.counted; proposer = own; learner = learner; waiting = h.waiting }
+  led_range own learner = grind (arith, nat_tests)
 
   -- ---- Prepare and Accept
 
@@ -147,18 +140,7 @@ module _ (n : Known) (h : IsInRange n) where
   answering_fits : (to : To) (answer : Answer) → IsRecord n.me.group.size (after n.kept answer.saves)
       → (after n.kept answer.saves).starts ≡ n.kept.starts → IsBody n.me.group.size n.me.node answer.says
       → IsFit n.me (answering n to answer)
-  answering_fits to answer kept starts says = record {
-    same = refl;
-    ranges = record {
-      me = h.me;
-      kept = kept;
-      counted = rw starts h.counted;
-      proposer = passed_own (IsOwnProposer n.me) (after n.kept answer.saves).promised n.proposer h.proposer;
-      learner = h.learner;
-      waiting = h.waiting;
-    };
-    sends = all_of_one IsPacketFit (record { to = to; body = answer.says }) says;
-  }
+  answering_fits to answer kept starts says = grind (arith, nat_tests)
 
   -- a Prepare
   pub prepare_fits : AnswerLaws → (j from : ℕ) (b : Ballot) → IsHeardFit n.me j (Prepare b from) → IsFit n.me (on_prepare n b from)
@@ -190,26 +172,15 @@ module _ (n : Known) (h : IsInRange n) where
   -- an Accepted
   pub accepted_fits : HearingLaws → (j s : ℕ) (b : Ballot) (v : Value) → IsHeardFit n.me j (Accepted b s v)
       → IsFit n.me (on_accepted n j b s v)
-  accepted_fits laws j s b v (some, (ballot, place, value)) =
-      learned_fits (heard_accepted n.learner j b s v).learner (record {
-        size = laws.accepted_size n.learner j s b v ∙ h.learner.size;
-        ranges = laws.accepted_fits n.learner j s b v (heard_value v value) h.learner.ranges;
-        window = laws.accepted_near n.learner j s b v place h.learner.window;
-      })
+  accepted_fits laws j s b v (some, (ballot, place, value)) = grind (arith, nat_tests)
 
   -- a Tell
   pub told_fits : HearingLaws → (j s : ℕ) (v : Value) → IsHeardFit n.me j (Tell s v) → IsFit n.me (on_tell n s v)
-  told_fits laws j s v (some, (place, value)) =
-      learned_fits (heard_tell n.learner s v).learner (record {
-        size = laws.told_size n.learner s v ∙ h.learner.size;
-        ranges = laws.told_fits n.learner s v (heard_value v value) h.learner.ranges;
-        window = laws.told_near n.learner s v place h.learner.window;
-      })
+  told_fits laws j s v (some, (place, value)) = grind (arith, nat_tests)
 
   -- a Refused
   pub refused_fits : (b promised : Ballot) → IsFit n.me (on_refused n b promised)
-  refused_fits b promised =
-      quiet_fits (on_refused n b promised).node (led_range (refused_own (IsOwnProposer n.me) b n.proposer h.proposer) h.learner)
+  refused_fits b promised = grind (arith, nat_tests)
 
   -- ---- Ask
 

@@ -1,6 +1,7 @@
 -- A run of the machine, up to where it is over.
-use Rattle.std.proofs.Common.{◌≡◌, ℕ, ◌+◌, ◌-◌, ◌<◌, ◌≤◌, List, length, drop, Some, None, sym, ◌∙◌, ap, subst, arith}
+use Rattle.std.proofs.Common.{◌≡◌, ℕ, ◌+◌, ◌-◌, ◌<◌, ◌≤◌, List, length, drop, Some, None, sym, ◌∙◌, ap, arith}
 use Rattle.std.proofs.lemmas.List.{length-drop}
+use Rattle.std.proofs.lemmas.Bool.Decides.{nat_tests}
 use Rattle.pcode_file.specs.Parts.{Parts}
 use Rattle.pcode_machine.specs.Runs.{IsPrefix, out}
 use Rattle.group_node.specs.declared.player.Player.{Player}
@@ -32,10 +33,7 @@ room_before {x} {q} laws h room n low =
 room_from : {x : List ℕ} {q : Player} (old : Player) → Laws → IsPlayed x q → length q.unreleased.items < 256
     → q.machine.program ≡ old.machine.program → q.released ≡ old.released
     → (n : ℕ) → n ≤ q.steps → length (unreleased_of x (record (progress_of old) { steps = n })) < 256
-room_from {x} {q} old laws h room program released n low =
-    let P : Parts → Type 0 = λ p. length (drop q.released (out p x n)) < 256 in
-    let Q : ℕ → Type 0 = λ k. length (drop k (out old.machine.program x n)) < 256 in
-    subst Q released (subst P program (room_before laws h room n low))
+room_from {x} {q} old laws h room program released n low = grind (arith, nat_tests, room_before)
 
 -- ---- steps of a run
 
@@ -73,12 +71,7 @@ run_turns {x} {most} {left} {old} {now} {new} laws r room exact program released
 -- a run that is over for this reason
 over_by : {x : List ℕ} {left : ℕ} {old now : Player} (steps : ℕ) (why : Ran) → RanSoFar x (most_of old.steps steps) left old now
     → IsOver x (most_of old.steps steps) (progress_of now) why → RunsOn x steps (progress_of old) (progress_of now) why
-over_by {x} {left} {old} {now} steps why r over = record {
-  rest = λ i. record { program = r.program i; steps = now.steps; released = r.released i };
-  more = r.more;
-  room = r.room;
-  over = over;
-}
+over_by {x} {left} {old} {now} steps why r over = grind (arith, nat_tests)
 
 -- the steps are spent
 pub run_spent : {x : List ℕ} {old now : Player} (steps left : ℕ) → left ≡ 0 → RanSoFar x (most_of old.steps steps) left old now

@@ -1,7 +1,8 @@
 -- The keys of characters that wait.
-use Rattle.std.proofs.Common.{◌≡◌, ◌↔◌, IsTrue, Bool, true, false, if◌then◌else◌, ℕ, zero, suc, ◌+◌, List, [], ◌∷◌, ◌++◌, length, take, drop, All, Contains, refl, sym, arith, subst, add-zero, ◌∙◌, Some, None}
+use Rattle.std.proofs.Common.{◌≡◌, ◌↔◌, IsTrue, Bool, true, false, if◌then◌else◌, ℕ, zero, suc, ◌+◌, List, [], ◌∷◌, ◌++◌, length, take, drop, All, Contains, refl, sym, arith, subst, add-zero, Some, None}
 use Rattle.std.proofs.lemmas.List.{take-append-drop}
 use Rattle.std.proofs.lemmas.List.Elements.{All-nil, All-cons, All-contains, Contains-append_left, Contains-append_right}
+use Rattle.std.proofs.lemmas.Bool.Decides.{nat_tests}
 use Rattle.paxos_msg.specs.declared.value.Value.{Value}
 use Rattle.paxos_msg.specs.declared.value.Value.TheVariants.{Keys}
 use Rattle.paxos_msg.specs.Batches.{IsTyped}
@@ -25,9 +26,7 @@ keys_from-append node start serial (x ∷ xs) ys =
 -- each is of the node
 keys_own : (node start serial : ℕ) (xs : List ℕ) → All (λ (key : Key). key.node ≡ node) (keys_from node start serial xs)
 keys_own node start serial [] = All-nil (λ (key : Key). key.node ≡ node)
-keys_own node start serial (x ∷ xs) =
-    All-cons (λ (key : Key). key.node ≡ node) (record { node = node; start = start; serial = serial; byte = x })
-    (keys_from node start (serial + 1) xs) refl (keys_own node start (serial + 1) xs)
+keys_own node start serial (x ∷ xs) = grind (arith, nat_tests, All-cons, keys_own node start (serial + 1) xs)
 
 -- a key of the first characters is one of all
 pub first_keys : (node start serial n : ℕ) (xs : List ℕ) (key : Key)
@@ -42,9 +41,7 @@ keys_from-drop : (node start serial n : ℕ) (xs : List ℕ)
     → keys_from node start (serial + n) (drop n xs) ≡ drop n (keys_from node start serial xs)
 keys_from-drop node start serial zero xs = rw (add-zero serial) refl
 keys_from-drop node start serial (suc n) [] = refl
-keys_from-drop node start serial (suc n) (x ∷ xs) =
-    let same : serial + suc n ≡ serial + 1 + n = omega arith in
-    rw same (keys_from-drop node start (serial + 1) n xs)
+keys_from-drop node start serial (suc n) (x ∷ xs) = grind (arith, nat_tests, keys_from-drop node start (serial + 1) n xs)
 
 -- a key of those after some is one of all
 pub last_keys : (node start serial n : ℕ) (xs : List ℕ) (key : Key)
@@ -100,9 +97,7 @@ without_parted law n = record {
 -- after a message too, which leaves those that wait as they are
 pub message_parted : KeyLaw → (n next : Known) → waiting_keys next ≡ waiting_keys n
     → AreParted next.learner.learned (waiting_keys n) (waiting_keys (without_read next))
-message_parted law n next same =
-    subst (λ (keys : List Key). AreParted next.learner.learned keys (waiting_keys (without_read next))) same
-    (without_parted law next)
+message_parted law n next same = grind (arith, nat_tests, without_parted)
 
 -- the first keys are those of the first characters
 pub keys_from-take : (node start serial n : ℕ) (xs : List ℕ)
@@ -129,9 +124,7 @@ first_unread law read (x ∷ keys) k ks e = by (has_key read x) refl e (first_un
 -- so after keys have left the first that waits is not below the front
 pub waiting_unread : KeyLaw → (n : Known) (k : Key) (ks : List Key) → waiting_keys (without_read n) ≡ k ∷ ks
     → ¬ Contains (keys_in_order (front_values n.learner.learned)) k
-waiting_unread law n k ks e =
-    first_unread law (keys_in_order (front_values n.learner.learned)) (waiting_keys n) k ks
-    (sym (keys_from-drop n.me.node n.kept.starts n.first (count_gone n) n.waiting) ∙ e)
+waiting_unread law n k ks e = grind (arith, nat_tests, first_unread, keys_from-drop)
 
 -- where characters wait, the keys of a batch are the first ones
 pub batch_first : (n : Known) (bytes : List ℕ) (v : Value) → batch_of n bytes ≡ Some v

@@ -1,10 +1,12 @@
 -- Events lead to a world in which two consoles show a byte, for the law `consoles_may_show`.
-use Rattle.std.proofs.Common.{◌≡◌, ℕ, zero, suc, ◌&&◌, ◌-◌, ◌≤◌, Bool, true, false, List, [], ◌∷◌, ◌++◌, drop, length, slice_get, slice_set, None, Some, refl, ap, subst, length-append, arith}
+use Rattle.pcode_machine.proofs.Prefixes.{prefix_length}
+use Rattle.group_world.proofs.HoldsAfterEvents.{happens_then}
+use Rattle.std.proofs.Common.{◌≡◌, ℕ, zero, suc, ◌&&◌, ◌-◌, ◌≤◌, Bool, true, false, List, [], ◌∷◌, ◌++◌, drop, length, slice_get, slice_set, None, Some, refl, ap, arith}
 use Rattle.std.proofs.lemmas.Bool.{and_parts}
 use Rattle.pcode_file.specs.Parts.{Parts}
 use Rattle.pcode_ops.specs.Decoding.{instr_of}
 use Rattle.pcode_machine.specs.Configuration.{Configuration}
-use Rattle.pcode_machine.specs.Outcome.{Goes as Leads_to, Outcome, Stops, Stuck, Waiting, outcome}
+use Rattle.pcode_machine.specs.Outcome.{Goes as Leads_to, Outcome, outcome}
 use Rattle.pcode_machine.specs.Runs.{IsPrefix, LeadsIn, after_steps, led, out}
 use Rattle.paxos_msg.specs.declared.message.Group.{Group}
 use Rattle.paxos_msg.specs.Records.{empty_record}
@@ -24,7 +26,7 @@ use Rattle.group_world.proofs.WorldAsGroup.{changed_here}
 
 -- ---- a program that writes the letter A
 
-abbrev pub writes_a : Parts
+abbrev writes_a : Parts
 writes_a = record {
   name = [];
   segment = 65 ∷ 171 ∷ 3 ∷ 1 ∷ 165 ∷ 3 ∷ 0 ∷ 1 ∷ 0 ∷ 0 ∷ 158 ∷ 6 ∷ 193 ∷ 0 ∷ 2 ∷ 0 ∷ 4 ∷ 0 ∷ 6 ∷ 0 ∷ 20 ∷ 0 ∷ 1 ∷ 0 ∷ 2 ∷ 0 ∷ 1 ∷ 1 ∷ [];
@@ -34,9 +36,7 @@ writes_a = record {
 
 unfoldable pub is_step : Outcome → Bool
 is_step (Leads_to d) = true
-is_step (Stops e) = false
-is_step Waiting = false
-is_step Stuck = false
+is_step other = false
 
 -- n steps exist
 unfoldable pub all_go : Parts → List ℕ → ℕ → Bool
@@ -47,11 +47,9 @@ goes_by : (p : Parts) (x : List ℕ) (c : Configuration) (o : Outcome) → is_st
     → outcome p x c ≡ Leads_to (led c o)
 unfolding is_step
 goes_by p x c (Leads_to d) h e = e
-goes_by p x c (Stops s) h e = absurd cc
-goes_by p x c Waiting h e = absurd cc
-goes_by p x c Stuck h e = absurd cc
+goes_by p x c other h e = absurd cc
 
-pub leads_by : (p : Parts) (x : List ℕ) (n : ℕ) → all_go p x n ≡ true → LeadsIn p x n (after_steps p x n)
+leads_by : (p : Parts) (x : List ℕ) (n : ℕ) → all_go p x n ≡ true → LeadsIn p x n (after_steps p x n)
 unfolding all_go LeadsIn after_steps
 leads_by p x zero h = refl
 leads_by p x (suc n) h =
@@ -63,9 +61,6 @@ leads_by p x (suc n) h =
 -- output grows with the steps
 pub record StepsLaw : Type 0 where
   pub steps : (p : Parts) (x : List ℕ) (m n : ℕ) → m ≤ n → IsPrefix (out p x m) (out p x n)
-
-prefix_short : (a b : List ℕ) → IsPrefix a b → length a ≤ length b
-prefix_short a b h = rw (h.whole) (omega (arith, length-append a h.rest))
 
 -- a program that takes ten steps on an input and then has written the letter A
 pub record WritesLetter (p : Parts) (x : List ℕ) : Type 0 where
@@ -88,7 +83,7 @@ module _ {p : Parts} {x : List ℕ} (h : WritesLetter p x) where
     rest = refl;
     more = omega arith;
     room = λ n low high.
-        let short = prefix_short _ _ (laws.steps p x n 10 (omega arith)) in
+        let short = prefix_length _ _ (laws.steps p x n 10 (omega arith)) in
         let single = ap length h.writes in
         omega (arith, short, single);
     over = refl;
@@ -141,34 +136,27 @@ module _ (group : Group) (i : ℕ) where
       → LeadsBy (world group members) (shows i) (world group (after_it members))
   happens_there laws members there =
       let once = changed_here members i first up there in
-      let twice = changed_here _ i up ran once in
-      let third : LeadsBy (world group (slice_set (slice_set members (i - 1) up) (i - 1) ran))
-      ((record { act = act.Release i; save = Kept }) ∷ []) (world group (after_it members)) =
-      (world group _, Applied, (ran, running ten, record { there = twice; up = refl }, refl, refl), refl) in
-      let second : LeadsBy (world group (slice_set members (i - 1) up))
-      ((record { act = act.Run i 10; save = Kept }) ∷ (record { act = act.Release i; save = Kept }) ∷ [])
-      (world group (after_it members)) = (
-        world group _,
+      let twice = changed_here _ i up ran once in (
+        world group (slice_set members (i - 1) up),
         Applied,
+        (first, record { there = there; down = refl }, (refl, refl)),
         (
-          up,
-          running _,
-          ten,
-          more.More,
-          record { there = once; up = refl },
-          runs (writes_letter (input (running ten).known)) laws,
-          replays (writes_letter _),
-          refl,
-          refl,
+          world group (slice_set (slice_set members (i - 1) up) (i - 1) ran),
+          Applied,
+          (
+            up,
+            running _,
+            ten,
+            more.More,
+            record { there = once; up = refl },
+            runs (writes_letter (input (running ten).known)) laws,
+            replays (writes_letter _),
+            refl,
+            refl,
+          ),
+          (world group (after_it members), Applied, (ran, running ten, record { there = twice; up = refl }, refl, refl), refl),
         ),
-        third,
-      ) in
-      (world group _, Applied, (first, record { there = there; down = refl }, (refl, refl)), second)
-
--- a list of events after another
-happens_then : (w : World) (events more : List Event) (v u : World) → LeadsBy w events v → LeadsBy v more u → LeadsBy w (events ++ more) u
-happens_then w [] more v u h g = subst (λ x. LeadsBy x more u) h g
-happens_then w (e ∷ events) more v u (mid, d, goes, rest) g = (mid, d, goes, happens_then mid events more v u rest g)
+      )
 
 -- a group of three, in which two show the letter
 abbrev three : Group

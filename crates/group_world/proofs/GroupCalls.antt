@@ -1,11 +1,11 @@
 -- A group after each event, by its node after it.
-use Rattle.std.proofs.Common.{◌≡◌, ◌∙◌, ℕ, zero, suc, ◌-◌, ◌<◌, nat_lt, All, Bool, true, false, if◌then◌else◌, List, [], ◌∷◌, ◌++◌, get_or, length, slice_get, slice_set, is_some, Option, None, Some, Result, Ok, Err, IfOk, OnErr, OnOk, inr, refl, sym, ap, subst, arith}
+use Rattle.std.proofs.lemmas.Option.{none-some, get_or_from_slice_get}
+use Rattle.std.proofs.lemmas.List.{set-get_or, append-nil}
+use Rattle.std.proofs.Common.{set, ◌≡◌, ◌∙◌, ℕ, zero, suc, ◌-◌, ◌<◌, nat_lt, All, Bool, true, false, if◌then◌else◌, List, [], ◌∷◌, ◌++◌, get_or, length, slice_get, slice_set, is_some, Option, None, Some, Result, Ok, Err, IfOk, OnErr, OnOk, inr, refl, sym, ap, subst, arith}
 use Rattle.std.specs.List.{cons_option}
 use Rattle.std.proofs.lemmas.Bool.{ltb-true}
-use Rattle.std.proofs.lemmas.List.{append-nil}
 use Rattle.std.proofs.lemmas.Result.{on_err_weaker}
 use Rattle.std.proofs.lemmas.List.Elements.{All-head, All-tail}
-use Rattle.std.proofs.lemmas.Option.{get_or_from_slice_get, slice_get_within}
 use Rattle.paxos_msg.specs.declared.value.Value.{Value}
 use Rattle.paxos_msg.specs.declared.message.Group.{Group}
 use Rattle.paxos_msg.specs.declared.fault.WireFault.{WireFault}
@@ -27,54 +27,24 @@ use Rattle.group_world.specs.Member.{NodeCall, call_outcome, CallOutcome, CallEn
 use Rattle.group_world.specs.Refusals.{Applies, refusal, refusal_at, refusal_of, unless_up}
 use Rattle.group_world.specs.Sound.{IsSound, IsSpelling}
 use Rattle.group_world.specs.declared.event.Event.{Event}
-use Rattle.group_world.proofs.ReleasedBytes.{next_of}
+use Rattle.group_world.proofs.SoundWorldsAgree.{next_of}
 
--- the index of a node in the list of nodes
-pub record IsAt (members : List Member) (i : ℕ) (m : Member) : Type 0 where
-  pub above : 0 < i
-  pub within : i - 1 < length members
-  pub there : slice_get members (i - 1) ≡ Some m
-
-pub is_at : (members : List Member) (i : ℕ) (m : Member) → member_at members i ≡ Some m → IsAt members i m
+-- a node of the list has a number, and lies at the index before it
+is_at : (members : List Member) (i : ℕ) (m : Member) → member_at members i ≡ Some m → (0 < i) × (slice_get members (i - 1) ≡ Some m)
 is_at members zero m e = absurd cc
 is_at members (suc k) m e =
     let same : k ≡ suc k - 1 = omega arith in
-    record {
-      above = omega arith;
-      within = subst (λ j. j < length members) same (slice_get_within members k m e);
-      there = subst (λ j. slice_get members j ≡ Some m) same e;
-    }
+    (omega arith, subst (λ j. slice_get members j ≡ Some m) same e)
 
 -- an element that is put where it was
 set_same : {X : Type 0} (xs : List X) (k : ℕ) (x : X) → slice_get xs k ≡ Some x → slice_set xs k x ≡ xs
-set_same [] k x e = absurd cc
-set_same (y ∷ ys) zero x e = let h : y ≡ x = cc in rw h refl
-set_same (y ∷ ys) (suc k) x e = ap (λ zs. y ∷ zs) (set_same ys k x e)
+set_same xs k x e = ap (set xs k) (sym (get_or_from_slice_get xs k x x e)) ∙ set-get_or xs k x
 
 -- ---- a node of the code's group `w`, which contracts see as `was` and which a call lends out
 
--- `lent` is node `i`, which lies at the index `place` of the list
-pub record IsLent (was : World) (i place : ℕ) (m lent : Member) : Type 0 where
-  pub there : member_at was.members i ≡ Some m
-  pub at : place ≡ i - 1
-  pub is : lent ≡ m
-
-pub lent_is : {w was : World} {place : ℕ} {m lent : Member} (i : ℕ) → w ≡ was → member_at was.members i ≡ Some m
-    → place ≡ i - 1 → lent ≡ get_or w.members place lent → IsLent was i place m lent
-lent_is {w} {was} {place} {m} {lent} i is there at value = record {
-  there = there;
-  at = at;
-  is =
-      value ∙ (λ t. get_or (is t).members (at t) lent)
-      ∙ get_or_from_slice_get was.members (i - 1) m lent (is_at was.members i m there).there;
-}
-
--- a node that is up has a number, and is lent out as it is
+-- a node that is up has a number
 pub above : {was : World} {i : ℕ} {m : Member} {q : Running} → IsUp was i m q → 0 < i
-above {was} {i} {m} up = (is_at was.members i m up.there).above
-
-pub lent_up : {was : World} {i place : ℕ} {m lent : Member} {q : Running} → IsLent was i place m lent → IsUp was i m q → lent.node ≡ Some q
-lent_up lends up = ap (λ (x : Member). x.node) lends.is ∙ up.up
+above {was} {i} {m} up = (is_at was.members i m up.there).0
 
 -- the world with these parts
 abbrev pub parts : World → List Member → List Datagram → List Value → World
@@ -84,27 +54,30 @@ parts w members sent typed = record w { members = members; sent = sent; typed = 
 pub none_more : {X : Type 0} (xs : List X) → xs ≡ xs ++ []
 none_more xs = sym (append-nil xs)
 
-module _ {w was : World} (is : w ≡ was) {i place : ℕ} {m lent : Member} (lends : IsLent was i place m lent) where
+-- `lent` is node `i`, which lies at the index `place` of the list
+module _ {w was : World} (is : w ≡ was) (i : ℕ) {place : ℕ} {m lent : Member} (there : member_at was.members i ≡ Some m)
+    (at : place ≡ i - 1) (value : lent ≡ get_or w.members place lent) where
+  pub lent_is : lent ≡ m
+  lent_is =
+      value ∙ (λ t. get_or (is t).members (at t) lent)
+      ∙ get_or_from_slice_get was.members (i - 1) m lent (is_at was.members i m there).1
+
   -- the world after a call of the lent node
   left_so : {sent : List Datagram} {typed : List Value} (packets : List Datagram) (keys : List Value) (new : Member)
       → sent ≡ w.sent ++ packets → typed ≡ w.typed ++ keys
       → parts w (slice_set w.members place new) sent typed
       ≡ parts was (slice_set was.members (i - 1) new) (was.sent ++ packets) (was.typed ++ keys)
-  left_so packets keys new sends types = rw (sends, types, lends.at, is) refl
+  left_so packets keys new sends types = rw (sends, types, at, is) refl
+
+  -- the world in which node `i` is put where it was, and nothing was sent or typed
+  same_world : parts was (slice_set was.members (i - 1) m) (was.sent ++ []) (was.typed ++ []) ≡ was
+  same_world = rw (set_same was.members (i - 1) m (is_at was.members i m there).1, append-nil was.sent, append-nil was.typed) refl
 
   -- a call by which nothing changes
   unchanged : {new : Member} {packets sent : List Datagram} {typed : List Value} → sent ≡ w.sent ++ packets → typed ≡ w.typed
       → new ≡ lent → packets ≡ [] → parts w (slice_set w.members place new) sent typed ≡ was
   unchanged {new} {packets} sends types same none =
-      left_so packets [] new sends (types ∙ none_more w.typed)
-      ∙ rw (
-        same,
-        lends.is,
-        none,
-        set_same was.members (i - 1) m (is_at was.members i m lends.there).there,
-        append-nil was.sent,
-        append-nil was.typed,
-      ) refl
+      left_so packets [] new sends (types ∙ none_more w.typed) ∙ rw (same, lent_is, none) same_world
 
   pub unchanged_on_err : {E : Type 0} {sent : List Datagram} {typed : List Value} (new : Member) (packets : List Datagram)
       (r : Result Done E) → sent ≡ w.sent ++ packets → typed ≡ w.typed → OnErr r ((new ≡ lent) × (packets ≡ []))
@@ -118,20 +91,12 @@ module _ {w was : World} (is : w ≡ was) {i place : ℕ} {m lent : Member} (len
   leaves {new} {me} {progress} {d} {packets} {keys = keys} plan call me_is sends types ends =
       let o = call_outcome plan m.kept (call (me_of was i) m.kept) in
       let ends_so = subst (λ x. CallEnds x m progress (call_outcome plan m.kept (call x m.kept)) d new packets keys) me_is
-      (subst (λ (x : Member). CallEnds me x progress (call_outcome plan x.kept (call me x.kept)) d new packets keys) lends.is ends) in
+      (subst (λ (x : Member). CallEnds me x progress (call_outcome plan x.kept (call me x.kept)) d new packets keys) lent_is ends) in
       (ends_so.answer, left_so packets keys new sends types ∙ by o ends_so.left ends_so.sends ends_so.types)
     where
       by : (o : CallOutcome) → new ≡ member_after m progress o → packets ≡ sent_by (me_of was i) o → keys ≡ typed_by o
           → parts was (slice_set was.members (i - 1) new) (was.sent ++ packets) (was.typed ++ keys) ≡ group_after was i m progress o
-      by (Refused f) left sends types =
-          rw (
-            left,
-            sends,
-            types,
-            set_same was.members (i - 1) m (is_at was.members i m lends.there).there,
-            append-nil was.sent,
-            append-nil was.typed,
-          ) refl
+      by (Refused f) left sends types = rw (left, sends, types) same_world
       by (Fell kept) left sends types = rw (left, sends, types, append-nil was.sent, append-nil was.typed) refl
       by (Happened made typed) left sends types = rw (left, sends, types) refl
 
@@ -139,17 +104,22 @@ module _ {w was : World} (is : w ≡ was) {i place : ℕ} {m lent : Member} (len
   pub runs_so : {new : Member} {q : Running} {steps : ℕ} (plan : Option Bool) → IsUp was i m q → RunsMember lent q steps new
       → Performs was plan (act.Run i steps) Applied (parts w (slice_set w.members place new) w.sent w.typed)
   runs_so {new} {q} {steps} plan up h =
-      let k = rw lends.is at h in
-      (m, q, k.progress, k.ran, up, k.runs, k.replay, refl, rw (lends.at, is, k.new_is) refl)
+      let k = rw lent_is at h in
+      (m, q, k.progress, k.ran, up, k.runs, k.replay, refl, rw (at, is, k.new_is) refl)
 
   pub releases_so : {new : Member} {q : Running} {d : Done} (plan : Option Bool) → IsUp was i m q
       → new ≡ member_after_release lent q (next_of q) → d ≡ Applied
       → Performs was plan (act.Release i) d (parts w (slice_set w.members place new) w.sent w.typed)
-  releases_so {q = q} plan up new_is done = (m, q, up, done, rw (lends.at, is, new_is, lends.is) refl)
+  releases_so {q = q} plan up new_is done = (m, q, up, done, rw (at, is, new_is, lent_is) refl)
 
   pub crashes_so : {new : Member} {q : Running} (plan : Option Bool) → IsUp was i m q → new ≡ record lent { node = None }
       → Performs was plan (act.Crash i) Applied (parts w (slice_set w.members place new) w.sent w.typed)
-  crashes_so {q = q} plan up new_is = (m, q, up, refl, rw (lends.at, is, new_is, lends.is) refl)
+  crashes_so {q = q} plan up new_is = (m, q, up, refl, rw (at, is, new_is, lent_is) refl)
+
+-- it is lent out as it is
+pub lent_up : {w was : World} {i place : ℕ} {m lent : Member} {q : Running} (is : w ≡ was) → IsUp was i m q → place ≡ i - 1
+    → lent ≡ get_or w.members place lent → lent.node ≡ Some q
+lent_up {i = i} is up at value = ap (λ (x : Member). x.node) (lent_is is i up.there at value) ∙ up.up
 
 -- a release, which either happened or ran out of memory
 pub ok_done : {E : Type 0} {P : Type 0} (Q : Done → Type 0) (r : Result Done E) → OnOk r P → IfOk r (λ d. d ≡ Applied)
@@ -197,9 +167,7 @@ delivered {was = was} {k} {x} {view = view} is sound less number same only =
 found_at : (w : World) (i : ℕ) (o : Option Member) (r : Option Member → Option WorldFault) → member_at w.members i ≡ o
     → r None ≡ Some NoNode → r o ≡ None
     → (m : Member) × (member_at w.members i ≡ Some m) × (r (Some m) ≡ None)
-found_at w i None r e empty none = absurd (some_none (sym empty ∙ none)) where
-  some_none : ◌≡◌ {A = Option WorldFault} (Some NoNode) None → ⊥
-  some_none e = absurd cc
+found_at w i None r e empty none = absurd (none-some NoNode (sym none ∙ empty))
 found_at w i (Some m) r e empty none = (m, e, none)
 
 up_by : (m : Member) (o : Option Running) → m.node ≡ o

@@ -1,6 +1,7 @@
--- Whatever events happen, a world stays sound and ordered.
-use Rattle.std.proofs.Common.{◌≡◌, ℕ, ◌+◌, ◌<◌, ◌≤◌, Bool, List, [], ◌∷◌, ◌++◌, get_or, length, take, Option, Result, Ok, Err, IfOk, OnErr, refl, sym, subst}
-use Rattle.std.proofs.lemmas.List.{take_all, take_more}
+-- Whatever events happen, a world stays sound and ordered. What it has sent and shown only grows,
+-- and what was learned stays.
+use Rattle.std.proofs.Common.{◌≡◌, ℕ, ◌+◌, ◌<◌, Bool, List, [], ◌∷◌, ◌++◌, get_or, length, take, Option, Result, Ok, Err, IfOk, OnErr, refl, sym, subst, ap, ◌∙◌, None, Some, inl, inr, append-nil, append_assoc}
+use Rattle.std.proofs.lemmas.List.{take_more}
 use Rattle.std.proofs.lemmas.Option.{slice_get-get_or}
 use Rattle.pcode_file.specs.Parts.{Parts}
 use Rattle.paxos_msg.specs.declared.message.Group.{Group}
@@ -10,11 +11,25 @@ use Rattle.group_world.specs.declared.event.Act.{Act}
 use Rattle.group_world.specs.declared.event.Done.{Done}
 use Rattle.group_world.specs.declared.event.Event.{Event}
 use Rattle.group_world.specs.declared.fault.WorldFault.{WorldFault}
-use Rattle.group_world.specs.Event.{Goes, LeadsBy, Performs}
-use Rattle.group_world.specs.Group.{new_world, World}
+use Rattle.group_world.specs.Event.{Goes, LeadsBy, Performs, IsStep}
+use Rattle.group_world.specs.Group.{new_world, World, world_state}
 use Rattle.group_world.specs.Ordered.{Holds, IsOrdered}
 use Rattle.group_world.specs.Refusals.{IsFirstRefused, IsRefused}
 use Rattle.group_world.specs.Sound.{IsSound}
+use Rattle.pcode_machine.proofs.Prefixes.{prefix_refl, prefix_trans}
+use Rattle.paxos_msg.specs.declared.value.Value.{Value}
+use Rattle.paxos_msg.specs.Batches.{Grew, Record, Sent, Body, Change}
+use Rattle.paxos_msg.specs.Chosen.{IsChosen}
+use Rattle.group_world.specs.Headline.{LearnedChosen, LearnedStays, ConsolesGrow}
+use Rattle.std.proofs.lemmas.Bool.{cases_eq, eq-eqb, ne_eqb}
+use Rattle.pcode_machine.specs.Runs.{IsPrefix}
+use Rattle.paxos_msg.specs.declared.record.Change.TheVariants as change
+use Rattle.paxos_msg.specs.Keys.{Key}
+use Rattle.paxos_msg.specs.Messages.{messages_of}
+use Rattle.group_node.specs.Console.{offered}
+use Rattle.group_node.specs.World.{CallOrFall, ChangesOnly, Falls, MakesCall, Seat, Up, WorldState, WorldStep, after_release}
+use Rattle.group_node.specs.World as group
+use Rattle.group_world.specs.declared.event.Done.TheVariants.{Applied, Fell, Refused}
 
 -- the laws of one event
 pub record EventLaws : Type 0 where
@@ -24,46 +39,46 @@ pub record EventLaws : Type 0 where
   pub ordered : (w v : World) (plan : Option Bool) (act : Act) (d : Done) → IsSound w → IsSound v → IsOrdered w
       → Performs w plan act d v → IsOrdered v
 
--- a list of events keeps what holds
+-- an event keeps what holds
+pub one_holds : EventLaws → {w v : World} (e : Event) (d : Done) → Holds w → Goes w e d v → Holds v
+one_holds laws {w} {v} e d h goes =
+    let sound = laws.sound w v _ e.act d h.sound goes in
+    record { sound = sound; ordered = laws.ordered w v _ e.act d h.sound sound h.ordered goes }
+
+-- and so does one that happens, or else changes nothing
+pub event_holds : EventLaws → {w v : World} (e : Event) (answer : Result Done WorldFault) → Holds w
+    → IfOk answer (λ d. Goes w e d v) → OnErr answer (v ≡ w) → Holds v
+event_holds laws e (Ok d) h goes same = one_holds laws e d h goes
+event_holds laws e (Err f) h goes same = subst Holds (sym same) h
+
+-- and so does a list of events
 pub happens_holds : EventLaws → (w : World) (events : List Event) (v : World) → Holds w
     → LeadsBy w events v → Holds v
 happens_holds laws w [] v h e = subst Holds (sym e) h
-happens_holds laws w (e ∷ events) v h (mid, d, goes, rest) =
-    let sound = laws.sound w mid _ e.act d h.sound goes in
-    happens_holds laws mid events v (record { sound = sound; ordered = laws.ordered w mid _ e.act d h.sound sound h.ordered goes })
-    rest
+happens_holds laws w (e ∷ events) v h (mid, d, goes, rest) = happens_holds laws mid events v (one_holds laws e d h goes) rest
 
--- so it holds of each world to which events lead from the one in which nothing has happened
-pub always_holds : EventLaws → (p : Parts) (group : Group) (events : List Event) (w : World) → IsSize group.size
-    → IsGroup group → LeadsBy (new_world p group) events w → Holds w
-always_holds laws p group events w size session happens =
-    happens_holds laws _ events w (record { sound = laws.sound_first p group size session; ordered = laws.ordered_first p group }) happens
+-- So what follows from it holds of each world to which events lead from the one in which nothing
+-- has happened.
+pub always : EventLaws → {P : World → Type 0} → ((w : World) → Holds w → P w) → (p : Parts) (group : Group) (events : List Event)
+    (w : World) → IsSize group.size → IsGroup group → LeadsBy (new_world p group) events w → P w
+always laws by p group events w size session happens =
+    let first : Holds (new_world p group) =
+    record { sound = laws.sound_first p group size session; ordered = laws.ordered_first p group } in
+    by w (happens_holds laws _ events w first happens)
 
--- An event that happens, or else changes nothing, keeps what holds.
-pub event_holds : EventLaws → (w v : World) (e : Event) (answer : Result Done WorldFault) → Holds w
-    → IfOk answer (λ d. Goes w e d v) → OnErr answer (v ≡ w) → Holds v
-event_holds laws w v e (Ok d) h goes same =
-    let sound = laws.sound w v _ e.act d h.sound goes in
-    record { sound = sound; ordered = laws.ordered w v _ e.act d h.sound sound h.ordered goes }
-event_holds laws w v e (Err f) h goes same = subst Holds (sym same) h
-
--- a list of events with one more at its end
-pub happens_more : (w : World) (events : List Event) (v : World) (e : Event) (d : Done) (u : World) → LeadsBy w events v
-    → Goes v e d u → LeadsBy w (events ++ e ∷ []) u
-happens_more w [] v e d u h goes = (u, d, subst (λ x. Goes x e d u) h goes, refl)
-happens_more w (x ∷ events) v e d u (mid, before, first, rest) goes = (mid, before, first, happens_more mid events v e d u rest goes)
+-- a list of events after another
+pub happens_then : (w : World) (events more : List Event) (v u : World) → LeadsBy w events v → LeadsBy v more u
+    → LeadsBy w (events ++ more) u
+happens_then w [] more v u h g = subst (λ x. LeadsBy x more u) h g
+happens_then w (e ∷ events) more v u (mid, d, goes, rest) g = (mid, d, goes, happens_then mid events more v u rest g)
 
 -- the first events of a list, and the next one
 pub happens_next : (w : World) (events : List Event) (v : World) (i : ℕ) (default : Event) (d : Done) (u : World)
     → i < length events → LeadsBy w (take i events) v → Goes v (get_or events i default) d u
     → LeadsBy w (take (i + 1) events) u
 happens_next w events v i default d u less h goes =
-    subst (λ some. LeadsBy w some u) (sym (take_more events i default less)) (happens_more w _ v _ d u h goes)
-
--- all events of the list
-pub happens_all : (w : World) (events : List Event) (v : World) (n : ℕ) → length events ≤ n
-    → LeadsBy w (take n events) v → LeadsBy w events v
-happens_all w events v n all h = subst (λ some. LeadsBy w some v) (take_all n events all) h
+    subst (λ some. LeadsBy w some u) (sym (take_more events i default less))
+    (happens_then w _ (get_or events i default ∷ []) v u h (u, d, goes, refl))
 
 -- the first event that is refused, after those that happened
 pub first_refused : (w : World) (events : List Event) (v : World) (i : ℕ) (default : Event)
@@ -76,3 +91,143 @@ first_refused w events v i default f less h refused = record {
   there = slice_get-get_or events i default less;
   refused = refused;
 }
+
+-- ---- what only grows
+
+-- between two moments the size stays, more was sent, and each console has shown more
+pub record Grows (w v : WorldState) : Type 0 where
+  pub size : v.size ≡ w.size
+  pub more : Sent
+  pub sent : v.sent ≡ w.sent ++ more
+  pub consoles : ConsolesGrow w v
+
+grows_none : (w v : WorldState) → v ≡ w → Grows w v
+grows_none w v e = record {
+  size = ap (λ (x : WorldState). x.size) e;
+  more = [];
+  sent = ap (λ (x : WorldState). x.sent) e ∙ sym (append-nil w.sent);
+  consoles = λ i. rw e (prefix_refl _);
+}
+
+grows_through : (w v u : WorldState) → Grows w v → Grows v u → Grows w u
+grows_through w v u h g = record {
+  size = g.size ∙ h.size;
+  more = h.more ++ g.more;
+  sent = g.sent ∙ ap (λ sent. sent ++ g.more) h.sent ∙ append_assoc w.sent h.more g.more;
+  consoles = λ i. prefix_trans _ _ _ (h.consoles i) (g.consoles i);
+}
+
+module _ (w v : WorldState) where
+  -- one node changes, whose console has shown more
+  grows_at : (i : ℕ) (bodies : List Body) (keys : List Key) → ChangesOnly w v i bodies keys
+      → IsPrefix (w.seats i).console (v.seats i).console → Grows w v
+  grows_at i bodies keys rest own = record {
+    size = rest.size;
+    more = messages_of i bodies;
+    sent = rest.sent;
+    consoles = λ j. elim (cases_eq j i) [
+      | inl e ↦ rw e own
+      | inr other ↦ rw (rest.others j other) (prefix_refl _)
+    ];
+  }
+
+  -- one node changes, and its console does not
+  grows_silent : (i : ℕ) (bodies : List Body) (keys : List Key) → ChangesOnly w v i bodies keys
+      → (v.seats i).console ≡ (w.seats i).console → Grows w v
+  grows_silent i bodies keys rest e = grows_at i bodies keys rest (rw e (prefix_refl _))
+
+  call_grows : (i : ℕ) (c : Option Change) (keys : List Key) → MakesCall w v i c keys → Grows w v
+  call_grows i c keys h = grows_silent i h.bodies keys h.rest (ap (λ (s : Seat). s.console) h.left)
+
+  fall_grows : (i : ℕ) (c : Change) → Falls w v i c → Grows w v
+  fall_grows i c h = grows_silent i [] [] h.rest h.console
+
+  call_or_fall_grows : (i : ℕ) (c : Option Change) → CallOrFall w v i c → Grows w v
+  call_or_fall_grows i None h = call_grows i None [] h
+  call_or_fall_grows i (Some c) (inl h) = call_grows i (Some c) [] h
+  call_or_fall_grows i (Some c) (inr h) = fall_grows i c h.1
+
+  -- a byte is offered to its console
+  offered_begins : (console : List ℕ) (n b : ℕ) → IsPrefix console (offered console n b)
+  offered_begins console n b = elim (cases_eq n (length console)) [
+    | inl e ↦ rw (eq-eqb n _ e) (record { rest = b ∷ []; whole = refl })
+    | inr other ↦ rw (ne_eqb n (length console) other) (prefix_refl console)
+  ]
+
+  release_begins : (seat : Seat) (was : Up) (o : Option ℕ)
+      → IsPrefix seat.console (after_release seat was o).console
+  release_begins seat was None = prefix_refl seat.console
+  release_begins seat was (Some b) = offered_begins seat.console was.released b
+
+  -- each event of a group
+  step_grows : (e : group.Event) → WorldStep w e v → Grows w v
+  step_grows (group.Press i byte) h = call_grows i None _ h.call
+  step_grows (group.Deliver m i) h = call_or_fall_grows i h.saved h.call
+  step_grows (group.Campaign i) h = call_or_fall_grows i (Some (change.Promise (record { round = h.round; node = i }))) h.call
+  step_grows (group.Tick i) h = call_grows i None [] h
+  step_grows (group.Run i steps) h = grows_silent i [] [] h.rest (ap (λ (s : Seat). s.console) h.left)
+  step_grows (group.Release i) h =
+      grows_at i [] [] h.rest
+      (subst (λ (s : Seat). IsPrefix (w.seats i).console s.console) (sym h.left)
+      (release_begins (w.seats i) h.was _))
+  step_grows (group.Crash i) h = grows_silent i [] [] h.rest (ap (λ (s : Seat). s.console) h.left)
+  step_grows (group.Start i) (down, inl h) = grows_silent i [] [] h.rest (ap (λ (s : Seat). s.console) h.left)
+  step_grows (group.Start i) (down, inr h) = fall_grows i change.Start h
+
+  -- each event of a world
+  event_grows : (act : Act) (d : Done) → IsStep w act d v → Grows w v
+  event_grows act Applied h = step_grows _ h
+  event_grows act Fell h = step_grows _ h
+  event_grows act (Refused f) h = grows_none w v h
+
+-- ---- worlds
+
+-- the laws of agreement, and of what stays chosen
+pub record ChosenLaws : Type 0 where
+  pub learned : (w : World) → IsSound w → LearnedChosen (world_state w)
+  pub one : (size s : ℕ) (sent : Sent) (records : ℕ → Record) (v u : Value)
+      → Grew size sent records → IsChosen size sent s v → IsChosen size sent s u → v ≡ u
+  pub stays : (size s : ℕ) (sent more : Sent) (v : Value) → IsChosen size sent s v
+      → IsChosen size (sent ++ more) s v
+
+-- the laws of one event too
+pub record LaterWorldLaws : Type 0 where
+  pub events : EventLaws
+  pub step : (w v : World) (plan : Option Bool) (act : Act) (d : Done) → IsSound w
+      → Performs w plan act d v → IsStep (world_state w) act d (world_state v)
+  pub chosen : ChosenLaws
+
+-- a world grows by an event, whether that is refused or not
+pub answer_grows : (w v : World) (act : Act) (answer : Result Done WorldFault)
+    → IfOk answer (λ d. IsStep (world_state w) act d (world_state v)) → OnErr answer (v ≡ w)
+    → Grows (world_state w) (world_state v)
+answer_grows w v act (Ok d) step same = event_grows _ _ act d step
+answer_grows w v act (Err e) step same = grows_none _ _ (ap world_state same)
+
+-- what is chosen at the first moment is chosen at the second, and so is the same
+pub grown_learned : ChosenLaws → (w v : World) → IsSound w → IsSound v
+    → Grows (world_state w) (world_state v) → LearnedStays (world_state w) (world_state v)
+grown_learned laws w v first second grown i j s a b has other =
+    let chosen : IsChosen w.group.size (world_state w).sent s a = (laws.learned w first i s a has).0 in
+    let still = subst (λ sent. IsChosen w.group.size sent s a) (sym grown.sent) (laws.stays w.group.size s _ grown.more a chosen) in
+    let same = subst (λ n. IsChosen n (world_state v).sent s a) (sym grown.size) still in
+    laws.one v.group.size s _ (λ k. ((world_state v).seats k).kept) a b second.grew same (laws.learned v second j s b other).0
+
+module _ (laws : LaterWorldLaws) where
+  happens_grows : (w : World) (events : List Event) (v : World) → Holds w → LeadsBy w events v
+      → Grows (world_state w) (world_state v)
+  happens_grows w [] v h e = subst (λ u. Grows (world_state w) (world_state u)) (sym e) (grows_none _ _ refl)
+  happens_grows w (e ∷ events) v h (mid, d, goes, rest) =
+      let first = event_grows _ _ e.act d (laws.step w mid _ e.act d h.sound goes) in
+      let held = one_holds laws.events e d h goes in
+      grows_through _ _ _ first (happens_grows mid events v held rest)
+
+  -- what holds of two sound and ordered worlds, the second of which has grown, holds of a world
+  -- and of one to which more events lead
+  pub later : {P : World → World → Type 0}
+      → ((w v : World) → Holds w → Holds v → Grows (world_state w) (world_state v) → P w v)
+      → (p : Parts) (group : Group) (events more : List Event) (w v : World) → IsSize group.size → IsGroup group
+      → LeadsBy (new_world p group) events w → LeadsBy w more v → P w v
+  later by p group events more w v size session before then =
+      let first = always laws.events (λ w h. h) p group events w size session before in
+      by w v first (happens_holds laws.events w more v first then) (happens_grows w more v first then)

@@ -1,19 +1,21 @@
 -- The events of the witness lead to a world in which the key is learned and shown, for the law
--- `keys_may_show`.
-use Rattle.std.proofs.Common.{◌≡◌, ◌∙◌, ℕ, false, List, [], ◌∷◌, ◌++◌, drop, take, slice_get, Option, None, Some, refl, sym, ap, subst, arith}
+-- `keys_may_show`. First, what its one node knows after each of its calls.
+use Rattle.group_world.specs.declared.event.Act.{Act}
+use Rattle.std.proofs.lemmas.List.Elements.{All-from_recursion, All-take}
+use Rattle.paxos_msg.proofs.OwnKeys.{own_keys}
+use Rattle.group_node.specs.Ranges.{AllFit}
+use Rattle.std.proofs.Common.{take, ◌≡◌, ◌∙◌, ℕ, false, List, [], ◌∷◌, ◌++◌, drop, slice_get, Option, None, Some, refl, sym, ap, subst, arith, length, replicate, slice_set}
 use Rattle.std.proofs.lemmas.List.{map-append}
 use Rattle.pcode_ops.specs.Decoding.{instr_of}
 use Rattle.pcode_machine.specs.Runs.{after_steps, out}
 use Rattle.paxos_msg.specs.declared.message.Body.TheVariants.{Accept, Accepted, Ask, Prepare, Promise, Submit}
 use Rattle.paxos_msg.specs.declared.value.Value.{Value}
-use Rattle.paxos_msg.specs.Batches.{Body, Change, Msg, Record}
+use Rattle.paxos_msg.specs.Batches.{Body, Change, Record}
 use Rattle.paxos_msg.specs.Fits.{IsValue}
-use Rattle.paxos_msg.specs.Keys.{AreOwnKeys, Key, batches}
-use Rattle.std.specs.List.{Contains}
-use Rattle.group_world.proofs.OrderLists.{only_in}
+use Rattle.paxos_msg.specs.Keys.{Key}
 use Rattle.paxos_msg.specs.Records.{empty_record}
 use Rattle.paxos_learner.proofs.OnePlace.{get_here}
-use Rattle.std.specs.FinMap.{empty}
+use Rattle.std.specs.FinMap.{empty, FinMap, entries, get, get-empty, insert, remove, len-empty, len-entries, entries-insert}
 use Rattle.group_node.specs.declared.player.Ran.TheVariants as more
 use Rattle.group_node.specs.Protocol.{on_message}
 use Rattle.group_node.specs.Known.{Response, Known}
@@ -24,14 +26,151 @@ use Rattle.group_node.specs.Steps.{messages_handed_out}
 use Rattle.group_world.specs.declared.event.Act.TheVariants as act
 use Rattle.group_world.specs.declared.event.Done.TheVariants.{Applied, Fell}
 use Rattle.group_world.specs.Event.{LeadsBy, Leaves, LeavesBy, Performs}
-use Rattle.group_world.specs.Group.{IsUp, messages_in, new_world, up_of, with_member, World, world_state}
-use Rattle.group_world.specs.Member.{NodeCall, failing, Makes, Member, member_after_release, Running, save_outcome}
+use Rattle.group_world.specs.Group.{IsUp, new_world, up_of, with_member, World, world_state}
+use Rattle.group_world.specs.Member.{NodeCall, failing, Makes, Member, member_after_release, Running, save_outcome, call_of_campaign, call_of_press}
 use Rattle.group_world.specs.Headline.{HasLearned}
-use Rattle.group_world.specs.Witness.{echoes, letter, letter_batch, one, shown_events}
+use Rattle.group_world.specs.Witness.{echoes, letter_batch, one, shown_events}
 use Rattle.group_world.proofs.ConsolesMayShow.{StepsLaw, WritesLetter, all_go, is_step, replays, runs, ten_of, waits}
-use Rattle.group_world.proofs.OrderExample.{EachOf, ballot, message}
-use Rattle.group_world.proofs.OrderReadable.{ExampleLaws, IsReadable, all_read, are_bytes, ballot_fits, me, node_fits}
-use Rattle.group_world.proofs.KeysMayShowCalls.{asking, campaigns, hears_accept, hears_accepted, hears_prepare, hears_promise, hears_submit, holding, input_is, knowing, leading, offering, presses, ticks, up, voting}
+use Rattle.group_world.proofs.OrderPossible.{FitsHere, fit_read, ballot, message, are_bytes, ballot_fits, me, node_fits}
+use Rattle.std.specs.Ordering.{nat_cmp}
+use Rattle.std.specs.Cmp.{nat_cmp_total}
+use Rattle.paxos_msg.specs.declared.record.Change.TheVariants as change
+use Rattle.paxos_proposer.specs.Proposer.{Proposer, new_proposer, proposing}
+use Rattle.paxos_learner.specs.Entered.{keys_with}
+use Rattle.paxos_learner.specs.Input.{learned_input}
+use Rattle.paxos_learner.specs.Tallies.{Tally}
+use Rattle.group_node.specs.Tick.{on_tick}
+use Rattle.group_node.specs.Pump.{pump}
+
+-- ---- maps of nothing, and of one value
+
+no_entries : {X : Type 0} (xs : List X) → length xs ≡ 0 → xs ≡ []
+no_entries [] e = refl
+no_entries (x ∷ xs) e = absurd (omega arith)
+
+abbrev nothing : FinMap nat_cmp Value
+nothing = empty
+
+abbrev no_tallies : FinMap nat_cmp Tally
+no_tallies = empty
+
+abbrev one_value : FinMap nat_cmp Value
+one_value = insert nothing 0 letter_batch
+
+entries_none : entries nothing ≡ []
+entries_none = no_entries _ (sym (len-entries nothing) ∙ len-empty nat_cmp Value)
+
+entries_one : entries one_value ≡ (0, letter_batch) ∷ []
+entries_one = entries-insert nat_cmp_total nothing 0 letter_batch ∙ rw entries_none refl
+
+-- ---- the node
+
+abbrev node : Record → FinMap nat_cmp Value → FinMap nat_cmp Tally → Option Proposer
+    → List Key → List ℕ → ℕ → Known
+node kept learned tallies proposer offered waiting first = record {
+  me = me;
+  kept = kept;
+  learner = record { size = 1; learned = learned; tallies = tallies };
+  proposer = proposer;
+  remembered = None;
+  offered = offered;
+  waiting = waiting;
+  first = first;
+}
+
+abbrev twice : Record
+twice = record { starts = 2; promised = None; votes = [] }
+
+abbrev promising : Record
+promising = record { starts = 2; promised = Some ballot; votes = [] }
+
+abbrev voted : Record
+voted = record {
+  starts = 2;
+  promised = Some ballot;
+  votes = (record { place = 0; ballot = ballot; value = letter_batch }) ∷ [];
+}
+
+abbrev leads : Proposer
+leads = record (new_proposer ballot 0 1) { coverages = slice_set (replicate 10 0) 1 65536 }
+
+abbrev proposes : Proposer
+proposes = proposing leads (Some letter_batch)
+
+-- the node after each call: it is up; it has campaigned; it leads; a key waits; it has proposed,
+-- voted for and learned it
+abbrev up : Known
+up = node twice nothing no_tallies None [] [] 1
+
+abbrev asking : Known
+asking = node promising nothing no_tallies (Some (new_proposer ballot 0 1)) [] [] 1
+
+abbrev leading : Known
+leading = node promising nothing no_tallies (Some leads) [] [] 1
+
+abbrev holding : Known
+holding = node promising nothing no_tallies (Some leads) [] (65 ∷ []) 1
+
+abbrev offering : Known
+offering = node promising nothing no_tallies (Some proposes) (keys_with [] letter_batch) (65 ∷ []) 1
+
+abbrev voting : Known
+voting = node voted nothing no_tallies (Some proposes) (keys_with [] letter_batch) (65 ∷ []) 1
+
+abbrev knowing : Known
+knowing = node voted one_value (remove no_tallies 0) (Some proposes) (keys_with [] letter_batch) [] 2
+
+-- ---- its calls
+
+campaigns : call_of_campaign up ≡ Makes
+    (record { node = asking; saves = Some (change.Promise ballot); sends = to_all (Prepare ballot 0) ∷ [] }) []
+campaigns = rw entries_none refl
+
+hears_prepare : on_message asking 1 (Prepare ballot 0) ≡ record
+    { node = asking; saves = None; sends = to_one 1 (Promise ballot 0 65536 []) ∷ [] }
+hears_prepare = refl
+
+hears_promise : on_message asking 1 (Promise ballot 0 65536 []) ≡ record
+    { node = leading; saves = None; sends = [] }
+unfolding pump
+hears_promise = refl
+
+presses : call_of_press leading 65 ≡ Makes (record { node = holding; saves = None; sends = [] })
+    (letter_batch ∷ [])
+presses = refl
+
+ticks : on_tick holding ≡ record
+    { node = holding; saves = None; sends = to_all (Submit letter_batch) ∷ to_all (Ask 0) ∷ [] }
+unfolding pump
+ticks = rw entries_none refl
+
+hears_submit : on_message holding 1 (Submit letter_batch) ≡ record
+    { node = offering; saves = None; sends = to_all (Accept ballot 0 letter_batch) ∷ [] }
+unfolding pump
+hears_submit = rw (entries_none, entries_none) refl
+
+hears_accept : on_message offering 1 (Accept ballot 0 letter_batch) ≡ record {
+  node = voting;
+  saves = Some (change.Ballotted 0 ballot letter_batch);
+  sends = to_all (Accepted ballot 0 letter_batch) ∷ [];
+}
+hears_accept = rw entries_none refl
+
+value_none : get nothing 0 ≡ None
+value_none = get-empty nat_cmp 0
+
+tally_none : get no_tallies 0 ≡ None
+tally_none = get-empty nat_cmp 0
+
+value_one : get one_value 0 ≡ Some letter_batch
+value_one = get_here nothing 0 letter_batch
+
+hears_accepted : on_message voting 1 (Accepted ballot 0 letter_batch) ≡ record
+    { node = knowing; saves = None; sends = [] }
+hears_accepted = rw (value_none, entries_none, tally_none, entries_one, value_one) refl
+
+input_is : learned_input one_value ≡ 65 ∷ []
+input_is = rw (entries_one, value_one) refl
 
 -- ---- its worlds
 
@@ -87,12 +226,6 @@ letter_fits = (
   (omega arith, omega arith, omega arith, omega arith, are_bytes (65 ∷ []) refl),
 )
 
-letter_own : AreOwnKeys batches 1 letter_batch
-letter_own = record { has_key = λ e. absurd cc; at_node = own }
-  where
-    own : (k : Key) → Contains (letter ∷ []) k → k.node ≡ 1
-    own k among = sym (ap (λ (x : Key). x.node) (only_in letter k among))
-
 abbrev prepare : Packet
 prepare = to_all (Prepare ballot 0)
 
@@ -110,33 +243,6 @@ accept = to_all (Accept ballot 0 letter_batch)
 
 abbrev accepted : Packet
 accepted = to_all (Accepted ballot 0 letter_batch)
-
-prepare_read : IsReadable prepare
-prepare_read = record { fits = (node_fits, (ballot_fits, refl, omega arith)); bytes = refl }
-
-promise_read : IsReadable promise
-promise_read = record {
-  fits = (node_fits, (ballot_fits, omega arith, omega arith, omega arith, omega arith, tt));
-  bytes = refl;
-}
-
-submit_read : IsReadable submit
-submit_read = record { fits = (node_fits, (letter_fits, letter_own)); bytes = refl }
-
-ask_read : IsReadable ask
-ask_read = record { fits = (node_fits, omega arith); bytes = refl }
-
-accept_read : IsReadable accept
-accept_read = record { fits = (node_fits, (ballot_fits, refl, omega arith, letter_fits)); bytes = refl }
-
-accepted_read : IsReadable accepted
-accepted_read = record { fits = (node_fits, (ballot_fits, omega arith, letter_fits)); bytes = refl }
-
-module _ (laws : ExampleLaws) where
-  read_at : (ps : List Packet) (k : ℕ) (m : Msg) → EachOf IsReadable ps
-      → slice_get (messages_handed_out 1 ps) k ≡ Some m
-      → slice_get (messages_in one (datagrams_of me ps)) k ≡ Some m
-  read_at ps k m each e = ap (λ sent. slice_get sent k) (all_read laws ps each) ∙ e
 
 -- ---- its machine
 
@@ -178,37 +284,40 @@ last = world shown all keys
 abbrev part : ℕ → List Packet
 part k = take k all
 
-module _ (laws : ExampleLaws) (steps : StepsLaw) where
-  delivers : (n : Known) (made : Response) (ps : List Packet) (typed : List Value) (k : ℕ)
-      (body : Body) → EachOf IsReadable ps
-      → slice_get (messages_handed_out 1 ps) k ≡ Some (message body) → on_message n 1 body ≡ made
-      → Performs (world (member n start []) ps typed) None (act.Deliver k 1) Applied (next n made ps typed [])
-  delivers n made ps typed k body each at e = (
-    member n start [],
-    running n start,
-    message body,
-    up_here n start ps typed,
-    read_at laws ps k (message body) each at,
-    leaves n made ps typed [] (Makes _ []) (ap (λ x. Makes x []) e),
-  )
+all_fit : AllFit me all
+all_fit = All-from_recursion FitsHere all (
+  (ballot_fits, refl, omega arith),
+  (
+    (ballot_fits, omega arith, omega arith, omega arith, omega arith, tt),
+    (
+      (letter_fits, own_keys 1 2 1 1 (65 ∷ []) (omega arith) refl),
+      (omega arith, ((ballot_fits, refl, omega arith, letter_fits), ((ballot_fits, omega arith, letter_fits), tt))),
+    ),
+  ),
+)
 
-  two_read : EachOf IsReadable (part 2)
-  two_read = (prepare_read, (promise_read, tt))
-
-  four_read : EachOf IsReadable (part 4)
-  four_read = (prepare_read, (promise_read, (submit_read, (ask_read, tt))))
-
-  five_read : EachOf IsReadable (part 5)
-  five_read = (prepare_read, (promise_read, (submit_read, (ask_read, (accept_read, tt)))))
-
-  all_six_read : EachOf IsReadable all
-  all_six_read = (prepare_read, (promise_read, (submit_read, (ask_read, (accept_read, (accepted_read, tt))))))
+module _ (steps : StepsLaw) where
+  -- an event whose save, if it makes one, is kept
+  abbrev Step : World → Act → World → Type 0
+  Step w act v = Performs w None act Applied v
 
   abbrev at : Known → ℕ → List Value → World
   at n k typed = world (member n start []) (part k) typed
 
+  delivers : (n : Known) (made : Response) (sent : ℕ) (typed : List Value) (k : ℕ)
+      (body : Body) → slice_get (messages_handed_out 1 (part sent)) k ≡ Some (message body) → on_message n 1 body ≡ made
+      → Performs (at n sent typed) None (act.Deliver k 1) Applied (next n made (part sent) typed [])
+  delivers n made sent typed k body there e = (
+    member n start [],
+    running n start,
+    message body,
+    up_here n start (part sent) typed,
+    ap (λ sent. slice_get sent k) (fit_read (part sent) (All-take FitsHere sent all all_fit)).1 ∙ there,
+    leaves n made (part sent) typed [] (Makes _ []) (ap (λ x. Makes x []) e),
+  )
+
   -- the byte is released
-  e14 : Performs (world (member knowing ten []) all keys) None (act.Release 1) Applied last
+  e14 : Step (world (member knowing ten []) all keys) (act.Release 1) last
   e14 = (
     member knowing ten [],
     running knowing ten,
@@ -220,7 +329,7 @@ module _ (laws : ExampleLaws) (steps : StepsLaw) where
   )
 
   -- the machine runs
-  e13 : Performs (at knowing 6 keys) None (act.Run 1 10) Applied
+  e13 : Step (at knowing 6 keys) (act.Run 1 10)
       (world (member knowing ten []) all keys)
   e13 = (
     member knowing start [],
@@ -235,16 +344,16 @@ module _ (laws : ExampleLaws) (steps : StepsLaw) where
   )
 
   -- the key is learned, voted for, proposed and submitted
-  e12 : Performs (at voting 6 keys) None (act.Deliver 5 1) Applied (at knowing 6 keys)
-  e12 = delivers voting _ (part 6) keys 5 (Accepted ballot 0 letter_batch) all_six_read refl hears_accepted
+  e12 : Step (at voting 6 keys) (act.Deliver 5 1) (at knowing 6 keys)
+  e12 = delivers voting _ 6 keys 5 (Accepted ballot 0 letter_batch) refl hears_accepted
 
-  e11 : Performs (at offering 5 keys) None (act.Deliver 4 1) Applied (at voting 6 keys)
-  e11 = delivers offering _ (part 5) keys 4 _ five_read refl hears_accept
+  e11 : Step (at offering 5 keys) (act.Deliver 4 1) (at voting 6 keys)
+  e11 = delivers offering _ 5 keys 4 _ refl hears_accept
 
-  e10 : Performs (at holding 4 keys) None (act.Deliver 2 1) Applied (at offering 5 keys)
-  e10 = delivers holding _ (part 4) keys 2 _ four_read refl hears_submit
+  e10 : Step (at holding 4 keys) (act.Deliver 2 1) (at offering 5 keys)
+  e10 = delivers holding _ 4 keys 2 _ refl hears_submit
 
-  e9 : Performs (at holding 2 keys) None (act.Tick 1) Applied (at holding 4 keys)
+  e9 : Step (at holding 2 keys) (act.Tick 1) (at holding 4 keys)
   e9 = (
     member holding start [],
     running holding start,
@@ -253,7 +362,7 @@ module _ (laws : ExampleLaws) (steps : StepsLaw) where
   )
 
   -- the key is typed
-  e8 : Performs (at leading 2 []) None (act.Press 1 65) Applied (at holding 2 keys)
+  e8 : Step (at leading 2 []) (act.Press 1 65) (at holding 2 keys)
   e8 = (
     member leading start [],
     running leading start,
@@ -263,23 +372,23 @@ module _ (laws : ExampleLaws) (steps : StepsLaw) where
   )
 
   -- the node leads
-  e7 : Performs (at asking 2 []) None (act.Deliver 1 1) Applied (at leading 2 [])
-  e7 = delivers asking _ (part 2) [] 1 (Promise ballot 0 65536 []) two_read refl hears_promise
+  e7 : Step (at asking 2 []) (act.Deliver 1 1) (at leading 2 [])
+  e7 = delivers asking _ 2 [] 1 (Promise ballot 0 65536 []) refl hears_promise
 
-  e6 : Performs (at asking 1 []) None (act.Deliver 0 1) Applied (at asking 2 [])
-  e6 = delivers asking _ (part 1) [] 0 _ (prepare_read, tt) refl hears_prepare
+  e6 : Step (at asking 1 []) (act.Deliver 0 1) (at asking 2 [])
+  e6 = delivers asking _ 1 [] 0 _ refl hears_prepare
 
-  e5 : Performs (at up 0 []) None (act.Campaign 1) Applied (at asking 1 [])
+  e5 : Step (at up 0 []) (act.Campaign 1) (at asking 1 [])
   e5 = (member up start [], running up start, up_here up start [] [], leaves up _ [] [] [] _ campaigns)
 
   -- the node starts, after a failed save and a crash
-  e4 : Performs (world (stopped once) [] []) None (act.Start 1) Applied (at up 0 [])
+  e4 : Step (world (stopped once) [] []) (act.Start 1) (at up 0 [])
   e4 = (stopped once, record { there = refl; down = refl }, (refl, refl))
 
-  e3 : Performs (at first_up 0 []) None (act.Crash 1) Applied (world (stopped once) [] [])
+  e3 : Step (at first_up 0 []) (act.Crash 1) (world (stopped once) [] [])
   e3 = (member first_up start [], running first_up start, up_here first_up start [] [], refl, refl)
 
-  e2 : Performs (new_world echoes one) None (act.Start 1) Applied (at first_up 0 [])
+  e2 : Step (new_world echoes one) (act.Start 1) (at first_up 0 [])
   e2 = (stopped empty_record, record { there = refl; down = refl }, (refl, refl))
 
   e1 : Performs (new_world echoes one) (Some false) (act.Start 1) Fell (new_world echoes one)

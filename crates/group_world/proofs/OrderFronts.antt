@@ -1,97 +1,64 @@
--- The keys of chosen values, each once, are in order, if each value was due.
-use Rattle.std.proofs.Common.{◌≡◌, ◌∙◌, ℕ, zero, suc, ◌+◌, ◌<◌, ◌≤◌, Bool, true, false, List, [], ◌∷◌, ◌++◌, length, map, Some, if◌then◌else◌, refl, sym, ap, subst, inl, inr, append_assoc, arith, IsTrue, ◌↔◌}
-use Rattle.std.proofs.lemmas.Bool.{cases_eq, cases_lt, both_ways}
+-- The keys of chosen values, each once, are in order if each value was due; and in an ordered world
+-- each was.
+use Rattle.std.proofs.Common.{◌≡◌, ◌∙◌, ℕ, ◌+◌, ◌<◌, ◌≤◌, Bool, true, false, List, [], ◌∷◌, ◌++◌, length, map, Some, if◌then◌else◌, refl, sym, ap, subst, inl, inr, append_assoc, arith, IsTrue, ◌↔◌}
+use Rattle.std.proofs.lemmas.Bool.{cases_lt, both_ways}
 use Rattle.std.proofs.lemmas.List.{append-nil}
-use Rattle.std.proofs.lemmas.List.Elements.{Contains-append_left, Contains-append_right, Contains-get_or, Contains-push, Contains-push_cases}
+use Rattle.std.proofs.lemmas.List.Elements.{All-cons, All-contains, All-filter, All-nil, All-weaker, Contains-append_left, Contains-append_right, Contains-get_or, Contains-push}
 use Rattle.std.proofs.lemmas.List.Quantifiers.{all_pairs_push}
 use Rattle.std.proofs.lemmas.List.Concat.{flat_map-append}
 use Rattle.std.proofs.lemmas.Option.{slice_get-get_or, slice_get_within}
-use Rattle.std.specs.List.{Contains, flat_map, range_with_len, slice_get}
+use Rattle.std.specs.List.{All, Contains, flat_map, range_with_len, slice_get}
 use Rattle.paxos_msg.specs.Keys.{Key, keys_from, keys_of}
 use Rattle.indexmap.specs.IndexSet.{insert_key}
 use Rattle.paxos_learner.specs.Input.{same_key, has_key, firsts, keys_in_order}
-use Rattle.paxos_msg.specs.declared.message.Body.TheVariants.{Submit}
 use Rattle.paxos_msg.specs.declared.value.Value.{Value}
 use Rattle.paxos_msg.specs.declared.value.Value.TheVariants.{Keys}
-use Rattle.paxos_msg.specs.Batches.{IsFree, Sent}
+use Rattle.paxos_msg.specs.Batches.{IsFree}
 use Rattle.paxos_msg.specs.Chosen.{IsChosen}
-use Rattle.paxos_msg.specs.Messages.{IsSaid}
 use Rattle.group_node.specs.Inputs.{AreChosen}
-use Rattle.group_world.specs.Order.{HaveOneName, AreApart, AreInOrder, serials_of}
-use Rattle.group_world.specs.Ordered.{HasSerial, IsDue}
-use Rattle.group_world.proofs.OrderLists.{none_in, first_in, place_of, in_from_place, in_flat_map, of_flat_map, range_more, in_range, of_range}
-use Rattle.group_world.proofs.OrderSerials.{apart_same, serial_in, serial_of, has_in, own_serials, other_more}
+use Rattle.group_world.specs.Group.{World, world_state}
+use Rattle.group_world.specs.Order.{HaveOneName, AreApart, AreInOrder, is_of, serials_of}
+use Rattle.group_world.specs.Ordered.{HasSerial, IsDue, IsOrdered}
+use Rattle.group_world.specs.Sound.{IsSound}
+use Rattle.group_world.proofs.OrderLists.{left_place, none_in, first_in, in_cases, in_filter, place_of, in_from_place, in_flat_map, of_flat_map, in_range, of_range, rest_in}
+use Rattle.group_world.proofs.SoundWorldsAgree.{ChoiceLaws}
+use Rattle.group_world.proofs.OrderRows.{apart_same, of_test, other_more, row_more, serial_in, serial_of, has_in}
 
 -- all keys of these values, in order
-abbrev pub all_keys : List Value → List Key
+abbrev all_keys : List Value → List Key
 all_keys values = flat_map keys_of values
-
--- What agreement says of what was sent: at most one value is chosen at a place, and it is a no-op
--- or was submitted.
-pub record IsAgreed (size : ℕ) (sent : Sent) : Type 0 where
-  pub one : (s : ℕ) (v u : Value) → IsChosen size sent s v → IsChosen size sent s u → v ≡ u
-  pub free : (s : ℕ) (v : Value) → IsChosen size sent s v → IsFree sent v
-
--- each submitted value has typed keys and is due
-pub record AreSubmits (size : ℕ) (sent : Sent) (typed : List Key) : Type 0 where
-  pub of_typed : (v : Value) → IsSaid sent (Submit v) → (k : Key) → Contains (keys_of v) k → Contains typed k
-  pub due : (v : Value) → IsSaid sent (Submit v) → IsDue size sent v
 
 -- each node, start and serial is there once, and those of each start of each node are in order
 pub record AreOrderly (keys : List Key) : Type 0 where
   pub once : AreApart keys
   pub order : AreInOrder keys
 
--- The laws of keys that are read once: one key more, and the test that a key is among others.
-pub record KeyLaws : Type 0 where
+-- The laws of the crates below: one key more, when keys are the same or among others, and what is
+-- chosen.
+pub record OrderLaws : Type 0 where
   pub more : (keys : List Key) (k : Key) → firsts (keys ++ k ∷ []) ≡ insert_key same_key (firsts keys) k
+  pub same : (k other : Key) → (same_key k other ≡ true) ↔ (k ≡ other)
   pub has : (keys : List Key) (k : Key) → IsTrue (has_key keys k) ↔ Contains keys k
+  pub choice : ChoiceLaws
 
 -- ---- the firsts of keys
 
--- the keys so far, with those added once: the same elements
-pub record AreFirsts (keys once : List Key) : Type 0 where
-  pub all : (k : Key) → Contains keys k → Contains once k
-  pub only : (k : Key) → Contains once k → Contains keys k
+-- they are among the keys
+firsts_among : (keys : List Key) → All (Contains keys) (firsts keys)
+firsts_among [] = All-nil _
+firsts_among (k ∷ keys) =
+    All-cons (Contains (k ∷ keys)) k _ (first_in k keys)
+    (All-filter _ (Contains (k ∷ keys)) _ (All-weaker (Contains keys) (Contains (k ∷ keys)) (rest_in k keys) _ (firsts_among keys)))
 
--- one key more, if it is among them or not
-added : (laws : KeyLaws) (keys once : List Key) (k : Key) (there : Bool) → has_key once k ≡ there → AreFirsts keys once
-    → AreFirsts (keys ++ k ∷ []) (if there then once else once ++ k ∷ [])
-added laws keys once k true e h = record {
-  all = λ x here. elim (Contains-push_cases keys k x here) [
-    | inl before ↦ h.all x before
-    | inr same ↦ subst (Contains once) same ((laws.has once k).0 e)
-  ];
-  only = λ x here. Contains-append_left keys (k ∷ []) x (h.only x here);
-}
-added laws keys once k false e h = record {
-  all = λ x here. elim (Contains-push_cases keys k x here) [
-    | inl before ↦ Contains-append_left once (k ∷ []) x (h.all x before)
-    | inr same ↦ subst (Contains (once ++ k ∷ [])) same (Contains-push once k)
-  ];
-  only = λ x here. elim (Contains-push_cases once k x here) [
-    | inl before ↦ Contains-append_left keys (k ∷ []) x (h.only x before)
-    | inr same ↦ subst (Contains (keys ++ k ∷ [])) same (Contains-push keys k)
-  ];
-}
-
-firsts_more : (laws : KeyLaws) (keys : List Key) (k : Key) → AreFirsts keys (firsts keys)
-    → AreFirsts (keys ++ k ∷ []) (firsts (keys ++ k ∷ []))
-firsts_more laws keys k h = rw (laws.more keys k) (added laws keys (firsts keys) k (has_key (firsts keys) k) refl h)
-
-firsts_all : (laws : KeyLaws) (keys more : List Key) → AreFirsts keys (firsts keys) → AreFirsts (keys ++ more) (firsts (keys ++ more))
-firsts_all laws keys [] h = rw (append-nil keys) h
-firsts_all laws keys (k ∷ more) h =
-    subst (λ l. AreFirsts l (firsts l)) (append_assoc keys (k ∷ []) more) (firsts_all laws _ more (firsts_more laws keys k h))
-
-pub keys_are_firsts : (laws : KeyLaws) (keys : List Key) → AreFirsts keys (firsts keys)
-keys_are_firsts laws keys = firsts_all laws [] keys (record { all = λ k h. h; only = λ k h. h })
+-- so each of them is one of the keys
+of_firsts : (keys : List Key) (k : Key) → Contains (firsts keys) k → Contains keys k
+of_firsts keys k h = All-contains (Contains keys) (firsts keys) k (firsts_among keys) h
 
 -- ---- one key more keeps the order
 
 -- what a key needs to come after others: its serial is 1, or one of the others has the serial
 -- before
-pub data Follows (keys : List Key) (node start serial : ℕ) : Type 0 where
+data Follows (keys : List Key) (node start serial : ℕ) : Type 0 where
   begins : serial ≡ 1 → Follows keys node start serial
   goes_on : (before : ℕ) → before + 1 ≡ serial → HasSerial keys node start before → Follows keys node start serial
 
@@ -99,10 +66,9 @@ pub data Follows (keys : List Key) (node start serial : ℕ) : Type 0 where
 module _ (keys : List Key) (k : Key) (h : AreOrderly keys) (follows : Follows keys k.node k.start k.serial)
     (new : (x : Key) → Contains keys x → HaveOneName x k → ⊥) where
   -- its serial is the one after the last
-  next_serial : (n : ℕ) → serials_of k.node k.start keys ≡ range_with_len 1 n → k.serial ≡ n + 1
+  next_serial : (n : ℕ) → serials_of k.node k.start keys ≡ range_with_len 1 n → 1 + n ≡ k.serial
   next_serial n e =
-      let high = most follows in
-      let low = least follows in
+      let (low, high) = around follows in
       elim (cases_lt n k.serial) [
         | inl above ↦ omega arith
         | inr within ↦ absurd
@@ -110,47 +76,28 @@ module _ (keys : List Key) (k : Key) (h : AreOrderly keys) (follows : Follows ke
             (subst (λ l. Contains l k.serial) (sym e) (in_range 1 n k.serial low (omega arith)))))
       ]
     where
-      most : Follows keys k.node k.start k.serial → k.serial ≤ n + 1
-      most (begins one) = omega arith
-      most (goes_on before next has) =
+      around : Follows keys k.node k.start k.serial → (1 ≤ k.serial) × (k.serial ≤ n + 1)
+      around (begins one) = (omega arith, omega arith)
+      around (goes_on before next has) =
           let inside = of_range 1 n before (subst (λ l. Contains l before) e (serial_in keys k.node k.start before has)) in
-          omega (arith, inside.1)
-
-      least : Follows keys k.node k.start k.serial → 1 ≤ k.serial
-      least (begins one) = omega arith
-      least (goes_on before next has) = omega arith
+          (omega arith, omega (arith, inside.1))
 
       found : HasSerial keys k.node k.start k.serial → ⊥
       found has = new has.key has.among (record { node = has.node_is; start = has.start_is; serial = has.serial_is })
 
+  -- the order goes on with it
   next_order : AreInOrder (keys ++ k ∷ [])
-  next_order node start = elim (cases_eq k.node node) [
-    | inl e ↦ elim (cases_eq k.start start) [
-      | inl f ↦ (
-        (h.order node start).0 + 1,
-        own_serials node start keys k e f
-            ∙ ap (λ l. l ++ k.serial ∷ []) (h.order node start).1 ∙ sym (range_more 1 (h.order node start).0 k.serial (here e f)),
-      )
-      | inr ne ↦ (
-        (h.order node start).0,
-        ap (map (λ (x : Key). x.serial)) (other_more node start keys k (λ e f. ne f))
-            ∙ (h.order node start).1,
-      )
-    ]
-    | inr ne ↦ (
-      (h.order node start).0,
-      ap (map (λ (x : Key). x.serial)) (other_more node start keys k (λ e f. ne e))
-          ∙ (h.order node start).1,
-    )
-  ]
-    where
-      here : k.node ≡ node → k.start ≡ start → 1 + (h.order node start).0 ≡ k.serial
-      here e f =
-          let own : serials_of k.node k.start keys ≡ range_with_len 1 (h.order node start).0 =
-          (λ i. serials_of (e i) (f i) keys) ∙ (h.order node start).1 in
-          let is = next_serial (h.order node start).0 own in
-          omega arith
+  next_order node start = by (is_of node start k) refl where
+    by : (own : Bool) → is_of node start k ≡ own → (n : ℕ) × (serials_of node start (keys ++ k ∷ []) ≡ range_with_len 1 n)
+    by true own =
+        let (n, row) = h.order node start in
+        let (e, f) = of_test node start k own in
+        (n + 1, row_more node start n keys k own (next_serial n (rw (e, f) row)) row)
+    by false other =
+        let (n, row) = h.order node start in
+        (n, ap (map (λ (x : Key). x.serial)) (other_more node start keys k other) ∙ row)
 
+  -- and no key is there twice
   next_orderly : AreOrderly (keys ++ k ∷ [])
   next_orderly = record {
     once =
@@ -161,162 +108,163 @@ module _ (keys : List Key) (k : Key) (h : AreOrderly keys) (follows : Follows ke
 
 -- ---- the keys of values, one after another
 
--- keys of one name are the same
-pub record AreUniform (keys : List Key) : Type 0 where
-  pub same : (k other : Key) → Contains keys k → Contains keys other → HaveOneName k other → k ≡ other
-
--- these keys, each once, are in order, and have the same elements
-pub record AreGood (keys : List Key) : Type 0 where
-  pub orderly : AreOrderly (firsts keys)
-  pub firsts : AreFirsts keys (firsts keys)
-
--- a key that follows keys follows more keys
-follows_in : (keys more : List Key) (node start serial : ℕ) → ((k : Key) → Contains keys k → Contains more k)
-    → Follows keys node start serial → Follows more node start serial
-follows_in keys more node start serial within (begins one) = begins one
-follows_in keys more node start serial within (goes_on before next has) =
-    goes_on before next (has_in keys more node start before within has)
-
-push_orderly : (laws : KeyLaws) (keys once : List Key) (k : Key) (there : Bool) → has_key once k ≡ there → AreOrderly once
-    → AreFirsts keys once
-    → Follows keys k.node k.start k.serial → ((x : Key) → Contains keys x → HaveOneName x k → x ≡ k)
-    → AreOrderly (if there then once else once ++ k ∷ [])
-push_orderly laws keys once k true e h f follows same = h
-push_orderly laws keys once k false e h f follows same =
-    next_orderly once k h (follows_in keys once k.node k.start k.serial f.all follows)
-    (λ x among name. both_ways _ e ((laws.has once k).1 (subst (λ y. Contains once y) (same x (f.only x among) name) among)))
-
-push_good : (laws : KeyLaws) (keys : List Key) (k : Key) → AreGood keys → Follows keys k.node k.start k.serial
-    → ((x : Key) → Contains keys x → HaveOneName x k → x ≡ k) → AreGood (keys ++ k ∷ [])
-push_good laws keys k h follows same = record {
-  orderly = rw (laws.more keys k) (push_orderly laws keys _ k _ refl h.orderly h.firsts follows same);
-  firsts = firsts_more laws keys k h.firsts;
-}
-
-batch_good : (laws : KeyLaws) (keys : List Key) (node start serial : ℕ) (bytes : List ℕ) → AreGood keys
-    → Follows keys node start serial
-    → AreUniform (keys ++ keys_from node start serial bytes) → AreGood (keys ++ keys_from node start serial bytes)
-batch_good laws keys node start serial [] h follows uniform = rw (append-nil keys) h
-batch_good laws keys node start serial (byte ∷ bytes) h follows uniform =
-    let k : Key = record { node = node; start = start; serial = serial; byte = byte } in
-    let more = keys_from node start (serial + 1) bytes in
-    let next = keys ++ k ∷ [] in
-    let join = append_assoc keys (k ∷ []) more in
-    let one = push_good laws keys k h follows
-    (λ x among name. uniform.same x k (Contains-append_left keys (k ∷ more) x among)
-    (Contains-append_right keys _ k (first_in k more)) name) in
-    let last : HasSerial next node start serial =
-    record { key = k; among = Contains-push keys k; node_is = refl; start_is = refl; serial_is = refl } in
-    subst AreGood join
-    (batch_good laws next node start (serial + 1) bytes one (goes_on serial refl last) (subst AreUniform (sym join) uniform))
-
--- ---- the chosen values
-
-left_place : {X : Type 0} (xs ys : List X) (s : ℕ) (x : X) → slice_get xs s ≡ Some x → slice_get (xs ++ ys) s ≡ Some x
-left_place [] ys s x e = cc
-left_place (y ∷ xs) ys zero x e = e
-left_place (y ∷ xs) ys (suc s) x e = left_place xs ys s x e
-
+-- the element after others
 here_place : {X : Type 0} (xs : List X) (y : X) (ys : List X) → slice_get (xs ++ y ∷ ys) (length xs) ≡ Some y
 here_place [] y ys = refl
 here_place (x ∷ xs) y ys = here_place xs y ys
 
-module _ {size : ℕ} {sent : Sent} {typed : List Key} (laws : KeyLaws) (apart : AreApart typed)
-    (submits : AreSubmits size sent typed) (agreed : IsAgreed size sent) where
-  pub front_left : (values more : List Value) → AreChosen size sent (values ++ more) → AreChosen size sent values
-  front_left values more front = record { chosen = λ s v e. front.chosen s v (left_place values more s v e) }
+module _ (laws : OrderLaws) where
+  -- each key is among the firsts
+  in_firsts : (keys : List Key) (k : Key) → Contains keys k → Contains (firsts keys) k
+  in_firsts [] k h = h
+  in_firsts (x ∷ keys) k h = elim (in_cases x keys k h) [
+    | inl e ↦ subst (Contains (firsts (x ∷ keys))) e (first_in x _)
+    | inr later ↦ by (same_key x k) refl (in_firsts keys k later)
+  ]
+    where
+      by : (same : Bool) → same_key x k ≡ same → Contains (firsts keys) k → Contains (firsts (x ∷ keys)) k
+      by true e later = subst (Contains (firsts (x ∷ keys))) ((laws.same x k).0 e) (first_in x _)
+      by false e later = rest_in x _ k (in_filter _ (firsts keys) k later (rw e refl))
 
-  -- the keys of chosen values were typed
-  pub value_typed : (v : Value) → IsFree sent v → (k : Key) → Contains (keys_of v) k → Contains typed k
-  value_typed v (inl noop) k h = absurd (none_in k (subst (λ u. Contains (keys_of u) k) noop h))
-  value_typed v (inr said) k h = submits.of_typed v said k h
+  module _ {w : World} (sound : IsSound w) (ordered : IsOrdered w) where
+    abbrev typed : List Key
+    typed = (world_state w).typed
 
-  pub front_typed : (values : List Value) → AreChosen size sent values → (k : Key) → Contains (all_keys values) k → Contains typed k
-  front_typed values front k h =
-      let from = of_flat_map keys_of values k h in
-      let at = place_of values from.0 from.1 in
-      value_typed from.0 (agreed.free at.0 from.0 (front.chosen at.0 from.0 at.1)) k from.2
+    abbrev AreTyped : List Key → Type 0
+    AreTyped keys = (k : Key) → Contains keys k → Contains typed k
 
-  front_uniform : (values : List Value) → AreChosen size sent values → AreUniform (all_keys values)
-  front_uniform values front =
-      record {
-        same = λ k other h g name.
-            apart_same typed k other apart (front_typed values front k h) (front_typed values front other g) name;
-      }
+    abbrev IsFront : List Value → Type 0
+    IsFront values = AreChosen w.group.size (world_state w).sent values
 
-  -- of two fronts the keys of the shorter one are among those of the longer one
-  shorter_in : (below values : List Value) → AreChosen size sent below → AreChosen size sent values
-      → length below ≤ length values → (k : Key) → Contains (all_keys below) k → Contains (all_keys values) k
-  shorter_in below values low front less k h =
-      let from = of_flat_map keys_of below k h in
-      let at = place_of below from.0 from.1 in
-      let there = slice_get-get_or values at.0 from.0 (omega (arith, slice_get_within below at.0 from.0 at.1)) in
-      let same = agreed.one at.0 _ from.0 (front.chosen at.0 _ there) (low.chosen at.0 from.0 at.1) in
-      in_flat_map keys_of values from.0 k (in_from_place values at.0 from.0 (there ∙ ap (λ u. Some u) same)) from.2
+    abbrev IsPick : ℕ → Value → Type 0
+    IsPick s v = IsChosen w.group.size (world_state w).sent s v
 
-  -- a front that has more places than these has the value of the next one
-  longer_has : (below values more : List Value) (v : Value) → AreChosen size sent below
-      → AreChosen size sent (values ++ v ∷ more) → length values < length below → Contains below v
-  longer_has below values more v low front less =
-      let s = length values in
-      let there = slice_get-get_or below s v less in
-      let same = agreed.one s _ v (low.chosen s _ there) (front.chosen s v (here_place values v more)) in
-      in_from_place below s v (there ∙ ap (λ u. Some u) same)
+    -- one value is chosen at a place
+    one_value : (s : ℕ) (v u : Value) → IsPick s v → IsPick s u → v ≡ u
+    one_value s v u = laws.choice.one w.group.size s _ _ v u sound.grew
 
-  due_follows : (values more : List Value) (node start first byte : ℕ) (bytes : List ℕ)
-      → AreChosen size sent (values ++ Keys node start first (byte ∷ bytes) ∷ more)
-      → IsDue size sent (Keys node start first (byte ∷ bytes)) → Follows (all_keys values) node start first
-  due_follows values more node start first byte bytes front (inl one) = begins one
-  due_follows values more node start first byte bytes front (inr p) =
-      let v = Keys node start first _ in
-      let k : Key = record { node = node; start = start; serial = first; byte = byte } in
-      elim (cases_lt (length values) (length p.below)) [
-        | inl less ↦ absurd (p.lacks (record {
-          key = k;
-          among =
-              (keys_are_firsts laws _).all k
-              (in_flat_map keys_of p.below v k (longer_has p.below values more v p.chosen front less) (first_in k _));
-          node_is = refl;
-          start_is = refl;
-          serial_is = refl;
-        }))
-        | inr within ↦ goes_on p.before p.next (has_in _ _ node start p.before
-            (λ x among. shorter_in p.below values p.chosen (front_left values (v ∷ more) front) within x
-            ((keys_are_firsts laws _).only x among)) p.has)
-      ]
+    -- a chosen value has typed keys, and is due
+    chosen_is : (s : ℕ) (v : Value) → IsPick s v → AreTyped (keys_of v) × IsDue w.group.size (world_state w).sent v
+    chosen_is s v chosen = by (laws.choice.free w.group.size s _ _ v sound.grew chosen) where
+      by : IsFree (world_state w).sent v → AreTyped (keys_of v) × IsDue w.group.size (world_state w).sent v
+      by (inl noop) = rw noop ((λ k among. absurd (none_in k among)), tt)
+      by (inr said) = ((sound.submitted said.0 v said.1).known, ordered.due v said)
 
-  submitted_due : (v : Value) → IsFree sent v → IsDue size sent v
-  submitted_due v (inl noop) = subst (IsDue size sent) (sym noop) tt
-  submitted_due v (inr said) = submits.due v said
+    -- all keys of chosen values were typed
+    front_typed : (values : List Value) → IsFront values → AreTyped (all_keys values)
+    front_typed values front k h =
+        let (v, among, here) = of_flat_map keys_of values k h in
+        let (s, at) = place_of values v among in
+        (chosen_is s v (front.chosen s v at)).0 k here
 
-  keys_one_more : (values : List Value) (v : Value) → all_keys (values ++ v ∷ []) ≡ all_keys values ++ keys_of v
-  keys_one_more values v = flat_map-append keys_of values (v ∷ []) ∙ ap (λ rest. all_keys values ++ rest) (append-nil _)
+    -- the keys of chosen values were typed
+    pub chosen_typed : (values : List Value) → IsFront values → AreTyped (keys_in_order values)
+    chosen_typed values front k among = front_typed values front k (of_firsts (all_keys values) k among)
 
-  value_good : (values more : List Value) (v : Value) → AreGood (all_keys values)
-      → AreChosen size sent (values ++ v ∷ more) → IsDue size sent v → AreUniform (all_keys values ++ keys_of v)
-      → AreGood (all_keys values ++ keys_of v)
-  value_good values more (Keys node start first (byte ∷ bytes)) h front due uniform =
-      batch_good laws _ node start first (byte ∷ bytes) h (due_follows values more node start first byte bytes front due) uniform
-  value_good values more other h front due uniform = rw (append-nil _) h
+    -- of two fronts the keys of the shorter one are among those of the longer one
+    shorter_in : (below values : List Value) → IsFront below → IsFront values → length below ≤ length values
+        → (k : Key) → Contains (all_keys below) k → Contains (all_keys values) k
+    shorter_in below values low front less k h =
+        let (v, among, here) = of_flat_map keys_of below k h in
+        let (s, at) = place_of below v among in
+        let there = slice_get-get_or values s v (omega (arith, slice_get_within below s v at)) in
+        let same = one_value s _ v (front.chosen s _ there) (low.chosen s v at) in
+        in_flat_map keys_of values v k (in_from_place values s v (there ∙ ap (λ u. Some u) same)) here
 
-  values_good : (values more : List Value) → AreGood (all_keys values) → AreChosen size sent (values ++ more)
-      → AreGood (all_keys (values ++ more))
-  values_good values [] h front = rw (append-nil values) h
-  values_good values (v ∷ more) h front =
-      let join = append_assoc values (v ∷ []) more in
-      let whole = subst (AreChosen size sent) (sym join) front in
-      let e = keys_one_more values v in
-      let due = submitted_due v (agreed.free _ v (front.chosen _ v (here_place values v more))) in
-      let uniform = subst AreUniform e (front_uniform (values ++ v ∷ []) (front_left (values ++ v ∷ []) more whole)) in
-      let one = subst AreGood (sym e) (value_good values more v h front due uniform) in
-      subst (λ l. AreGood (all_keys l)) join (values_good (values ++ v ∷ []) more one whole)
+    -- a front that has more places than these has the value of the next one
+    longer_has : (below values more : List Value) (v : Value) → IsFront below → IsFront (values ++ v ∷ more)
+        → length values < length below → Contains below v
+    longer_has below values more v low front less =
+        let s = length values in
+        let there = slice_get-get_or below s v less in
+        let same = one_value s _ v (low.chosen s _ there) (front.chosen s v (here_place values v more)) in
+        in_from_place below s v (there ∙ ap (λ u. Some u) same)
 
-  nothing_good : AreGood []
-  nothing_good = record {
-    orderly = record { once = λ i j d less below. absurd (omega arith); order = λ node start. (0, refl) };
-    firsts = record { all = λ k h. h; only = λ k h. h };
-  }
+    -- the first of chosen values are chosen
+    front_left : (values more : List Value) → IsFront (values ++ more) → IsFront values
+    front_left values more front = record { chosen = λ s v e. front.chosen s v (left_place values more s v e) }
 
-  -- order and once
-  pub front_orderly : (values : List Value) → AreChosen size sent values → AreOrderly (keys_in_order values)
-  front_orderly values front = (values_good [] values nothing_good front).orderly
+    -- ---- a batch that goes on
+
+    -- one key more, among the firsts or not
+    push_orderly : (keys : List Key) (k : Key) (there : Bool) → has_key (firsts keys) k ≡ there → AreOrderly (firsts keys)
+        → Follows keys k.node k.start k.serial → AreTyped keys → Contains typed k
+        → AreOrderly (if there then firsts keys else firsts keys ++ k ∷ [])
+    push_orderly keys k true e h follows was is_typed = h
+    push_orderly keys k false e h follows was is_typed = next_orderly (firsts keys) k h (among follows) new where
+      among : Follows keys k.node k.start k.serial → Follows (firsts keys) k.node k.start k.serial
+      among (begins one) = begins one
+      among (goes_on before next has) = goes_on before next (has_in (in_firsts keys) has)
+
+      new : (x : Key) → Contains (firsts keys) x → HaveOneName x k → ⊥
+      new x here name =
+          let same = apart_same typed x k ordered.keys.once (was x (of_firsts keys x here)) is_typed name in
+          both_ways _ e ((laws.has (firsts keys) k).1 (subst (Contains (firsts keys)) same here))
+
+    -- the keys of a batch, one after another
+    batch_orderly : (keys : List Key) (node start serial : ℕ) (bytes : List ℕ) → AreOrderly (firsts keys)
+        → Follows keys node start serial → AreTyped (keys ++ keys_from node start serial bytes)
+        → AreOrderly (firsts (keys ++ keys_from node start serial bytes))
+    batch_orderly keys node start serial [] h follows was = rw (append-nil keys) h
+    batch_orderly keys node start serial (byte ∷ bytes) h follows was =
+        let k : Key = record { node = node; start = start; serial = serial; byte = byte } in
+        let more = keys_from node start (serial + 1) bytes in
+        let next = push_orderly keys k _ refl h follows (λ x here. was x (Contains-append_left keys _ x here))
+        (was k (Contains-append_right keys _ k (first_in k more))) in
+        let last : HasSerial (keys ++ k ∷ []) node start serial =
+        record { key = k; among = Contains-push keys k; node_is = refl; start_is = refl; serial_is = refl } in
+        subst (λ l. AreOrderly (firsts l)) (append_assoc keys (k ∷ []) more)
+        (batch_orderly (keys ++ k ∷ []) node start (serial + 1) bytes (rw (laws.more keys k) next) (goes_on serial refl last)
+        (subst AreTyped (sym (append_assoc keys (k ∷ []) more)) was))
+
+    -- ---- the chosen values
+
+    -- a due batch follows the keys before it
+    due_follows : (values more : List Value) (node start first byte : ℕ) (bytes : List ℕ)
+        → IsFront (values ++ Keys node start first (byte ∷ bytes) ∷ more)
+        → IsDue w.group.size (world_state w).sent (Keys node start first (byte ∷ bytes)) → Follows (all_keys values) node start first
+    due_follows values more node start first byte bytes front (inl one) = begins one
+    due_follows values more node start first byte bytes front (inr p) =
+        let v = Keys node start first _ in
+        let k : Key = record { node = node; start = start; serial = first; byte = byte } in
+        elim (cases_lt (length values) (length p.below)) [
+          | inl less ↦ absurd (p.lacks (record {
+            key = k;
+            among =
+                in_firsts _ k
+                (in_flat_map keys_of p.below v k (longer_has p.below values more v p.chosen front less) (first_in k _));
+            node_is = refl;
+            start_is = refl;
+            serial_is = refl;
+          }))
+          | inr within ↦ goes_on p.before p.next (has_in
+              (λ x here. shorter_in p.below values p.chosen (front_left values (v ∷ more) front) within x (of_firsts _ x here)) p.has)
+        ]
+
+    -- one value more keeps the order
+    value_orderly : (values more : List Value) (v : Value) → AreOrderly (firsts (all_keys values)) → IsFront (values ++ v ∷ more)
+        → IsDue w.group.size (world_state w).sent v → AreTyped (all_keys values ++ keys_of v)
+        → AreOrderly (firsts (all_keys values ++ keys_of v))
+    value_orderly values more (Keys node start first (byte ∷ bytes)) h front due was =
+        batch_orderly _ node start first (byte ∷ bytes) h (due_follows values more node start first byte bytes front due) was
+    value_orderly values more other h front due was = rw (append-nil _) h
+
+    -- and so do more values
+    values_orderly : (values more : List Value) → AreOrderly (keys_in_order values) → IsFront (values ++ more)
+        → AreOrderly (keys_in_order (values ++ more))
+    values_orderly values [] h front = rw (append-nil values) h
+    values_orderly values (v ∷ more) h front =
+        let join = append_assoc values (v ∷ []) more in
+        let whole = subst IsFront (sym join) front in
+        let e : all_keys (values ++ v ∷ []) ≡ all_keys values ++ keys_of v =
+        flat_map-append keys_of values (v ∷ []) ∙ ap (λ rest. all_keys values ++ rest) (append-nil _) in
+        let due = (chosen_is _ v (front.chosen _ v (here_place values v more))).1 in
+        let was = subst AreTyped e (front_typed (values ++ v ∷ []) (front_left (values ++ v ∷ []) more whole)) in
+        let next = value_orderly values more v h front due was in
+        subst (λ l. AreOrderly (keys_in_order l)) join (values_orderly (values ++ v ∷ []) more (rw e next) whole)
+
+    -- order and once
+    pub front_orderly : (values : List Value) → IsFront values → AreOrderly (keys_in_order values)
+    front_orderly values front = values_orderly [] values nothing front where
+      nothing : AreOrderly []
+      nothing = record { once = λ i j d less below. absurd (omega arith); order = λ node start. (0, refl) }

@@ -1,30 +1,338 @@
--- A sound and ordered world in which overlapping batches are chosen, for the law `possible`.
-use Rattle.std.proofs.Common.{◌≡◌, ◌≢◌, ◌<◌, ◌≤◌, ℕ, zero, suc, List, [], ◌∷◌, ◌++◌, map, Option, Some, None, IfSome, refl, sym, subst, inl, inr, arith, lit<}
-use Rattle.std.proofs.lemmas.List.Elements.{Contains-get_or}
+-- A group of one node, in which three keys were typed and chosen as the batches 1..1, 1..2 and
+-- 3..3: what was sent, how it grew, and that the messages have spellings which are read. It is
+-- sound and ordered, for the law `possible`.
+use Rattle.paxos_msg.proofs.Rules.{some_if}
+use Rattle.std.specs.List.{AllByRecursion as EachOf, Contains, flat_map, slice_get, list_all}
+use Rattle.paxos_msg.proofs.WithVote.{vote_found}
+use Rattle.std.proofs.lemmas.Option.{same_Some}
+use Rattle.std.proofs.Common.{◌≡◌, ◌≢◌, ◌<◌, ◌≤◌, ℕ, zero, suc, List, [], ◌∷◌, ◌++◌, map, Option, Some, None, IfSome, refl, sym, subst, inl, inr, arith, lit<, ◌==◌, Bool, IsTrue, ap, ◌⊎◌, All, nat_lt, true, length}
+use Rattle.std.proofs.lemmas.List.Elements.{Contains-get_or, All-contains, All-from_recursion, Contains-push}
 use Rattle.std.proofs.lemmas.List.Quantifiers.{all_pairs_push}
-use Rattle.std.specs.List.{Contains, flat_map}
 use Rattle.pcode_file.specs.Parts.{Parts}
 use Rattle.pcode_machine.specs.Runs.{out}
-use Rattle.paxos_msg.specs.declared.message.Body.TheVariants.{Accept, Prepare, Submit, Tell}
+use Rattle.paxos_msg.specs.declared.message.Body.TheVariants.{Accept, Prepare, Submit, Tell, Accepted, Promise}
 use Rattle.paxos_msg.specs.declared.value.Value.{Value}
 use Rattle.paxos_msg.specs.declared.value.Value.TheVariants.{Keys}
-use Rattle.paxos_msg.specs.Batches.{Body, Grew, IsTyped, Msg, Vote}
-use Rattle.paxos_msg.specs.Keys.{Key, keys_of}
-use Rattle.paxos_msg.specs.Fits.{IsValue, IsVote}
-use Rattle.paxos_msg.specs.Messages.{IsSaid}
+use Rattle.paxos_msg.specs.Batches.{Body, Grew, IsTyped, Msg, Vote, Change, IsSafe, Record, Sent}
+use Rattle.paxos_msg.specs.Keys.{Key, keys_of, AreOwnKeys, batches}
+use Rattle.paxos_msg.specs.Fits.{IsValue, IsVote, IsBody, IsBallot, IsNode}
+use Rattle.paxos_msg.specs.Messages.{IsSaid, IsSent, kept_vote_at}
 use Rattle.paxos_acceptor.specs.Backed.{IsVoteBacked}
 use Rattle.paxos_learner.specs.Input.{input_of}
 use Rattle.group_node.specs.Backs.{HasPromised, IsRecordBacked}
 use Rattle.group_node.specs.Inputs.{AreChosen}
-use Rattle.group_node.specs.Packets.{datagrams_of}
-use Rattle.group_node.specs.Steps.{AllChosen, AllTyped}
+use Rattle.group_node.specs.Packets.{datagrams_of, Packet, to_all}
+use Rattle.group_node.specs.Steps.{AllChosen, AllTyped, messages_handed_out}
 use Rattle.group_world.specs.Order.{AreApart, HaveOneName}
 use Rattle.group_world.specs.Ordered.{IsDue, IsOrdered, IsRowOf}
-use Rattle.group_world.specs.Sound.{IsMemberSound, IsSound}
-use Rattle.group_world.specs.Group.{me_of, member_at, World, world_state}
+use Rattle.group_world.specs.Sound.{IsMemberSound, IsSound, IsSpelling}
+use Rattle.group_world.specs.Group.{me_of, member_at, World, world_state, seat_of_member, messages_in}
 use Rattle.group_world.specs.Member.{Member}
-use Rattle.group_world.proofs.OrderExample.{all_chosen, ballot, batch_a, batch_ab, batch_c, chosen_values, each_of, EachOf, grew_3, kept_3, key_a, key_b, key_c, records_of, sent_3, two_chosen, typed, typed_a, typed_ab, typed_c}
-use Rattle.group_world.proofs.OrderReadable.{all_spelled, ballot_fits, ExampleLaws, fits_a, fits_ab, fits_c, group, me, packets, sent_is}
+use Rattle.paxos_msg.proofs.MessagesRead.{message_again}
+use Rattle.paxos_msg.proofs.OwnKeys.{own_keys}
+use Rattle.group_node.specs.Ranges.{AllFit}
+use Rattle.group_world.proofs.WorldAsGroup.{packets_read}
+use Rattle.group_world.proofs.OrderLists.{left_place, none_in}
+use Rattle.std.proofs.lemmas.Bool.{eqb-true, and_parts, ltb-true}
+use Rattle.paxos_msg.specs.declared.ballot.Ballot.{Ballot}
+use Rattle.paxos_msg.specs.declared.record.Change.TheVariants as change
+use Rattle.paxos_msg.specs.Chosen.{IsChosen}
+use Rattle.paxos_msg.specs.Growth.{nothing, saves, sends}
+use Rattle.paxos_msg.specs.Records.{changed, empty_record, IsSaved}
+use Rattle.paxos_msg.specs.Sending.{IsReport, IsUnproposed}
+use Rattle.paxos_msg.specs.declared.message.Group.{Group}
+use Rattle.paxos_msg.specs.Grammar.{AreBytes}
+use Rattle.paxos_acceptor.specs.declared.me.Me.{Me}
+
+-- what holds of each of these, as a tuple, holds of one of them
+pub each_of : {X : Type 0} (P : X → Type 0) (xs : List X) (x : X) → EachOf P xs → Contains xs x → P x
+each_of P xs x each among = All-contains P xs x (All-from_recursion P xs each) among
+
+-- ---- the keys, and the batches
+
+abbrev key_a : Key
+key_a = record { node = 1; start = 1; serial = 1; byte = 65 }
+
+abbrev key_b : Key
+key_b = record { node = 1; start = 1; serial = 2; byte = 66 }
+
+abbrev key_c : Key
+key_c = record { node = 1; start = 1; serial = 3; byte = 67 }
+
+abbrev typed : List Key
+typed = key_a ∷ key_b ∷ key_c ∷ []
+
+abbrev batch_a : Value
+batch_a = Keys 1 1 1 (65 ∷ [])
+
+abbrev batch_ab : Value
+batch_ab = Keys 1 1 1 (65 ∷ 66 ∷ [])
+
+abbrev batch_c : Value
+batch_c = Keys 1 1 3 (67 ∷ [])
+
+abbrev pub ballot : Ballot
+ballot = record { round = 1; node = 1 }
+
+-- ---- what was sent
+
+-- the messages of the node about a batch at a place
+abbrev said_of : ℕ → Value → List Body
+said_of s v = Submit v ∷ Accept ballot s v ∷ Accepted ballot s v ∷ []
+
+abbrev pub message : Body → Msg
+message body = record { sender = 1; body = body }
+
+-- what was sent up to the first batch, the second, the third, and in all
+abbrev sent_0 : Sent
+sent_0 = message (Promise ballot 0 65536 []) ∷ []
+
+abbrev with_batch : Sent → ℕ → Value → Sent
+with_batch sent s v = ((sent ++ message (Submit v) ∷ []) ++ message (Accept ballot s v) ∷ []) ++ message (Accepted ballot s v) ∷ []
+
+abbrev sent_1 : Sent
+sent_1 = with_batch sent_0 0 batch_a
+
+abbrev sent_2 : Sent
+sent_2 = with_batch sent_1 1 batch_ab
+
+abbrev sent_3 : Sent
+sent_3 = with_batch sent_2 2 batch_c
+
+-- ---- the records
+
+abbrev records_of : Record → ℕ → Record
+records_of r i = (seat_of_member (member_at (record { kept = r; console = []; node = None } ∷ []) i)).kept
+
+records_saved : (r : Record) (c : Change) → IsSaved (records_of r) 1 c (records_of (changed r c))
+records_saved r c = record { own = refl; others = others }
+  where
+    others : (j : ℕ) → j ≢ 1 → records_of (changed r c) j ≡ records_of r j
+    others zero ne = refl
+    others (suc zero) ne = absurd (ne refl)
+    others (suc (suc j)) ne = refl
+
+records_empty : (i : ℕ) → records_of empty_record i ≡ empty_record
+records_empty zero = refl
+records_empty (suc zero) = refl
+records_empty (suc (suc i)) = refl
+
+abbrev started_record : Record
+started_record = changed empty_record change.Start
+
+abbrev kept_0 : Record
+kept_0 = changed started_record (change.Promise ballot)
+
+abbrev kept_1 : Record
+kept_1 = changed kept_0 (change.Ballotted 0 ballot batch_a)
+
+abbrev kept_2 : Record
+kept_2 = changed kept_1 (change.Ballotted 1 ballot batch_ab)
+
+abbrev kept_3 : Record
+kept_3 = changed kept_2 (change.Ballotted 2 ballot batch_c)
+
+-- ---- a batch is proposed, voted for and chosen
+
+-- a message that proposes at a lower place, or does not propose
+abbrev IsLower : ℕ → Body → Type 0
+IsLower s (Accept b t v) = t < s
+IsLower s other = Unit {0}
+
+abbrev only_one : ℕ → Bool
+only_one i = i == 1
+
+one_of : (P : ℕ → Type 0) → P 1 → (i : ℕ) → IsTrue (only_one i) → P i
+one_of P h i e = subst P (sym (eqb-true i 1 e)) h
+
+module _ (sent : Sent) (r : Record) (s : ℕ) (v : Value) (grew : Grew 1 sent (records_of r))
+    (promised : r.promised ≡ Some ballot) (place : s < 65536) (own : IsTyped typed 1 v)
+    (promises : (more : Sent) → IsSent (sent ++ more) 1 (Promise ballot 0 65536 []))
+    (lower : EachOf (λ (m : Msg). IsLower s m.body) (sent ++ message (Submit v) ∷ []))
+    (last : (x : Sent) (m : Msg) → Contains (x ++ m ∷ []) m) where
+  abbrev offered : Sent
+  offered = sent ++ message (Submit v) ∷ []
+
+  abbrev proposed : Sent
+  proposed = offered ++ message (Accept ballot s v) ∷ []
+
+  abbrev next : Record
+  next = changed r (change.Ballotted s ballot v)
+
+  unproposed : IsUnproposed offered ballot s
+  unproposed u (i, among) =
+      let low = each_of _ offered _ lower among in
+      omega arith
+
+  safe : IsSafe 1 offered ballot s v
+  safe = record {
+    members = only_one;
+    reported = λ i. None;
+    best = None;
+    majority = lit< tt;
+    promised =
+        one_of _ (record {
+          first = 0;
+          upto = 65536;
+          votes = [];
+          is_sent = promises _;
+          from_first = omega arith;
+          below_upto = place;
+          reports = refl;
+        });
+    is_best = λ i member. refl;
+    value = inr (1, last sent _);
+  }
+
+  is_proposed : IsSaid proposed (Accept ballot s v)
+  is_proposed = (1, last offered _)
+
+  batch_grew : kept_vote_at next.votes s ≡ Some (record { place = s; ballot = ballot; value = v })
+      → Grew 1 (with_batch sent s v) (records_of next)
+  batch_grew vote =
+      let learned : ℕ → Option Value = λ s. None in
+      let g1 = sends sent _ typed learned 1 _ grew own in
+      let g2 = sends offered _ typed learned 1 (Accept ballot s v) g1 (refl, inr (unproposed, safe)) in
+      let may : (p : Ballot) → p ≡ ballot
+      → (ballot.round < p.round) ⊎ ((ballot.round ≡ p.round) × (ballot.node ≤ p.node)) =
+      λ p e. inr (ap (λ (b : Ballot). b.round) (sym e), omega (arith, ap (λ (b : Ballot). b.node) e)) in
+      let g3 = saves proposed _ _ 1 (change.Ballotted s ballot v) g2
+      (is_proposed, rw promised (may ballot refl)) (records_saved r (change.Ballotted s ballot v)) in
+      sends proposed _ typed learned 1 _ g3 (is_proposed, vote, refl)
+
+-- ---- the three
+
+-- the keys of a batch were typed at the node
+own_batch : (first : ℕ) (bytes : List ℕ) → 0 < length bytes → EachOf (Contains typed) (keys_of (Keys 1 1 first bytes))
+    → IsTyped typed 1 (Keys 1 1 first bytes)
+own_batch first bytes some each = record {
+  own = own_keys 1 1 first 1 bytes some refl;
+  known = λ k among. each_of (Contains typed) (keys_of (Keys 1 1 first bytes)) k each among;
+}
+
+typed_a : IsTyped typed 1 batch_a
+typed_a = own_batch 1 (65 ∷ []) (omega arith) ((0, lit< tt, refl), tt)
+
+typed_ab : IsTyped typed 1 batch_ab
+typed_ab = own_batch 1 (65 ∷ 66 ∷ []) (omega arith) ((0, lit< tt, refl), ((1, lit< tt, refl), tt))
+
+typed_c : IsTyped typed 1 batch_c
+typed_c = own_batch 3 (67 ∷ []) (omega arith) ((2, lit< tt, refl), tt)
+
+grew_0 : Grew 1 sent_0 (records_of kept_0)
+grew_0 =
+    let learned : ℕ → Option Value = λ s. None in
+    let g0 = nothing _ records_empty in
+    let g1 = saves [] (records_of empty_record) _ 1 change.Start g0 tt (records_saved empty_record change.Start) in
+    let g2 = saves [] (records_of started_record) _ 1 (change.Promise ballot) g1 tt
+    (records_saved started_record (change.Promise ballot)) in
+    let reports : IsReport kept_0 0 65536 [] =
+    record {
+      own = λ vote h. absurd (none_in vote h);
+      within = λ vote h. absurd (none_in vote h);
+      whole = λ s from below. refl;
+    } in
+    sends [] (records_of kept_0) typed learned 1 _ g2 (refl, reports)
+
+grew_1 : Grew 1 sent_1 (records_of kept_1)
+grew_1 =
+    batch_grew sent_0 kept_0 0 batch_a grew_0 refl (omega arith) typed_a (λ more. (0, omega arith, refl)) (tt, (tt, tt))
+    (λ x m. Contains-push x m) refl
+
+grew_2 : Grew 1 sent_2 (records_of kept_2)
+grew_2 =
+    batch_grew sent_1 kept_1 1 batch_ab grew_1 refl (omega arith) typed_ab (λ more. (0, omega arith, refl))
+    (tt, (tt, (omega arith, (tt, (tt, tt))))) (λ x m. Contains-push x m) refl
+
+grew_3 : Grew 1 sent_3 (records_of kept_3)
+grew_3 =
+    batch_grew sent_2 kept_2 2 batch_c grew_2 refl (omega arith) typed_c (λ more. (0, omega arith, refl))
+    (tt, (tt, (omega arith, (tt, (tt, (omega arith, (tt, (tt, tt)))))))) (λ x m. Contains-push x m) refl
+
+-- ---- what is chosen
+
+-- the index of the message that says that it is accepted
+chosen_by : (s : ℕ) (v : Value) → Contains sent_3 (message (Accepted ballot s v)) → IsChosen 1 sent_3 s v
+chosen_by s v among = (ballot, (only_one, lit< tt, one_of _ among))
+
+abbrev chosen_values : List Value
+chosen_values = batch_a ∷ batch_ab ∷ batch_c ∷ []
+
+chosen_at : (s : ℕ) (v : Value) → slice_get chosen_values s ≡ Some v → IsChosen 1 sent_3 s v
+chosen_at zero v e = subst (IsChosen 1 sent_3 0) (same_Some _ v e) (chosen_by 0 batch_a (3, lit< tt, refl))
+chosen_at (suc zero) v e = subst (IsChosen 1 sent_3 1) (same_Some _ v e) (chosen_by 1 batch_ab (6, lit< tt, refl))
+chosen_at (suc (suc zero)) v e = subst (IsChosen 1 sent_3 2) (same_Some _ v e) (chosen_by 2 batch_c (9, lit< tt, refl))
+chosen_at (suc (suc (suc s))) v e = absurd cc
+
+all_chosen : AreChosen 1 sent_3 chosen_values
+all_chosen = record { chosen = chosen_at }
+
+two_chosen : AreChosen 1 sent_3 (batch_a ∷ batch_ab ∷ [])
+two_chosen = record { chosen = λ s v e. chosen_at s v (left_place (batch_a ∷ batch_ab ∷ []) (batch_c ∷ []) s v e) }
+
+-- ---- the messages have spellings
+
+abbrev pub group : Group
+group = record { size = 1; session = 0 }
+
+abbrev pub me : Me
+me = record { node = 1; group = group }
+
+abbrev packets : List Packet
+packets = map to_all (Promise ballot 0 65536 [] ∷ (said_of 0 batch_a ++ (said_of 1 batch_ab ++ said_of 2 batch_c)))
+
+-- by a test of each element
+pub are_bytes : (bytes : List ℕ) → list_all (λ b. nat_lt b 256) bytes ≡ true → AreBytes bytes
+are_bytes [] e i = lit< tt
+are_bytes (b ∷ bytes) e zero = ltb-true b 256 (and_parts (nat_lt b 256) (list_all _ bytes) e).0
+are_bytes (b ∷ bytes) e (suc i) = are_bytes bytes (and_parts (nat_lt b 256) (list_all _ bytes) e).1 i
+
+pub node_fits : IsNode 1 1
+node_fits = (omega arith, omega arith)
+
+pub ballot_fits : IsBallot 1 ballot
+ballot_fits = ((omega arith, omega arith), node_fits)
+
+value_fits : (first : ℕ) (bytes : List ℕ) → 0 < first → first ≤ 3 → 0 < length bytes → length bytes ≤ 2
+    → list_all (λ b. nat_lt b 256) bytes ≡ true → IsValue 1 (Keys 1 1 first bytes)
+value_fits first bytes low high some few e =
+    (node_fits, (omega arith, omega arith), (low, some, omega arith, omega arith, are_bytes bytes e))
+
+fits_a : IsValue 1 batch_a
+fits_a = value_fits 1 (65 ∷ []) (omega arith) (omega arith) (omega arith) (omega arith) refl
+
+fits_ab : IsValue 1 batch_ab
+fits_ab = value_fits 1 (65 ∷ 66 ∷ []) (omega arith) (omega arith) (omega arith) (omega arith) refl
+
+fits_c : IsValue 1 batch_c
+fits_c = value_fits 3 (67 ∷ []) (omega arith) (omega arith) (omega arith) (omega arith) refl
+
+-- the packet fits the node
+abbrev pub FitsHere : Packet → Type 0
+FitsHere packet = IsBody 1 1 packet.body
+
+-- the packets of a batch, before others
+batch_fits : {Others : Type 0} (s : ℕ) (v : Value) → s ≤ 65535 → IsValue 1 v → AreOwnKeys batches 1 v → Others
+    → FitsHere (to_all (Submit v)) × (FitsHere (to_all (Accept ballot s v)) × (FitsHere (to_all (Accepted ballot s v)) × Others))
+batch_fits s v place fits own others = ((fits, own), ((ballot_fits, refl, place, fits), ((ballot_fits, place, fits), others)))
+
+all_fit : AllFit me packets
+all_fit = All-from_recursion FitsHere packets (
+  (ballot_fits, omega arith, omega arith, omega arith, omega arith, tt),
+  batch_fits 0 batch_a (omega arith) fits_a typed_a.own
+      (batch_fits 1 batch_ab (omega arith) fits_ab typed_ab.own (batch_fits 2 batch_c (omega arith) fits_c typed_c.own tt)),
+)
+
+-- packets that fit have spellings, which are read as the messages that the node sends
+pub fit_read : (ps : List Packet) → AllFit me ps → All (IsSpelling group) (datagrams_of me ps)
+    × (messages_in group (datagrams_of me ps) ≡ messages_handed_out 1 ps)
+fit_read = packets_read message_again me (omega arith) node_fits
+
+all_spelled : All (IsSpelling group) (datagrams_of me packets)
+all_spelled = (fit_read packets all_fit).0
+
+sent_is : messages_in group (datagrams_of me packets) ≡ sent_3
+sent_is = (fit_read packets all_fit).1
 
 -- ---- what each message says
 
@@ -58,12 +366,6 @@ says i body among = each_of (λ (m : Msg). Says m.sender m.body) sent_3 _ all_sa
 told : AllChosen 1 sent_3
 told s v said = absurd (says said.0 (Tell s v) said.1)
 
-submitted : AllTyped sent_3 typed
-submitted i v among = (says i _ among).0
-
-due : (v : Value) → IsSaid sent_3 (Submit v) → IsDue 1 sent_3 v
-due v said = (says said.0 _ said.1).1
-
 -- ---- the record
 
 votes_backed : EachOf (λ (vote : Vote). IsVoteBacked sent_3 kept_3 vote.place vote) kept_3.votes
@@ -75,16 +377,11 @@ votes_backed = (
   ),
 )
 
-vote_if : (o : Option Vote) (s : ℕ) → ((vote : Vote) → o ≡ Some vote → IsVoteBacked sent_3 kept_3 s vote)
-    → IfSome o (IsVoteBacked sent_3 kept_3 s)
-vote_if None s h = tt
-vote_if (Some vote) s h = h vote refl
-
-kept_backed : ExampleLaws → IsRecordBacked sent_3 1 kept_3
-kept_backed laws = record {
+kept_backed : IsRecordBacked sent_3 1 kept_3
+kept_backed = record {
   votes = record {
-    votes = λ s. vote_if _ s (λ vote e.
-        let found = laws.found kept_3.votes s vote e in
+    votes = λ s. (some_if _ (IsVoteBacked sent_3 kept_3 s)).1 (λ vote e.
+        let found = vote_found kept_3.votes s vote e in
         subst (λ t. IsVoteBacked sent_3 kept_3 t vote) found.1
         (each_of (λ (x : Vote). IsVoteBacked sent_3 kept_3 x.place x) kept_3.votes vote votes_backed found.0));
     in_order = ((omega arith, (omega arith, tt)), ((omega arith, tt), (tt, tt)));
@@ -111,8 +408,8 @@ vote_fits low high fits =
     record { from_low = low; below_upto = high; ballot = ballot_fits; not_above = inr (refl, omega arith); value = fits }
 
 -- the node is sound
-node_sound : ExampleLaws → (p : Parts) → IsMemberSound p me sent_3 typed (record { kept = kept_3; console = []; node = None })
-node_sound laws p = record {
+node_sound : (p : Parts) → IsMemberSound p me sent_3 typed (record { kept = kept_3; console = []; node = None })
+node_sound p = record {
   ranges = record {
     starts = omega arith;
     kept = (
@@ -123,7 +420,7 @@ node_sound laws p = record {
       ),
     );
   };
-  backed = kept_backed laws;
+  backed = kept_backed;
   shown =
       record {
         values = [];
@@ -133,23 +430,24 @@ node_sound laws p = record {
   running = tt;
 }
 
-members_sound : ExampleLaws → (p : Parts) (i : ℕ) (m : Member) → member_at (example p).members i ≡ Some m
-    → IsMemberSound p (me_of (example p) i) sent_3 typed m
-members_sound laws p zero m e = absurd cc
-members_sound laws p (suc zero) m e = let same : record { kept = kept_3; console = []; node = None } ≡ m =
-    cc in subst (IsMemberSound p me sent_3 typed) same (node_sound laws p)
-members_sound laws p (suc (suc i)) m e = absurd cc
+-- what holds of the node holds of each
+each_member : (P : ℕ → Member → Type 0) → P 1 (record { kept = kept_3; console = []; node = None }) → (i : ℕ) (m : Member)
+    → member_at (record { kept = kept_3; console = []; node = None } ∷ []) i ≡ Some m → P i m
+each_member P h zero m e = absurd cc
+each_member P h (suc zero) m e = subst (P 1) (same_Some _ m e) h
+each_member P h (suc (suc i)) m e = absurd cc
 
-pub example_sound : ExampleLaws → (p : Parts) → IsSound (example p)
-example_sound laws p = record {
+example_sound : (p : Parts) → IsSound (example p)
+example_sound p = record {
   size = record { odd = refl; few = omega arith };
   session = omega arith;
   places = refl;
-  spelled = all_spelled laws;
-  grew = subst (λ sent. Grew 1 sent (records_of kept_3)) (sym (sent_is laws)) grew_3;
-  told = subst (AllChosen 1) (sym (sent_is laws)) told;
-  submitted = subst (λ sent. AllTyped sent typed) (sym (sent_is laws)) submitted;
-  members = λ i m e. subst (λ sent. IsMemberSound p (me_of (example p) i) sent typed m) (sym (sent_is laws)) (members_sound laws p i m e);
+  spelled = all_spelled;
+  grew = subst (λ sent. Grew 1 sent (records_of kept_3)) (sym sent_is) grew_3;
+  told = subst (AllChosen 1) (sym sent_is) told;
+  submitted = subst (λ sent. AllTyped sent typed) (sym sent_is) (λ i v among. (says i _ among).0);
+  members = λ i m e. subst (λ sent. IsMemberSound p (me_of (example p) i) sent typed m) (sym sent_is)
+      (each_member (λ i m. IsMemberSound p (me_of (example p) i) sent_3 typed m) (node_sound p) i m e);
 }
 
 -- ---- it is ordered
@@ -166,39 +464,32 @@ typed_apart =
     (push_apart (key_a ∷ []) key_b (push_apart [] key_a (λ i j d less below. absurd (omega arith)) tt) ((λ e. absurd (omega arith)), tt))
     ((λ e. absurd (omega arith)), ((λ e. absurd (omega arith)), tt))
 
-nodes_ordered : (p : Parts) (i : ℕ) (m : Member) → member_at (example p).members i ≡ Some m
-    → (m.kept.starts ≡ 1) × IfSome m.node (λ q. IsRowOf typed i m.kept q.known)
-nodes_ordered p zero m e = absurd cc
-nodes_ordered p (suc zero) m e =
-    let first : Member = record { kept = kept_3; console = []; node = None } in
-    let same : first ≡ m = cc in
-    subst (λ (x : Member). (x.kept.starts ≡ 1) × IfSome x.node (λ q. IsRowOf typed 1 x.kept q.known)) same (refl, tt)
-nodes_ordered p (suc (suc i)) m e = absurd cc
-
-first_start : (k : Key) → Contains typed k → k.start ≡ 1
-first_start k among = each_of (λ (x : Key). x.start ≡ 1) typed k (refl, (refl, (refl, tt))) among
-
-pub example_ordered : ExampleLaws → (p : Parts) → IsOrdered (example p)
-example_ordered laws p = record {
+example_ordered : (p : Parts) → IsOrdered (example p)
+example_ordered p = record {
   keys = record {
     once = typed_apart;
-    past = λ k m among at. omega (arith, first_start k among, (nodes_ordered p k.node m at).0);
-    nodes = λ i m at. (nodes_ordered p i m at).1;
+    past = λ k m among at. omega (
+      arith,
+      each_of (λ (x : Key). x.start ≡ 1) typed k (refl, (refl, (refl, tt))) among,
+      each_member (λ i m. m.kept.starts ≡ 1) refl k.node m at,
+    );
+    nodes = each_member (λ i m. IfSome m.node (λ q. IsRowOf typed i m.kept q.known)) tt;
   };
-  due = subst (λ sent. (v : Value) → IsSaid sent (Submit v) → IsDue 1 sent v) (sym (sent_is laws)) due;
+  due = subst (λ sent. (v : Value) → IsSaid sent (Submit v) → IsDue 1 sent v) (sym sent_is)
+      (λ v said. (says said.0 _ said.1).1);
 }
 
-pub possible : ExampleLaws → (p : Parts)
+pub possible : (p : Parts)
     → (w : World) × (values : List Value) × (w.program ≡ p) × IsSound w × IsOrdered w
     × AreChosen w.group.size (world_state w).sent values
     × (map (λ k. k.byte) (flat_map keys_of values) ≡ 65 ∷ 65 ∷ 66 ∷ 67 ∷ []) × (input_of values ≡ 65 ∷ 66 ∷ 67 ∷ [])
-possible laws p = (
+possible p = (
   example p,
   chosen_values,
   refl,
-  example_sound laws p,
-  example_ordered laws p,
-  subst (λ sent. AreChosen 1 sent chosen_values) (sym (sent_is laws)) all_chosen,
+  example_sound p,
+  example_ordered p,
+  subst (λ sent. AreChosen 1 sent chosen_values) (sym sent_is) all_chosen,
   refl,
   refl,
 )

@@ -1,18 +1,94 @@
--- The typed keys of one start of a node as a row: what follows for the keys that wait, and how the
--- row goes on.
-use Rattle.std.proofs.Common.{◌≡◌, ◌∙◌, ℕ, zero, suc, ◌+◌, List, [], ◌∷◌, ◌++◌, length, map, refl, sym, ap, subst, inl, inr, ◌⊎◌, append_assoc, arith}
-use Rattle.std.proofs.lemmas.List.{map-append, length-map}
-use Rattle.std.proofs.lemmas.List.Elements.{Contains-append_left, Contains-append_right, All-append, All-contains, All-nil, All-weaker}
-use Rattle.std.specs.List.{All, Contains, range_with_len}
+-- The keys of one start of a node among other keys: their serials, and the typed ones as a row.
+-- What follows for the keys that wait, and how the row goes on.
+use Rattle.std.proofs.Common.{◌≡◌, ◌∙◌, ℕ, ◌==◌, true, false, List, [], ◌∷◌, ◌++◌, map, get_or, inl, inr, refl, sym, ap, subst, zero, suc, ◌+◌, length, ◌⊎◌, append_assoc, arith, ◌<◌, length-append}
+use Rattle.std.proofs.lemmas.Bool.{and_parts, and_from, eqb-true, eq-eqb, false_from_ne_true, cases_order}
+use Rattle.std.proofs.lemmas.List.{append-nil, get_or_default, map-append, length-map, get_or-map, get_or_at, get_or_append_left}
+use Rattle.std.proofs.lemmas.List.Elements.{filter-append, Contains-append_left, Contains-append_right, All-append, All-contains, All-nil, All-weaker, Contains-get_or}
+use Rattle.std.specs.List.{Contains, All, range_with_len}
+use Rattle.paxos_msg.specs.Keys.{Key}
+use Rattle.group_world.specs.Order.{AreApart, HaveOneName, is_of, serials_of}
+use Rattle.group_world.specs.Ordered.{HasSerial, those_of, IsFirstUnread, IsPrepared, AreTypedKeys}
+use Rattle.group_world.proofs.OrderLists.{in_map, of_map, in_filter, of_filter, first_in, filter_none, of_range, range_more}
 use Rattle.paxos_msg.specs.declared.value.Value.{Value}
 use Rattle.paxos_msg.specs.Batches.{Sent}
-use Rattle.paxos_msg.specs.Keys.{Key}
 use Rattle.paxos_learner.specs.Input.{keys_in_order}
 use Rattle.group_node.specs.Inputs.{AreChosen}
-use Rattle.group_world.specs.Order.{HaveOneName, AreApart}
-use Rattle.group_world.specs.Ordered.{HasSerial, IsFirstUnread, IsPrepared, AreTypedKeys}
-use Rattle.group_world.proofs.OrderLists.{first_in, filter_none, of_filter, of_map, of_range, in_range, range_more, row_parts}
-use Rattle.group_world.proofs.OrderSerials.{apart_same, not_of, of_test, other_more, own_more, own_serials, serial_in}
+use Rattle.std.proofs.lemmas.List.FromFn.{length-range_with_len, get_or-range_with_len}
+
+-- ---- keys of a start of a node
+
+-- a key of the start, by the test
+pub of_test : (node start : ℕ) (k : Key) → is_of node start k ≡ true → (k.node ≡ node) × (k.start ≡ start)
+of_test node start k h =
+    let parts = and_parts (k.node == node) (k.start == start) h in
+    (eqb-true k.node node parts.0, eqb-true k.start start parts.1)
+
+test_of : (node start : ℕ) (k : Key) → k.node ≡ node → k.start ≡ start → is_of node start k ≡ true
+test_of node start k e f = and_from (k.node == node) (k.start == start) (eq-eqb k.node node e) (eq-eqb k.start start f)
+
+not_of : (node start : ℕ) (k : Key) → ((k.node ≡ node) → (k.start ≡ start) → ⊥) → is_of node start k ≡ false
+not_of node start k ne = false_from_ne_true _ (λ h. ne (of_test node start k h).0 (of_test node start k h).1)
+
+-- ---- serials as elements
+
+pub serial_in : (keys : List Key) (node start serial : ℕ) → HasSerial keys node start serial → Contains (serials_of node start keys) serial
+serial_in keys node start serial h =
+    let there =
+    in_map (λ (k : Key). k.serial) _ h.key
+    (in_filter _ keys h.key h.among (test_of node start h.key h.node_is h.start_is)) in
+    subst (λ n. Contains (serials_of node start keys) n) h.serial_is there
+
+pub serial_of : (keys : List Key) (node start serial : ℕ) → Contains (serials_of node start keys) serial → HasSerial keys node start serial
+serial_of keys node start serial h =
+    let found = of_map (λ (k : Key). k.serial) _ serial h in
+    let kept = of_filter _ keys found.0 found.1 in
+    let same = of_test node start found.0 kept.1 in
+    record { key = found.0; among = kept.0; node_is = same.0; start_is = same.1; serial_is = found.2 }
+
+-- ---- among more keys
+
+-- a serial among keys is among more keys
+pub has_in : {keys more : List Key} {node start serial : ℕ} → ((k : Key) → Contains keys k → Contains more k)
+    → HasSerial keys node start serial → HasSerial more node start serial
+has_in within h =
+    record { key = h.key; among = within h.key h.among; node_is = h.node_is; start_is = h.start_is; serial_is = h.serial_is }
+
+-- ---- one key more
+
+-- a key of the start is the last of its keys
+own_more : (node start : ℕ) (keys : List Key) (k : Key) → is_of node start k ≡ true
+    → those_of node start (keys ++ k ∷ []) ≡ those_of node start keys ++ k ∷ []
+own_more node start keys k e = filter-append _ keys (k ∷ []) ∙ ap (λ rest. those_of node start keys ++ rest) (rw e refl)
+
+-- another key changes nothing
+pub other_more : (node start : ℕ) (keys : List Key) (k : Key) → is_of node start k ≡ false
+    → those_of node start (keys ++ k ∷ []) ≡ those_of node start keys
+other_more node start keys k e =
+    filter-append _ keys (k ∷ []) ∙ ap (λ rest. those_of node start keys ++ rest) (rw e refl) ∙ append-nil _
+
+-- after serials in a row the key with the next serial goes on with the row
+pub row_more : (node start last : ℕ) (keys : List Key) (k : Key) → is_of node start k ≡ true → 1 + last ≡ k.serial
+    → serials_of node start keys ≡ range_with_len 1 last
+    → serials_of node start (keys ++ k ∷ []) ≡ range_with_len 1 (last + 1)
+row_more node start last keys k own next row =
+    ap (map (λ (x : Key). x.serial)) (own_more node start keys k own) ∙ map-append _ _ (k ∷ [])
+    ∙ ap (λ l. l ++ k.serial ∷ []) row ∙ sym (range_more 1 last k.serial next)
+
+-- ---- keys that are apart
+
+-- of keys that are apart, two with one name are the same
+pub apart_same : (keys : List Key) (k other : Key) → AreApart keys → Contains keys k → Contains keys other → HaveOneName k other → k ≡ other
+apart_same keys k other apart (i, below, at) (j, within, is) name =
+    let there = get_or_default keys j k other within ∙ is in
+    let named : HaveOneName (get_or keys i k) (get_or keys j k) = rw (at, there) name in
+    elim (cases_order i j) [
+      | inl e ↦ sym at ∙ ap (λ n. get_or keys n k) e ∙ there
+      | inr (inl less) ↦ absurd (apart i j k less within named)
+      | inr (inr more) ↦ absurd (apart j i k more below
+          (record { node = sym named.node; start = sym named.start; serial = sym named.serial }))
+    ]
+
+-- ---- the row of typed keys
 
 -- The keys that still wait once more keys are read: those before them are read, and the first that
 -- waits is not.
@@ -35,54 +111,48 @@ fresh_row typed i start read none =
     record { serials = ap (map (λ (k : Key). k.serial)) none_yet; gone = []; newest = none_yet; below = All-nil _; first = tt }
 
 module _ {typed : List Key} {i start last : ℕ} {waiting read : List Key} (h : AreTypedKeys typed i start last waiting read) where
-  -- the keys that do not wait and those that wait have serials in a row
-  row_rows : (map (λ (k : Key). k.serial) h.gone ≡ range_with_len 1 (length (map (λ (k : Key). k.serial) h.gone)))
-      × (map (λ (k : Key). k.serial) waiting
-      ≡ range_with_len (1 + length (map (λ (k : Key). k.serial) h.gone)) (length (map (λ (k : Key). k.serial) waiting)))
-  row_rows =
-      row_parts (map (λ (k : Key). k.serial) h.gone) (map (λ (k : Key). k.serial) waiting) 1 last
-      (sym (map-append _ h.gone waiting) ∙ ap (map (λ (k : Key). k.serial)) (sym h.newest) ∙ h.serials)
+  -- the key at place `k` has the serial after `k`
+  serial_at : (k : ℕ) (x : Key) → k < length (h.gone ++ waiting) → get_or (h.gone ++ waiting) k x ≡ x → x.serial ≡ 1 + k
+  serial_at k x low at =
+      let keys = h.gone ++ waiting in
+      let row = ap (map (λ (y : Key). y.serial)) (sym h.newest) ∙ h.serials in
+      let within : k < last = omega (arith, ap length row, length-map keys (λ (y : Key). y.serial), length-range_with_len 1 last) in
+      ap (λ (y : Key). y.serial) (sym at) ∙ sym (get_or-map (λ (y : Key). y.serial) keys k x 0 low)
+      ∙ ap (λ l. get_or l k 0) row ∙ get_or-range_with_len 1 last k 0 within
 
-  gone_row : map (λ (k : Key). k.serial) h.gone ≡ range_with_len 1 (length h.gone)
-  gone_row = row_rows.0 ∙ ap (range_with_len 1) (length-map h.gone _)
+  -- a typed key of this start
+  abbrev IsOwn : Key → Type 0
+  IsOwn k = Contains typed k × (k.node ≡ i) × (k.start ≡ start)
 
-  waiting_row : map (λ (k : Key). k.serial) waiting ≡ range_with_len (1 + length h.gone) (length waiting)
-  waiting_row =
-      row_rows.1 ∙ (λ j. range_with_len (1 + length-map h.gone (λ (k : Key). k.serial) j)
-      (length-map waiting (λ (k : Key). k.serial) j))
-
-  own_key : (k : Key) → Contains (h.gone ++ waiting) k → Contains typed k × (k.node ≡ i) × (k.start ≡ start)
+  own_key : (k : Key) → Contains (h.gone ++ waiting) k → IsOwn k
   own_key k among =
       let kept = of_filter _ typed k (subst (λ l. Contains l k) (sym h.newest) among) in
       let is = of_test i start k kept.1 in
       (kept.0, is.0, is.1)
 
-  waiting_key : (k : Key) → Contains waiting k → Contains typed k × (k.node ≡ i) × (k.start ≡ start)
+  waiting_key : (k : Key) → Contains waiting k → IsOwn k
   waiting_key k among = own_key k (Contains-append_right h.gone waiting k among)
-
-  gone_key : (k : Key) → Contains h.gone k → Contains typed k × (k.node ≡ i) × (k.start ≡ start)
-  gone_key k among = own_key k (Contains-append_left h.gone waiting k among)
 
   -- the first that waits has the serial after those that do not
   first_serial : (key : Key) (keys : List Key) → waiting ≡ key ∷ keys → key.serial ≡ 1 + length h.gone
   first_serial key keys e =
-      let row = subst (λ l. map (λ (k : Key). k.serial) l ≡ range_with_len (1 + length h.gone) (length l)) e waiting_row in
-      cc
+      serial_at (length h.gone) key (omega (arith, length-append h.gone waiting, ap length e))
+      (ap (λ l. get_or (h.gone ++ l) (length h.gone) key) e ∙ get_or_at h.gone key keys key _ refl)
 
   -- if some key no longer waits, the last of those is read
   last_gone : (n : ℕ) → length h.gone ≡ n + 1 → HasSerial read i start (length h.gone)
   last_gone n e =
-      let at =
-      of_map (λ (k : Key). k.serial) h.gone _
-      (subst (λ l. Contains l (length h.gone)) (sym gone_row)
-      (in_range 1 _ _ (omega arith) (omega arith))) in
-      let is = gone_key at.0 at.1 in
+      let low : n < length h.gone = omega arith in
+      let key : Key = get_or h.gone n (record { node = i; start = start; serial = 0; byte = 0 }) in
+      let among : Contains h.gone key = Contains-get_or h.gone n _ low in
+      let is = own_key key (Contains-append_left h.gone waiting key among) in
+      let at = get_or_append_left h.gone waiting key n low ∙ get_or_default h.gone n key _ low in
       record {
-        key = at.0;
-        among = All-contains (λ k. Contains read k) h.gone at.0 h.below at.1;
+        key = key;
+        among = All-contains (λ k. Contains read k) h.gone key h.below among;
         node_is = is.1;
         start_is = is.2;
-        serial_is = at.2;
+        serial_is = serial_at n key (omega (arith, length-append h.gone waiting)) at ∙ omega arith;
       }
 
   -- ---- a key is typed
@@ -98,34 +168,37 @@ module _ {typed : List Key} {i start last : ℕ} {waiting read : List Key} (h : 
       let same = name.serial in
       omega (arith, inside.1)
 
+  -- the row with one key more
   pub typed_row : (key : Key) → key.node ≡ i → key.start ≡ start → key.serial ≡ last + 1
       → ((k : Key) → Contains read k → Contains typed k)
       → AreTypedKeys (typed ++ key ∷ []) i start (last + 1) (waiting ++ key ∷ []) read
-  typed_row key of_node of_start next was = record {
-    serials =
-        own_serials i start typed key of_node of_start
-        ∙ ap (λ l. l ++ key.serial ∷ []) h.serials ∙ sym (range_more 1 last key.serial (omega arith));
-    gone = h.gone;
-    newest =
-        own_more i start typed key of_node of_start ∙ ap (λ l. l ++ key ∷ []) h.newest ∙ append_assoc h.gone waiting _;
-    below = h.below;
-    first =
-        first_more read waiting key h.first (λ among. new_name key of_node of_start next key (was key among)
-        (record { node = refl; start = refl; serial = refl }));
-  }
+  typed_row key of_node of_start next was =
+      let own = test_of i start key of_node of_start in
+      record {
+        serials = row_more i start last typed key own (omega arith) h.serials;
+        gone = h.gone;
+        newest = own_more i start typed key own ∙ ap (λ l. l ++ key ∷ []) h.newest ∙ append_assoc h.gone waiting _;
+        below = h.below;
+        first =
+            first_more read waiting key h.first (λ among. new_name key of_node of_start next key (was key among)
+            (record { node = refl; start = refl; serial = refl }));
+      }
 
   -- another node's key
   pub other_row : (key : Key) → (key.node ≡ i → ⊥) → AreTypedKeys (typed ++ key ∷ []) i start last waiting read
-  other_row key ne = record {
-    serials = ap (map (λ (x : Key). x.serial)) (other_more i start typed key (λ e f. ne e)) ∙ h.serials;
-    gone = h.gone;
-    newest = other_more i start typed key (λ e f. ne e) ∙ h.newest;
-    below = h.below;
-    first = h.first;
-  }
+  other_row key ne =
+      let same = other_more i start typed key (not_of i start key (λ e f. ne e)) in
+      record {
+        serials = ap (map (λ (x : Key). x.serial)) same ∙ h.serials;
+        gone = h.gone;
+        newest = same ∙ h.newest;
+        below = h.below;
+        first = h.first;
+      }
 
   -- ---- keys are read
 
+  -- the row where more keys are read
   pub parted_row : (later stay : List Key) → ((k : Key) → Contains read k → Contains later k)
       → IsParted later waiting stay → AreTypedKeys typed i start last stay later
   parted_row later stay more parts = record {
@@ -159,10 +232,10 @@ module _ {size : ℕ} {sent : Sent} {typed : List Key} {i start last : ℕ} {wai
     chosen = front;
     before = length h.gone;
     next = omega (arith, first_serial h key keys waits);
-    has = subst (λ m. HasSerial (keys_in_order known) m key.start (length h.gone)) (sym first_waits.1)
-        (subst (λ m. HasSerial (keys_in_order known) i m (length h.gone)) (sym first_waits.2) (last_gone h n (omega arith)));
+    has = rw (first_waits.1, first_waits.2) (last_gone h n (omega arith));
     lacks = first_lacks;
   })
 
+  -- the first that waits is due
   pub first_due : (key.serial ≡ 1) ⊎ IsPrepared size sent key.node key.start key.serial
   first_due = due_by _ refl

@@ -56,18 +56,14 @@ after-in_front xs l n (Ok ys) = ap (λ zs. Ok zs) (sym (append_assoc xs (l ∷ [
 after-in_front xs l n (Err bad) = refl
 
 -- a line that was read comes after those that were read before
-pub one_more : (xs : List Line) (n : ℕ) (rest : List ℕ) (l : Line) → 0 < length rest → line_of (line_in rest) ≡ Some l
+one_more : (xs : List Line) (n : ℕ) (rest : List ℕ) (l : Line) → 0 < length rest → line_of (line_in rest) ≡ Some l
     → after xs (lines_say n (lines_of rest)) ≡ after (xs ++ l ∷ []) (lines_say (n + 1) (lines_of (rest_of rest)))
-one_more xs n rest l h e =
-    let more = lines_say (n + 1) (lines_of (rest_of rest)) in
-    (ap (λ ls. after xs (lines_say n ls)) (lines_of-first rest h) ∙ ap (λ o. after xs (in_front o n more)) e) ∙ after-in_front xs l n more
+one_more xs n rest l h e = rw (lines_of-first rest h, e) (after-in_front xs l n _)
 
 -- the first line that says nothing
 pub bad_line : (xs : List Line) (n : ℕ) (rest : List ℕ) → 0 < length rest → line_of (line_in rest) ≡ None
     → after xs (lines_say n (lines_of rest)) ≡ Err n
-bad_line xs n rest h e =
-    let more = lines_say (n + 1) (lines_of (rest_of rest)) in
-    ap (λ ls. after xs (lines_say n ls)) (lines_of-first rest h) ∙ ap (λ o. after xs (in_front o n more)) e
+bad_line xs n rest h e = rw (lines_of-first rest h, e) refl
 
 -- no line is left
 pub all_read : (xs : List Line) (n : ℕ) (rest : List ℕ) → length rest ≡ 0 → after xs (lines_say n (lines_of rest)) ≡ Ok xs
@@ -75,27 +71,22 @@ all_read xs n [] h = ap (λ zs. Ok zs) (append-nil xs)
 all_read xs n (b ∷ bs) h = absurd (omega arith)
 
 -- a script is its first line and the lines after it
-pub script_of-first : (text : List ℕ) → script_of text ≡ script_after (header_of (line_in text)) (lines_say 2 (lines_of (rest_of text)))
+script_of-first : (text : List ℕ) → script_of text ≡ script_after (header_of (line_in text)) (lines_say 2 (lines_of (rest_of text)))
 script_of-first [] = refl
 script_of-first (b ∷ bs) = ap script_in (lines_of-cons b bs (b == 10) refl)
 
 -- a script whose first line says nothing; and a good first line with the lines after it
 pub no_group : (text : List ℕ) → header_of (line_in text) ≡ None → script_of text ≡ Err 1
-no_group text e = script_of-first text ∙ ap (λ o. script_after o (lines_say 2 (lines_of (rest_of text)))) e
+no_group text e = rw (script_of-first text, e) refl
 
 pub group_and_lines : (text : List ℕ) (group : ℕ × ℕ) (r : Result (List Line) ℕ) → header_of (line_in text) ≡ Some group
     → lines_say 2 (lines_of (rest_of text)) ≡ r → script_of text ≡ script_after (Some group) r
-group_and_lines text group r e f =
-    (script_of-first text ∙ ap (λ o. script_after o (lines_say 2 (lines_of (rest_of text)))) e) ∙ ap (script_after (Some group)) f
+group_and_lines text group r e f = rw (script_of-first text, e, f) refl
 
 pub grown : (xs ys : List Line) (n m : ℕ) (rest more : List ℕ) (l : Line) → 0 < length rest
     → line_of (line_in rest) ≡ Some l → more ≡ rest_of rest → ys ≡ xs ++ l ∷ [] → m ≡ n + 1
     → after xs (lines_say n (lines_of rest)) ≡ after ys (lines_say m (lines_of more))
-grown xs ys n m rest more l h e tail items number =
-    let first = ap (λ zs. after zs (lines_say m (lines_of more))) items in
-    let second = ap (λ k. after (xs ++ l ∷ []) (lines_say k (lines_of more))) number in
-    let third = ap (λ t. after (xs ++ l ∷ []) (lines_say (n + 1) (lines_of t))) tail in
-    one_more xs n rest l h e ∙ sym ((first ∙ second) ∙ third)
+grown xs ys n m rest more l h e tail items number = rw (items, number, tail) (one_more xs n rest l h e)
 
 -- ---- the lines that were read
 
@@ -120,12 +111,10 @@ said_more : (n : ℕ) (read : List (List ℕ)) (xs : List Line) (line : List ℕ
     → lines_say n (read ++ line ∷ []) ≡ Ok (xs ++ l ∷ [])
 said_more n [] xs line l e f =
     let none : [] ≡ xs = cc in
-    ap (λ o. in_front o n (Ok [])) f ∙ ap (λ zs. Ok (zs ++ l ∷ [])) none
+    rw (f, ← none) refl
 said_more n (r ∷ rs) xs line l e f =
     let (k, ys, first, rest, whole) = in_front_parts _ n _ xs e in
-    let later = said_more (n + 1) rs ys line l rest f in
-    (ap (λ o. in_front o n (lines_say (n + 1) (rs ++ line ∷ []))) first
-    ∙ ap (in_front (Some k) n) later) ∙ ap (λ zs. Ok (zs ++ l ∷ [])) (sym whole)
+    rw (first, said_more (n + 1) rs ys line l rest f) (ap (λ zs. Ok (zs ++ l ∷ [])) (sym whole))
 
 -- the first of all these lines say these items, and the others are left
 pub record IsReadTo (all : List (List ℕ)) (xs : List Line) (left : List (List ℕ)) : Type 0 where
@@ -139,9 +128,9 @@ pub read_next : (all : List (List ℕ)) (xs ys : List Line) (rest more : List �
     → IsReadTo all ys (lines_of more)
 read_next all xs ys rest more l h some e left items = record {
   read = h.read ++ line_in rest ∷ [];
-  whole = (h.whole ∙ ap (λ ls. h.read ++ ls) (lines_of-first rest some))
-      ∙ (sym (append_assoc h.read _ (lines_of (rest_of rest))) ∙ ap (λ t. (h.read ++ line_in rest ∷ []) ++ lines_of t) (sym left));
-  says = said_more 2 h.read xs _ l h.says e ∙ ap (λ zs. Ok zs) (sym items);
+  whole =
+      rw (left, h.whole, lines_of-first rest some) (sym (append_assoc h.read (line_in rest ∷ []) (lines_of (rest_of rest))));
+  says = rw items (said_more 2 h.read xs _ l h.says e);
 }
 
 -- a text whose first line is good has one
@@ -149,10 +138,6 @@ header_first : (text : List ℕ) (group : ℕ × ℕ) → header_of (line_in tex
     → lines_of text ≡ line_in text ∷ lines_of (rest_of text)
 header_first [] group e = absurd cc
 header_first (b ∷ bs) group e = lines_of-first (b ∷ bs) (omega arith)
-
-take_first : (first : List ℕ) (read left : List (List ℕ))
-    → take (suc (length read)) (first ∷ (read ++ left)) ≡ first ∷ read
-take_first first read left = ap (λ ls. first ∷ ls) (take-append_seam read left)
 
 -- the next line is reached after others were read
 pub reached : (text : List ℕ) (group : ℕ × ℕ) (xs : List Line) (rest : List ℕ) (n : ℕ)
@@ -166,10 +151,6 @@ reached text group xs rest n header h some number =
     let left = ap length (lines_of-first rest some) in
     let size = ap length all ∙ ap (λ k. suc k) (length-append h.read _) in
     let before : n - 1 ≡ suc (length h.read) = omega arith in
-    let lines : take (n - 1) (lines_of text) ≡ line_in text ∷ h.read =
-    (ap (λ k. take k (lines_of text)) before ∙ ap (take (suc (length h.read))) all)
-    ∙ take_first _ h.read _ in
     let script : script_in (take (n - 1) (lines_of text)) ≡ script_after (Some group) (Ok xs) =
-    (ap script_in lines ∙ ap (λ o. script_after o (lines_say 2 h.read)) header)
-    ∙ ap (script_after (Some group)) h.says in
+    rw (before, all, take-append_seam h.read (lines_of rest), header, h.says) refl in
     record { there = omega arith; before = subst IsOk (sym script) refl }

@@ -1,24 +1,196 @@
--- The claims about a sound world, for the law `sound_worlds_agree`.
-use Rattle.std.proofs.Common.{◌≡◌, ◌≢◌, ◌∙◌, ℕ, List, Contains, Option, None, Some, option_map, inl, inr, refl, sym, ap, subst, slice_get}
-use Rattle.std.specs.FinMap.{get}
-use Rattle.pcode_machine.specs.Runs.{IsOutput, out}
+-- The claims about a sound world, for the law `sound_worlds_agree`: what is learned is chosen, and
+-- what machines write and consoles show is output on chosen values. First, a console after a byte
+-- that its node releases.
+use Rattle.std.proofs.Common.{◌≡◌, ◌≢◌, ◌∙◌, ℕ, List, Contains, Option, None, Some, option_map, inl, inr, refl, sym, ap, subst, slice_get, ◌<◌, ◌≤◌, [], length, append-nil, arith, get_or, zero, suc, ◌+◌, ◌⊎◌, ◌∷◌, ◌++◌, drop, append_assoc}
+use Rattle.std.specs.FinMap.{get, FinMap}
+use Rattle.pcode_machine.specs.Runs.{IsOutput, out, AreComparable, IsPrefix}
 use Rattle.paxos_msg.specs.declared.value.Value.{Value}
-use Rattle.paxos_msg.specs.Batches.{IsFree}
+use Rattle.paxos_msg.specs.Batches.{Grew, IsFree, Record, Sent}
 use Rattle.paxos_msg.specs.Chosen.{IsChosen}
 use Rattle.paxos_msg.specs.Keys.{Key, keys_of}
-use Rattle.group_node.specs.declared.console.Offer.TheVariants.{Gap, Repeat}
-use Rattle.group_node.specs.Console.{offer_answer}
-use Rattle.group_node.specs.Inputs.{IsInput}
+use Rattle.group_node.specs.declared.console.Offer.TheVariants.{Gap, Repeat, Fresh}
+use Rattle.group_node.specs.Console.{offer_answer, offered}
+use Rattle.group_node.specs.Inputs.{IsInput, AreChosen}
 use Rattle.group_node.specs.World.{Up}
 use Rattle.group_world.specs.Group.{IsUp, member_at, seat_of_member, up_of, World, world_state}
 use Rattle.group_world.specs.Member.{Member, Running}
 use Rattle.group_world.specs.Headline.{ConsolesAgree, ConsolesHoldOutput, HasLearned, HasNoGap, LearnedAgree, LearnedChosen}
-use Rattle.group_world.specs.Sound.{IsSound}
-use Rattle.group_world.proofs.OrderWorlds.{ChoiceLaws}
-use Rattle.group_world.proofs.OrderLists.{none_in}
+use Rattle.group_world.specs.Sound.{IsSound, IsLearnedChosen}
+use Rattle.group_world.proofs.OrderLists.{none_in, left_place}
 use Rattle.group_world.proofs.WorldAsGroup.{running}
-use Rattle.group_world.proofs.ReleasedBytes.{no_gap, repeat_is_same}
-use Rattle.group_world.proofs.OutputOnChosen.{PlayLaws, console_output, offer_fits}
+use Rattle.std.proofs.lemmas.Option.{slice_get_within, slice_get-get_or}
+use Rattle.std.specs.Ordering.{nat_cmp}
+use Rattle.pcode_file.specs.Parts.{Parts}
+use Rattle.paxos_learner.specs.Input.{front_values, input_of, values_below}
+use Rattle.paxos_learner.specs.Learner.{front_of}
+use Rattle.group_node.specs.States.{input}
+use Rattle.std.proofs.lemmas.Bool.{cases_eq, eq-eqb, ne_eqb, lt-ltb}
+use Rattle.std.proofs.lemmas.List.{length_push}
+use Rattle.group_node.specs.Output.{unreleased_of}
+
+-- what the machine of a node has written, and the byte that the node releases next
+abbrev pub written : Running → List ℕ
+written q = out q.progress.program (input q.known) q.progress.steps
+
+abbrev pub next_of : Running → Option ℕ
+next_of q = slice_get (unreleased_of (input q.known) q.progress) 0
+
+-- ---- elements of lists that begin others
+
+first_dropped : (k : ℕ) (bytes : List ℕ) → slice_get (drop k bytes) 0 ≡ slice_get bytes k
+first_dropped zero bytes = refl
+first_dropped (suc k) [] = refl
+first_dropped (suc k) (x ∷ xs) = first_dropped k xs
+
+-- the byte that is released next is that after those that were released
+pub next_written : (q : Running) → slice_get (written q) q.progress.released ≡ next_of q
+next_written q = sym (first_dropped _ (written q))
+
+-- the element after a prefix is the first of the rest
+first_of_rest : (a rest : List ℕ) (b : ℕ) → slice_get (a ++ rest) (length a) ≡ Some b → (more : List ℕ) × (rest ≡ b ∷ more)
+first_of_rest [] [] b e = absurd cc
+first_of_rest [] (x ∷ xs) b e = (xs, cc)
+first_of_rest (x ∷ xs) rest b e = first_of_rest xs rest b e
+
+-- a prefix with the next element is a prefix
+push_prefix : (a all : List ℕ) (b : ℕ) → IsPrefix a all → slice_get all (length a) ≡ Some b → IsPrefix (a ++ b ∷ []) all
+push_prefix a all b h e =
+    let next = first_of_rest a h.rest b (ap (λ l. slice_get l (length a)) (sym h.whole) ∙ e) in
+    record { rest = next.0; whole = h.whole ∙ ap (λ l. a ++ l) next.1 ∙ sym (append_assoc a (b ∷ []) next.0) }
+
+some_at : (a : List ℕ) (k : ℕ) → k < length a → (b : ℕ) × (slice_get a k ≡ Some b)
+some_at a k low = (get_or a k 0, slice_get-get_or a k 0 low)
+
+prefix_get : (a all : List ℕ) (k b : ℕ) → IsPrefix a all → slice_get a k ≡ Some b → slice_get all k ≡ Some b
+prefix_get a all k b h e = ap (λ l. slice_get l k) h.whole ∙ left_place a h.rest k b e
+
+-- an element that both of two comparable lists have is the same
+compare_get : (a b : List ℕ) (k x y : ℕ) → AreComparable a b → slice_get a k ≡ Some x → slice_get b k ≡ Some y → x ≡ y
+compare_get a b k x y (inl h) e f = let there = prefix_get a b k x h e in cc
+compare_get a b k x y (inr h) e f = let there = prefix_get b a k y h f in cc
+
+-- ---- the offer
+
+-- Byte `k` of some output is offered to a console that is comparable with the output, so begins it
+-- if it is no longer, and has shown at least `k` bytes.
+pub record IsOffer (console all : List ℕ) (k b : ℕ) : Type 0 where
+  pub compare : AreComparable console all
+  pub begins : length console ≤ length all → IsPrefix console all
+  pub shown : k ≤ length console
+  pub byte : slice_get all k ≡ Some b
+
+module _ {console all : List ℕ} {k b : ℕ} (h : IsOffer console all k b) where
+  -- the console with the byte begins that output
+  fresh_prefix : k ≡ length console → IsPrefix (console ++ b ∷ []) all
+  fresh_prefix e =
+      push_prefix console all b
+      (h.begins (omega (arith, slice_get_within all k b h.byte, e))) (subst (λ n. slice_get all n ≡ Some b) e h.byte)
+
+  -- if the console shows more than `k` bytes, byte `k` is one of them
+  same_byte : k < length console → slice_get console k ≡ Some b
+  same_byte low =
+      let there = some_at console k low in
+      there.1 ∙ ap Some (compare_get console all k there.0 b h.compare there.1 h.byte)
+
+  -- the answer if the byte comes next, and if it does not
+  answer_next : k ≡ length console → offer_answer console k ≡ Fresh
+  answer_next e = rw (eq-eqb k _ e) refl
+
+  answer_again : k ≢ length console → offer_answer console k ≡ Repeat
+  answer_again ne = rw (ne_eqb k (length console) ne, lt-ltb k (length console) (omega (arith, h.shown))) refl
+
+  -- it never comes too early
+  no_gap : offer_answer console k ≢ Gap
+  no_gap gap = elim (cases_eq k (length console)) [
+    | inl e ↦ let next = answer_next e in absurd cc
+    | inr ne ↦ let again = answer_again ne in absurd cc
+  ]
+
+  -- a byte that comes again is there
+  repeat_is_same : offer_answer console k ≡ Repeat → slice_get console k ≡ Some b
+  repeat_is_same again = elim (cases_eq k (length console)) [
+    | inl e ↦ let next = answer_next e in absurd cc
+    | inr ne ↦ same_byte (omega (arith, h.shown))
+  ]
+
+  -- the console shows the byte after the offer
+  pub shown_then : k + 1 ≤ length (offered console k b)
+  shown_then = elim (cases_eq k (length console)) [
+    | inl e ↦ rw (eq-eqb k _ e) (omega (arith, length_push console b))
+    | inr ne ↦ rw (ne_eqb k (length console) ne) (omega (arith, h.shown))
+  ]
+
+  -- the console is as it was, or begins that output
+  pub same_or_prefix : (offered console k b ≡ console) ⊎ IsPrefix (offered console k b) all
+  same_or_prefix = elim (cases_eq k (length console)) [
+    | inl e ↦ inr (rw (eq-eqb k (length console) e) (fresh_prefix e))
+    | inr ne ↦ inl (rw (ne_eqb k (length console) ne) refl)
+  ]
+
+-- ---- output on chosen values
+
+-- The law of the values up to the front.
+pub record FrontLaws : Type 0 where
+  pub many : (learned : FinMap nat_cmp Value) (n : ℕ) → n ≤ front_of learned → length (values_below learned n) ≡ n
+  pub at_place : (learned : FinMap nat_cmp Value) (n s : ℕ) → n ≤ front_of learned → s < n
+      → slice_get (values_below learned n) s ≡ get learned s
+
+-- the laws of the crates below
+pub record PlayLaws : Type 0 where
+  pub there : (size : ℕ) (sent : Sent) → (x : List ℕ) × IsInput size sent x
+  pub begins : (size : ℕ) (sent : Sent) (records : ℕ → Record) (values : List Value) (x : List ℕ) → Grew size sent records →
+      AreChosen size sent values → IsInput size sent x → IsPrefix (input_of values) x
+  pub longer : (p : Parts) (x y a : List ℕ) → IsPrefix x y → IsOutput p x a → IsOutput p y a
+  pub compared : (p : Parts) (x y a b : List ℕ) → AreComparable x y → IsOutput p x a → IsOutput p y b → AreComparable a b
+  pub itself : (a : List ℕ) → IsPrefix a a
+  pub shorter : (a b : List ℕ) → AreComparable a b → length a ≤ length b → IsPrefix a b
+  pub fronts : FrontLaws
+
+-- what is learned up to the front is chosen
+pub front_chosen : FrontLaws → {size : ℕ} {sent : Sent} {learned : FinMap nat_cmp Value} → IsLearnedChosen size sent learned
+    → AreChosen size sent (front_values learned)
+front_chosen laws {learned = learned} h = record {
+  chosen = λ s v e.
+      let low : s < front_of learned =
+      omega (arith, laws.many learned (front_of learned) (omega arith), slice_get_within (front_values learned) s v e) in
+      h.chosen s v (sym (laws.at_place learned (front_of learned) s (omega arith) low) ∙ e);
+}
+
+module _ (laws : PlayLaws) {w : World} (h : IsSound w) where
+  -- output on chosen values is output on the chosen input
+  chosen_output : (values : List Value) (x a : List ℕ) → AreChosen w.group.size (world_state w).sent values
+      → IsInput w.group.size (world_state w).sent x → IsOutput w.program (input_of values) a → IsOutput w.program x a
+  chosen_output values x a front chosen =
+      laws.longer w.program _ x a (laws.begins w.group.size _ (λ j. ((world_state w).seats j).kept) values x h.grew front chosen)
+
+  -- a console holds output on the chosen input
+  console_output : (i : ℕ) (m : Member) (x : List ℕ) → member_at w.members i ≡ Some m
+      → IsInput w.group.size (world_state w).sent x → IsOutput w.program x m.console
+  console_output i m x there chosen =
+      let shown = (h.members i m there).shown in
+      chosen_output shown.values x m.console shown.chosen chosen shown.output
+
+  -- the next byte that a node releases is one of what its machine has written, and its console is
+  -- comparable with that
+  pub offer_fits : {i : ℕ} {m : Member} {q : Running} (up : IsUp w i m q) (byte : ℕ)
+      → slice_get (written q) q.progress.released ≡ Some byte → IsOffer m.console (written q) q.progress.released byte
+  offer_fits {i} {m} {q} up byte e =
+      let (x, chosen) = laws.there w.group.size _ in
+      let sound = running h up in
+      let output : IsOutput w.program (input q.known) (written q) =
+      (q.progress.steps, rw sound.program (record { rest = []; whole = sym (append-nil _) })) in
+      let compare =
+      laws.compared w.program x x m.console (written q) (inl (laws.itself x)) (console_output i m x up.there chosen)
+      (chosen_output _ x (written q) (front_chosen laws.fronts sound.learned) chosen output) in
+      record { compare = compare; begins = laws.shorter m.console (written q) compare; shown = sound.shown; byte = e }
+
+-- ---- the claims
+
+-- The laws of agreement: at most one value is chosen at a place; it is a no-op or was submitted.
+pub record ChoiceLaws : Type 0 where
+  pub one : (size s : ℕ) (sent : Sent) (records : ℕ → Record) (v u : Value) → Grew size sent records
+      → IsChosen size sent s v → IsChosen size sent s u → v ≡ u
+  pub free : (size s : ℕ) (sent : Sent) (records : ℕ → Record) (v : Value) → Grew size sent records → IsChosen size sent s v → IsFree sent v
 
 -- a node that its group sees as up
 pub record IsSeenUp (w : World) (i : ℕ) (u : Up) : Type 0 where
@@ -37,7 +209,7 @@ member_up w i u (Some m) there e =
     let (q, up, seen) = node_up m.node u e in
     record { member = m; running = q; is_up = record { there = there; up = up }; seen = seen }
 
-pub seen_up : (w : World) (i : ℕ) (u : Up) → ((world_state w).seats i).up ≡ Some u → IsSeenUp w i u
+seen_up : (w : World) (i : ℕ) (u : Up) → ((world_state w).seats i).up ≡ Some u → IsSeenUp w i u
 seen_up w i u e = member_up w i u _ refl e
 
 module _ (laws : ChoiceLaws) (w : World) (h : IsSound w) where

@@ -1,12 +1,12 @@
 -- A world as a group, after one of its nodes has changed.
-use Rattle.std.proofs.Common.{◌≡◌, ◌≢◌, ◌∙◌, ℕ, zero, suc, ◌-◌, ◌<◌, ◌≤◌, All, List, [], ◌∷◌, ◌++◌, flat_map, length, slice_get, slice_set, replicate, None, Some, Ok, inl, inr, refl, sym, ap, subst, arith}
+use Rattle.std.proofs.lemmas.Option.{same_Some, slice_get-get_or, get_or_from_slice_get, slice_get_within}
+use Rattle.std.proofs.lemmas.List.{get_or-set_same, length-set, get_or-replicate, length-replicate}
+use Rattle.std.proofs.Common.{set, ◌≡◌, ◌≢◌, ◌∙◌, ℕ, zero, suc, ◌-◌, ◌<◌, ◌≤◌, All, List, [], ◌∷◌, ◌++◌, flat_map, length, slice_get, slice_set, replicate, None, Some, Ok, inl, inr, refl, sym, ap, subst, arith}
 use Rattle.std.proofs.lemmas.Bool.{cases_eq, eq-eqb, ne_eqb}
 use Rattle.std.proofs.lemmas.Grind.{flat_map-append}
 use Rattle.std.proofs.lemmas.List.Elements.{All-cons, All-head, All-nil, All-tail, filter_map-append}
 use Rattle.std.specs.List.{cons_option}
 use Rattle.std.specs.Result.{result_ok}
-use Rattle.std.proofs.lemmas.List.{get_or-replicate, length-replicate}
-use Rattle.std.proofs.lemmas.Option.{get_or_from_slice_get, slice_get_within}
 use Rattle.pcode_file.specs.Parts.{Parts}
 use Rattle.paxos_msg.specs.Records.{empty_record}
 use Rattle.paxos_msg.specs.declared.message.Group.{Group}
@@ -33,9 +33,8 @@ use Rattle.group_world.specs.Sound.{IsMemberSound, IsRunningSound, IsSound, IsSp
 -- ---- lists with one element changed
 
 set_there : {X : Type 0} (xs : List X) (k : ℕ) (x : X) → k < length xs → slice_get (slice_set xs k x) k ≡ Some x
-set_there [] k x low = absurd (omega arith)
-set_there (y ∷ ys) zero x low = refl
-set_there (y ∷ ys) (suc k) x low = set_there ys k x (omega arith)
+set_there xs k x low =
+    slice_get-get_or (set xs k x) k x (omega (arith, length-set xs k x)) ∙ ap (λ y. Some y) (get_or-set_same xs k x x low)
 
 set_elsewhere : {X : Type 0} (xs : List X) (k j : ℕ) (x : X) → j ≢ k → slice_get (slice_set xs k x) j ≡ slice_get xs j
 set_elsewhere [] k j x ne = refl
@@ -44,14 +43,10 @@ set_elsewhere (y ∷ ys) zero (suc j) x ne = refl
 set_elsewhere (y ∷ ys) (suc k) zero x ne = refl
 set_elsewhere (y ∷ ys) (suc k) (suc j) x ne = set_elsewhere ys k j x (λ e. ne (ap suc e))
 
--- two nodes with one number are one node
-pub some_is : {X : Type 0} (x y : X) → Some x ≡ Some y → x ≡ y
-some_is x y e = cc
-
 -- ---- nodes by number
 
 -- a node of the world
-pub member_within : (members : List Member) (i : ℕ) (m : Member) → member_at members i ≡ Some m → (0 < i) × (i ≤ length members)
+member_within : (members : List Member) (i : ℕ) (m : Member) → member_at members i ≡ Some m → (0 < i) × (i ≤ length members)
 member_within members zero m e = absurd cc
 member_within members (suc k) m e = (omega arith, omega (arith, slice_get_within members k m e))
 
@@ -78,12 +73,12 @@ pub each_changed : (members : List Member) (i : ℕ) (m new : Member) → member
 each_changed members i m new there P own others j x e = elim (cases_eq j i) [
   | inl same ↦
       let here = rw same at e in
-      rw same (subst (P i) (some_is new x (sym (changed_here members i m new there) ∙ here)) own)
+      rw same (subst (P i) (same_Some new x (sym (changed_here members i m new there) ∙ here)) own)
   | inr ne ↦ others j x ne (sym (changed_elsewhere members i j m new there ne) ∙ e)
 ]
 
 -- the seats of the world are those of the group with one seat changed
-pub seats_changed : (w : World) (i : ℕ) (m new : Member) → member_at w.members i ≡ Some m → (j : ℕ)
+seats_changed : (w : World) (i : ℕ) (m new : Member) → member_at w.members i ≡ Some m → (j : ℕ)
     → seat_of_member (member_at (slice_set w.members (i - 1) new) j) ≡ (with_seat (world_state w) i (seat_of_member (Some new))).seats j
 seats_changed w i m new e j = elim (cases_eq j i) [
   | inl same ↦ rw (eq-eqb j i same, same) (ap seat_of_member (changed_here w.members i m new e))
@@ -93,7 +88,7 @@ seats_changed w i m new e j = elim (cases_eq j i) [
 -- ---- what datagrams spell
 
 -- the spelling of a message is read as the message
-abbrev pub ReadLaw : Type 0
+abbrev ReadLaw : Type 0
 ReadLaw = (group : Group) (bytes : List ℕ) (m : Msg) → IsGroup group → Msgs group bytes m → message_at group bytes ≡ Ok m
 
 module _ (read : ReadLaw) (me : Me) (session : IsGroup me.group) (node : IsNode me.group.size me.node) where
@@ -105,22 +100,17 @@ module _ (read : ReadLaw) (me : Me) (session : IsGroup me.group) (node : IsNode 
       record { fits = (node, fits); spelled = refl } in
       (record { message = _; spells = spells; read = ap result_ok (read me.group _ _ session spells) }, refl)
 
-  -- each of a call's packets spells a message
+  -- each of a call's packets spells a message, and these are the messages that the node sends
   pub packets_read : (packets : List Packet) → AllFit me packets → All (IsSpelling me.group) (datagrams_of me packets)
-  packets_read [] fits = All-nil _
+      × (messages_in me.group (datagrams_of me packets) ≡ messages_handed_out me.node packets)
+  packets_read [] fits = (All-nil _, refl)
   packets_read (packet ∷ more) fits =
       let P : Packet → Type 0 = λ packet. IsBody me.group.size me.node packet.body in
-      All-cons (IsSpelling me.group) (datagram_of me packet) _
-      (packet_read packet (All-head P packet more fits)).0 (packets_read more (All-tail P packet more fits))
-
-  -- these are the messages that the node sends
-  pub packets_spell : (packets : List Packet) → AllFit me packets
-      → messages_in me.group (datagrams_of me packets) ≡ messages_handed_out me.node packets
-  packets_spell [] fits = refl
-  packets_spell (packet ∷ more) fits =
-      let P : Packet → Type 0 = λ packet. IsBody me.group.size me.node packet.body in
       let first = packet_read packet (All-head P packet more fits) in
-      λ t. cons_option ((first.0.read ∙ ap Some first.1) t) (packets_spell more (All-tail P packet more fits) t)
+      let rest = packets_read more (All-tail P packet more fits) in (
+        All-cons (IsSpelling me.group) (datagram_of me packet) _ first.0 rest.0,
+        λ t. cons_option ((first.0.read ∙ ap Some first.1) t) (rest.1 t),
+      )
 
 -- ---- the groups that events leave
 
@@ -140,7 +130,7 @@ pub sent_called : ReadLaw → (w : World) (i : ℕ) (packets : List Packet) → 
     → AllFit (me_of w i) packets
     → messages_in w.group (w.sent ++ datagrams_of (me_of w i) packets) ≡ (world_state w).sent ++ messages_handed_out i packets
 sent_called read w i packets session node fits =
-    filter_map-append _ w.sent _ ∙ ap (λ more. (world_state w).sent ++ more) (packets_spell read (me_of w i) session node packets fits)
+    filter_map-append _ w.sent _ ∙ ap (λ more. (world_state w).sent ++ more) (packets_read read (me_of w i) session node packets fits).1
 
 -- a call was made
 pub called_state : ReadLaw
@@ -163,7 +153,7 @@ called_state read w i m made progress keys e session node fits = λ t. record {
 abbrev pub SoundAt : World → ℕ → Member → Type 0
 SoundAt w i m = IsMemberSound w.program (me_of w i) (world_state w).sent (world_state w).typed m
 
-abbrev pub RunsAt : World → ℕ → Member → Running → Type 0
+abbrev RunsAt : World → ℕ → Member → Running → Type 0
 RunsAt w i m q = IsRunningSound w.program (me_of w i) (world_state w).sent (world_state w).typed m.kept m.console q
 
 -- a node that is up

@@ -67,7 +67,9 @@ insert_under_first : (x k : Key) (same : Bool) (keys : List Key) → same_key x 
 insert_under_first x k true keys e =
     let there = list_any (same_key k) keys in
     let first : same_key k x ≡ true = same_equiv.symm k x ∙ e in
-    rw first (ap (λ (rest : List Key). x ∷ rest) (filter_more x k true keys there e ∙ either (λ l. l ≡ filter (other_than x) keys) there refl (append-nil (filter (other_than x) keys))))
+    let others = filter (other_than x) keys in
+    rw first (ap (λ (rest : List Key). x ∷ rest)
+    (filter_more x k true keys there e ∙ either (λ l. l ≡ others) there refl (append-nil others)))
 insert_under_first x k false keys e =
     let there = list_any (same_key k) keys in
     let first : same_key k x ≡ false = same_equiv.symm k x ∙ e in

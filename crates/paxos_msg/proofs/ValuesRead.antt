@@ -1,5 +1,5 @@
 -- Values: what is read was written, and what is written is read.
-use Rattle.std.proofs.Common.{◌≡◌, ℕ, zero, suc, ◌+◌, ◌^◌, ◌<◌, ◌≤◌, Bool, true, not, ◌&&◌, eqb, List, [], ◌∷◌, ◌++◌, length, Ok, refl, ap, arith}
+use Rattle.std.proofs.Common.{◌≡◌, ℕ, zero, suc, ◌+◌, ◌^◌, ◌<◌, ◌≤◌, Bool, true, not, ◌&&◌, eqb, List, [], ◌∷◌, ◌++◌, length, Ok, refl, ap, arith, ◌∙◌, ltb, take, drop, sym}
 use Rattle.std.proofs.Math.Seq.{drop-append_seam, take-append_seam}
 use Rattle.std.proofs.lemmas.Bool.{eq-eqb, eqb-true, le-ltb, ltb-false, and_parts, not-false}
 use Rattle.std.proofs.lemmas.List.{length-append, length-take-le, take-append-drop}
@@ -29,7 +29,18 @@ characters_found : (first : ℕ) (bytes : List ℕ) (p : List ℕ × List ℕ) �
     → characters_at first bytes ≡ Ok p → Takes bytes (length p.0 ∷ p.0) p.1 × IsBatch first p.0
 unfolding characters_at
 characters_found first bytes p h e =
-    grind (arith, nat_tests, bind_ok, unless_ok, guard_ok, byte_found, length-take-le, ltb-false, batch_found, not-false, take-append-drop, Takes, bytes_after, bytes_before, ok_is)
+    let a = bind_ok (first_byte bytes) _ p e in
+    let b = unless_ok fault.Value (not (is_batch first a.0.0)) a.0 _ p a.2 in
+    let made : List ℕ × List ℕ = (take a.0.0 a.0.1, drop a.0.0 a.0.1) in
+    let g = guard_ok (ltb (length a.0.1) a.0.0) fault.Short (Ok made) p b.1 in
+    let count = byte_found bytes a.0 h a.1 in
+    let len : length made.0 ≡ a.0.0 = length-take-le a.0.0 a.0.1 (ltb-false (length a.0.1) a.0.0 g.0) in
+    let good = batch_found first a.0.0 (not-false _ b.0) in
+    let parts : bytes ≡ a.0.0 ∷ (made.0 ++ made.1) = count.0.parts ∙ ap (λ (t : List ℕ). a.0.0 ∷ t) (sym (take-append-drop a.0.0 a.0.1)) in
+    let taken : Takes bytes (length made.0 ∷ made.0) made.1 =
+    record { parts = rw len parts; others = bytes_after a.0.0 a.0.1 count.0.others } in
+    let batch : IsBatch first made.0 = rw len (good.0, good.1, good.2, good.3, bytes_before a.0.0 a.0.1 count.0.others) in
+    rw (← ok_is made p g.1) (taken, batch)
 
 characters_again : (first : ℕ) (bytes rest : List ℕ) → IsBatch first bytes
     → characters_at first (length bytes ∷ (bytes ++ rest)) ≡ Ok (bytes, rest)

@@ -1,59 +1,57 @@
 -- An instruction at a reached offset may be in the procedure that owns the offset.
-use Rattle.std.proofs.Common.{◌≡◌, ℕ, zero, suc, true, Some, Ok, inl, subst}
+use Rattle.std.proofs.Common.{◌≡◌, ℕ, zero, suc, Some, Ok}
 use Rattle.pcode_file.specs.declared.file.Proc.{Proc}
 use Rattle.pcode_file.specs.InFile.{AreProcs}
-use Rattle.pcode_file.specs.Parts.{Parts, end_of, procedure_of}
+use Rattle.pcode_file.specs.Parts.{Parts, procedure_of}
 use Rattle.pcode_ops.specs.declared.instr.Instr.{Instr}
-use Rattle.pcode_ops.specs.declared.loading.Onward.{Onward}
 use Rattle.pcode_ops.specs.Decoding.{instr_at}
-use Rattle.pcode_ops.specs.Loading.{is_in, owner, IsFine, HasNext}
+use Rattle.pcode_ops.specs.Loading.{owner, flow_of, IsFine, HasNext}
 use Rattle.pcode_ops.specs.Reach.{Reach, entered, followed, MayStand}
-use Rattle.pcode_ops.proofs.Apart.{owned}
-use Rattle.pcode_ops.proofs.Following.{next_is}
+use Rattle.pcode_ops.proofs.Apart.{lies_in, owned}
 use Rattle.pcode_ops.proofs.Leading.{looked_inside}
-use Rattle.pcode_ops.proofs.Looking.{IsLooked, owner_is, looked_is, fine_leads}
-use Rattle.pcode_ops.proofs.LongerCode.{decoded_longer}
-use Rattle.pcode_ops.proofs.Procedures.{is_inside}
+use Rattle.pcode_ops.proofs.Looking.{Looked, owner_is, fine_looked}
+use Rattle.pcode_ops.proofs.Ruling.{next_led}
 
 -- ---- where the checks of an offset allow an instruction
 
--- an offset in the part of an owner has that owner
-same_owner : (p : Parts) (i k : ℕ) (q : Proc) → AreProcs p.segment p.procs → owner p.procs i ≡ Ok q → is_in q k ≡ true
-    → owner p.procs k ≡ Ok q
-same_owner p i k q h own inside = let at = owner_is p.procs i q own in owned p (suc at.0) k q h at.1 inside
-
-looked_stands : (p : Parts) (i : ℕ) (q : Proc) (found : Instr × ℕ) (leads : Onward) → AreProcs p.segment p.procs
-    → Reach p i → IsLooked p i q found leads → MayStand p q found.0 found.1
-looked_stands p i q found leads h reach l =
-    let inside = looked_inside p i q found leads l in
-    record {
+-- what the checks found at a reached offset may be in each procedure that owns the offset
+looked_stands : (p : Parts) (i : ℕ) (q : Proc) (found : Instr × ℕ) → AreProcs p.segment p.procs
+    → owner p.procs i ≡ Ok q → Ok found ≡ instr_at p.segment i → Reach p i → Looked p i → MayStand p q found.0 found.1
+looked_stands p i q found h own there reach l =
+    let at = owner_is p.procs i l.q l.owned in
+    let same_owner : l.q ≡ q = cc (own, l.owned) in
+    let same : (l.instr, l.next) ≡ found = cc (there, l.found) in
+    rw (← same_owner, ← same) (record {
       legal = l.legal;
-      leads = leads;
+      leads = l.leads;
       found = l.onward;
-      reached = λ k to. (followed i k leads reach l.looked to, same_owner p i k q h l.owned (inside k to));
-    }
+      reached = λ k to. (followed i k l.leads reach l.looked to, owned p (suc at.0) k l.q h at.1 (looked_inside p i l k to));
+    })
 
+-- what is decoded at a reached offset without fault may be in the procedure that owns it
 pub may_stand : (p : Parts) (i : ℕ) (q : Proc) (instr : Instr) (j : ℕ) → AreProcs p.segment p.procs
     → owner p.procs i ≡ Ok q → Ok (instr, j) ≡ instr_at p.segment i → Reach p i → IsFine p i
     → MayStand p q instr j
-may_stand p i q instr j h own at reach fine =
-    let leads = fine_leads p i fine in
-    let l = looked_is p i leads.0 leads.1 in
-    let owner_same : l.0 ≡ q = cc (own, l.2.owned) in
-    let found_same : l.1 ≡ (instr, j) = cc (at, decoded_longer p.segment (end_of l.0) i l.1 l.2.decoded) in
-    let P : Proc → Type 0 = λ x. MayStand p x l.1.0 l.1.1 in
-    let Q : Instr × ℕ → Type 0 = λ x. MayStand p q x.0 x.1 in
-    subst Q found_same (subst P owner_same (looked_stands p i l.0 l.1 leads.0 h reach l.2))
+may_stand p i q instr j h own at reach fine = looked_stands p i q (instr, j) h own at reach (fine_looked p i fine)
 
 -- ---- what follows
 
+-- ENTER of a procedure is reached, and owned by the procedure
 pub enter_owned : (p : Parts) (n : ℕ) (q : Proc) → AreProcs p.segment p.procs → procedure_of p.procs n ≡ Some q
     → Reach p q.enter × (owner p.procs q.enter ≡ Ok q)
 enter_owned p zero q h at = absurd cc
 enter_owned p (suc k) q h at =
     let enter = (h.each k q at).enter in
-    (entered k q at, owned p (suc k) q.enter q h at (is_inside q q.enter enter.above enter.below))
+    (entered k q at, owned p (suc k) q.enter q h at ((lies_in q q.enter).1 (enter.above, enter.below)))
 
+-- the offset after an instruction that goes on is reached, and owned by its procedure
 pub next_owned : (p : Parts) (q : Proc) (instr : Instr) (next : ℕ) → MayStand p q instr next → HasNext instr
     → Reach p next × (owner p.procs next ≡ Ok q)
-next_owned p q instr next m has = m.reached next (inl (next_is p.segment q instr next m.leads has m.found))
+next_owned p q instr next m has = m.reached next (next_led p.segment q (flow_of instr) next m.leads has m.found)
+
+-- the offset after what is decoded at a reached offset without fault is reached, if it goes on
+pub next_reached : (p : Parts) (i : ℕ) (instr : Instr) (j : ℕ) → AreProcs p.segment p.procs
+    → Ok (instr, j) ≡ instr_at p.segment i → Reach p i → IsFine p i → HasNext instr → Reach p j
+next_reached p i instr j h at reach fine has =
+    let l = fine_looked p i fine in
+    (next_owned p l.q instr j (may_stand p i l.q instr j h l.owned at reach fine) has).0

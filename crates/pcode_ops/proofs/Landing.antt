@@ -1,106 +1,94 @@
--- A jump or a case jump that may be where it is leads to a reached offset.
-use Rattle.std.proofs.Common.{◌≡◌, ℕ, ◌+◌, ◌-◌, ◌*◌, ◌<◌, ◌&&◌, Bool, true, false, cond, List, Some, None, Result, Ok, Err, inl, inr, refl, subst, arith, ℤ, ◌-ℤ◌, int_le, unsigned_abs}
-use Rattle.std.proofs.lemmas.Bool.{and_parts}
+-- Where jumps and case jumps lead that loading has let pass: to reached offsets of the segment.
+use Rattle.std.proofs.Common.{◌≡◌, ℕ, zero, suc, ◌+◌, ◌*◌, ◌<◌, ◌≤◌, ◌&&◌, true, length, List, Option, Some, None, IsSome, Ok, inl, inr, refl, sym, ◌∙◌, arith, ℤ, pos, ◌-ℤ◌, ◌≤ℤ◌, int_le, unsigned_abs}
+use Rattle.std.proofs.lemmas.Bool.{cond_both}
+use Rattle.std.proofs.lemmas.Bool.Decides.{nat_tests}
 use Rattle.std.proofs.lemmas.Int.{ints}
 use Rattle.std.specs.Int.{w16, cast_signed}
-use Rattle.base.specs.Steps.{◌>>=◌}
-use Rattle.base.proofs.Steps.{pass_ok}
+use Rattle.std.specs.Option.{option_and_then}
+use Rattle.std.specs.Result.{result_ok}
+use Rattle.base.proofs.Steps.{bind_ok}
 use Rattle.pcode_file.specs.declared.file.Proc.{Proc}
-use Rattle.pcode_file.specs.Parts.{Parts, procedure_of}
-use Rattle.pcode_ops.specs.declared.fault.OpFault.{OpFault}
-use Rattle.pcode_ops.specs.declared.fault.OpFault.TheVariants.{Cut, JumpRange}
+use Rattle.pcode_file.specs.InFile.{AreProcs}
+use Rattle.pcode_file.specs.Parts.{Parts, word, end_of, procedure_of}
 use Rattle.pcode_ops.specs.declared.instr.Instr.{Instr}
 use Rattle.pcode_ops.specs.declared.instr.Instr.TheVariants.{Xjp}
 use Rattle.pcode_ops.specs.declared.loading.Onward.{Onward}
 use Rattle.pcode_ops.specs.At.{cases}
 use Rattle.pcode_ops.specs.Decoding.{instr_at}
-use Rattle.pcode_ops.specs.Jumps.{jump_in, StaysWith, pointed_by, case_of, IsCaseTable}
-use Rattle.pcode_ops.specs.Loading.{is_in, owner, jump_to, entries_in, goes_on, ends_at, Flow, Jumps, Branches, flow_of, flows_to, LeadsTo, JumpsWith, JumpsBy}
-use Rattle.pcode_ops.specs.Reach.{Reach, MayStand}
-use Rattle.pcode_ops.proofs.Operating.{case_jump_at_is}
-use Rattle.pcode_ops.proofs.DecodedIsAt.{decoded_at}
+use Rattle.pcode_ops.specs.Jumps.{jump_in, StaysWith, case_of, IsCaseTable}
+use Rattle.pcode_ops.specs.Loading.{jump_to, goes_on, Flow, Jumps, Branches, flow_of, flows_to, LeadsTo, JumpsWith, JumpsBy}
+use Rattle.pcode_ops.specs.Reach.{MayStand}
+use Rattle.pcode_ops.proofs.Entries.{entries_point}
+use Rattle.pcode_ops.proofs.Operating.{table_in}
+use Rattle.pcode_ops.proofs.Ruling.{cases_is, cases_made}
 
 -- ---- jumps
 
--- the target of a jump that leads somewhere
-abbrev HasTarget : Result ℕ OpFault → Onward → Type 0
-HasTarget r o = (t : ℕ) × (r ≡ Ok t) × (o.target ≡ Some t)
+-- a branch leads to its target
+branch_target : (q : Proc) (next t : ℕ) (o : Onward) → goes_on q next (Some t) ≡ Ok o → o.target ≡ Some t
+branch_target q next t o e = grind arith
 
-goes_to : (q : Proc) (next t : ℕ) (o : Onward) → goes_on q next (Some t) ≡ Ok o → o.target ≡ Some t
-goes_to q next t o e = let made =
-    pass_ok (is_in q next) Cut (Ok (record { next = Some next; target = Some t; table = 0; count = 0 })) o e in cc
-    (made.1)
-
-branch_target : (q : Proc) (next : ℕ) (r : Result ℕ OpFault) (o : Onward) → (r >>= λ t. goes_on q next (Some t)) ≡ Ok o → HasTarget r o
-branch_target q next (Ok t) o e = (t, refl, goes_to q next t o e)
-branch_target q next (Err f) o e = absurd cc
-
-jump_target : (r : Result ℕ OpFault) (o : Onward) → (r >>= λ t. Ok (ends_at (Some t))) ≡ Ok o → HasTarget r o
-jump_target (Ok t) o e = (t, refl, cc)
-jump_target (Err f) o e = absurd cc
-
-stays_with : (p : Parts) (n : ℕ) (q : Proc) (sb : ℤ) (next : ℕ) (o : Onward) → procedure_of p.procs n ≡ Some q
-    → ((k : ℕ) → LeadsTo p.segment o k → Reach p k × (owner p.procs k ≡ Ok q))
-    → HasTarget (jump_to p.segment q sb next) o → StaysWith p n q sb next
-stays_with p n q sb next o at reached h =
-    let here : jump_in p n sb next ≡ Some h.0 = rw (at, h.1) refl in
-    let P : ℕ → Type 0 = λ t. Reach p t × (owner p.procs t ≡ Ok q) in
-    record {
-      leads = rw here refl;
-      stays = λ t e. (let same : h.0 ≡ t = cc in subst P same (reached h.0 (inr (inl h.2))));
-    }
-
+-- a jump has a target, to which its flow leads
 flow_target : (segment : List ℕ) (q : Proc) (flow : Flow) (sb : ℤ) (next : ℕ) (o : Onward) → JumpsWith flow sb
-    → flows_to segment q flow next ≡ Ok o → HasTarget (jump_to segment q sb next) o
-flow_target segment q (Jumps by) sb next o same e = let P : ℤ → Type 0 =
-    λ x. HasTarget (jump_to segment q x next) o in subst P same (jump_target (jump_to segment q by next) o e)
-flow_target segment q (Branches by) sb next o same e = let P : ℤ → Type 0 =
-    λ x. HasTarget (jump_to segment q x next) o in subst P same (branch_target q next (jump_to segment q by next) o e)
+    → flows_to segment q flow next ≡ Ok o → (t : ℕ) × (jump_to segment q sb next ≡ Ok t) × (o.target ≡ Some t)
+flow_target segment q (Jumps by) sb next o same e =
+    let b = bind_ok (jump_to segment q by next) _ o e in
+    (b.0, rw (← same) b.1, cc (b.2))
+flow_target segment q (Branches by) sb next o same e =
+    let b = bind_ok (jump_to segment q by next) _ o e in
+    (b.0, rw (← same) b.1, branch_target q next b.0 o b.2)
 flow_target segment q other sb next o same e = absurd same
 
+-- a jump leads to an offset that is reached and owned by its procedure
 pub jump_stays : (p : Parts) (n : ℕ) (q : Proc) (instr : Instr) (sb : ℤ) (next : ℕ) → JumpsBy instr sb
     → MayStand p q instr next → procedure_of p.procs n ≡ Some q → StaysWith p n q sb next
 jump_stays p n q instr sb next jumps m at =
-    stays_with p n q sb next m.leads at m.reached
-    (flow_target p.segment q (flow_of instr) sb next m.leads jumps m.found)
+    let h = flow_target p.segment q (flow_of instr) sb next m.leads jumps m.found in
+    let here : jump_in p n sb next ≡ Some h.0 = rw (at, h.1) refl in
+    record { leads = rw here refl; stays = λ t e. m.reached t (inr (inl (h.2 ∙ sym here ∙ e))) }
+
+-- a forward jump that leads somewhere leads into the part
+lands : (segment : List ℕ) (q : Proc) (sb : ℤ) (next : ℕ) → pos 0 ≤ℤ sb → IsSome (result_ok (jump_to segment q sb next))
+    → next + unsigned_abs sb < end_of q
+lands segment q sb next from h = grind (arith, ints, nat_tests)
+
+-- and so into the segment, where the procedure is there
+lands_by : (p : Parts) (n : ℕ) (sb : ℤ) (next : ℕ) (o : Option Proc) → AreProcs p.segment p.procs → pos 0 ≤ℤ sb → procedure_of p.procs n ≡ o
+    → IsSome (option_and_then (λ q. result_ok (jump_to p.segment q sb next)) o) → next + unsigned_abs sb < length p.segment
+lands_by p zero sb next o h from at leads = absurd cc
+lands_by p (suc k) sb next None h from at leads = absurd cc
+lands_by p (suc k) sb next (Some q) h from at leads =
+    omega (arith, (h.each k q at).table.below, lands p.segment q sb next from leads)
+
+-- a forward jump that leads somewhere leads into the segment
+pub forward_below : (p : Parts) (n : ℕ) (sb : ℤ) (next : ℕ) → AreProcs p.segment p.procs → pos 0 ≤ℤ sb
+    → IsSome (jump_in p n sb next) → next + unsigned_abs sb < length p.segment
+forward_below p n sb next h from leads = lands_by p n sb next (procedure_of p.procs n) h from refl leads
 
 -- ---- case jumps
 
-abbrev case_onward : ℕ → ℕ → Onward
-case_onward table count = record { next = Some (table - 2); target = None; table = table; count = count }
-
-entries : (p : Parts) (q : Proc) (low high sb : ℤ) (table next : ℕ) → (m : MayStand p q (Xjp low high sb table) next)
-    → (entries_in p.segment q table (cases low high) ≡ true) × (case_onward table (cases low high) ≡ m.leads)
-entries p q low high sb table next m =
-    let count = cases low high in
-    let e = pass_ok (entries_in p.segment q table count) JumpRange (Ok (case_onward table count)) m.leads m.found in
-    (e.0, cc (e.1))
-
 -- an index from low to high has an entry
-within_cases : (low high x : ℤ) → int_le low x ≡ true → int_le x high ≡ true → unsigned_abs (x -ℤ low) < cases low high
-within_cases low high x from upto = grind (arith, ints)
+within_cases : (low high x : ℤ) → (int_le low x && int_le x high) ≡ true → unsigned_abs (x -ℤ low) < cases low high
+within_cases low high x e = grind (arith, ints)
 
-case_by : (segment : List ℕ) (low high x : ℤ) (table : ℕ) (b : Bool) → (int_le low x && int_le x high) ≡ b
-    → LeadsTo segment (case_onward table (cases low high)) (cond b (pointed_by segment (table + 2 * unsigned_abs (x -ℤ low))) (table - 2))
-case_by segment low high x table true e =
-    let both = and_parts (int_le low x) (int_le x high) e in
-    inr (inr (unsigned_abs (x -ℤ low), within_cases low high x both.0 both.1, refl))
-case_by segment low high x table false e = inl refl
-
+-- a case jump leads for each word to one of its targets
 pub case_leads : (p : Parts) (q : Proc) (low high sb : ℤ) (table next w : ℕ)
     → (m : MayStand p q (Xjp low high sb table) next) → LeadsTo p.segment m.leads (case_of p.segment low high table w)
 case_leads p q low high sb table next w m =
-    let P : Onward → Type 0 = λ o. LeadsTo p.segment o (case_of p.segment low high table w) in
     let x = cast_signed w16 w in
-    subst P ((entries p q low high sb table next m).1) (case_by p.segment low high x table (int_le low x && int_le x high) refl)
+    rw (← (cases_is p.segment q table (cases low high) m.leads m.found).1)
+    (cond_both (int_le low x && int_le x high) _ _ (λ t. LeadsTo p.segment (cases_made table (cases low high)) t)
+    (λ e. inr (inr (unsigned_abs (x -ℤ low), within_cases low high x e, refl))) (λ _. inl refl))
 
+-- the table of a case jump lies in the segment, and its entries lead into the part
 pub case_table : (p : Parts) (i : ℕ) (q : Proc) (low high sb : ℤ) (table next : ℕ)
     → instr_at p.segment i ≡ Ok (Xjp low high sb table, next) → MayStand p q (Xjp low high sb table) next
     → IsCaseTable p.segment q low high table
 case_table p i q low high sb table next at m =
-    let stands = case_jump_at_is p.segment i low high sb table next (decoded_at p.segment i (Xjp low high sb table) next at) in
-    record {
-      room = omega (arith, stands.4.3);
-      ends = omega (arith, stands.5, stands.6);
-      entries = (entries p q low high sb table next m).0;
-    }
+    let in_code = table_in p.segment i (Xjp low high sb table) next at in
+    record { room = in_code.0; ends = in_code.1; entries = (cases_is p.segment q table (cases low high) m.leads m.found).0 }
+
+-- an entry of a case table points backward
+pub entry_above : (segment : List ℕ) (q : Proc) (low high : ℤ) (table k : ℕ) → IsCaseTable segment q low high table
+    → k < cases low high → word segment (table + 2 * k) ≤ table + 2 * k
+entry_above segment q low high table k h lt = ((entries_point segment q table (cases low high)).0 h.entries k lt).1.0

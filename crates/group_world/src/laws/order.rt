@@ -19,8 +19,8 @@ use group_node::laws::{packets_fit, waiting_keys_are_a_row};
 use paxos_learner::laws::{
     input_grows, key_tests_are_exact, keys_are_read_once, learned_stays, values_are_learned,
 };
-use paxos_msg::grammar::{one_message, reading_is_spelling};
-use paxos_msg::laws::{agreement, sent_only_grows, votes_are_by_place};
+use paxos_msg::grammar::one_message;
+use paxos_msg::laws::{agreement, sent_only_grows};
 
 /// In a sound world that is ordered, each typed key is read once from any chosen values. The keys
 /// of a start are read in the order in which they were typed, with none left out.
@@ -61,10 +61,7 @@ pub fn possible()
         × AreChosen w.group.size (world_state w).sent values
         × (map (λ k. k.byte) (flat_map keys_of values) ≡ 65 ∷ 65 ∷ 66 ∷ 67 ∷ [])
         × (input_of values ≡ 65 ∷ 66 ∷ 67 ∷ []) }
-{
-    reading_is_spelling();
-    votes_are_by_place();
-}
+{}
 
 /// Keys are not in order if the second comes before the first, or the third right after the first.
 /// They are not apart if one serial has two characters, as after two starts with one number.

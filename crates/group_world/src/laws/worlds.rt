@@ -13,8 +13,7 @@ ghost use Rattle.group_world.specs.Witness.{echoes, letter, letter_batch, one, s
 
 use crate::laws::order::{events_keep_order, ordered_worlds_are_orderly};
 use crate::laws::sound::{events_keep_it_sound, sound_worlds_agree};
-use paxos_msg::grammar::reading_is_spelling;
-use paxos_msg::laws::{agreement, sent_only_grows, votes_are_by_place};
+use paxos_msg::laws::{agreement, sent_only_grows};
 use pcode_machine::laws::output_only_grows;
 
 /// The main theorem. It is about every program, every group of 1, 3, 5, 7 or 9 nodes and every list
@@ -96,7 +95,5 @@ pub fn keys_may_show()
         × HasLearned (world_state w) 1 0 letter_batch × ((world_state w).typed ≡ letter ∷ [])
         × (((world_state w).seats 1).console ≡ 65 ∷ []) }
 {
-    reading_is_spelling();
-    votes_are_by_place();
     output_only_grows();
 }

@@ -1,39 +1,33 @@
-use Rattle.std.proofs.Common.{inr}
+use Rattle.std.proofs.Common.{inr, subst}
+use Rattle.std.proofs.lemmas.List.{take_all}
 use Rattle.group_world.specs.Event.{LeadsBy}
 use Rattle.group_world.specs.Group.{new_world}
-use Rattle.group_world.proofs.HoldsAfterEvents.{first_refused, happens_all, happens_next}
+use Rattle.group_world.proofs.HoldsAfterEvents.{first_refused, happens_next}
 use Rattle.group_world.proofs.running.run.Goals as goal
 
 pub loop-event-preserved : goal.loop-event-preserved
 loop-event-preserved c =
     happens_next _ _ _ _ _ c.in_default.field-0 _ c.loop-event-test.true c.loop-event.invariant c.in_default.ensures.goes
 
--- all events of the list have happened
-happened : (c : goal.After-loop-event)
-    → LeadsBy (new_world c.args.program.now (record { size = c.args.size; session = c.args.session })) c.args.events.now c.loop-event.world
-happened c = happens_all _ _ _ _ c.loop-event-test.false c.loop-event.invariant
-
-pub returns-clause-learned_agree : goal.returns-clause-learned_agree
-returns-clause-learned_agree c = c.headline.ensures.learned_agree _ _ _ _ c.in-Ok.ensures.fit c.ranges.session.fits (happened c)
-
-pub returns-clause-learned_chosen : goal.returns-clause-learned_chosen
-returns-clause-learned_chosen c = c.headline.ensures.learned_chosen _ _ _ _ c.in-Ok.ensures.fit c.ranges.session.fits (happened c)
-
-pub returns-clause-consoles_hold_output : goal.returns-clause-consoles_hold_output
-returns-clause-consoles_hold_output c =
-    c.headline.ensures.consoles_hold_output _ _ _ _ c.in-Ok.ensures.fit c.ranges.session.fits (happened c)
-
-pub returns-clause-consoles_agree : goal.returns-clause-consoles_agree
-returns-clause-consoles_agree c = c.headline.ensures.consoles_agree _ _ _ _ c.in-Ok.ensures.fit c.ranges.session.fits (happened c)
-
-pub returns-clause-no_gap : goal.returns-clause-no_gap
-returns-clause-no_gap c = c.headline.ensures.no_gap _ _ _ _ c.in-Ok.ensures.fit c.ranges.session.fits (happened c)
-
-pub returns-clause-key_once : goal.returns-clause-key_once
-returns-clause-key_once c = c.headline.ensures.key_once _ _ _ _ c.in-Ok.ensures.fit c.ranges.session.fits (happened c)
-
-pub returns-clause-serials_in_order : goal.returns-clause-serials_in_order
-returns-clause-serials_in_order c = c.headline.ensures.serials_in_order _ _ _ _ c.in-Ok.ensures.fit c.ranges.session.fits (happened c)
+pub returns : goal.returns
+returns c =
+    let fit = c.in-Ok.ensures.fit in
+    let session = c.ranges.session.fits in
+    let start = new_world c.args.program.now (record { size = c.args.size; session = c.args.session }) in
+    let happens = subst (λ events. LeadsBy start events c.loop-event.world)
+    (take_all _ c.args.events.now c.loop-event-test.false) c.loop-event.invariant in
+    record {
+      happens = happens;
+      learned_agree = c.headline.ensures.learned_agree _ _ c.args.events.now _ fit session happens;
+      learned_chosen = c.headline.ensures.learned_chosen _ _ c.args.events.now _ fit session happens;
+      consoles_hold_output = c.headline.ensures.consoles_hold_output _ _ c.args.events.now _ fit session happens;
+      consoles_agree = c.headline.ensures.consoles_agree _ _ c.args.events.now _ fit session happens;
+      no_gap = c.headline.ensures.no_gap _ _ c.args.events.now _ fit session happens;
+      key_once = c.headline.ensures.key_once _ _ c.args.events.now _ fit session happens;
+      serials_in_order = c.headline.ensures.serials_in_order _ _ c.args.events.now _ fit session happens;
+      size = fit;
+      refused = tt;
+    }
 
 pub returns-in-Err-apply-clause-refused : goal.returns-in-Err-apply-clause-refused
 returns-in-Err-apply-clause-refused c =

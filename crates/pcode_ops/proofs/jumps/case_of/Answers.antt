@@ -1,7 +1,7 @@
 use Rattle.std.proofs.Common.{◌<◌, arith}
 use Rattle.std.proofs.lemmas.Int.{ints}
 use Rattle.pcode_ops.specs.At.{cases}
-use Rattle.pcode_ops.proofs.Targets.{entry_above}
+use Rattle.pcode_ops.proofs.Landing.{entry_above}
 use Rattle.pcode_ops.proofs.jumps.case_of.Goals as goal
 
 pub pointed_by-requires-clause-above : goal.pointed_by-requires-clause-above

@@ -1,4 +1,4 @@
-use Rattle.pcode_ops.proofs.Procedures.{are_parts}
+use Rattle.pcode_ops.proofs.Apart.{are_parts}
 use Rattle.pcode_ops.proofs.loading.parts.Goals as goal
 
 pub returns-clause-parts : goal.returns-clause-parts

@@ -1,10 +1,11 @@
-use Rattle.group_world.proofs.GroupCalls.{above, crashes_so, lent_is}
+use Rattle.group_world.proofs.GroupCalls.{above, crashes_so}
 use Rattle.group_world.proofs.group.GroupState.crash.Goals as goal
 
 pub place-requires : goal.place-requires
 place-requires c = above c.requires.up.2
 
 pub returns : goal.returns
-returns c =
-    let lends = lent_is c.args.node c.self.view_is c.requires.up.2.there c.place.ensures c.index_mut.ensures.value in
-    record { acts = λ plan. crashes_so c.self.view_is lends plan c.requires.up.2 c.crash.ensures }
+returns c = record {
+  acts = λ plan. crashes_so c.self.view_is c.args.node c.requires.up.2.there c.place.ensures c.index_mut.ensures.value plan
+      c.requires.up.2 c.crash.ensures;
+}

@@ -7,18 +7,17 @@ use Rattle.group_world.proofs.group.GroupState.start.Goals as goal
 
 pub start-requires-clause-ranges : goal.start-requires-clause-ranges
 start-requires-clause-ranges c =
-    let lends = lent_is c.args.node c.self.view_is c.requires.down.1.there c.place.ensures c.index_mut.ensures.value in
-    rw (c.in-Ok.ensures.ok, lends.is)
-    (rw (← c.self.view_is) at (c.requires.sound.members c.args.node c.requires.down.0 lends.there).ranges)
+    rw (c.in-Ok.ensures.ok, lent_is c.self.view_is c.args.node c.requires.down.1.there c.place.ensures c.index_mut.ensures.value)
+    (rw (← c.self.view_is) at (c.requires.sound.members c.args.node c.requires.down.0 c.requires.down.1.there).ranges)
 
 pub returns-clause-acts : goal.returns-clause-acts
 returns-clause-acts c =
-    let lends = lent_is c.args.node c.self.view_is c.requires.down.1.there c.place.ensures c.index_mut.ensures.value in
     let me = c.in-Ok.ensures.ok ∙ ap (λ w. me_of w c.args.node) c.self.view_is in
     IfOk-weaker c.start.result _ _
     (λ d ends. (
       c.requires.down.0,
       c.requires.down.1,
-      leaves c.self.view_is lends c.args.plan call_of_start me (none_more _) (none_more _) ends,
+      leaves c.self.view_is c.args.node c.requires.down.1.there c.place.ensures c.index_mut.ensures.value c.args.plan
+          call_of_start me (none_more _) (none_more _) ends,
     ))
     (rw (ap (λ (w : World). w.program) c.self.view_is) at c.start.ensures.ends)

@@ -1,10 +1,7 @@
--- The lemmas of `OrderActs`.
-mod Laws
+-- The lemmas of `OrderEvents`.
 mod OrderNodes
-mod OrderSends
 mod OrderEvents
-mod OrderActs
-use Rattle.group_world.proofs.laws.order.events_keep_order.Answers.OrderActs.{acts_ordered, begun_ordered}
+use Rattle.group_world.proofs.laws.order.events_keep_order.Answers.OrderEvents.{acts_ordered, begun_ordered}
 use Rattle.group_world.proofs.laws.order.events_keep_order.Goals as goal
 
 pub returns-clause-begins : goal.returns-clause-begins

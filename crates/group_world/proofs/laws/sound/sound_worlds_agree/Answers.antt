@@ -1,7 +1,5 @@
--- The lemmas of `SoundWorldsAgree` and `OutputOnChosen`, with the laws of the crates below.
-use Rattle.group_world.proofs.SoundWorldsAgree.{consoles_agree, consoles_hold_output, has_no_gap, learned_agree, learned_chosen}
-use Rattle.group_world.proofs.OrderWorlds.{ChoiceLaws}
-use Rattle.group_world.proofs.OutputOnChosen.{PlayLaws}
+-- The lemmas of `SoundWorldsAgree`, with the laws of the crates below.
+use Rattle.group_world.proofs.SoundWorldsAgree.{consoles_agree, consoles_hold_output, has_no_gap, learned_agree, learned_chosen, ChoiceLaws, PlayLaws}
 use Rattle.group_world.proofs.laws.sound.sound_worlds_agree.Goals as goal
 
 chosen : goal.After-prefixes_are_ordered → ChoiceLaws
@@ -18,17 +16,11 @@ play c = record {
   fronts = record { many = c.values_are_learned.ensures.many; at_place = c.values_are_learned.ensures.at_place };
 }
 
-pub returns-clause-learned_agree : goal.returns-clause-learned_agree
-returns-clause-learned_agree c = learned_agree (chosen c)
-
-pub returns-clause-learned_chosen : goal.returns-clause-learned_chosen
-returns-clause-learned_chosen c = learned_chosen (chosen c)
-
-pub returns-clause-consoles_hold_output : goal.returns-clause-consoles_hold_output
-returns-clause-consoles_hold_output c = consoles_hold_output (play c)
-
-pub returns-clause-consoles_agree : goal.returns-clause-consoles_agree
-returns-clause-consoles_agree c = consoles_agree (play c)
-
-pub returns-clause-no_gap : goal.returns-clause-no_gap
-returns-clause-no_gap c = has_no_gap (play c)
+pub returns : goal.returns
+returns c = record {
+  learned_agree = learned_agree (chosen c);
+  learned_chosen = learned_chosen (chosen c);
+  consoles_hold_output = consoles_hold_output (play c);
+  consoles_agree = consoles_agree (play c);
+  no_gap = has_no_gap (play c);
+}

@@ -1,5 +1,5 @@
--- The lemmas of `LaterWorldsAgree`, with the laws of events, of agreement and of what stays chosen.
-use Rattle.group_world.proofs.LaterWorldsAgree.{LaterWorldLaws, later_grows, later_learned}
+-- The lemmas of `HoldsAfterEvents`, with the laws of events, of agreement and of what stays chosen.
+use Rattle.group_world.proofs.HoldsAfterEvents.{grown_learned, later, LaterWorldLaws}
 use Rattle.group_world.proofs.laws.worlds.later_worlds_agree.Goals as goal
 
 laws : goal.After-sent_only_grows → LaterWorldLaws
@@ -18,9 +18,8 @@ laws c = record {
   };
 }
 
-pub returns-clause-learned_stays : goal.returns-clause-learned_stays
-returns-clause-learned_stays c = later_learned (laws c)
-
-pub returns-clause-consoles_grow : goal.returns-clause-consoles_grow
-returns-clause-consoles_grow c p group events more w v size session before then =
-    (later_grows (laws c) p group events more w v size session before then).consoles
+pub returns : goal.returns
+returns c = record {
+  learned_stays = later (laws c) (λ w v h k grown. grown_learned (laws c).chosen w v h.sound k.sound grown);
+  consoles_grow = later (laws c) (λ w v h k grown. grown.consoles);
+}

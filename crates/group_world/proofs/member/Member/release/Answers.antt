@@ -2,7 +2,7 @@ use Rattle.std.proofs.Common.{◌≡◌, ◌∙◌, ap, refl, rules}
 use Rattle.group_world.specs.declared.member.Place.TheVariants as place
 use Rattle.group_world.specs.Member.{member_after_release, member_of}
 use Rattle.group_world.proofs.AskEnds.{as_member}
-use Rattle.group_world.proofs.ReleasedBytes.{next_of}
+use Rattle.group_world.proofs.SoundWorldsAgree.{next_of}
 use Rattle.group_world.proofs.PlaceCalls.{releases, releases_none, run_open, up_not_down}
 use Rattle.group_world.proofs.member.Member.release.Goals as goal
 

@@ -1,8 +1,9 @@
--- Each kind of event keeps a world ordered.
-use Rattle.std.proofs.Common.{◌≡◌, ◌∙◌, ℕ, ◌+◌, ◌≤◌, List, [], ◌∷◌, ◌++◌, take, Option, Some, None, IfSome, refl, sym, ap, subst, inl, inr, arith}
+-- Each kind of event keeps a world ordered, so any event does; and the world before all events is
+-- ordered.
+use Rattle.std.proofs.Common.{◌≡◌, ◌∙◌, ℕ, ◌+◌, ◌≤◌, List, [], ◌∷◌, ◌++◌, take, Option, Some, None, IfSome, refl, sym, ap, subst, inl, inr, arith, Bool, true, false, ◌-◌, slice_set}
 use Rattle.std.proofs.lemmas.List.{append-nil, length-append}
 use Rattle.std.proofs.lemmas.List.Concat.{flat_map-append}
-use Rattle.std.proofs.lemmas.List.Elements.{All-contains, Contains-append_cases, Contains-append_left, Contains-append_right, filter_map-append}
+use Rattle.std.proofs.lemmas.List.Elements.{All-contains, Contains-append_cases, Contains-append_left, Contains-append_right, filter_map-append, Contains-get_or, Contains-push_cases}
 use Rattle.std.specs.List.{Contains}
 use Rattle.std.specs.FinMap.{FinMap}
 use Rattle.std.specs.Ordering.{nat_cmp}
@@ -19,22 +20,73 @@ use Rattle.paxos_learner.specs.Input.{front_values, keys_in_order}
 use Rattle.group_node.specs.Inputs.{AreChosen}
 use Rattle.group_node.specs.Known.{Response, on_typed, new_key, next_serial, own_batch, on_start, waiting_keys}
 use Rattle.group_node.specs.Tick.{batch_of}
-use Rattle.group_node.specs.Output.{Progress}
+use Rattle.group_node.specs.Output.{Progress, no_progress}
 use Rattle.group_node.specs.Packets.{Datagram, Packet, datagrams_of}
-use Rattle.group_world.specs.Group.{IsUp, me_of, member_at, message_of, messages_in, with_member, World, world_after_call, world_after_fall, world_state}
-use Rattle.group_world.specs.Member.{Member, member_after_call, Running}
-use Rattle.group_world.specs.Ordered.{IsDue, IsOrdered, AreTypedKeys, IsRowOf}
+use Rattle.group_world.specs.Group.{IsUp, me_of, member_at, message_of, messages_in, with_member, World, world_after_call, world_after_fall, world_state, new_world}
+use Rattle.group_world.specs.Member.{Member, member_after_call, Running, at_progress, failing, Makes, Refuses, member_after_release, save_outcome, NodeCall}
+use Rattle.group_world.specs.Ordered.{IsDue, IsOrdered, AreTypedKeys, IsRowOf, AreTypedInOrder}
 use Rattle.group_world.specs.Sound.{IsSound, IsSpelling}
 use Rattle.group_world.proofs.OrderLists.{none_in}
-use Rattle.group_world.proofs.OrderMembers.{put_ordered, typed_ordered}
-use Rattle.group_world.proofs.laws.order.events_keep_order.Answers.OrderNodes.{Goes, read_of}
-use Rattle.group_world.proofs.OrderPackets.{AreAsked, none_asked}
-use Rattle.group_world.proofs.OrderRows.{first_due, fresh_row, new_name, parted_row, typed_row}
-use Rattle.group_world.proofs.laws.order.events_keep_order.Answers.OrderSends.{submit_found}
-use Rattle.group_world.proofs.OrderWorlds.{chosen_typed}
-use Rattle.group_world.proofs.OutputOnChosen.{front_chosen}
-use Rattle.group_world.proofs.WorldAsGroup.{running}
-use Rattle.group_world.proofs.laws.order.events_keep_order.Answers.Laws.{Laws}
+use Rattle.group_world.proofs.laws.order.events_keep_order.Answers.OrderNodes.{Goes, read_of, campaign_goes, message_goes, tick_goes, AreAsked, Laws, none_asked, submit_found}
+use Rattle.group_world.proofs.OrderRows.{first_due, fresh_row, new_name, parted_row, typed_row, other_row}
+use Rattle.group_world.proofs.SoundWorldsAgree.{front_chosen, next_of}
+use Rattle.group_world.proofs.WorldAsGroup.{running, first_node, each_changed}
+use Rattle.pcode_file.specs.Parts.{Parts}
+use Rattle.paxos_msg.specs.declared.message.Group.{Group}
+use Rattle.group_world.specs.declared.event.Act.{Act}
+use Rattle.group_world.specs.declared.event.Act.TheVariants.{Press, Deliver, Campaign, Tick, Run, Release, Crash, Start}
+use Rattle.group_world.specs.declared.event.Done.{Done}
+use Rattle.group_world.specs.Event.{Leaves, LeavesBy, Performs}
+use Rattle.group_world.proofs.CallCases.{campaign_cases, press_cases, start_cases}
+use Rattle.group_node.specs.declared.fault.NodeFault.{NodeFault}
+use Rattle.std.proofs.lemmas.List.Quantifiers.{all_pairs_push}
+use Rattle.std.proofs.lemmas.Option.{IfSome_then}
+use Rattle.group_world.specs.Order.{HaveOneName}
+use Rattle.group_world.proofs.OrderFronts.{chosen_typed}
+
+-- ---- the facts of typed keys, after one node has changed
+
+module _ (typed : List Key) (members : List Member) (h : AreTypedInOrder typed members) (i : ℕ) (m : Member)
+    (there : member_at members i ≡ Some m) (new : Member) (more : m.kept.starts ≤ new.kept.starts) where
+  -- no count of starts falls
+  still_past : (k : Key) (x : Member) → Contains typed k → member_at (slice_set members (i - 1) new) k.node ≡ Some x
+      → k.start ≤ x.kept.starts
+  still_past k x among at =
+      each_changed members i m new there (λ j y. j ≡ k.node → k.start ≤ y.kept.starts)
+      (λ e. omega (arith, h.past k m among (subst (λ n. member_at members n ≡ Some m) e there)))
+      (λ j other ne found e. h.past k other among (subst (λ n. member_at members n ≡ Some other) e found)) k.node x at refl
+
+  -- no key was typed
+  put_ordered : IfSome new.node (λ q. IsRowOf typed i new.kept q.known) → AreTypedInOrder typed (slice_set members (i - 1) new)
+  put_ordered own = record {
+    once = h.once;
+    past = still_past;
+    nodes = each_changed members i m new there (λ j x. IfSome x.node _) own (λ j other ne found. h.nodes j other found);
+  }
+
+  -- this key was typed at the node
+  typed_ordered : (key : Key) → key.node ≡ i → key.start ≤ m.kept.starts → ((k : Key) → Contains typed k → ¬ HaveOneName k key)
+      → IfSome new.node (λ q. IsRowOf (typed ++ key ∷ []) i new.kept q.known)
+      → AreTypedInOrder (typed ++ key ∷ []) (slice_set members (i - 1) new)
+  typed_ordered key of_node low fresh own = record {
+    once =
+        all_pairs_push (λ (x y : Key). ¬ HaveOneName x y) typed key h.once
+        (λ k d below. fresh _ (Contains-get_or typed k d below));
+    past = λ k x among at. elim (Contains-push_cases typed key k among) [
+      | inl before ↦ still_past k x before at
+      | inr e ↦ each_changed members i m new there (λ j y. j ≡ k.node → k.start ≤ y.kept.starts)
+          (λ is. let same = ap (λ (y : Key). y.start) (sym e) in omega arith)
+          (λ j other ne found is. absurd (ne (is ∙ ap (λ (y : Key). y.node) (sym e) ∙ of_node)))
+          k.node x at refl
+    ];
+    nodes = each_changed members i m new there (λ j x. IfSome x.node _) own
+        (λ j other ne found. IfSome_then other.node (h.nodes j other found) (λ q row. record {
+          start = row.start;
+          last = row.last;
+          next = row.next;
+          row = other_row row.row key (λ e. ne (sym e ∙ of_node));
+        }));
+  }
 
 -- ---- more is sent and learned
 
@@ -59,22 +111,29 @@ read_more laws old new more k among =
     subst (λ values. Contains (keys_in_order values) k) (sym grown.1)
     (subst (λ l. Contains l k) (sym keys.1) (Contains-append_left _ keys.0 k among))
 
+-- what a call may submit of node `i`: its message fits, and it is due
+abbrev MaySubmit : World → ℕ → Option Value → Type 0
+MaySubmit w i o =
+    (u : Value) → o ≡ Some u → Fits w.group (record { sender = i; body = Submit u }) × IsDue w.group.size (world_state w).sent u
+
+no_submit : (w : World) (i : ℕ) → MaySubmit w i None
+no_submit w i u e = absurd cc
+
 module _ (laws : Laws) {w : World} (sound : IsSound w) (h : IsOrdered w) (i : ℕ) {m : Member}
     (there : member_at w.members i ≡ Some m) where
   -- nothing is typed or sent
-  pub put_world : (new : Member) → m.kept.starts ≤ new.kept.starts
+  put_world : (new : Member) → m.kept.starts ≤ new.kept.starts
       → IfSome new.node (λ q. IsRowOf (world_state w).typed i new.kept q.known) → IsOrdered (with_member w i new)
   put_world new more own = record { keys = put_ordered _ w.members h.keys i m there new more own; due = h.due }
 
   -- the node is down
-  pub fallen_world : (kept : Record) → m.kept.starts ≤ kept.starts → IsOrdered (world_after_fall w i m kept)
+  fallen_world : (kept : Record) → m.kept.starts ≤ kept.starts → IsOrdered (world_after_fall w i m kept)
   fallen_world kept more = put_world _ more tt
 
   -- what is submitted is due, also by these packets
   module _ (packets : List Packet) (o : Option Value) (asked : AreAsked o packets)
       (spelled : (d : Datagram) → Contains (datagrams_of (me_of w i) packets) d → IsSpelling w.group d)
-      (fits : (u : Value) → o ≡ Some u → Fits w.group (record { sender = i; body = Submit u }))
-      (due : (u : Value) → o ≡ Some u → IsDue w.group.size (world_state w).sent u) where
+      (may : MaySubmit w i o) where
     abbrev more : Sent
     more = messages_in w.group (datagrams_of (me_of w i) packets)
 
@@ -85,31 +144,29 @@ module _ (laws : Laws) {w : World} (sound : IsSound w) (h : IsOrdered w) (i : �
         let now : IsDue w.group.size (world_state w).sent v =
         elim (Contains-append_cases (world_state w).sent more _ (rw parts at among)) [
           | inl before ↦ h.due v (j, before)
-          | inr now ↦ due v (submit_found laws (me_of w i) packets o sound.session asked spelled fits v (j, now))
+          | inr now ↦ (may v (submit_found laws (me_of w i) packets o sound.session asked spelled (λ u e. (may u e).0) v (j, now))).1
         ] in
         rw parts (due_later laws w.group.size (world_state w).sent more v now)
 
   -- a call that types nothing
   called_world : (made : Response) (console : List ℕ) (progress : Progress) (o : Option Value) → AreAsked o made.sends
-      → IsSound (world_after_call w i made console progress [])
-      → ((u : Value) → o ≡ Some u → Fits w.group (record { sender = i; body = Submit u }))
-      → ((u : Value) → o ≡ Some u → IsDue w.group.size (world_state w).sent u)
+      → IsSound (world_after_call w i made console progress []) → MaySubmit w i o
       → m.kept.starts ≤ made.node.kept.starts → IsRowOf (world_state w).typed i made.node.kept made.node
       → IsOrdered (world_after_call w i made console progress [])
-  called_world made console progress o asked after fits due more own = record {
+  called_world made console progress o asked after may more own = record {
     keys = rw (append-nil w.typed) (put_ordered _ w.members h.keys i m there _ more own);
     due =
         sent_due made.sends o asked
-        (λ d among. All-contains (IsSpelling w.group) _ d after.spelled (Contains-append_right w.sent _ d among)) fits due;
+        (λ d among. All-contains (IsSpelling w.group) _ d after.spelled (Contains-append_right w.sent _ d among)) may;
   }
 
   -- ---- a start, in which no key was typed
-  pub started_world : (console : List ℕ) (progress : Progress)
+  started_world : (console : List ℕ) (progress : Progress)
       → IsSound (world_after_call w i (on_start (me_of w i) m.kept) console progress [])
       → IsOrdered (world_after_call w i (on_start (me_of w i) m.kept) console progress [])
   started_world console progress after =
-      called_world (on_start (me_of w i) m.kept) console progress None (none_asked None) after (λ u e. absurd cc)
-      (λ u e. absurd cc) (omega arith) (record {
+      called_world (on_start (me_of w i) m.kept) console progress None (none_asked None) after (no_submit w i)
+      (omega arith) (record {
         start = refl;
         last = 0;
         next = refl;
@@ -120,7 +177,7 @@ module _ (laws : Laws) {w : World} (sound : IsSound w) (h : IsOrdered w) (i : �
 -- ---- the calls of a node that is up
 
 module _ (laws : Laws) {w : World} (sound : IsSound w) (h : IsOrdered w) {i : ℕ} {m : Member} {q : Running} (up : IsUp w i m q) where
-  pub own : IsRowOf (world_state w).typed i m.kept q.known
+  own : IsRowOf (world_state w).typed i m.kept q.known
   own = rw up.up at (h.keys.nodes i m up.there)
 
   node_is : q.known.me.node ≡ i
@@ -133,21 +190,22 @@ module _ (laws : Laws) {w : World} (sound : IsSound w) (h : IsOrdered w) {i : �
 
   was_typed : (k : Key) → Contains (read_of q.known) k → Contains (world_state w).typed k
   was_typed =
-      chosen_typed (record { one = laws.agreement.ensures.one_value; free = laws.agreement.ensures.submitted })
-      (record { more = laws.keys_are_read_once.ensures.more; has = laws.key_tests_are_exact.ensures.has }) sound h
-      (front_values q.known.learner.learned) front
+      chosen_typed (record {
+        more = laws.keys_are_read_once.ensures.more;
+        same = laws.keys_are_read_once.ensures.same;
+        has = laws.key_tests_are_exact.ensures.has;
+        choice = record { one = laws.agreement.ensures.one_value; free = laws.agreement.ensures.submitted };
+      }) sound h (front_values q.known.learner.learned) front
 
-  pub goes_starts : {o : Option Value} {done : Response} → Goes q.known o done → m.kept.starts ≤ done.node.kept.starts
+  goes_starts : {o : Option Value} {done : Response} → Goes q.known o done → m.kept.starts ≤ done.node.kept.starts
   goes_starts goes = omega (arith, own.start, goes.starts)
 
   -- a call after which keys no longer wait that are read
-  pub goes_world : {o : Option Value} {done : Response} (console : List ℕ) (progress : Progress) → Goes q.known o done
-      → IsSound (world_after_call w i done console progress [])
-      → ((u : Value) → o ≡ Some u → Fits w.group (record { sender = i; body = Submit u }))
-      → ((u : Value) → o ≡ Some u → IsDue w.group.size (world_state w).sent u)
+  goes_world : {o : Option Value} {done : Response} (console : List ℕ) (progress : Progress) → Goes q.known o done
+      → IsSound (world_after_call w i done console progress []) → MaySubmit w i o
       → IsOrdered (world_after_call w i done console progress [])
-  goes_world {o} {done} console progress goes after fits due =
-      called_world laws sound h i up.there done console progress o goes.asked after fits due (goes_starts goes) (record {
+  goes_world {o} {done} console progress goes after may =
+      called_world laws sound h i up.there done console progress o goes.asked after may (goes_starts goes) (record {
         start = refl;
         last = own.last;
         next = own.next ∙ sym goes.next;
@@ -168,18 +226,17 @@ module _ (laws : Laws) {w : World} (sound : IsSound w) (h : IsOrdered w) {i : �
       (first_due front own.row h.keys.once was_typed _
       (keys_from n.me.node n.kept.starts (n.first + 1) bytes) (ap (keys_from n.me.node n.kept.starts n.first) e))
 
-  pub batch_due : (u : Value) → batch_of q.known q.known.waiting ≡ Some u → IsDue w.group.size (world_state w).sent u
-  batch_due = batch_by q.known.waiting refl
-
-  pub batch_fits : (u : Value) → batch_of q.known q.known.waiting ≡ Some u → Fits w.group (record { sender = i; body = Submit u })
-  batch_fits u at =
-      let sound = running sound up in
-      subst (λ (me : Me). Fits me.group (record { sender = me.node; body = Submit u })) sound.me_is
-      (sound.ranges.me.node, laws.packets_fit.ensures.submit q.known u sound.ranges at)
+  batch_may : MaySubmit w i (batch_of q.known q.known.waiting)
+  batch_may u at =
+      let node = running sound up in (
+        subst (λ (me : Me). Fits me.group (record { sender = me.node; body = Submit u })) node.me_is
+            (node.ranges.me.node, laws.packets_fit.ensures.submit q.known u node.ranges at),
+        batch_by q.known.waiting refl u at,
+      )
 
   -- ---- a typed byte
 
-  pub pressed_world : (byte : ℕ) (console : List ℕ) (progress : Progress)
+  pressed_world : (byte : ℕ) (console : List ℕ) (progress : Progress)
       → IsOrdered (world_after_call w i (on_typed q.known byte) console progress (new_key q.known byte ∷ []))
   pressed_world byte console progress =
       let n = q.known in
@@ -196,6 +253,74 @@ module _ (laws : Laws) {w : World} (sound : IsSound w) (h : IsOrdered w) {i : �
             rw (flat_map-append keys_of w.typed _)
             (typed_ordered (world_state w).typed w.members h.keys i m up.there new (omega (arith, own.start)) key node_is
             (omega (arith, own.start)) (new_name own.row key node_is refl (sym own.next)) row);
-        due = sent_due laws sound h i up.there [] None (none_asked None) (λ d among. absurd (none_in d among)) (λ u e. absurd cc)
-            (λ u e. absurd cc);
+        due = sent_due laws sound h i up.there [] None (none_asked None) (λ d among. absurd (none_in d among)) (no_submit w i);
       }
+
+-- ---- any event
+
+module _ (laws : Laws) {w v : World} (plan : Option Bool) (d : Done) (sound : IsSound w) (after : IsSound v) (h : IsOrdered w) where
+  module _ (i : ℕ) {m : Member} (there : member_at w.members i ≡ Some m) where
+    -- a call that saves, by the failure of its save, which leaves the changed record or the old one
+    saves_by : (made : Response) (progress : Progress) (keys : List Value) → m.kept.starts ≤ made.node.kept.starts
+        → (v ≡ world_after_call w i made m.console progress keys → IsOrdered v) → (o : Option Bool)
+        → LeavesBy w i m progress (save_outcome m.kept made keys o) d v → IsOrdered v
+    saves_by made progress keys more went None (answer, e) = went e
+    saves_by made progress keys more went (Some true) (answer, e) = rw e (fallen_world laws sound h i there _ more)
+    saves_by made progress keys more went (Some false) (answer, e) = rw e (fallen_world laws sound h i there m.kept (omega arith))
+
+  module _ {i : ℕ} {m : Member} {q : Running} (up : IsUp w i m q) where
+    -- a call that submits this at most
+    goes_by : {o : Option Value} (made : Response) → Goes q.known o made → MaySubmit w i o
+        → Leaves w i m q.progress plan (Makes made []) d v → IsOrdered v
+    goes_by made goes may leaves =
+        saves_by i up.there made q.progress [] (goes_starts laws sound h up goes)
+        (λ e. rw e (goes_world laws sound h up m.console q.progress goes (rw e at after) may)) _ leaves
+
+    -- a call that submits nothing
+    silent_by : (made : Response) → Goes q.known None made → Leaves w i m q.progress plan (Makes made []) d v → IsOrdered v
+    silent_by made goes = goes_by made goes (no_submit w i)
+
+    -- a release, if a byte waits
+    released_by : (o : Option ℕ) → IsOrdered (with_member w i (member_after_release m q o))
+    released_by None = put_world laws sound h i up.there m (omega arith) (h.keys.nodes i m up.there)
+    released_by (Some byte) = put_world laws sound h i up.there _ (omega arith) (own laws sound h up)
+
+  abbrev Ordered : ℕ → Member → Progress → NodeCall → Type 0
+  Ordered i m progress call = Leaves w i m progress plan call d v → IsOrdered v
+
+  refused_by : (i : ℕ) (m : Member) (progress : Progress) (f : NodeFault) → Ordered i m progress (Refuses f)
+  refused_by i m progress f leaves = rw leaves.1 h
+
+  acts_by : (act : Act) → Performs w plan act d v → IsOrdered v
+  acts_by (Press i byte) (m, q, up, low, leaves) =
+      press_cases (Ordered i m q.progress) (refused_by i m q.progress) q.known byte
+      (λ ne other made. rw made.1 (pressed_world laws sound h up byte m.console q.progress)) leaves
+  acts_by (Deliver k i) (m, q, message, up, read, leaves) = silent_by up _ (message_goes laws q.known message.sender message.body) leaves
+  acts_by (Campaign i) (m, q, up, leaves) =
+      campaign_cases (Ordered i m q.progress) (refused_by i m q.progress) q.known
+      (λ low other. silent_by up _ (campaign_goes q.known)) leaves
+  acts_by (Tick i) (m, q, up, leaves) = goes_by up _ (tick_goes q.known) (batch_may laws sound h up) leaves
+  acts_by (Run i steps) (m, q, progress, ran, up, runs, replay, answer, e) =
+      rw e (put_world laws sound h i up.there (at_progress m q progress) (omega arith) (own laws sound h up))
+  acts_by (Release i) (m, q, up, answer, e) = rw e (released_by up (next_of q))
+  acts_by (Crash i) (m, q, up, answer, e) = rw e (fallen_world laws sound h i up.there m.kept (omega arith))
+  acts_by (Start i) (m, is, leaves) =
+      start_cases (Ordered i m (no_progress w.program)) (refused_by i m (no_progress w.program)) (me_of w i) m.kept
+      (λ other. saves_by i is.there (on_start (me_of w i) m.kept) _ [] (omega arith)
+      (λ e. rw e (started_world laws sound h i is.there m.console (no_progress w.program) (rw e at after)))
+      (failing (on_start (me_of w i) m.kept).saves plan)) leaves
+
+pub acts_ordered : Laws → (w v : World) (plan : Option Bool) (act : Act) (d : Done) → IsSound w → IsSound v
+    → IsOrdered w → Performs w plan act d v → IsOrdered v
+acts_ordered laws w v plan act d sound after h = acts_by laws plan d sound after h act
+
+-- before all events
+pub begun_ordered : (p : Parts) (group : Group) → IsOrdered (new_world p group)
+begun_ordered p group = record {
+  keys = record {
+    once = λ i j d less below. absurd (omega arith);
+    past = λ k m among there. absurd (none_in k among);
+    nodes = λ i m there. subst (λ (x : Member). IfSome x.node (λ q. IsRowOf [] i x.kept q.known)) (first_node p group i m there) tt;
+  };
+  due = λ v said. absurd (none_in _ said.1);
+}

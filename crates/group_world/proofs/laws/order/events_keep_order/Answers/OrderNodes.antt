@@ -1,45 +1,143 @@
--- The start of a node, its serials, the keys that wait and what it has learned, after its calls; and
--- the Submits that they send.
-use Rattle.std.proofs.Common.{◌≡◌, ◌∙◌, ℕ, suc, ◌+◌, ◌≤◌, Bool, true, false, List, [], ◌∷◌, length, Option, Some, None, Contains, if◌then◌else◌, refl, sym, ap, arith}
+-- A node's row after each of its calls: its start, its serials, the keys that wait and what it has
+-- learned; and the Submits that the calls send, as packets and as messages of the group.
+use Rattle.std.proofs.Common.{◌&&◌, not, All, IfSome, option_map, nat_lt, is_none, ◌≡◌, ◌∙◌, ℕ, suc, ◌+◌, ◌≤◌, Bool, true, false, List, [], ◌∷◌, length, Option, Some, None, if◌then◌else◌, refl, sym, ap, arith, get_or, subst, inl, inr, ◌++◌}
+use Rattle.paxos_msg.specs.Tests.{same_ballot}
+use Rattle.paxos_proposer.specs.Proposer.{next_of, coverage_of, is_covered, proposed_at, proposer_after_part, asks_on, Proposer}
+use Rattle.group_node.specs.ProposerRows.{is_known, offer_after, offering, prepare_from, proposing_on, submitted, taking_part, on_campaign}
+use Rattle.std.proofs.lemmas.List.Elements.{All-take, All-contains, All-append, All-cons, All-nil}
+use Rattle.std.specs.FinMap.{FinMap, get}
+use Rattle.std.specs.Ordering.{nat_cmp}
+use Rattle.std.specs.List.{range_with_len, Contains, cons_option, filter_map}
+use Rattle.paxos_acceptor.specs.Cases.{is_promised}
+use Rattle.group_node.specs.Known.{front, Response, next_serial, Known, quiet, waiting_keys}
+use Rattle.group_node.specs.LearnerRows.{tell_packet}
+use Rattle.group_node.specs.Tick.{accepts_again, asks_again, prepares_again, submits, asks, on_tick, batch_of, ticked}
+use Rattle.group_node.specs.Packets.{to_all, to_one, Datagram, Packet, datagram_of, datagrams_of}
+use Rattle.std.proofs.lemmas.Option.{same_Some}
 use Rattle.std.proofs.lemmas.List.{length-drop}
 use Rattle.paxos_msg.specs.declared.ballot.Ballot.{Ballot}
 use Rattle.paxos_msg.specs.declared.message.Body.TheVariants.{Accept, Accepted, Ask, Prepare, Promise, Refused, Submit, Tell}
 use Rattle.paxos_msg.specs.declared.record.Change.TheVariants as change
 use Rattle.paxos_msg.specs.declared.value.Value.{Value}
-use Rattle.paxos_msg.specs.Batches.{Body, Record, Vote}
+use Rattle.paxos_msg.specs.Batches.{Body, Record, Vote, Msg}
 use Rattle.paxos_msg.specs.Keys.{Key, keys_from}
 use Rattle.paxos_acceptor.specs.Answers.{accepted, after, Answer, prepared, voted}
-use Rattle.paxos_acceptor.specs.Cases.{greater_promise}
-use Rattle.paxos_proposer.specs.Proposer.{proposer_after_part, asks_on, Proposer}
-use Rattle.paxos_learner.specs.Learner.{HasLearnedMore}
+use Rattle.paxos_learner.specs.Learner.{HasLearnedMore, Learner}
 use Rattle.paxos_learner.specs.Input.{front_values, keys_in_order}
 use Rattle.group_node.specs.declared.packet.To.{To}
 use Rattle.group_node.specs.Protocol.{on_message, row}
 use Rattle.group_node.specs.AcceptorRows.{answering}
-use Rattle.group_node.specs.Known.{Response, next_serial, Known, quiet, waiting_keys}
-use Rattle.group_node.specs.ProposerRows.{offer_after, offering, prepare_from, proposing_on, submitted, taking_part, on_campaign}
-use Rattle.group_node.specs.Tick.{asks, on_tick, batch_of, ticked}
 use Rattle.group_node.specs.WaitingKeys.{count_read, count_gone, without_read}
-use Rattle.group_node.specs.Pump.{pump}
+use Rattle.group_node.specs.Pump.{pump, accepts_of}
 use Rattle.group_world.specs.Ordered.{IsFirstUnread}
-use Rattle.group_world.proofs.OrderPackets.{accepts_asked, again_asked, AreAsked, asks_asked, both_asked, IsAsked, none_asked, one_asked, prepare_asked, prepares_asked, tells_asked}
-use Rattle.group_world.proofs.laws.order.events_keep_order.Answers.Laws.{Laws}
 use Rattle.group_world.proofs.OrderRows.{IsParted}
+use Rattle.paxos_msg.specs.declared.message.Group.{Group}
+use Rattle.paxos_msg.specs.Fits.{Fits}
+use Rattle.paxos_msg.specs.Grammar.{IsGroup}
+use Rattle.paxos_msg.specs.Messages.{IsSaid}
+use Rattle.paxos_msg.specs.Spelling.{kind_of, Msgs, spelling}
+use Rattle.paxos_acceptor.specs.declared.me.Me.{Me}
+use Rattle.group_world.specs.Sound.{IsSpelling}
+use Rattle.group_world.specs.Group.{message_of, messages_in}
+use Rattle.group_world.proofs.OrderLists.{first_in, none_in, in_cases, of_map, rest_in}
+use Rattle.group_world.proofs.laws.order.events_keep_order.Goals as goal
+
+-- The laws of the crates below that the law cites.
+abbrev pub Laws : Type 0
+Laws = goal.After-packets_fit
+
+-- a Submit of this value alone, if there is one, or no Submit
+abbrev IsAsked : Option Value → Body → Type 0
+IsAsked o (Submit v) = o ≡ Some v
+IsAsked o other = Unit {0}
+
+-- the same of a packet, and of each of these
+abbrev IsPacketAsked : Option Value → Packet → Type 0
+IsPacketAsked o packet = IsAsked o packet.body
+
+abbrev pub AreAsked : Option Value → List Packet → Type 0
+AreAsked o packets = All (IsPacketAsked o) packets
+
+-- no packets, one, and those of two lists
+pub none_asked : (o : Option Value) → AreAsked o []
+none_asked o = All-nil _
+
+one_asked : (o : Option Value) (packet : Packet) → IsAsked o packet.body → AreAsked o (packet ∷ [])
+one_asked o packet h = All-cons (IsPacketAsked o) packet [] h (none_asked o)
+
+both_asked : (o : Option Value) (xs ys : List Packet) → AreAsked o xs → AreAsked o ys → AreAsked o (xs ++ ys)
+both_asked o = All-append (IsPacketAsked o)
+
+-- Accepts
+accepts_asked : (o : Option Value) (votes : List Vote) → AreAsked o (accepts_of votes)
+accepts_asked o [] = none_asked o
+accepts_asked o (vote ∷ votes) = All-cons (IsPacketAsked o) _ (accepts_of votes) tt (accepts_asked o votes)
+
+-- packets that are made of places
+module _ (o : Option Value) where
+  if_asked : (t : Bool) (packet : Option Packet) → IfSome packet (IsPacketAsked o) → IfSome (if t then packet else None) (IsPacketAsked o)
+  if_asked true packet h = h
+  if_asked false packet h = tt
+
+  -- a packet of what is there, if it is
+  of_asked : {X : Type 0} (f : X → Packet) (x : Option X) → ((x : X) → IsPacketAsked o (f x)) → IfSome (option_map f x) (IsPacketAsked o)
+  of_asked f None h = tt
+  of_asked f (Some x) h = h x
+
+  cons_asked : (packet : Option Packet) (packets : List Packet) → IfSome packet (IsPacketAsked o) → AreAsked o packets
+      → AreAsked o (cons_option packet packets)
+  cons_asked None packets h rest = rest
+  cons_asked (Some packet) packets h rest = All-cons (IsPacketAsked o) packet packets h rest
+
+  -- a packet for each place, or none
+  each_asked : (f : ℕ → Option Packet) → ((s : ℕ) → IfSome (f s) (IsPacketAsked o)) → (places : List ℕ) → AreAsked o (filter_map f places)
+  each_asked f all [] = none_asked o
+  each_asked f all (s ∷ places) = cons_asked (f s) _ (all s) (each_asked f all places)
+
+  -- Tells
+  tells_asked : (learned : FinMap nat_cmp Value) (j : ℕ) (places : List ℕ) → AreAsked o (filter_map (tell_packet learned j) places)
+  tells_asked learned j = each_asked _ (λ s. of_asked (λ v. to_one j (Tell s v)) (get learned s) (λ v. tt))
+
+  -- the Prepares of a tick
+  prepares_asked : (p : Proposer) → AreAsked o (prepares_again p)
+  prepares_asked p = by (is_covered p 65535) where
+    by : (t : Bool) → AreAsked o (if t then [] else filter_map (asks_again p) (range_with_len 1 p.size))
+    by true = none_asked o
+    by false = each_asked _ (λ i. if_asked (nat_lt (coverage_of p i) 65536) (Some _) tt) _
+
+  -- the Accepts that a tick sends again
+  again_asked : (learned : FinMap nat_cmp Value) (p : Proposer) → AreAsked o (accepts_again learned p)
+  again_asked learned p =
+      All-take (IsPacketAsked o) 16 _ (each_asked _ (λ s. if_asked (is_none (get learned s)) _
+      (of_asked (λ v. to_all (Accept p.ballot s v)) (proposed_at p s) (λ v. tt))) _)
+
+  -- the Prepare after a part of a promise
+  prepare_asked : (b : Ballot) (j : ℕ) (place : Option ℕ) → AreAsked o (prepare_from b j place)
+  prepare_asked b j None = none_asked o
+  prepare_asked b j (Some s) = one_asked o _ tt
+
+-- of the packets with which a tick ends only the batch is a Submit
+asks_asked : (n : Known) → AreAsked (batch_of n n.waiting) (asks n)
+asks_asked n = both_asked _ _ _ (by (batch_of n n.waiting)) (one_asked _ (to_all (Ask (front n))) tt) where
+  by : (o : Option Value) → AreAsked o (submits o)
+  by None = none_asked None
+  by (Some v) = one_asked (Some v) _ refl
 
 -- the keys below the front
 abbrev pub read_of : Known → List Key
 read_of n = keys_in_order (front_values n.learner.learned)
 
 -- A call that counts no start and types no key: the keys that wait and what was learned stay, and
--- at most the Submit of this value is sent.
-pub record Stays (n : Known) (o : Option Value) (done : Response) : Type 0 where
+-- no Submit is sent.
+record Stays (n : Known) (done : Response) : Type 0 where
   pub starts : done.node.kept.starts ≡ n.kept.starts
   pub next : next_serial done.node ≡ next_serial n
   pub waiting : waiting_keys done.node ≡ waiting_keys n
   pub learns : HasLearnedMore n.learner.learned done.node.learner.learned
-  pub asked : AreAsked o done.sends
+  pub asked : AreAsked None done.sends
 
--- The same, but keys that are below the known front no longer wait.
+-- The same, but keys that are below the known front no longer wait, and at most the Submit of this
+-- value is sent.
 pub record Goes (n : Known) (o : Option Value) (done : Response) : Type 0 where
   pub starts : done.node.kept.starts ≡ n.kept.starts
   pub next : next_serial done.node ≡ next_serial n
@@ -51,24 +149,28 @@ pub record Goes (n : Known) (o : Option Value) (done : Response) : Type 0 where
 same_learned : (n : Known) → HasLearnedMore n.learner.learned n.learner.learned
 same_learned n = record { stays = λ s v e. e }
 
--- a call that leaves all of this as it is, but for the packets
-quiet_stays : (n : Known) (o : Option Value) → Stays n o (quiet n)
-quiet_stays n o = record { starts = refl; next = refl; waiting = refl; learns = same_learned n; asked = none_asked o }
+-- a call that leaves record and keys as they are, and sends no Submit
+quiet_stays : (n : Known) {p : Option Proposer} {remembered : Option Ballot} {offered : List Key} {l : Learner} {packets : List Packet}
+    → HasLearnedMore n.learner.learned l.learned → AreAsked None packets → Stays n (record {
+      node = record n { proposer = p; remembered = remembered; offered = offered; learner = l };
+      saves = None;
+      sends = packets;
+    })
+quiet_stays n learns asked = record { starts = refl; next = refl; waiting = refl; learns = learns; asked = asked }
 
--- ---- an acceptor's answers
+-- ---- messages
 
--- the call counts no start and sends no Submit
+-- an acceptor's answer counts no start and sends no Submit
 record IsPlain (r : Record) (answer : Answer) : Type 0 where
   pub starts : (after r answer.saves).starts ≡ r.starts
   pub says : IsAsked None answer.says
 
-promise_plain : (r : Record) (b : Ballot) (t : Bool) → (after r (if t then None else Some (change.Promise b))).starts ≡ r.starts
-promise_plain r b true = refl
-promise_plain r b false = refl
-
 prepared_plain : (o : Option Ballot) (r : Record) (b : Ballot) (from : ℕ) → IsPlain r (prepared o r b from)
 prepared_plain (Some p) r b from = record { starts = refl; says = tt }
-prepared_plain None r b from = record { starts = promise_plain r b _; says = tt }
+prepared_plain None r b from = record { starts = by (is_promised r.promised b); says = tt } where
+  by : (t : Bool) → (after r (if t then None else Some (change.Promise b))).starts ≡ r.starts
+  by true = refl
+  by false = refl
 
 voted_plain : (o : Option Value) (r : Record) (b : Ballot) (s : ℕ) (v : Value) → IsPlain r (voted o b s v)
 voted_plain (Some w) r b s v = record { starts = refl; says = tt }
@@ -78,7 +180,7 @@ accepted_plain : (o : Option Ballot) (r : Record) (b : Ballot) (s : ℕ) (v : Va
 accepted_plain (Some p) r b s v = record { starts = refl; says = tt }
 accepted_plain None r b s v = voted_plain _ r b s v
 
-answering_stays : (n : Known) (to : To) (answer : Answer) → IsPlain n.kept answer → Stays n None (answering n to answer)
+answering_stays : (n : Known) (to : To) (answer : Answer) → IsPlain n.kept answer → Stays n (answering n to answer)
 answering_stays n to answer h = record {
   starts = h.starts;
   next = refl;
@@ -87,62 +189,39 @@ answering_stays n to answer h = record {
   asked = one_asked None _ h.says;
 }
 
--- ---- the calls that a proposer answers
+-- a call that the proposer answers, or ignores
+or_quiet : (n : Known) (done : Response) (t : Bool) → Stays n done → Stays n (if t then done else quiet n)
+or_quiet n done true h = h
+or_quiet n done false h = quiet_stays n (same_learned n) (none_asked None)
 
-promise_if : (n : Known) (p : Proposer) (j first upto : ℕ) (b : Ballot) (votes : List Vote) (t : Bool)
-    → Stays n None (if t
-    then proposing_on n (prepare_from b j (asks_on p j first upto))
-    (pump 16 (proposer_after_part p j first upto votes)) else quiet n)
-promise_if n p j first upto b votes true = record {
-  starts = refl;
-  next = refl;
-  waiting = refl;
-  learns = same_learned n;
-  asked = both_asked None _ _ (prepare_asked None b j _) (accepts_asked None (pump 16 (proposer_after_part p j first upto votes)).made);
-}
-promise_if n p j first upto b votes false = quiet_stays n None
-
+-- a part of a promise, and a Submit
 promise_stays : (n : Known) (o : Option Proposer) (j first upto : ℕ) (b : Ballot) (votes : List Vote)
-    → Stays n None (taking_part n o j b first upto votes)
-promise_stays n None j first upto b votes = quiet_stays n None
-promise_stays n (Some p) j first upto b votes = promise_if n p j first upto b votes _
+    → Stays n (taking_part n o j b first upto votes)
+promise_stays n None j first upto b votes = quiet_stays n (same_learned n) (none_asked None)
+promise_stays n (Some p) j first upto b votes =
+    let asked = prepare_from b j (asks_on p j first upto) in
+    let pumped = pump 16 (proposer_after_part p j first upto votes) in
+    or_quiet n (proposing_on n asked pumped) (same_ballot p.ballot b) (quiet_stays n (same_learned n)
+    (both_asked None asked (accepts_of pumped.made) (prepare_asked None b j (asks_on p j first upto)) (accepts_asked None pumped.made)))
 
-submit_if : (n : Known) (p : Proposer) (v : Value) (t : Bool)
-    → Stays n None (if t then offering n v (pump 16 p) (offer_after (pump 16 p) v) else quiet n)
-submit_if n p v true = record {
-  starts = refl;
-  next = refl;
-  waiting = refl;
-  learns = same_learned n;
-  asked = both_asked None _ _ (accepts_asked None _) (accepts_asked None (offer_after (pump 16 p) v).made);
-}
-submit_if n p v false = quiet_stays n None
+submit_stays : (n : Known) (o : Option Proposer) (v : Value) → Stays n (submitted n o v)
+submit_stays n None v = quiet_stays n (same_learned n) (none_asked None)
+submit_stays n (Some p) v =
+    let pumped = pump 16 p in
+    let made = offer_after pumped v in
+    or_quiet n (offering n v pumped made) (is_covered p (next_of p) && not (is_known n v)) (quiet_stays n (same_learned n)
+    (both_asked None (accepts_of pumped.made) (accepts_of made.made) (accepts_asked None pumped.made) (accepts_asked None made.made)))
 
-submit_stays : (n : Known) (o : Option Proposer) (v : Value) → Stays n None (submitted n o v)
-submit_stays n None v = quiet_stays n None
-submit_stays n (Some p) v = submit_if n p v _
-
--- ---- messages
-
-row_stays : Laws → (n : Known) (j : ℕ) (body : Body) → Stays n None (row n j body)
-row_stays laws n j (Prepare b from) = answering_stays n _ _ (prepared_plain (greater_promise _ b) n.kept b from)
+-- a message of any kind
+row_stays : Laws → (n : Known) (j : ℕ) (body : Body) → Stays n (row n j body)
+row_stays laws n j (Prepare b from) = answering_stays n _ _ (prepared_plain _ n.kept b from)
 row_stays laws n j (Promise b first upto votes) = promise_stays n n.proposer j first upto b votes
-row_stays laws n j (Accept b s v) = answering_stays n _ _ (accepted_plain (greater_promise _ b) n.kept b s v)
-row_stays laws n j (Accepted b s v) =
-    record {
-      starts = refl;
-      next = refl;
-      waiting = refl;
-      learns = laws.learned_stays.ensures.accepted n.learner j s b v;
-      asked = none_asked None;
-    }
-row_stays laws n j (Refused b promised) =
-    record { starts = refl; next = refl; waiting = refl; learns = same_learned n; asked = none_asked None }
+row_stays laws n j (Accept b s v) = answering_stays n _ _ (accepted_plain _ n.kept b s v)
+row_stays laws n j (Accepted b s v) = quiet_stays n (laws.learned_stays.ensures.accepted n.learner j s b v) (none_asked None)
+row_stays laws n j (Refused b promised) = quiet_stays n (same_learned n) (none_asked None)
 row_stays laws n j (Submit v) = submit_stays n n.proposer v
-row_stays laws n j (Ask from) =
-    record { starts = refl; next = refl; waiting = refl; learns = same_learned n; asked = tells_asked None _ j _ }
-row_stays laws n j (Tell s v) =
-    record { starts = refl; next = refl; waiting = refl; learns = laws.learned_stays.ensures.told n.learner s v; asked = none_asked None }
+row_stays laws n j (Ask from) = quiet_stays n (same_learned n) (tells_asked None _ j _)
+row_stays laws n j (Tell s v) = quiet_stays n (laws.learned_stays.ensures.told n.learner s v) (none_asked None)
 
 -- no more keys leave than wait
 count_by : (read ks : List Key) (t : Bool) → count_read read ks ≤ length ks → (if t then suc (count_read read ks) else 0) ≤ suc (length ks)
@@ -171,6 +250,7 @@ first_by : (read keys : List Key) → ((k : Key) (ks : List Key) → keys ≡ k 
 first_by read [] h = tt
 first_by read (k ∷ ks) h = h k ks refl
 
+-- a message, after which keys that are read no longer wait
 pub message_goes : Laws → (n : Known) (j : ℕ) (body : Body) → Goes n None (on_message n j body)
 message_goes laws n j body =
     let stays = row_stays laws n j body in
@@ -196,22 +276,82 @@ message_goes laws n j body =
 still_parted : (n : Known) → IsFirstUnread (read_of n) (waiting_keys n) → IsParted (read_of n) (waiting_keys n) (waiting_keys n)
 still_parted n first = record { gone = []; parts = refl; below = λ k d less. absurd (omega arith); first = first }
 
-ticked_goes : (n : Known) (o : Option Proposer) → Goes n (batch_of n n.waiting) (ticked n o)
-ticked_goes n None = record { starts = refl; next = refl; learns = same_learned n; parted = still_parted n; asked = asks_asked n }
-ticked_goes n (Some p) = record {
-  starts = refl;
-  next = refl;
-  learns = same_learned n;
-  parted = still_parted n;
-  asked =
-      let o = batch_of n n.waiting in
-      both_asked o _ _
-      (both_asked o _ _ (prepares_asked o p) (again_asked o _ p))
-      (both_asked o _ (asks n) (accepts_asked o (pump 16 p).made) (asks_asked n));
-}
-
-pub tick_goes : (n : Known) → Goes n (batch_of n n.waiting) (on_tick n)
-tick_goes n = ticked_goes n n.proposer
+-- a call that changes the proposer alone
+keys_wait : (n : Known) {o : Option Value} {p : Option Proposer} {packets : List Packet} → AreAsked o packets
+    → Goes n o (record { node = record n { proposer = p }; saves = None; sends = packets })
+keys_wait n asked = record { starts = refl; next = refl; learns = same_learned n; parted = still_parted n; asked = asked }
 
 pub campaign_goes : (n : Known) → Goes n None (on_campaign n)
 campaign_goes n = record { starts = refl; next = refl; learns = same_learned n; parted = still_parted n; asked = one_asked None _ tt }
+
+pub tick_goes : (n : Known) → Goes n (batch_of n n.waiting) (on_tick n)
+tick_goes n = by n.proposer where
+  by : (p : Option Proposer) → Goes n (batch_of n n.waiting) (ticked n p)
+  by None = record { starts = refl; next = refl; learns = same_learned n; parted = still_parted n; asked = asks_asked n }
+  by (Some p) =
+      let o = batch_of n n.waiting in
+      keys_wait n (both_asked o _ _ (both_asked o _ _ (prepares_asked o p) (again_asked o _ p))
+      (both_asked o _ (asks n) (accepts_asked o _) (asks_asked n)))
+
+-- ---- the Submits among what a call of a node sends, as messages of its group
+
+-- by the image of the first item
+of_cons : {X Y : Type 0} (f : X → Option Y) (x : X) (xs : List X) (y : Y) (o : Option Y) → f x ≡ o
+    → (Contains (filter_map f xs) y → (z : X) × Contains xs z × (f z ≡ Some y))
+    → Contains (cons_option o (filter_map f xs)) y
+    → (z : X) × Contains (x ∷ xs) z × (f z ≡ Some y)
+of_cons f x xs y None e later h = let found = later h in (found.0, rest_in x xs found.0 found.1, found.2)
+of_cons f x xs y (Some made) e later h = elim (in_cases made (filter_map f xs) y h) [
+  | inl same ↦ (x, first_in x xs, e ∙ ap (λ z. Some z) same)
+  | inr more ↦ let found = later more in (found.0, rest_in x xs found.0 found.1, found.2)
+]
+
+-- an element of the images is the image of some item
+of_filter_map : {X Y : Type 0} (f : X → Option Y) (xs : List X) (y : Y) → Contains (filter_map f xs) y
+    → (x : X) × Contains xs x × (f x ≡ Some y)
+of_filter_map f [] y h = absurd (none_in y h)
+of_filter_map f (x ∷ xs) y h = of_cons f x xs y (f x) refl (of_filter_map f xs y) h
+
+-- by the kind of the body
+kind_asked : (o : Option Value) (body : Body) → IsAsked o body → kind_of body ≡ 6 → (u : Value) × (o ≡ Some u) × (body ≡ Submit u)
+kind_asked o (Submit v) h e = (v, h, refl)
+kind_asked o other h e = absurd (omega arith)
+
+-- a packet whose spelling is that of a Submit is one
+spelled_asked : (group : Group) (i j : ℕ) (o : Option Value) (body : Body) (v : Value) → IsAsked o body
+    → spelling group (record { sender = i; body = body }) ≡ spelling group (record { sender = j; body = Submit v })
+    → (u : Value) × (o ≡ Some u) × (body ≡ Submit u)
+spelled_asked group i j o body v h e = kind_asked o body h (ap (λ l. get_or l 3 0) e)
+
+module _ (laws : Laws) (me : Me) (packets : List Packet) (o : Option Value) (session : IsGroup me.group) (asked : AreAsked o packets)
+    (spelled : (d : Datagram) → Contains (datagrams_of me packets) d → IsSpelling me.group d)
+    (fits : (u : Value) → o ≡ Some u → Fits me.group (record { sender = me.node; body = Submit u })) where
+  -- a datagram of a packet
+  submit_at : (d : Datagram) → Contains (datagrams_of me packets) d → (j : ℕ) (v : Value)
+      → message_of me.group d ≡ Some (record { sender = j; body = Submit v }) → o ≡ Some v
+  submit_at d among j v read =
+      let group = me.group in
+      let told : Msg = record { sender = j; body = Submit v } in
+      let from = of_map (datagram_of me) packets d among in
+      let packet = from.0 in
+      let bytes = ap (λ (x : Datagram). x.bytes) (sym from.2) in
+      let one = spelled d among in
+      let is = same_Some _ told (sym one.read ∙ read) in
+      let theirs = subst (Msgs group d.bytes) is one.spells in
+      let of_packet = All-contains (IsPacketAsked o) packets packet asked from.1 in
+      let made = spelled_asked group me.node j o packet.body v of_packet (sym bytes ∙ theirs.spelled) in
+      let mine : Msgs group d.bytes (record { sender = me.node; body = Submit made.0 }) = record {
+        fits = fits made.0 made.1;
+        spelled = bytes ∙ ap (λ b. spelling group (record { sender = me.node; body = b })) made.2;
+      } in
+      let same = submitted (ap (λ (x : Msg). x.body) (laws.one_message.ensures.one group d.bytes _ told session mine theirs)) in
+      made.1 ∙ ap (λ u. Some u) same
+    where
+      submitted : {u w : Value} → Submit u ≡ Submit w → u ≡ w
+      submitted e = cc
+
+  -- what is submitted by the call
+  pub submit_found : (v : Value) → IsSaid (messages_in me.group (datagrams_of me packets)) (Submit v) → o ≡ Some v
+  submit_found v (j, among) =
+      let found = of_filter_map (message_of me.group) _ _ among in
+      submit_at found.0 found.1 j v found.2

@@ -1,92 +1,230 @@
--- Each kind of event of a world is that event of its group.
-use Rattle.std.proofs.Common.{◌≡◌, ◌∙◌, ℕ, ◌+◌, ◌-◌, ◌<◌, ◌≤◌, Bool, true, false, if◌then◌else◌, List, [], slice_get, Option, None, Some, inl, inr, refl, sym, ap, subst, append-nil, arith}
-use Rattle.pcode_file.specs.Parts.{Parts}
-use Rattle.pcode_machine.specs.Runs.{LeadsIn, after_steps, begin, out}
-use Rattle.paxos_msg.specs.Batches.{Msg}
-use Rattle.paxos_msg.specs.declared.record.Change.TheVariants as change
-use Rattle.paxos_msg.specs.Records.{changed}
-use Rattle.paxos_acceptor.specs.Stores.{IsOneOf}
-use Rattle.paxos_proposer.specs.Proposer.{Proposer}
-use Rattle.group_node.specs.declared.player.Ran.{Ran}
+-- Each event keeps a world sound, and is that event of its group. The world before all events is
+-- sound.
+use Rattle.std.proofs.Common.{length, ◌≡◌, ◌∙◌, ℕ, All, ◌<◌, ◌++◌, List, [], ◌∷◌, flat_map, slice_get, Some, refl, sym, ap, subst, append-nil, arith, ◌≢◌, Bool, true, false, if◌then◌else◌, Option, None, inl, inr, ◌+◌, ◌-◌, ◌≤◌}
+use Rattle.group_node.specs.ProposerRows.{last_round, on_campaign}
+use Rattle.group_node.specs.Known.{front, next_serial, Response, on_typed, new_key, on_start, waiting_keys}
+use Rattle.group_world.proofs.CallCases.{campaign_cases, press_cases, start_cases}
+use Rattle.group_world.proofs.AskEnds.{tick_rests}
+use Rattle.std.proofs.lemmas.List.Elements.{All-cons, All-contains, All-nil, All-head, All-tail}
+use Rattle.std.specs.List.{cons_option}
+use Rattle.paxos_msg.specs.declared.message.Group.{Group}
+use Rattle.paxos_msg.specs.declared.value.Value.{Value}
+use Rattle.paxos_msg.specs.Batches.{Msg, Record, Change, Body}
+use Rattle.paxos_msg.specs.Fits.{Fits}
+use Rattle.paxos_msg.specs.Keys.{Key, keys_of}
 use Rattle.group_node.specs.Protocol.{on_message}
-use Rattle.group_node.specs.Known.{Known, on_start, waiting_keys}
-use Rattle.group_node.specs.ProposerRows.{on_campaign}
-use Rattle.group_node.specs.Tick.{on_tick, ticked}
-use Rattle.group_node.specs.Output.{IsReplay, Progress, RunsOn, no_progress}
-use Rattle.group_node.specs.States.{input}
+use Rattle.group_node.specs.Tick.{on_tick}
+use Rattle.group_node.specs.Output.{no_progress, Progress, IsReplay, RunsOn}
+use Rattle.group_node.specs.Packets.{Datagram}
+use Rattle.group_node.specs.Ranges.{IsFit, IsHeardFit, IsMember}
+use Rattle.group_node.specs.Steps.{IsLawful, IsLawfulCall}
+use Rattle.group_world.specs.Group.{IsDown, IsUp, me_of, messages_in, World, world_state, world_after_call, world_after_fall, seat_of_member, up_of, with_member, member_at, new_world}
+use Rattle.group_world.specs.Member.{Member, Running, NodeCall, Makes, Refuses, call_of_campaign, call_of_press, call_of_start, failing, save_outcome, at_progress, member_after_release}
+use Rattle.group_world.specs.Sound.{IsSound, IsSpelling}
+use Rattle.std.specs.FinMap.{empty}
+use Rattle.group_world.proofs.WorldAsGroup.{is_node, running, called_state, member_state, changed_elsewhere, changed_here, SoundAt, first_node}
+use Rattle.group_world.proofs.laws.sound.events_keep_it_sound.Answers.SoundAfterChange.{Laws, MayMake, call_sound, crash_sound, fall_sound, release_sound, run_sound}
+use Rattle.group_world.proofs.OrderLists.{in_from_place}
+use Rattle.pcode_machine.specs.Configuration.{Configuration}
+use Rattle.pcode_machine.specs.Runs.{after_steps, begin, out}
+use Rattle.paxos_acceptor.specs.declared.me.Me.{Me}
+use Rattle.paxos_acceptor.specs.Stores.{IsOneOf}
+use Rattle.group_node.specs.States.{input, IsSize}
 use Rattle.group_node.specs.World as group
-use Rattle.group_node.specs.World.{ChangesOnly, Sits, WorldState, WorldStep, after_call, after_release, with_seat}
+use Rattle.group_node.specs.World.{Sits, WorldStep, after_call, with_seat, ChangesOnly, WorldState, after_release}
 use Rattle.group_world.specs.declared.event.Act.{Act}
-use Rattle.group_world.specs.declared.event.Act.TheVariants.{Press, Deliver, Campaign, Tick, Run, Release, Crash, Start}
 use Rattle.group_world.specs.declared.event.Done.{Done}
-use Rattle.group_world.specs.Event.{IsStep, Performs}
-use Rattle.group_world.specs.Group.{IsDown, IsUp, me_of, messages_in, seat_of_member, up_of, with_member, World, world_after_fall, world_state}
-use Rattle.group_world.specs.Member.{at_progress, call_of_campaign, Makes, Member, call_of_press, member_after_release, Running, call_of_start}
-use Rattle.group_world.specs.Sound.{IsSound}
-use Rattle.group_world.proofs.ReleasedBytes.{next_of, next_written, written}
-use Rattle.group_world.proofs.WorldAsGroup.{called_state, changed_elsewhere, changed_here, is_node, member_state, running}
-use Rattle.group_world.proofs.laws.sound.events_keep_it_sound.Answers.Laws.{Laws}
-use Rattle.group_world.proofs.laws.sound.events_keep_it_sound.Answers.LawfulCalls.{campaign_by, heard_fits, message_allowed, press_by, start_by, tick_allowed}
-use Rattle.group_world.proofs.laws.sound.events_keep_it_sound.Answers.StepOfCall.{StepsCall, at_number, call_step, configuration, fall_step, leaves_step, sits}
+use Rattle.group_world.specs.Event.{event_of, IsStep, Leaves, LeavesBy, Performs}
+use Rattle.pcode_file.specs.Parts.{Parts}
+use Rattle.paxos_msg.specs.declared.record.Change.TheVariants as change
+use Rattle.paxos_msg.specs.Records.{changed, empty_record}
+use Rattle.group_node.specs.declared.player.Ran.{Ran}
+use Rattle.group_world.specs.declared.event.Act.TheVariants.{Press, Deliver, Campaign, Tick, Run, Release, Crash, Start}
+use Rattle.group_world.proofs.SoundWorldsAgree.{next_of, next_written, written}
+use Rattle.std.proofs.lemmas.List.{length-replicate}
+use Rattle.paxos_msg.specs.Grammar.{IsGroup}
+use Rattle.paxos_msg.specs.Messages.{IsSent}
 
--- a tick saves nothing
-tick_saves : (n : Known) → (on_tick n).saves ≡ None
-tick_saves n = by n.proposer where
-  by : (p : Option Proposer) → (ticked n p).saves ≡ None
-  by None = refl
-  by (Some p) = refl
+-- ---- a call that an event makes
+
+-- The call is refused; or it may be made and leaves the group after the event `e`, also if its save
+-- fails.
+abbrev StepsCall : World → group.Event → ℕ → Member → Progress → NodeCall → Type 0
+StepsCall w e i m progress (Refuses f) = Unit {0}
+StepsCall w e i m progress (Makes made keys) =
+    MayMake w i m made progress keys
+    × WorldStep (world_state w) e (world_state (world_after_call w i made m.console progress keys))
+    × ((is_kept : Bool) → made.saves ≢ None
+    → WorldStep (world_state w) e (world_state (world_after_fall w i m (if is_kept then made.node.kept else m.kept))))
+
+-- a save that fails is a save of the call
+fails_some : (saves : Option Change) (plan : Option Bool) (is_kept : Bool) → failing saves plan ≡ Some is_kept
+    → (c : Change) × (saves ≡ Some c)
+fails_some None plan is_kept e = absurd cc
+fails_some (Some c) plan is_kept e = (c, refl)
+
+-- each message that datagrams spell fits
+all_fit : (group : Group) (datagrams : List Datagram) → All (IsSpelling group) datagrams → All (Fits group) (messages_in group datagrams)
+all_fit group [] all = All-nil (Fits group)
+all_fit group (datagram ∷ more) all =
+    let first = All-head (IsSpelling group) datagram more all in
+    subst (λ o. All (Fits group) (cons_option o (messages_in group more))) (sym first.read)
+    (All-cons (Fits group) first.message _ first.spells.fits (all_fit group more (All-tail (IsSpelling group) datagram more all)))
 
 module _ (laws : Laws) {w : World} (h : IsSound w) {i : ℕ} {m : Member} {q : Running} (up : IsUp w i m q) where
   abbrev s : WorldState
   s = world_state w
 
-  press_steps : (byte : ℕ) → byte < 256 → StepsCall w (Press i byte) i m q.progress (call_of_press q.known byte)
-  press_steps byte low =
-      press_by laws h up (StepsCall w (Press i byte) i m q.progress) (λ f. tt) byte low (λ allowed.
-      let sound = running h up in (
-        call_step laws h up (λ j. group.Press j byte) _ _ allowed
-            (laws.calls_are_events.ensures.press s q.known byte _ (configuration laws h up) m.console (sits laws h up)
-            sound.ranges sound.backs),
-        λ is_kept saves. absurd (saves refl),
-      ))
+  -- a lawful call of the node that fits, at which these keys are typed
+  abbrev IsAllowed : List Key → Response → Type 0
+  IsAllowed keys made = IsLawfulCall (world_state w).sent ((world_state w).typed ++ keys) q.known made × IsFit q.known.me made
 
-  campaign_steps : StepsCall w (Campaign i) i m q.progress (call_of_campaign q.known)
-  campaign_steps =
-      campaign_by laws h up (StepsCall w (Campaign i) i m q.progress) (λ f. tt) (λ allowed.
-      let sound = running h up in (
-        call_step laws h up group.Campaign _ [] allowed
-            (laws.calls_are_events.ensures.campaign s q.known _ (configuration laws h up) m.console (sits laws h up)
-            sound.ranges sound.backs),
-        λ is_kept saves. fall_step laws h up group.Campaign (on_campaign q.known) is_kept (λ left one.
-            laws.calls_are_events.ensures.falls_campaign s q.known _ left (configuration laws h up) m.console
-            (sits laws h up) sound.ranges sound.backs one),
-      ))
+  -- it may be made
+  may_make : (made : Response) (keys : List Value) → IsAllowed (flat_map keys_of keys) made → MayMake w i m made q.progress keys
+  may_make made keys (lawful, fits) =
+      let sound = running h up in
+      record {
+        me_is = fits.same ∙ sound.me_is;
+        before = q.known.learner.learned;
+        lawful =
+            subst (λ r. IsLawful (world_state w).sent ((world_state w).typed ++ flat_map keys_of keys) r
+            q.known.learner.learned made) sound.kept_is lawful;
+        ranges = fits.ranges;
+        fits = rw sound.me_is at fits.sends;
+        program = sound.program;
+        replay = laws.learning_keeps_the_output.ensures.replay q.known.learner.learned _ q.progress lawful.keeps sound.replay;
+        shown = sound.shown;
+      }
 
-  tick_steps : StepsCall w (Tick i) i m q.progress (Makes (on_tick q.known) [])
-  tick_steps =
-      let sound = running h up in (
-        call_step laws h up group.Tick _ [] (tick_allowed laws h up)
-            (laws.calls_are_events.ensures.tick s q.known _ (configuration laws h up) m.console (sits laws h up)
-            sound.ranges sound.backs),
-        λ is_kept saves. absurd (saves (tick_saves q.known)),
+  -- where nothing is typed
+  alone : {made : Response} → IsLawfulCall (world_state w).sent (world_state w).typed q.known made → IsFit q.known.me made
+      → IsAllowed [] made
+  alone lawful fits = (rw append-nil lawful, fits)
+
+  -- a typed byte, a campaign, a tick and a message are allowed
+  press_allowed : (byte : ℕ) → byte < 256 → length q.known.waiting ≢ 256 → next_serial q.known ≢ 4294967296
+      → IsAllowed (keys_of (new_key q.known byte)) (on_typed q.known byte)
+  press_allowed byte low ne other =
+      let sound = running h up in
+      let ranges = sound.ranges in (
+        laws.calls_are_lawful.ensures.typed _ _ q.known byte ranges sound.backs,
+        laws.what_goes_out_fits.ensures.typed q.known byte ranges low (omega (arith, ranges.waiting.few, ne))
+            (omega (arith, ranges.waiting.fits, other)),
       )
+
+  campaign_allowed : last_round q.known < 4294967295 → front q.known ≢ 65536 → IsAllowed [] (on_campaign q.known)
+  campaign_allowed low other =
+      let sound = running h up in
+      let within = laws.one_front.ensures.few q.known.learner.learned sound.ranges.learner.window in
+      alone (laws.calls_are_lawful.ensures.campaign _ _ q.known sound.ranges sound.backs)
+      (laws.what_goes_out_fits.ensures.campaign q.known sound.ranges (omega (arith, low)) (omega (arith, within, other)))
+
+  tick_allowed : IsAllowed [] (on_tick q.known)
+  tick_allowed =
+      let sound = running h up in
+      alone (laws.calls_are_lawful.ensures.tick _ _ q.known sound.ranges sound.backs)
+      (laws.what_goes_out_fits.ensures.tick q.known sound.ranges)
+
+  -- a message that was sent has a spelling
+  heard_fits : (k : ℕ) (message : Msg) → slice_get (messages_in w.group w.sent) k ≡ Some message
+      → IsHeardFit q.known.me message.sender message.body
+  heard_fits k message e =
+      subst (λ me. IsHeardFit me message.sender message.body) (sym (running h up).me_is)
+      (All-contains (Fits w.group) _ message (all_fit w.group w.sent h.spelled) (in_from_place _ k message e))
+
+  message_allowed : (k : ℕ) (message : Msg) → slice_get (messages_in w.group w.sent) k ≡ Some message
+      → IsAllowed [] (on_message q.known message.sender message.body)
+  message_allowed k message e =
+      let sound = running h up in
+      let fits = heard_fits k message e in
+      alone (laws.calls_are_lawful.ensures.message _ _ q.known _ message.body sound.ranges sound.backs
+      (record { is_sent = in_from_place _ k message e; fits = fits }))
+      (laws.what_goes_out_fits.ensures.message q.known _ message.body sound.ranges fits)
+
+  -- the configuration of its machine
+  abbrev configuration : Configuration
+  configuration = after_steps q.progress.program (input q.known) q.progress.steps
+
+  -- the node is in its group
+  sits : Sits s q.known configuration q.progress.released m.console
+  sits =
+      let sound = running h up in
+      record {
+        size = ap (λ (me : Me). me.group.size) (sym sound.me_is);
+        seat = ap (λ (me : Me). s.seats me.node) sound.me_is ∙ rw (up.there, up.up, sound.kept_is) refl;
+      }
+
+  -- the same step, at the node's own number
+  at_number : (P : ℕ → Type 0) → P q.known.me.node → P i
+  at_number P = subst (λ (me : Me). P me.node) (running h up).me_is
+
+  -- an allowed call is the event `e` of the group, and so is its save if it fails
+  call_steps : (e : ℕ → group.Event) (made : Response) (keys : List Value) → IsAllowed (flat_map keys_of keys) made
+      → WorldStep s (e q.known.me.node)
+      (after_call s q.known.me.node made (flat_map keys_of keys) configuration q.progress.released m.console)
+      → (made.saves ≢ None → (left : Record) → IsOneOf left q.known.kept made.node.kept → WorldStep s (e q.known.me.node)
+      (with_seat s q.known.me.node (record { kept = left; console = m.console; up = None })))
+      → StepsCall w (e i) i m q.progress (Makes made keys)
+  call_steps e made keys allowed step falls =
+      let may = may_make made keys allowed in
+      let same = laws.learning_keeps_the_output.ensures.configuration q.known.learner.learned _ q.progress
+      allowed.0.keeps (running h up).replay in
+      let state =
+      called_state laws.spelling_is_read.ensures.read w i m made q.progress keys up.there h.session (is_node i h up.there) may.fits in (
+        may,
+        subst (WorldStep s (e i)) (sym (state ∙ ap (λ c.
+            after_call s i made (flat_map keys_of keys) c q.progress.released m.console) same))
+            (at_number (λ j. WorldStep s (e j)
+            (after_call s j made (flat_map keys_of keys) configuration q.progress.released m.console)) step),
+        λ is_kept saves.
+            let left = if is_kept then made.node.kept else m.kept in
+            subst (WorldStep s (e i)) (sym (member_state w i m (record { kept = left; console = m.console; node = None }) up.there))
+            (at_number (λ j. WorldStep s (e j) (with_seat s j (record { kept = left; console = m.console; up = None })))
+            (falls saves left (one_of is_kept))),
+      )
+    where
+      one_of : (is_kept : Bool) → IsOneOf (if is_kept then made.node.kept else m.kept) q.known.kept made.node.kept
+      one_of true = inr refl
+      one_of false = inl (sym (running h up).kept_is)
+
+  -- each of these calls
+  press_steps : (byte : ℕ) → byte < 256 → StepsCall w (group.Press i byte) i m q.progress (call_of_press q.known byte)
+  press_steps byte low =
+      press_cases (StepsCall w (group.Press i byte) i m q.progress) (λ f. tt) q.known byte (λ ne other.
+      let sound = running h up in
+      call_steps (λ j. group.Press j byte) _ _ (press_allowed byte low ne other)
+      (laws.calls_are_events.ensures.press s q.known byte _ configuration m.console sits sound.ranges sound.backs)
+      (λ saves. absurd (saves refl)))
+
+  campaign_steps : StepsCall w (group.Campaign i) i m q.progress (call_of_campaign q.known)
+  campaign_steps =
+      campaign_cases (StepsCall w (group.Campaign i) i m q.progress) (λ f. tt) q.known (λ low other.
+      let sound = running h up in
+      call_steps group.Campaign _ [] (campaign_allowed low other)
+      (laws.calls_are_events.ensures.campaign s q.known _ configuration m.console sits sound.ranges sound.backs)
+      (λ saves left. laws.calls_are_events.ensures.falls_campaign s q.known _ left configuration m.console sits sound.ranges sound.backs))
+
+  tick_steps : StepsCall w (group.Tick i) i m q.progress (Makes (on_tick q.known) [])
+  tick_steps =
+      let sound = running h up in
+      call_steps group.Tick _ [] tick_allowed
+      (laws.calls_are_events.ensures.tick s q.known _ configuration m.console sits sound.ranges sound.backs)
+      (λ saves. absurd (saves (tick_rests q.known).1))
 
   deliver_steps : (k : ℕ) (message : Msg) → slice_get (messages_in w.group w.sent) k ≡ Some message
-      → StepsCall w (Deliver k i) i m q.progress (Makes (on_message q.known message.sender message.body) [])
+      → StepsCall w (group.Deliver k i) i m q.progress (Makes (on_message q.known message.sender message.body) [])
   deliver_steps k message e =
       let sound = running h up in
-      let heard = heard_fits laws h up k message e in (
-        call_step laws h up (group.Deliver k) _ [] (message_allowed laws h up k message e)
-            (laws.calls_are_events.ensures.deliver s q.known k _ _ message.body
-            (configuration laws h up) m.console (sits laws h up) sound.ranges sound.backs heard e),
-        λ is_kept saves. fall_step laws h up (group.Deliver k) (on_message q.known _ message.body) is_kept (λ left one.
-            laws.calls_are_events.ensures.falls_delivered s q.known k _ _ message.body left
-            (configuration laws h up) m.console (sits laws h up) sound.ranges sound.backs heard e saves one),
-      )
+      let heard = heard_fits k message e in
+      call_steps (group.Deliver k) _ [] (message_allowed k message e)
+      (laws.calls_are_events.ensures.deliver s q.known k _ _ message.body configuration m.console sits sound.ranges sound.backs heard e)
+      (λ saves left.
+      laws.calls_are_events.ensures.falls_delivered s q.known k _ _ message.body left configuration m.console sits sound.ranges
+      sound.backs heard e saves)
 
   -- nothing changes but at node `i`, which is now this
-  alone : (new : Member) → ChangesOnly s (world_state (with_member w i new)) i [] []
-  alone new = record {
+  only_here : (new : Member) → ChangesOnly s (world_state (with_member w i new)) i [] []
+  only_here new = record {
     program = refl;
     size = refl;
     others = λ j ne. ap seat_of_member (changed_elsewhere w.members i j m new up.there ne);
@@ -101,7 +239,7 @@ module _ (laws : Laws) {w : World} (h : IsSound w) {i : ℕ} {m : Member} {q : R
   crash_steps : WorldStep s (group.Crash i) (world_state (world_after_fall w i m m.kept))
   crash_steps =
       let new : Member = record { kept = m.kept; console = m.console; node = None } in
-      record { left = rw up.there (here new); rest = alone new }
+      record { left = rw up.there (here new); rest = only_here new }
 
   release_of : (o : Option ℕ) → slice_get (written q) q.progress.released ≡ o
       → WorldStep s (group.Release i) (world_state (with_member w i (member_after_release m q o)))
@@ -110,7 +248,7 @@ module _ (laws : Laws) {w : World} (h : IsSound w) {i : ℕ} {m : Member} {q : R
     was = up_of q;
     from = rw (up.there, up.up) refl;
     left = here (member_after_release m q o) ∙ after o e;
-    rest = alone (member_after_release m q o);
+    rest = only_here (member_after_release m q o);
   }
     where
       after : (o : Option ℕ) → slice_get (written q) q.progress.released ≡ o
@@ -119,6 +257,7 @@ module _ (laws : Laws) {w : World} (h : IsSound w) {i : ℕ} {m : Member} {q : R
       after None e = rw (up.there, e) refl
       after (Some byte) e = rw (up.there, e) refl
 
+  -- a run
   run_steps : (most : ℕ) (progress : Progress) (ran : Ran)
       → RunsOn (input q.known) most q.progress progress ran → IsReplay (input q.known) progress
       → WorldStep s (group.Run i most) (world_state (with_member w i (at_progress m q progress)))
@@ -129,11 +268,9 @@ module _ (laws : Laws) {w : World} (h : IsSound w) {i : ℕ} {m : Member} {q : R
       let count : progress.steps ≡ q.progress.steps + more = omega (arith, runs.more) in
       let program = ap (λ (y : Progress). y.program) runs.rest ∙ sound.program in
       let few : more ≤ most = omega (arith, laws.output_is_an_event.ensures.few x most q.progress progress ran runs) in
-      let seated = subst (λ p. Sits s q.known (after_steps p x q.progress.steps) q.progress.released m.console) sound.program
-      (sits laws h up) in
-      let leads = subst (λ p. LeadsIn p x (q.progress.steps + more) (after_steps p x (q.progress.steps + more))) program
-      (subst (λ n. LeadsIn progress.program x n (after_steps progress.program x n)) count replay.made) in
-      let step = at_number laws h up (λ j. WorldStep s (group.Run j most) (with_seat s j (group.seat_of q.known
+      let seated = rw sound.program at sits in
+      let leads = rw (count, program) at replay.made in
+      let step = at_number (λ j. WorldStep s (group.Run j most) (with_seat s j (group.seat_of q.known
       (after_steps w.program x (q.progress.steps + more)) q.progress.released m.console)))
       (laws.output_is_an_event.ensures.run s q.known most _ more _ m.console seated few leads) in
       let seat : seat_of_member (Some (at_progress m q progress))
@@ -163,16 +300,35 @@ module _ (laws : Laws) {w : World} (h : IsSound w) (i : ℕ) {m : Member} (down 
   start_one true = inr refl
   start_one false = inl refl
 
-  start_steps : StepsCall w (Start i) i m (no_progress w.program) (call_of_start (me_of w i) m.kept)
+  -- it may be made
+  start_may : m.kept.starts ≢ 4294967295 → MayMake w i m (on_start (me_of w i) m.kept) (no_progress w.program) []
+  start_may other =
+      let own = h.members i m down.there in
+      let me : IsMember (me_of w i) = record { node = is_node i h down.there; few = h.size.few } in
+      let fits = laws.what_goes_out_fits.ensures.start (me_of w i) m.kept me own.ranges (omega (arith, own.ranges.starts, other)) in
+      record {
+        me_is = refl;
+        before = empty;
+        lawful = laws.calls_are_lawful.ensures.start (world_state w).sent _ (me_of w i) m.kept own.backed;
+        ranges = fits.ranges;
+        fits = fits.sends;
+        program = refl;
+        replay = laws.learning_keeps_the_output.ensures.begins w.program _;
+        shown = omega arith;
+      }
+
+  start_steps : StepsCall w (group.Start i) i m (no_progress w.program) (call_of_start (me_of w i) m.kept)
   start_steps =
-      start_by laws h i down (StepsCall w (Start i) i m (no_progress w.program)) (λ f. tt) (λ may.
+      start_cases (StepsCall w (group.Start i) i m (no_progress w.program)) (λ f. tt) _ m.kept (λ other.
       let made = on_start _ m.kept in
+      let may = start_may other in
       let seated : (world_state w).seats i ≡ record { kept = m.kept; console = m.console; up = None } = rw (down.there, down.down) refl in
       let state =
       called_state laws.spelling_is_read.ensures.read w i m made _ [] down.there h.session
       (is_node i h down.there) may.fits
       ∙ ap (λ c. after_call (world_state w) i made [] c 0 m.console)
       (first_configuration w.program _) in (
+        may,
         subst (WorldStep (world_state w) (group.Start i)) (sym state)
             (laws.calls_are_events.ensures.start _ (me_of w i) m.kept m.console refl seated),
         λ is_kept saves.
@@ -182,21 +338,90 @@ module _ (laws : Laws) {w : World} (h : IsSound w) (i : ℕ) {m : Member} (down 
             (laws.calls_are_events.ensures.falls_start _ (me_of w i) m.kept left m.console seated (start_one is_kept)),
       ))
 
--- an event that is not refused is one of the group, and one that is refused changes nothing
-pub acts_step : Laws → (w v : World) (plan : Option Bool) (act : Act) (d : Done)
-    → IsSound w → Performs w plan act d v → IsStep (world_state w) act d (world_state v)
-acts_step laws w v plan (Press i byte) d h (m, q, up, low, leaves) =
-    leaves_step w (Press i byte) i m q.progress plan _ (press_steps laws h up byte low) leaves
-acts_step laws w v plan (Deliver k i) d h (m, q, message, up, e, leaves) =
-    leaves_step w (Deliver k i) i m q.progress plan (Makes (on_message q.known _ message.body) [])
-    (deliver_steps laws h up k message e) leaves
-acts_step laws w v plan (Campaign i) d h (m, q, up, leaves) =
-    leaves_step w (Campaign i) i m q.progress plan _ (campaign_steps laws h up) leaves
-acts_step laws w v plan (Tick i) d h (m, q, up, leaves) =
-    leaves_step w (Tick i) i m q.progress plan (Makes (on_tick q.known) []) (tick_steps laws h up) leaves
-acts_step laws w v plan (Run i most) d h (m, q, progress, ran, up, runs, replay, answer, leaves) =
-    rw (answer, leaves) (run_steps laws h up most progress ran runs replay)
-acts_step laws w v plan (Release i) d h (m, q, up, answer, leaves) =
-    rw (answer, leaves) (release_of laws h up (next_of q) (next_written q))
-acts_step laws w v plan (Crash i) d h (m, q, up, answer, leaves) = rw (answer, leaves) (crash_steps laws h up)
-acts_step laws w v plan (Start i) d h (m, down, leaves) = leaves_step w (Start i) i m _ plan _ (start_steps laws h i down) leaves
+-- ---- the event
+
+-- what is left is sound, and an event of the group
+abbrev pub GoesOn : World → Act → Done → World → Type 0
+GoesOn w act d v = IsSound v × IsStep (world_state w) act d (world_state v)
+
+module _ (laws : Laws) {w : World} (h : IsSound w) (act : Act) (i : ℕ) {m : Member} (there : member_at w.members i ≡ Some m)
+    (progress : Progress) (plan : Option Bool) {d : Done} {v : World} where
+  saves_go_on : (made : Response) (keys : List Value) (o : Option Bool) → failing made.saves plan ≡ o
+      → StepsCall w (event_of act) i m progress (Makes made keys)
+      → LeavesBy w i m progress (save_outcome m.kept made keys o) d v → GoesOn w act d v
+  saves_go_on made keys None e (may, step, falls) (answer, leaves) =
+      rw (answer, leaves) (call_sound laws h i there progress keys made may, step)
+  saves_go_on made keys (Some is_kept) e (may, step, falls) (answer, leaves) =
+      let (c, some) = fails_some made.saves plan is_kept e in
+      rw (answer, leaves) (fall_sound laws h i there made may is_kept c some, falls is_kept (λ none. absurd cc))
+
+  -- the call, by what it is
+  call_goes_on : (call : NodeCall) → StepsCall w (event_of act) i m progress call → Leaves w i m progress plan call d v → GoesOn w act d v
+  call_goes_on (Refuses f) steps (answer, same) = rw (answer, same) (h, refl)
+  call_goes_on (Makes made keys) steps leaves = saves_go_on made keys _ refl steps leaves
+
+-- Each event keeps the world sound. One that is not refused is one of the group, and one that is
+-- refused changes nothing.
+pub acts_go_on : Laws → (w v : World) (plan : Option Bool) (act : Act) (d : Done) → IsSound w → Performs w plan act d v → GoesOn w act d v
+acts_go_on laws w v plan (Press i byte) d h (m, q, up, low, leaves) =
+    call_goes_on laws h (Press i byte) i up.there q.progress plan _ (press_steps laws h up byte low) leaves
+acts_go_on laws w v plan (Deliver k i) d h (m, q, message, up, e, leaves) =
+    call_goes_on laws h (Deliver k i) i up.there q.progress plan (Makes _ []) (deliver_steps laws h up k message e) leaves
+acts_go_on laws w v plan (Campaign i) d h (m, q, up, leaves) =
+    call_goes_on laws h (Campaign i) i up.there q.progress plan _ (campaign_steps laws h up) leaves
+acts_go_on laws w v plan (Tick i) d h (m, q, up, leaves) =
+    call_goes_on laws h (Tick i) i up.there q.progress plan (Makes _ []) (tick_steps laws h up) leaves
+acts_go_on laws w v plan (Run i most) d h (m, q, progress, ran, up, runs, replay, answer, leaves) =
+    rw (answer, leaves) (
+      run_sound laws h up progress (ap (λ (x : Progress). x.program) runs.rest) (ap (λ (x : Progress). x.released) runs.rest) replay,
+      run_steps laws h up most progress ran runs replay,
+    )
+acts_go_on laws w v plan (Release i) d h (m, q, up, answer, leaves) =
+    rw (answer, leaves) (release_sound laws h up, release_of laws h up (next_of q) (next_written q))
+acts_go_on laws w v plan (Crash i) d h (m, q, up, answer, leaves) =
+    rw (answer, leaves) (crash_sound laws h i up.there, crash_steps laws h up)
+acts_go_on laws w v plan (Start i) d h (m, down, leaves) =
+    call_goes_on laws h (Start i) i down.there _ plan _ (start_steps laws h i down) leaves
+
+-- ---- before all events
+
+nothing_sent : {i : ℕ} {body : Body} → IsSent [] i body → ⊥
+nothing_sent there = absurd (omega (arith, there.1))
+
+module _ (laws : Laws) (p : Parts) (group : Group) where
+  first_sound : (i : ℕ) → SoundAt (new_world p group) i (record { kept = empty_record; console = []; node = None })
+  first_sound i = record {
+    ranges = record { starts = omega arith; kept = refl };
+    backed =
+        record {
+          votes = laws.backing.ensures.empty [];
+          asked = λ b from own said. absurd (nothing_sent said.1);
+          own = λ b s v own said. absurd (nothing_sent said.1);
+        };
+    shown =
+        record {
+          values = [];
+          chosen = record { chosen = λ s v e. absurd cc };
+          output = (0, record { rest = out p _ 0; whole = refl });
+        };
+    running = tt;
+  }
+
+  no_record : (o : Option Member) → ((m : Member) → o ≡ Some m → record { kept = empty_record; console = []; node = None } ≡ m)
+      → (seat_of_member o).kept ≡ empty_record
+  no_record None h = refl
+  no_record (Some m) h = ap (λ (x : Member). x.kept) (sym (h m refl))
+
+  pub begun_sound : IsSize group.size → IsGroup group → IsSound (new_world p group)
+  begun_sound size session = record {
+    size = size;
+    session = session;
+    places = length-replicate group.size _;
+    spelled = All-nil _;
+    grew =
+        laws.growth.ensures.begins group.size (λ i. ((world_state (new_world p group)).seats i).kept)
+        (λ i. no_record _ (first_node p group i));
+    told = λ s v said. absurd (nothing_sent said.1);
+    submitted = λ i v said. absurd (nothing_sent said);
+    members = λ i m there. subst (SoundAt (new_world p group) i) (first_node p group i m there) (first_sound i);
+  }
