@@ -19,25 +19,18 @@ HasAccepted sent b s v i = IsSent sent i (Accepted b s v)
 abbrev pub IsAway : Sent → ℕ → Msg → Type 0
 IsAway sent n m = (k : ℕ) → k < n → ¬ (slice_index_or sent k m ≡ m)
 
-pub chosen_from_count : (size : ℕ) (sent : Sent) (b : Ballot) (s : ℕ) (v : Value) (count : ℕ)
-    → IsCounted (HasAccepted sent b s v) size count → size < 2 * count → IsChosenBy size sent b s v
-chosen_from_count size sent b s v count counted more = (counted.members, rw counted.counted at more, counted.sound)
-
-pub count_from_chosen : (size : ℕ) (sent : Sent) (b : Ballot) (s : ℕ) (v : Value) (count : ℕ)
-    → IsCounted (HasAccepted sent b s v) size count → IsChosenBy size sent b s v → size < 2 * count
-count_from_chosen size sent b s v count counted (members, majority, accepted) = grind (arith, nat_tests, count_grows)
-
 -- no ballot that one of the messages below n accepts v under at s has chosen it
 abbrev pub IsUnchosen : ℕ → Sent → ℕ → ℕ → Value → Type 0
 IsUnchosen size sent n s v =
     (i : ℕ) (b : Ballot) → IsChosenBy size sent b s v → IsAway sent n (record { sender = i; body = Accepted b s v })
 
 -- who has accepted is a majority exactly if the count of all nodes is more than half
-pub chosen_by_count : (size n : ℕ) (sent : Sent) (b : Ballot) (s : ℕ) (v : Value) (count : ℕ) → n ≡ size
-    → IsCounted (HasAccepted sent b s v) n count → IsChosenBy size sent b s v ↔ (size < 2 * count)
-chosen_by_count size n sent b s v count e counted =
-    let all : IsCounted (HasAccepted sent b s v) size count = rw e at counted in
-    (count_from_chosen size sent b s v count all, chosen_from_count size sent b s v count all)
+pub chosen_by_count : {size count : ℕ} (sent : Sent) (b : Ballot) (s : ℕ) (v : Value)
+    → IsCounted (HasAccepted sent b s v) size count → IsChosenBy size sent b s v ↔ (size < 2 * count)
+chosen_by_count {size} sent b s v counted = (
+  λ h. omega (arith, count_grows h.0 counted.members size (λ i low high t. counted.complete i low high (h.2 i t)), h.1, counted.counted),
+  λ more. (counted.members, rw counted.counted at more, counted.sound),
+)
 
 -- what is chosen was accepted by one of the messages
 pub all_unchosen : (size n s : ℕ) (sent : Sent) (v : Value) → length sent ≤ n → IsUnchosen size sent n s v → ¬ IsChosen size sent s v

@@ -1,11 +1,11 @@
 -- Votes in ascending order of place: what a search in them finds, and what is put keeps the order.
-use Rattle.std.proofs.Common.{◌≡◌, ℕ, zero, suc, ◌<◌, ◌≤◌, List, [], ◌∷◌, length, get_or, set, Some, None, Result, Ok, Err, IfOk, IfErr, refl, sym, arith}
+use Rattle.std.proofs.Common.{◌≡◌, ◌≢◌, ℕ, zero, suc, ◌<◌, ◌≤◌, List, [], ◌∷◌, length, get_or, set, Some, None, Result, Ok, Err, IfOk, IfErr, refl, sym, arith}
 use Rattle.std.specs.List.{insert}
 use Rattle.std.specs.List.Sorted.{IsSearchInRange, IsBinarySearchResult, IsNonDecreasingBy}
 use Rattle.std.specs.Ordering.{nat_cmp, ordering_index}
 use Rattle.std.proofs.lemmas.Cmp.{ranked}
 use Rattle.std.proofs.lemmas.List.Sorted.{IsNonDecreasingBy-from_default}
-use Rattle.std.proofs.lemmas.Bool.{cases_lt, eq-eqb, ne_eqb}
+use Rattle.std.proofs.lemmas.Bool.{cases_lt, ne_eqb}
 use Rattle.std.proofs.lemmas.Bool.Decides.{nat_tests}
 use Rattle.paxos_msg.specs.Batches.{Vote}
 use Rattle.paxos_msg.specs.Messages.{AreAbove, IsAscending, kept_vote_at}
@@ -22,20 +22,14 @@ above_at (x ∷ xs) s (suc i) d h k = above_at xs s i d h.1 (omega arith)
 pub places_rise : (votes : List Vote) (i j : ℕ) (d : Vote) → IsAscending votes → i < j → j < length votes
     → (get_or votes i d).place < (get_or votes j d).place
 places_rise [] i j d h lt k = absurd (omega arith)
-places_rise (x ∷ xs) zero zero d h lt k = absurd (omega arith)
+places_rise (x ∷ xs) i zero d h lt k = absurd (omega arith)
 places_rise (x ∷ xs) zero (suc j) d h lt k = above_at xs x.place j d h.0 (omega arith)
-places_rise (x ∷ xs) (suc i) zero d h lt k = absurd (omega arith)
 places_rise (x ∷ xs) (suc i) (suc j) d h lt k = places_rise xs i j d h.1 (omega arith) (omega arith)
 
 -- what is above a place is above each smaller one
 above_less : (votes : List Vote) (s t : ℕ) → t ≤ s → AreAbove s votes → AreAbove t votes
 above_less [] s t h k = tt
 above_less (x ∷ xs) s t h k = (omega (arith, k.0), above_less xs s t h k.1)
-
--- no vote above a place is at it
-none_above : (votes : List Vote) (s : ℕ) → AreAbove s votes → kept_vote_at votes s ≡ None
-none_above [] s h = refl
-none_above (x ∷ xs) s h = rw (ne_eqb x.place s (λ e. omega (arith, h.0))) (none_above xs s h.1)
 
 -- with a vote above a place, all are above it still
 above_with : (votes : List Vote) (vote : Vote) (s : ℕ) → s < vote.place → AreAbove s votes → AreAbove s (with_vote votes vote)
@@ -88,24 +82,17 @@ gap_after x xs s i h = record {
 -- the vote at the index of the place is the one at the place
 pub vote_there : (votes : List Vote) (s i : ℕ) (d : Vote) → IsPlaceIn votes s i → kept_vote_at votes s ≡ Some (get_or votes i d)
 vote_there [] s i d h = absurd (omega (arith, h.in_range))
-vote_there (x ∷ xs) s zero d h = rw (eq-eqb x.place s (h.same d)) refl
-vote_there (x ∷ xs) s (suc i) d h =
-    rw (ne_eqb x.place s (λ e. omega (arith, h.before 0 d (omega arith))))
-    (vote_there xs s i d (place_later x xs s i h))
+vote_there (x ∷ xs) s zero d h = grind (arith, nat_tests, h.same d)
+vote_there (x ∷ xs) s (suc i) d h = grind (arith, nat_tests, h.before 0 d, vote_there xs s i d (place_later x xs s i h))
+
+-- of votes at other places, none is at the place
+none_at : (votes : List Vote) (s : ℕ) → ((j : ℕ) (d : Vote) → j < length votes → (get_or votes j d).place ≢ s) → kept_vote_at votes s ≡ None
+none_at [] s others = refl
+none_at (x ∷ xs) s others = rw (ne_eqb x.place s (others 0 x (omega arith))) (none_at xs s (λ j d lt. others (suc j) d (omega arith)))
 
 -- at the index where the place would be there is no vote for it
 pub none_there : (votes : List Vote) (s i : ℕ) → IsGapIn votes s i → kept_vote_at votes s ≡ None
-none_there [] s i h = refl
-none_there (x ∷ xs) s zero h =
-    rw (ne_eqb x.place s (λ e. omega (arith, h.after 0 x (omega arith) (omega arith))))
-    (none_there xs s zero
-    (record {
-      in_range = omega arith;
-      before = λ j d lt. absurd (omega arith);
-      after = λ j d le lt. h.after (suc j) d (omega arith) (omega arith);
-    }))
-none_there (x ∷ xs) s (suc i) h =
-    rw (ne_eqb x.place s (λ e. omega (arith, h.before 0 x (omega arith)))) (none_there xs s i (gap_after x xs s i h))
+none_there votes s i h = none_at votes s (λ j d lt. grind (arith, h.before j d, h.after j d))
 
 -- a vote is put over the one at its place
 pub put_over : (votes : List Vote) (i : ℕ) (vote : Vote) → IsPlaceIn votes vote.place i → set votes i vote ≡ with_vote votes vote

@@ -1,12 +1,11 @@
 -- What goes on with a growth: more messages, a call of a node, and a restart; and which rules still
 -- hold after it.
-use Rattle.std.proofs.Common.{◌≡◌, ◌≢◌, ◌↔◌, ℕ, inl, inr, List, [], ◌∷◌, ◌++◌, Option, Contains, sym, arith}
+use Rattle.std.proofs.Common.{◌≡◌, ◌≢◌, ◌↔◌, ℕ, inl, inr, List, [], ◌∷◌, ◌++◌, Option, Contains, arith}
 use Rattle.std.proofs.lemmas.List.{append-nil, append_assoc}
 use Rattle.std.proofs.lemmas.List.Elements.{Contains-append_left}
 use Rattle.std.proofs.lemmas.Bool.Decides.{nat_tests}
 use Rattle.paxos_msg.specs.declared.value.Value.{Value}
 use Rattle.paxos_msg.specs.Batches.{Body, Change, Grew, MaySend, MaySendAll, Msg, Record, Sent}
-use Rattle.paxos_msg.specs.declared.record.Change.TheVariants.{Start, Promise, Ballotted}
 use Rattle.paxos_msg.specs.declared.message.Body.TheVariants.{Accept, Accepted, Submit, Tell}
 use Rattle.paxos_msg.specs.Keys.{Key}
 use Rattle.paxos_msg.specs.Messages.{IsSaid, messages_of}
@@ -18,16 +17,14 @@ use Rattle.paxos_msg.specs.Growth.{sends, saves}
 -- ---- more messages
 
 stays_said : (sent more : Sent) (body : Body) → IsSaid sent body → IsSaid (sent ++ more) body
-stays_said sent more body (i, h) = (i, Contains-append_left sent more (record { sender = i; body = body }) h)
+stays_said sent more body (i, h) = (i, Contains-append_left sent more _ h)
 
 pub stays_chosen : (size s : ℕ) (sent more : Sent) (v : Value) → IsChosen size sent s v → IsChosen size (sent ++ more) s v
 stays_chosen size s sent more v (b, (members, majority, accepted)) =
-    (b, (members, majority, λ i member. Contains-append_left sent more (record { sender = i; body = Accepted b s v }) (accepted i member)))
+    (b, (members, majority, λ i member. Contains-append_left sent more _ (accepted i member)))
 
 pub may_still_save : (sent more : Sent) (r : Record) (change : Change) → MaySave sent r change → MaySave (sent ++ more) r change
-may_still_save sent more r Start may = may
-may_still_save sent more r (Promise b) may = may
-may_still_save sent more r (Ballotted s b v) (said, open_to) = (stays_said sent more (Accept b s v) said, open_to)
+may_still_save sent more r change may = grind (arith, nat_tests, stays_said sent more)
 
 -- ---- a call
 
@@ -41,10 +38,6 @@ calls size i typed learned sent records (body ∷ more) grew (may, rest) =
     rw (append_assoc sent (m ∷ []) (messages_of i more)) at (calls size i typed learned (sent ++ m ∷ []) records more now rest)
 
 -- ---- a restart
-
--- records that are the same at each node are the same
-same_records : (records next : ℕ → Record) → ((j : ℕ) → next j ≡ records j) → records ≡ next
-same_records records next same = λ k j. sym (same j) k
 
 pub restarts : (size i : ℕ) (sent : Sent) (records next : ℕ → Record) (failed : List Change) → Grew size sent records
     → ((change : Change) → Contains failed change → MaySave sent (records i) change)
@@ -75,8 +68,4 @@ module _ (size i : ℕ) (typed : List Key) (learned : ℕ → Option Value) wher
   halves sent r [] more = (λ all. (tt, rw (append-nil sent) all), λ parts. rw (append-nil sent) at parts.1)
   halves sent r (body ∷ bodies) more =
       let m : Msg = record { sender = i; body = body } in
-      let rest = halves (sent ++ m ∷ []) r bodies more in
-      let same = append_assoc sent (m ∷ []) (messages_of i bodies) in (
-        λ all. ((all.0, (rest.0 all.1).0), rw same at (rest.0 all.1).1),
-        λ parts. (parts.0.0, rest.1 (parts.0.1, rw (← same) at parts.1)),
-      )
+      grind (arith, nat_tests, halves (sent ++ m ∷ []) r bodies more, append_assoc sent (m ∷ []) (messages_of i bodies))

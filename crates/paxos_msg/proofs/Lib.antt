@@ -1,10 +1,7 @@
 pub mod VotesLeft
-pub mod Filled
 pub mod BallotOrder
 pub mod Meeting
-pub mod SentLemmas
 pub mod WithVote
-pub mod Advances
 pub mod Invariant
 pub mod Saves
 pub mod Sends
@@ -15,18 +12,13 @@ pub mod GrowthSteps
 pub mod Witness
 pub mod CountingNodes
 pub mod AcceptedCount
-pub mod Guards
-pub mod Numbers
-pub mod FieldsRead
+pub mod Fields
 pub mod OwnKeys
 pub mod ValuesRead
-pub mod Version1Read
 pub mod VotesRead
 pub mod BodiesRead
-pub mod HeaderRead
 pub mod MessagesRead
 pub mod SpellingLengths
-pub mod Answered
 mod Ascending
 pub mod Rules
 pub mod Exact

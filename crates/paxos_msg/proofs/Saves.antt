@@ -1,37 +1,41 @@
 -- A save keeps the invariant.
-use Rattle.std.proofs.Common.{ℕ, IfSome, arith}
+use Rattle.std.proofs.Common.{ℕ, arith}
 use Rattle.std.proofs.lemmas.Bool.Decides.{nat_tests}
 use Rattle.paxos_msg.specs.declared.ballot.Ballot.{Ballot}
 use Rattle.paxos_msg.specs.declared.value.Value.{Value}
 use Rattle.paxos_msg.specs.Batches.{Change, Record, Sent}
-use Rattle.paxos_msg.specs.Messages.{kept_vote_at}
-use Rattle.paxos_msg.specs.Records.{MaySave, IsSaved}
-use Rattle.paxos_msg.proofs.Advances.{HasPromised, HasVoted, IsRight, after_save, promise_kept, votes_right, vote_kept}
-use Rattle.paxos_msg.proofs.Invariant.{Invariant, IsPast, IsDecided}
+use Rattle.paxos_msg.specs.Records.{MaySave, IsSaved, changed}
+use Rattle.paxos_msg.proofs.Invariant.{HasPromised, HasVoted, HasRight, Invariant, IsDecided}
+use Rattle.paxos_msg.specs.declared.record.Change.TheVariants.{Ballotted}
+use Rattle.paxos_msg.proofs.WithVote.{vote_after}
+
+-- a vote that was right is right after a change, and the vote there then is under no smaller ballot
+votes_kept : (sent : Sent) (old : Record) (change : Change) (s : ℕ) → MaySave sent old change → HasRight sent s old
+    → HasRight sent s (changed old change) × ((b : Ballot) → HasVoted b s old → HasVoted b s (changed old change))
+votes_kept sent old (Ballotted place c v) s may right =
+    grind (arith, nat_tests, vote_after old.votes (record { place = place; ballot = c; value = v }) s)
+votes_kept sent old other s may right = grind (arith, nat_tests)
 
 module _ (size : ℕ) (sent : Sent) (records next : ℕ → Record) (i : ℕ) (change : Change)
     (may : MaySave sent (records i) change) (saved : IsSaved records i change next) where
-  past_kept : (b : Ballot) (s : ℕ) (w : Value) (j : ℕ) → IsPast sent records b s w j → IsPast sent next b s w j
-  past_kept b s w j h = grind (arith, nat_tests)
+  -- what holds of a record, and of the changed one, holds after the save
+  after : (j : ℕ) (Q : Record → Type 0) → (MaySave sent (records j) change → Q (changed (records j) change)) → Q (records j) → Q (next j)
+  after j Q new old = grind (arith, nat_tests)
 
+  -- what is decided stays decided
   decided_kept : (b : Ballot) (s : ℕ) (w : Value) → IsDecided size sent records b s w → IsDecided size sent next b s w
   decided_kept b s w h = grind (arith, nat_tests)
 
+  -- the invariant holds after the save
   pub saves_keep : Invariant size sent records → Invariant size sent next
   saves_keep inv = record {
     accepted = inv.accepted;
     one_value = inv.one_value;
     submitted = inv.submitted;
-    kept =
-        λ j b s v h. after_save sent records i change next j (λ r. HasVoted b r s) may saved
-        (λ m. vote_kept sent (records j) change b s m (inv.right j s) (inv.kept j b s v h)) (inv.kept j b s v h);
-    right =
-        λ j s. after_save sent records i change next j
-        (λ r. IfSome (kept_vote_at r.votes s) (IsRight sent r s)) may saved
-        (λ m. votes_right sent (records j) change s m (inv.right j s)) (inv.right j s);
-    held =
-        λ j b s reported h. after_save sent records i change next j (HasPromised b) may saved
-        (λ m. promise_kept sent (records j) change b m (inv.held j b s reported h)) (inv.held j b s reported h);
+    kept = λ j b s v h. after j (HasVoted b s)
+        (λ m. (votes_kept sent (records j) change s m (inv.right j s)).1 b (inv.kept j b s v h)) (inv.kept j b s v h);
+    right = λ j s. after j (HasRight sent s) (λ m. (votes_kept sent (records j) change s m (inv.right j s)).0) (inv.right j s);
+    held = λ j b s reported h. (let old = inv.held j b s reported h in after j (HasPromised b) (λ m. grind (arith, nat_tests)) old);
     reports = inv.reports;
     decided = λ c s w said b below. decided_kept b s w (inv.decided c s w said b below);
   }

@@ -1,12 +1,13 @@
 -- The lengths of spellings: a message that fits has at most 440 bytes.
 use Rattle.std.proofs.Common.{ℕ, ◌+◌, ◌*◌, ◌≤◌, List, [], ◌∷◌, length, arith}
 use Rattle.std.proofs.lemmas.List.{length-append}
+use Rattle.std.proofs.lemmas.Bool.Decides.{nat_tests}
 use Rattle.paxos_msg.specs.declared.ballot.Ballot.{Ballot}
 use Rattle.paxos_msg.specs.declared.value.Value.{Value}
 use Rattle.paxos_msg.specs.declared.value.Value.TheVariants.{Noop, Keys}
 use Rattle.paxos_msg.specs.Batches.{Body, Msg, Vote}
 use Rattle.paxos_msg.specs.declared.message.Group.{Group}
-use Rattle.paxos_msg.specs.declared.message.Body.TheVariants.{Promise, Accept, Accepted, Submit, Tell}
+use Rattle.paxos_msg.specs.declared.message.Body.TheVariants.{Promise}
 use Rattle.paxos_msg.specs.Fits.{AreVotes, IsBody, IsValue, IsVote, Fits}
 use Rattle.paxos_msg.specs.Spelling.{value_bytes, vote_bytes, votes_bytes, body_bytes, spelling}
 use Rattle.paxos_msg.specs.Views.{HasUpTo}
@@ -17,29 +18,26 @@ value_short size Noop h = omega arith
 value_short size (Keys node start first bytes) h = omega (arith, h.2.2)
 
 vote_short : (size low upto : ℕ) (b : Ballot) (v : Vote) → IsVote size b low upto v → length (vote_bytes v) ≤ 52
-vote_short size low upto b v h = let a = value_short size v.value h.value in omega arith
+vote_short size low upto b v h = omega (arith, value_short size v.value h.value)
 
 pub votes_short : (size low upto : ℕ) (b : Ballot) (votes : List Vote) → AreVotes size b low upto votes
     → length (votes_bytes votes) ≤ 52 * length votes
 votes_short size low upto b [] h = omega arith
 votes_short size low upto b (v ∷ votes) h =
-    let a = vote_short size low upto b v h.0 in
-    let b = votes_short size (v.place + 1) upto b votes h.1 in
-    let c = length-append (vote_bytes v) (votes_bytes votes) in
-    omega arith
+    omega (
+      arith,
+      vote_short size low upto b v h.0,
+      votes_short size (v.place + 1) upto b votes h.1,
+      length-append (vote_bytes v) (votes_bytes votes),
+    )
 
 -- a body in its ranges reports at most 8 votes
 pub few_votes : (size sender : ℕ) (body : Body) → IsBody size sender body → HasUpTo MOST_VOTES body
-few_votes size sender (Promise b first upto votes) h = h.4
-few_votes size sender other h = tt
+few_votes size sender body h = grind (arith, nat_tests)
 
 pub body_short : (size sender : ℕ) (body : Body) → IsBody size sender body → length (body_bytes body) ≤ 430
-body_short size sender (Promise b first upto votes) h = let a = votes_short size first upto b votes h.5 in omega (arith, h.4)
-body_short size sender (Accept b s v) h = let a = value_short size v h.3 in omega arith
-body_short size sender (Accepted b s v) h = let a = value_short size v h.2 in omega arith
-body_short size sender (Submit v) h = let a = value_short size v h.0 in omega arith
-body_short size sender (Tell s v) h = let a = value_short size v h.1 in omega arith
-body_short size sender other h = omega arith
+body_short size sender (Promise b first upto votes) h = omega (arith, votes_short size first upto b votes h.5, h.4)
+body_short size sender other h = grind (arith, nat_tests, value_short size)
 
 pub spelling_short : (group : Group) (m : Msg) → Fits group m → length (spelling group m) ≤ 440
-spelling_short group m h = let a = body_short group.size m.sender m.body h.1 in omega arith
+spelling_short group m h = omega (arith, body_short group.size m.sender m.body h.1)

@@ -1,51 +1,41 @@
--- Values: what is read was written, and what is written is read.
-use Rattle.std.proofs.Common.{◌≡◌, ℕ, zero, suc, ◌+◌, ◌^◌, ◌<◌, ◌≤◌, Bool, true, not, ◌&&◌, eqb, List, [], ◌∷◌, ◌++◌, length, Ok, refl, ap, arith, ◌∙◌, ltb, take, drop, sym}
+-- Values, in today's spelling and in that of version 1: what is read was written, and what is
+-- written is read.
+use Rattle.std.proofs.Common.{◌≡◌, ◌↔◌, ℕ, zero, suc, Bool, true, ◌&&◌, not, eqb, List, [], ◌∷◌, ◌++◌, length, Ok, take, drop, refl, arith, ◌<◌}
 use Rattle.std.proofs.Math.Seq.{drop-append_seam, take-append_seam}
-use Rattle.std.proofs.lemmas.Bool.{eq-eqb, eqb-true, le-ltb, ltb-false, and_parts, not-false}
+use Rattle.std.proofs.lemmas.Bool.{le-ltb}
 use Rattle.std.proofs.lemmas.List.{length-append, length-take-le, take-append-drop}
 use Rattle.std.proofs.lemmas.Bool.Decides.{nat_tests}
+use Rattle.paxos_msg.specs.declared.fault.WireFault.TheVariants as fault
 use Rattle.paxos_msg.specs.declared.value.Value.{Value}
 use Rattle.paxos_msg.specs.declared.value.Value.TheVariants.{Noop, Keys}
-use Rattle.paxos_msg.specs.declared.fault.WireFault.TheVariants as fault
 use Rattle.paxos_msg.specs.Fits.{IsBatch, IsCount, IsValue}
 use Rattle.paxos_msg.specs.Grammar.{AreBytes}
 use Rattle.paxos_msg.specs.Keys.{AreOwnKeys, batches}
-use Rattle.paxos_msg.specs.Reading.{first_byte, number_at, is_batch, is_node, characters_at, keys_at, value_at, own_keys_at}
-use Rattle.paxos_msg.specs.Spelling.{number_bytes, value_bytes}
-use Rattle.base.proofs.Steps.{bind_ok, guard_ok, unless_ok, ok_is}
-use Rattle.paxos_msg.proofs.Guards.{Takes, bytes_before, bytes_after, takes_then, zero_false, false_zero, past_one, node_found, node_again}
-use Rattle.paxos_msg.proofs.Numbers.{byte_found, number_found, number_again}
+use Rattle.paxos_msg.specs.Reading.{is_batch, is_node, characters_at, keys_at, value_at, own_keys_at}
+use Rattle.paxos_msg.specs.Spelling.{value_bytes}
+use Rattle.paxos_msg.proofs.Fields.{Exact, step, step_if, four_again, one_byte, numbers}
 use Rattle.paxos_msg.proofs.OwnKeys.{own_keys, owner}
+use Rattle.paxos_msg.specs.Version1.{IsSingle, key_at_v1, key_rest_at_v1, value_at_v1, value_bytes_v1}
 
 -- ---- the characters of a batch
 
-batch_found : (first count : ℕ) → is_batch first count ≡ true → (0 < first) × (0 < count) × (count ≤ 32) × (first + count ≤ 2 ^ 32)
-batch_found first count h = grind (arith, nat_tests)
+-- the first bytes are bytes
+bytes_before : (n : ℕ) (bytes : List ℕ) → AreBytes bytes → AreBytes (take n bytes)
+bytes_before zero bytes h i = omega arith
+bytes_before (suc n) [] h i = omega arith
+bytes_before (suc n) (b ∷ bytes) h zero = h zero
+bytes_before (suc n) (b ∷ bytes) h (suc i) = bytes_before n bytes (λ j. h (suc j)) i
 
-batch_again : (first : ℕ) (bytes : List ℕ) → IsBatch first bytes → is_batch first (length bytes) ≡ true
-batch_again first bytes h = grind (arith, nat_tests)
-
-characters_found : (first : ℕ) (bytes : List ℕ) (p : List ℕ × List ℕ) → AreBytes bytes
-    → characters_at first bytes ≡ Ok p → Takes bytes (length p.0 ∷ p.0) p.1 × IsBatch first p.0
+-- the characters of a batch are read as they are spelled
+characters : (first : ℕ) → Exact (characters_at first) (IsBatch first) (λ bytes. length bytes ∷ bytes)
 unfolding characters_at
-characters_found first bytes p h e =
-    let a = bind_ok (first_byte bytes) _ p e in
-    let b = unless_ok fault.Value (not (is_batch first a.0.0)) a.0 _ p a.2 in
-    let made : List ℕ × List ℕ = (take a.0.0 a.0.1, drop a.0.0 a.0.1) in
-    let g = guard_ok (ltb (length a.0.1) a.0.0) fault.Short (Ok made) p b.1 in
-    let count = byte_found bytes a.0 h a.1 in
-    let len : length made.0 ≡ a.0.0 = length-take-le a.0.0 a.0.1 (ltb-false (length a.0.1) a.0.0 g.0) in
-    let good = batch_found first a.0.0 (not-false _ b.0) in
-    let parts : bytes ≡ a.0.0 ∷ (made.0 ++ made.1) = count.0.parts ∙ ap (λ (t : List ℕ). a.0.0 ∷ t) (sym (take-append-drop a.0.0 a.0.1)) in
-    let taken : Takes bytes (length made.0 ∷ made.0) made.1 =
-    record { parts = rw len parts; others = bytes_after a.0.0 a.0.1 count.0.others } in
-    let batch : IsBatch first made.0 = rw len (good.0, good.1, good.2, good.3, bytes_before a.0.0 a.0.1 count.0.others) in
-    rw (← ok_is made p g.1) (taken, batch)
-
-characters_again : (first : ℕ) (bytes rest : List ℕ) → IsBatch first bytes
-    → characters_at first (length bytes ∷ (bytes ++ rest)) ≡ Ok (bytes, rest)
-unfolding characters_at
-characters_again first bytes rest h = grind (arith, nat_tests, le-ltb, length-append, batch_again, take-append_seam, drop-append_seam)
+characters first = record {
+  found = λ bytes text rest are e.
+      step_if one_byte bytes fault.Value (λ count. not (is_batch first count)) _ _ are e (λ count later small parts are good e.
+      grind (arith, nat_tests, bytes_before count later are, length-take-le count later, take-append-drop count later));
+  again = λ bytes rest h.
+      grind (arith, nat_tests, le-ltb, length-append, take-append_seam, drop-append_seam);
+}
 
 -- ---- values
 
@@ -54,87 +44,80 @@ abbrev pub KeysFit : (ℕ → Bool) → Value → Type 0
 KeysFit is_good Noop = ⊥
 KeysFit is_good (Keys node start first bytes) = (is_good node ≡ true) × IsCount start × IsBatch first bytes
 
-keys_found : (is_good : ℕ → Bool) (bytes : List ℕ) (p : Value × List ℕ) → AreBytes bytes → keys_at is_good bytes ≡ Ok p
-    → Takes (1 ∷ bytes) (value_bytes p.0) p.1 × KeysFit is_good p.0
+-- the fields of a batch are spelled after its tag
+abbrev fields_bytes : Value → List ℕ
+fields_bytes v = drop 1 (value_bytes v)
+
+-- the fields of a batch are read again
+keys_again : (is_good : ℕ → Bool) (v : Value) (rest : List ℕ) → KeysFit is_good v → keys_at is_good (fields_bytes v ++ rest) ≡ Ok (v, rest)
 unfolding keys_at
-keys_found is_good bytes p h e =
-    let a = bind_ok (first_byte bytes) _ p e in
-    let b = unless_ok fault.Value (not (is_good a.0.0)) a.0 _ p a.2 in
-    let c = bind_ok (number_at a.0.1) _ p b.1 in
-    let d = unless_ok fault.Value (eqb c.0.0 0) c.0 _ p c.2 in
-    let f = bind_ok (number_at c.0.1) _ p d.1 in
-    let k = bind_ok (characters_at f.0.0 f.0.1) _ p f.2 in
-    let node = byte_found bytes a.0 h a.1 in
-    let start = number_found a.0.1 c.0 node.0.others c.1 in
-    let first = number_found c.0.1 f.0 start.0.others f.1 in
-    let characters = characters_found f.0.0 f.0.1 k.0 first.0.others k.1 in
-    let one : Takes (1 ∷ bytes) (1 ∷ a.0.0 ∷ []) a.0.1 =
-    record { parts = ap (λ (t : List ℕ). 1 ∷ t) node.0.parts; others = node.0.others } in
-    let four = takes_then (takes_then (takes_then one start.0) first.0) characters.0 in
-    rw (← ok_is (Keys a.0.0 c.0.0 f.0.0 k.0.0, k.0.1) p k.2) (four, (not-false _ b.0, (zero_false c.0.0 d.0, start.1), characters.1))
+keys_again is_good Noop rest h = absurd h
+keys_again is_good (Keys node start first bytes) rest h = grind (arith, nat_tests, numbers.again, (characters first).again)
 
-keys_again : (is_good : ℕ → Bool) (node start first : ℕ) (bytes rest : List ℕ) → is_good node ≡ true → IsCount start → IsBatch first bytes
-    → keys_at is_good (node ∷ (number_bytes start ++ (number_bytes first ++ length bytes ∷ (bytes ++ rest))))
-    ≡ Ok (Keys node start first bytes, rest)
+-- they are read as they are spelled
+keys : (is_good : ℕ → Bool) → Exact (keys_at is_good) (KeysFit is_good) fields_bytes
 unfolding keys_at
-keys_again is_good node start first bytes rest good s batch =
-    let small : first < 2 ^ 32 = omega (arith, batch.1, batch.3) in
-    rw (
-      good,
-      number_again start
-          (number_bytes first ++ length bytes ∷ (bytes ++ rest)) s.1,
-      false_zero start s.0,
-      number_again first
-          (length bytes ∷ (bytes ++ rest)) small,
-      characters_again first bytes rest batch,
-    ) refl
+keys is_good = record {
+  found = λ bytes v rest are e.
+      step_if one_byte bytes fault.Value (λ node. not (is_good node)) _ _ are e (λ node later small parts are good e.
+      step_if numbers later fault.Value (λ start. eqb start 0) _ _ are e (λ start later below parts' are some e.
+      step numbers later _ _ are e (λ first later under parts'' are e.
+      step (characters first) later _ _ are e (λ bytes later batch parts''' are e.
+      grind (arith, nat_tests)))));
+  again = keys_again is_good;
+}
 
-keys_fit : (size : ℕ) (v : Value) → KeysFit (is_node size) v → IsValue size v
-keys_fit size Noop h = tt
-keys_fit size (Keys node start first bytes) h = (node_found size node h.0, h.1, h.2)
-
-pub value_found : (size : ℕ) (bytes : List ℕ) (p : Value × List ℕ) → AreBytes bytes → value_at size bytes ≡ Ok p
-    → Takes bytes (value_bytes p.0) p.1 × IsValue size p.0
+-- a value is read as it is spelled
+pub values : (size : ℕ) → Exact (value_at size) (IsValue size) value_bytes
 unfolding value_at
-value_found size [] p h e = absurd cc
-value_found size (zero ∷ bytes) p h e =
-    rw (← ok_is (Noop, bytes) p e) (record { parts = refl; others = λ i. h (suc i) }, tt)
-value_found size (suc zero ∷ bytes) p h e =
-    let f = keys_found (is_node size) bytes p (λ i. h (suc i)) e in
-    (f.0, keys_fit size p.0 f.1)
-value_found size (suc (suc b) ∷ bytes) p h e = let f = rw ((past_one b).0, (past_one b).1) at e in absurd cc
-
-pub value_again : (size : ℕ) (v : Value) (rest : List ℕ) → IsValue size v → value_at size (value_bytes v ++ rest) ≡ Ok (v, rest)
-unfolding value_at
-value_again size Noop rest h = refl
-value_again size (Keys node start first bytes) rest h = grind (arith, nat_tests, keys_again, node_again)
+values size = record {
+  found = λ bytes v rest are e. step one_byte bytes _ _ are e (λ tag later small parts are e.
+      grind (arith, nat_tests, (keys (is_node size)).found later v rest are));
+  again = λ v rest h. grind (arith, nat_tests, (keys (is_node size)).again v rest);
+}
 
 -- ---- keys of the sender
 
-own_fit : (size sender : ℕ) (v : Value) → KeysFit (λ node. is_node size node && eqb node sender) v
-    → IsValue size v × AreOwnKeys batches sender v
-own_fit size sender Noop h = absurd h
-own_fit size sender (Keys node start first bytes) h =
-    let a = and_parts (is_node size node) (eqb node sender) h.0 in
-    ((node_found size node a.0, h.1, h.2), own_keys node start first sender bytes h.2.1 (eqb-true node sender a.1))
+-- the node of keys that pass the test, and whose node is the sender
+abbrev own_test : ℕ → ℕ → ℕ → Bool
+own_test size sender node = is_node size node && eqb node sender
 
-pub own_keys_found : (size sender : ℕ) (bytes : List ℕ) (p : Value × List ℕ) → AreBytes bytes
-    → own_keys_at size sender bytes ≡ Ok p
-    → Takes bytes (value_bytes p.0) p.1 × IsValue size p.0 × AreOwnKeys batches sender p.0
-unfolding own_keys_at
-own_keys_found size sender [] p h e = absurd cc
-own_keys_found size sender (zero ∷ bytes) p h e = absurd cc
-own_keys_found size sender (suc zero ∷ bytes) p h e =
-    let f = keys_found (λ node. is_node size node && eqb node sender) bytes p (λ i. h (suc i)) e in
-    let g = own_fit size sender p.0 f.1 in
-    (f.0, g.0, g.1)
-own_keys_found size sender (suc (suc b) ∷ bytes) p h e = let f = rw (past_one b).1 at e in absurd cc
+-- keys pass the test just where they are values of the sender's own
+own_fits : (size sender : ℕ) (v : Value) → KeysFit (own_test size sender) v ↔ (IsValue size v × AreOwnKeys batches sender v)
+own_fits size sender Noop = (λ h. absurd h, λ h. absurd (h.1.has_key refl))
+own_fits size sender (Keys node start first bytes) = (
+  λ h. (grind (arith, nat_tests), own_keys node start first sender bytes h.2.1 (grind (arith, nat_tests))),
+  λ h. grind (arith, nat_tests, owner node start first sender bytes h.0.2.1 h.1),
+)
 
-pub own_keys_again : (size sender : ℕ) (v : Value) (rest : List ℕ) → IsValue size v → AreOwnKeys batches sender v
-    → own_keys_at size sender (value_bytes v ++ rest) ≡ Ok (v, rest)
+-- so are keys of the sender
+pub own_values : (size sender : ℕ) → Exact (own_keys_at size sender) (λ v. IsValue size v × AreOwnKeys batches sender v) value_bytes
 unfolding own_keys_at
-own_keys_again size sender Noop rest h own = absurd (own.has_key refl)
-own_keys_again size sender (Keys node start first bytes) rest h own =
-    let same : node ≡ sender = owner node start first sender bytes h.2.1 own in
-    let good : (is_node size node && eqb node sender) ≡ true = rw (node_again size node h.0, eq-eqb node sender same) refl in
-    keys_again (λ n. is_node size n && eqb n sender) node start first bytes rest good h.1 h.2
+own_values size sender = record {
+  found = λ bytes v rest are e. step_if one_byte bytes fault.Value (λ tag. not (eqb tag 1)) _ _ are e (λ tag later small parts are is_tag e.
+      grind (arith, nat_tests, own_fits size sender v, (keys (own_test size sender)).found later v rest are));
+  again = λ v rest h. grind (arith, nat_tests, own_fits size sender v, (keys (own_test size sender)).again v rest);
+}
+
+-- ---- values of version 1
+
+-- one byte is a list of bytes
+only : (byte : ℕ) → byte < 256 → AreBytes (byte ∷ [])
+only byte small zero = small
+only byte small (suc i) = omega arith
+
+-- a value of one key is read again
+again_v1 : (size : ℕ) (v : Value) (rest : List ℕ) → IsValue size v × IsSingle v → value_at_v1 size (value_bytes_v1 v ++ rest) ≡ Ok (v, rest)
+unfolding value_at_v1 key_at_v1 key_rest_at_v1
+again_v1 size Noop rest h = refl
+again_v1 size (Keys node start first (byte ∷ [])) rest h = grind (arith, nat_tests)
+again_v1 size (Keys node start first other) rest h = absurd (omega (arith, h.0.2.1, h.1))
+
+-- such a value is read as it is spelled
+pub values_v1 : (size : ℕ) → Exact (value_at_v1 size) (λ v. IsValue size v × IsSingle v) value_bytes_v1
+unfolding value_at_v1 key_at_v1 key_rest_at_v1
+values_v1 size = record {
+  found = λ bytes v rest are e.
+      grind (arith, nat_tests, four_again, only, are 1, are 2, are 3, are 4, are 5, are 6, are 7, are 8, are 9, are 10);
+  again = again_v1 size;
+}

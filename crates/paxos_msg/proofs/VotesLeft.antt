@@ -1,69 +1,57 @@
 -- Reading votes one after the other.
 use Rattle.std.proofs.Common.{◌≡◌, ℕ, zero, suc, ◌+◌, ◌-◌, ◌<◌, ◌≤◌, List, [], ◌∷◌, length, drop, Result, Ok, Err, refl, ap, ◌∙◌, arith}
 use Rattle.std.proofs.lemmas.List.{drop-drop}
+use Rattle.std.proofs.lemmas.Bool.Decides.{nat_tests}
 use Rattle.paxos_msg.specs.declared.ballot.Ballot.{Ballot}
 use Rattle.paxos_msg.specs.Batches.{Vote}
 use Rattle.paxos_msg.specs.declared.fault.WireFault.{WireFault}
 use Rattle.base.specs.Steps.{◌>>=◌}
 use Rattle.paxos_msg.specs.Reading.{vote_at, votes_at}
-use Rattle.paxos_msg.specs.Raw.{Takes, raw_vote_at, then_votes, votes_left}
+use Rattle.paxos_msg.specs.Raw.{Takes, raw_vote_at, votes_left}
 
 -- no vote is left where none is wanted
 pub none_left : (n : ℕ) (bytes : List ℕ) → n ≡ 0 → votes_left n bytes ≡ []
 unfolding votes_left
-none_left zero bytes e = refl
-none_left (suc n) bytes e = absurd (omega (arith, e))
+none_left n bytes e = rw e refl
 
 -- the first vote that is left, and those after it
 pub first_left : (n : ℕ) (bytes rest : List ℕ) (v : Vote) → 0 < n → raw_vote_at bytes ≡ Ok (v, rest)
     → votes_left n bytes ≡ v ∷ votes_left (n - 1) rest
 unfolding votes_left
-first_left zero bytes rest v lt h = absurd (omega (arith, lt))
-first_left (suc n) bytes rest v lt h = let e : suc n - 1 ≡ n = omega arith in rw (h, e) refl
+first_left n bytes rest v lt h = grind (arith, nat_tests)
 
 -- no vote is left where the bytes do not hold one
 pub none_more : (n : ℕ) (bytes : List ℕ) (e : WireFault) → raw_vote_at bytes ≡ Err e → votes_left n bytes ≡ []
 unfolding votes_left
-none_more zero bytes e h = refl
-none_more (suc n) bytes e h = rw h refl
-
--- reading no votes
-pub no_votes : (size : ℕ) (b : Ballot) (first upto low n : ℕ) (bytes : List ℕ) → n ≡ 0
-    → votes_at size b first upto low n bytes ≡ Ok (votes_left n bytes, bytes)
-unfolding votes_left votes_at
-no_votes size b first upto low zero bytes e = refl
-no_votes size b first upto low (suc n) bytes e = absurd (omega (arith, e))
-
--- the first vote, and what reading the others gives
-abbrev pub with_first : Vote → Result (List Vote × List ℕ) WireFault → Result (List Vote × List ℕ) WireFault
-with_first v others = others >>= λ x. Ok (v ∷ x.0, x.1)
-
--- the first vote is read
-pub first_at : (size : ℕ) (b : Ballot) (first upto low n : ℕ) (bytes rest : List ℕ) (v : Vote) → 0 < n
-    → vote_at size b first upto low bytes ≡ Ok (v, rest)
-    → votes_at size b first upto low n bytes ≡ with_first v (votes_at size b first upto (v.place + 1) (n - 1) rest)
-unfolding votes_at
-first_at size b first upto low zero bytes rest v lt h = absurd (omega (arith, lt))
-first_at size b first upto low (suc n) bytes rest v lt h = let e : suc n - 1 ≡ n = omega arith in rw (h, e) refl
-
--- the first vote has a fault
-pub fault_at : (size : ℕ) (b : Ballot) (first upto low n : ℕ) (bytes : List ℕ) (e : WireFault) → 0 < n
-    → vote_at size b first upto low bytes ≡ Err e → votes_at size b first upto low n bytes ≡ Err e
-unfolding votes_at
-fault_at size b first upto low zero bytes e lt h = absurd (omega (arith, lt))
-fault_at size b first upto low (suc n) bytes e lt h = rw h refl
-
--- a vote and those after it are no more than are wanted
-few_more : (read : Result (Vote × List ℕ) WireFault) (n : ℕ) → ((bytes : List ℕ) → length (votes_left n bytes) ≤ n)
-    → length (then_votes read (votes_left n)) ≤ suc n
-few_more (Ok x) n h = omega (arith, h x.1)
-few_more (Err e) n h = omega arith
+none_more n bytes e h = grind (arith, nat_tests)
 
 -- there are no more votes than are wanted
 pub few_left : (n : ℕ) (bytes : List ℕ) → length (votes_left n bytes) ≤ n
 unfolding votes_left
 few_left zero bytes = omega arith
-few_left (suc n) bytes = few_more (raw_vote_at bytes) n (few_left n)
+few_left (suc n) bytes = grind (arith, nat_tests, few_left n)
+
+-- the first vote, and what reading the others gives
+abbrev with_first : Vote → Result (List Vote × List ℕ) WireFault → Result (List Vote × List ℕ) WireFault
+with_first v others = others >>= λ x. Ok (v ∷ x.0, x.1)
+
+module _ (size : ℕ) (b : Ballot) (first upto low : ℕ) where
+  -- reading no votes
+  pub no_votes : (n : ℕ) (bytes : List ℕ) → n ≡ 0 → votes_at size b first upto low n bytes ≡ Ok (votes_left n bytes, bytes)
+  unfolding votes_left votes_at
+  no_votes n bytes e = rw e refl
+
+  -- the first vote is read
+  first_at : (n : ℕ) (bytes rest : List ℕ) (v : Vote) → 0 < n → vote_at size b first upto low bytes ≡ Ok (v, rest)
+      → votes_at size b first upto low n bytes ≡ with_first v (votes_at size b first upto (v.place + 1) (n - 1) rest)
+  unfolding votes_at
+  first_at n bytes rest v lt h = grind (arith, nat_tests)
+
+  -- the first vote has a fault
+  pub fault_at : (n : ℕ) (bytes : List ℕ) (e : WireFault) → 0 < n → vote_at size b first upto low bytes ≡ Err e
+      → votes_at size b first upto low n bytes ≡ Err e
+  unfolding votes_at
+  fault_at n bytes e lt h = grind (arith, nat_tests)
 
 -- reading from a state of the loop leads to the answer of the whole
 pub record LeadsTo (size : ℕ) (b : Ballot) (first upto count : ℕ) (bytes : List ℕ) (low left : ℕ) (rest : List ℕ) : Type 0 where
@@ -71,26 +59,23 @@ pub record LeadsTo (size : ℕ) (b : Ballot) (first upto count : ℕ) (bytes : L
       → votes_at size b first upto 0 count bytes ≡ Ok (votes_left count bytes, later)
   pub err : (e : WireFault) → votes_at size b first upto low left rest ≡ Err e → votes_at size b first upto 0 count bytes ≡ Err e
 
--- the loop begins with the whole
-pub at_start : (size : ℕ) (b : Ballot) (first upto count left : ℕ) (bytes : List ℕ) → left ≡ count
-    → LeadsTo size b first upto count bytes 0 left bytes
-at_start size b first upto count left bytes e = rw e (record { ok = λ later h. h; err = λ fault h. h })
+module _ {size : ℕ} {b : Ballot} {first upto count : ℕ} {bytes : List ℕ} where
+  -- the loop begins with the whole
+  pub at_start : (left : ℕ) → left ≡ count → LeadsTo size b first upto count bytes 0 left bytes
+  at_start left e = rw e (record { ok = λ later h. h; err = λ fault h. h })
 
--- a vote more is read
-pub goes_on : {size : ℕ} {b : Ballot} {first upto count : ℕ} {bytes : List ℕ} {low left : ℕ} (less : ℕ) {rest later : List ℕ}
-    {v : Vote} → LeadsTo size b first upto count bytes low left rest → less + 1 ≡ left
-    → vote_at size b first upto low rest ≡ Ok (v, later) → raw_vote_at rest ≡ Ok (v, later)
-    → LeadsTo size b first upto count bytes (v.place + 1) less later
-goes_on {size} {b} {first} {upto} {low} {left} less {rest} {later} {v} so_far one_less h raw =
-    let e : left - 1 ≡ less = omega arith in
-    let lt : 0 < left = omega arith in
-    record {
-      ok =
-          λ end k. so_far.ok end
-          (rw (first_left left rest later v lt raw, first_at size b first upto low left rest later v lt h, e)
-          (ap (with_first v) k));
-      err = λ fault k. so_far.err fault (rw (first_at size b first upto low left rest later v lt h, e) (ap (with_first v) k));
-    }
+  -- a vote more is read
+  pub goes_on : {low left : ℕ} (less : ℕ) {rest later : List ℕ} {v : Vote} → LeadsTo size b first upto count bytes low left rest
+      → less + 1 ≡ left → vote_at size b first upto low rest ≡ Ok (v, later) → raw_vote_at rest ≡ Ok (v, later)
+      → LeadsTo size b first upto count bytes (v.place + 1) less later
+  goes_on {low} {left} less {rest} {later} {v} so_far one_less h raw =
+      let e : left - 1 ≡ less = omega arith in
+      let lt : 0 < left = omega arith in
+      let read = rw e at (first_at size b first upto low left rest later v lt h) in
+      record {
+        ok = λ end k. so_far.ok end (rw (first_left left rest later v lt raw, read, e) (ap (with_first v) k));
+        err = λ fault k. so_far.err fault (rw read (ap (with_first v) k));
+      }
 
 -- ---- the bytes of a value, after the place and the ballot of its vote
 

@@ -7,5 +7,5 @@ use Rattle.paxos_msg.proofs.choosing.is_chosen.Goals as goal
 pub returns : goal.returns
 returns c = (
   λ h. absurd (not_true h),
-  λ chosen. absurd (all_unchosen c.args.size c.loop-i.i c.args.place c.args.sent.now c.args.value (omega arith) c.loop-i.invariant chosen),
+  λ chosen. absurd (all_unchosen _ c.loop-i.i _ _ _ (omega arith) c.loop-i.invariant chosen),
 )

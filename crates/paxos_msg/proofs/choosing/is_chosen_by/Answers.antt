@@ -1,25 +1,23 @@
 -- The count goes on; the test says if they are a majority.
-use Rattle.std.proofs.Common.{◌≡◌, ◌∙◌, ◌↔◌, ◌*◌, ◌<◌, sym, arith}
+use Rattle.std.proofs.Common.{◌≡◌, ◌∙◌, sym, arith}
 use Rattle.std.proofs.lemmas.Bool.Decides.{nat_tests}
-use Rattle.paxos_msg.specs.Chosen.{IsChosenBy}
-use Rattle.paxos_msg.proofs.AcceptedCount.{HasAccepted, chosen_by_count}
+use Rattle.paxos_msg.proofs.AcceptedCount.{chosen_by_count}
 use Rattle.paxos_msg.proofs.CountingNodes.{not_true, counted_in, counted_out}
 use Rattle.paxos_msg.proofs.choosing.is_chosen_by.Goals.{then-has_accepted, else-has_accepted}
 use Rattle.paxos_msg.proofs.choosing.is_chosen_by.Goals as goal
 
 pub loop-before-preserved : goal.loop-before-preserved
 loop-before-preserved c =
-    let P = HasAccepted c.args.sent.now c.args.ballot c.args.place c.args.value.now in
     elim c.if-has_accepted.branch [
       | then-has_accepted w ↦ record {
         counted =
-            rw w.accepted-is (counted_in P c.loop-before.before c.loop-before.accepted c.loop-before.invariant.counted
+            rw w.accepted-is (counted_in c.loop-before.invariant.counted
             (c.has_accepted.ensures.0 w.if-has_accepted.true));
         few = omega arith;
       }
       | else-has_accepted w ↦ record {
         counted =
-            rw w.accepted-is (counted_out P c.loop-before.before c.loop-before.accepted c.loop-before.invariant.counted
+            rw w.accepted-is (counted_out c.loop-before.invariant.counted
             (λ h. not_true (sym w.if-has_accepted.false ∙ c.has_accepted.ensures.1 h)));
         few = omega arith;
       }
@@ -28,8 +26,5 @@ loop-before-preserved c =
 pub returns : goal.returns
 returns c =
     let all : c.loop-before.before ≡ c.args.size = omega arith in
-    let by_count : IsChosenBy c.args.size c.args.sent.now c.args.ballot c.args.place c.args.value.now
-    ↔ (c.args.size < 2 * c.loop-before.accepted)
-    = chosen_by_count c.args.size c.loop-before.before c.args.sent.now c.args.ballot c.args.place c.args.value.now
-    c.loop-before.accepted all c.loop-before.invariant.counted in
+    let by_count = chosen_by_count _ _ _ _ (rw all at c.loop-before.invariant.counted) in
     (λ t. by_count.1 (grind (arith, nat_tests)), λ h. grind (arith, nat_tests, by_count.0 h))

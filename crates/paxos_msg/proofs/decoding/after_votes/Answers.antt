@@ -4,17 +4,12 @@ use Rattle.paxos_msg.proofs.VotesLeft.{at_start, goes_on, fault_at, no_votes}
 use Rattle.paxos_msg.proofs.decoding.after_votes.Goals as goal
 
 pub loop-init : goal.loop-init
-loop-init c =
-    at_start c.args.part.size c.args.part.ballot c.args.part.first c.args.part.upto c.args.count
-    (c.args.count - 0) c.args.bytes.now (omega arith)
+loop-init c = at_start (c.args.count - 0) (omega arith)
 
 pub returns-in_err-place-clause-exact : goal.returns-in_err-place-clause-exact
 returns-in_err-place-clause-exact c =
     let p = err_from_is_err_and c.from_residual.result c.from_residual.ensures.1 in
-    rw (p.1, p.2) (c.loop.invariant.err c.in_err-place.field-0.0
-    (fault_at c.args.part.size c.args.part.ballot c.args.part.first c.args.part.upto c.loop.low
-    (c.args.count - c.loop.counter) c.loop.rest.now
-    c.in_err-place.field-0.0 (omega arith) c.in_err-place.ensures.err))
+    rw (p.1, p.2) (c.loop.invariant.err c.in_err-place.field-0.0 (fault_at _ _ _ _ _ _ _ _ (omega arith) c.in_err-place.ensures.err))
 
 pub loop-preserved : goal.loop-preserved
 loop-preserved c =
@@ -22,7 +17,4 @@ loop-preserved c =
     rw (← one.at_place) (goes_on (c.args.count - (c.loop.counter + 1)) c.loop.invariant (omega arith) one.read one.raw)
 
 pub returns-clause-exact : goal.returns-clause-exact
-returns-clause-exact c =
-    c.loop.invariant.ok c.loop.rest.now
-    (no_votes c.args.part.size c.args.part.ballot c.args.part.first c.args.part.upto c.loop.low
-    (c.args.count - c.loop.counter) c.loop.rest.now (omega arith))
+returns-clause-exact c = c.loop.invariant.ok c.loop.rest.now (no_votes _ _ _ _ _ _ _ (omega arith))

@@ -2,4 +2,4 @@ use Rattle.paxos_msg.proofs.grammar.reading_is_spelling.Goals as goal
 use Rattle.paxos_msg.proofs.MessagesRead.{reading_is_spelling}
 
 pub returns : goal.returns
-returns c = record { read = λ group bytes m small are. reading_is_spelling group bytes m small are }
+returns c = record { read = reading_is_spelling }

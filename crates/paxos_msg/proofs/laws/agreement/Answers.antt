@@ -1,12 +1,18 @@
--- The clauses are the theorems of `Agreement`.
-use Rattle.paxos_msg.proofs.Agreement.{kept, one_value, submitted}
+-- One value is chosen at a place, and it was submitted or is the no-op.
+use Rattle.std.proofs.Common.{inl, inr, sym}
+use Rattle.paxos_msg.proofs.Agreement.{chosen_proposed, invariant_of, later_same}
+use Rattle.paxos_msg.proofs.BallotOrder.{at_most_from_below, order_cases}
 use Rattle.paxos_msg.proofs.laws.agreement.Goals as goal
 
-pub returns-clause-one_value : goal.returns-clause-one_value
-returns-clause-one_value c = one_value
-
-pub returns-clause-kept : goal.returns-clause-kept
-returns-clause-kept c = kept
-
-pub returns-clause-submitted : goal.returns-clause-submitted
-returns-clause-submitted c = submitted
+pub returns : goal.returns
+returns c = record {
+  one_value = λ size s sent records v w grew by_v by_w.
+      (let inv = invariant_of grew in
+      elim (order_cases by_v.0 by_w.0) [
+        | inl below ↦ sym (later_same inv by_v.1 by_w.0 w (chosen_proposed inv by_w.1) (at_most_from_below by_v.0 by_w.0 below))
+        | inr at_most ↦ later_same inv by_w.1 by_v.0 v (chosen_proposed inv by_v.1) at_most
+      ]);
+  kept = λ size s sent records b c v w grew chosen. later_same (invariant_of grew) chosen c w;
+  submitted = λ size s sent records v grew chosen.
+      (let inv = invariant_of grew in inv.submitted chosen.0 s v (chosen_proposed inv chosen.1));
+}

@@ -1,13 +1,10 @@
--- The theorems of `Rules` on a save.
-use Rattle.std.proofs.Common.{refl}
-use Rattle.paxos_msg.proofs.Rules.{promise_rises, starts_stay}
+use Rattle.std.proofs.Common.{refl, arith}
+use Rattle.std.proofs.lemmas.Bool.Decides.{nat_tests}
 use Rattle.paxos_msg.proofs.laws.saves_only_raise.Goals as goal
 
-pub returns-clause-promise : goal.returns-clause-promise
-returns-clause-promise c = promise_rises
-
-pub returns-clause-start : goal.returns-clause-start
-returns-clause-start c r = refl
-
-pub returns-clause-starts : goal.returns-clause-starts
-returns-clause-starts c = starts_stay
+pub returns : goal.returns
+returns c = record {
+  promise = λ sent r change p may e. grind (arith, nat_tests);
+  start = λ r. refl;
+  starts = λ r change ne. grind (arith, nat_tests);
+}

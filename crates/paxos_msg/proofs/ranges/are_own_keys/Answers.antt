@@ -8,6 +8,6 @@ pub returns-in-Keys : goal.returns-in-Keys
 returns-in-Keys c =
     let some : 0 < length c.in-Keys.bytes = omega (arith, c.len-bytes.ensures.len, c.len-bytes.ensures.some) in
     rw c.in-Keys.is (
-      λ t. own_keys c.in-Keys.typed c.in-Keys.start c.in-Keys.first c.args.node c.in-Keys.bytes some (grind (arith, nat_tests)),
-      λ own. grind (arith, nat_tests, owner c.in-Keys.typed c.in-Keys.start c.in-Keys.first c.args.node c.in-Keys.bytes some own),
+      λ t. own_keys _ _ _ _ _ some (grind (arith, nat_tests)),
+      λ own. grind (arith, nat_tests, owner _ _ _ _ _ some own),
     )

@@ -9,7 +9,7 @@ pub returns : goal.returns
 returns c =
     let by_place = c.binary_search_by_key.ensures.position (λ vote. vote.place) (answers_always _ _ _ (λ f a r g called. search rules)) in
     let at =
-    searched c.args.votes.now c.args.place
+    searched _ _
     (record { place = 0; ballot = record { round = 0; node = 0 }; value = value.Noop }) c.requires
-    c.binary_search_by_key.result c.binary_search_by_key.ensures.bound by_place in
+    _ c.binary_search_by_key.ensures.bound by_place in
     record { found = at.found; absent = at.absent }

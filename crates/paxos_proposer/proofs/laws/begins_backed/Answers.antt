@@ -1,4 +1,3 @@
--- The theorem of `Begun`.
 use Rattle.paxos_proposer.proofs.Begun.{begun_backed}
 use Rattle.paxos_proposer.proofs.laws.begins_backed.Goals as goal
 

@@ -1,4 +1,3 @@
--- The theorem of `Parts`, by the law of votes by place.
 use Rattle.paxos_proposer.proofs.Reported.{AreByPlace}
 use Rattle.paxos_proposer.proofs.PartsHeard.{part_backed}
 use Rattle.paxos_proposer.proofs.laws.parts_keep_it_backed.Goals as goal

@@ -1,4 +1,3 @@
--- The theorem of `Growing`.
 use Rattle.paxos_proposer.proofs.BackedAsMoreIsSent.{backed_later}
 use Rattle.paxos_proposer.proofs.laws.stays_backed.Goals as goal
 
