@@ -1,15 +1,7 @@
-pub mod Inputs
 pub mod Live
-pub mod Agreeing
-pub mod RelatedWords
-pub mod RelatedBlocks
-pub mod RelatedFields
 pub mod Powers
-pub mod RelatedValues
-pub mod RelatedCalls
 pub mod Related
 pub mod Ways
-pub mod Loaded
 pub mod LinksExist
 pub mod NamedExists
 pub mod StaysInCode
