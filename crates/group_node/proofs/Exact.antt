@@ -1,5 +1,6 @@
--- The machine with its ring and its counts stays exact, from one step to the next.
-use Rattle.std.proofs.Common.{◌≡◌, ℕ, zero, suc, ◌+◌, ◌<◌, ◌≤◌, List, [], ◌∷◌, ◌++◌, length, take, drop, slice_get, Some, None, refl, sym, ◌∙◌, ap, subst, add-one, append-nil, append_assoc, length-append, arith}
+-- The machine with its ring and its counts stays exact, from one step to the next, and what it says
+-- of the program's output.
+use Rattle.std.proofs.Common.{◌≡◌, ℕ, zero, suc, ◌+◌, ◌<◌, ◌≤◌, List, [], ◌∷◌, ◌++◌, length, take, drop, slice_get, Some, None, refl, sym, ◌∙◌, ap, subst, add-one, append-nil, append_assoc, length-append, arith, Option}
 use Rattle.std.proofs.lemmas.List.{drop-drop, length-drop, length-take, take-append-drop, drop-append-le}
 use Rattle.std.proofs.lemmas.Option.{slice_get_within}
 use Rattle.std.proofs.lemmas.Bool.Decides.{nat_tests}
@@ -8,10 +9,11 @@ use Rattle.pcode_file.specs.Parts.{Parts}
 use Rattle.pcode_machine.specs.declared.turn.End.{End}
 use Rattle.pcode_machine.specs.Configuration.{State, Configuration, configuration_of, start}
 use Rattle.pcode_machine.specs.Outcome.{outcome, Goes, Stops, Waiting}
-use Rattle.pcode_machine.specs.Runs.{after_steps, LeadsIn}
+use Rattle.pcode_machine.specs.Runs.{after_steps, LeadsIn, out}
 use Rattle.pcode_machine.specs.Turns.{AreQuiet, IsLast, Makes, WaitsOn, Writes}
 use Rattle.group_node.specs.declared.player.Player.{Player}
-use Rattle.group_node.specs.Player.{Advances, IsPlayed, PlaysStep}
+use Rattle.group_node.specs.Player.{Advances, IsPlayed, PlaysStep, progress_of}
+use Rattle.group_node.specs.Output.{IsReplay, unreleased_of}
 
 -- the law that steps which exist lead to what is after this many of them
 abbrev pub There : Type 0
@@ -92,7 +94,7 @@ exact_fed {x} {old} {new} {b} {wrote} laws h room e m =
 -- the configuration that a replay comes to
 pub replayed : {x : List ℕ} {q : Player} → There → (h : IsPlayed x q)
     → after_steps q.machine.program x q.steps ≡ configuration_of q.machine.state q.read h.output
-replayed {x} {q} there h = there q.machine.program x q.steps _ h.made
+replayed h1 h = grind (arith, nat_tests)
 
 -- where there is no next byte, all were read
 all_read : (x : List ℕ) (n : ℕ) → slice_get x n ≡ None → n ≤ length x → (n ≡ length x) × (take n x ≡ x)
@@ -113,7 +115,7 @@ halts_waiting {x} {q} {p} laws h same w e =
 -- the program has ended
 pub halts_ended : {x : List ℕ} {q : Player} {p : Parts} {e : End} → Laws → IsPlayed x q → q.machine.program ≡ p → IsLast p q.machine.state e
     → outcome q.machine.program x (after_steps q.machine.program x q.steps) ≡ Stops e
-halts_ended {x} {q} {p} {e} laws h same last = rw (replayed laws.there h, same) (last.stops x q.read h.output)
+halts_ended h1 h2 h3 h4 = grind (arith, nat_tests)
 
 -- ---- turns
 
@@ -136,7 +138,7 @@ advanced old k u = record old { machine = record old.machine { state = u }; step
 pub to_advanced : {x : List ℕ} {old : Player} (k : ℕ) (u : State) → QuietLaw → IsPlayed x old
     → AreQuiet old.machine.program k old.machine.state u
     → Advances x k old (advanced old k u)
-to_advanced k u quiet h a = advances k quiet h a refl refl refl refl refl
+to_advanced k u h1 h2 h3 = grind (arith, nat_tests)
 
 -- ---- other calls
 
@@ -163,3 +165,32 @@ exact_released {x} {q} {b} h e =
       room = omega (arith, length-drop 1 q.unreleased.items, h.room);
       capacity = h.capacity;
     }
+
+-- ---- the output
+
+-- what the machine wrote is the output after its steps
+pub output_is : {x : List ℕ} {q : Player} → There → (h : IsPlayed x q) → out q.machine.program x q.steps ≡ h.output
+unfolding out
+output_is there h = grind (arith, nat_tests)
+
+-- what the ring holds is what was not released of the output
+pub waits_unreleased : {x : List ℕ} {q : Player} → There → IsPlayed x q → unreleased_of x (progress_of q) ≡ q.unreleased.items
+waits_unreleased {x} {q} there h = ap (drop q.released) (output_is there h) ∙ sym h.waits
+
+-- the machine is where a replay from the start is
+pub exact_replay : {x : List ℕ} {q : Player} → There → IsPlayed x q → IsReplay x (progress_of q)
+exact_replay {x} {q} there h = record {
+  made = subst (λ (c : Configuration). LeadsIn q.machine.program x q.steps c) (sym (replayed there h)) h.made;
+  released = rw (output_is there h) h.released;
+  few = rw (waits_unreleased there h) h.room;
+}
+
+-- how many bytes wait
+pub exact_count : {x : List ℕ} {q : Player} (n : ℕ) → There → n ≡ length q.unreleased.items → IsPlayed x q
+    → (n ≡ length (unreleased_of x (progress_of q))) × (n ≤ 256)
+exact_count n there e h = grind (arith, nat_tests, waits_unreleased)
+
+-- the first byte that waits, with its number
+pub exact_first : {x : List ℕ} {q : Player} (o : Option ℕ) → There → o ≡ slice_get q.unreleased.items 0 → IsPlayed x q
+    → o ≡ slice_get (unreleased_of x (progress_of q)) 0
+exact_first o there e h = grind (arith, nat_tests, waits_unreleased)

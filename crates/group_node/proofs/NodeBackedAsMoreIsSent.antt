@@ -1,6 +1,7 @@
 -- What was sent backs a node as more is sent, if that proposes nothing under ballots of the node's
 -- own.
-use Rattle.std.proofs.Common.{◌≡◌, ℕ, ◌⊎◌, inl, inr, List, [], ◌∷◌, ◌++◌, ap}
+use Rattle.std.proofs.Common.{◌≡◌, ℕ, ◌⊎◌, inl, inr, List, [], ◌∷◌, ◌++◌, ap, arith}
+use Rattle.std.proofs.lemmas.Bool.Decides.{nat_tests}
 use Rattle.std.proofs.lemmas.List.Elements.{Contains-append_left, Contains-push_cases}
 use Rattle.std.proofs.lemmas.Option.{IfSome_then}
 use Rattle.paxos_msg.specs.declared.ballot.Ballot.{Ballot}
@@ -10,9 +11,9 @@ use Rattle.paxos_msg.specs.Batches.{Body, Msg, Record, Sent}
 use Rattle.paxos_msg.specs.Keys.{Key}
 use Rattle.paxos_msg.specs.Messages.{IsSaid, IsSent}
 use Rattle.paxos_acceptor.specs.Backed.{HasBackedVotes as IsVotesBacked}
-use Rattle.paxos_proposer.specs.Backed.{IsProposerBacked as IsProposerBacked, IsQuietUnder as IsQuietUnder}
+use Rattle.paxos_proposer.specs.Backed.{IsProposerBacked, IsQuietUnder}
 use Rattle.paxos_proposer.specs.Proposer.{Proposer}
-use Rattle.paxos_learner.specs.Backed.{IsLearnerBacked as IsLearnerBacked, Stays}
+use Rattle.paxos_learner.specs.Backed.{IsLearnerBacked, Stays}
 use Rattle.paxos_learner.specs.Learner.{Learner}
 use Rattle.group_node.specs.Known.{Known}
 use Rattle.group_node.specs.Backs.{Backs, HasPromised, IsLeadingBacked, IsRecordBacked}
@@ -34,11 +35,11 @@ pub record IsQuiet (me : ℕ) (r : Record) (sent more : Sent) : Type 0 where
 
 -- what was sent is sent still
 pub sent_still : (sent more : Sent) (i : ℕ) (body : Body) → IsSent sent i body → IsSent (sent ++ more) i body
-sent_still sent more i body h = Contains-append_left sent more (record { sender = i; body = body }) h
+sent_still sent more i body h = grind (arith, nat_tests, Contains-append_left)
 
 -- what was said is said still
 pub said_still : (sent more : Sent) (body : Body) → IsSaid sent body → IsSaid (sent ++ more) body
-said_still sent more body (i, h) = (i, sent_still sent more i body h)
+said_still sent more body h1 = grind (arith, nat_tests, sent_still)
 
 -- what was said after one message more was said before, or is what it says
 pub said_push : (sent : Sent) (j : ℕ) (body said : Body) → IsSaid (sent ++ record { sender = j; body = body } ∷ []) said
@@ -52,7 +53,7 @@ said_push sent j body said (i, h) =
 module _ (laws : BackingLaws) where
   -- a learner stays backed, whatever is sent
   pub learner_later : (sent more : Sent) (l : Learner) → IsLearnerBacked sent l → IsLearnerBacked (sent ++ more) l
-  learner_later sent more l h = laws.learner sent (sent ++ more) l (record { stays = sent_still sent more }) h
+  learner_later sent more l h = grind (arith, nat_tests, sent_still)
 
   -- a stored record stays backed
   pub record_later : (me : ℕ) (sent more : Sent) (r : Record) → IsQuiet me r sent more → IsRecordBacked sent me r

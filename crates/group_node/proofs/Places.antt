@@ -1,5 +1,6 @@
 -- What places give, one after another, goes into an outbox.
 use Rattle.std.proofs.Common.{◌≡◌, ◌∙◌, ℕ, zero, suc, ◌+◌, ◌≤◌, List, [], ◌∷◌, ◌++◌, length, take, Option, Some, None, is_some, true, false, refl, sym, ap, arith, add-zero, append_assoc, length-append}
+use Rattle.std.proofs.lemmas.Bool.Decides.{nat_tests}
 use Rattle.std.specs.List.{cons_option, filter_map, range_with_len}
 use Rattle.std.specs.Option.{option_to_list}
 use Rattle.std.proofs.lemmas.List.{map-append, take-append-le, take_all}
@@ -10,8 +11,7 @@ use Rattle.group_node.specs.Packets.{Datagram, Packet, datagram_of, datagrams_of
 -- ---- lists
 
 cons_append : {X : Type 0} (o : Option X) (xs ys : List X) → cons_option o (xs ++ ys) ≡ cons_option o xs ++ ys
-cons_append None xs ys = refl
-cons_append (Some x) xs ys = refl
+cons_append o xs ys = grind (arith, nat_tests)
 
 cons_nil : {X : Type 0} (o : Option X) → cons_option o [] ≡ option_to_list o
 cons_nil None = refl
@@ -33,12 +33,10 @@ range_parts a (suc n) zero few = absurd (omega arith)
 range_parts a (suc n) (suc m) few = let parts = range_parts (a + 1) n m (omega arith) in (parts.0, ap (λ (l : List ℕ). a ∷ l) parts.1)
 
 pub length_some : {X : Type 0} (o : Option X) → is_some o ≡ true → length (option_to_list o) ≡ 1
-length_some None e = absurd cc
-length_some (Some x) e = refl
+length_some o e = grind (arith, nat_tests)
 
 pub length_none : {X : Type 0} (o : Option X) → is_some o ≡ false → length (option_to_list o) ≡ 0
-length_none None e = refl
-length_none (Some x) e = absurd cc
+length_none o e = grind (arith, nat_tests)
 
 -- how many one place more gives
 pub counted_more : {X : Type 0} (f : ℕ → Option X) (a n s next : ℕ) → a + n ≡ s → next ≡ suc n
@@ -78,23 +76,16 @@ more_put {me} {f} {first} {before} {now} {then} {count} place next h here is pac
           ∙ ap (λ (l : List Packet). before ++ datagrams_of me l) (rw (is, ← here) (sym (one_more f first count)));
     }
 
--- of all, as the code counts them
-pub all_put : {me : Me} {f : ℕ → Option Packet} {first : ℕ} {start before now : List Datagram} {count many : ℕ}
-    → ArePut me f first before now count → before ≡ start → count ≡ many
-    → now ≡ start ++ datagrams_of me (filter_map f (range_with_len first many))
-all_put h same all = rw (← same, ← all) h.packets
-
 -- of this many places that most of what is to be put in is
 pub most_put : {me : Me} {f : ℕ → Option Packet} {first : ℕ} {before now : List Datagram} {count : ℕ} (many most : ℕ)
     → ArePut me f first before now count
     → count ≤ many → length (filter_map f (range_with_len first count)) ≡ most
     → now ≡ before ++ datagrams_of me (take most (filter_map f (range_with_len first many)))
-most_put {f = f} {first = first} {count = count} many most h few full = rw (first_give f first count many most few full) h.packets
+most_put many most h few full = grind (arith, nat_tests, first_give)
 
 -- of all, which are no more than that
 pub few_put : {me : Me} {f : ℕ → Option Packet} {first : ℕ} {before now : List Datagram} {count : ℕ} (many most : ℕ)
     → ArePut me f first before now count
     → count ≡ many → length (filter_map f (range_with_len first count)) ≤ most
     → now ≡ before ++ datagrams_of me (take most (filter_map f (range_with_len first many)))
-few_put {f = f} {first = first} {count = count} many most h all few =
-    rw (← all, take_all most (filter_map f (range_with_len first count)) few) h.packets
+few_put many most h all few = grind (arith, nat_tests, take_all)

@@ -1,24 +1,13 @@
 -- The proposals of a pump, one after another, are those of the definition.
-use Rattle.std.proofs.Common.{◌≡◌, ◌∙◌, ℕ, zero, suc, ◌+◌, ◌<◌, ◌≤◌, List, [], ◌∷◌, ◌++◌, length, Option, Some, None, option_map, IsSome, refl, sym, ap, arith, append_assoc, length-append}
+use Rattle.std.proofs.Common.{◌≡◌, ◌∙◌, ℕ, zero, suc, ◌+◌, ◌<◌, ◌≤◌, List, [], ◌∷◌, ◌++◌, length, Option, Some, None, IsSome, refl, sym, ap, arith, append_assoc, length-append}
 use Rattle.std.proofs.lemmas.List.{append-nil, map-append}
 use Rattle.std.proofs.lemmas.Bool.Decides.{nat_tests}
 use Rattle.paxos_msg.specs.declared.value.Value.{Value}
-use Rattle.paxos_msg.specs.declared.message.Body.TheVariants.{Accept}
 use Rattle.paxos_msg.specs.Batches.{Vote}
-use Rattle.paxos_msg.specs.Fits.{IsBody}
 use Rattle.paxos_acceptor.specs.declared.me.Me.{Me}
-use Rattle.paxos_proposer.specs.Proposer.{Proposer, next_of, next_value, proposal, proposing}
+use Rattle.paxos_proposer.specs.Proposer.{Proposer, next_value, proposal, proposing}
 use Rattle.group_node.specs.Packets.{Datagram, datagrams_of}
 use Rattle.group_node.specs.Pump.{accepts_of, propose, pump, stop}
-
--- the Accept of a proposal has a spelling, where that of each value that may be proposed has one
-pub proposal_fits : {size node : ℕ} (p : Proposer) (o : Option Value) (vote : Vote)
-    → ((v : Value) → o ≡ Some v → IsBody size node (Accept p.ballot (next_of p) v))
-    → Some vote ≡ option_map (proposal p) o → IsBody size node (Accept vote.ballot vote.place vote.value)
-proposal_fits p None vote fits e = absurd cc
-proposal_fits {size} {node} p (Some v) vote fits e =
-    let is : vote ≡ proposal p v = cc in
-    rw is (fits v refl)
 
 -- the Accepts of some proposals and of more, as datagrams
 pub accepts_append : (me : Me) (made more : List Vote)
@@ -59,8 +48,7 @@ pump_some left p v e = (rw e refl, rw e refl)
 -- a pump that finds none
 pump_none : (left : ℕ) (p : Proposer) → next_value p None ≡ None → ((pump left p).proposer ≡ p) × ((pump left p).made ≡ [])
 unfolding pump
-pump_none zero p e = (refl, refl)
-pump_none (suc left) p e = (rw e refl, rw e refl)
+pump_none left p e = grind (arith, nat_tests)
 
 -- one more
 more : {me : Me} {began p : Proposer} {before now : List Datagram} {count : ℕ} (v : Value)
@@ -97,22 +85,14 @@ pub record IsPumped (me : Me) (began : Proposer) (before now : List Datagram) (c
 -- it is over where nothing is left to propose
 over : {me : Me} {began p : Proposer} {before now : List Datagram} {count : ℕ} (h : IsPumping me began before now count p)
     → ((pump h.left p).proposer ≡ p) × ((pump h.left p).made ≡ []) → IsPumped me began before now count p
-over {me} {began} {p} {before} {now} {count} h none =
-    let made : (pump 16 began).made ≡ h.made = h.proposals ∙ ap (λ (votes : List Vote). h.made ++ votes) none.1 ∙ append-nil h.made in
-    record {
-      proposer = sym (h.proposer ∙ none.0);
-      packets = rw made h.packets;
-      counted = rw made (sym h.counted);
-    }
+over h none = grind (arith, nat_tests, append-nil)
 
 -- where no value is found, as the code says
 pub over_none : {me : Me} {began p q : Proposer} {before now then : List Datagram} {count : ℕ} (o : Option Value)
     → IsPumping me began before now count p
     → next_value p None ≡ o → o ≡ None → q ≡ (propose p o stop).proposer
     → then ≡ now ++ datagrams_of me (accepts_of (propose p o stop).made) → IsPumped me began before then count q
-over_none {me} {began} {p} {q} {before} {now} {then} {count} None h e none proposer packets =
-    rw (proposer, packets ∙ append-nil now) (over h (pump_none h.left p e))
-over_none (Some v) h e none proposer packets = absurd cc
+over_none o h e none proposer packets = grind (arith, nat_tests, append-nil, over, pump_none)
 
 -- where 16 were made
 pub over_all : {me : Me} {began p : Proposer} {before now : List Datagram} {count : ℕ}
@@ -128,5 +108,4 @@ pub pumping_more : {me : Me} {began p q : Proposer} {before now then : List Data
     → next_value p None ≡ o → IsSome o → q ≡ (propose p o stop).proposer
     → then ≡ now ++ datagrams_of me (accepts_of (propose p o stop).made)
     → IsPumping me began before then (count + 1) q
-pumping_more None h few e some proposer packets = absurd cc
-pumping_more (Some v) h few e some proposer packets = rw (proposer, packets) (more v h few e)
+pumping_more o h few e some proposer packets = grind (arith, nat_tests, more)

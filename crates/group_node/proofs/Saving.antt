@@ -1,5 +1,6 @@
 -- A record after a save.
-use Rattle.std.proofs.Common.{◌≡◌, ℕ, Option, Some, None, IfSome, IsSomeAnd, inl, inr, refl, arith}
+use Rattle.std.proofs.Common.{◌≡◌, ℕ, Option, Some, None, IfSome, IsSomeAnd, inl, inr, arith}
+use Rattle.std.proofs.lemmas.Bool.Decides.{nat_tests}
 use Rattle.paxos_msg.specs.declared.ballot.Ballot.{Ballot}
 use Rattle.paxos_msg.specs.Ballots.{IsAtMost}
 use Rattle.paxos_msg.specs.Batches.{Change, Record, Sent}
@@ -21,23 +22,11 @@ pub record RecordLaws : Type 0 where
   pub saved : (sent : Sent) (r : Record) (change : Change) → IsVotesBacked sent r → MaySave sent r change
       → IsVotesBacked sent (changed r change)
 
--- what is at most a ballot is at most a greater one
-above_still : (o : Option Ballot) (b p : Ballot) → IsAtMost b p → IsSomeAnd o (λ q. IsAtMost p q) → IsSomeAnd o (λ q. IsAtMost b q)
-above_still None b p low high = high
-above_still (Some q) b p low high = grind arith
-
 module _ (law : RaisingLaw) (sent : Sent) (r : Record) where
-  -- a promised ballot is so after a save that may be made
-  promised_by : (change : Change) (b : Ballot) (o : Option Ballot) → MaySave sent r change → r.promised ≡ o
-      → IsSomeAnd o (λ p. IsAtMost b p) → HasPromised (changed r change) b
-  promised_by change b None may e h = elim h [ ]
-  promised_by change b (Some p) may e h = above_still (changed r change).promised b p h (law.raises sent r change p may e)
-
   -- and after one that may be made, if there is one
   pub promised_still : (saves : Option Change) (b : Ballot) → IfSome saves (MaySave sent r) → HasPromised r b
       → HasPromised (after r saves) b
-  promised_still None b may h = h
-  promised_still (Some change) b may h = promised_by change b r.promised may refl h
+  promised_still saves b may h = grind (arith, nat_tests)
 
 -- a save keeps a stored record backed
 pub record_saved : RecordLaws → (sent : Sent) (me : ℕ) (r : Record) (change : Change) → IsRecordBacked sent me r

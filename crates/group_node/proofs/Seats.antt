@@ -1,15 +1,15 @@
 -- A group in which one node's seat has changed.
-use Rattle.std.proofs.Common.{◌≡◌, ◌≢◌, ℕ, Bool, if◌then◌else◌, [], refl, sym, ap, append-nil}
-use Rattle.std.proofs.lemmas.Bool.{eq-eqb, ne_eqb}
+use Rattle.std.proofs.Common.{◌≡◌, ◌≢◌, ℕ, [], refl, sym, append-nil, arith}
+use Rattle.std.proofs.lemmas.Bool.Decides.{nat_tests}
 use Rattle.group_node.specs.World.{ChangesOnly, Seat, with_seat, WorldState}
 
 -- the seat of that node is the new one
 pub seat_here : (w : WorldState) (i : ℕ) (seat : Seat) → (with_seat w i seat).seats i ≡ seat
-seat_here w i seat = ap (λ (t : Bool). if t then seat else w.seats i) (eq-eqb i i refl)
+seat_here w i seat = grind (arith, nat_tests)
 
 -- the others are as they were
 pub seat_elsewhere : (w : WorldState) (i : ℕ) (seat : Seat) (j : ℕ) → j ≢ i → (with_seat w i seat).seats j ≡ w.seats j
-seat_elsewhere w i seat j ne = ap (λ (t : Bool). if t then seat else w.seats j) (ne_eqb j i ne)
+seat_elsewhere w i seat j ne = grind (arith, nat_tests)
 
 -- nothing was sent or typed
 pub seat_alone : (w : WorldState) (i : ℕ) (seat : Seat) → ChangesOnly w (with_seat w i seat) i [] []

@@ -1,20 +1,30 @@
--- Packets that propose nothing new.
-use Rattle.std.proofs.Common.{◌≡◌, ◌↔◌, ℕ, ◌⊎◌, List, [], ◌∷◌, ◌++◌, Option, All, inl, inr, append_assoc}
+-- What a node may send, after which it is backed: packets that propose nothing new, proposals, and
+-- the calls that its proposer answers.
+use Rattle.std.proofs.Common.{◌≡◌, ◌↔◌, ℕ, ◌⊎◌, List, [], ◌∷◌, ◌++◌, Option, All, inl, inr, append_assoc, arith, zero, suc, Some, None, IfSome, refl, subst}
+use Rattle.std.proofs.lemmas.Bool.Decides.{nat_tests}
 use Rattle.std.proofs.lemmas.List.{append-nil, map-append}
 use Rattle.std.proofs.lemmas.List.Elements.{All-head, All-tail, All-map, All-contains, All-weaker, Contains-append_cases}
 use Rattle.std.specs.FinMap.{get}
 use Rattle.paxos_msg.specs.declared.ballot.Ballot.{Ballot}
 use Rattle.paxos_msg.specs.declared.value.Value.{Value}
 use Rattle.paxos_msg.specs.declared.message.Body.TheVariants.{Accept, Prepare}
-use Rattle.paxos_msg.specs.Batches.{Body, MaySend, MaySendAll, Msg, Record, Sent}
+use Rattle.paxos_msg.specs.Batches.{Body, MaySend, MaySendAll, Msg, Record, Sent, IsFree}
 use Rattle.paxos_msg.specs.Keys.{Key}
 use Rattle.paxos_msg.specs.Messages.{IsSaid, messages_of}
 use Rattle.paxos_msg.specs.Sending.{IsNoNewProposal, KnowsMore}
-use Rattle.group_node.specs.Backs.{Backs, HasPromised}
-use Rattle.group_node.specs.Known.{Known}
+use Rattle.group_node.specs.Backs.{Backs, HasPromised, IsRecordBacked, IsLeadingBacked}
+use Rattle.group_node.specs.Known.{Known, quiet}
 use Rattle.group_node.specs.Packets.{Packet, bodies_of}
-use Rattle.group_node.specs.Steps.{messages_handed_out}
-use Rattle.group_node.proofs.NodeBackedAsMoreIsSent.{backs_later, BackingLaws, IsQuiet}
+use Rattle.group_node.specs.Steps.{messages_handed_out, IsLawful}
+use Rattle.paxos_msg.specs.Ballots.{IsAtMost}
+use Rattle.paxos_proposer.specs.Backed.{IsProposerBacked}
+use Rattle.paxos_proposer.specs.Proposer.{Proposer, next_of, next_value, proposing}
+use Rattle.group_node.specs.Pump.{accepts_of, offer, Proposals, propose, pump, stop}
+use Rattle.group_node.specs.declared.packet.To.{To}
+use Rattle.group_node.specs.Ranges.{IsInRange}
+use Rattle.group_node.proofs.NodeBackedAsMoreIsSent.{backs_later, BackingLaws, IsQuiet, learner_later, said_push}
+
+-- ---- packets that propose nothing new
 
 -- The laws of the crates below: also, what may be sent and is no new proposal may be sent still as
 -- more is sent, and what may be sent in two halves may be sent as one.
@@ -57,7 +67,7 @@ pub record Goes (by : Sender) (sent : Sent) (packets : List Packet) (n : Known) 
 
 -- who knows the same knows more
 knows_same : (typed : List Key) (learned : ℕ → Option Value) → KnowsMore typed typed learned learned
-knows_same typed learned = record { keys = λ key h. h; values = λ s v e. e }
+knows_same typed learned = grind (arith, nat_tests)
 
 -- a packet as a message
 abbrev message_of : Sender → Packet → Msg
@@ -86,8 +96,7 @@ IsAsked r other = Unit {0}
 -- the rules ask that of what may be sent
 may_ask : (r : Record) (typed : List Key) (learned : ℕ → Option Value) (sent : Sent) (i size : ℕ) (body : Body)
     → MaySend size typed learned sent i r body → IsAsked r body
-may_ask r typed learned sent i size (Prepare b from) may = may.1
-may_ask r typed learned sent i size other may = tt
+may_ask r typed learned sent i size body may = grind (arith, nat_tests)
 
 module _ (laws : SendingLaws) (by : Sender) (sent : Sent) where
   -- they may be sent one after another, after more was sent
@@ -152,3 +161,148 @@ stable_goes laws sent typed n packets h all = record {
       backs_later laws.backing sent (messages_handed_out n.me.node packets) typed n
       (stable_quiet laws (sender_of typed n) sent packets all) h;
 }
+
+-- ---- proposals
+
+-- The laws of the crates below: also, what a proposer proposes may be sent, and then it is backed
+-- again.
+pub record ProposingLaws : Type 0 where
+  pub sending : SendingLaws
+  pub proposes : (typed : List Key) (learned : ℕ → Option Value) (sent : Sent) (me : ℕ) (r : Record) (p : Proposer)
+      (offered : Option Value) (v : Value) → IsProposerBacked sent me p → IfSome offered (IsFree sent)
+      → next_value p offered ≡ Some v → MaySend p.size typed learned sent me r (Accept p.ballot (next_of p) v)
+  pub proposed : (sent : Sent) (me : ℕ) (p : Proposer) (v : Value) → IsProposerBacked sent me p
+      → IsProposerBacked (sent ++ record { sender = me; body = Accept p.ballot (next_of p) v } ∷ []) me
+      (proposing p (Some v))
+
+-- the node with this proposer
+abbrev pub leading : Known → Proposer → Known
+leading n p = record n { proposer = Some p }
+
+-- a ballot is at most itself
+pub at_most_same : (b : Ballot) → IsAtMost b b
+at_most_same b = inr (refl, omega arith)
+
+-- the promised ballot has been promised
+pub promised_same : (r : Record) (b : Ballot) → r.promised ≡ Some b → HasPromised r b
+promised_same r b e = rw e (at_most_same b)
+
+-- proposals that may be sent, after which the node is backed, and its proposer is of its group
+pub record Proposes (typed : List Key) (n : Known) (sent : Sent) (proposals : Proposals) : Type 0 where
+  pub goes : Goes (sender_of typed n) sent (accepts_of proposals.made) (leading n proposals.proposer)
+  pub size : proposals.proposer.size ≡ n.me.group.size
+
+module _ (laws : ProposingLaws) (typed : List Key) (n : Known) where
+  -- one Accept more under the promised ballot keeps the stored record backed
+  record_backed : (sent : Sent) (p : Proposer) (s : ℕ) (v : Value) → n.kept.promised ≡ Some p.ballot → IsRecordBacked sent n.me.node n.kept
+      → IsRecordBacked (sent ++ record { sender = n.me.node; body = Accept p.ballot s v } ∷ []) n.me.node n.kept
+  record_backed sent p s v promised h = record {
+    votes = laws.sending.backing.votes sent (record { sender = n.me.node; body = Accept p.ballot s v } ∷ []) n.kept h.votes;
+    asked = λ b from mine said. elim (said_push sent n.me.node (Accept p.ballot s v) (Prepare b from) said) [
+      | inl old ↦ h.asked b from mine old
+      | inr e ↦ absurd cc
+    ];
+    own = λ b t w mine said. elim (said_push sent n.me.node (Accept p.ballot s v) (Accept b t w) said) [
+      | inl old ↦ h.own b t w mine old
+      | inr e ↦ let same : p.ballot ≡ b = cc in subst (HasPromised n.kept) same (promised_same n.kept p.ballot promised)
+    ];
+  }
+
+  -- a node is backed once its proposal is sent
+  proposing_backed : (sent : Sent) (p : Proposer) (v : Value) → Backs sent typed (leading n p)
+      → Backs (sent ++ record { sender = n.me.node; body = Accept p.ballot (next_of p) v } ∷ []) typed (leading n (proposing p (Some v)))
+  proposing_backed sent p v h = record {
+    kept = record_backed sent p (next_of p) v h.proposer.promised h.kept;
+    proposer = record { backed = laws.proposed sent n.me.node p v h.proposer.backed; promised = h.proposer.promised };
+    learner =
+        learner_later laws.sending.backing sent
+        (record { sender = n.me.node; body = Accept p.ballot (next_of p) v } ∷ []) n.learner h.learner;
+    waiting = h.waiting;
+  }
+
+  -- no proposal
+  pub stop_goes : (sent : Sent) (p : Proposer) → p.size ≡ n.me.group.size → Backs sent typed (leading n p) → Proposes typed n sent (stop p)
+  stop_goes sent p size h = grind (arith, nat_tests, append-nil)
+
+  -- what goes on from each proposer that is backed
+  abbrev GoesOn : (Proposer → Proposals) → Type 0
+  GoesOn go_on = (sent : Sent) (p : Proposer) → p.size ≡ n.me.group.size → Backs sent typed (leading n p) → Proposes typed n sent (go_on p)
+
+  -- a proposal, if there is one, and what goes on after it
+  propose_goes : (sent : Sent) (p : Proposer) (offered o : Option Value) (go_on : Proposer → Proposals)
+      → IfSome offered (IsFree sent) → next_value p offered ≡ o → GoesOn go_on → p.size ≡ n.me.group.size
+      → Backs sent typed (leading n p)
+      → Proposes typed n sent (propose p o go_on)
+  propose_goes sent p offered None go_on free e goes size h = stop_goes sent p size h
+  propose_goes sent p offered (Some v) go_on free e goes size h =
+      let m : Msg = record { sender = n.me.node; body = Accept p.ballot (next_of p) v } in
+      let rest = goes (sent ++ m ∷ []) (proposing p (Some v)) size (proposing_backed sent p v h) in
+      let by = sender_of typed n in
+      let may : MaySend p.size typed by.learned sent n.me.node n.kept m.body =
+      laws.proposes typed by.learned sent n.me.node n.kept p offered v h.proposer.backed free e in
+      record {
+        goes = record {
+          sends = (subst (λ (group : ℕ). MaySend group typed by.learned sent n.me.node n.kept m.body) size may, rest.goes.sends);
+          backs =
+              rw (append_assoc sent (m ∷ [])
+              (messages_handed_out n.me.node (accepts_of (go_on (proposing p (Some v))).made))) at rest.goes.backs;
+        };
+        size = rest.size;
+      }
+
+  -- a pump
+  pub pump_goes : (k : ℕ) → GoesOn (pump k)
+  unfolding pump
+  pump_goes zero sent p size h = stop_goes sent p size h
+  pump_goes (suc k) sent p size h = propose_goes sent p None (next_value p None) (pump k) tt refl (pump_goes k) size h
+
+  -- an offer
+  pub offer_goes : (sent : Sent) (p : Proposer) (v : Value) → IsFree sent v → p.size ≡ n.me.group.size
+      → Backs sent typed (leading n p) → Proposes typed n sent (offer p v)
+  offer_goes sent p v free size h = propose_goes sent p (Some v) (next_value p (Some v)) stop free refl stop_goes size h
+
+-- ---- calls
+
+-- a call that sends, and changes nothing but the proposer and what it has offered
+pub led_lawful : {sent : Sent} {typed : List Key} {n : Known} {o : Option Proposer} {packets : List Packet} (offered : List Key)
+    → Backs sent typed n → Goes (sender_of typed n) sent packets (record n { proposer = o })
+    → IsLawful sent typed n.kept n.learner.learned
+    (record { node = record n { proposer = o; offered = offered }; saves = None; sends = packets })
+led_lawful offered h goes = grind (arith, nat_tests)
+
+-- a call that sends, and changes nothing
+pub sent_lawful : {sent : Sent} {typed : List Key} {n : Known} {packets : List Packet} → Backs sent typed n
+    → Goes (sender_of typed n) sent packets n
+    → IsLawful sent typed n.kept n.learner.learned (record { node = n; saves = None; sends = packets })
+sent_lawful {n = n} h goes = led_lawful n.offered h goes
+
+-- a call that does nothing
+pub quiet_lawful : {sent : Sent} {typed : List Key} {n : Known} → Backs sent typed n
+    → IsLawful sent typed n.kept n.learner.learned (quiet n)
+quiet_lawful h = grind (arith, nat_tests, sent_lawful, append-nil)
+
+-- a proposer of the node's that is backed, and is of its group
+pub record IsSound (sent : Sent) (n : Known) (p : Proposer) : Type 0 where
+  pub led : IsLeadingBacked sent n.me.node n.kept p
+  pub size : p.size ≡ n.me.group.size
+
+module _ {sent : Sent} {typed : List Key} {n : Known} (h : Backs sent typed n) where
+  -- the node's proposer, if it has one, is backed and of its group
+  pub sound : IsInRange n → (p : Proposer) → n.proposer ≡ Some p → IsSound sent n p
+  sound ranges p e = grind (arith, nat_tests)
+
+  -- a node with such a proposer is backed
+  pub leading_backs : (p : Proposer) → IsSound sent n p → Backs sent typed (leading n p)
+  leading_backs p g = grind (arith, nat_tests)
+
+  -- its Prepares may be sent
+  pub prepare_stable : (p : Proposer) → IsSound sent n p → (to : To) (from : ℕ)
+      → IsStable (sender_of typed n) sent (record { to = to; body = Prepare p.ballot from })
+  prepare_stable p g to from = grind (arith, nat_tests)
+
+  -- packets that propose nothing new, and then a pump
+  pub then_pump : ProposingLaws → (p : Proposer) (before : List Packet) → IsSound sent n p → All (IsStable (sender_of typed n) sent) before
+      → Goes (sender_of typed n) sent (before ++ accepts_of (pump 16 p).made) (leading n (pump 16 p).proposer)
+  then_pump laws p before g stable =
+      let first = stable_goes laws.sending sent typed (leading n p) before (leading_backs p g) stable in
+      goes_on laws.sending first (pump_goes laws typed n 16 _ p g.size first.backs).goes

@@ -1,5 +1,5 @@
 -- The keys of characters that wait.
-use Rattle.std.proofs.Common.{◌≡◌, ◌↔◌, IsTrue, Bool, true, false, if◌then◌else◌, ℕ, zero, suc, ◌+◌, List, [], ◌∷◌, ◌++◌, length, take, drop, All, Contains, refl, sym, arith, subst, add-zero, Some, None}
+use Rattle.std.proofs.Common.{◌≡◌, ◌↔◌, IsTrue, Bool, true, false, if◌then◌else◌, ℕ, zero, suc, ◌+◌, List, [], ◌∷◌, ◌++◌, length, take, drop, All, Contains, refl, sym, arith, subst, add-zero, Some}
 use Rattle.std.proofs.lemmas.List.{take-append-drop}
 use Rattle.std.proofs.lemmas.List.Elements.{All-nil, All-cons, All-contains, Contains-append_left, Contains-append_right}
 use Rattle.std.proofs.lemmas.Bool.Decides.{nat_tests}
@@ -55,15 +55,7 @@ last_keys node start serial n xs key h =
 pub batch_typed : (typed : List Key) (node start serial x : ℕ) (xs : List ℕ)
     → ((key : Key) → Contains (keys_from node start serial (x ∷ xs)) key → Contains typed key)
     → IsTyped typed node (Keys node start serial (x ∷ xs))
-batch_typed typed node start serial x xs h = record {
-  own = record {
-    has_key = λ e. absurd (cc);
-    at_node =
-        λ key has. All-contains (λ (k : Key). k.node ≡ node) (keys_from node start serial (x ∷ xs)) key
-        (keys_own node start serial (x ∷ xs)) has;
-  };
-  known = h;
-}
+batch_typed typed node start serial x xs h = grind (arith, nat_tests, All-contains, keys_own)
 
 -- ---- keys that are read
 
@@ -133,8 +125,3 @@ batch_first n [] v e = absurd cc
 batch_first n (x ∷ xs) v e =
     let is : own_batch n n.first (take 32 (x ∷ xs)) ≡ v = cc in
     rw (← is) (keys_from-take n.me.node n.kept.starts n.first 32 (x ∷ xs))
-
--- and where there is no batch none waits
-pub no_batch : (n : Known) (bytes : List ℕ) → batch_of n bytes ≡ None → keys_from n.me.node n.kept.starts n.first bytes ≡ []
-no_batch n [] e = refl
-no_batch n (x ∷ xs) e = absurd cc

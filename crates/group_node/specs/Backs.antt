@@ -8,9 +8,9 @@ use Rattle.paxos_msg.specs.Batches.{Record, Sent}
 use Rattle.paxos_msg.specs.Keys.{Key}
 use Rattle.paxos_msg.specs.Messages.{IsSaid}
 use Rattle.paxos_acceptor.specs.Backed.{HasBackedVotes as IsVotesBacked}
-use Rattle.paxos_proposer.specs.Backed.{IsProposerBacked as IsProposerBacked}
+use Rattle.paxos_proposer.specs.Backed.{IsProposerBacked}
 use Rattle.paxos_proposer.specs.Proposer.{Proposer}
-use Rattle.paxos_learner.specs.Backed.{IsLearnerBacked as IsLearnerBacked}
+use Rattle.paxos_learner.specs.Backed.{IsLearnerBacked}
 use Rattle.group_node.specs.Known.{Known, waiting_keys}
 
 -- The claim that a record has promised this ballot or a greater one.

@@ -9,7 +9,7 @@ use Rattle.paxos_msg.specs.Chosen.{IsChosen}
 use Rattle.paxos_msg.specs.Keys.{Key}
 use Rattle.paxos_msg.specs.Messages.{IsSaid, IsSent, messages_of}
 use Rattle.paxos_msg.specs.Records.{changed, MaySave}
-use Rattle.paxos_learner.specs.Backed.{IsLearnerBacked as IsLearnerBacked}
+use Rattle.paxos_learner.specs.Backed.{IsLearnerBacked}
 use Rattle.paxos_learner.specs.Learner.{HasLearnedMore}
 use Rattle.group_node.specs.Known.{Response, Known}
 use Rattle.group_node.specs.Packets.{Packet, bodies_of}

@@ -1,29 +1,16 @@
-use Rattle.std.proofs.Common.{◌≡◌, ◌∙◌, None, true, false, refl, sym, arith}
+use Rattle.std.proofs.Common.{◌≡◌, None, true, false, refl, arith}
+use Rattle.std.proofs.lemmas.Bool.Decides.{nat_tests}
 use Rattle.paxos_proposer.specs.Proposer.{next_value}
 use Rattle.group_node.proofs.Pumping.{IsPumped, over_all, over_none, pumping_more, pumping_none}
 use Rattle.group_node.proofs.pump.pump.Goals as goal
 
 pub loop-made-init : goal.loop-made-init
-loop-made-init c = record {
-  own = c.requires.own;
-  sure = omega arith;
-  ready = omega arith;
-  room = omega arith;
-  pumping = pumping_none c.args.me c.args.proposer.now.known c.args.outbox.now.packets;
-}
+loop-made-init c = grind (arith, nat_tests, pumping_none)
 
 pub loop-made-preserved : goal.loop-made-preserved
 loop-made-preserved c =
-    let i = c.loop-made.invariant in
-    record {
-      own = c.propose.ensures.own;
-      sure = omega (arith, i.sure, c.propose.ensures.sure);
-      ready = omega (arith, i.ready, c.propose.ensures.grows.ready);
-      room = omega (arith, i.room, c.propose.ensures.grows.few);
-      pumping =
-          pumping_more (next_value c.loop-made.proposer.known None) i.pumping c.loop-made-test.true refl
-          (c.propose.ensures.some c.if-not-propose.false) c.propose.ensures.known c.propose.ensures.packets;
-    }
+    let e = c.propose.ensures in
+    grind (arith, nat_tests, pumping_more, e.own, e.sure, e.grows.ready, e.grows.few, e.some, e.known, e.packets)
 
 -- what was proposed where no value is found
 stopped : (c : goal.Then-not-propose)
@@ -56,6 +43,4 @@ pub returns-clause-packets : goal.returns-clause-packets
 returns-clause-packets c = (full c).packets
 
 pub returns-clause-made : goal.returns-clause-made
-returns-clause-made c =
-    let all : c.loop-made.made ≡ 16 = omega (arith, c.loop-made-test.false, c.loop-made.auto.made-end) in
-    sym all ∙ (full c).counted
+returns-clause-made c = grind (arith, nat_tests, full)

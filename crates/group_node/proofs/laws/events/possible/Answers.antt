@@ -1,19 +1,226 @@
--- The node of `Possible`, with the laws of the crates below.
-use Rattle.group_node.proofs.PossibleNode.{a_node_leads}
+-- A node that leads, with a key that waits and was offered, a kept vote and a tally.
+use Rattle.std.proofs.Common.{◌≡◌, ◌∙◌, ℕ, zero, suc, inr, List, [], ◌∷◌, ◌++◌, length, None, Some, refl, sym, subst, arith}
+use Rattle.std.specs.FinMap.{empty, entries, get, get-empty, insert, len-empty, len-entries}
+use Rattle.std.specs.Ordering.{nat_cmp}
+use Rattle.std.proofs.lemmas.Bool.Decides.{nat_tests}
+use Rattle.paxos_msg.specs.declared.ballot.Ballot.{Ballot}
+use Rattle.paxos_msg.specs.declared.value.Value.{Value}
+use Rattle.paxos_msg.specs.declared.value.Value.TheVariants.{Keys, Noop}
+use Rattle.paxos_msg.specs.declared.message.Body.TheVariants.{Accept, Accepted, Prepare, Promise}
+use Rattle.paxos_msg.specs.Batches.{Sent, Vote}
+use Rattle.paxos_msg.specs.Fits.{IsBallot, IsBody, IsValue}
+use Rattle.paxos_msg.specs.Grammar.{AreBytes}
+use Rattle.paxos_msg.specs.Keys.{Key}
+use Rattle.paxos_msg.specs.Messages.{IsSaid}
+use Rattle.paxos_proposer.specs.Backed.{IsProposerBacked, IsQuietUnder}
+use Rattle.paxos_proposer.specs.Proposer.{proposer_after_part, new_proposer, Proposer, proposing}
+use Rattle.paxos_proposer.specs.States.{IsProposerInRange}
+use Rattle.paxos_learner.specs.Backed.{IsLearnerBacked}
+use Rattle.paxos_learner.specs.Learner.{IsLearnerInRange, Hearing, Learner, new_learner, heard_accepted}
+use Rattle.paxos_learner.specs.Tallies.{Tally, begun_tally as heard_of}
+use Rattle.paxos_learner.specs.declared.heard.Heard.TheVariants.{Counted}
+use Rattle.paxos_learner.proofs.OnePlace.{get_here}
+use Rattle.group_node.specs.Backs.{Backs, HasPromised}
+use Rattle.group_node.specs.Known.{Known}
+use Rattle.group_node.specs.Ranges.{IsInRange}
 use Rattle.group_node.proofs.laws.events.possible.Goals as goal
 
+-- ---- the group, and what was sent in it
+
+-- a ballot of node 2
+abbrev low : Ballot
+low = record { round = 1; node = 2 }
+
+-- a greater one of node 1
+abbrev b : Ballot
+b = record { round = 2; node = 1 }
+
+-- a key that was typed at node 1
+abbrev typed_key : Key
+typed_key = record { node = 1; start = 1; serial = 1; byte = 65 }
+
+-- it as a batch
+abbrev batch : Value
+batch = Keys 1 1 1 (65 ∷ [])
+
+-- a vote of node 3 at place 1
+abbrev vote : Vote
+vote = record { place = 1; ballot = low; value = Noop }
+
+-- node 1 asks for promises, and all give theirs; node 3 reports its vote
+abbrev asked : Sent
+asked = record { sender = 1; body = Prepare b 0 } ∷ record { sender = 1; body = Promise b 0 65536 [] }
+    ∷ record { sender = 2; body = Promise b 0 65536 [] } ∷ record { sender = 3; body = Promise b 0 65536 (vote ∷ []) } ∷ []
+
+-- node 1 proposes the key at place 0
+abbrev proposed : Sent
+proposed = asked ++ record { sender = 1; body = Accept b 0 batch } ∷ []
+
+-- and node 2 accepts it
+abbrev sent : Sent
+sent = proposed ++ record { sender = 2; body = Accepted b 0 batch } ∷ []
+
+-- ---- node 1
+
+-- its proposer: as it begins, after the promises of nodes 1 and 2, after its proposal, and after
+-- the promise of node 3
+abbrev p_1 : Proposer
+p_1 = proposer_after_part (new_proposer b 0 3) 1 0 65536 []
+
+abbrev p_2 : Proposer
+p_2 = proposer_after_part p_1 2 0 65536 []
+
+abbrev p_3 : Proposer
+p_3 = proposing p_2 (Some batch)
+
+abbrev p : Proposer
+p = proposer_after_part p_3 3 0 65536 (vote ∷ [])
+
+-- what it has heard of place 0
+abbrev tally : Tally
+tally = heard_of 2 b batch
+
+-- its learner
+abbrev l : Learner
+l = record { size = 3; learned = empty; tallies = insert empty 0 tally }
+
+-- what it knows: it leads, has offered the key that waits, keeps the vote at place 1, and has heard
+-- one node accept the key
+abbrev n : Known
+n = record {
+  me = record { node = 1; group = record { size = 3; session = 0 } };
+  kept = record { starts = 1; promised = Some b; votes = [] };
+  learner = l;
+  proposer = Some p;
+  remembered = None;
+  offered = typed_key ∷ [];
+  waiting = 65 ∷ [];
+  first = 1;
+}
+
+-- ---- what was sent
+
+-- before the proposal nothing was proposed
+unsaid : (s : ℕ) (v : Value) → IsSaid asked (Accept b s v) → ⊥
+unsaid s v (i, h) = grind (arith, nat_tests)
+
+-- all was asked and proposed under the one ballot
+asked_under : (c : Ballot) (from : ℕ) → IsSaid sent (Prepare c from) → c ≡ b
+asked_under c from (i, h) = grind (arith, nat_tests)
+
+proposed_under : (c : Ballot) (s : ℕ) (v : Value) → IsSaid sent (Accept c s v) → c ≡ b
+proposed_under c s v (i, h) = grind (arith, nat_tests)
+
+-- the record has promised it
+is_promised : (c : Ballot) → c ≡ b → HasPromised n.kept c
+is_promised c e = rw e (inr (refl, omega arith))
+
+-- what came after the proposal proposes nothing
+quiet : IsQuietUnder b proposed sent
+quiet = grind (arith, nat_tests)
+
+-- ---- what its learner hears
+
+no_entries : {X : Type 0} (xs : List X) → length xs ≡ 0 → xs ≡ []
+no_entries [] e = refl
+no_entries (x ∷ xs) e = absurd (omega arith)
+
+entries_none : entries (empty {X = Value} {R = nat_cmp}) ≡ []
+entries_none = no_entries (entries empty) (sym (len-entries empty) ∙ len-empty nat_cmp Value)
+
+value_none : get (empty {X = Value} {R = nat_cmp}) 0 ≡ None
+value_none = get-empty nat_cmp 0
+
+tally_none : get (empty {X = Tally} {R = nat_cmp}) 0 ≡ None
+tally_none = get-empty nat_cmp 0
+
+heard_one : heard_accepted (new_learner 3) 2 b 0 batch ≡ record { learner = l; answer = Counted }
+heard_one = rw (value_none, entries_none, tally_none) refl
+
+-- ---- ranges
+
+ballot_fits : IsBallot 3 b
+ballot_fits = ((omega arith, omega arith), (omega arith, omega arith))
+
+one_byte : AreBytes (65 ∷ [])
+one_byte zero = omega arith
+one_byte (suc i) = omega arith
+
+batch_fits : IsValue 3 batch
+batch_fits = grind (arith, nat_tests)
+
+part_body : (j : ℕ) → IsBody 3 j (Promise b 0 65536 [])
+part_body j = grind (arith, nat_tests, ballot_fits)
+
+vote_body : IsBody 3 3 (Promise b 0 65536 (vote ∷ []))
+vote_body = grind (arith, nat_tests)
+
+module _ (c : goal.After-window_holds) where
+  -- ---- the proposer
+
+  p_1_backed : IsProposerBacked asked 1 p_1
+  p_1_backed =
+      c.parts_keep_it_backed.ensures asked 1 1 0 65536 (new_proposer b 0 3) [] (c.begins_backed.ensures asked b 0 3 unsaid)
+      (omega arith) (part_body 1) (1, omega arith, refl)
+
+  p_3_backed : IsProposerBacked proposed 1 p_3
+  p_3_backed =
+      c.proposals_may_be_sent.ensures.backed asked 1 p_2 batch
+      (c.parts_keep_it_backed.ensures asked 1 2 0 65536 p_1 [] p_1_backed (omega arith) (part_body 2) (2, omega arith, refl))
+
+  p_backed : IsProposerBacked sent 1 p
+  p_backed =
+      c.stays_backed.ensures proposed sent 1 p quiet
+      (c.parts_keep_it_backed.ensures proposed 1 3 0 65536 p_3 (vote ∷ []) p_3_backed (omega arith) vote_body (3, omega arith, refl))
+
+  p_3_fits : IsProposerInRange p_3
+  p_3_fits = grind (arith, nat_tests, ballot_fits, part_body, batch_fits, c.what_goes_out_fits.ensures)
+
+  -- ---- the node
+
+  n_fits : IsInRange n
+  n_fits = record {
+    me = record { node = (omega arith, omega arith); few = omega arith };
+    kept = record { starts = omega arith; kept = (ballot_fits, tt) };
+    counted = omega arith;
+    proposer =
+        record { size = refl; own = refl; ranges = c.what_goes_out_fits.ensures.parts 3 0 65536 p_3 (vote ∷ []) p_3_fits vote_body };
+    learner = record {
+      size = refl;
+      ranges =
+          subst (λ (h : Hearing). IsLearnerInRange h.learner) heard_one
+          (c.values_fit.ensures.accepted (new_learner 3) 2 0 b batch batch_fits (c.values_fit.ensures.begins 3));
+      window = c.window_holds.ensures.begins 3;
+    };
+    waiting = record { some = omega arith; fits = omega arith; few = omega arith; characters = one_byte };
+  }
+
+  n_backed : Backs sent (typed_key ∷ []) n
+  n_backed = record {
+    kept = record {
+      votes = record { votes = λ s. tt; in_order = tt };
+      asked = λ c from mine said. is_promised c (asked_under c from said);
+      own = λ c s v mine said. is_promised c (proposed_under c s v said);
+    };
+    proposer = record { backed = p_backed; promised = refl };
+    learner =
+        subst (λ (h : Hearing). IsLearnerBacked sent h.learner) heard_one
+        (c.stays_backed-2.ensures.accepted sent (new_learner 3) 2 0 b batch (c.stays_backed-2.ensures.begins sent 3)
+        (5, omega arith, refl));
+    waiting = λ k has. has;
+  }
+
+-- it leads, with all that a node may know
 pub returns : goal.returns
-returns c = a_node_leads (record {
-  begins = c.begins_backed.ensures;
-  hears = c.parts_keep_it_backed.ensures;
-  proposes = c.proposals_may_be_sent.ensures.backed;
-  later = c.stays_backed.ensures;
-  begins_fit = c.what_goes_out_fits.ensures.begins;
-  part_fits = c.what_goes_out_fits.ensures.parts;
-  proposal_fits = c.what_goes_out_fits.ensures.proposes;
-  learner = c.stays_backed-2.ensures.begins;
-  learner_hears = c.stays_backed-2.ensures.accepted;
-  learner_fits = c.values_fit.ensures.begins;
-  heard_fits = c.values_fit.ensures.accepted;
-  learner_window = c.window_holds.ensures.begins;
-})
+returns c = (
+  n,
+  sent,
+  typed_key ∷ [],
+  n_fits c,
+  n_backed c,
+  (refl, omega arith),
+  rw
+      (get_here {X = Tally} empty 0 tally) refl,
+  omega arith,
+  omega arith,
+)

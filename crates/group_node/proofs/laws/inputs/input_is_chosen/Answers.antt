@@ -1,30 +1,295 @@
-use Rattle.std.proofs.Common.{◌++◌, ℕ}
-use Rattle.paxos_msg.specs.Batches.{Grew, Record, Sent}
-use Rattle.group_node.proofs.Choosing.{chosen_begins, input_later, Laws as Choosing, one_input}
-use Rattle.group_node.proofs.InputExists.{input_is_there}
+-- There is an input that was chosen: what was sent determines at each place what is chosen there,
+-- or that nothing is. As at most one value is chosen at a place, there is one input alone, with
+-- which that of any chosen values begins.
+use Rattle.std.proofs.Common.{◌&&◌, ◌==◌, ◌≡◌, ℕ, zero, suc, ◌+◌, ◌*◌, ◌<◌, ◌≤◌, ◌⊎◌, Bool, true, false, IsTrue, [], ◌∷◌, Contains, if◌then◌else◌, inl, inr, ap, arith, List, length, slice_get, Some, refl, subst, add-zero, sym, ◌++◌, ◌∙◌}
+use Rattle.std.proofs.lemmas.Bool.{cases_lt}
+use Rattle.std.specs.List.{list_any}
+use Rattle.std.proofs.lemmas.List.Folds.{list_any_at}
+use Rattle.std.proofs.lemmas.Map.Views.{Contains-from_any}
+use Rattle.std.proofs.lemmas.Bool.Decides.{nat_tests}
+use Rattle.base.proofs.Lists.{get_there}
+use Rattle.paxos_msg.specs.declared.ballot.Ballot.{Ballot}
+use Rattle.paxos_msg.specs.declared.value.Value.{Value}
+use Rattle.paxos_msg.specs.declared.message.Body.TheVariants.{Accepted}
+use Rattle.paxos_msg.specs.Batches.{Body, Msg, Sent, Grew, Record}
+use Rattle.paxos_msg.specs.Ballots.{count_of}
+use Rattle.paxos_msg.specs.Chosen.{IsChosenBy, IsChosen}
+use Rattle.paxos_msg.specs.Tests.{same_ballot, same_value}
+use Rattle.paxos_learner.specs.Input.{input_of}
+use Rattle.group_node.specs.Inputs.{IsInput, AreChosen}
+use Rattle.pcode_machine.specs.Runs.{IsPrefix}
 use Rattle.group_node.proofs.laws.inputs.input_is_chosen.Goals as goal
 
-choosing : goal.After-prefixes_are_ordered → (size : ℕ) (sent : Sent) (records : ℕ → Record) → Grew size sent records → Choosing size sent
-choosing c size sent records grew = record {
-  one = λ s v w. c.agreement.ensures.one_value size s sent records v w grew;
-  bytes = c.input_grows.ensures.bytes;
-  both = c.prefixes_are_ordered.ensures.both;
+-- the laws of the crates below
+abbrev Laws : Type 0
+Laws = goal.After-prefixes_are_ordered
+
+-- ---- whether a node has accepted a value
+
+-- a thing holds, or it does not
+abbrev Decided : Type 0 → Type 0
+Decided A = A ⊎ (A → ⊥)
+
+-- the message by which node i says that it has accepted the value
+abbrev accepted : ℕ → Ballot → ℕ → Value → Msg
+accepted i b s v = record { sender = i; body = Accepted b s v }
+
+-- the test that two bodies are one, which says that a value is accepted
+abbrev same_accepted : Body → Body → Bool
+same_accepted (Accepted b s v) (Accepted c t u) = same_ballot b c && ((s == t) && same_value v u)
+same_accepted other body = false
+
+-- the same of two messages
+abbrev is_accepted : Msg → Msg → Bool
+is_accepted m x = (m.sender == x.sender) && same_accepted m.body x.body
+
+-- such bodies are one
+same_accepted_is : Laws → (a b : Body) → same_accepted a b ≡ true → a ≡ b
+same_accepted_is laws (Accepted b s v) (Accepted c t u) e =
+    let exact = laws.tests_are_exact.ensures in
+    grind (arith, nat_tests, exact.same, exact.same_values)
+same_accepted_is laws a b e = absurd cc
+
+-- whether each node has sent that it accepted the value
+abbrev acceptors : Sent → Ballot → ℕ → Value → ℕ → Bool
+acceptors sent b s v i = list_any (is_accepted (accepted i b s v)) sent
+
+module _ (laws : Laws) (sent : Sent) (b : Ballot) (s : ℕ) (v : Value) (i : ℕ) where
+  -- where the test holds, it has
+  acceptors_sent : acceptors sent b s v i ≡ true → Contains sent (accepted i b s v)
+  acceptors_sent h = Contains-from_any is_one (accepted i b s v) sent h
+    where
+      is_one : (m x : Msg) → is_accepted m x ≡ true → m ≡ x
+      is_one m x e = grind (arith, nat_tests, same_accepted_is laws m.body x.body)
+
+  -- where it has, the test holds
+  sent_acceptors : Contains sent (accepted i b s v) → acceptors sent b s v i ≡ true
+  sent_acceptors (k, low, e) = list_any_at (is_accepted (accepted i b s v)) sent k (accepted i b s v) low (rw e itself)
+    where
+      itself : is_accepted (accepted i b s v) (accepted i b s v) ≡ true
+      itself = grind (arith, nat_tests, laws.tests_are_exact.ensures.same, laws.tests_are_exact.ensures.same_values)
+
+-- a message is the first, or one of the others
+contains_cases : (m : Msg) (ms : Sent) (x : Msg) → Contains (m ∷ ms) x → (m ≡ x) ⊎ Contains ms x
+contains_cases m ms x h1 = grind (arith, nat_tests)
+
+-- one more node is counted in the larger set if it is in the smaller
+more_count : (x y : Bool) (m n : ℕ) → (IsTrue x → IsTrue y) → m ≤ n → (if x then 1 else 0) + m ≤ (if y then 1 else 0) + n
+more_count x y m n h low = grind (arith, nat_tests)
+
+-- a set of more nodes counts no fewer
+count_more : (x y : ℕ → Bool) (n : ℕ) → ((i : ℕ) → IsTrue (x i) → IsTrue (y i)) → count_of x n ≤ count_of y n
+count_more x y zero h = omega arith
+count_more x y (suc n) h = more_count (x (suc n)) (y (suc n)) (count_of x n) (count_of y n) (h (suc n)) (count_more x y n h)
+
+-- a value is chosen by a ballot, or it isn't
+chosen_decided : Laws → (size : ℕ) (sent : Sent) (b : Ballot) (s : ℕ) (v : Value) → Decided (IsChosenBy size sent b s v)
+chosen_decided laws size sent b s v = elim (cases_lt size (2 * count_of (acceptors sent b s v) size)) [
+  | inl majority ↦ inl (acceptors sent b s v, majority, acceptors_sent laws sent b s v)
+  | inr few ↦ inr (λ h.
+      omega (arith, few, h.1, count_more h.0 (acceptors sent b s v) size (λ i member. sent_acceptors laws sent b s v i (h.2 i member))))
+]
+
+-- what is chosen was accepted in a message
+chosen_was_accepted : Laws → (size : ℕ) (sent : Sent) (b : Ballot) (s : ℕ) (v : Value) → IsChosenBy size sent b s v
+    → (i : ℕ) × Contains sent (accepted i b s v)
+chosen_was_accepted h1 size sent b s v h2 = grind (arith, nat_tests)
+
+-- ---- what is chosen at a place
+
+module _ (laws : Laws) (size : ℕ) (sent : Sent) (s : ℕ) where
+  -- a value is chosen at the place
+  Found : Type 0
+  Found = (v : Value) × IsChosen size sent s v
+
+  -- no value is chosen there by a ballot under which one of these messages accepts it
+  NoneBy : Sent → Type 0
+  NoneBy messages = (i : ℕ) (b : Ballot) (v : Value) → Contains messages (accepted i b s v) → IsChosenBy size sent b s v → ⊥
+
+  -- the same of one message
+  NoneByOne : Body → Type 0
+  NoneByOne body = (b : Ballot) (v : Value) → body ≡ Accepted b s v → IsChosenBy size sent b s v → ⊥
+
+  -- a value is found by one message, or none
+  find_by : (body : Body) → Found ⊎ NoneByOne body
+  unfolding Found NoneByOne
+  find_by (Accepted c t u) = elim (chosen_decided laws size sent c s u) [
+    | inl chosen ↦ inl (u, (c, chosen))
+    | inr none ↦ inr (λ b v e chosen.
+        let eb : c ≡ b = cc in
+        let ev : u ≡ v = cc in
+        none (rw (eb, ev) chosen))
+  ]
+  find_by other = inr (λ b v e. absurd cc)
+
+  -- a value is found by one of the messages, or none
+  find : (messages : Sent) → Found ⊎ NoneBy messages
+  unfolding Found NoneBy NoneByOne
+  find [] = inr (λ i b v h. omega (arith, h.1))
+  find (m ∷ ms) = elim (find_by m.body) [
+    | inl found ↦ inl found
+    | inr none ↦ elim (find ms) [
+      | inl found ↦ inl found
+      | inr later ↦ inr (λ i b v h. elim (contains_cases m ms (accepted i b s v) h) [
+        | inl e ↦ none b v (ap (λ (x : Msg). x.body) e)
+        | inr there ↦ later i b v there
+      ])
+    ]
+  ]
+
+  -- there is a chosen value, or none is chosen
+  place_decided : ((v : Value) × IsChosen size sent s v) ⊎ ((v : Value) → IsChosen size sent s v → ⊥)
+  unfolding Found NoneBy
+  place_decided = elim (find sent) [
+    | inl found ↦ inl found
+    | inr none ↦ inr (λ v h.
+        let said = chosen_was_accepted laws size sent h.0 s v h.1 in
+        none said.0 h.0 v said.1 h.1)
+  ]
+
+-- ---- the places
+
+-- the place of a message that accepts a value
+place_of : Body → ℕ
+place_of (Accepted b s v) = s
+place_of other = 0
+
+-- no place of a message reaches this number
+places : Sent → ℕ
+places [] = 0
+places (m ∷ ms) = suc (place_of m.body + places ms)
+
+-- the place of each accepted value is below it
+below_places : (sent : Sent) (i : ℕ) (b : Ballot) (s : ℕ) (v : Value) → Contains sent (accepted i b s v) → s < places sent
+unfolding places place_of
+below_places [] i b s v h = omega (arith, h.1)
+below_places (m ∷ ms) i b s v h = elim (contains_cases m ms (accepted i b s v) h) [
+  | inl e ↦ let at : place_of m.body ≡ s = ap (λ (x : Msg). place_of x.body) e in omega arith
+  | inr later ↦ let below : s < places ms = below_places ms i b s v later in omega arith
+]
+
+-- so is each place at which a value is chosen
+chosen_below : Laws → (size : ℕ) (sent : Sent) (s : ℕ) (v : Value) → IsChosen size sent s v → s < places sent
+chosen_below laws size sent s v h =
+    let said = chosen_was_accepted laws size sent h.0 s v h.1 in
+    below_places sent said.0 h.0 s v said.1
+
+-- the values chosen from place s on, up to the first place at which nothing is chosen
+record ChosenFrom (size : ℕ) (sent : Sent) (s : ℕ) : Type 0 where
+  values : List Value
+  chosen : (t : ℕ) (v : Value) → slice_get values t ≡ Some v → IsChosen size sent (s + t) v
+  over : (v : Value) → IsChosen size sent (s + length values) v → ⊥
+
+module _ (laws : Laws) (size : ℕ) (sent : Sent) where
+  -- nothing is chosen at the place
+  none_from : (s : ℕ) → ((v : Value) → IsChosen size sent s v → ⊥) → ChosenFrom size sent s
+  none_from s none =
+      let here : s ≡ s + 0 = omega arith in
+      record {
+        values = [];
+        chosen = λ t v e. absurd cc;
+        over = λ v. rw here at (none v);
+      }
+
+  -- a value is chosen at the place, and these at the next ones
+  one_from : (s : ℕ) (v : Value) → IsChosen size sent s v → ChosenFrom size sent (s + 1) → ChosenFrom size sent s
+  one_from s v here later = record {
+    values = v ∷ later.values;
+    chosen = each;
+    over = λ w h. later.over w (rw next_place at h);
+  }
+    where
+      next_place : s + length (v ∷ later.values) ≡ (s + 1) + length later.values
+      next_place = omega arith
+
+      each : (t : ℕ) (w : Value) → slice_get (v ∷ later.values) t ≡ Some w → IsChosen size sent (s + t) w
+      each zero w e =
+          let same : v ≡ w = cc in
+          rw (add-zero s, ← same) here
+      each (suc t) w e =
+          let place : s + suc t ≡ (s + 1) + t = omega arith in
+          rw place (later.chosen t w e)
+
+  -- the values from any place on
+  chosen_from : (n s : ℕ) → s + n ≡ places sent → ChosenFrom size sent s
+  chosen_from zero s e = none_from s (λ v h. omega (arith, e, chosen_below laws size sent s v h))
+  chosen_from (suc n) s e = elim (place_decided laws size sent s) [
+    | inl found ↦ one_from s found.0 found.1 (chosen_from n (s + 1) (omega arith))
+    | inr none ↦ none_from s none
+  ]
+
+  -- there is an input
+  input_is_there : (x : List ℕ) × IsInput size sent x
+  input_is_there =
+      let from = chosen_from (places sent) 0 (omega arith) in (
+        input_of from.values,
+        record {
+          values = from.values;
+          chosen =
+              record {
+                chosen = λ s v e. let place : 0 + s ≡ s = omega arith in
+                    subst (λ (n : ℕ). IsChosen size sent n v) place (from.chosen s v e);
+              };
+          over = λ v h. let place : length from.values ≡ 0 + length from.values =
+              omega arith in from.over v (subst (λ (n : ℕ). IsChosen size sent n v) place h);
+          bytes = refl;
+        },
+      )
+
+-- of two lists that agree wherever both have something the shorter begins the longer
+agree_prefix : {X : Type 0} (a b : List X)
+    → ((s : ℕ) (v w : X) → slice_get a s ≡ Some v → slice_get b s ≡ Some w → v ≡ w) → length a ≤ length b → IsPrefix a b
+agree_prefix [] b same low = record { rest = b; whole = refl }
+agree_prefix (x ∷ xs) [] same low = absurd (omega arith)
+agree_prefix (x ∷ xs) (y ∷ ys) same low =
+    let h : IsPrefix xs ys = agree_prefix xs ys (λ s. same (suc s)) (omega arith) in
+    record { rest = h.rest; whole = λ i. sym (same 0 x y refl refl) i ∷ h.whole i }
+
+module _ (laws : Laws) (size : ℕ) (sent : Sent) (records : ℕ → Record) (grew : Grew size sent records) where
+  -- there are at most as many chosen values as there are up to the first place without one
+  few_chosen : (values all : List Value) → AreChosen size sent values
+      → ((v : Value) → IsChosen size sent (length all) v → ⊥) → length values ≤ length all
+  few_chosen values all h over = elim (cases_lt (length all) (length values)) [
+    | inl less ↦
+        let there = get_there values (length all) less in
+        absurd (over there.0 (h.chosen (length all) there.0 there.1))
+    | inr high ↦ high
+  ]
+
+  -- the input of more values begins with that of fewer
+  input_longer : (values all : List Value) → IsPrefix values all → IsPrefix (input_of values) (input_of all)
+  input_longer values all h =
+      let more = laws.input_grows.ensures.bytes values h.rest in
+      record { rest = more.0; whole = ap input_of h.whole ∙ more.1 }
+
+  -- the input begins with that of any chosen values
+  chosen_begins : (values : List Value) (x : List ℕ) → AreChosen size sent values → IsInput size sent x → IsPrefix (input_of values) x
+  chosen_begins values x h input =
+      let begins : IsPrefix values input.values = agree_prefix values input.values
+      (λ s v w e f. laws.agreement.ensures.one_value size s sent records v w grew (h.chosen s v e) (input.chosen.chosen s w f))
+      (few_chosen values input.values h input.over) in
+      subst (λ (y : List ℕ). IsPrefix (input_of values) y) (sym input.bytes) (input_longer values input.values begins)
+
+  -- of two inputs each begins the other
+  begins_other : (x y : List ℕ) → IsInput size sent x → IsInput size sent y → IsPrefix x y
+  begins_other x y h1 h2 = grind (arith, nat_tests, chosen_begins)
+
+  -- there is one input alone
+  one_input : (x y : List ℕ) → IsInput size sent x → IsInput size sent y → x ≡ y
+  one_input x y h k = laws.prefixes_are_ordered.ensures.both x y (begins_other x y h k) (begins_other y x k h)
+
+  -- it begins with that of less that was sent
+  input_later : (less : Sent) → ((s : ℕ) (v : Value) → IsChosen size less s v → IsChosen size sent s v)
+      → (x y : List ℕ) → IsInput size less x → IsInput size sent y → IsPrefix x y
+  input_later less stays x y h k =
+      subst (λ (z : List ℕ). IsPrefix z y) (sym h.bytes)
+      (chosen_begins h.values y (record { chosen = λ s v e. stays s v (h.chosen.chosen s v e) }) k)
+
+pub returns : goal.returns
+returns c = record {
+  there = input_is_there c;
+  one = λ size sent records x y grew. one_input c size sent records grew x y;
+  begins = λ size sent records values x grew. chosen_begins c size sent records grew values x;
+  grows = λ size sent more records x y grew.
+      input_later c size (sent ++ more) records grew sent (λ s v. c.sent_only_grows.ensures.chosen size s sent more v) x y;
 }
-
-pub returns-clause-there : goal.returns-clause-there
-returns-clause-there c size sent = input_is_there (record {
-  ballots = c.tests_are_exact.ensures.same;
-  values = c.tests_are_exact.ensures.same_values;
-  meet = c.majorities_meet.ensures;
-}) size sent
-
-pub returns-clause-one : goal.returns-clause-one
-returns-clause-one c size sent records x y grew = one_input size sent (choosing c size sent records grew) x y
-
-pub returns-clause-begins : goal.returns-clause-begins
-returns-clause-begins c size sent records values x grew = chosen_begins size sent (choosing c size sent records grew) values x
-
-pub returns-clause-grows : goal.returns-clause-grows
-returns-clause-grows c size sent more records x y grew =
-    input_later size (sent ++ more) (choosing c size (sent ++ more) records grew) sent
-    (λ s v. c.sent_only_grows.ensures.chosen size s sent more v) x y

@@ -1,19 +1,17 @@
 -- The lemmas of `WaitingKeys`, with the law of key tests.
-use Rattle.std.proofs.Common.{[], ◌∷◌, refl}
-use Rattle.group_node.proofs.WaitingKeys.{batch_first, KeyLaw, keys_from-append, message_parted, no_batch, waiting_unread}
+use Rattle.std.proofs.Common.{refl, arith}
+use Rattle.std.proofs.lemmas.Bool.Decides.{nat_tests}
+use Rattle.group_node.proofs.WaitingKeys.{batch_first, KeyLaw, keys_from-append, message_parted, waiting_unread}
 use Rattle.group_node.proofs.laws.waiting.waiting_keys_are_a_row.Goals as goal
 
 law : goal.After-key_tests_are_exact → KeyLaw
 law c = record { has = c.key_tests_are_exact.ensures.has }
 
 pub returns-clause-typed : goal.returns-clause-typed
-returns-clause-typed c n byte = keys_from-append n.me.node n.kept.starts n.first n.waiting (byte ∷ [])
+returns-clause-typed c n byte = grind (arith, nat_tests, keys_from-append)
 
 pub returns-clause-batch : goal.returns-clause-batch
 returns-clause-batch c n v e = batch_first n n.waiting v e
-
-pub returns-clause-none : goal.returns-clause-none
-returns-clause-none c n e = no_batch n n.waiting e
 
 pub returns-clause-gone : goal.returns-clause-gone
 returns-clause-gone c n =

@@ -1,4 +1,4 @@
-use Rattle.group_node.proofs.Replays.{exact_replay}
+use Rattle.group_node.proofs.Exact.{exact_replay}
 use Rattle.group_node.proofs.node.Node.unreleased.Goals as goal
 
 pub returns-clause-replay : goal.returns-clause-replay

@@ -3,17 +3,6 @@ use Rattle.group_node.specs.declared.player.Player.{Player}
 use Rattle.group_node.proofs.Exact.{Laws, advanced, advances, to_advanced, makes-wrote, exact_idle, exact_fed, halts_waiting, halts_ended}
 use Rattle.group_node.proofs.player.Player.turn.Goals as goal
 
-pub returns-in-Spent-clause-turns : goal.returns-in-Spent-clause-turns
-returns-in-Spent-clause-turns c =
-    let h = rw c.in-Spent.is at c.run-made.ensures.pauses in (
-      h.0,
-      advances _ c.quiet_steps_lead_on.ensures c.requires.exact h.1 c.run-made.ensures.program refl
-          (omega (arith, c.from.ensures)) refl refl,
-    )
-
-pub returns-in-Spent-clause-exact : goal.returns-in-Spent-clause-exact
-returns-in-Spent-clause-exact c = (returns-in-Spent-clause-turns c).1.exact
-
 pub returns-in-Ended-clause-turns : goal.returns-in-Ended-clause-turns
 returns-in-Ended-clause-turns c =
     let laws : Laws = record { there = c.run_is_after.ensures; longer = c.same_step_on_longer_input.ensures } in
@@ -22,9 +11,6 @@ returns-in-Ended-clause-turns c =
     advances _ c.quiet_steps_lead_on.ensures c.requires.exact h.1 c.run-made.ensures.program refl
     (omega (arith, c.from.ensures)) refl refl in
     (h.0, a, halts_ended laws a.exact c.run-made.ensures.program h.2)
-
-pub returns-in-Ended-clause-exact : goal.returns-in-Ended-clause-exact
-returns-in-Ended-clause-exact c = (returns-in-Ended-clause-turns c).1.exact
 
 pub returns-in-Wrote-clause-turns : goal.returns-in-Wrote-clause-turns
 returns-in-Wrote-clause-turns c =
@@ -70,6 +56,3 @@ returns-in-None-clause-turns c =
     advances _ c.quiet_steps_lead_on.ensures c.requires.exact h.1 c.run-made.ensures.program refl
     (omega (arith, c.from.ensures)) refl refl in
     (h.0, a, halts_waiting laws a.exact c.run-made.ensures.program h.2 (sym c.in-None.ensures))
-
-pub returns-in-None-clause-exact : goal.returns-in-None-clause-exact
-returns-in-None-clause-exact c = (returns-in-None-clause-turns c).1.exact

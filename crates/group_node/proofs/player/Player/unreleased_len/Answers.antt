@@ -1,4 +1,4 @@
-use Rattle.group_node.proofs.Replays.{exact_count}
+use Rattle.group_node.proofs.Exact.{exact_count}
 use Rattle.group_node.proofs.player.Player.unreleased_len.Goals as goal
 
 pub returns : goal.returns

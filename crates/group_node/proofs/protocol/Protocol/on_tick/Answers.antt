@@ -1,11 +1,59 @@
-use Rattle.std.proofs.Common.{◌≡◌, ◌∙◌, refl, sym, ap, rules}
+-- What a tick comes to, as the code says. A lemma takes the ranges of the node that is meant, so
+-- that the node need not be written out.
+use Rattle.std.proofs.Common.{◌≡◌, ◌∙◌, ℕ, List, [], ◌∷◌, ◌++◌, Option, Some, None, Ok, refl, sym, ap, append_assoc, arith, rules}
+use Rattle.std.proofs.lemmas.Bool.Decides.{nat_tests}
+use Rattle.std.proofs.lemmas.List.{map-append}
+use Rattle.paxos_msg.specs.declared.value.Value.{Value}
+use Rattle.paxos_msg.specs.declared.message.Body.TheVariants.{Ask}
+use Rattle.paxos_proposer.specs.Proposer.{Proposer}
+use Rattle.group_node.specs.Known.{front, Known}
+use Rattle.group_node.specs.Tick.{accepts_again, asks, on_tick, batch_of, prepares_again, submits}
+use Rattle.group_node.specs.Calls.{Does}
+use Rattle.group_node.specs.Packets.{Datagram, Packet, datagram_of, datagrams_of, to_all, Queue}
+use Rattle.group_node.specs.Pump.{accepts_of, pump}
+use Rattle.group_node.specs.Ranges.{IsInRange}
+use Rattle.group_node.specs.States.{Protocol}
 use Rattle.std.proofs.lemmas.Result.{err_from_is_err_and}
 use Rattle.group_node.specs.declared.fault.NodeFault.TheVariants.{Memory}
-use Rattle.group_node.specs.Tick.{batch_of}
-use Rattle.group_node.specs.Packets.{Queue}
-use Rattle.group_node.proofs.TickRow.{asked, does_tick, ticked_none, ticked_ranges, ticked_some}
 use Rattle.group_node.proofs.protocol.Protocol.on_tick.Goals as goal
 use Rattle.group_node.proofs.protocol.Protocol.on_tick.Goals.{in-Some+in_ok-propose_again, in_default}
+
+-- what it asks last, as the code says
+asked : {n : Known} {now : List Datagram} {batch : Option Value} {from : ℕ} (mid : List Datagram) → IsInRange n
+    → now ≡ mid ++ datagrams_of n.me (submits batch ++ to_all (Ask from) ∷ [])
+    → batch ≡ batch_of n n.waiting → from ≡ front n → now ≡ mid ++ datagrams_of n.me (asks n)
+asked mid h is same here = grind (arith, nat_tests)
+
+-- the node with such a proposer is in its ranges, since that of the row is
+ticked_ranges : {n : Known} {p q : Proposer} → IsInRange n → IsInRange (on_tick n).node → n.proposer ≡ Some p
+    → q ≡ (pump 16 p).proposer → IsInRange (record n { proposer = Some q })
+ticked_ranges h fits e one = grind (arith, nat_tests)
+
+-- a tick with no proposer does what it says
+does_none : {S : Type 0} {inside old new : Protocol S} {before mid now : List Datagram} → inside ≡ old
+    → now ≡ mid ++ datagrams_of inside.known.me (asks inside.known) → mid ≡ before → inside.known.proposer ≡ None
+    → new.known ≡ inside.known → new.is_stopped ≡ inside.is_stopped
+    → Does {S = S} {T = Unit {0}} old new before now (on_tick old.known) (Ok tt)
+does_none is last none e rules same = grind (arith, nat_tests)
+
+-- so does one with a proposer that has proposed again and pumped
+does_some : {S : Type 0} {inside old new : Protocol S} {before mid now : List Datagram} {p q : Proposer} → inside ≡ old
+    → now ≡ mid ++ datagrams_of inside.known.me (asks inside.known) → before ≡ [] → inside.known.proposer ≡ Some p
+    → q ≡ (pump 16 p).proposer
+    → mid ≡ datagrams_of inside.known.me
+    ((prepares_again p ++ accepts_again inside.known.learner.learned p) ++ accepts_of (pump 16 p).made)
+    → new.known ≡ record inside.known { proposer = Some q } → new.is_stopped ≡ inside.is_stopped
+    → Does {S = S} {T = Unit {0}} old new before now (on_tick old.known) (Ok tt)
+does_some {inside = inside} {p = p} is last empty e one again rules same =
+    let n : Known = inside.known in
+    let first : List Packet = prepares_again p ++ accepts_again n.learner.learned p in
+    let pumped : List Packet = accepts_of (pump 16 p).made in
+    let sent =
+    last
+    ∙ ap (λ (l : List Datagram). l ++ datagrams_of n.me (asks n)) again
+    ∙ sym (map-append (datagram_of n.me) (first ++ pumped) (asks n))
+    ∙ ap (datagrams_of n.me) (append_assoc first pumped (asks n)) in
+    grind (arith, nat_tests)
 
 pub returns-in_err-propose_again-clause-does : goal.returns-in_err-propose_again-clause-does
 returns-in_err-propose_again-clause-does g c =
@@ -54,13 +102,11 @@ returns-clause-does g c =
     let last = asked c.match-self.outbox.packets i.1.ranges c.ask.ensures same c.known_front-from.ensures.front in
     elim c.match-self.branch [
       | in-Some+in_ok-propose_again w ↦
-          let ticked =
-          ticked_some {p = w.in-Some.proposer.known} {q = w.propose_again.new.proposer.known} i.1.ranges
+          does_some {p = w.in-Some.proposer.known} {q = w.propose_again.new.proposer.known} c.self.view_is
           last c.requires.empty (rw w.in-Some.is refl) w.in_ok-propose_again.ensures.known
-          (ap (λ (q : Queue). q.packets) w.outbox-is ∙ w.in_ok-propose_again.ensures.packets) in
-          does_tick c.self.view_is ticked (rw w.self-inside-is refl) (rw w.self-inside-is refl)
+          (ap (λ (q : Queue). q.packets) w.outbox-is ∙ w.in_ok-propose_again.ensures.packets)
+          (rw w.self-inside-is refl) (rw w.self-inside-is refl)
       | in_default w ↦
-          let ticked = ticked_none i.1.ranges last
-          (ap (λ (q : Queue). q.packets) w.outbox-is ∙ c.make_ready.ensures.packets) (rw w.in_default.is refl) in
-          does_tick c.self.view_is ticked (rw w.self-inside-is refl) (rw w.self-inside-is refl)
+          does_none c.self.view_is last (ap (λ (q : Queue). q.packets) w.outbox-is ∙ c.make_ready.ensures.packets)
+          (rw w.in_default.is refl) (rw w.self-inside-is refl) (rw w.self-inside-is refl)
     ]
