@@ -1,7 +1,7 @@
 -- Events lead to a world in which two consoles show a byte, for the law `consoles_may_show`.
 use Rattle.pcode_machine.proofs.Prefixes.{prefix_length}
 use Rattle.group_world.proofs.HoldsAfterEvents.{happens_then}
-use Rattle.std.proofs.Common.{◌≡◌, ℕ, zero, suc, ◌&&◌, ◌-◌, ◌≤◌, Bool, true, false, List, [], ◌∷◌, ◌++◌, drop, length, slice_get, slice_set, None, Some, refl, ap, arith}
+use Rattle.std.proofs.Common.{◌≡◌, ℕ, zero, suc, ◌&&◌, ◌-◌, ◌≤◌, Bool, true, false, List, [], ◌∷◌, ◌++◌, drop, length, slice_get, slice_set, Some, refl, ap, arith}
 use Rattle.std.proofs.lemmas.Bool.{and_parts}
 use Rattle.pcode_file.specs.Parts.{Parts}
 use Rattle.pcode_ops.specs.Decoding.{instr_of}
@@ -22,7 +22,7 @@ use Rattle.group_world.specs.declared.event.Outcome.TheVariants.{Kept}
 use Rattle.group_world.specs.Event.{LeadsBy}
 use Rattle.group_world.specs.Group.{member_at, new_world, World, world_state}
 use Rattle.group_world.specs.Member.{at_progress, Member, member_after_call, member_after_release, Running}
-use Rattle.group_world.proofs.WorldAsGroup.{changed_here}
+use Rattle.group_world.proofs.WorldAsGroup.{changed_here, stopped}
 
 -- ---- a program that writes the letter A
 
@@ -106,7 +106,7 @@ shows i =
 
 -- a node that was never started
 abbrev first : Member
-first = record { kept = empty_record; console = []; node = None }
+first = stopped empty_record
 
 -- a world that runs the program, in which nothing was sent or typed
 abbrev world : Group → List Member → World

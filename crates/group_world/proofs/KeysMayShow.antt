@@ -31,6 +31,7 @@ use Rattle.group_world.specs.Member.{NodeCall, failing, Makes, Member, member_af
 use Rattle.group_world.specs.Headline.{HasLearned}
 use Rattle.group_world.specs.Witness.{echoes, letter_batch, one, shown_events}
 use Rattle.group_world.proofs.ConsolesMayShow.{StepsLaw, WritesLetter, all_go, is_step, replays, runs, ten_of, waits}
+use Rattle.group_world.proofs.WorldAsGroup.{stopped}
 use Rattle.group_world.proofs.OrderPossible.{FitsHere, fit_read, ballot, message, are_bytes, ballot_fits, me, node_fits}
 use Rattle.std.specs.Ordering.{nat_cmp}
 use Rattle.std.specs.Cmp.{nat_cmp_total}
@@ -182,9 +183,6 @@ running n progress = record { known = n; progress = progress }
 
 abbrev member : Known → Progress → List ℕ → Member
 member n progress console = record { kept = n.kept; console = console; node = Some (running n progress) }
-
-abbrev stopped : Record → Member
-stopped r = record { kept = r; console = []; node = None }
 
 abbrev world : Member → List Packet → List Value → World
 world m packets typed =

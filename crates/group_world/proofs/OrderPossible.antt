@@ -9,7 +9,6 @@ use Rattle.std.proofs.Common.{◌≡◌, ◌≢◌, ◌<◌, ◌≤◌, ℕ, zer
 use Rattle.std.proofs.lemmas.List.Elements.{Contains-get_or, All-contains, All-from_recursion, Contains-push}
 use Rattle.std.proofs.lemmas.List.Quantifiers.{all_pairs_push}
 use Rattle.pcode_file.specs.Parts.{Parts}
-use Rattle.pcode_machine.specs.Runs.{out}
 use Rattle.paxos_msg.specs.declared.message.Body.TheVariants.{Accept, Prepare, Submit, Tell, Accepted, Promise}
 use Rattle.paxos_msg.specs.declared.value.Value.{Value}
 use Rattle.paxos_msg.specs.declared.value.Value.TheVariants.{Keys}
@@ -31,7 +30,7 @@ use Rattle.group_world.specs.Member.{Member}
 use Rattle.paxos_msg.proofs.MessagesRead.{message_again}
 use Rattle.paxos_msg.proofs.OwnKeys.{own_keys}
 use Rattle.group_node.specs.Ranges.{AllFit}
-use Rattle.group_world.proofs.WorldAsGroup.{packets_read}
+use Rattle.group_world.proofs.WorldAsGroup.{nothing_shown, packets_read, stopped}
 use Rattle.group_world.proofs.OrderLists.{left_place, none_in}
 use Rattle.std.proofs.lemmas.Bool.{eqb-true, and_parts, ltb-true}
 use Rattle.paxos_msg.specs.declared.ballot.Ballot.{Ballot}
@@ -102,7 +101,7 @@ sent_3 = with_batch sent_2 2 batch_c
 -- ---- the records
 
 abbrev records_of : Record → ℕ → Record
-records_of r i = (seat_of_member (member_at (record { kept = r; console = []; node = None } ∷ []) i)).kept
+records_of r i = (seat_of_member (member_at (stopped r ∷ []) i)).kept
 
 records_saved : (r : Record) (c : Change) → IsSaved (records_of r) 1 c (records_of (changed r c))
 records_saved r c = record { own = refl; others = others }
@@ -396,7 +395,7 @@ abbrev example : Parts → World
 example p = record {
   program = p;
   group = group;
-  members = record { kept = kept_3; console = []; node = None } ∷ [];
+  members = stopped kept_3 ∷ [];
   sent = datagrams_of me packets;
   typed = batch_a ∷ Keys 1 1 2 (66 ∷ []) ∷ batch_c ∷ [];
 }
@@ -408,7 +407,7 @@ vote_fits low high fits =
     record { from_low = low; below_upto = high; ballot = ballot_fits; not_above = inr (refl, omega arith); value = fits }
 
 -- the node is sound
-node_sound : (p : Parts) → IsMemberSound p me sent_3 typed (record { kept = kept_3; console = []; node = None })
+node_sound : (p : Parts) → IsMemberSound p me sent_3 typed (stopped kept_3)
 node_sound p = record {
   ranges = record {
     starts = omega arith;
@@ -421,18 +420,13 @@ node_sound p = record {
     );
   };
   backed = kept_backed;
-  shown =
-      record {
-        values = [];
-        chosen = record { chosen = λ s v e. absurd cc };
-        output = (0, record { rest = out p _ 0; whole = refl });
-      };
+  shown = nothing_shown p _ _;
   running = tt;
 }
 
 -- what holds of the node holds of each
-each_member : (P : ℕ → Member → Type 0) → P 1 (record { kept = kept_3; console = []; node = None }) → (i : ℕ) (m : Member)
-    → member_at (record { kept = kept_3; console = []; node = None } ∷ []) i ≡ Some m → P i m
+each_member : (P : ℕ → Member → Type 0) → P 1 (stopped kept_3) → (i : ℕ) (m : Member)
+    → member_at (stopped kept_3 ∷ []) i ≡ Some m → P i m
 each_member P h zero m e = absurd cc
 each_member P h (suc zero) m e = subst (P 1) (same_Some _ m e) h
 each_member P h (suc (suc i)) m e = absurd cc

@@ -11,7 +11,7 @@ use Rattle.pcode_file.specs.Parts.{Parts}
 use Rattle.paxos_msg.specs.Records.{empty_record}
 use Rattle.paxos_msg.specs.declared.message.Group.{Group}
 use Rattle.paxos_msg.specs.declared.value.Value.{Value}
-use Rattle.paxos_msg.specs.Batches.{Msg}
+use Rattle.paxos_msg.specs.Batches.{Msg, Record, Sent}
 use Rattle.paxos_msg.specs.Fits.{IsBody, IsNode}
 use Rattle.paxos_msg.specs.Grammar.{IsGroup}
 use Rattle.paxos_msg.specs.Keys.{keys_of}
@@ -24,11 +24,11 @@ use Rattle.group_node.specs.Known.{Response}
 use Rattle.group_node.specs.Output.{Progress}
 use Rattle.group_node.specs.States.{input}
 use Rattle.group_node.specs.Steps.{messages_handed_out}
-use Rattle.pcode_machine.specs.Runs.{after_steps}
+use Rattle.pcode_machine.specs.Runs.{after_steps, out}
 use Rattle.group_node.specs.World.{after_call, with_seat}
 use Rattle.group_world.specs.Group.{IsUp, me_of, member_at, messages_in, new_world, seat_of_member, with_member, World, world_after_call, world_state}
 use Rattle.group_world.specs.Member.{Member, member_after_call, Running}
-use Rattle.group_world.specs.Sound.{IsMemberSound, IsRunningSound, IsSound, IsSpelling}
+use Rattle.group_world.specs.Sound.{IsMemberSound, IsRunningSound, IsShown, IsSound, IsSpelling}
 
 -- ---- lists with one element changed
 
@@ -166,11 +166,23 @@ is_node {w} {m} i h e =
     let within = member_within w.members i m e in
     (within.0, omega (arith, within.1, h.places))
 
+-- a node that is down, and has shown nothing
+abbrev pub stopped : Record → Member
+stopped r = record { kept = r; console = []; node = None }
+
+-- a console that has shown nothing has shown output
+pub nothing_shown : (p : Parts) (size : ℕ) (sent : Sent) → IsShown p size sent []
+nothing_shown p size sent = record {
+  values = [];
+  chosen = record { chosen = λ s v e. absurd cc };
+  output = (0, record { rest = out p _ 0; whole = refl });
+}
+
 -- each node of the world before all events
 pub first_node : (p : Parts) (group : Group) (i : ℕ) (m : Member) → member_at (new_world p group).members i ≡ Some m
-    → record { kept = empty_record; console = []; node = None } ≡ m
+    → stopped empty_record ≡ m
 first_node p group zero m e = absurd cc
 first_node p group (suc k) m e =
-    let first : Member = record { kept = empty_record; console = []; node = None } in
+    let first = stopped empty_record in
     let within : k < group.size = omega (arith, slice_get_within (replicate group.size first) k m e, length-replicate group.size first) in
     sym (get_or-replicate group.size k first first within) ∙ get_or_from_slice_get (replicate group.size first) k m first e

@@ -22,7 +22,7 @@ use Rattle.group_world.specs.Group.{IsDown, IsUp, me_of, messages_in, World, wor
 use Rattle.group_world.specs.Member.{Member, Running, NodeCall, Makes, Refuses, call_of_campaign, call_of_press, call_of_start, failing, save_outcome, at_progress, member_after_release}
 use Rattle.group_world.specs.Sound.{IsSound, IsSpelling}
 use Rattle.std.specs.FinMap.{empty}
-use Rattle.group_world.proofs.WorldAsGroup.{is_node, running, called_state, member_state, changed_elsewhere, changed_here, SoundAt, first_node}
+use Rattle.group_world.proofs.WorldAsGroup.{is_node, running, called_state, member_state, changed_elsewhere, changed_here, SoundAt, first_node, stopped, nothing_shown}
 use Rattle.group_world.proofs.laws.sound.events_keep_it_sound.Answers.SoundAfterChange.{Laws, MayMake, call_sound, crash_sound, fall_sound, release_sound, run_sound}
 use Rattle.group_world.proofs.OrderLists.{in_from_place}
 use Rattle.pcode_machine.specs.Configuration.{Configuration}
@@ -389,7 +389,7 @@ nothing_sent : {i : ℕ} {body : Body} → IsSent [] i body → ⊥
 nothing_sent there = absurd (omega (arith, there.1))
 
 module _ (laws : Laws) (p : Parts) (group : Group) where
-  first_sound : (i : ℕ) → SoundAt (new_world p group) i (record { kept = empty_record; console = []; node = None })
+  first_sound : (i : ℕ) → SoundAt (new_world p group) i (stopped empty_record)
   first_sound i = record {
     ranges = record { starts = omega arith; kept = refl };
     backed =
@@ -398,16 +398,11 @@ module _ (laws : Laws) (p : Parts) (group : Group) where
           asked = λ b from own said. absurd (nothing_sent said.1);
           own = λ b s v own said. absurd (nothing_sent said.1);
         };
-    shown =
-        record {
-          values = [];
-          chosen = record { chosen = λ s v e. absurd cc };
-          output = (0, record { rest = out p _ 0; whole = refl });
-        };
+    shown = nothing_shown p _ _;
     running = tt;
   }
 
-  no_record : (o : Option Member) → ((m : Member) → o ≡ Some m → record { kept = empty_record; console = []; node = None } ≡ m)
+  no_record : (o : Option Member) → ((m : Member) → o ≡ Some m → stopped empty_record ≡ m)
       → (seat_of_member o).kept ≡ empty_record
   no_record None h = refl
   no_record (Some m) h = ap (λ (x : Member). x.kept) (sym (h m refl))
