@@ -1,9 +1,3 @@
-pub mod Tests
-pub mod Loops
-pub mod Entries
-pub mod Segments
-pub mod Each
-pub mod Lows
-pub mod Fields
-pub mod Whole
+pub mod Results
 pub mod Procedures
+pub mod Whole

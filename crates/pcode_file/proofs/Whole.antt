@@ -1,146 +1,65 @@
 -- The whole file: what is read is in the bytes, and what is in them is read.
-use Rattle.std.proofs.Common.{◌≡◌, ℕ, ◌+◌, ◌-◌, ◌*◌, ◌<◌, ◌≤◌, ◌^◌, List, length, Some, Result, Ok, Err, IfOk, slice_get, slice_index, refl, sym, ◌∙◌, subst, arith}
-use Rattle.std.specs.Result.{IsOk}
+use Rattle.std.proofs.Common.{◌≡◌, ◌↔◌, ℕ, zero, suc, ◌+◌, ◌-◌, ◌*◌, ◌<◌, ◌≤◌, List, length, Ok, slice_index, arith}
+use Rattle.std.specs.Prelude.{MatchOption}
+use Rattle.std.proofs.lemmas.Bool.Decides.{nat_tests}
 use Rattle.base.proofs.Steps.{bind_ok}
-use Rattle.pcode_file.specs.declared.fault.FileFault.{FileFault}
-use Rattle.pcode_file.specs.declared.file.Proc.{Proc}
-use Rattle.pcode_file.specs.Parts.{Parts, name_at}
-use Rattle.pcode_file.specs.Checks.{table_of, low_of, segment_of, procedure_count, table_at, proc_at, all_of, first_of, read_from, IsChecked, GivesUnlessMemory}
-use Rattle.pcode_file.specs.InFile.{HasTable, HasProc, AreProcs, InEntry, InFile, IsWhole}
-use Rattle.pcode_file.proofs.Loops.{first_passed}
-use Rattle.pcode_file.proofs.Each.{Each, all_found, all_again, first_again}
-use Rattle.pcode_file.proofs.Lows.{Leads, low_begins, begins_once}
-use Rattle.pcode_file.proofs.Fields.{proc_found, proc_again, table_again}
-use Rattle.pcode_file.proofs.Segments.{IsSegment, segment_found, segment_again, count_found, count_again}
+use Rattle.pcode_file.specs.Parts.{Parts, word}
+use Rattle.pcode_file.specs.Checks.{used_from, entry_of, segment_of, read_from}
+use Rattle.pcode_file.specs.InFile.{IsOnlyEntry, InEntry, InFile}
+use Rattle.pcode_file.proofs.Results.{all_length}
+use Rattle.pcode_file.proofs.Procedures.{procs_found, procs_again, tables_read}
 
-leads_by : (segment : List ℕ) (n i t : ℕ) → HasTable segment n i t → table_of segment i ≡ t
-leads_by segment n i t h = omega (arith, h.pointer)
+-- ---- the entry in use
 
--- what was collected are the procedures of the segment
-procs_found : (segment : List ℕ) (n : ℕ) (procs : List Proc) → all_of (proc_at segment n) 1 n ≡ Ok procs → 0 < n
-    → 2 + 2 * n ≤ length segment
-    → (length procs ≡ n) × AreProcs segment procs
-procs_found segment n procs h above fits =
-    let all = all_found (proc_at segment n) 1 n procs h in
-    let P : ℕ → Type 0 = λ m. Each (proc_at segment m) 1 procs in
-    let each : Each (proc_at segment (length procs)) 1 procs = subst P (sym all.0) all.1 in
-    let found : (k : ℕ) (q : Proc) → slice_get procs k ≡ Some q
-    → HasProc segment (length procs) (1 + k) q × (q.low ≡ low_of segment (length procs) q.jtab) =
-    λ k q g. proc_found segment (length procs) (1 + k) q (each k q g) in
-    let leads : Leads segment 1 procs = λ k q g. leads_by segment (length procs) (1 + k) q.jtab ((found k q g).0).table in (
-      all.0,
-      record {
-        some = omega arith;
-        dictionary = omega arith;
-        each = λ k q g. (found k q g).0;
-        lows = λ k q g. (rw (found k q g).1 (low_begins segment q.jtab 1 procs leads));
-      },
-    )
+-- no entry from `k` on and before `end` is in use
+abbrev AreFree : List ℕ → ℕ → ℕ → Type 0
+AreFree bytes k end = (j : ℕ) → k ≤ j → j < end → word bytes (4 * j + 2) ≡ 0
 
--- each procedure of a segment is read
-proc_read : (segment : List ℕ) (procs : List Proc) (k : ℕ) (q : Proc) → AreProcs segment procs
-    → slice_get procs k ≡ Some q → proc_at segment (length procs) (1 + k) ≡ Ok q
-proc_read segment procs k q h g =
-    let leads : Leads segment 1 procs = λ j p e. leads_by segment (length procs) (1 + j) p.jtab (h.each j p e).table in
-    proc_again segment (length procs) (1 + k) q (h.each k q g)
-    (begins_once procs q.jtab _ _ (h.lows k q g) (low_begins segment q.jtab 1 procs leads))
+-- the entry `m` is the first in use from `k` on and before `end`
+record IsFirstUsed (bytes : List ℕ) (k end m : ℕ) : Type 0 where
+  above : k ≤ m
+  below : m < end
+  used : 0 < word bytes (4 * m + 2)
+  free : AreFree bytes k m
 
-made_found : (bytes : List ℕ) (s : ℕ × List ℕ) (n : ℕ) (procs : List Proc) → IsSegment bytes s
-    → n ≡ slice_index s.1 (length s.1 - 1) → length procs ≡ n → AreProcs s.1 procs
-    → InEntry bytes s.0 (record { name = name_at bytes s.0; segment = s.1; number = slice_index s.1 (length s.1 - 2); procs = procs })
-made_found bytes s n procs h e len all =
-    record {
-      long = h.long;
-      only = h.only;
-      linked = h.linked;
-      start = h.start;
-      ends = h.ends;
-      even = h.even;
-      name = refl;
-      segment = h.segment;
-      number = refl;
-      count = len ∙ e;
-      procs = all;
-    }
+-- what the search finds is the first entry in use; if it finds none, none is in use
+used_is_first : (bytes : List ℕ) (k n : ℕ) → MatchOption (used_from bytes k n) (AreFree bytes k (k + n)) (IsFirstUsed bytes k (k + n))
+unfolding used_from
+used_is_first bytes k zero = grind arith
+used_is_first bytes k (suc n) = grind (arith, nat_tests, used_is_first bytes (k + 1) n)
+
+-- the entry that is found is the only one in use
+only_entry : (bytes : List ℕ) (k : ℕ) → IsOnlyEntry bytes k ↔ (entry_of bytes ≡ Ok k)
+unfolding entry_of
+only_entry bytes k = grind (arith, nat_tests, used_is_first bytes 0 16, used_is_first bytes (k + 1) (16 - (k + 1)))
+
+-- ---- what is read
+
+-- what is read is in the entry that is in use
+entry_found : (bytes : List ℕ) (p : Parts) (s : ℕ × List ℕ) → segment_of bytes ≡ Ok s → read_from bytes ≡ Ok p → InEntry bytes s.0 p
+unfolding segment_of read_from
+entry_found bytes p s e h = record {
+  long = grind (arith, nat_tests);
+  only = grind (arith, nat_tests, only_entry);
+  linked = grind (arith, nat_tests);
+  start = grind (arith, nat_tests);
+  ends = grind (arith, nat_tests);
+  even = grind (arith, nat_tests);
+  name = grind (arith, nat_tests);
+  segment = grind (arith, nat_tests);
+  number = grind (arith, nat_tests);
+  count = grind (arith, nat_tests, all_length);
+  procs =
+      procs_found p.segment p.procs (slice_index p.segment (length p.segment - 1)) (grind (arith, nat_tests))
+      (grind (arith, nat_tests));
+}
 
 -- what is read is in the grammar
-read_found : (bytes : List ℕ) (p : Parts) → read_from bytes ≡ Ok p → InFile bytes p
+pub read_found : (bytes : List ℕ) (p : Parts) → read_from bytes ≡ Ok p → InFile bytes p
 unfolding read_from
-read_found bytes p h =
-    let a = bind_ok (segment_of bytes) _ p h in
-    let s = a.0 in
-    let b = bind_ok (procedure_count s.1) _ p a.2 in
-    let n = b.0 in
-    let c = bind_ok (first_of (table_at s.1 n) 1 n) _ p b.2 in
-    let e = bind_ok (all_of (proc_at s.1 n) 1 n) _ p c.2 in
-    let counted = count_found s.1 n b.1 in
-    let all = procs_found s.1 n e.0 e.1 counted.1 counted.2 in
-    let made = made_found bytes s n e.0 (segment_found bytes s a.1) counted.0 all.0 all.1 in
-    let whole : Parts = record { name = name_at bytes s.0; segment = s.1; number = slice_index s.1 (length s.1 - 2); procs = e.0 } in
-    let same : whole ≡ p = cc (e.2) in
-    let P : Parts → Type 0 = λ x. InEntry bytes s.0 x in
-    (s.0, subst P same made)
+read_found bytes p h = let s = bind_ok (segment_of bytes) _ p h in (s.0.0, entry_found bytes p s.0 s.1 h)
 
 -- what is in the grammar is read
-read_again : (bytes : List ℕ) (p : Parts) → InFile bytes p → read_from bytes ≡ Ok p
-unfolding read_from
-read_again bytes p f =
-    let h = f.1 in
-    let n = length p.procs in
-    let tables =
-    first_again (table_at p.segment n) 1 p.procs
-    (λ k q g. (q.jtab, table_again p.segment n (1 + k) q.jtab (h.procs.each k q g).table)) in
-    let procs = all_again (proc_at p.segment n) 1 p.procs (λ k q g. proc_read p.segment p.procs k q h.procs g) in
-    rw (
-      segment_again bytes f.0 p h,
-      count_again p.segment n h.count h.procs.some h.procs.dictionary,
-      tables,
-      procs,
-      ←
-          h.name,
-      ← h.number,
-    ) refl
-
--- what passed all checks is read
-pub checked_read : (bytes : List ℕ) (k : ℕ) (segment : List ℕ) (n : ℕ) (procs : List Proc) → IsChecked bytes k segment n
-    → all_of (proc_at segment n) 1 n ≡ Ok procs
-    → read_from bytes ≡ Ok
-    (record {
-      name = name_at bytes k;
-      segment = segment;
-      number = slice_index segment (length segment - 2);
-      procs = procs;
-    })
-unfolding read_from
-checked_read bytes k segment n procs h all = rw (h.entry, h.counted, h.tables, all) refl
-
-ok_by : (bytes : List ℕ) (k : ℕ) (segment : List ℕ) (n : ℕ) (r : Result (List Proc) FileFault)
-    → IsChecked bytes k segment n → all_of (proc_at segment n) 1 n ≡ r → IsOk r → IsOk (read_from bytes)
-ok_by bytes k segment n (Ok procs) h all e = rw (checked_read bytes k segment n procs h all) refl
-ok_by bytes k segment n (Err f) h all e = absurd cc
-
--- what passed all checks can be read
-pub checked_ok : (bytes : List ℕ) (k : ℕ) (segment : List ℕ) (n : ℕ) → IsChecked bytes k segment n → IsOk (read_from bytes)
-checked_ok bytes k segment n h =
-    ok_by bytes k segment n (all_of (proc_at segment n) 1 n) h refl (first_passed (proc_at segment n) 1 n h.procs)
-
--- what was answered is in the grammar
-pub found_of : (bytes : List ℕ) (r : Result Parts FileFault) → GivesUnlessMemory r (read_from bytes) → IfOk r (InFile bytes)
-found_of bytes (Ok p) h = read_found bytes p h
-found_of bytes (Err e) h = tt
-
--- what is in the grammar was answered, unless memory ran out
-pub only_of : (bytes : List ℕ) (r : Result Parts FileFault) (p : Parts) → InFile bytes p
-    → GivesUnlessMemory r (read_from bytes) → GivesUnlessMemory r (Ok p)
-only_of bytes r p f h = let P : Result Parts FileFault → Type 0 = λ x. GivesUnlessMemory r x in subst P (read_again bytes p f) h
-
--- what reading makes is whole
-pub whole_by : (p : Parts) (segment : List ℕ) (n : ℕ) → p.segment ≡ segment → length segment < 2 ^ 16 → n < 256 → 0 < n
-    → 2 + 2 * n ≤ length segment → all_of (proc_at segment n) 1 n ≡ Ok p.procs → IsWhole p
-whole_by p segment n same size few above fits h =
-    let found = procs_found segment n p.procs h above fits in
-    record {
-      size = rw same size;
-      few = omega (arith, found.0);
-      procs = rw same found.1;
-    }
+pub read_again : (bytes : List ℕ) (p : Parts) → InFile bytes p → read_from bytes ≡ Ok p
+unfolding read_from segment_of
+read_again bytes p f = grind (arith, nat_tests, only_entry, tables_read, procs_again p.segment p.procs f.1.procs)

@@ -1,6 +1,6 @@
-use Rattle.pcode_file.specs.Checks.{proc_at}
-use Rattle.pcode_file.proofs.Loops.{Decides}
+use Rattle.std.proofs.Common.{◌≡◌, ◌+◌, ◌-◌}
+use Rattle.pcode_file.specs.Checks.{first_of, proc_at}
 use Rattle.pcode_file.proofs.checks.check_procedures.Given as goal
 
 abbrev pub invariant-loop-k : goal.invariant-loop-k
-invariant-loop-k l = Decides (proc_at l.segment l.n) l.k l.n
+invariant-loop-k l = first_of (proc_at l.segment l.n) (l.k + 1) (l.n - l.k) ≡ first_of (proc_at l.segment l.n) 1 l.n

@@ -1,6 +1,9 @@
-use Rattle.std.proofs.Common.{rules}
-use Rattle.pcode_file.proofs.Loops.{used_next}
+use Rattle.std.proofs.Common.{arith}
+use Rattle.std.proofs.lemmas.Grind.{common_steps}
+use Rattle.pcode_file.specs.Checks.{used_from}
+use Rattle.pcode_file.proofs.Results.{one_less}
 use Rattle.pcode_file.proofs.checks.used_from.Goals as goal
 
 pub loop-k-preserved : goal.loop-k-preserved
-loop-k-preserved c = used_next c.args.bytes.now c.loop-k.k 16 _ (search rules) (search rules) c.loop-k.invariant
+unfolding used_from
+loop-k-preserved c = grind (arith, common_steps, one_less)

@@ -1,10 +1,9 @@
-use Rattle.std.proofs.Common.{rules, sym}
-use Rattle.pcode_file.specs.Checks.{proc_at, read_from}
-use Rattle.pcode_file.proofs.Loops.{first_fault}
+use Rattle.std.proofs.Common.{arith}
+use Rattle.std.proofs.lemmas.Grind.{common_steps}
+use Rattle.pcode_file.specs.Checks.{read_from}
+use Rattle.pcode_file.proofs.Results.{first_is}
 use Rattle.pcode_file.proofs.file.checked.Goals as goal
 
-pub returns-in_err-check_procedures : goal.returns-in_err-check_procedures
+pub returns-in_err-check_procedures-clause-value : goal.returns-in_err-check_procedures-clause-value
 unfolding read_from
-returns-in_err-check_procedures c =
-    let all = first_fault (proc_at c.in_ok-k.part.now c.in_ok-n.n) 1 c.in_ok-n.n _ (sym c.in_err-check_procedures.ensures) in
-    search rules
+returns-in_err-check_procedures-clause-value c = grind (arith, common_steps, first_is)
