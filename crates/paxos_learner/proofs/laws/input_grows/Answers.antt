@@ -2,9 +2,4 @@ use Rattle.paxos_learner.proofs.FrontValues.{front_grows, input_longer, keys_lon
 use Rattle.paxos_learner.proofs.laws.input_grows.Goals as goal
 
 pub returns : goal.returns
-returns c = record {
-  keys = keys_longer;
-  bytes = input_longer;
-  values = front_grows;
-  learned = learned_grows;
-}
+returns c = record { keys = keys_longer; bytes = input_longer; values = front_grows; learned = learned_grows }

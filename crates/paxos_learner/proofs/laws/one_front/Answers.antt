@@ -3,9 +3,4 @@ use Rattle.paxos_learner.proofs.LearnedStays.{front_few, front_rises}
 use Rattle.paxos_learner.proofs.laws.one_front.Goals as goal
 
 pub returns : goal.returns
-returns c = record {
-  there = IsFront-front_of;
-  one = front_found;
-  rises = front_rises;
-  few = front_few;
-}
+returns c = record { there = IsFront-front_of; one = front_found; rises = front_rises; few = front_few }
