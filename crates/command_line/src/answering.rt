@@ -1,7 +1,7 @@
 //! What the program does with its words.
 use crate::commands::run::DEFAULT_STEPS;
+use crate::outcome::{BAD_WORDS, DONE, Outcome, Refusal, conclude, refuse};
 use crate::reading::{NotAsked, command_in, no_command, read_words, refused};
-use crate::refusal::{BAD_WORDS, DONE, Refusal, refuse, run_status};
 use machine_run::{MachineRefusal, RunIo, run_built_in};
 use std::io::{Read, Write};
 use std::net::Net;
@@ -23,20 +23,20 @@ pub fn explain<W: Write, E: Write>(writer: &mut W, errors: &mut E, reason: NotAs
     }
 }
 
-/// Does what the words ask for. Returns the status, or why they ask for nothing that is done.
+/// Does what the words ask for. Returns how that ended, or why they ask for nothing that is done.
 fn perform<H: Files + Net + Clock + Env + AllocGlobal + Copy + Drop, R: Read, W: Write, E: Write>(
     rt: &H,
     words: &[String],
     reader: &mut R,
     writer: &mut W,
     errors: &mut E,
-) -> Result<u8, NotAsked> {
+) -> Result<Outcome, NotAsked> {
     let matches = read_words(rt.alloc(), words)?;
     let Some((name, own)) = command_in(&matches) else {
         return Err(no_command(rt.alloc())?);
     };
     match name.perform(rt, own, reader, writer, errors) {
-        Ok(status) => Ok(status),
+        Ok(outcome) => Ok(outcome),
         Err(fault) => Err(refused(rt.alloc(), name, fault)),
     }
 }
@@ -53,10 +53,10 @@ pub fn answer<
 >(rt: &H, words: &[String], reader: &mut R, writer: &mut W, errors: &mut E) -> u8 {
     if words.is_empty() {
         let ran = run_built_in(rt.alloc(), DEFAULT_STEPS, writer);
-        return run_status(errors, ran);
+        return conclude(errors, Outcome::of_run(ran));
     }
     match perform(rt, words, reader, writer, errors) {
-        Ok(status) => status,
+        Ok(outcome) => conclude(errors, outcome),
         Err(reason) => explain(writer, errors, reason),
     }
 }

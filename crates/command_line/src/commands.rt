@@ -7,6 +7,7 @@ pub mod run;
 mod show;
 mod sim;
 
+use crate::outcome::Outcome;
 use crate::value::WordFault;
 use clap::{ArgMatches, Command};
 use std::alloc::{AllocError, Global};
@@ -88,7 +89,8 @@ impl Name {
         in_module!(self, words(alloc, word))
     }
 
-    /// Does what the command's words ask for. Returns the status, or what is wrong with the words.
+    /// Does what the command's words ask for. Returns how that ended, or what is wrong with the
+    /// words.
     pub fn perform<
         'a,
         H: Files + Net + Clock + Env + AllocGlobal + Copy + Drop,
@@ -102,8 +104,16 @@ impl Name {
         reader: &mut R,
         writer: &mut W,
         errors: &mut E,
-    ) -> Result<u8, WordFault<'a>> {
-        in_module!(self, perform(rt, matches, reader, writer, errors))
+    ) -> Result<Outcome, WordFault<'a>> {
+        match self {
+            Name::Check => check::perform(rt, matches, writer),
+            Name::List => list::perform(rt, matches, writer),
+            Name::Run => run::perform(rt, matches, reader, writer),
+            Name::Show => show::perform(rt.alloc(), matches, writer),
+            Name::Sim => sim::perform(rt, matches, writer),
+            Name::Net => net::perform(rt, matches, reader, writer),
+            Name::Node => node::perform(rt, matches, reader, writer, errors),
+        }
     }
 
     /// Returns the command by itself, for the texts of its faults: its usage begins with `pgroup`

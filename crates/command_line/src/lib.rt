@@ -13,8 +13,8 @@
 
 mod answering;
 mod commands;
+mod outcome;
 mod reading;
-mod refusal;
 mod shared_words;
 mod value;
 

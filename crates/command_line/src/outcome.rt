@@ -1,4 +1,4 @@
-//! What a command refuses, its texts, and the statuses of commands.
+//! How a command ends, with its refusals, its texts and its status.
 use group_sim::{LineFault, ScriptRefusal};
 use group_udp::GroupFault;
 use machine_run::{Finish, MachineRefusal, ShowFault};
@@ -54,6 +54,58 @@ impl From<ScriptRefusal> for Refusal {
     }
 }
 
+/// How a command ends.
+#[derive(Clone, Copy, Debug)]
+pub enum Outcome {
+    /// It did its work.
+    Done,
+    /// It ran a program.
+    Ran(Finish),
+    /// The word HEX is no bytes.
+    BadHex,
+    Refused(Refusal),
+}
+
+impl Outcome {
+    /// Returns the outcome of a command that returns nothing.
+    pub fn of_done<F: Into<Refusal>>(done: Result<(), F>) -> Outcome {
+        match done {
+            Ok(()) => Outcome::Done,
+            Err(refusal) => Outcome::Refused(refusal.into()),
+        }
+    }
+
+    /// Returns the outcome of a run.
+    pub fn of_run(ran: Result<Finish, MachineRefusal>) -> Outcome {
+        match ran {
+            Ok(finish) => Outcome::Ran(finish),
+            Err(refusal) => Outcome::Refused(Refusal::Machine(refusal)),
+        }
+    }
+
+    /// Returns the outcome of `show`.
+    pub fn of_show(shown: Result<(), ShowFault>) -> Outcome {
+        match shown {
+            Ok(()) => Outcome::Done,
+            Err(ShowFault::BadHex) => Outcome::BadHex,
+            Err(ShowFault::Refused(refusal)) => Outcome::Refused(Refusal::Machine(refusal)),
+        }
+    }
+}
+
+/// Writes the text of an outcome, if it has one. Returns its status.
+pub fn conclude<E: Write>(errors: &mut E, outcome: Outcome) -> u8 {
+    match outcome {
+        Outcome::Done => DONE,
+        Outcome::Ran(finish) => conclude_run(errors, finish),
+        Outcome::BadHex => {
+            let _ = writeln!(errors, "bad hex");
+            BAD_WORDS
+        }
+        Outcome::Refused(refusal) => refuse(errors, refusal),
+    }
+}
+
 /// Writes a refusal. Returns its status.
 pub fn refuse<E: Write>(errors: &mut E, refusal: Refusal) -> u8 {
     let _ = match refusal {
@@ -63,16 +115,8 @@ pub fn refuse<E: Write>(errors: &mut E, refusal: Refusal) -> u8 {
     REFUSED
 }
 
-/// Writes why a command was refused, if it was. Returns its status.
-pub fn done_status<E: Write, F: Into<Refusal>>(errors: &mut E, done: Result<(), F>) -> u8 {
-    match done {
-        Ok(()) => DONE,
-        Err(refusal) => refuse(errors, refusal.into()),
-    }
-}
-
 /// Writes how a run ended. Returns its status.
-fn finish_status<E: Write>(errors: &mut E, finish: Finish) -> u8 {
+fn conclude_run<E: Write>(errors: &mut E, finish: Finish) -> u8 {
     match finish {
         Finish::Normal | Finish::Error(End::Normal) => DONE,
         Finish::Error(
@@ -96,25 +140,5 @@ fn finish_status<E: Write>(errors: &mut E, finish: Finish) -> u8 {
             let _ = writeln!(errors, "steps");
             STEPS_SPENT
         }
-    }
-}
-
-/// Writes how a run ended, or why it was refused. Returns its status.
-pub fn run_status<E: Write>(errors: &mut E, ran: Result<Finish, MachineRefusal>) -> u8 {
-    match ran {
-        Ok(finish) => finish_status(errors, finish),
-        Err(refusal) => refuse(errors, Refusal::Machine(refusal)),
-    }
-}
-
-/// Writes why a datagram was not printed, if it was not. Returns the status.
-pub fn shown_status<E: Write>(errors: &mut E, shown: Result<(), ShowFault>) -> u8 {
-    match shown {
-        Ok(()) => DONE,
-        Err(ShowFault::BadHex) => {
-            let _ = writeln!(errors, "bad hex");
-            BAD_WORDS
-        }
-        Err(ShowFault::Refused(refusal)) => refuse(errors, Refusal::Machine(refusal)),
     }
 }

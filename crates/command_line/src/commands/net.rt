@@ -1,5 +1,5 @@
 //! `net FILE SIZE TURNS`.
-use crate::refusal::done_status;
+use crate::outcome::Outcome;
 use crate::shared_words::{FILE, SIZE, TURNS, on_file, size_arg, value_arg};
 use crate::value::{WordFault, byte_of, count_of, text_of};
 use clap::{ArgMatches, Command};
@@ -37,17 +37,16 @@ pub fn words<'a>(alloc: Global, name: &'static str) -> Result<Command<'a>, Alloc
         .arg(value_arg(alloc, TURNS, "How many turns each node has"))
 }
 
-/// Does what the words ask for. Returns the status, or what is wrong with the words.
-pub fn perform<'a, H: Files + Net + Clock + AllocGlobal, R: Read, W: Write, E: Write>(
+/// Does what the words ask for. Returns how that ended, or what is wrong with the words.
+pub fn perform<'a, H: Files + Net + Clock + AllocGlobal, R: Read, W: Write>(
     rt: &H,
     matches: &ArgMatches<'a>,
     reader: &mut R,
     writer: &mut W,
-    errors: &mut E,
-) -> Result<u8, WordFault<'a>> {
+) -> Result<Outcome, WordFault<'a>> {
     let file = text_of(matches, FILE)?;
     let size = byte_of(matches, SIZE)?;
     let turns = count_of(matches, TURNS)?;
     let done = net_file(rt, file, size, turns, reader, writer);
-    Ok(done_status(errors, done))
+    Ok(Outcome::of_done(done))
 }

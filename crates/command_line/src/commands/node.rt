@@ -1,5 +1,5 @@
 //! `node FILE ID SIZE SESSION RECORD TURNS ADDR.. [--seen N] [--campaign] [--keys ADDR]`.
-use crate::refusal::done_status;
+use crate::outcome::Outcome;
 use crate::shared_words::{
     FILE, SESSION, SIZE, TURNS, on_file, option_arg, size_arg, text_arg, value_arg,
 };
@@ -191,7 +191,7 @@ fn is_log_asked<H: Env + AllocGlobal>(rt: &H) -> bool {
     }
 }
 
-/// Does what the words ask for. Returns the status, or what is wrong with the words.
+/// Does what the words ask for. Returns how that ended, or what is wrong with the words.
 pub fn perform<
     'a,
     H: Files + Net + Clock + Env + AllocGlobal + Copy + Drop,
@@ -204,7 +204,7 @@ pub fn perform<
     reader: &mut R,
     writer: &mut W,
     errors: &mut E,
-) -> Result<u8, WordFault<'a>> {
+) -> Result<Outcome, WordFault<'a>> {
     let file = text_of(matches, FILE)?;
     let (node, group) = read_group(matches)?;
     let record = path_of(matches, RECORD)?;
@@ -224,5 +224,5 @@ pub fn perform<
         is_logged: is_log_asked(rt),
     };
     let done = node_file(rt, file, &plan, reader, writer, errors);
-    Ok(done_status(errors, done))
+    Ok(Outcome::of_done(done))
 }

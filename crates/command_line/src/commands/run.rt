@@ -1,5 +1,5 @@
 //! `run FILE [--steps N]`.
-use crate::refusal::run_status;
+use crate::outcome::Outcome;
 use crate::shared_words::{FILE, on_file, option_arg};
 use crate::value::{Word, WordFault, count_in, text_of};
 use clap::{ArgMatches, Command};
@@ -40,19 +40,18 @@ pub fn words<'a>(alloc: Global, name: &'static str) -> Result<Command<'a>, Alloc
     on_file(alloc, name, about, HELP)?.arg(option_arg(alloc, STEPS, "N", steps))
 }
 
-/// Does what the words ask for. Returns the status, or what is wrong with the words.
-pub fn perform<'a, H: Files + AllocGlobal, R: Read, W: Write, E: Write>(
+/// Does what the words ask for. Returns how that ended, or what is wrong with the words.
+pub fn perform<'a, H: Files + AllocGlobal, R: Read, W: Write>(
     rt: &H,
     matches: &ArgMatches<'a>,
     reader: &mut R,
     writer: &mut W,
-    errors: &mut E,
-) -> Result<u8, WordFault<'a>> {
+) -> Result<Outcome, WordFault<'a>> {
     let file = text_of(matches, FILE)?;
     let steps = match matches.get_str(STEPS.name) {
         None => DEFAULT_STEPS,
         Some(text) => count_in(STEPS, text)?,
     };
     let ran = run_file(rt, file, steps, reader, writer);
-    Ok(run_status(errors, ran))
+    Ok(Outcome::of_run(ran))
 }

@@ -1,12 +1,12 @@
 //! `show SIZE SESSION HEX`.
-use crate::refusal::shown_status;
+use crate::outcome::Outcome;
 use crate::shared_words::{SESSION, SIZE, value_arg};
 use crate::value::{Word, WordFault, byte_of, count_of, text_of};
 use clap::{ArgMatches, Command};
 use machine_run::show;
 use paxos_msg::Group;
 use std::alloc::{AllocError, Global};
-use std::io::{Read, Write};
+use std::io::Write;
 
 const HEX: Word = Word {
     name: "HEX",
@@ -41,17 +41,15 @@ pub fn words<'a>(alloc: Global, name: &'static str) -> Result<Command<'a>, Alloc
         .arg(value_arg(alloc, HEX, hex))
 }
 
-/// Does what the words ask for. Returns the status, or what is wrong with the words.
-pub fn perform<'a, H: AllocGlobal, R: Read, W: Write, E: Write>(
-    rt: &H,
+/// Does what the words ask for. Returns how that ended, or what is wrong with the words.
+pub fn perform<'a, W: Write>(
+    alloc: Global,
     matches: &ArgMatches<'a>,
-    _reader: &mut R,
     writer: &mut W,
-    errors: &mut E,
-) -> Result<u8, WordFault<'a>> {
+) -> Result<Outcome, WordFault<'a>> {
     let size = byte_of(matches, SIZE)?;
     let session = count_of(matches, SESSION)?;
     let digits = text_of(matches, HEX)?;
-    let shown = show(rt.alloc(), Group { size, session }, digits, writer);
-    Ok(shown_status(errors, shown))
+    let shown = show(alloc, Group { size, session }, digits, writer);
+    Ok(Outcome::of_show(shown))
 }

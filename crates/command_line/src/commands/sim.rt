@@ -1,11 +1,11 @@
 //! `sim FILE SCRIPT`.
-use crate::refusal::done_status;
+use crate::outcome::Outcome;
 use crate::shared_words::{FILE, on_file, text_arg};
 use crate::value::{Word, WordFault, text_of};
 use clap::{ArgMatches, Command};
 use group_sim::sim_file;
 use std::alloc::{AllocError, Global};
-use std::io::{Read, Write};
+use std::io::Write;
 use std::rt::Files;
 
 const SCRIPT: Word = Word {
@@ -37,16 +37,14 @@ pub fn words<'a>(alloc: Global, name: &'static str) -> Result<Command<'a>, Alloc
     on_file(alloc, name, about, HELP)?.arg(text_arg(alloc, SCRIPT, script))
 }
 
-/// Does what the words ask for. Returns the status, or what is wrong with the words.
-pub fn perform<'a, H: Files + AllocGlobal, R: Read, W: Write, E: Write>(
+/// Does what the words ask for. Returns how that ended, or what is wrong with the words.
+pub fn perform<'a, H: Files + AllocGlobal, W: Write>(
     rt: &H,
     matches: &ArgMatches<'a>,
-    _reader: &mut R,
     writer: &mut W,
-    errors: &mut E,
-) -> Result<u8, WordFault<'a>> {
+) -> Result<Outcome, WordFault<'a>> {
     let file = text_of(matches, FILE)?;
     let script = text_of(matches, SCRIPT)?;
     let done = sim_file(rt, file, script, writer);
-    Ok(done_status(errors, done))
+    Ok(Outcome::of_done(done))
 }
