@@ -1,7 +1,7 @@
+mod Calls
 mod Releasing
 mod Consoles
 mod Writing
-mod Rounding
 mod Showing
 mod Senders
 mod Kept

@@ -1,10 +1,10 @@
-use Rattle.group_udp.proofs.Consoles.{first_start, later_output, later_start, released_is_output}
+use Rattle.group_udp.proofs.Consoles.{first_is_output, first_start, later_output, later_start}
 use Rattle.group_udp.proofs.laws.consoles_go_on.Goals as goal
 
 pub returns : goal.returns
 returns c = record {
   first = first_start;
-  output = λ x q h. released_is_output x q;
+  output = λ x q h. first_is_output _ _ _ _ (first_start x q h);
   goes_on = later_start c.output_only_grows.ensures.compared;
   output_again =
       λ x y console q same shows h.

@@ -1,9 +1,13 @@
-use Rattle.group_udp.proofs.Showing.{file_run}
+use Rattle.std.proofs.Common.{inl}
 use Rattle.group_udp.proofs.node.node_noted.Goals as goal
 
 pub returns : goal.returns
 returns g c =
     record {
-      runs = file_run _ _ _ _ _ _ _ _ _ _ _ _ c.in_ok-config.ensures.ok
-          (rw c.new-writer.ensures.inner) c.run_over_file.ensures.runs c.run_over_file.ensures.written;
+      runs = inl (
+        _,
+        _,
+        rw (c.in_ok-config.ensures.ok, c.new-writer.ensures.inner) at c.run_over_file.ensures.runs,
+        rw c.new-writer.ensures.inner at c.run_over_file.ensures.written,
+      );
     }

@@ -1,18 +1,14 @@
-use Rattle.std.proofs.Common.{◌≡◌, refl}
+use Rattle.std.proofs.Common.{refl, arith}
 use Rattle.std.proofs.lemmas.Result.{err_from_is_err_and}
 use Rattle.group_udp.specs.Rounds.{CampaignsIf, HasPlayed, Unwritten}
-use Rattle.group_udp.specs.Refusals.{write_failed}
-use Rattle.group_udp.proofs.Rounding.{then_last}
-use Rattle.group_udp.proofs.Showing.{no_campaign_write}
+use Rattle.group_udp.proofs.Calls.{then_last}
 use Rattle.group_udp.proofs.Writing.{wrote_none}
 use Rattle.group_udp.proofs.rounds.campaign_and_play.Goals as goal
 
 pub returns-in_err-campaign_if-clause-writes : goal.returns-in_err-campaign_if-clause-writes
 returns-in_err-campaign_if-clause-writes g c =
     wrote_none c.args.plan.now.seen c.args.host.now c.campaign_if.new.host _ _
-    (λ f. let p = err_from_is_err_and c.from_residual.result c.from_residual.ensures.1 in
-    let w : c.in_err-campaign_if.field-0.0 ≡ write_failed =
-    cc in no_campaign_write _ c.in_err-campaign_if.ensures.others w) c.in_err-campaign_if.ensures.stays
+    (let p = err_from_is_err_and c.from_residual.result c.from_residual.ensures.1 in grind arith) c.in_err-campaign_if.ensures.stays
 
 pub returns-clause-plays : goal.returns-clause-plays
 returns-clause-plays g c =

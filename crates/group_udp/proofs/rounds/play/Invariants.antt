@@ -1,5 +1,6 @@
-use Rattle.std.proofs.Common.{◌≡◌, ◌++◌, ℕ, true, List, drop}
-use Rattle.group_udp.proofs.Writing.{WroteSoFar}
+use Rattle.std.proofs.Common.{◌≡◌, true, Ok, IsErrOf}
+use Rattle.group_udp.specs.Output.{AppendsOutput}
+use Rattle.group_udp.specs.Refusals.{write_failed}
 use Rattle.group_udp.specs.Rounds.{Rounds}
 use Rattle.group_udp.proofs.rounds.play.Given as goal
 
@@ -10,6 +11,6 @@ invariant-loop g l = record {
       (record { node = l.fn.host; written = g.W.ByteWriter.contents l.fn.writer }) l.is_busy
       (record { node = l.host; written = g.W.ByteWriter.contents l.writer });
   program : l.host.progress.program ≡ l.fn.host.progress.program;
-  wrote : WroteSoFar l.plan.seen l.fn.host l.host (g.W.ByteWriter.contents l.fn.writer)
+  wrote : AppendsOutput l.plan.seen l.fn.host l.host (IsErrOf {T = Unit {0}} (Ok tt) write_failed) (g.W.ByteWriter.contents l.fn.writer)
       (g.W.ByteWriter.contents l.writer);
 }

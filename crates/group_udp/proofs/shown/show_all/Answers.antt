@@ -1,16 +1,14 @@
-use Rattle.std.proofs.Common.{◌∙◌, ℕ, List, ap}
+use Rattle.std.proofs.Common.{arith, ap}
 use Rattle.group_node.specs.States.{Protocol, input}
-use Rattle.group_wire.specs.Turns.{released_of}
 use Rattle.group_udp.proofs.Releasing.{shown_more}
 use Rattle.group_udp.proofs.shown.show_all.Goals as goal
 
 pub loop-preserved : goal.loop-preserved
-loop-preserved g c =
-    let same = ap (λ (p : Protocol g.row.S.Denot). input p.known) c.loop.invariant.protocol in
-    record {
-      gone = shown_more _ _ c.args.host.now.progress c.loop.host.progress c.show_next.new.host.progress c.loop.counter
-          c.args.console.now.bytes c.loop.console.bytes c.show_next.new.console.bytes same c.requires.shows c.loop.invariant.gone
-          c.in_ok-show_next.ensures.one c.in_ok-show_next.ensures.shows;
-      shows = c.in_ok-show_next.ensures.shows ∙ ap (λ (z : List ℕ). released_of z c.show_next.new.host.progress) same;
-      protocol = c.in_ok-show_next.ensures.rest ∙ c.loop.invariant.protocol;
-    }
+loop-preserved g c = record {
+  gone = shown_more _ _ c.args.host.now.progress c.loop.host.progress c.show_next.new.host.progress c.loop.counter
+      c.args.console.now.bytes c.loop.console.bytes c.show_next.new.console.bytes
+      (ap (λ (p : Protocol g.row.S.Denot). input p.known) c.loop.invariant.protocol) c.requires.shows c.loop.invariant.gone
+      c.in_ok-show_next.ensures.one c.in_ok-show_next.ensures.shows;
+  shows = grind arith;
+  protocol = cc;
+}

@@ -1,5 +1,5 @@
 use Rattle.group_udp.specs.Rounds.{HasOwnTurn, HasShownAll}
-use Rattle.group_udp.proofs.Rounding.{then_last}
+use Rattle.group_udp.proofs.Calls.{then_last}
 use Rattle.group_udp.proofs.shown.ShownNode.turn.Goals as goal
 
 pub returns-clause-turns : goal.returns-clause-turns
