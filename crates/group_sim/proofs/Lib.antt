@@ -1,5 +1,4 @@
 pub mod Writing
-pub mod Parts
 pub mod Turns
 pub mod Lines
 pub mod Halting

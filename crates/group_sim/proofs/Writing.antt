@@ -1,8 +1,13 @@
 -- Texts that are written one after the other.
-use Rattle.std.proofs.Common.{◌≡◌, ℕ, List, [], ◌++◌, take, drop, length, length-drop, ◌-◌, arith, Option, Result, Ok, Err, IsErr, sym, ap, ◌∙◌, append_assoc}
-use Rattle.std.proofs.lemmas.List.{take-append-drop, take_all}
+use Rattle.std.proofs.Common.{◌≡◌, ℕ, zero, suc, ◌+◌, ◌-◌, ◌<◌, ◌==◌, false, add-suc, arith, length-drop, subst}
+use Rattle.std.proofs.Common.{List, [], ◌∷◌, ◌++◌, take, drop, get_or, length, Option, Result, IsErr}
+use Rattle.std.specs.Prelude.{codes}
+use Rattle.std.specs.List.{flat_map}
 use Rattle.std.specs.Io.KnownBytes.{Appends, Keeps}
 use Rattle.std.proofs.KnownBytes.{Appends-trans, Appends-kept}
+use Rattle.std.proofs.lemmas.Grind.{common_steps, flat_map-append}
+use Rattle.std.proofs.lemmas.List.{take-append-drop, take_all, take_more}
+use Rattle.group_sim.specs.Groups.{console_text, hex_text, lines_below}
 use Rattle.group_sim.specs.Texts.{AppendsFront, WritesText}
 
 -- of a text all but this rest was appended
@@ -12,53 +17,92 @@ pub record IsLeft (old new : Option (List ℕ)) (text rest : List ℕ) : Type 0 
   pub appends : Appends old new front
 
 -- a write that took the front of what was left leaves less
-pub left-less : (old mid new : Option (List ℕ)) (text rest : List ℕ) (n : ℕ) → IsLeft old mid text rest
-    → Appends mid new (take n rest) → IsLeft old new text (drop n rest)
-left-less old mid new text rest n h p = record {
-  front = h.front ++ take n rest;
-  whole = h.whole ∙ ap (λ l. h.front ++ l) (sym (take-append-drop n rest)) ∙ sym (append_assoc h.front (take n rest) (drop n rest));
-  appends = Appends-trans old mid new h.front (take n rest) h.appends p;
-}
-
--- the same where what is left is a part of a slice
 pub left-part : (old mid new : Option (List ℕ)) (text rest : List ℕ) (n : ℕ) → IsLeft old mid text rest → Appends mid new (take n rest)
     → IsLeft old new text (take (length rest - n) (drop n rest))
 left-part old mid new text rest n h p =
-    rw (take_all (length rest - n) (drop n rest) (omega (arith, length-drop n rest))) (left-less old mid new text rest n h p)
+    rw (take_all (length rest - n) (drop n rest) (omega (arith, length-drop n rest))) (record {
+      front = h.front ++ take n rest;
+      whole = grind (arith, common_steps, take-append-drop);
+      appends = grind (arith, common_steps, Appends-trans);
+    })
 
 -- a write that failed leaves all that was left
 pub left-same : (old mid new : Option (List ℕ)) (text rest : List ℕ) → IsLeft old mid text rest → Keeps mid new → IsLeft old new text rest
-left-same old mid new text rest h p = record { front = h.front; whole = h.whole; appends = Appends-kept old mid new h.front h.appends p }
+left-same old mid new text rest h p = grind (arith, common_steps, Appends-kept)
 
 -- ---- one text after another
 
--- a front of the first
-pub front-first : (old new : Option (List ℕ)) (a b : List ℕ) → AppendsFront old new a → AppendsFront old new (a ++ b)
-front-first old new a b h = record {
-  front = h.front;
-  rest = h.rest ++ b;
-  whole = ap (λ l. l ++ b) h.whole ∙ append_assoc h.front h.rest b;
-  appends = h.appends;
-}
+-- a text, and then these
+abbrev pub followed : List ℕ → List (List ℕ) → List ℕ
+followed a [] = a
+followed a (p ∷ ps) = followed (a ++ p) ps
 
--- the first, and a front of the second
-pub front-second : (old mid new : Option (List ℕ)) (a b : List ℕ) → Appends old mid a → AppendsFront mid new b
-    → AppendsFront old new (a ++ b)
-front-second old mid new a b p h = record {
-  front = a ++ h.front;
-  rest = h.rest;
-  whole = ap (λ l. a ++ l) h.whole ∙ sym (append_assoc a h.front h.rest);
-  appends = Appends-trans old mid new a h.front p h.appends;
-}
+-- a front of a text is a front of a longer one
+one-more : {old new : Option (List ℕ)} {a : List ℕ} (p : List ℕ) → AppendsFront old new a → AppendsFront old new (a ++ p)
+one-more p h = grind (arith, common_steps)
 
--- what an early return leaves
-pub failed : {E : Type 0} (old new : Option (List ℕ)) (r : Result (Unit {0}) E) (text : List ℕ) → IsErr r
-    → AppendsFront old new text → WritesText old r new text
-failed old new (Ok x) text e h = absurd (let z : ⊥ = cc in z)
-failed old new (Err x) text e h = h
+-- a front of the first text is a front of all
+front-first : {old new : Option (List ℕ)} {a : List ℕ} (ps : List (List ℕ)) → AppendsFront old new a
+    → AppendsFront old new (followed a ps)
+front-first [] h = h
+front-first (p ∷ ps) h = front-first ps (one-more p h)
+
+-- an early return at the first text
+pub failed-first : {E : Type 0} {old new : Option (List ℕ)} {a : List ℕ} (r : Result (Unit {0}) E) (ps : List (List ℕ))
+    → IsErr r → AppendsFront old new a → WritesText old r new (followed a ps)
+failed-first {E} {old} {new} {a} r ps e h = let all = front-first ps h in grind (arith, common_steps)
+
+-- and at a later one, where the texts before it were written
+pub failed-at : {E : Type 0} {mid new : Option (List ℕ)} {p : List ℕ} (old : Option (List ℕ)) (r : Result (Unit {0}) E)
+    (a : List ℕ) (ps : List (List ℕ)) → IsErr r → Appends old mid a → AppendsFront mid new p → WritesText old r new (followed (a ++ p) ps)
+failed-at {E} {mid} {new} {p} old r a ps e q h =
+    failed-first r ps e (let both : AppendsFront old new (a ++ p) = grind (arith, common_steps, Appends-trans) in both)
 
 -- a text that another follows
 pub appended : {E : Type 0} (old mid new : Option (List ℕ)) (r : Result (Unit {0}) E) (a b : List ℕ) → Appends old mid a
     → WritesText mid r new b → WritesText old r new (a ++ b)
-appended old mid new (Ok x) a b p h = Appends-trans old mid new a b p h
-appended old mid new (Err x) a b p h = front-second old mid new a b p h
+appended old mid new r a b p h = grind (arith, common_steps, Appends-trans)
+
+-- ---- a text for each item of a list
+
+-- an early return at an item
+pub item-failed : {E : Type 0} (f : ℕ → List ℕ) (xs : List ℕ) (i d : ℕ)
+    (old mid new : Option (List ℕ)) (r : Result (Unit {0}) E) → i < length xs → IsErr r
+    → Appends old mid (flat_map f (take i xs)) → AppendsFront mid new (f (get_or xs i d))
+    → WritesText old r new (flat_map f xs)
+item-failed {E} f xs i d old mid new r less e p q =
+    let whole : flat_map f (take i xs) ++ f (get_or xs i d) ++ flat_map f (drop (i + 1) xs) ≡ flat_map f xs =
+    rw (← take-append-drop (i + 1) xs, flat_map-append, take_more xs i d less) (grind (arith, common_steps)) in
+    subst (λ (text : List ℕ). WritesText old r new text) whole (failed-at old r _ (_ ∷ []) e p q)
+
+-- ---- a text for each number
+
+-- one more is written
+pub line-appended : (line : ℕ → List ℕ) (n : ℕ) (old mid new : Option (List ℕ))
+    → Appends old mid (lines_below line n) → Appends mid new (line n)
+    → Appends old new (lines_below line (n + 1))
+unfolding lines_below
+line-appended line n old mid new p q = grind (arith, common_steps, Appends-trans)
+
+-- a front of those below a number is a front of more
+line-front : (line : ℕ → List ℕ) (i k : ℕ) (old new : Option (List ℕ))
+    → AppendsFront old new (lines_below line i) → AppendsFront old new (lines_below line (i + k))
+unfolding lines_below
+line-front line i zero old new h = grind arith
+line-front line i (suc k) old new h = rw add-suc (one-more (line (i + k)) (line-front line i k old new h))
+
+-- an early return at a line
+pub line-failed : {E : Type 0} (line : ℕ → List ℕ) (i n : ℕ) (old mid new : Option (List ℕ))
+    (r : Result (Unit {0}) E) → i < n → IsErr r → Appends old mid (lines_below line i)
+    → AppendsFront mid new (line i) → WritesText old r new (lines_below line n)
+unfolding lines_below
+line-failed {E} line i n old mid new r less e p q =
+    let here : AppendsFront old new (lines_below line (suc i)) = grind (arith, common_steps, Appends-trans) in
+    let all : suc i + (n - suc i) ≡ n = omega arith in
+    failed-first r [] e (rw all at (line-front line (suc i) (n - suc i) old new here))
+
+-- ---- a console
+
+-- one that has shown something
+pub console_text-some : (bytes : List ℕ) → (length bytes == 0) ≡ false → console_text bytes ≡ codes " console " ++ hex_text bytes
+console_text-some bytes some = grind (arith, common_steps)

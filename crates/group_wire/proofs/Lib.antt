@@ -1,4 +1,3 @@
 pub mod Carrying
 pub mod Hearing
-pub mod Learning
 pub mod Going

@@ -1,13 +1,9 @@
+use Rattle.std.proofs.Common.{rules}
 use Rattle.group_sim.specs.Groups.{hex_digits}
-use Rattle.group_sim.proofs.Parts.{item-appended, item-failed}
+use Rattle.group_sim.proofs.Writing.{item-failed}
 use Rattle.group_sim.proofs.text.put_hex.Goals as goal
 
 pub returns-in_err-put_byte : goal.returns-in_err-put_byte
 returns-in_err-put_byte g c =
     item-failed hex_digits c.args.bytes.now c.loop-byte.byte-index 0 _ _ _ _ c.loop-byte-test.true
-    c.from_residual.ensures.0 c.loop-byte.invariant c.in_err-put_byte.ensures
-
-pub loop-byte-preserved : goal.loop-byte-preserved
-loop-byte-preserved g c =
-    item-appended hex_digits c.args.bytes.now c.loop-byte.byte-index 0 _ _ _ c.loop-byte-test.true
-    c.loop-byte.invariant c.in_ok-put_byte.ensures
+    (search rules) c.loop-byte.invariant c.in_err-put_byte.ensures

@@ -3,6 +3,4 @@ use Rattle.group_wire.proofs.sending.send_to_all.Goals as goal
 
 pub loop-node-preserved : goal.loop-node-preserved
 loop-node-preserved g c =
-    next_letter (g.T.Wire.traffic c.loop-node.wire)
-    (g.T.Wire.traffic c.send.new.self) _ c.args.bytes.now c.args.size c.loop-node.node c.loop-node-test.true
-    c.send.ensures.handed c.loop-node.invariant
+    next_letter _ _ _ c.args.bytes.now c.args.size c.loop-node.node c.loop-node-test.true c.send.ensures.handed c.loop-node.invariant
