@@ -1,178 +1,168 @@
 -- What a learner keeps stays true when a place is learned, and when the front rises.
-use Rattle.std.proofs.Common.{◌≡◌, ◌∙◌, ℕ, zero, suc, ◌+◌, ◌*◌, ◌<◌, ◌≤◌, min, Bool, true, false, IsTrue, List, [], ◌∷◌, ◌++◌, length, take, drop, map, Option, None, Some, is_some, is_none, inl, inr, if◌then◌else◌, slice_index, refl, sym, ap, arith}
-use Rattle.std.proofs.lemmas.Bool.{cases_eq, cases_lt, lt-ltb, le-ltb, true≢false}
-use Rattle.std.proofs.lemmas.List.{take_all, take-append-le, take-append-drop, map-append}
-use Rattle.std.specs.Ordering.{nat_cmp}
-use Rattle.std.specs.FinMap.{FinMap, get, insert, empty, get-empty}
+use Rattle.std.proofs.Common.{◌≡◌, ℕ, ◌+◌, ◌<◌, ◌≤◌, List, [], ◌∷◌, ◌++◌, length, cond, ◌==◌, slice_index, length-append, ap, arith, zero, suc, ◌*◌, min, take, drop, map, None, Some, refl, inl, inr}
+use Rattle.std.proofs.lemmas.List.{get_or_append_left, get_or_push, length_push, append-nil, take_all, take-append-le, take-append-drop, map-append}
 use Rattle.std.proofs.lemmas.Bool.Decides.{nat_tests}
 use Rattle.paxos_msg.specs.declared.value.Value.{Value}
-use Rattle.indexmap.specs.IndexSet.{insert_all, insert_key}
 use Rattle.paxos_msg.specs.Keys.{Key, keys_of}
-use Rattle.paxos_learner.specs.Input.{same_key, keys_in_order, values_below, input_of}
-use Rattle.paxos_learner.specs.Entered.{Entered, keys_with, count_below}
-use Rattle.paxos_learner.specs.Kept.{IsInputOf}
-use Rattle.paxos_learner.specs.Learner.{Learner, IsFront, is_open}
-use Rattle.paxos_learner.proofs.Ends.{each_place, end_before, end_here, entered_no_fewer, longer, no_fewer}
-use Rattle.paxos_learner.proofs.KeysOnce.{keys_entered}
+use Rattle.paxos_learner.specs.Input.{same_key, keys_in_order, values_below, input_of, front_values}
+use Rattle.paxos_learner.specs.Entered.{IsCounted, keys_with, Entered, count_below}
+use Rattle.paxos_learner.proofs.KeyTests.{entered_longer, keys_entered, entered_from, entered_new, entered_old}
+use Rattle.std.specs.Ordering.{nat_cmp}
+use Rattle.std.specs.FinMap.{FinMap, get, insert, empty, get-empty}
+use Rattle.paxos_learner.specs.Kept.{IsInputOf, AreKnown, IsKept}
 use Rattle.paxos_learner.proofs.ValuesBelow.{values_more, same_below}
-use Rattle.paxos_learner.proofs.OnePlace.{get_other}
+use Rattle.paxos_learner.proofs.OnePlace.{get_put, each_put, get_here}
+use Rattle.std.specs.Prelude.{Contains}
+use Rattle.paxos_learner.specs.Learner.{front_of}
+use Rattle.paxos_learner.proofs.Fronts.{front_found}
+use Rattle.paxos_learner.proofs.Hearing.{begun_in_window, insert_more}
+
+-- ---- how many keys there were after each place
+
+-- there are no fewer keys with more
+pub no_fewer : (keys : List Key) (v : Value) → length keys ≤ length (keys_with keys v)
+no_fewer keys v =
+    let all = entered_longer same_key keys (keys_of v) in
+    omega (arith, ap length all.1, length-append keys all.0)
+
+module _ (ends more : List ℕ) (last : ℕ) (is : more ≡ ends ++ last ∷ []) where
+  -- there is one place more
+  pub longer : length more ≡ length ends + 1
+  longer = omega (arith, ap length is, length_push ends last)
+
+  -- this one ends there, and the places before end where they did
+  pub ends_at : (s : ℕ) → s < length more → slice_index more s ≡ cond (s == length ends) last (slice_index ends s)
+  ends_at s low = rw is (grind (arith, nat_tests, longer, get_or_append_left ends (last ∷ []) 0 s, get_or_push ends last 0 s))
+
+  -- no place has more before it than there are
+  pub ends_within : (n : ℕ) → n ≤ last → ((s : ℕ) → s < length ends → slice_index ends s ≤ n) → (s : ℕ)
+      → s < length more → slice_index more s ≤ last
+  ends_within n fewer within s low = grind (arith, nat_tests, longer, ends_at s low, within s)
+
+-- a place more, with at most 32 keys more
+pub counted_more : (keys new : List Key) (ends more : List ℕ) (v : Value) → IsCounted keys ends → length ends < 65536
+    → new ≡ keys_with keys v → length new ≤ length keys + 32 → more ≡ ends ++ length new ∷ [] → IsCounted new more
+counted_more keys new ends more v h small now few is =
+    let one = longer ends more (length new) is in
+    record {
+      few = omega (arith, one, h.few);
+      within = ends_within ends more (length new) is (length keys) (rw now (no_fewer keys v)) h.within;
+      small = omega (arith, one);
+    }
 
 -- ---- a place is learned
 
--- what is not learned comes after the places so far
-pub not_below : (learned : FinMap nat_cmp Value) (e : Entered) (s : ℕ) → IsInputOf learned e → get learned s ≡ None → length e.ends ≤ s
-not_below learned e s h none = grind (arith, nat_tests)
-
-module _ (learned : FinMap nat_cmp Value) (e : Entered) (s : ℕ) (v : Value) (h : IsInputOf learned e) (none : get learned s ≡ None) where
+module _ (learned : FinMap nat_cmp Value) (e new : Entered) (s : ℕ) (v : Value) (h : IsInputOf learned e)
+    (none : get learned s ≡ None) where
   -- the places so far have the values that they had
   same_values : (n : ℕ) → n ≤ length e.ends → values_below (insert learned s v) n ≡ values_below learned n
-  same_values n low = grind (arith, nat_tests, same_below, get_other, not_below)
+  same_values n low =
+      same_below (insert learned s v) learned n (λ q less. grind (arith, nat_tests, get_put learned s v q, h.below q))
 
-  -- what holds of this place and of the places that were learned holds of those that are now
-  one_or_other : (P : ℕ → Type 0) → P s → ((q : ℕ) → IsTrue (is_some (get learned q)) → P q) → (q : ℕ)
-      → IsTrue (is_some (get (insert learned s v) q)) → P q
-  one_or_other P at_s others q there = grind (arith, nat_tests, cases_eq, get_other)
-
-  -- the input is that of the map with this place more, if there is room for it
-  pub input_of_learned : s < length e.ends + e.room → 32 * (s + 1) ≤ e.key_room + 32 * length e.ends → s < 65536
-      → IsInputOf (insert learned s v) e
-  input_of_learned room key_room small = record {
-    below = λ i low. ap is_some (get_other learned s v i (λ same. omega (arith, not_below learned e s h none))) ∙ h.below i low;
-    keys = h.keys ∙ ap keys_in_order (sym (same_values (length e.ends) (omega arith)));
-    within = h.within;
-    ends = λ i low. h.ends i low ∙ ap keys_in_order (sym (same_values (i + 1) (omega arith)));
-    room = one_or_other (λ q. q < length e.ends + e.room) room h.room;
-    key_room = one_or_other (λ q. 32 * (q + 1) ≤ e.key_room + 32 * length e.ends) key_room h.key_room;
-    small = one_or_other (λ q. q < 65536) small h.small;
+  -- the input is that of the map with this place more, once there is room for it
+  pub input_of_more : new.keys ≡ e.keys → new.ends ≡ e.ends → e.room ≤ new.room → e.key_room ≤ new.key_room
+      → s < length e.ends + new.room → 32 * (s + 1) ≤ new.key_room + 32 * length e.ends → s < 65536 → IsInputOf (insert learned s v) new
+  input_of_more keys ends room key_room there keys_there small = record {
+    below = λ q low. grind (arith, nat_tests, get_put learned s v q, h.below q);
+    keys = grind (arith, same_values (length e.ends));
+    within = λ q low. grind (arith, h.within q);
+    ends = λ q low. grind (arith, h.ends q, same_values (q + 1));
+    room = λ q is. grind (arith, nat_tests, get_put learned s v q, h.room q);
+    key_room = λ q is. grind (arith, nat_tests, get_put learned s v q, h.key_room q);
+    small = λ q is. grind (arith, nat_tests, get_put learned s v q, h.small q);
   }
-
--- what has no value is `None`
-none_from_test : (o : Option Value) → is_none o ≡ true → o ≡ None
-none_from_test None e = refl
-none_from_test (Some v) e = absurd (true≢false (sym e))
-
--- an open place isn't learned
-pub open_is_none : (l : Learner) (s : ℕ) → IsTrue (is_open l s) → get l.learned s ≡ None
-open_is_none l s test = grind (arith, nat_tests)
-
--- more room changes nothing
-input_of_roomier : (learned : FinMap nat_cmp Value) (e new : Entered) → IsInputOf learned e → new.keys ≡ e.keys
-    → new.ends ≡ e.ends → e.room ≤ new.room → e.key_room ≤ new.key_room → IsInputOf learned new
-input_of_roomier learned e new h keys ends room key_room = grind (arith, nat_tests)
-
--- a place is learned once there is room for it
-pub input_of_more : (learned more : FinMap nat_cmp Value) (e new : Entered) (s : ℕ) (v : Value) → IsInputOf learned e
-    → get learned s ≡ None → more ≡ insert learned s v
-    → new.keys ≡ e.keys → new.ends ≡ e.ends → e.room ≤ new.room → e.key_room ≤ new.key_room
-    → s < length e.ends + new.room → 32 * (s + 1) ≤ new.key_room + 32 * length e.ends → s < 65536 → IsInputOf more new
-input_of_more learned more e new s v h none is keys ends room key_room there keys_there small =
-    rw is (input_of_learned learned new s v (input_of_roomier learned e new h keys ends room key_room) none
-    (omega (arith, ap length ends)) (omega (arith, ap length ends)) small)
 
 -- ---- the front rises
 
--- a front of a list is one of a longer list
-take_more_or_same : (there : Bool) (keys more : List Key) (n : ℕ) → n ≤ length keys
-    → take n (if there then keys else keys ++ more) ≡ take n keys
-take_more_or_same true keys more n low = refl
-take_more_or_same false keys more n low = take-append-le n keys more low
-
--- a front of the keys is one of the keys with more
-take_entered : (keys more : List Key) (n : ℕ) → n ≤ length keys → take n (insert_all same_key keys more) ≡ take n keys
-take_entered keys [] n low = refl
-take_entered keys (k ∷ more) n low =
-    grind (arith, nat_tests, keys, no_fewer, take_more_or_same, take_entered (insert_key same_key keys k) more n)
-
--- the next place has entered the input
-pub record IsNext (e : Entered) (v : Value) (new : Entered) : Type 0 where
-  pub keys : new.keys ≡ keys_with e.keys v
-  pub ends : new.ends ≡ e.ends ++ length new.keys ∷ []
-  pub room : e.room ≤ new.room + 1
-  pub key_room : e.key_room ≤ new.key_room + 32
-
+-- the next place enters the input
 module _ (learned : FinMap nat_cmp Value) (e : Entered) (v : Value) (new : Entered) (h : IsInputOf learned e)
-    (here : get learned (length e.ends) ≡ Some v) (next : IsNext e v new) where
+    (here : get learned (length e.ends) ≡ Some v) (keys : new.keys ≡ keys_with e.keys v)
+    (ends : new.ends ≡ e.ends ++ length new.keys ∷ []) where
   -- the keys are those of one value more
   all_keys : new.keys ≡ keys_in_order (values_below learned (length e.ends + 1))
   all_keys =
-      next.keys ∙ ap (λ (keys : List Key). keys_with keys v) h.keys ∙ sym (keys_entered (values_below learned (length e.ends)) v)
-      ∙ ap keys_in_order (sym (values_more learned (length e.ends) v here))
+      let values = values_below learned (length e.ends) in
+      grind (arith, append-nil (keys_of v), keys_entered values (v ∷ []), values_more learned (length e.ends) v here, h.keys)
 
-  -- there are no fewer keys than before
-  more_keys : length e.keys ≤ length new.keys
-  more_keys = rw next.keys (entered_no_fewer e.keys (keys_of v))
+  -- a front of the keys is one of the keys with more
+  front_stays : (n : ℕ) → n ≤ length e.keys → take n new.keys ≡ take n e.keys
+  front_stays n low =
+      let all = entered_longer same_key e.keys (keys_of v) in
+      rw (keys, all.1) (take-append-le n e.keys all.0 low)
 
   -- the input is that of the same map
-  pub input_of_risen : IsInputOf learned new
-  input_of_risen =
+  pub input_of_risen : e.room ≤ new.room + 1 → e.key_room ≤ new.key_room + 32 → IsInputOf learned new
+  input_of_risen room key_room =
       let n = length new.keys in
-      let one : length new.ends ≡ length e.ends + 1 = longer e.ends new.ends n next.ends in
-      let before = end_before e.ends new.ends n next.ends in
-      let at_end = end_here e.ends new.ends n next.ends in
-      let each = each_place e.ends new.ends n next.ends in
+      let one : length new.ends ≡ length e.ends + 1 = longer e.ends new.ends n ends in
+      let at = ends_at e.ends new.ends n ends in
+      let whole : take n new.keys ≡ new.keys = take_all n new.keys (omega arith) in
       record {
-        below = each (λ s. IsTrue (is_some (get learned s))) h.below (λ s same. rw same (ap is_some here));
-        keys = all_keys ∙ ap (λ (i : ℕ). keys_in_order (values_below learned i)) (sym one);
-        within =
-            each (λ s. slice_index new.ends s ≤ n) (λ s low. omega (arith, before s low, h.within s low, more_keys))
-            (λ s same. omega (arith, at_end s same));
-        ends = each (λ s. take (slice_index new.ends s) new.keys ≡ keys_in_order (values_below learned (s + 1)))
-            (λ s low. rw (before s low, next.keys) (take_entered e.keys (keys_of v) (slice_index e.ends s) (h.within s low) ∙ h.ends s low))
-            (λ s same. rw (at_end s same)
-            (take_all n new.keys (omega arith) ∙ all_keys
-            ∙ ap (λ (i : ℕ). keys_in_order (values_below learned (i + 1))) (sym same)));
-        room = λ s there. omega (arith, h.room s there, one, next.room);
-        key_room = λ s there. omega (arith, h.key_room s there, one, next.key_room);
+        below = λ s low. grind (arith, nat_tests, h.below s);
+        keys = rw one all_keys;
+        within = ends_within e.ends new.ends n ends (length e.keys) (rw keys (no_fewer e.keys v)) h.within;
+        ends = λ s low. grind (arith, nat_tests, at s low, whole, all_keys, h.ends s, h.within s, front_stays (slice_index e.ends s));
+        room = λ s there. omega (arith, h.room s there, one, room);
+        key_room = λ s there. omega (arith, h.key_room s there, one, key_room);
         small = h.small;
       }
 
 -- ---- the input from a place on
 
--- the keys so far, up to a place
-count_below_keys : (learned : FinMap nat_cmp Value) (e : Entered) (h : IsInputOf learned e) (place : ℕ)
-    → take (count_below e place) e.keys ≡ keys_in_order (values_below learned (min place (length e.ends)))
-count_below_keys learned e h zero =
-    let none : min 0 (length e.ends) ≡ 0 = omega arith in
-    rw none refl
-count_below_keys learned e h (suc s) =
-    elim (cases_lt s (length e.ends)) [
-      | inl low ↦
-          let there : min (suc s) (length e.ends) ≡ s + 1 = omega arith in
-          rw (lt-ltb s (length e.ends) low, there) (h.ends s low)
-      | inr high ↦
-          let there : min (suc s) (length e.ends) ≡ length e.ends = omega arith in
-          rw (le-ltb s (length e.ends) high, there) (take_all (length e.keys) e.keys (omega arith) ∙ h.keys)
-    ]
+module _ (learned : FinMap nat_cmp Value) (e : Entered) (h : IsInputOf learned e) where
+  -- the keys so far, up to a place
+  count_below_keys : (place : ℕ) → take (count_below e place) e.keys ≡ keys_in_order (values_below learned (min place (length e.ends)))
+  count_below_keys zero = grind arith
+  count_below_keys (suc s) =
+      let whole : take (length e.keys) e.keys ≡ e.keys = take_all (length e.keys) e.keys (omega arith) in
+      grind (arith, nat_tests, whole, h.keys, h.ends s)
 
--- the input up to a place, and what comes after it, are the input
-pub input_parts : (learned : FinMap nat_cmp Value) (e : Entered) (h : IsInputOf learned e) (place : ℕ)
-    → input_of (values_below learned (min place (length e.ends)))
-    ++ map (λ (k : Key). k.byte) (drop (count_below e place) e.keys)
-    ≡ input_of (values_below learned (length e.ends))
-input_parts learned e h place =
-    let n = count_below e place in
-    ap (λ (keys : List Key). map (λ (k : Key). k.byte) keys ++ map (λ (k : Key). k.byte) (drop n e.keys))
-    (sym (count_below_keys learned e h place))
-    ∙ sym (map-append (λ (k : Key). k.byte) (take n e.keys) (drop n e.keys))
-    ∙ ap (map (λ (k : Key). k.byte)) (take-append-drop n e.keys ∙ h.keys)
+  -- the input up to a place, and what comes after it, are the input
+  pub input_parts : (place : ℕ) → input_of (values_below learned (min place (length e.ends)))
+      ++ map (λ (k : Key). k.byte) (drop (count_below e place) e.keys)
+      ≡ input_of (values_below learned (length e.ends))
+  input_parts place =
+      let n = count_below e place in
+      let joined = map-append (λ (k : Key). k.byte) (take n e.keys) (drop n e.keys) in
+      rw (← count_below_keys place, ← h.keys, ← joined, take-append-drop n e.keys) refl
 
--- ---- the front
+-- ---- all that a learner keeps
 
--- the input goes up to the front where its next place isn't learned
-pub front_is_here : (learned : FinMap nat_cmp Value) (e : Entered) → IsInputOf learned e
-    → get learned (length e.ends) ≡ None → IsFront learned (length e.ends)
-front_is_here learned e h none = record { below = h.below; here = none }
+-- the keys of one value more are known once it is learned
+pub known_more : (learned : FinMap nat_cmp Value) (keys : List Key) (s : ℕ) (v : Value) → AreKnown learned keys
+    → get learned s ≡ None → AreKnown (insert learned s v) (keys_with keys v)
+known_more learned keys s v h none = record {
+  stand = λ k there. elim (entered_from keys (keys_of v) k there) [
+    | inl old ↦
+        let at = h.stand k old in
+        let still = (insert_more learned s v none).stays at.place at.value at.is_learned in
+        record { place = at.place; value = at.value; is_learned = still; has = at.has }
+    | inr new ↦ record { place = s; value = v; is_learned = get_here learned s v; has = new }
+  ];
+  all =
+      each_put learned s (λ q w. (k : Key) → Contains (keys_of w) k → Contains (keys_with keys v) k) v
+      (entered_new keys (keys_of v)) (λ q w e k has. entered_old keys (keys_of v) k (h.all q w e k has));
+}
 
--- the input of no place is that of the empty map
-pub input_of_none : (e : Entered) → e.keys ≡ [] → e.ends ≡ [] → IsInputOf empty e
-input_of_none e no_keys no_ends =
-    let none : length e.ends ≡ 0 = ap length no_ends in
-    record {
-      below = λ s low. absurd (omega arith);
-      keys = no_keys ∙ ap (λ (n : ℕ). keys_in_order (values_below empty n)) (sym none);
-      within = λ s low. absurd (omega arith);
-      ends = λ s low. absurd (omega arith);
-      room = λ s there. absurd (true≢false (sym there ∙ ap is_some (get-empty nat_cmp s)));
-      key_room = λ s there. absurd (true≢false (sym there ∙ ap is_some (get-empty nat_cmp s)));
-      small = λ s there. absurd (true≢false (sym there ∙ ap is_some (get-empty nat_cmp s)));
-    }
+-- nothing is learned yet
+pub kept_none : (size : ℕ) (learned : FinMap nat_cmp Value) (e : Entered) (known : List Key) → size ≤ 9
+    → learned ≡ empty → e.keys ≡ [] → e.ends ≡ [] → known ≡ [] → IsKept size learned e known
+kept_none size learned e known small none no_keys no_ends no_known =
+    let no_places : length e.ends ≡ 0 = ap length no_ends in
+    let keys : e.keys ≡ keys_in_order (values_below empty (length e.ends)) = rw (no_keys, no_places) refl in
+    rw none (record {
+      size_small = small;
+      input = grind (arith, nat_tests, get-empty);
+      here = get-empty nat_cmp (length e.ends);
+      window = begun_in_window size;
+      keys = grind (arith, nat_tests, get-empty);
+    })
+
+module _ {size : ℕ} {learned : FinMap nat_cmp Value} {e : Entered} {known : List Key} (h : IsKept size learned e known) where
+  -- the places of the input are those below the front
+  pub front_is : length e.ends ≡ front_of learned
+  front_is = front_found learned (length e.ends) (record { below = h.input.below; here = h.here })
+
+  -- so its keys are those of the values there
+  pub keys_are : e.keys ≡ keys_in_order (front_values learned)
+  keys_are = rw (← front_is) h.input.keys

@@ -1,5 +1,5 @@
 -- A set of nodes, and the word that has their bits.
-use Rattle.std.proofs.Common.{◌≡◌, ◌∙◌, ℕ, zero, suc, ◌+◌, ◌-◌, ◌*◌, ◌/◌, ◌%◌, ◌^◌, ◌<◌, ◌≤◌, ◌==◌, ◌∷◌, Bool, true, false, if◌then◌else◌, bit_and, bit_or, get_or, set, nat_eq, refl, sym, ap, arith}
+use Rattle.std.proofs.Common.{◌≡◌, ◌∙◌, ℕ, zero, suc, ◌+◌, ◌-◌, ◌*◌, ◌/◌, ◌%◌, ◌^◌, ◌<◌, ◌≤◌, ◌==◌, ◌∷◌, true, false, if◌then◌else◌, bit_and, bit_or, get_or, set, nat_eq, refl, ap, arith}
 use Rattle.std.specs.Int.Count.{ones, ones_step}
 use Rattle.std.specs.Int.{bit_at}
 use Rattle.std.proofs.Math.Nat.{pow-suc}
@@ -20,15 +20,15 @@ no_bits = refl
 low_bit : (k mask i : ℕ) → i < k → get_or (low_bits k mask) i false ≡ (bit_at mask i == 1)
 unfolding low_bits
 low_bit zero mask i h = absurd (omega arith)
-low_bit (suc k) mask zero h = ap (λ (r : ℕ). r == 1) (sym (bit_at_lowest mask))
-low_bit (suc k) mask (suc i) h = low_bit k (mask / 2) i (omega arith) ∙ ap (λ (r : ℕ). r == 1) (sym (bit_at-suc mask i))
+low_bit (suc k) mask zero h = grind (arith, bit_at_lowest mask)
+low_bit (suc k) mask (suc i) h = grind (arith, bit_at-suc mask i, low_bit k (mask / 2) i)
 
 bit_node : (mask i : ℕ) → i ≤ 9 → has_node (nodes_of mask) i ≡ (bit_at mask i == 1)
 unfolding nodes_of
 bit_node mask i h = low_bit 10 mask i (omega arith)
 
 pub contains_node : (mask i : ℕ) → i ≤ 9 → nat_eq (bit_and (mask / 2 ^ i) 1) 1 ≡ has_node (nodes_of mask) i
-contains_node mask i h = ap (λ (r : ℕ). nat_eq r 1) (shr_and_one mask i) ∙ sym (bit_node mask i h)
+contains_node mask i h = grind (arith, shr_and_one mask i, bit_node mask i)
 
 -- ---- a node more
 
@@ -54,7 +54,7 @@ low_bit_set (suc k) mask (suc i) h = grind (arith, nat_tests, higher_set, low_bi
 
 pub insert_node : (mask i : ℕ) → i ≤ 9 → nodes_of (bit_or mask (1 * 2 ^ i % 65536)) ≡ with_node (nodes_of mask) i
 unfolding nodes_of
-insert_node mask i h = ap (λ (b : ℕ). low_bits 10 (bit_or mask b)) (one_shl i 16 (omega arith)) ∙ low_bit_set 10 mask i (omega arith)
+insert_node mask i h = rw (one_shl i 16 (omega arith)) (low_bit_set 10 mask i (omega arith))
 
 -- ---- how many of the first nodes are there
 
@@ -69,14 +69,10 @@ count_low mask (suc n) h =
     let q = mask / 2 in
     let one : suc n ≡ 1 + n = omega arith in
     let parts : q % 2 ^ suc n ≡ (q / 2 ^ n % 2) * 2 ^ n + q % 2 ^ n = ap (λ (k : ℕ). q % 2 ^ k) one ∙ mod-pow-add q 1 n in
-    let node : has_node (nodes_of mask) (suc n) ≡ (q / 2 ^ n % 2 == 1) =
-    bit_node mask (suc n) h ∙ ap (λ (r : ℕ). r == 1) (bit_at-suc mask n) in
-    ap ones parts ∙ ones_cat n (q / 2 ^ n % 2) (q % 2 ^ n) (mod_below q (2 ^ n) (pow_pos n))
-    ∙ (λ j. ones_bit (q / 2 ^ n % 2) (omega arith) j + count_low mask n (omega arith) j)
-    ∙ ap (λ (b : Bool). (if b then 1 else 0) + count_of (has_node (nodes_of mask)) n) (sym node)
+    let joined = ones_cat n (q / 2 ^ n % 2) (q % 2 ^ n) (mod_below q (2 ^ n) (pow_pos n)) in
+    grind (arith, parts, joined, ones_bit (q / 2 ^ n % 2), count_low mask n, bit_node mask (suc n) h, bit_at-suc mask n)
 
 pub count_nodes : (mask size : ℕ) → size ≤ 9
     → ones (bit_and (mask / 2) (1 * 2 ^ size % 65536 - 1)) ≡ count_of (has_node (nodes_of mask)) size
 count_nodes mask size h =
-    ap (λ (b : ℕ). ones (bit_and (mask / 2) (b - 1))) (one_shl size 16 (omega arith))
-    ∙ ap ones (and_mask (mask / 2) size) ∙ count_low mask size h
+    rw (one_shl size 16 (omega arith), and_mask (mask / 2) size) (count_low mask size h)

@@ -1,5 +1,5 @@
 -- Keys as they are stored, and as they are seen.
-use Rattle.std.proofs.Common.{◌≡◌, ℕ, ◌==◌, ◌&&◌, Bool, true, false, if◌then◌else◌, ◌||◌, List, [], ◌∷◌, ◌++◌, map, refl, ap, arith}
+use Rattle.std.proofs.Common.{◌≡◌, ◌==◌, ◌&&◌, Bool, ◌||◌, List, [], ◌∷◌, map, refl, arith}
 use Rattle.std.proofs.lemmas.List.{map-append}
 use Rattle.std.specs.List.{list_any}
 use Rattle.std.proofs.lemmas.Bool.Decides.{nat_tests}
@@ -8,17 +8,6 @@ use Rattle.paxos_msg.specs.Keys.{Key}
 use Rattle.paxos_learner.specs.declared.keys.TypedKey.{TypedKey}
 use Rattle.paxos_learner.specs.Input.{same_key}
 use Rattle.paxos_learner.specs.Entered.{key_of}
-
--- four tests hold in any order
-any_order : (a b c d : Bool) → c && (b && (a && d)) ≡ a && (b && (c && d))
-any_order true true true d = refl
-any_order true true false d = refl
-any_order true false true d = refl
-any_order true false false d = refl
-any_order false true true d = refl
-any_order false true false d = refl
-any_order false false true d = refl
-any_order false false false d = refl
 
 -- stored keys are compared field by field, from the serial on
 pub same_stored : (a b : TypedKey)
@@ -33,19 +22,12 @@ module _ (test : TypedKey → TypedKey → Bool) (alike : (a b : TypedKey) → t
   any_stored [] k = refl
   any_stored (x ∷ keys) k = λ i. alike k x i || any_stored keys k i
 
-  -- one key more, where the test says so
-  by_test : (b : Bool) (keys : List TypedKey) (k : TypedKey)
-      → map key_of (if b then keys else keys ++ k ∷ [])
-      ≡ (if b then map key_of keys else map key_of keys ++ key_of k ∷ [])
-  by_test true keys k = refl
-  by_test false keys k = map-append key_of keys (k ∷ [])
-
   -- a key that is stored is seen among the keys
   pub insert_stored : (keys : List TypedKey) (k : TypedKey)
       → map key_of (insert_key test keys k) ≡ insert_key same_key (map key_of keys) (key_of k)
-  insert_stored keys k = grind (arith, nat_tests, by_test, any_stored)
+  insert_stored keys k = grind (arith, any_stored keys k, map-append key_of keys (k ∷ []))
 
 -- the bytes of stored keys are those of the keys that are seen
 pub bytes_stored : (keys : List TypedKey) → map (λ (k : TypedKey). k.byte) keys ≡ map (λ (k : Key). k.byte) (map key_of keys)
 bytes_stored [] = refl
-bytes_stored (k ∷ keys) = ap (λ (bytes : List ℕ). k.byte ∷ bytes) (bytes_stored keys)
+bytes_stored (k ∷ keys) = grind (arith, bytes_stored keys)

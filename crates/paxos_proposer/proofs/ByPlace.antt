@@ -1,5 +1,5 @@
 -- Votes in ascending order of place are known by what is found at each place.
-use Rattle.std.proofs.Common.{◌≡◌, ◌∙◌, ℕ, ◌+◌, ◌<◌, ◌≤◌, nat_eq, nat_le, ◌==◌, cond, List, [], ◌∷◌, Some, None, option_map, if◌then◌else◌, inl, inr, refl, sym, ap, arith}
+use Rattle.std.proofs.Common.{◌≡◌, ◌∙◌, ℕ, ◌+◌, ◌<◌, ◌≤◌, nat_eq, nat_le, ◌==◌, cond, List, [], ◌∷◌, Some, None, option_map, if◌then◌else◌, refl, sym, arith}
 use Rattle.std.specs.Prelude.{All}
 use Rattle.std.specs.Map.{lookup}
 use Rattle.std.proofs.lemmas.Bool.{cases_eq, cases_lt, eq-eqb, ne_eqb, lt-ltb, le-ltb}
@@ -13,20 +13,15 @@ use Rattle.paxos_proposer.specs.declared.kept.Report.{Report}
 use Rattle.paxos_proposer.specs.KeptVotes.{vote_of, reported_votes}
 use Rattle.paxos_msg.specs.Places.{votes_from}
 use Rattle.paxos_proposer.proofs.Passing.{left_at, left_from}
-use Rattle.paxos_proposer.proofs.Reported.{found_first, found_later, none_above}
+use Rattle.paxos_proposer.proofs.Reported.{found_later, none_above}
 
 -- ---- what is found at a place
-
-put_step : (x vote : Vote) (xs : List Vote) (s : ℕ)
-    → kept_vote_at (with_vote xs vote) s ≡ (if vote.place == s then Some vote else kept_vote_at xs s)
-    → kept_vote_at (with_vote (x ∷ xs) vote) s ≡ (if vote.place == s then Some vote else kept_vote_at (x ∷ xs) s)
-put_step x vote xs s ih = grind (arith, nat_tests)
 
 -- a vote that is put at its place is found there, and nothing changes elsewhere
 vote_at-with_vote : (votes : List Vote) (vote : Vote) (s : ℕ)
     → kept_vote_at (with_vote votes vote) s ≡ (if vote.place == s then Some vote else kept_vote_at votes s)
 vote_at-with_vote [] vote s = refl
-vote_at-with_vote (x ∷ xs) vote s = put_step x vote xs s (vote_at-with_vote xs vote s)
+vote_at-with_vote (x ∷ xs) vote s = grind (arith, nat_tests, vote_at-with_vote xs vote s)
 
 -- the votes have at a place what a search of the reports finds
 pub vote_at-votes_of : (es : List (ℕ × Report)) (s : ℕ) → kept_vote_at (reported_votes es) s ≡ option_map (vote_of s) (lookup (nat_eq s) es)
@@ -66,22 +61,10 @@ ascending_left n (x ∷ xs) h = grind (arith, nat_tests, either, above_left, asc
 not_less : (x y : Vote) (xs ys : List Vote) → AreAbove y.place ys
     → ((s : ℕ) → kept_vote_at (x ∷ xs) s ≡ kept_vote_at (y ∷ ys) s) → y.place ≤ x.place
 not_less x y xs ys h same =
-    elim (cases_lt x.place y.place) [
-      | inl less ↦
-          let here : kept_vote_at (x ∷ xs) x.place ≡ Some x = found_first x xs x.place refl in
-          let none : kept_vote_at (y ∷ ys) x.place ≡ None =
-          none_above (y ∷ ys) x.place (less, above_less x.place y.place ys (omega arith) h) in
-          let both = same x.place in
-          absurd cc
-      | inr from ↦ from
-    ]
+    grind (arith, nat_tests, same x.place, none_above (y ∷ ys) x.place, above_less x.place y.place ys)
 
 same_first : (x y : Vote) (xs ys : List Vote) → x.place ≡ y.place → ((s : ℕ) → kept_vote_at (x ∷ xs) s ≡ kept_vote_at (y ∷ ys) s) → x ≡ y
-same_first x y xs ys e same =
-    let here : kept_vote_at (x ∷ xs) x.place ≡ Some x = found_first x xs x.place refl in
-    let there : kept_vote_at (y ∷ ys) x.place ≡ Some y = found_first y ys x.place (sym e) in
-    let both = same x.place in
-    (cc)
+same_first x y xs ys e same = grind (arith, nat_tests, same x.place)
 
 same_later : (x y : Vote) (xs ys : List Vote) → x.place ≡ y.place → AreAbove x.place xs → AreAbove y.place ys
     → ((s : ℕ) → kept_vote_at (x ∷ xs) s ≡ kept_vote_at (y ∷ ys) s)
@@ -90,14 +73,8 @@ same_later x y xs ys e h k same s = grind (arith, nat_tests, cases_eq, none_abov
 
 pub same_votes : (xs ys : List Vote) → IsAscending xs → IsAscending ys → ((s : ℕ) → kept_vote_at xs s ≡ kept_vote_at ys s) → xs ≡ ys
 same_votes [] [] h k same = refl
-same_votes [] (y ∷ ys) h k same =
-    let there : kept_vote_at (y ∷ ys) y.place ≡ Some y = found_first y ys y.place refl in
-    let both = same y.place in
-    absurd cc
-same_votes (x ∷ xs) [] h k same =
-    let here : kept_vote_at (x ∷ xs) x.place ≡ Some x = found_first x xs x.place refl in
-    let both = same x.place in
-    absurd cc
+same_votes [] (y ∷ ys) h k same = grind (arith, nat_tests, same y.place)
+same_votes (x ∷ xs) [] h k same = grind (arith, nat_tests, same x.place)
 same_votes (x ∷ xs) (y ∷ ys) h k same =
     let low = not_less x y xs ys k.0 same in
     let high = not_less y x ys xs h.0 (λ s. sym (same s)) in
@@ -113,16 +90,10 @@ pub votes_of-put : (es fs : List (ℕ × Report)) (s : ℕ) (r : Report)
     → ((q : ℕ) → lookup (nat_eq q) fs ≡ cond (nat_eq s q) (Some r) (lookup (nat_eq q) es))
     → reported_votes fs ≡ with_vote (reported_votes es) (vote_of s r)
 votes_of-put es fs s r put =
-    same_votes _ _ (ascending_of fs) (ascending_with (reported_votes es) (vote_of s r) (ascending_of es)) (λ q.
-    vote_at-votes_of fs q ∙ ap (option_map (vote_of q)) (put q)
-    ∙ sym (vote_at-with_vote (reported_votes es) (vote_of s r) q ∙ here q))
-  where
-    here : (q : ℕ) → (if s == q then Some (vote_of s r) else kept_vote_at (reported_votes es) q)
-        ≡ option_map (vote_of q) (cond (nat_eq s q) (Some r) (lookup (nat_eq q) es))
-    here q = elim (cases_eq s q) [
-      | inl same ↦ rw (same, eq-eqb q q refl) refl
-      | inr ne ↦ rw (ne_eqb s q ne) (vote_at-votes_of es q)
-    ]
+    same_votes _ _ (ascending_of fs) (ascending_with (reported_votes es) (vote_of s r) (ascending_of es))
+    (λ q.
+    let with_one = vote_at-with_vote (reported_votes es) (vote_of s r) q in
+    grind (arith, nat_tests, vote_at-votes_of fs q, put q, with_one, vote_at-votes_of es q))
 
 -- where all are from a place on, none is below it
 none_below : (s q : ℕ) (votes : List Vote) → q < s → All (λ vote. s ≤ vote.place) votes → kept_vote_at votes q ≡ None
@@ -135,19 +106,8 @@ none_below s q (x ∷ xs) lt h =
 pub votes_of-cut : (es fs : List (ℕ × Report)) (s : ℕ) → ((q : ℕ) → lookup (nat_eq q) fs ≡ cond (nat_eq s q) None (lookup (nat_eq q) es))
     → All (λ vote. s ≤ vote.place) (reported_votes es) → reported_votes fs ≡ votes_from (s + 1) (reported_votes es)
 votes_of-cut es fs s cut from =
+    let left = votes_from (s + 1) (reported_votes es) in
     same_votes _ _ (ascending_of fs) (ascending_left (s + 1) (reported_votes es) (ascending_of es)) (λ q.
-    vote_at-votes_of fs q ∙ ap (option_map (vote_of q)) (cut q) ∙ there q)
-  where
-    there : (q : ℕ) → option_map (vote_of q) (cond (nat_eq s q) None (lookup (nat_eq q) es))
-        ≡ kept_vote_at (votes_from (s + 1) (reported_votes es)) q
-    there q = elim (cases_eq s q) [
-      | inl same ↦ rw (eq-eqb s q same)
-          (sym (none_below (s + 1) q (votes_from (s + 1) (reported_votes es)) (omega arith)
-          (left_from (s + 1) (reported_votes es))))
-      | inr ne ↦ rw (ne_eqb s q ne) (sym (vote_at-votes_of es q) ∙ elim (cases_lt q s) [
-        | inl low ↦
-            none_below s q (reported_votes es) low from
-            ∙ sym (none_below (s + 1) q (votes_from (s + 1) (reported_votes es)) (omega arith) (left_from (s + 1) (reported_votes es)))
-        | inr high ↦ sym (left_at (s + 1) q (reported_votes es) (omega arith))
-      ])
-    ]
+    let none = λ (low : q < s + 1). none_below (s + 1) q left low (left_from (s + 1) (reported_votes es)) in
+    let before = λ (low : q < s). none_below s q (reported_votes es) low from in
+    grind (arith, nat_tests, vote_at-votes_of fs q, cut q, vote_at-votes_of es q, none, before, left_at (s + 1) q (reported_votes es)))

@@ -1,9 +1,9 @@
 -- The greatest place that has a vote, as votes are put and passed.
-use Rattle.std.proofs.Common.{◌≡◌, ◌∙◌, ℕ, ◌+◌, ◌≤◌, nat_eq, nat_le, max, ◌||◌, Bool, true, false, List, [], ◌∷◌, Option, Some, None, inl, inr, refl, sym, arith}
+use Rattle.std.proofs.Common.{◌≡◌, ℕ, ◌+◌, ◌≤◌, nat_eq, nat_le, max, ◌||◌, true, false, List, [], ◌∷◌, Option, Some, None, refl, arith}
 use Rattle.std.specs.Prelude.{All}
 use Rattle.std.specs.Option.{option_cmp, option_eq}
 use Rattle.std.specs.Ordering.{nat_cmp, ord_max}
-use Rattle.std.proofs.lemmas.Bool.{cases_lt, eqb-false, eqb-true, le-leb, lt-leb}
+use Rattle.std.proofs.lemmas.Bool.{eqb-false, eqb-true, le-leb, lt-leb}
 use Rattle.std.proofs.lemmas.Bool.Decides.{nat_tests}
 use Rattle.std.proofs.lemmas.List.Elements.{All-head}
 use Rattle.paxos_msg.specs.Batches.{Vote}
@@ -12,35 +12,23 @@ use Rattle.paxos_proposer.specs.KeptVotes.{IsGreatestPlace, is_upto}
 use Rattle.paxos_proposer.specs.Proposer.{is_kept_from}
 use Rattle.paxos_msg.specs.Places.{votes_from}
 
-put_step : (x vote : Vote) (xs : List Vote) (s : ℕ) → is_kept_from (with_vote xs vote) s ≡ nat_le s vote.place || is_kept_from xs s
-    → is_kept_from (with_vote (x ∷ xs) vote) s ≡ nat_le s vote.place || is_kept_from (x ∷ xs) s
-put_step x vote xs s ih = grind (arith, nat_tests)
-
 -- a vote more counts up to its place
 pub is_kept_from-with_vote : (votes : List Vote) (vote : Vote) (s : ℕ)
     → is_kept_from (with_vote votes vote) s ≡ nat_le s vote.place || is_kept_from votes s
 is_kept_from-with_vote [] vote s = refl
-is_kept_from-with_vote (x ∷ xs) vote s = put_step x vote xs s (is_kept_from-with_vote xs vote s)
-
-left_step : (x : Vote) (xs : List Vote) (n s : ℕ) → is_kept_from (votes_from n xs) s ≡ is_kept_from xs (max n s)
-    → is_kept_from (votes_from n (x ∷ xs)) s ≡ is_kept_from (x ∷ xs) (max n s)
-left_step x xs n s ih = grind (arith, nat_tests)
+is_kept_from-with_vote (x ∷ xs) vote s = grind (arith, nat_tests, is_kept_from-with_vote xs vote s)
 
 -- what is left from a place on counts from there on
 pub is_kept_from-votes_from : (votes : List Vote) (n s : ℕ) → is_kept_from (votes_from n votes) s ≡ is_kept_from votes (max n s)
 is_kept_from-votes_from [] n s = refl
-is_kept_from-votes_from (x ∷ xs) n s = left_step x xs n s (is_kept_from-votes_from xs n s)
+is_kept_from-votes_from (x ∷ xs) n s = grind (arith, nat_tests, is_kept_from-votes_from xs n s)
 
 -- ---- a vote is put
-
-or_false : (t : Bool) → t ≡ t || false
-or_false true = refl
-or_false false = refl
 
 -- a place is up to the greater of two if it is up to one of them
 raised : (greatest : Option ℕ) (place s : ℕ)
     → nat_le s place || is_upto greatest s ≡ is_upto (ord_max (option_cmp nat_cmp) greatest (Some place)) s
-raised None place s = sym (or_false (nat_le s place))
+raised None place s = grind arith
 raised (Some g) place s = grind (arith, nat_tests)
 
 pub greatest-put : (votes : List Vote) (greatest : Option ℕ) (vote : Vote) → IsGreatestPlace votes greatest
@@ -67,18 +55,15 @@ pub greatest-left : (votes : List Vote) (greatest : Option ℕ) (place : ℕ)
     → IsGreatestPlace votes greatest → IsGreatestPlace (votes_from (place + 1) votes) greatest
 greatest-left votes None place e from h = grind (arith, nat_tests, is_kept_from-votes_from)
 greatest-left votes (Some g) place e from h = record {
-  upto = λ s. is_kept_from-votes_from votes (place + 1) s ∙ h.upto (max (place + 1) s) ∙ above s;
+  upto = λ s.
+      grind (
+        arith,
+        nat_tests,
+        is_kept_from-votes_from votes (place + 1) s,
+        h.upto (max (place + 1) s),
+        h.upto place,
+        h.upto 0,
+        any_from place votes from,
+        eqb-false g place,
+      );
 }
-  where
-    not_below : place ≤ g
-    not_below = elim (cases_lt g place) [
-      | inl less ↦
-          let none : is_kept_from votes place ≡ false = h.upto place ∙ lt-leb place g less in
-          let some : is_kept_from votes 0 ≡ true = h.upto 0 ∙ le-leb 0 g (omega arith) in
-          let same = any_from place votes from in
-          absurd cc
-      | inr le ↦ le
-    ]
-
-    above : (s : ℕ) → nat_le (max (place + 1) s) g ≡ nat_le s g
-    above s = let low = not_below in let there = eqb-false g place e in grind (arith, nat_tests)

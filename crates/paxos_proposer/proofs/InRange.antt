@@ -84,7 +84,7 @@ module _ (p : Proposer) (h : IsProposerInRange p) where
     proposed = λ s w e. elim (cases_eq s (next_of p)) [
       | inl here ↦
           let is : v ≡ w = cc (proposals.proposed_here p v s here) in
-          (subst IsPlace (sym here) fits.0, subst (IsValue p.size) is fits.1)
+          rw (here, ← is) fits
       | inr there ↦ h.proposed s w (sym (proposed_there p v s there) ∙ e)
     ];
   }

@@ -103,7 +103,7 @@ same_covers : (coverages : List ℕ) (j upto s i : ℕ) → j < length coverages
 same_covers coverages j upto s i node rise out = grind (arith, nat_tests, cases_eq, get_or-set_same, get_or-set_other)
 
 rises-true : (p : Proposer) (j first upto : ℕ) → rises p j first upto ≡ true → (first ≤ coverage_of p j) × (coverage_of p j < upto)
-rises-true p j first upto e = (grind (arith, nat_tests), grind (arith, nat_tests))
+rises-true p j first upto e = grind (arith, nat_tests)
 
 module _ (by_place : AreByPlace) (sent : Sent) (me : ℕ) (p : Proposer) (h : IsProposerBacked sent me p)
     (j first upto : ℕ) (votes : List Vote) (node : j < length p.coverages)

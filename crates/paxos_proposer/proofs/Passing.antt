@@ -1,7 +1,7 @@
 -- Dropping the votes that a proposer has passed.
-use Rattle.std.proofs.Common.{◌≡◌, ℕ, ◌≤◌, nat_le, nat_lt, ◌==◌, Bool, true, false, List, [], ◌∷◌, Option, Some, None, inl, inr, refl, arith}
+use Rattle.std.proofs.Common.{◌≡◌, ℕ, ◌≤◌, nat_le, nat_lt, ◌==◌, Bool, true, false, List, [], ◌∷◌, Option, Some, None, refl, arith}
 use Rattle.std.specs.Prelude.{All}
-use Rattle.std.proofs.lemmas.Bool.{cases_eq, eq-eqb, ne_eqb, leb-true}
+use Rattle.std.proofs.lemmas.Bool.{leb-true}
 use Rattle.std.proofs.lemmas.Bool.Decides.{nat_tests}
 use Rattle.std.proofs.lemmas.List.Elements.{All-cons, All-head, All-tail, All-weaker, filter_passes}
 use Rattle.base.proofs.Branches.{either}
@@ -33,11 +33,7 @@ module _ (P : Vote → Type 0) where
   -- it holds of a vote that is found
   pub found_all : (votes : List Vote) (s : ℕ) (vote : Vote) → kept_vote_at votes s ≡ Some vote → All P votes → P vote
   found_all [] s vote e h = absurd cc
-  found_all (x ∷ xs) s vote e h =
-      elim (cases_eq x.place s) [
-        | inl same ↦ let is : x ≡ vote = cc (rw (eq-eqb x.place s same) at e) in rw is at (All-head P x xs h)
-        | inr ne ↦ found_all xs s vote (rw (ne_eqb x.place s ne) at e) (All-tail P x xs h)
-      ]
+  found_all (x ∷ xs) s vote e h = grind (arith, nat_tests, found_all xs s vote, All-head P x xs h, All-tail P x xs h)
 
   -- and of all with one more
   with_all : (votes : List Vote) (vote : Vote) → P vote → All P votes → All P (with_vote votes vote)

@@ -1,5 +1,5 @@
 -- What a proposer proposes may be sent, and the proposer is backed again.
-use Rattle.std.proofs.Common.{◌≡◌, ◌≢◌, ℕ, zero, suc, ◌+◌, ◌-◌, ◌∙◌, Bool, true, false, ◌⊎◌, inl, inr, List, [], ◌∷◌, ◌++◌, length, slice_get, Option, Some, None, IfSome, MatchOption, if◌then◌else◌, sym, ap, refl, arith, subst}
+use Rattle.std.proofs.Common.{◌≡◌, ◌≢◌, ℕ, zero, suc, ◌+◌, ◌-◌, ◌∙◌, Bool, true, false, ◌⊎◌, inl, inr, List, [], ◌∷◌, ◌++◌, length, slice_get, Option, Some, None, IfSome, MatchOption, if◌then◌else◌, sym, ap, refl, arith}
 use Rattle.std.proofs.lemmas.Bool.{le-ltb, lt-ltb, cases_eq, cases_lt}
 use Rattle.std.proofs.lemmas.List.{length_push}
 use Rattle.std.proofs.lemmas.List.Elements.{Contains-push, Contains-push_cases}
@@ -20,8 +20,7 @@ use Rattle.paxos_proposer.proofs.Passing.{left_at}
 
 -- a value that is pushed is found after the others
 pushed_here : (values : List Value) (v : Value) (i : ℕ) → i ≡ length values → slice_get (values ++ v ∷ []) i ≡ Some v
-pushed_here [] v zero e = refl
-pushed_here [] v (suc i) e = absurd (omega arith)
+pushed_here [] v i e = grind arith
 pushed_here (x ∷ xs) v zero e = absurd (omega arith)
 pushed_here (x ∷ xs) v (suc i) e = pushed_here xs v i (omega arith)
 
@@ -60,10 +59,7 @@ module _ (sent : Sent) (me : ℕ) (p : Proposer) (h : IsProposerBacked sent me p
   value_safe offered free e = grind (arith, nat_tests)
 
   unproposed : IsUnproposed sent p.ballot (next_of p)
-  unproposed w said =
-      let e : proposed_at p (next_of p) ≡ None = none_next p in
-      let f : proposed_at p (next_of p) ≡ Some w = h.only (next_of p) w said in
-      cc
+  unproposed w said = grind (arith, none_next p, h.only (next_of p) w said)
 
   pub may_propose : (typed : List Key) (learned : ℕ → Option Value) (r : Record) (offered : Option Value)
       → IfSome offered (IsFree sent) → next_value p offered ≡ Some v
@@ -83,9 +79,7 @@ module _ (sent : Sent) (me : ℕ) (p : Proposer) (h : IsProposerBacked sent me p
   sent_all s w e = elim (cases_eq s (next_of p)) [
     | inl here ↦
         let f : v ≡ w = cc (proposed_here p v s here) in
-        subst (λ (t : ℕ). IsSent (sent ++ said ∷ []) me (Accept p.ballot t w)) (sym here)
-        (subst (λ (u : Value). IsSent (sent ++ said ∷ []) me (Accept p.ballot (next_of p) u)) f
-        (Contains-push sent said))
+        rw (here, ← f) (Contains-push sent said)
     | inr there ↦ (stays_with sent said).stays me (Accept p.ballot s w) (h.sent_all s w (sym (proposed_there p v s there) ∙ e))
   ]
 
@@ -100,11 +94,8 @@ module _ (sent : Sent) (me : ℕ) (p : Proposer) (h : IsProposerBacked sent me p
 
   only : (s : ℕ) (w : Value) → IsSaid (sent ++ said ∷ []) (Accept p.ballot s w) → proposed_at (proposing p (Some v)) s ≡ Some w
   only s w g = elim (said_cases s w g) [
-    | inl old ↦
-        let before : proposed_at p s ≡ Some w = h.only s w old in
-        let ne : s ≢ next_of p = λ e. unproposed w (subst (λ (t : ℕ). IsSaid sent (Accept p.ballot t w)) e old) in
-        proposed_there p v s ne ∙ before
-    | inr new ↦ let e : v ≡ w = new.1 in proposed_here p v s (sym new.0) ∙ ap (λ (u : Value). Some u) e
+    | inl old ↦ proposed_there p v s (λ e. unproposed w (rw e at old)) ∙ h.only s w old
+    | inr new ↦ proposed_here p v s (sym new.0) ∙ ap (λ (u : Value). Some u) new.1
   ]
 
   pub proposing_backed : IsProposerBacked (sent ++ record { sender = me; body = Accept p.ballot (next_of p) v } ∷ []) me

@@ -1,6 +1,6 @@
 -- What is kept at a place after votes were reported.
-use Rattle.std.proofs.Common.{◌≡◌, ◌≢◌, ◌∙◌, ℕ, ◌+◌, ◌<◌, ◌≤◌, List, [], ◌∷◌, Option, Some, None, refl, sym, ap, inl, inr, arith}
-use Rattle.std.proofs.lemmas.Bool.{cases_eq, eq-eqb, ne_eqb}
+use Rattle.std.proofs.Common.{◌≡◌, ◌≢◌, ◌∙◌, ℕ, ◌+◌, ◌<◌, ◌≤◌, List, [], ◌∷◌, Option, Some, None, refl, arith}
+use Rattle.std.proofs.lemmas.Bool.{eq-eqb, ne_eqb}
 use Rattle.std.proofs.lemmas.Bool.Decides.{nat_tests}
 use Rattle.base.proofs.Branches.{either}
 use Rattle.paxos_msg.specs.declared.ballot.Ballot.{Ballot}
@@ -27,7 +27,7 @@ merged kept (Some vote) = Some (greater kept vote)
 -- no vote above a place is at it
 pub none_above : (votes : List Vote) (s : ℕ) → AreAbove s votes → kept_vote_at votes s ≡ None
 none_above [] s h = refl
-none_above (x ∷ xs) s h = rw (ne_eqb x.place s (λ e. omega (arith, h.0))) (none_above xs s h.1)
+none_above (x ∷ xs) s h = grind (arith, nat_tests, none_above xs s h.1)
 
 -- votes from a place on are above each smaller one
 all_above : (size : ℕ) (b : Ballot) (low upto s : ℕ) (votes : List Vote) → s < low → AreVotes size b low upto votes → AreAbove s votes
@@ -46,7 +46,7 @@ pub none_upto : (size : ℕ) (b : Ballot) (low upto s : ℕ) (votes : List Vote)
     → kept_vote_at votes s ≡ None
 none_upto size b low upto s [] le h = refl
 none_upto size b low upto s (x ∷ xs) le h =
-    rw (ne_eqb x.place s (λ e. omega (arith, h.0.below_upto))) (none_upto size b (x.place + 1) upto s xs le h.1)
+    grind (arith, nat_tests, none_upto size b (x.place + 1) upto s xs le h.1)
 
 pub found_first : (x : Vote) (xs : List Vote) (s : ℕ) → x.place ≡ s → kept_vote_at (x ∷ xs) s ≡ Some x
 found_first x xs s e = rw (eq-eqb x.place s e)
@@ -86,14 +86,12 @@ module _ (by_place : AreByPlace) where
       → kept_vote_at (heard low kept votes) s ≡ merged (kept_vote_at kept s) (kept_vote_at votes s)
   heard_from low s kept [] le h = refl
   heard_from low s kept (x ∷ xs) le h =
-      let now : Option Vote = kept_vote_at (heard_one low kept x) s in
-      let rest : kept_vote_at (heard low (heard_one low kept x) xs) s ≡ merged now (kept_vote_at xs s) =
-      heard_from low s (heard_one low kept x) xs le h.1 in
-      elim (cases_eq x.place s) [
-        | inl e ↦
-            let none : kept_vote_at xs s ≡ None = none_above xs s (rw e at h.0) in
-            rest ∙ ap (merged now) none ∙ one_here low s kept x le e ∙ sym (ap (merged (kept_vote_at kept s)) (found_first x xs s e))
-        | inr ne ↦
-            rest ∙ ap (λ (k : Option Vote). merged k (kept_vote_at xs s)) (one_there low s kept x ne)
-            ∙ sym (ap (merged (kept_vote_at kept s)) (found_later x xs s ne))
-      ]
+      let none = λ (e : x.place ≡ s). none_above xs s (rw e at h.0) in
+      grind (
+        arith,
+        nat_tests,
+        heard_from low s (heard_one low kept x) xs le h.1,
+        none,
+        one_here low s kept x,
+        one_there low s kept x,
+      )

@@ -1,4 +1,4 @@
-use Rattle.paxos_learner.proofs.FrontValues.{front_grows, input_longer, keys_longer, learned_grows}
+use Rattle.paxos_learner.proofs.ValuesBelow.{front_grows, input_longer, keys_longer, learned_grows}
 use Rattle.paxos_learner.proofs.laws.input_grows.Goals as goal
 
 pub returns : goal.returns

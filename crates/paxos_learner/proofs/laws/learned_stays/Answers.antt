@@ -1,10 +1,5 @@
-use Rattle.paxos_learner.proofs.LearnedStays.{accepted_more, accepted_size, told_more, told_size}
+use Rattle.paxos_learner.proofs.Hearing.{accepted_more, accepted_size, told_more, told_size}
 use Rattle.paxos_learner.proofs.laws.learned_stays.Goals as goal
 
 pub returns : goal.returns
-returns c = record {
-  accepted = λ l i s b v. accepted_more l i b s v;
-  told = told_more;
-  size_accepted = λ l i s b v. accepted_size l i b s v;
-  size_told = told_size;
-}
+returns c = record { accepted = accepted_more; told = told_more; size_accepted = accepted_size; size_told = told_size }

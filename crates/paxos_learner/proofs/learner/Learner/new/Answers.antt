@@ -1,6 +1,6 @@
 -- Nothing is learned yet.
 use Rattle.std.proofs.Common.{arith}
-use Rattle.paxos_learner.proofs.Knowing.{kept_none}
+use Rattle.paxos_learner.proofs.Keeping.{kept_none}
 use Rattle.paxos_learner.proofs.learner.Learner.new.Goals as goal
 
 pub invariant_of-result : goal.invariant_of-result

@@ -1,7 +1,6 @@
 -- To set a node's bit puts it in.
-use Rattle.std.proofs.Common.{◌∙◌, ap, arith}
+use Rattle.std.proofs.Common.{arith}
 use Rattle.std.proofs.lemmas.Nat.{one_shl, or_lt, pow_below}
-use Rattle.paxos_learner.specs.Tallies.{with_node}
 use Rattle.paxos_learner.proofs.Masks.{insert_node}
 use Rattle.paxos_learner.proofs.node_set.NodeSet.insert.Goals as goal
 
@@ -11,4 +10,4 @@ invariant_of-self c =
     (omega (arith, one_shl c.args.node 16 (omega arith), pow_below c.args.node 10 (omega arith)))
 
 pub returns : goal.returns
-returns c = insert_node c.self.inside.bits c.args.node c.requires ∙ ap (λ nodes. with_node nodes c.args.node) c.self.view_is
+returns c = rw (← c.self.view_is) (insert_node c.self.inside.bits c.args.node c.requires)

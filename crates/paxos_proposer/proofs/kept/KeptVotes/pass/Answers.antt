@@ -1,8 +1,8 @@
 -- The reports without the first place make the votes above it. Their greatest place is the same, or
 -- there are no votes.
-use Rattle.std.proofs.Common.{◌≡◌, ◌+◌, ◌≤◌, ◌∙◌, ap, subst, sym}
+use Rattle.std.proofs.Common.{◌≡◌, ◌+◌, ◌≤◌, ◌∙◌, sym}
 use Rattle.std.specs.Prelude.{All}
-use Rattle.paxos_proposer.specs.KeptVotes.{Kept, reported_votes}
+use Rattle.paxos_proposer.specs.KeptVotes.{reported_votes}
 use Rattle.paxos_msg.specs.Places.{votes_from}
 use Rattle.paxos_proposer.proofs.ByPlace.{votes_of-cut}
 use Rattle.paxos_proposer.proofs.GreatestPlace.{greatest-passed, greatest-left}
@@ -10,7 +10,7 @@ use Rattle.paxos_proposer.proofs.kept.KeptVotes.pass.Goals.{After-swap_remove}
 use Rattle.paxos_proposer.proofs.kept.KeptVotes.pass.Goals as goal
 
 from : (c : After-swap_remove) → All (λ vote. c.args.place ≤ vote.place) (reported_votes c.self.inside.reports.entries)
-from c = subst (λ (kept : Kept). All (λ vote. c.args.place ≤ vote.place) kept.votes) (sym c.self.view_is) c.requires
+from c = rw (← c.self.view_is) at c.requires
 
 cut : (c : After-swap_remove) → reported_votes c.swap_remove.new.self.entries
     ≡ votes_from (c.args.place + 1) (reported_votes c.self.inside.reports.entries)
@@ -28,7 +28,7 @@ invariant_of-self-else-eq c =
     (greatest-left _ c.self.inside.greatest c.args.place (sym c.eq.ensures ∙ c.if-eq.false) (from passed) c.self.invariant)
 
 pub returns-then-eq : goal.returns-then-eq
-returns-then-eq c = cut (goal.at.returns-then-eq c).After-swap_remove ∙ ap (λ kept. votes_from (c.args.place + 1) kept.votes) c.self.view_is
+returns-then-eq c = rw (← c.self.view_is) (cut (goal.at.returns-then-eq c).After-swap_remove)
 
 pub returns-else-eq : goal.returns-else-eq
-returns-else-eq c = cut (goal.at.returns-else-eq c).After-swap_remove ∙ ap (λ kept. votes_from (c.args.place + 1) kept.votes) c.self.view_is
+returns-else-eq c = rw (← c.self.view_is) (cut (goal.at.returns-else-eq c).After-swap_remove)

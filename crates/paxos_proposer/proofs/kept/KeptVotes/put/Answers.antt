@@ -1,6 +1,6 @@
 -- The reports with one more make the votes with it, and the greatest place is that of the vote
 -- where it is above.
-use Rattle.std.proofs.Common.{◌≡◌, ◌∙◌, ap}
+use Rattle.std.proofs.Common.{◌≡◌}
 use Rattle.paxos_msg.specs.Records.{with_vote}
 use Rattle.paxos_proposer.specs.KeptVotes.{reported_votes}
 use Rattle.paxos_proposer.proofs.ByPlace.{votes_of-put}
@@ -20,6 +20,4 @@ invariant_of-self c =
 pub returns-clause-votes : goal.returns-clause-votes
 returns-clause-votes c =
     let updates = rw c.unwrap.ensures at c.insert.ensures.updates in
-    votes_of-put c.self.inside.reports.entries c.insert.new.self.entries c.args.vote.place
-    (record { ballot = c.args.vote.ballot; value = c.args.vote.value }) updates.0
-    ∙ ap (λ kept. with_vote kept.votes c.args.vote) c.self.view_is
+    rw (← c.self.view_is) (votes_of-put _ _ c.args.vote.place (record { ballot = c.args.vote.ballot; value = c.args.vote.value }) updates.0)

@@ -1,9 +1,7 @@
 -- Votes are kept from the place after the new proposal on.
-use Rattle.std.proofs.Common.{◌≡◌, ◌+◌, ◌∙◌, ap, arith, length, sym}
+use Rattle.std.proofs.Common.{◌≡◌, ◌+◌, ap, arith, length}
 use Rattle.std.specs.Prelude.{is_some}
 use Rattle.std.proofs.lemmas.List.{length_push}
-use Rattle.paxos_proposer.specs.Proposer.{next_of}
-use Rattle.paxos_proposer.specs.States.{ProposerState}
 use Rattle.paxos_proposer.proofs.Passing.{left_from}
 use Rattle.paxos_proposer.proofs.proposer.Proposer.next_accept.Goals as goal
 
@@ -11,7 +9,7 @@ pub invariant_of-self-2 : goal.invariant_of-self-2
 invariant_of-self-2 c =
     let h = c.self.invariant in
     let next : c.next_place-place.result ≡ c.self.inside.first + length c.self.inside.values.items =
-    c.next_place-place.ensures.next ∙ sym (ap (λ (s : ProposerState). next_of s.known) c.self.view_is) in
+    rw (← c.self.view_is) at c.next_place-place.ensures.next in
     let count : c.self.inside.first + length c.push.new.self.items ≡ c.next_place-place.result + 1
     = omega (arith, ap length c.in_ok-push.ensures.items, length_push c.self.inside.values.items c.in-Some.value) in
     let below = c.next_value.ensures.below (ap is_some c.in-Some.is) in

@@ -1,7 +1,5 @@
 -- What is kept is from the next place on, as before.
-use Rattle.std.proofs.Common.{◌≡◌, ◌+◌, ◌∙◌, ap, arith, length, rules, sym}
-use Rattle.paxos_proposer.specs.Proposer.{next_of}
-use Rattle.paxos_proposer.specs.States.{ProposerState}
+use Rattle.std.proofs.Common.{◌≡◌, ◌+◌, arith, length, rules}
 use Rattle.paxos_proposer.proofs.Passing.{ahead_heard}
 use Rattle.paxos_proposer.proofs.proposer.Proposer.on_promise.Goals as goal
 
@@ -9,7 +7,7 @@ pub invariant_of-self-2 : goal.invariant_of-self-2
 invariant_of-self-2 c =
     let h = c.self.invariant in
     let next : c.next_place.result ≡ c.self.inside.first + length c.self.inside.values.items =
-    c.next_place.ensures.next ∙ sym (ap (λ (s : ProposerState). next_of s.known) c.self.view_is) in
+    rw (← c.self.view_is) at c.next_place.ensures.next in
     record {
       few = h.few;
       nodes = search rules;
