@@ -60,3 +60,17 @@ def check_widths():
                 for number, line in enumerate(text_of(path).split("\n"), 1):
                     if len(line) > most and not spared.match(line):
                         fault(f"{path}:{number}: has {len(line)} columns, more than {most}")
+
+
+# What a proof may cite of the proofs of another crate: the lemmas of base, and those on std's maps.
+SHARED_LEMMAS = re.compile(r"base\.|paxos_learner\.proofs\.OnePlace\.")
+
+
+def check_citations():
+    crates = tree.all_crates()
+    for crate in crates:
+        for path in tree.files_below(f"crates/{crate}/proofs", ".antt"):
+            for cited in re.findall(r"^(?:pub )?use Rattle\.(\w+\.proofs\.\S*)", text_of(path), re.M):
+                other = cited.split(".")[0]
+                if other in crates and other != crate and not SHARED_LEMMAS.match(cited):
+                    fault(f"{path}: cites {cited}, a lemma of another crate; what it needs is a clause or a law there")

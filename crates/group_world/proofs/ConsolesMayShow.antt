@@ -1,7 +1,6 @@
 -- Events lead to a world in which two consoles show a byte, for the law `consoles_may_show`.
-use Rattle.pcode_machine.proofs.Prefixes.{prefix_length}
 use Rattle.group_world.proofs.HoldsAfterEvents.{happens_then}
-use Rattle.std.proofs.Common.{◌≡◌, ℕ, zero, suc, ◌&&◌, ◌-◌, ◌≤◌, Bool, true, false, List, [], ◌∷◌, ◌++◌, drop, length, slice_get, slice_set, Some, refl, ap, arith}
+use Rattle.std.proofs.Common.{◌≡◌, ℕ, zero, suc, ◌&&◌, ◌-◌, ◌≤◌, Bool, true, false, List, [], ◌∷◌, ◌++◌, drop, length, slice_get, slice_set, Some, refl, ap, arith, length-append}
 use Rattle.std.proofs.lemmas.Bool.{and_parts}
 use Rattle.pcode_file.specs.Parts.{Parts}
 use Rattle.pcode_ops.specs.Decoding.{instr_of}
@@ -83,9 +82,9 @@ module _ {p : Parts} {x : List ℕ} (h : WritesLetter p x) where
     rest = refl;
     more = omega arith;
     room = λ n low high.
-        let short = prefix_length _ _ (laws.steps p x n 10 (omega arith)) in
+        let longer = laws.steps p x n 10 (omega arith) in
         let single = ap length h.writes in
-        omega (arith, short, single);
+        omega (arith, ap length longer.whole, length-append (out p x n) longer.rest, single);
     over = refl;
   }
 

@@ -1,6 +1,7 @@
 -- Whatever events happen, a world stays sound and ordered. What it has sent and shown only grows,
 -- and what was learned stays.
-use Rattle.std.proofs.Common.{◌≡◌, ℕ, ◌+◌, ◌<◌, Bool, List, [], ◌∷◌, ◌++◌, get_or, length, take, Option, Result, Ok, Err, IfOk, OnErr, refl, sym, subst, ap, ◌∙◌, None, Some, inl, inr, append-nil, append_assoc}
+use Rattle.std.proofs.lemmas.Grind.{common_steps}
+use Rattle.std.proofs.Common.{◌≡◌, ℕ, ◌+◌, ◌<◌, Bool, List, [], ◌∷◌, ◌++◌, get_or, length, take, Option, Result, Ok, Err, IfOk, OnErr, refl, sym, subst, ap, ◌∙◌, None, Some, inl, inr, append-nil, append_assoc, arith}
 use Rattle.std.proofs.lemmas.List.{take_more}
 use Rattle.std.proofs.lemmas.Option.{slice_get-get_or}
 use Rattle.pcode_file.specs.Parts.{Parts}
@@ -16,7 +17,6 @@ use Rattle.group_world.specs.Group.{new_world, World, world_state}
 use Rattle.group_world.specs.Ordered.{Holds, IsOrdered}
 use Rattle.group_world.specs.Refusals.{IsFirstRefused, IsRefused}
 use Rattle.group_world.specs.Sound.{IsSound}
-use Rattle.pcode_machine.proofs.Prefixes.{prefix_refl, prefix_trans}
 use Rattle.paxos_msg.specs.declared.value.Value.{Value}
 use Rattle.paxos_msg.specs.Batches.{Grew, Record, Sent, Body, Change}
 use Rattle.paxos_msg.specs.Chosen.{IsChosen}
@@ -100,6 +100,14 @@ pub record Grows (w v : WorldState) : Type 0 where
   pub more : Sent
   pub sent : v.sent ≡ w.sent ++ more
   pub consoles : ConsolesGrow w v
+
+-- a list begins with itself
+prefix_refl : (a : List ℕ) → IsPrefix a a
+prefix_refl a = record { rest = []; whole = sym (append-nil a) }
+
+-- and with what a list begins with that it begins with
+prefix_trans : (a b c : List ℕ) → IsPrefix a b → IsPrefix b c → IsPrefix a c
+prefix_trans a b c h k = grind (arith, common_steps, append_assoc)
 
 grows_none : (w v : WorldState) → v ≡ w → Grows w v
 grows_none w v e = record {

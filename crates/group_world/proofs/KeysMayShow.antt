@@ -2,7 +2,6 @@
 -- `keys_may_show`. First, what its one node knows after each of its calls.
 use Rattle.group_world.specs.declared.event.Act.{Act}
 use Rattle.std.proofs.lemmas.List.Elements.{All-from_recursion, All-take}
-use Rattle.paxos_msg.proofs.OwnKeys.{own_keys}
 use Rattle.group_node.specs.Ranges.{AllFit}
 use Rattle.std.proofs.Common.{take, ◌≡◌, ◌∙◌, ℕ, false, List, [], ◌∷◌, ◌++◌, drop, slice_get, Option, None, Some, refl, sym, ap, subst, arith, length, replicate, slice_set}
 use Rattle.std.proofs.lemmas.List.{map-append}
@@ -31,8 +30,8 @@ use Rattle.group_world.specs.Member.{NodeCall, failing, Makes, Member, member_af
 use Rattle.group_world.specs.Headline.{HasLearned}
 use Rattle.group_world.specs.Witness.{echoes, letter_batch, one, shown_events}
 use Rattle.group_world.proofs.ConsolesMayShow.{StepsLaw, WritesLetter, all_go, is_step, replays, runs, ten_of, waits}
-use Rattle.group_world.proofs.WorldAsGroup.{stopped}
-use Rattle.group_world.proofs.OrderPossible.{FitsHere, fit_read, ballot, message, are_bytes, ballot_fits, me, node_fits}
+use Rattle.group_world.proofs.WorldAsGroup.{ReadLaw, stopped}
+use Rattle.group_world.proofs.OrderPossible.{FitsHere, fit_read, own_keys, ballot, message, are_bytes, ballot_fits, me, node_fits}
 use Rattle.std.specs.Ordering.{nat_cmp}
 use Rattle.std.specs.Cmp.{nat_cmp_total}
 use Rattle.paxos_msg.specs.declared.record.Change.TheVariants as change
@@ -288,13 +287,13 @@ all_fit = All-from_recursion FitsHere all (
   (
     (ballot_fits, omega arith, omega arith, omega arith, omega arith, tt),
     (
-      (letter_fits, own_keys 1 2 1 1 (65 ∷ []) (omega arith) refl),
+      (letter_fits, own_keys 1 2 1 (65 ∷ []) (omega arith)),
       (omega arith, ((ballot_fits, refl, omega arith, letter_fits), ((ballot_fits, omega arith, letter_fits), tt))),
     ),
   ),
 )
 
-module _ (steps : StepsLaw) where
+module _ (steps : StepsLaw) (read : ReadLaw) where
   -- an event whose save, if it makes one, is kept
   abbrev Step : World → Act → World → Type 0
   Step w act v = Performs w None act Applied v
@@ -310,7 +309,7 @@ module _ (steps : StepsLaw) where
     running n start,
     message body,
     up_here n start (part sent) typed,
-    ap (λ sent. slice_get sent k) (fit_read (part sent) (All-take FitsHere sent all all_fit)).1 ∙ there,
+    ap (λ sent. slice_get sent k) (fit_read read (part sent) (All-take FitsHere sent all all_fit)).1 ∙ there,
     leaves n made (part sent) typed [] (Makes _ []) (ap (λ x. Makes x []) e),
   )
 

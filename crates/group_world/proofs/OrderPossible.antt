@@ -1,11 +1,10 @@
 -- A group of one node, in which three keys were typed and chosen as the batches 1..1, 1..2 and
 -- 3..3: what was sent, how it grew, and that the messages have spellings which are read. It is
 -- sound and ordered, for the law `possible`.
-use Rattle.paxos_msg.proofs.Rules.{some_if}
+use Rattle.std.proofs.lemmas.Bool.Decides.{nat_tests}
 use Rattle.std.specs.List.{AllByRecursion as EachOf, Contains, flat_map, slice_get, list_all}
-use Rattle.paxos_msg.proofs.WithVote.{vote_found}
 use Rattle.std.proofs.lemmas.Option.{same_Some}
-use Rattle.std.proofs.Common.{◌≡◌, ◌≢◌, ◌<◌, ◌≤◌, ℕ, zero, suc, List, [], ◌∷◌, ◌++◌, map, Option, Some, None, IfSome, refl, sym, subst, inl, inr, arith, lit<, ◌==◌, Bool, IsTrue, ap, ◌⊎◌, All, nat_lt, true, length}
+use Rattle.std.proofs.Common.{◌≡◌, ◌≢◌, ◌<◌, ◌≤◌, ℕ, zero, suc, List, [], ◌∷◌, ◌++◌, map, Option, Some, None, IfSome, refl, sym, subst, inl, inr, arith, lit<, ◌==◌, Bool, IsTrue, ap, ◌⊎◌, All, nat_lt, true, length, ◌+◌}
 use Rattle.std.proofs.lemmas.List.Elements.{Contains-get_or, All-contains, All-from_recursion, Contains-push}
 use Rattle.std.proofs.lemmas.List.Quantifiers.{all_pairs_push}
 use Rattle.pcode_file.specs.Parts.{Parts}
@@ -27,10 +26,8 @@ use Rattle.group_world.specs.Ordered.{IsDue, IsOrdered, IsRowOf}
 use Rattle.group_world.specs.Sound.{IsMemberSound, IsSound, IsSpelling}
 use Rattle.group_world.specs.Group.{me_of, member_at, World, world_state, seat_of_member, messages_in}
 use Rattle.group_world.specs.Member.{Member}
-use Rattle.paxos_msg.proofs.MessagesRead.{message_again}
-use Rattle.paxos_msg.proofs.OwnKeys.{own_keys}
 use Rattle.group_node.specs.Ranges.{AllFit}
-use Rattle.group_world.proofs.WorldAsGroup.{nothing_shown, packets_read, stopped}
+use Rattle.group_world.proofs.WorldAsGroup.{nothing_shown, packets_read, ReadLaw, stopped}
 use Rattle.group_world.proofs.OrderLists.{left_place, none_in}
 use Rattle.std.proofs.lemmas.Bool.{eqb-true, and_parts, ltb-true}
 use Rattle.paxos_msg.specs.declared.ballot.Ballot.{Ballot}
@@ -201,11 +198,23 @@ module _ (sent : Sent) (r : Record) (s : ℕ) (v : Value) (grew : Grew 1 sent (r
 
 -- ---- the three
 
+-- the keys of a batch are of its node
+of_node : (node start first : ℕ) (bytes : List ℕ) (key : Key) → Contains (keys_of (Keys node start first bytes)) key → key.node ≡ node
+of_node node start first [] key among = absurd (omega (arith, among.1))
+of_node node start first (byte ∷ bytes) key (zero, below, at) = ap (λ (k : Key). k.node) (sym at)
+of_node node start first (byte ∷ bytes) key (suc i, below, at) = of_node node start (first + 1) bytes key (i, omega arith, at)
+
+-- so they are its own
+pub own_keys : (node start first : ℕ) (bytes : List ℕ) → 0 < length bytes → AreOwnKeys batches node (Keys node start first bytes)
+own_keys node start first [] some = absurd (omega arith)
+own_keys node start first (byte ∷ bytes) some =
+    record { has_key = λ none. absurd cc; at_node = of_node node start first (byte ∷ bytes) }
+
 -- the keys of a batch were typed at the node
 own_batch : (first : ℕ) (bytes : List ℕ) → 0 < length bytes → EachOf (Contains typed) (keys_of (Keys 1 1 first bytes))
     → IsTyped typed 1 (Keys 1 1 first bytes)
 own_batch first bytes some each = record {
-  own = own_keys 1 1 first 1 bytes some refl;
+  own = own_keys 1 1 first bytes some;
   known = λ k among. each_of (Contains typed) (keys_of (Keys 1 1 first bytes)) k each among;
 }
 
@@ -323,15 +332,9 @@ all_fit = All-from_recursion FitsHere packets (
 )
 
 -- packets that fit have spellings, which are read as the messages that the node sends
-pub fit_read : (ps : List Packet) → AllFit me ps → All (IsSpelling group) (datagrams_of me ps)
+pub fit_read : ReadLaw → (ps : List Packet) → AllFit me ps → All (IsSpelling group) (datagrams_of me ps)
     × (messages_in group (datagrams_of me ps) ≡ messages_handed_out 1 ps)
-fit_read = packets_read message_again me (omega arith) node_fits
-
-all_spelled : All (IsSpelling group) (datagrams_of me packets)
-all_spelled = (fit_read packets all_fit).0
-
-sent_is : messages_in group (datagrams_of me packets) ≡ sent_3
-sent_is = (fit_read packets all_fit).1
+fit_read read = packets_read read me (omega arith) node_fits
 
 -- ---- what each message says
 
@@ -376,13 +379,17 @@ votes_backed = (
   ),
 )
 
+-- the vote that is found at a place, if there is one
+vote_backed : (s : ℕ) → IfSome (kept_vote_at kept_3.votes s) (IsVoteBacked sent_3 kept_3 s)
+vote_backed zero = votes_backed.0
+vote_backed (suc zero) = votes_backed.1.0
+vote_backed (suc (suc zero)) = votes_backed.1.1.0
+vote_backed (suc (suc (suc s))) = grind (arith, nat_tests)
+
 kept_backed : IsRecordBacked sent_3 1 kept_3
 kept_backed = record {
   votes = record {
-    votes = λ s. (some_if _ (IsVoteBacked sent_3 kept_3 s)).1 (λ vote e.
-        let found = vote_found kept_3.votes s vote e in
-        subst (λ t. IsVoteBacked sent_3 kept_3 t vote) found.1
-        (each_of (λ (x : Vote). IsVoteBacked sent_3 kept_3 x.place x) kept_3.votes vote votes_backed found.0));
+    votes = vote_backed;
     in_order = ((omega arith, (omega arith, tt)), ((omega arith, tt), (tt, tt)));
   };
   asked = λ b from mine said. subst (HasPromised kept_3) (sym (says said.0 (Prepare b from) said.1)) (inr (refl, omega arith));
@@ -431,19 +438,6 @@ each_member P h zero m e = absurd cc
 each_member P h (suc zero) m e = subst (P 1) (same_Some _ m e) h
 each_member P h (suc (suc i)) m e = absurd cc
 
-example_sound : (p : Parts) → IsSound (example p)
-example_sound p = record {
-  size = record { odd = refl; few = omega arith };
-  session = omega arith;
-  places = refl;
-  spelled = all_spelled;
-  grew = subst (λ sent. Grew 1 sent (records_of kept_3)) (sym sent_is) grew_3;
-  told = subst (AllChosen 1) (sym sent_is) told;
-  submitted = subst (λ sent. AllTyped sent typed) (sym sent_is) (λ i v among. (says i _ among).0);
-  members = λ i m e. subst (λ sent. IsMemberSound p (me_of (example p) i) sent typed m) (sym sent_is)
-      (each_member (λ i m. IsMemberSound p (me_of (example p) i) sent_3 typed m) (node_sound p) i m e);
-}
-
 -- ---- it is ordered
 
 -- a key of another serial has not the name of one of these
@@ -458,32 +452,55 @@ typed_apart =
     (push_apart (key_a ∷ []) key_b (push_apart [] key_a (λ i j d less below. absurd (omega arith)) tt) ((λ e. absurd (omega arith)), tt))
     ((λ e. absurd (omega arith)), ((λ e. absurd (omega arith)), tt))
 
-example_ordered : (p : Parts) → IsOrdered (example p)
-example_ordered p = record {
-  keys = record {
-    once = typed_apart;
-    past = λ k m among at. omega (
-      arith,
-      each_of (λ (x : Key). x.start ≡ 1) typed k (refl, (refl, (refl, tt))) among,
-      each_member (λ i m. m.kept.starts ≡ 1) refl k.node m at,
-    );
-    nodes = each_member (λ i m. IfSome m.node (λ q. IsRowOf typed i m.kept q.known)) tt;
-  };
-  due = subst (λ sent. (v : Value) → IsSaid sent (Submit v) → IsDue 1 sent v) (sym sent_is)
-      (λ v said. (says said.0 _ said.1).1);
-}
+-- ---- with the law that a spelling is read
 
-pub possible : (p : Parts)
-    → (w : World) × (values : List Value) × (w.program ≡ p) × IsSound w × IsOrdered w
-    × AreChosen w.group.size (world_state w).sent values
-    × (map (λ k. k.byte) (flat_map keys_of values) ≡ 65 ∷ 65 ∷ 66 ∷ 67 ∷ []) × (input_of values ≡ 65 ∷ 66 ∷ 67 ∷ [])
-possible p = (
-  example p,
-  chosen_values,
-  refl,
-  example_sound p,
-  example_ordered p,
-  subst (λ sent. AreChosen 1 sent chosen_values) (sym sent_is) all_chosen,
-  refl,
-  refl,
-)
+module _ (read : ReadLaw) where
+  all_read : All (IsSpelling group) (datagrams_of me packets)
+      × (messages_in group (datagrams_of me packets) ≡ messages_handed_out 1 packets)
+  all_read = fit_read read packets all_fit
+
+  sent_is : messages_in group (datagrams_of me packets) ≡ sent_3
+  sent_is = all_read.1
+
+  example_sound : (p : Parts) → IsSound (example p)
+  example_sound p = record {
+    size = record { odd = refl; few = omega arith };
+    session = omega arith;
+    places = refl;
+    spelled = all_read.0;
+    grew = subst (λ sent. Grew 1 sent (records_of kept_3)) (sym sent_is) grew_3;
+    told = subst (AllChosen 1) (sym sent_is) told;
+    submitted = subst (λ sent. AllTyped sent typed) (sym sent_is) (λ i v among. (says i _ among).0);
+    members = λ i m e. subst (λ sent. IsMemberSound p (me_of (example p) i) sent typed m) (sym sent_is)
+        (each_member (λ i m. IsMemberSound p (me_of (example p) i) sent_3 typed m) (node_sound p) i m e);
+  }
+
+  example_ordered : (p : Parts) → IsOrdered (example p)
+  example_ordered p = record {
+    keys = record {
+      once = typed_apart;
+      past = λ k m among at. omega (
+        arith,
+        each_of (λ (x : Key). x.start ≡ 1) typed k (refl, (refl, (refl, tt))) among,
+        each_member (λ i m. m.kept.starts ≡ 1) refl k.node m at,
+      );
+      nodes = each_member (λ i m. IfSome m.node (λ q. IsRowOf typed i m.kept q.known)) tt;
+    };
+    due = subst (λ sent. (v : Value) → IsSaid sent (Submit v) → IsDue 1 sent v) (sym sent_is)
+        (λ v said. (says said.0 _ said.1).1);
+  }
+
+  pub possible : (p : Parts)
+      → (w : World) × (values : List Value) × (w.program ≡ p) × IsSound w × IsOrdered w
+      × AreChosen w.group.size (world_state w).sent values
+      × (map (λ k. k.byte) (flat_map keys_of values) ≡ 65 ∷ 65 ∷ 66 ∷ 67 ∷ []) × (input_of values ≡ 65 ∷ 66 ∷ 67 ∷ [])
+  possible p = (
+    example p,
+    chosen_values,
+    refl,
+    example_sound p,
+    example_ordered p,
+    subst (λ sent. AreChosen 1 sent chosen_values) (sym sent_is) all_chosen,
+    refl,
+    refl,
+  )

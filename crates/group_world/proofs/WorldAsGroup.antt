@@ -88,7 +88,7 @@ seats_changed w i m new e j = elim (cases_eq j i) [
 -- ---- what datagrams spell
 
 -- the spelling of a message is read as the message
-abbrev ReadLaw : Type 0
+abbrev pub ReadLaw : Type 0
 ReadLaw = (group : Group) (bytes : List ℕ) (m : Msg) → IsGroup group → Msgs group bytes m → message_at group bytes ≡ Ok m
 
 module _ (read : ReadLaw) (me : Me) (session : IsGroup me.group) (node : IsNode me.group.size me.node) where

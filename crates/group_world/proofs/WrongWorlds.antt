@@ -1,9 +1,8 @@
 -- Worlds, steps and keys that break the promises, for the laws `wrong_worlds`, `wrong_steps` and
 -- `wrong_orders`.
-use Rattle.paxos_msg.proofs.GrowthSteps.{at_listed}
+use Rattle.std.proofs.lemmas.Bool.Decides.{nat_tests}
 use Rattle.paxos_msg.specs.Ballots.{count_of, IsMajority, IsBelow}
 use Rattle.paxos_msg.specs.Chosen.{is_listed, IsChosen, IsChosenBy}
-use Rattle.paxos_msg.proofs.CountingNodes.{count_grows}
 use Rattle.std.proofs.lemmas.Bool.{cases_eq, eq-eqb, lt-ltb}
 use Rattle.std.proofs.Common.{IsTrue, nat_lt, ◌==◌, false, ◌≤◌, ◌≡◌, ◌≢◌, ◌∙◌, ℕ, zero, suc, ◌+◌, ◌<◌, Bool, List, [], ◌∷◌, ◌++◌, Contains, slice_get, Some, inl, inr, ◌⊎◌, refl, sym, ap, subst, arith, lit<, Option, None}
 use Rattle.std.proofs.lemmas.Option.{same_Some}
@@ -62,8 +61,9 @@ ballot_1 = record { round = 1; node = 1 }
 by_three : (sent : Sent) (s : ℕ) (v : Value) → Contains sent (accepted_message 3 1 s v)
     → Contains sent (accepted_message 4 1 s v) → Contains sent (accepted_message 5 1 s v) → IsChosen 5 sent s v
 by_three sent s v third fourth fifth =
-    let nodes = 3 ∷ 4 ∷ 5 ∷ [] in
-    (ballot_1, (is_listed nodes, lit< tt, at_listed (λ i. IsSent sent i (Accepted ballot_1 s v)) nodes (third, (fourth, (fifth, tt)))))
+    let each : (i : ℕ) → IsTrue (is_listed (3 ∷ 4 ∷ 5 ∷ []) i) → IsSent sent i (Accepted ballot_1 s v) =
+    λ i is. grind (arith, nat_tests) in
+    (ballot_1, (is_listed (3 ∷ 4 ∷ 5 ∷ []), lit< tt, each))
 
 pub is_chosen : IsChosen 5 (chosen 0 (key 1 65)) 0 (key 1 65)
 is_chosen = by_three (chosen 0 (key 1 65)) 0 _ (0, lit< tt, refl) (1, lit< tt, refl) (2, lit< tt, refl)
@@ -113,10 +113,16 @@ who b i among =
       ),
     ) among b refl
 
+-- a set of more nodes counts no fewer
+count_grows : (p q : ℕ → Bool) (n : ℕ) → ((i : ℕ) → i ≤ n → IsTrue (p i) → IsTrue (q i)) → count_of p n ≤ count_of q n
+count_grows p q zero all = omega arith
+count_grows p q (suc n) all =
+    grind (arith, nat_tests, all (suc n) (omega arith), count_grows p q n (λ i low. all i (omega arith)))
+
 -- members that are among two of five are not a majority
 few : (members among : ℕ → Bool) → count_of among 5 ≤ 2 → ((i : ℕ) → i ≤ 5 → IsTrue (members i) → IsTrue (among i)) → ¬ IsMajority 5 members
 few members among low within h =
-    let less = count_grows members among 5 (λ i above upto. within i upto) in
+    let less = count_grows members among 5 within in
     omega (arith, h)
 
 not_by_three : (b : Ballot) → ¬ IsChosenBy 5 not_chosen.sent b 0 Noop

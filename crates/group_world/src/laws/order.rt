@@ -19,7 +19,7 @@ use group_node::laws::{packets_fit, waiting_keys_are_a_row};
 use paxos_learner::laws::{
     input_grows, key_tests_are_exact, keys_are_read_once, learned_stays, values_are_learned,
 };
-use paxos_msg::grammar::one_message;
+use paxos_msg::grammar::{one_message, spelling_is_read};
 use paxos_msg::laws::{agreement, sent_only_grows};
 
 /// In a sound world that is ordered, each typed key is read once from any chosen values. The keys
@@ -61,7 +61,9 @@ pub fn possible()
         × AreChosen w.group.size (world_state w).sent values
         × (map (λ k. k.byte) (flat_map keys_of values) ≡ 65 ∷ 65 ∷ 66 ∷ 67 ∷ [])
         × (input_of values ≡ 65 ∷ 66 ∷ 67 ∷ []) }
-{}
+{
+    spelling_is_read();
+}
 
 /// Keys are not in order if the second comes before the first, or the third right after the first.
 /// They are not apart if one serial has two characters, as after two starts with one number.

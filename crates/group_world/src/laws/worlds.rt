@@ -13,6 +13,7 @@ ghost use Rattle.group_world.specs.Witness.{echoes, letter, letter_batch, one, s
 
 use crate::laws::order::{events_keep_order, ordered_worlds_are_orderly};
 use crate::laws::sound::{events_keep_it_sound, sound_worlds_agree};
+use paxos_msg::grammar::spelling_is_read;
 use paxos_msg::laws::{agreement, sent_only_grows};
 use pcode_machine::laws::output_only_grows;
 
@@ -96,4 +97,5 @@ pub fn keys_may_show()
         × (((world_state w).seats 1).console ≡ 65 ∷ []) }
 {
     output_only_grows();
+    spelling_is_read();
 }
