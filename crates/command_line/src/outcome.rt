@@ -25,24 +25,12 @@ const STEPS_SPENT: u8 = 4;
 #[derive(Clone, Copy, Debug, Error)]
 pub enum Refusal {
     #[error(transparent)]
-    Machine(MachineRefusal),
+    Machine(#[from] MachineRefusal),
     #[error(transparent)]
-    Group(GroupFault),
+    Group(#[from] GroupFault),
     /// A line of a script: its number comes before the word `refused`.
     #[error("{fault}")]
     Line { line: usize, fault: LineFault },
-}
-
-impl From<MachineRefusal> for Refusal {
-    fn from(refusal: MachineRefusal) -> Refusal {
-        Refusal::Machine(refusal)
-    }
-}
-
-impl From<GroupFault> for Refusal {
-    fn from(fault: GroupFault) -> Refusal {
-        Refusal::Group(fault)
-    }
 }
 
 impl From<ScriptRefusal> for Refusal {

@@ -6,6 +6,7 @@ use Rattle.std.specs.Fmt.{digit_glyph}
 use Rattle.std.specs.FinMap.{get}
 use Rattle.std.specs.Option.{option_or}
 use Rattle.paxos_msg.specs.declared.ballot.Ballot.{Ballot}
+use Rattle.paxos_msg.specs.declared.limits.TheConstants.{PLACES}
 use Rattle.paxos_msg.specs.declared.value.Value.{Value}
 use Rattle.paxos_msg.specs.declared.value.Value.TheVariants.{Noop, Keys}
 use Rattle.group_node.specs.Known.{front}
@@ -102,17 +103,13 @@ unfoldable pub lines_below : (ℕ → List ℕ) → ℕ → List ℕ
 lines_below line zero = []
 lines_below line (suc n) = lines_below line n ++ line n
 
--- The number of places.
-abbrev pub places : ℕ
-places = 65536
-
 -- The lines of the nodes 1 to size.
 abbrev pub node_lines : World → ℕ → List ℕ
 node_lines w size = lines_below (λ k. node_line w (1 + k)) size
 
 -- The lines of the places at which one of the nodes has learned a value.
 abbrev pub place_lines : World → ℕ → List ℕ
-place_lines w size = lines_below (λ place. place_line place (learned_at w size place)) places
+place_lines w size = lines_below (λ place. place_line place (learned_at w size place)) PLACES
 
 -- The text of a group of this size, as `show` writes it.
 -- It has the line `node N up ..` or `node N down ..` of each node, in order. The line

@@ -5,7 +5,7 @@ use crate::fault::{GroupFault, end_of};
 use crate::run::run_over_file;
 use group_log::{Log, Note};
 use group_node::Config;
-use machine_run::{CountingWriter, MachineRefusal, load_file, read_input};
+use machine_run::{Counting, MachineRefusal, load_file, read_input};
 use paxos_msg::Group;
 use pcode_ops::Program;
 use std::io::{Read, Write};
@@ -65,7 +65,7 @@ fn node_noted<H: Files + Net + Clock + AllocGlobal + Copy + Drop, R: Read, W: Wr
         None => read_input(rt.alloc(), reader)?,
         Some(_) => Vec::new(rt.alloc()),
     };
-    let mut writer = CountingWriter::new(writer);
+    let mut writer = Counting::new(writer);
     run_over_file(
         rt,
         &program,

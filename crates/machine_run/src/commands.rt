@@ -3,7 +3,7 @@ use crate::files::read_file;
 use crate::loading::load;
 use crate::refusal::MachineRefusal;
 use crate::run::{Finish, RunIo, run_program};
-use crate::streams::{CountingReader, CountingWriter};
+use crate::streams::Counting;
 use pcode_ops::Program;
 use std::alloc::Global;
 use std::io::{self, BufWriter, Read, Write};
@@ -18,8 +18,8 @@ pub fn run_bytes<R: Read, W: Write>(
     writer: &mut W,
 ) -> Result<Finish, MachineRefusal> {
     let program = load(alloc, bytes)?;
-    let mut reader = CountingReader::new(reader);
-    let mut writer = CountingWriter::new(writer);
+    let mut reader = Counting::new(reader);
+    let mut writer = Counting::new(writer);
     Ok(run_program(alloc, &mut reader, &mut writer, &program, steps)?)
 }
 

@@ -5,8 +5,7 @@
 //!
 //! - `load`, which makes a program of a code file's bytes, or says why they are none;
 //! - `run_program`, which runs a program over a `ByteReader` and a `ByteWriter`, and whose contract
-//!   says exactly what was read and written. `CountingReader` and `CountingWriter` make these of
-//!   any `Read` and `Write`;
+//!   says exactly what was read and written. `Counting` makes these of any `Read` and `Write`;
 //! - `show`, which prints a datagram.
 //!
 //! `check_file`, `list_file` and `run_file` do the work of the commands `check`, `list` and `run`.
@@ -29,5 +28,5 @@ pub use hex::{HexError, bytes_of};
 pub use loading::load;
 pub use refusal::{MachineRefusal, ShowFault};
 pub use run::{Finish, RunIo, run_program};
-pub use streams::{ByteReader, ByteWriter, CountingReader, CountingWriter, ReadFault, WriteFault};
+pub use streams::{ByteReader, ByteWriter, Counting, ReadFault, WriteFault};
 pub use text::{show, write_bytes, write_message};

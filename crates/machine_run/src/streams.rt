@@ -1,8 +1,8 @@
 //! Readers and writers of single bytes, which count their faults.
 //!
 //! The contracts of std's `Read` and `Write` cannot say that a call failed, so no clause can say
-//! that a fault was really met. These two traits count faults. The wrappers below make one of any
-//! `Read` or `Write`, and raise the count when its call returns an error.
+//! that a fault was really met. These two traits count faults. The wrapper `Counting` makes one of
+//! any `Read` or `Write`, and raises the count when its call returns an error.
 ghost use Rattle.std.specs.Prelude.{◌≡◌, ℕ, List, [], ◌∷◌, Option, IsNone, MatchResult};
 ghost use Rattle.std.specs.Option.{option_to_list};
 ghost use Rattle.std.specs.Io.KnownBytes.{Keeps, Appends, Consumes, IsAtEnd};
@@ -60,24 +60,25 @@ pub trait ByteWriter {
             (λ _. HasRisen (write_faults self.old) (write_faults self.new)) };
 }
 
-/// A reader that counts its faults, up to `u64::MAX`.
+/// A reader or a writer, and the number of its faults, up to `u64::MAX`. It is a `ByteReader` if
+/// `T` is a `Read`, and a `ByteWriter` if `T` is a `Write`.
 #[derive(Drop)]
-pub struct CountingReader<R: Read> {
-    pub inner: R,
+pub struct Counting<T> {
+    pub inner: T,
     pub faults: u64,
 }
 
-impl<R: Read> CountingReader<R> {
-    /// Wraps any `Read` as a `ByteReader`, with no fault counted.
-    pub fn new(inner: R) -> CountingReader<R>
+impl<T> Counting<T> {
+    /// Wraps a reader or a writer, with no fault counted.
+    pub fn new(inner: T) -> Counting<T>
         ensures inner { result.inner ≡ inner }
         ensures faults { result.faults ≡ 0 }
     {
-        CountingReader { inner, faults: 0 }
+        Counting { inner, faults: 0 }
     }
 }
 
-impl<R: Read> ByteReader for CountingReader<R> {
+impl<R: Read> ByteReader for Counting<R> {
     ghost remaining = { λ r. R.remaining r.inner };
 
     ghost read_faults = { λ r. r.faults };
@@ -95,24 +96,7 @@ impl<R: Read> ByteReader for CountingReader<R> {
     }
 }
 
-/// A writer that counts its faults, up to `u64::MAX`.
-#[derive(Drop)]
-pub struct CountingWriter<W: Write> {
-    pub inner: W,
-    pub faults: u64,
-}
-
-impl<W: Write> CountingWriter<W> {
-    /// Wraps any `Write` as a `ByteWriter`, with no fault counted.
-    pub fn new(inner: W) -> CountingWriter<W>
-        ensures inner { result.inner ≡ inner }
-        ensures faults { result.faults ≡ 0 }
-    {
-        CountingWriter { inner, faults: 0 }
-    }
-}
-
-impl<W: Write> ByteWriter for CountingWriter<W> {
+impl<W: Write> ByteWriter for Counting<W> {
     ghost contents = { λ w. W.contents w.inner };
 
     ghost write_faults = { λ w. w.faults };

@@ -15,20 +15,11 @@ const INNER: Frame = Frame {
 
 /// Memory, a stack and frames. Contracts see nothing of them, so that a test does not carry their
 /// words from one call to the next.
+#[derive(Drop)]
 struct Room {
     memory: Memory,
     stack: Stack,
     frames: Frames,
-}
-
-impl Drop for Room {
-    fn drop(self) {
-        let Room {
-            memory: _memory,
-            stack: _stack,
-            frames: _frames,
-        } = self;
-    }
 }
 
 impl Model for Room {

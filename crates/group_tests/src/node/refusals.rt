@@ -13,6 +13,7 @@ use paxos_acceptor::{MemoryStore, Store};
 use paxos_msg::{Ballot, Record, Value, Vote, Votes};
 use pcode_ops::Program;
 use std::alloc::{AllocError, Global};
+use std::process::Abort;
 use std::test::Fail;
 
 /// Returns a ballot of node 1.
@@ -21,7 +22,7 @@ fn ballot(round: u32) -> Ballot {
 }
 
 /// Lets node 1 do all this after its first start. Returns the first line that it answers otherwise.
-pub fn fresh(
+fn fresh(
     alloc: Global,
     program: &Program,
     lines: &[(Act, Option<NodeFault>)],
@@ -32,6 +33,18 @@ pub fn fresh(
     Ok(unlike)
 }
 
+/// Asserts that node 1, after its first start over the program, answers as the lines say.
+pub fn assert_answers(
+    rt: &impl Abort,
+    alloc: Global,
+    program: &Program,
+    lines: &[(Act, Option<NodeFault>)],
+) -> Result<(), Fail> {
+    let unlike = fresh(alloc, program, lines)?;
+    assert_eq!(rt; unlike, None);
+    Ok(())
+}
+
 const FULL: Option<NodeFault> = Some(NodeFault::OutboxFull);
 
 /// Shows Node::on_message (let_in, does), Node::campaign (let_in), Node::tick (let_in, does),
@@ -40,7 +53,8 @@ const FULL: Option<NodeFault> = Some(NodeFault::OutboxFull);
 #[test]
 fn outbox_is_full(rt: HostRuntime) -> Result<(), Fail> {
     let program = reading_program(rt.alloc())?;
-    let unlike = fresh(
+    assert_answers(
+        &rt,
         rt.alloc(),
         &program,
         &[
@@ -54,9 +68,7 @@ fn outbox_is_full(rt: HostRuntime) -> Result<(), Fail> {
             (HasSentAll, None),
             (Campaigns, None),
         ],
-    )?;
-    assert_eq!(rt; unlike, None);
-    Ok(())
+    )
 }
 
 /// Shows Node::tick (let_in, does), Outbox::pop (value, packets): once the outbox is empty a tick
@@ -64,7 +76,8 @@ fn outbox_is_full(rt: HostRuntime) -> Result<(), Fail> {
 #[test]
 fn outbox_is_ready_after_a_pop(rt: HostRuntime) -> Result<(), Fail> {
     let program = reading_program(rt.alloc())?;
-    let unlike = fresh(
+    assert_answers(
+        &rt,
         rt.alloc(),
         &program,
         &[
@@ -75,9 +88,7 @@ fn outbox_is_ready_after_a_pop(rt: HostRuntime) -> Result<(), Fail> {
             (Sends(All, &ASK_1), None),
             (HasSentAll, None),
         ],
-    )?;
-    assert_eq!(rt; unlike, None);
-    Ok(())
+    )
 }
 
 /// Shows Node::typed (ok, known, busy), Node::waiting (count): 256 keys wait, and the next is
@@ -85,7 +96,8 @@ fn outbox_is_ready_after_a_pop(rt: HostRuntime) -> Result<(), Fail> {
 #[test]
 fn most_keys_wait(rt: HostRuntime) -> Result<(), Fail> {
     let program = reading_program(rt.alloc())?;
-    let unlike = fresh(
+    assert_answers(
+        &rt,
         rt.alloc(),
         &program,
         &[
@@ -93,9 +105,7 @@ fn most_keys_wait(rt: HostRuntime) -> Result<(), Fail> {
             (Types(0x48), Some(NodeFault::Busy)),
             (Knows(0, 256), None),
         ],
-    )?;
-    assert_eq!(rt; unlike, None);
-    Ok(())
+    )
 }
 
 /// Shows Node::campaign (places), Node::known_front (front): once all places are learned a campaign
@@ -103,7 +113,8 @@ fn most_keys_wait(rt: HostRuntime) -> Result<(), Fail> {
 #[test]
 fn places_are_spent(rt: HostRuntime) -> Result<(), Fail> {
     let program = reading_program(rt.alloc())?;
-    let unlike = fresh(
+    assert_answers(
+        &rt,
         rt.alloc(),
         &program,
         &[
@@ -111,9 +122,7 @@ fn places_are_spent(rt: HostRuntime) -> Result<(), Fail> {
             (Knows(65_536, 0), None),
             (Campaigns, Some(NodeFault::PlacesSpent)),
         ],
-    )?;
-    assert_eq!(rt; unlike, None);
-    Ok(())
+    )
 }
 
 /// Returns a record with these counts, without votes.

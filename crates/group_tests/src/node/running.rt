@@ -1,6 +1,6 @@
 //! The machine of a node, whose output waits until it is released.
 use super::acts::Act::{HasOutput, ReleasesZeros, Runs};
-use super::refusals::fresh;
+use super::refusals::assert_answers;
 use crate::program::writing_program;
 use group_node::Ran::{Ended, Full, More};
 use pcode_machine::End;
@@ -12,7 +12,8 @@ use std::test::Fail;
 #[test]
 fn full_after_263_steps(rt: HostRuntime) -> Result<(), Fail> {
     let program = writing_program(rt.alloc())?;
-    let unlike = fresh(
+    assert_answers(
+        &rt,
         rt.alloc(),
         &program,
         &[
@@ -28,14 +29,12 @@ fn full_after_263_steps(rt: HostRuntime) -> Result<(), Fail> {
             (ReleasesZeros(256, 300), None),
         ],
     )?;
-    assert_eq!(rt; unlike, None);
-    let unlike = fresh(
+    assert_answers(
+        &rt,
         rt.alloc(),
         &program,
         &[(Runs(263, More), None), (Runs(1, Full), None)],
-    )?;
-    assert_eq!(rt; unlike, None);
-    Ok(())
+    )
 }
 
 /// Shows Node::run (runs), Node::release (value, some): one run ends with `Full`, with steps to
@@ -43,7 +42,8 @@ fn full_after_263_steps(rt: HostRuntime) -> Result<(), Fail> {
 #[test]
 fn full_in_one_call(rt: HostRuntime) -> Result<(), Fail> {
     let program = writing_program(rt.alloc())?;
-    let unlike = fresh(
+    assert_answers(
+        &rt,
         rt.alloc(),
         &program,
         &[
@@ -53,7 +53,5 @@ fn full_in_one_call(rt: HostRuntime) -> Result<(), Fail> {
             (Runs(1000, Ended(End::Normal)), None),
             (ReleasesZeros(256, 300), None),
         ],
-    )?;
-    assert_eq!(rt; unlike, None);
-    Ok(())
+    )
 }

@@ -12,6 +12,7 @@ use group_node::NodeFault;
 use group_node::To::{All, One};
 use pcode_ops::Program;
 use std::alloc::Global;
+use std::process::Abort;
 use std::test::Fail;
 
 /// A node's number, and what it does or sends. A packet that no line names is refused by the node's
@@ -84,6 +85,14 @@ fn follow(alloc: Global, program: &Program, lines: &[Line]) -> Result<Option<usi
     unlike
 }
 
+/// Asserts that three nodes of the reading program do and send what the lines say.
+fn assert_follow(rt: &impl Abort, alloc: Global, lines: &[Line]) -> Result<(), Fail> {
+    let program = reading_program(alloc)?;
+    let unlike = follow(alloc, &program, lines)?;
+    assert_eq!(rt; unlike, None);
+    Ok(())
+}
+
 /// Node 1 leads, and then a key is typed at node 2 and learned at nodes 1 and 2. Node 3 hears of it
 /// by a Tell. A tick of the leader before it is learned sends the Accept again; a Submit that comes
 /// again is ignored. Before the promises a tick asks each node by itself.
@@ -142,10 +151,7 @@ const KEY: [Line; 45] = [
 /// says that it is.
 #[test]
 fn key_is_learned_by_all(rt: HostRuntime) -> Result<(), Fail> {
-    let program = reading_program(rt.alloc())?;
-    let differs = follow(rt.alloc(), &program, &KEY)?;
-    assert_eq!(rt; differs, None);
-    Ok(())
+    assert_follow(&rt, rt.alloc(), &KEY)
 }
 
 /// Node 1 leads. Two keys are typed at node 2, with a tick after each. Node 1 learns the first, and
@@ -212,8 +218,5 @@ const BATCHES: [Line; 53] = [
 /// (front): a batch with one learned key, and later both, byte by byte.
 #[test]
 fn batch_with_a_learned_key(rt: HostRuntime) -> Result<(), Fail> {
-    let program = reading_program(rt.alloc())?;
-    let differs = follow(rt.alloc(), &program, &BATCHES)?;
-    assert_eq!(rt; differs, None);
-    Ok(())
+    assert_follow(&rt, rt.alloc(), &BATCHES)
 }
