@@ -29,16 +29,7 @@ proc_found : (segment : List ℕ) (n i : ℕ) (q : Proc) → proc_at segment n i
 unfolding proc_at
 proc_found segment n i q h =
     let t : HasTable segment n i q.jtab = table_found segment n i q.jtab (grind (arith, nat_tests)) in
-    record {
-      table = t;
-      number = grind (arith, nat_tests);
-      level = grind (arith, nat_tests);
-      params = grind (arith, nat_tests);
-      vars = grind (arith, nat_tests);
-      room = grind (arith, nat_tests);
-      enter = grind (arith, nat_tests);
-      exit = grind (arith, nat_tests);
-    }
+    grind (arith, nat_tests)
 
 -- the part of a procedure that is read begins where the dictionary says
 low_found : (segment : List ℕ) (n i : ℕ) (q : Proc) → proc_at segment n i ≡ Ok q → q.low ≡ low_of segment n q.jtab

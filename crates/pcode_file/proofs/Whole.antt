@@ -5,7 +5,7 @@ use Rattle.std.proofs.lemmas.Bool.Decides.{nat_tests}
 use Rattle.base.proofs.Steps.{bind_ok}
 use Rattle.pcode_file.specs.Parts.{Parts, word}
 use Rattle.pcode_file.specs.Checks.{used_from, entry_of, segment_of, read_from}
-use Rattle.pcode_file.specs.InFile.{IsOnlyEntry, InEntry, InFile}
+use Rattle.pcode_file.specs.InFile.{AreProcs, IsOnlyEntry, InEntry, InFile}
 use Rattle.pcode_file.proofs.Results.{all_length}
 use Rattle.pcode_file.proofs.Procedures.{procs_found, procs_again, tables_read}
 
@@ -38,21 +38,11 @@ only_entry bytes k = grind (arith, nat_tests, used_is_first bytes 0 16, used_is_
 -- what is read is in the entry that is in use
 entry_found : (bytes : List ℕ) (p : Parts) (s : ℕ × List ℕ) → segment_of bytes ≡ Ok s → read_from bytes ≡ Ok p → InEntry bytes s.0 p
 unfolding segment_of read_from
-entry_found bytes p s e h = record {
-  long = grind (arith, nat_tests);
-  only = grind (arith, nat_tests, only_entry);
-  linked = grind (arith, nat_tests);
-  start = grind (arith, nat_tests);
-  ends = grind (arith, nat_tests);
-  even = grind (arith, nat_tests);
-  name = grind (arith, nat_tests);
-  segment = grind (arith, nat_tests);
-  number = grind (arith, nat_tests);
-  count = grind (arith, nat_tests, all_length);
-  procs =
-      procs_found p.segment p.procs (slice_index p.segment (length p.segment - 1)) (grind (arith, nat_tests))
-      (grind (arith, nat_tests));
-}
+entry_found bytes p s e h =
+    let only : IsOnlyEntry bytes s.0 = grind (arith, nat_tests, only_entry) in
+    let procs : AreProcs p.segment p.procs =
+    procs_found p.segment p.procs (slice_index p.segment (length p.segment - 1)) (grind (arith, nat_tests)) (grind (arith, nat_tests)) in
+    grind (arith, nat_tests, all_length)
 
 -- what is read is in the grammar
 pub read_found : (bytes : List ℕ) (p : Parts) → read_from bytes ≡ Ok p → InFile bytes p

@@ -29,7 +29,7 @@ fn word_at(bytes: &[u8], at: usize) -> u16
 
 /// Returns the first entry of block 0 that is in use, from entry `from` on. An entry is in use if
 /// it has a length.
-#[tactic(auto, unfolding(crate::specs::Checks::used_from))]
+#[tactic(auto, using(crate::proofs::Results::one_less), unfolding(crate::specs::Checks::used_from))]
 fn used_from(bytes: &[u8], from: usize) -> Option<usize>
     requires long { BLOCK_BYTES ≤ length bytes.now }
     requires from { from ≤ ENTRIES }
@@ -164,6 +164,7 @@ fn past_table(table: usize, at: usize) -> usize
 
 /// Returns the place at which the part of the procedure with its table at `at` begins: after the
 /// next table below, or at 0. It reads the dictionary again, so that no list of tables is kept.
+#[tactic(auto, using(crate::proofs::Results::one_less))]
 fn low(segment: &[u8], n: u8, at: usize) -> usize
     requires dictionary { 2 + 2 * n ≤ length segment.now }
     requires at { at < 2 ^ 16 }
@@ -225,6 +226,7 @@ pub(crate) fn proc_at(segment: &[u8], n: u8, i: u8) -> Result<Proc, FileFault>
 }
 
 /// Checks the attribute tables of all procedures.
+#[tactic(auto, using(crate::proofs::Results::one_less), unfolding(crate::specs::Checks::first_of))]
 pub(crate) fn check_tables(segment: &[u8], n: u8) -> Result<(), FileFault>
     requires { 2 + 2 * n ≤ length segment.now }
     ensures { result ≡ first_of (table_at segment.now n) 1 n }
@@ -237,6 +239,7 @@ pub(crate) fn check_tables(segment: &[u8], n: u8) -> Result<(), FileFault>
 
 /// Checks the parts of all procedures. It keeps none, so that a fault is found before memory is
 /// allocated.
+#[tactic(auto, using(crate::proofs::Results::one_less), unfolding(crate::specs::Checks::first_of))]
 pub(crate) fn check_procedures(segment: &[u8], n: u8) -> Result<(), FileFault>
     requires dictionary { 2 + 2 * n ≤ length segment.now }
     requires size { length segment.now < 2 ^ 16 }

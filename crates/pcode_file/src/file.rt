@@ -98,6 +98,7 @@ fn room(alloc: Global, procs: usize, bytes: usize) -> Result<(Vec<Proc>, Vec<u8>
 }
 
 /// Returns the procedures of a segment that passed the checks, in the order of their numbers.
+#[tactic(auto, using(std::proofs::lemmas::Grind::common_steps, crate::proofs::Results::one_less, crate::proofs::Results::first_is), unfolding(crate::specs::Checks::all_of))]
 fn collected(room: Vec<Proc>, segment: &[u8], n: u8) -> Vec<Proc>
     requires empty { (vec_len room ≡ 0) × (room.items ≡ []) }
     requires room { n ≤ vec_capacity room }
@@ -148,7 +149,7 @@ fn name_at(bytes: &[u8], k: usize) -> [u8; 8]
 
 /// Makes all checks of a file in their order. Returns the entry in use, the segment's bytes and the
 /// number of its procedures, or the first check that fails.
-#[tactic(auto, unfolding(crate::specs::Checks::read_from))]
+#[tactic(auto, using(std::proofs::lemmas::Grind::common_steps, crate::proofs::Results::first_is), unfolding(crate::specs::Checks::read_from))]
 fn checked(bytes: &[u8]) -> Result<(usize, &[u8], u8), FileFault>
     ensures value { MatchResult result (λ x. IsChecked bytes.now x.0 x.1.now x.2)
         (λ fault. read_from bytes.now ≡ Err fault) }

@@ -1,7 +1,0 @@
-use Rattle.std.proofs.Common.{arith}
-use Rattle.std.proofs.lemmas.Grind.{common_steps}
-use Rattle.pcode_file.proofs.Results.{one_less}
-use Rattle.pcode_file.proofs.checks.low.Goals as goal
-
-pub loop-k-preserved : goal.loop-k-preserved
-loop-k-preserved c = grind (arith, common_steps, one_less)
