@@ -1,9 +1,9 @@
 //! Jumps: UJP, FJP, EFJ, NFJ, XJP.
-ghost use Rattle.std.specs.Prelude.{◌≡◌, ◌%◌, ◌==◌, if◌then◌else◌, Ok, OnErr};
+ghost use Rattle.std.specs.Prelude.{◌≡◌, ◌%◌, ◌==◌, if◌then◌else◌, Ok};
 ghost use Rattle.pcode_file.specs.declared.file.Proc.{Proc};
 ghost use Rattle.pcode_ops.specs.Jumps.{IsCaseTable, case_of};
 ghost use Rattle.pcode_machine.specs.Jumps.{branched, branched_by_two};
-ghost use Rattle.pcode_machine.specs.Ready.{state_of, state_if_ok};
+ghost use Rattle.pcode_machine.specs.Ready.{Executes, state_of};
 
 use crate::errors::ExecutionError;
 use crate::parts::MachineParts;
@@ -24,9 +24,8 @@ impl MachineParts {
     /// Pops a word, and goes on at `target` if its low bit is 0, and at `next` otherwise.
     #[inline(always)]
     pub fn jump_unless(&mut self, target: u32, next: u32) -> Result<(), Stop>
-        ensures value { branched (λ v. if v % 2 == 0 then target else next)
-            (state_of self.old) self.old.stack ≡ state_if_ok result (state_of self.new) }
-        ensures err { OnErr result (self.new ≡ self.old) }
+        ensures { Executes (branched (λ v. if v % 2 == 0 then target else next)
+            (state_of self.old) self.old.stack) self.old self.new result }
     {
         let word = self.stack.pop()?;
         self.next = if word % 2 == 0 { target } else { next };
@@ -36,9 +35,8 @@ impl MachineParts {
     /// Pops two words, and goes on at `equal` if they are equal, and at `unequal` otherwise.
     #[inline(always)]
     pub fn jump_by_equal(&mut self, equal: u32, unequal: u32) -> Result<(), Stop>
-        ensures value { branched_by_two (λ a b. if a == b then equal else unequal)
-            (state_of self.old) self.old.stack ≡ state_if_ok result (state_of self.new) }
-        ensures err { OnErr result (self.new ≡ self.old) }
+        ensures { Executes (branched_by_two (λ a b. if a == b then equal else unequal)
+            (state_of self.old) self.old.stack) self.old self.new result }
     {
         if self.stack.len() < 2 {
             return Err(Stop::Error(ExecutionError::StackUnderflow));
@@ -59,9 +57,8 @@ impl MachineParts {
         table: usize,
     ) -> Result<(), Stop>
         requires { (q : Proc) × IsCaseTable program.now.segment q low high table }
-        ensures value { branched (λ v. case_of program.now.segment low high table v)
-            (state_of self.old) self.old.stack ≡ state_if_ok result (state_of self.new) }
-        ensures err { OnErr result (self.new ≡ self.old) }
+        ensures { Executes (branched (λ v. case_of program.now.segment low high table v)
+            (state_of self.old) self.old.stack) self.old self.new result }
     {
         let word = self.stack.pop()?;
         self.next = program.case(low, high, table, word);

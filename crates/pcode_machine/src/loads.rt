@@ -1,8 +1,8 @@
 //! Instructions that push a word: constants, words of frames, and pointers to them.
-ghost use Rattle.std.specs.Prelude.{◌≡◌, ◌+◌, OnErr};
+ghost use Rattle.std.specs.Prelude.{◌≡◌, ◌+◌};
 ghost use Rattle.pcode_frames.specs.Words.{live_word_at};
 ghost use Rattle.pcode_machine.specs.Loads.{pushed, address_of, loaded};
-ghost use Rattle.pcode_machine.specs.Ready.{state_of, state_if_ok};
+ghost use Rattle.pcode_machine.specs.Ready.{Executes, state_of};
 
 use crate::errors::ExecutionError;
 use crate::parts::MachineParts;
@@ -36,9 +36,7 @@ impl MachineParts {
     /// Pushes a word, and goes on at `next`. The stack has at most 1,024 words.
     #[inline(always)]
     pub fn push(&mut self, word: u16, next: u32) -> Result<(), Stop>
-        ensures value { pushed word next (state_of self.old)
-            ≡ state_if_ok result (state_of self.new) }
-        ensures err { OnErr result (self.new ≡ self.old) }
+        ensures { Executes (pushed word next (state_of self.old)) self.old self.new result }
     {
         self.stack.push(word)?;
         self.next = next;
@@ -48,9 +46,8 @@ impl MachineParts {
     /// Pushes the word at `offset` from a base, and goes on at `next`.
     #[inline(always)]
     pub fn load(&mut self, base: u16, offset: u16, next: u32) -> Result<(), Stop>
-        ensures value { loaded (base + offset) next (state_of self.old)
-            ≡ state_if_ok result (state_of self.new) }
-        ensures err { OnErr result (self.new ≡ self.old) }
+        ensures { Executes (loaded (base + offset) next (state_of self.old))
+            self.old self.new result }
     {
         match self.word(base, offset) {
             Some(word) => self.push(word, next),

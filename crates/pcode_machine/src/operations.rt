@@ -1,7 +1,7 @@
 //! Instructions that compute words: arithmetic, logic, comparisons, pointers that move, and CHK.
-ghost use Rattle.std.specs.Prelude.{◌≡◌, OnErr};
+ghost use Rattle.std.specs.Prelude.{◌≡◌};
 ghost use Rattle.pcode_machine.specs.Operations.{changed_of, checked, combined, replaced, value_of};
-ghost use Rattle.pcode_machine.specs.Ready.{state_of, state_if_ok};
+ghost use Rattle.pcode_machine.specs.Ready.{Executes, state_of};
 
 use crate::arithmetic as words;
 use crate::comparisons::{Comparison, compared, compared_bits};
@@ -76,9 +76,8 @@ impl MachineParts {
     /// Changes the word on top, and goes on at `next`.
     #[inline(always)]
     pub fn replace(&mut self, change: Change, next: u32) -> Result<(), Stop>
-        ensures value { replaced change next (state_of self.old) self.old.stack
-            ≡ state_if_ok result (state_of self.new) }
-        ensures err { OnErr result (self.new ≡ self.old) }
+        ensures { Executes (replaced change next (state_of self.old) self.old.stack)
+            self.old self.new result }
     {
         if self.stack.len() == 0 {
             return Err(Stop::Error(ExecutionError::StackUnderflow));
@@ -92,9 +91,8 @@ impl MachineParts {
     /// Replaces the two words on top by one, and goes on at `next`.
     #[inline(always)]
     pub fn combine(&mut self, operation: Operation, next: u32) -> Result<(), Stop>
-        ensures value { combined operation next (state_of self.old) self.old.stack
-            ≡ state_if_ok result (state_of self.new) }
-        ensures err { OnErr result (self.new ≡ self.old) }
+        ensures { Executes (combined operation next (state_of self.old) self.old.stack)
+            self.old self.new result }
     {
         if self.stack.len() < 2 {
             return Err(Stop::Error(ExecutionError::StackUnderflow));
@@ -117,9 +115,8 @@ impl MachineParts {
     /// Leaves the lowest of the three words on top if it lies from the next one to the top, and
     /// goes on at `next`.
     pub fn check(&mut self, next: u32) -> Result<(), Stop>
-        ensures value { checked next (state_of self.old) self.old.stack
-            ≡ state_if_ok result (state_of self.new) }
-        ensures err { OnErr result (self.new ≡ self.old) }
+        ensures { Executes (checked next (state_of self.old) self.old.stack)
+            self.old self.new result }
     {
         if self.stack.len() < 3 {
             return Err(Stop::Error(ExecutionError::StackUnderflow));

@@ -1,8 +1,8 @@
 //! Instructions that store a word of a frame: STL, STR, SRO.
-ghost use Rattle.std.specs.Prelude.{◌≡◌, ◌+◌, if◌then◌else◌, is_some, None, Some, OnErr};
+ghost use Rattle.std.specs.Prelude.{◌≡◌, ◌+◌, if◌then◌else◌, is_some, None, Some};
 ghost use Rattle.pcode_frames.specs.Words.{live_word_at};
 ghost use Rattle.pcode_machine.specs.Stores.{stored};
-ghost use Rattle.pcode_machine.specs.Ready.{state_of, state_if_ok};
+ghost use Rattle.pcode_machine.specs.Ready.{Executes, state_of};
 
 use crate::errors::ExecutionError;
 use crate::parts::MachineParts;
@@ -29,9 +29,8 @@ impl MachineParts {
     /// Pops a word to the live word at `offset` from a base, and goes on at `next`.
     #[inline(always)]
     pub fn store(&mut self, base: u16, offset: u16, next: u32) -> Result<(), Stop>
-        ensures value { stored (base + offset) next (state_of self.old) self.old.stack
-            ≡ state_if_ok result (state_of self.new) }
-        ensures err { OnErr result (self.new ≡ self.old) }
+        ensures { Executes (stored (base + offset) next (state_of self.old) self.old.stack)
+            self.old self.new result }
     {
         if self.stack.len() == 0 {
             return Err(Stop::Error(ExecutionError::StackUnderflow));
