@@ -22,7 +22,7 @@ state_if_ok (Err stop) s = Err stop
 
 -- The parts of a machine before and after an instruction, by the state after it.
 -- Allows: that the program stops; then nothing changes.
-pub record Executes (after : Result State Stop) (old new : MachineParts)
+pub record ChangesTo (after : Result State Stop) (old new : MachineParts)
     (result : Result Unit Stop) : Type 0 where
   pub value : after ≡ state_if_ok result (state_of new)
   pub err : OnErr result (new ≡ old)

@@ -1,7 +1,7 @@
 //! Blocks of words at pointers: MOV, LDM, STM.
 ghost use Rattle.std.specs.Prelude.{◌≡◌};
 ghost use Rattle.pcode_machine.specs.Blocks.{block_loaded, block_moved, block_stored, is_block};
-ghost use Rattle.pcode_machine.specs.Ready.{Executes, state_of};
+ghost use Rattle.pcode_machine.specs.Ready.{ChangesTo, state_of};
 
 use crate::errors::ExecutionError;
 use crate::parts::MachineParts;
@@ -26,7 +26,7 @@ impl MachineParts {
     /// Pops two pointers, copies `words` words from the one on top to the other, and goes on at
     /// `next`. All are read before any is written.
     pub fn move_block(&mut self, words: u16, next: u32) -> Result<(), Stop>
-        ensures { Executes (block_moved words next (state_of self.old) self.old.stack)
+        ensures { ChangesTo (block_moved words next (state_of self.old) self.old.stack)
             self.old self.new result }
     {
         let Some(from) = self.stack.get(0) else {
@@ -51,7 +51,7 @@ impl MachineParts {
     /// Replaces the pointer on top by the `words` words from it on, the first on top, and goes on
     /// at `next`.
     pub fn load_block(&mut self, words: u16, next: u32) -> Result<(), Stop>
-        ensures { Executes (block_loaded words next (state_of self.old) self.old.stack)
+        ensures { ChangesTo (block_loaded words next (state_of self.old) self.old.stack)
             self.old self.new result }
     {
         let Some(pointer) = self.stack.get(0) else {
@@ -73,7 +73,7 @@ impl MachineParts {
     /// pops the pointer, and goes on at `next`.
     #[tactic(auto, using(base::proofs::Lists::drop_next))]
     pub fn store_block(&mut self, words: u16, next: u32) -> Result<(), Stop>
-        ensures { Executes (block_stored words next (state_of self.old)) self.old self.new result }
+        ensures { ChangesTo (block_stored words next (state_of self.old)) self.old self.new result }
     {
         let Some(pointer) = self.stack.get(words) else {
             return Err(Stop::Error(ExecutionError::StackUnderflow));

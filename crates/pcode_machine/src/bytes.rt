@@ -1,7 +1,7 @@
 //! Bytes at an index after a pointer: LDB, STB.
 ghost use Rattle.std.specs.Prelude.{◌≡◌};
 ghost use Rattle.pcode_machine.specs.Bytes.{byte_address, byte_loaded, byte_stored};
-ghost use Rattle.pcode_machine.specs.Ready.{Executes, state_of};
+ghost use Rattle.pcode_machine.specs.Ready.{ChangesTo, state_of};
 
 use crate::errors::ExecutionError;
 use crate::parts::MachineParts;
@@ -18,7 +18,7 @@ pub fn byte_address(base: u16, index: u16) -> i32
 impl MachineParts {
     /// Replaces index and base on top by the byte there, and goes on at `next`.
     pub fn load_byte(&mut self, next: u32) -> Result<(), Stop>
-        ensures { Executes (byte_loaded next (state_of self.old) self.old.stack)
+        ensures { ChangesTo (byte_loaded next (state_of self.old) self.old.stack)
             self.old self.new result }
     {
         if self.stack.len() < 2 {
@@ -42,7 +42,7 @@ impl MachineParts {
 
     /// Pops a word, an index and a base, stores the word's low byte there, and goes on at `next`.
     pub fn store_byte(&mut self, next: u32) -> Result<(), Stop>
-        ensures { Executes (byte_stored next (state_of self.old) self.old.stack)
+        ensures { ChangesTo (byte_stored next (state_of self.old) self.old.stack)
             self.old self.new result }
     {
         if self.stack.len() < 3 {

@@ -1,7 +1,7 @@
 //! Packed fields, which are some bits of a word: IXP, LDP, STP.
 ghost use Rattle.std.specs.Prelude.{◌≡◌, ◌≤◌, ◌^◌, IsTrue};
 ghost use Rattle.pcode_machine.specs.Fields.{changed_at, field_at, field_indexed, field_loaded, field_of, field_stored, is_field, with_field};
-ghost use Rattle.pcode_machine.specs.Ready.{Executes, state_of};
+ghost use Rattle.pcode_machine.specs.Ready.{ChangesTo, state_of};
 
 use crate::errors::ExecutionError;
 use crate::parts::MachineParts;
@@ -89,7 +89,7 @@ impl MachineParts {
     /// fields of `width` bits.
     pub fn index_field(&mut self, elements: u8, width: u8, next: u32) -> Result<(), Stop>
         requires { 1 ≤ elements }
-        ensures { Executes (field_indexed elements width next (state_of self.old) self.old.stack)
+        ensures { ChangesTo (field_indexed elements width next (state_of self.old) self.old.stack)
             self.old self.new result }
     {
         if self.stack.len() < 2 {
@@ -114,7 +114,7 @@ impl MachineParts {
 
     /// Replaces the three words that name a field by its bits, and goes on at `next`.
     pub fn load_field(&mut self, next: u32) -> Result<(), Stop>
-        ensures { Executes (field_loaded next (state_of self.old) self.old.stack)
+        ensures { ChangesTo (field_loaded next (state_of self.old) self.old.stack)
             self.old self.new result }
     {
         if self.stack.len() < 3 {
@@ -140,7 +140,7 @@ impl MachineParts {
     /// Pops a word and the three words that name a field, stores the word's low bits there, and
     /// goes on at `next`.
     pub fn store_field(&mut self, next: u32) -> Result<(), Stop>
-        ensures { Executes (field_stored next (state_of self.old) self.old.stack)
+        ensures { ChangesTo (field_stored next (state_of self.old) self.old.stack)
             self.old self.new result }
     {
         if self.stack.len() < 4 {

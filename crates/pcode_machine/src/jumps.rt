@@ -3,7 +3,7 @@ ghost use Rattle.std.specs.Prelude.{◌≡◌, ◌%◌, ◌==◌, if◌then◌el
 ghost use Rattle.pcode_file.specs.declared.file.Proc.{Proc};
 ghost use Rattle.pcode_ops.specs.Jumps.{IsCaseTable, case_of};
 ghost use Rattle.pcode_machine.specs.Jumps.{branched, branched_by_two};
-ghost use Rattle.pcode_machine.specs.Ready.{Executes, state_of};
+ghost use Rattle.pcode_machine.specs.Ready.{ChangesTo, state_of};
 
 use crate::errors::ExecutionError;
 use crate::parts::MachineParts;
@@ -24,7 +24,7 @@ impl MachineParts {
     /// Pops a word, and goes on at `target` if its low bit is 0, and at `next` otherwise.
     #[inline(always)]
     pub fn jump_unless(&mut self, target: u32, next: u32) -> Result<(), Stop>
-        ensures { Executes (branched (λ v. if v % 2 == 0 then target else next)
+        ensures { ChangesTo (branched (λ v. if v % 2 == 0 then target else next)
             (state_of self.old) self.old.stack) self.old self.new result }
     {
         let word = self.stack.pop()?;
@@ -35,7 +35,7 @@ impl MachineParts {
     /// Pops two words, and goes on at `equal` if they are equal, and at `unequal` otherwise.
     #[inline(always)]
     pub fn jump_by_equal(&mut self, equal: u32, unequal: u32) -> Result<(), Stop>
-        ensures { Executes (branched_by_two (λ a b. if a == b then equal else unequal)
+        ensures { ChangesTo (branched_by_two (λ a b. if a == b then equal else unequal)
             (state_of self.old) self.old.stack) self.old self.new result }
     {
         if self.stack.len() < 2 {
@@ -57,7 +57,7 @@ impl MachineParts {
         table: usize,
     ) -> Result<(), Stop>
         requires { (q : Proc) × IsCaseTable program.now.segment q low high table }
-        ensures { Executes (branched (λ v. case_of program.now.segment low high table v)
+        ensures { ChangesTo (branched (λ v. case_of program.now.segment low high table v)
             (state_of self.old) self.old.stack) self.old self.new result }
     {
         let word = self.stack.pop()?;

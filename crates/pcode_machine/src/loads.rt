@@ -2,7 +2,7 @@
 ghost use Rattle.std.specs.Prelude.{◌≡◌, ◌+◌};
 ghost use Rattle.pcode_frames.specs.Words.{live_word_at};
 ghost use Rattle.pcode_machine.specs.Loads.{pushed, address_of, loaded};
-ghost use Rattle.pcode_machine.specs.Ready.{Executes, state_of};
+ghost use Rattle.pcode_machine.specs.Ready.{ChangesTo, state_of};
 
 use crate::errors::ExecutionError;
 use crate::parts::MachineParts;
@@ -36,7 +36,7 @@ impl MachineParts {
     /// Pushes a word, and goes on at `next`. The stack has at most 1,024 words.
     #[inline(always)]
     pub fn push(&mut self, word: u16, next: u32) -> Result<(), Stop>
-        ensures { Executes (pushed word next (state_of self.old)) self.old self.new result }
+        ensures { ChangesTo (pushed word next (state_of self.old)) self.old self.new result }
     {
         self.stack.push(word)?;
         self.next = next;
@@ -46,7 +46,7 @@ impl MachineParts {
     /// Pushes the word at `offset` from a base, and goes on at `next`.
     #[inline(always)]
     pub fn load(&mut self, base: u16, offset: u16, next: u32) -> Result<(), Stop>
-        ensures { Executes (loaded (base + offset) next (state_of self.old))
+        ensures { ChangesTo (loaded (base + offset) next (state_of self.old))
             self.old self.new result }
     {
         match self.word(base, offset) {

@@ -1,7 +1,7 @@
 //! Instructions that compute words: arithmetic, logic, comparisons, pointers that move, and CHK.
 ghost use Rattle.std.specs.Prelude.{◌≡◌};
 ghost use Rattle.pcode_machine.specs.Operations.{changed_of, checked, combined, replaced, value_of};
-ghost use Rattle.pcode_machine.specs.Ready.{Executes, state_of};
+ghost use Rattle.pcode_machine.specs.Ready.{ChangesTo, state_of};
 
 use crate::arithmetic as words;
 use crate::comparisons::{Comparison, compared, compared_bits};
@@ -76,7 +76,7 @@ impl MachineParts {
     /// Changes the word on top, and goes on at `next`.
     #[inline(always)]
     pub fn replace(&mut self, change: Change, next: u32) -> Result<(), Stop>
-        ensures { Executes (replaced change next (state_of self.old) self.old.stack)
+        ensures { ChangesTo (replaced change next (state_of self.old) self.old.stack)
             self.old self.new result }
     {
         if self.stack.len() == 0 {
@@ -91,7 +91,7 @@ impl MachineParts {
     /// Replaces the two words on top by one, and goes on at `next`.
     #[inline(always)]
     pub fn combine(&mut self, operation: Operation, next: u32) -> Result<(), Stop>
-        ensures { Executes (combined operation next (state_of self.old) self.old.stack)
+        ensures { ChangesTo (combined operation next (state_of self.old) self.old.stack)
             self.old self.new result }
     {
         if self.stack.len() < 2 {
@@ -115,7 +115,7 @@ impl MachineParts {
     /// Leaves the lowest of the three words on top if it lies from the next one to the top, and
     /// goes on at `next`.
     pub fn check(&mut self, next: u32) -> Result<(), Stop>
-        ensures { Executes (checked next (state_of self.old) self.old.stack)
+        ensures { ChangesTo (checked next (state_of self.old) self.old.stack)
             self.old self.new result }
     {
         if self.stack.len() < 3 {

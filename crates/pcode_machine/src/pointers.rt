@@ -1,7 +1,7 @@
 //! Instructions that read and write at pointers, which are addresses in bytes: STO, SIND, IND.
 ghost use Rattle.std.specs.Prelude.{◌≡◌};
 ghost use Rattle.pcode_machine.specs.Pointers.{pointer_past, fetched, pointed, stored_at};
-ghost use Rattle.pcode_machine.specs.Ready.{Executes, state_of};
+ghost use Rattle.pcode_machine.specs.Ready.{ChangesTo, state_of};
 
 use crate::errors::ExecutionError;
 use crate::parts::MachineParts;
@@ -29,7 +29,7 @@ pub fn pointed(memory: &Memory, pointer: u16) -> Option<u16>
 impl MachineParts {
     /// Replaces the pointer on top by the word `words` words after it, and goes on at `next`.
     pub fn fetch(&mut self, words: u16, next: u32) -> Result<(), Stop>
-        ensures { Executes (fetched words next (state_of self.old) self.old.stack)
+        ensures { ChangesTo (fetched words next (state_of self.old) self.old.stack)
             self.old self.new result }
     {
         if self.stack.len() == 0 {
@@ -46,7 +46,7 @@ impl MachineParts {
 
     /// Pops a word and a pointer, stores the word there, and goes on at `next`.
     pub fn store_at(&mut self, next: u32) -> Result<(), Stop>
-        ensures { Executes (stored_at next (state_of self.old) self.old.stack)
+        ensures { ChangesTo (stored_at next (state_of self.old) self.old.stack)
             self.old self.new result }
     {
         if self.stack.len() < 2 {

@@ -2,7 +2,7 @@
 ghost use Rattle.std.specs.Prelude.{◌≡◌, ◌+◌, if◌then◌else◌, is_some, None, Some};
 ghost use Rattle.pcode_frames.specs.Words.{live_word_at};
 ghost use Rattle.pcode_machine.specs.Stores.{stored};
-ghost use Rattle.pcode_machine.specs.Ready.{Executes, state_of};
+ghost use Rattle.pcode_machine.specs.Ready.{ChangesTo, state_of};
 
 use crate::errors::ExecutionError;
 use crate::parts::MachineParts;
@@ -29,7 +29,7 @@ impl MachineParts {
     /// Pops a word to the live word at `offset` from a base, and goes on at `next`.
     #[inline(always)]
     pub fn store(&mut self, base: u16, offset: u16, next: u32) -> Result<(), Stop>
-        ensures { Executes (stored (base + offset) next (state_of self.old) self.old.stack)
+        ensures { ChangesTo (stored (base + offset) next (state_of self.old) self.old.stack)
             self.old self.new result }
     {
         if self.stack.len() == 0 {

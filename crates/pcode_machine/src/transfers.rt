@@ -11,7 +11,7 @@ ghost use Rattle.pcode_machine.specs.Configuration.{configuration_of};
 ghost use Rattle.pcode_machine.specs.Transfers.{begun_transfer, unit_call, is_console, HoldsNextByte, rest_of};
 ghost use Rattle.pcode_machine.specs.Outcome.{moved};
 ghost use Rattle.pcode_machine.specs.Turns.{Passes, sent};
-ghost use Rattle.pcode_machine.specs.Ready.{Executes, state_of};
+ghost use Rattle.pcode_machine.specs.Ready.{ChangesTo, state_of};
 
 use crate::bytes::byte_address;
 use crate::errors::ExecutionError;
@@ -71,7 +71,7 @@ impl MachineParts {
     /// Calls UNITREAD or UNITWRITE: pops mode, block, length, index, base and unit, the last pushed
     /// first, and goes on at `next`. Mode and block are ignored.
     pub fn call(&mut self, direction: Direction, next: u32) -> Result<(), Stop>
-        ensures { Executes (unit_call direction next (state_of self.old) self.old.stack)
+        ensures { ChangesTo (unit_call direction next (state_of self.old) self.old.stack)
             self.old self.new result }
     {
         if self.stack.len() < 6 {
