@@ -29,20 +29,15 @@ impl MachineParts {
         ensures { ChangesTo (block_moved words next (state_of self.old) self.old.stack)
             self.old self.new result }
     {
-        let Some(from) = self.stack.get(0) else {
-            return Err(Stop::Error(ExecutionError::StackUnderflow));
-        };
-        let Some(to) = self.stack.get(1) else {
-            return Err(Stop::Error(ExecutionError::StackUnderflow));
-        };
+        let from = self.operand(0)?;
+        let to = self.operand(1)?;
         if !is_block(&self.memory, from, words) {
             return Err(Stop::Error(ExecutionError::BadAddress));
         }
         if !is_block(&self.memory, to, words) {
             return Err(Stop::Error(ExecutionError::BadAddress));
         }
-        self.stack.pop()?;
-        self.stack.pop()?;
+        self.stack.discard(2);
         self.memory.copy(to / 2, from / 2, words);
         self.next = next;
         Ok(())
@@ -54,9 +49,7 @@ impl MachineParts {
         ensures { ChangesTo (block_loaded words next (state_of self.old) self.old.stack)
             self.old self.new result }
     {
-        let Some(pointer) = self.stack.get(0) else {
-            return Err(Stop::Error(ExecutionError::StackUnderflow));
-        };
+        let pointer = self.operand(0)?;
         if !is_block(&self.memory, pointer, words) {
             return Err(Stop::Error(ExecutionError::BadAddress));
         }
@@ -75,9 +68,7 @@ impl MachineParts {
     pub fn store_block(&mut self, words: u16, next: u32) -> Result<(), Stop>
         ensures { ChangesTo (block_stored words next (state_of self.old)) self.old self.new result }
     {
-        let Some(pointer) = self.stack.get(words) else {
-            return Err(Stop::Error(ExecutionError::StackUnderflow));
-        };
+        let pointer = self.operand(words)?;
         if !is_block(&self.memory, pointer, words) {
             return Err(Stop::Error(ExecutionError::BadAddress));
         }

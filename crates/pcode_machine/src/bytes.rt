@@ -21,23 +21,15 @@ impl MachineParts {
         ensures { ChangesTo (byte_loaded next (state_of self.old) self.old.stack)
             self.old self.new result }
     {
-        if self.stack.len() < 2 {
-            return Err(Stop::Error(ExecutionError::StackUnderflow));
-        }
-        let index = self.stack.pop()?;
-        let base = self.stack.pop()?;
-        match self.memory.get_byte(byte_address(base, index)) {
-            Some(byte) => {
-                self.stack.push(u16::from(byte)).unwrap();
-                self.next = next;
-                Ok(())
-            }
-            None => {
-                self.stack.push(base).unwrap();
-                self.stack.push(index).unwrap();
-                Err(Stop::Error(ExecutionError::BadAddress))
-            }
-        }
+        let index = self.operand(0)?;
+        let base = self.operand(1)?;
+        let Some(byte) = self.memory.get_byte(byte_address(base, index)) else {
+            return Err(Stop::Error(ExecutionError::BadAddress));
+        };
+        self.stack.discard(1);
+        self.stack.set_top(u16::from(byte));
+        self.next = next;
+        Ok(())
     }
 
     /// Pops a word, an index and a base, stores the word's low byte there, and goes on at `next`.
@@ -45,22 +37,14 @@ impl MachineParts {
         ensures { ChangesTo (byte_stored next (state_of self.old) self.old.stack)
             self.old self.new result }
     {
-        if self.stack.len() < 3 {
-            return Err(Stop::Error(ExecutionError::StackUnderflow));
+        let value = self.operand(0)?;
+        let index = self.operand(1)?;
+        let address = byte_address(self.operand(2)?, index);
+        if !self.memory.put_byte(address, (value % 256) as u8) {
+            return Err(Stop::Error(ExecutionError::BadAddress));
         }
-        let value = self.stack.pop()?;
-        let index = self.stack.pop()?;
-        let base = self.stack.pop()?;
-        if self
-            .memory
-            .put_byte(byte_address(base, index), (value % 256) as u8)
-        {
-            self.next = next;
-            return Ok(());
-        }
-        self.stack.push(base).unwrap();
-        self.stack.push(index).unwrap();
-        self.stack.push(value).unwrap();
-        Err(Stop::Error(ExecutionError::BadAddress))
+        self.stack.discard(3);
+        self.next = next;
+        Ok(())
     }
 }

@@ -117,24 +117,14 @@ impl MachineParts {
         ensures { ChangesTo (field_loaded next (state_of self.old) self.old.stack)
             self.old self.new result }
     {
-        if self.stack.len() < 3 {
-            return Err(Stop::Error(ExecutionError::StackUnderflow));
-        }
-        let right = self.stack.pop()?;
-        let width = self.stack.pop()?;
-        let pointer = self.stack.top();
-        match field_at(&self.memory, pointer, width, right) {
-            Ok(bits) => {
-                self.stack.set_top(bits);
-                self.next = next;
-                Ok(())
-            }
-            Err(error) => {
-                self.stack.push(width).unwrap();
-                self.stack.push(right).unwrap();
-                Err(Stop::Error(error))
-            }
-        }
+        let right = self.operand(0)?;
+        let width = self.operand(1)?;
+        let pointer = self.operand(2)?;
+        let bits = field_at(&self.memory, pointer, width, right)?;
+        self.stack.discard(2);
+        self.stack.set_top(bits);
+        self.next = next;
+        Ok(())
     }
 
     /// Pops a word and the three words that name a field, stores the word's low bits there, and
@@ -143,26 +133,14 @@ impl MachineParts {
         ensures { ChangesTo (field_stored next (state_of self.old) self.old.stack)
             self.old self.new result }
     {
-        if self.stack.len() < 4 {
-            return Err(Stop::Error(ExecutionError::StackUnderflow));
-        }
-        let value = self.stack.pop()?;
-        let right = self.stack.pop()?;
-        let width = self.stack.pop()?;
-        let pointer = self.stack.pop()?;
-        match changed_at(&self.memory, pointer, width, right, value) {
-            Ok(word) => {
-                self.memory.put(pointer / 2, word);
-                self.next = next;
-                Ok(())
-            }
-            Err(error) => {
-                self.stack.push(pointer).unwrap();
-                self.stack.push(width).unwrap();
-                self.stack.push(right).unwrap();
-                self.stack.push(value).unwrap();
-                Err(Stop::Error(error))
-            }
-        }
+        let value = self.operand(0)?;
+        let right = self.operand(1)?;
+        let width = self.operand(2)?;
+        let pointer = self.operand(3)?;
+        let word = changed_at(&self.memory, pointer, width, right, value)?;
+        self.stack.discard(4);
+        self.memory.put(pointer / 2, word);
+        self.next = next;
+        Ok(())
     }
 }

@@ -118,22 +118,12 @@ impl MachineParts {
         ensures { ChangesTo (checked next (state_of self.old) self.old.stack)
             self.old self.new result }
     {
-        if self.stack.len() < 3 {
-            return Err(Stop::Error(ExecutionError::StackUnderflow));
-        }
-        let high = self.stack.pop()?;
-        let low = self.stack.pop()?;
-        let word = self.stack.top();
-        match words::checked(word, low, high) {
-            Ok(_) => {
-                self.next = next;
-                Ok(())
-            }
-            Err(error) => {
-                self.stack.push(low).unwrap();
-                self.stack.push(high).unwrap();
-                Err(Stop::Error(error))
-            }
-        }
+        let high = self.operand(0)?;
+        let low = self.operand(1)?;
+        let word = self.operand(2)?;
+        words::checked(word, low, high)?;
+        self.stack.discard(2);
+        self.next = next;
+        Ok(())
     }
 }

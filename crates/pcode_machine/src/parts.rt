@@ -1,10 +1,13 @@
 //! The parts of a machine besides its program.
-ghost use Rattle.std.specs.Prelude.{◌≡◌, ◌+◌, IfOk, nat_le, if◌then◌else◌};
+ghost use Rattle.std.specs.Prelude.{◌≡◌, ◌+◌, Some, None, slice_get, IfOk, MatchResult, nat_le, if◌then◌else◌};
 ghost use Rattle.pcode_frames.specs.declared.limits.TheConstants.{LIVE_WORDS};
+ghost use Rattle.pcode_machine.specs.declared.errors.ExecutionError.TheVariants.{StackUnderflow};
+ghost use Rattle.pcode_machine.specs.declared.turn.Stop.TheVariants.{Error};
 ghost use Rattle.pcode_machine.specs.Configuration.{framed, unframed};
 ghost use Rattle.pcode_machine.specs.Ready.{state_of};
 
-use crate::turn::Transfer;
+use crate::errors::ExecutionError;
+use crate::turn::{Stop, Transfer};
 use pcode_file::Proc;
 use pcode_frames::{Frames, Memory, Stack};
 use std::alloc::{AllocError, Global};
@@ -38,6 +41,17 @@ impl MachineParts {
             io_result: 0,
             transfer: None,
         })
+    }
+
+    /// Returns the word at a depth of the stack, whose top has depth 0. Fails if there is none.
+    #[inline(always)]
+    pub fn operand(&self, depth: u16) -> Result<u16, Stop>
+        ensures { MatchResult result (λ word. slice_get self.now.stack depth ≡ Some word)
+            (λ stop. (slice_get self.now.stack depth ≡ None) × (stop ≡ Error StackUnderflow)) }
+    {
+        self.stack
+            .get(depth)
+            .ok_or(Stop::Error(ExecutionError::StackUnderflow))
     }
 
     /// Puts the main frame into the room, if it fits, and goes to ENTER of the main program.

@@ -49,16 +49,12 @@ impl MachineParts {
         ensures { ChangesTo (stored_at next (state_of self.old) self.old.stack)
             self.old self.new result }
     {
-        if self.stack.len() < 2 {
-            return Err(Stop::Error(ExecutionError::StackUnderflow));
-        }
-        let value = self.stack.pop()?;
-        let pointer = self.stack.pop()?;
+        let value = self.operand(0)?;
+        let pointer = self.operand(1)?;
         if pointed(&self.memory, pointer).is_none() {
-            self.stack.push(pointer).unwrap();
-            self.stack.push(value).unwrap();
             return Err(Stop::Error(ExecutionError::BadAddress));
         }
+        self.stack.discard(2);
         self.memory.put(pointer / 2, value);
         self.next = next;
         Ok(())

@@ -46,6 +46,14 @@ impl From<Halt> for Stop {
     }
 }
 
+impl From<ExecutionError> for Stop {
+    ghost from_gives = { λ error stop. stop ≡ Error error };
+
+    fn from(error: ExecutionError) -> Self {
+        Stop::Error(error)
+    }
+}
+
 /// How a program ends.
 #[derive(Clone, Copy, Debug, PartialEq, Eq)]
 pub enum End {
