@@ -1,5 +1,5 @@
 -- What backs a learner backs it after it hears what was sent.
-use Rattle.std.proofs.Common.{◌≡◌, ℕ, true, false, IsTrue, List, inl, inr, Bool, arith}
+use Rattle.std.proofs.Common.{◌≡◌, ◌↔◌, ℕ, true, false, IsTrue, List, inl, inr, Bool, arith}
 use Rattle.std.proofs.lemmas.Bool.{cases_eq, cases_lt, ltb-true}
 use Rattle.std.proofs.lemmas.Bool.Decides.{nat_tests}
 use Rattle.std.proofs.lemmas.List.{get_or-set_other, get_or-replicate, get_or_past, length-replicate}
@@ -9,6 +9,7 @@ use Rattle.paxos_msg.specs.declared.value.Value.{Value}
 use Rattle.paxos_msg.specs.declared.message.Body.TheVariants.{Accepted, Tell}
 use Rattle.paxos_msg.specs.Messages.{IsSent, IsSaid}
 use Rattle.paxos_msg.specs.Batches.{Sent}
+use Rattle.paxos_msg.specs.Tests.{same_ballot, same_value}
 use Rattle.paxos_learner.specs.Tallies.{has_node, no_nodes, with_node}
 use Rattle.paxos_learner.specs.Learner.{Learner, learn, new_learner, heard_accepted, heard_tell}
 use Rattle.paxos_learner.specs.Backed.{IsLearnerBacked, IsTallied, MayLearn, Stays}
@@ -32,13 +33,15 @@ module _ (sent : Sent) (l : Learner) where
     learned = each_put l.learned s (MayLearn l.size sent) v may h.learned;
   }
 
-  pub accepted_backed : (i s : ℕ) (b : Ballot) (v : Value) → IsLearnerBacked sent l → IsSent sent i (Accepted b s v)
+  pub accepted_backed : ((a b : Ballot) → (same_ballot a b ≡ true) ↔ (a ≡ b)) → ((v w : Value) → (same_value v w ≡ true) ↔ (v ≡ w))
+      → (i s : ℕ) (b : Ballot) (v : Value) → IsLearnerBacked sent l → IsSent sent i (Accepted b s v)
       → IsLearnerBacked sent (heard_accepted l i b s v).learner
-  accepted_backed i s b v h new =
+  accepted_backed same same_values i s b v h new =
       let whole = tallied_by (IsTallied sent s) (get l.tallies s) i b v
       (with_each (λ j. IsSent sent j (Accepted b s v)) no_nodes i new (λ j member. grind (arith, none_there j)))
       (λ u there ballot value.
-      with_each (λ j. IsSent sent j (Accepted u.ballot s u.value)) u.nodes i (rw (ballot, value) new) (h.tallied s u there)) in
+      with_each (λ j. IsSent sent j (Accepted u.ballot s u.value)) u.nodes i
+      (rw ((same u.ballot b).0 ballot, (same_values u.value v).0 value) new) (h.tallied s u there)) in
       accepted_by (IsLearnerBacked sent) l h i s b v
       (λ t e here most. learn_backed s t.value h (inr (t.ballot, (has_node t.nodes, ltb-true _ _ most, whole t e))))
       (λ t e. record { tallied = each_put l.tallies s (IsTallied sent) t (whole t e) h.tallied; learned = h.learned })

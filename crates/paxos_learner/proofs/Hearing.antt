@@ -1,9 +1,7 @@
 -- What a learner becomes when it hears of a place, and what stays of it.
 use Rattle.std.proofs.Common.{◌≡◌, ℕ, IsTrue, Option, Some, None, IfSome, true, arith, ◌+◌, ◌<◌, ◌≤◌}
 use Rattle.std.specs.FinMap.{get, insert, FinMap, get-empty}
-use Rattle.std.proofs.lemmas.Bool.{and_parts, eq-eqb}
-use Rattle.std.proofs.lemmas.Cmp.{nat_list_eq_equiv}
-use Rattle.std.specs.Cmp.Lexicographic.{same_text}
+use Rattle.std.proofs.lemmas.Bool.{and_parts}
 use Rattle.std.proofs.lemmas.Bool.Decides.{nat_tests}
 use Rattle.base.proofs.Branches.{either, either_by}
 use Rattle.paxos_msg.specs.declared.ballot.Ballot.{Ballot}
@@ -16,18 +14,12 @@ use Rattle.paxos_msg.specs.Fits.{IsValue}
 use Rattle.paxos_learner.proofs.OnePlace.{each_put, get_left, get_put}
 use Rattle.paxos_learner.proofs.Fronts.{IsFront-front_of}
 
--- ballots and values that test the same are the same
-same_ballots : (a b : Ballot) → same_ballot a b ≡ true → a ≡ b
-same_ballots a b e = grind (arith, nat_tests)
-
-same_values : (v w : Value) → same_value v w ≡ true → v ≡ w
-same_values v w e = grind (arith, nat_tests, eq-eqb, nat_list_eq_equiv, same_text)
-
 -- a tally that changes is one of the node alone, or has the node more
 module _ (P : Tally → Type 0) (o : Option Tally) (i : ℕ) (b : Ballot) (v : Value) (alone : P (begun_tally i b v))
-    (more : (u : Tally) → o ≡ Some u → u.ballot ≡ b → u.value ≡ v → P (record u { nodes = with_node u.nodes i })) where
+    (more : (u : Tally) → o ≡ Some u → same_ballot u.ballot b ≡ true → same_value u.value v ≡ true
+    → P (record u { nodes = with_node u.nodes i })) where
   tally_by : IfSome (tallied o i b v) P
-  tally_by = grind (arith, nat_tests, either, either_by, and_parts, same_ballots, same_values)
+  tally_by = grind (arith, nat_tests, either, either_by, and_parts)
 
   pub tallied_by : (t : Tally) → tallied o i b v ≡ Some t → P t
   tallied_by t e = rw e at tally_by

@@ -1,5 +1,5 @@
 //! The laws of a learner, over the definitions alone: a message keeps what is learned, and the
-//! input only grows at its end. Each function is empty: its contract is the law.
+//! input only grows at its end. Each law is the contract of a function that does nothing.
 ghost use Rattle.std.specs.Prelude.{◌≡◌, ◌↔◌, ◌<◌, ◌≤◌, ◌++◌, ◌∷◌, [], ℕ, Contains, IsTrue, List, Some, is_some, length, slice_get, true};
 ghost use Rattle.std.specs.FinMap.{empty, FinMap, get};
 ghost use Rattle.std.specs.Ordering.{nat_cmp};
@@ -16,6 +16,8 @@ ghost use Rattle.paxos_learner.specs.Learner.{AreInWindow, HasLearnedMore, IsLea
 ghost use Rattle.paxos_learner.specs.Input.{firsts, front_values, has_key, input_of, is_learned, keys_in_order, learned_input, same_key, StandsIn, values_below};
 ghost use Rattle.paxos_msg.specs.declared.limits.TheConstants.{LAST_PLACE, PLACES};
 
+use paxos_msg::laws::tests_are_exact;
+
 /// A learner that has heard nothing is backed. It stays so as more is sent, and when it hears an
 /// Accepted or a Tell that was sent: each tallied node has sent its Accepted, and each learned
 /// value was in a Tell, or accepted by a majority under one ballot, before the call that learned
@@ -29,7 +31,9 @@ pub fn stays_backed()
         → IsSaid sent (Tell s v) → IsLearnerBacked sent (heard_tell l s v).learner }
     ensures later { (sent next : Sent) (l : Learner) → Stays sent next → IsLearnerBacked sent l
         → IsLearnerBacked next l }
-{}
+{
+    tests_are_exact();
+}
 
 /// No call removes or changes a learned value, or the size.
 pub fn learned_stays()
