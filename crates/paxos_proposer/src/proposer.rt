@@ -3,6 +3,7 @@ ghost use Rattle.std.specs.Prelude.{◌≡◌, ◌↔◌, ◌+◌, ◌<◌, ◌�
 ghost use Rattle.paxos_msg.specs.Fits.{IsBody};
 ghost use Rattle.paxos_proposer.specs.Proposer.{IsPromisePart, asks_after, new_proposer, coverage_of, is_covered, is_kept_from, next_of, next_value, heard_promise, proposal, proposed_at, proposing};
 ghost use Rattle.paxos_msg.specs.declared.limits.TheConstants.{LAST_PLACE, MOST_NODES, PLACES};
+ghost use Rattle.paxos_proposer.specs.declared.proposer.TheConstants.{RESERVED_PROPOSALS};
 
 use crate::covering::count_covering;
 use crate::fault::ProposerFault;
@@ -12,8 +13,9 @@ use paxos_msg::{Ballot, BodyView, PLACES, Value, View, Vote};
 use std::alloc::Global;
 use std::marker::Model;
 
-/// The number of proposals that `reserve` makes room for.
-const RESERVED_PROPOSALS: usize = 17;
+/// The number of proposals that `Proposer::reserve` makes room for: those of one event of a node,
+/// which are at most 16 that go on, and one that offers a value.
+pub const RESERVED_PROPOSALS: usize = 17;
 
 /// A proposer under one ballot. From the promises of the acceptors it finds the value that it may
 /// propose at each place, one place after another. A proposal takes two searches, and a part of a
@@ -228,13 +230,14 @@ impl Proposer {
         Ok(Some(proposal))
     }
 
-    /// Makes room for 17 more proposals. Nothing that is known changes. Fails only with `Memory`.
+    /// Makes room for 17 more proposals (`RESERVED_PROPOSALS`). Nothing that is known changes. Fails
+    /// only with `Memory`.
     ///
     /// After `Ok` the next 17 `next_accept` never fail with `Memory`, also with calls of
     /// `on_promise` and `reserve` between them.
     pub fn reserve(&mut self) -> Result<(), ProposerFault>
         ensures same { self.new.known ≡ self.old.known }
-        ensures ok { OnOk result (17 ≤ self.new.room) }
+        ensures ok { OnOk result (RESERVED_PROPOSALS ≤ self.new.room) }
         ensures memory { IsOkUnless result ProposerFault.Memory }
         ensures room { self.old.room ≤ self.new.room }
     {
