@@ -195,7 +195,8 @@ tell_at size bytes = do
   value ← value_at size place.1
   Ok (Tell place.0 value.0, value.1)
 
--- The body of a message of this kind from this sender, and the bytes after it.
+-- The body of a message of this kind from this sender, and the bytes after it. The header has
+-- refused a number that is no kind.
 unfoldable pub body_at : ℕ → ℕ → ℕ → List ℕ → Result (Body × List ℕ) WireFault
 body_at size kind sender bytes =
     if kind == 1 then prepare_at size sender bytes
@@ -205,7 +206,8 @@ body_at size kind sender bytes =
     else if kind == 5 then refused_at size bytes
     else if kind == 6 then submit_at size sender bytes
     else if kind == 7 then ask_at bytes
-    else tell_at size bytes
+    else if kind == 8 then tell_at size bytes
+    else Err fault.Kind
 
 -- ---- the whole datagram
 

@@ -5,7 +5,7 @@ ghost use Rattle.paxos_msg.specs.Batches.{Msg};
 ghost use Rattle.paxos_msg.specs.Raw.{PassesVote, votes_left};
 ghost use Rattle.paxos_msg.specs.Spelling.{Msgs};
 ghost use Rattle.paxos_msg.specs.Views.{GivesField, HasUpTo, said};
-ghost use Rattle.paxos_msg.specs.declared.limits.TheConstants.{MOST_VOTES, PLACES};
+ghost use Rattle.paxos_msg.specs.declared.limits.TheConstants.{LAST_KIND, MOST_VOTES, PLACES};
 
 use crate::ballot::Ballot;
 use crate::fault::WireFault;
@@ -169,9 +169,12 @@ fn tell_of(size: u8, bytes: &[u8]) -> Result<(BodyView<'_>, &[u8]), WireFault>
     Ok((BodyView::Tell { place, value }, &rest[taken..]))
 }
 
-/// Reads the body of a message of kind `kind` from `sender`. Returns it and the bytes after it.
+/// Reads the body of a message of kind `kind`, 1 to 8, from `sender`. Returns it and the bytes after
+/// it.
 #[tactic(auto, unfolding(crate::specs::Reading::body_at))]
 fn body_of(size: u8, kind: u8, sender: u8, bytes: &[u8]) -> Result<(BodyView<'_>, &[u8]), WireFault>
+    requires above { 0 < kind }
+    requires most { kind ≤ LAST_KIND }
     ensures { Gives (λ x. (said x.0, x.1.now)) result (body_at size kind sender bytes.now) }
 {
     match kind {
@@ -182,7 +185,8 @@ fn body_of(size: u8, kind: u8, sender: u8, bytes: &[u8]) -> Result<(BodyView<'_>
         5 => refused_of(size, bytes),
         6 => submit_of(size, sender, bytes),
         7 => ask_of(bytes),
-        _ => tell_of(size, bytes),
+        8 => tell_of(size, bytes),
+        _ => unreachable!(),
     }
 }
 
@@ -191,7 +195,9 @@ fn body_of(size: u8, kind: u8, sender: u8, bytes: &[u8]) -> Result<(BodyView<'_>
 /// and `Sender`, in this order.
 #[tactic(auto, unfolding(crate::specs::Reading::header_at))]
 fn header_of(group: Group, bytes: &[u8]) -> Result<((u8, u8), &[u8]), WireFault>
-    ensures { Gives (λ x. (x.0, x.1.now)) result (header_at group bytes.now) }
+    ensures exact { Gives (λ x. (x.0, x.1.now)) result (header_at group bytes.now) }
+    ensures above { IfOk result (λ x. 0 < x.0.0) }
+    ensures most { IfOk result (λ x. x.0.0 ≤ LAST_KIND) }
 {
     if bytes.len() < 10 {
         return Err(WireFault::Short);
