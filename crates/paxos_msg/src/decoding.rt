@@ -169,8 +169,8 @@ fn tell_of(size: u8, bytes: &[u8]) -> Result<(BodyView<'_>, &[u8]), WireFault>
     Ok((BodyView::Tell { place, value }, &rest[taken..]))
 }
 
-/// Reads the body of a message of kind `kind`, 1 to 8, from `sender`. Returns it and the bytes after
-/// it.
+/// Reads the body of a message of kind `kind`, 1 to 8, from `sender`. Returns it and the bytes
+/// after it.
 #[tactic(auto, unfolding(crate::specs::Reading::body_at))]
 fn body_of(size: u8, kind: u8, sender: u8, bytes: &[u8]) -> Result<(BodyView<'_>, &[u8]), WireFault>
     requires above { 0 < kind }

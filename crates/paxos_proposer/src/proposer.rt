@@ -230,8 +230,8 @@ impl Proposer {
         Ok(Some(proposal))
     }
 
-    /// Makes room for 17 more proposals (`RESERVED_PROPOSALS`). Nothing that is known changes. Fails
-    /// only with `Memory`.
+    /// Makes room for 17 more proposals (`RESERVED_PROPOSALS`). Nothing that is known changes.
+    /// Fails only with `Memory`.
     ///
     /// After `Ok` the next 17 `next_accept` never fail with `Memory`, also with calls of
     /// `on_promise` and `reserve` between them.
