@@ -1,14 +1,36 @@
 -- The claims of the main theorem: what holds of a group whatever happened to it.
 use Rattle.std.specs.Prelude.{◌≡◌, ◌≢◌, ℕ, List, Contains, Some, slice_get}
 use Rattle.std.specs.FinMap.{get}
+use Rattle.pcode_file.specs.Parts.{Parts}
 use Rattle.pcode_machine.specs.Runs.{AreComparable, IsPrefix, IsOutput}
+use Rattle.paxos_msg.specs.declared.message.Group.{Group}
 use Rattle.paxos_msg.specs.declared.value.Value.{Value}
 use Rattle.paxos_msg.specs.Chosen.{IsChosen}
+use Rattle.paxos_msg.specs.Grammar.{IsGroup}
 use Rattle.paxos_msg.specs.Keys.{Key, keys_of}
 use Rattle.group_node.specs.declared.console.Offer.TheVariants.{Gap, Repeat}
 use Rattle.group_node.specs.Console.{offer_answer}
 use Rattle.group_node.specs.Inputs.{IsInput}
+use Rattle.group_node.specs.States.{IsSize}
 use Rattle.group_node.specs.World.{Up, WorldState}
+use Rattle.group_world.specs.declared.event.Event.{Event}
+use Rattle.group_world.specs.Event.{LeadsBy}
+use Rattle.group_world.specs.Group.{new_world, World, world_state}
+
+-- What holds of every program and group, whatever happens: of each world to which events lead from
+-- the one in which nothing has happened.
+-- Allows: any list of events.
+abbrev pub Always : (WorldState → Type 0) → Type 0
+Always P =
+    (p : Parts) (group : Group) (events : List Event) (w : World) → IsSize group.size
+    → IsGroup group → LeadsBy (new_world p group) events w → P (world_state w)
+
+-- What holds of every two moments, whatever happens before the first and in between.
+abbrev pub AlwaysLater : (WorldState → WorldState → Type 0) → Type 0
+AlwaysLater P =
+    (p : Parts) (group : Group) (events more : List Event) (w v : World) → IsSize group.size
+    → IsGroup group → LeadsBy (new_world p group) events w → LeadsBy w more v
+    → P (world_state w) (world_state v)
 
 -- A node `i` that is up and has learned the value `v` at place `s`.
 pub record HasLearned (w : WorldState) (i s : ℕ) (v : Value) : Type 0 where

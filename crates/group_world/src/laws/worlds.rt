@@ -7,7 +7,7 @@ ghost use Rattle.group_node.specs.States.{IsSize};
 ghost use Rattle.group_world.specs.declared.event.Event.{Event};
 ghost use Rattle.group_world.specs.Event.{LeadsBy};
 ghost use Rattle.group_world.specs.Group.{new_world, World, world_state};
-ghost use Rattle.group_world.specs.Headline.{ConsolesAgree, ConsolesGrow, ConsolesHoldOutput, HasLearned, HasNoGap, LearnedAgree, LearnedChosen, LearnedStays};
+ghost use Rattle.group_world.specs.Headline.{Always, AlwaysLater, ConsolesAgree, ConsolesGrow, ConsolesHoldOutput, HasLearned, HasNoGap, LearnedAgree, LearnedChosen, LearnedStays};
 ghost use Rattle.group_world.specs.Order.{KeysOnce, SerialsInOrder};
 ghost use Rattle.group_world.specs.Witness.{echoes, letter, letter_batch, one, shown_events};
 
@@ -30,27 +30,13 @@ use pcode_machine::laws::output_only_grows;
 /// - Each typed key is read once, and the keys of one start of one node are read in the order in
 /// which they were typed.
 pub fn headline()
-    ensures learned_agree { (p : Parts) (group : Group) (events : List Event) (w : World)
-        → IsSize group.size → IsGroup group → LeadsBy (new_world p group) events w
-        → LearnedAgree (world_state w) }
-    ensures learned_chosen { (p : Parts) (group : Group) (events : List Event) (w : World)
-        → IsSize group.size → IsGroup group → LeadsBy (new_world p group) events w
-        → LearnedChosen (world_state w) }
-    ensures consoles_hold_output { (p : Parts) (group : Group) (events : List Event) (w : World)
-        → IsSize group.size → IsGroup group → LeadsBy (new_world p group) events w
-        → ConsolesHoldOutput (world_state w) }
-    ensures consoles_agree { (p : Parts) (group : Group) (events : List Event) (w : World)
-        → IsSize group.size → IsGroup group → LeadsBy (new_world p group) events w
-        → ConsolesAgree (world_state w) }
-    ensures no_gap { (p : Parts) (group : Group) (events : List Event) (w : World)
-        → IsSize group.size → IsGroup group → LeadsBy (new_world p group) events w
-        → HasNoGap (world_state w) }
-    ensures key_once { (p : Parts) (group : Group) (events : List Event) (w : World)
-        → IsSize group.size → IsGroup group → LeadsBy (new_world p group) events w
-        → KeysOnce (world_state w) }
-    ensures serials_in_order { (p : Parts) (group : Group) (events : List Event) (w : World)
-        → IsSize group.size → IsGroup group → LeadsBy (new_world p group) events w
-        → SerialsInOrder (world_state w) }
+    ensures learned_agree { Always LearnedAgree }
+    ensures learned_chosen { Always LearnedChosen }
+    ensures consoles_hold_output { Always ConsolesHoldOutput }
+    ensures consoles_agree { Always ConsolesAgree }
+    ensures no_gap { Always HasNoGap }
+    ensures key_once { Always KeysOnce }
+    ensures serials_in_order { Always SerialsInOrder }
 {
     events_keep_it_sound();
     events_keep_order();
@@ -64,12 +50,8 @@ pub fn headline()
 /// has learned for the same place in `v`, are equal, also if nodes have crashed and started again
 /// in between. What a console has shown in `v` begins with what it had shown in `w`.
 pub fn later_worlds_agree()
-    ensures learned_stays { (p : Parts) (group : Group) (events more : List Event) (w v : World)
-        → IsSize group.size → IsGroup group → LeadsBy (new_world p group) events w
-        → LeadsBy w more v → LearnedStays (world_state w) (world_state v) }
-    ensures consoles_grow { (p : Parts) (group : Group) (events more : List Event) (w v : World)
-        → IsSize group.size → IsGroup group → LeadsBy (new_world p group) events w
-        → LeadsBy w more v → ConsolesGrow (world_state w) (world_state v) }
+    ensures learned_stays { AlwaysLater LearnedStays }
+    ensures consoles_grow { AlwaysLater ConsolesGrow }
 {
     events_keep_it_sound();
     events_keep_order();
