@@ -20,7 +20,7 @@ use Rattle.group_world.specs.declared.member.Ask.{Ask}
 use Rattle.group_world.specs.declared.member.Ask.TheVariants.{Campaign, Hear, Tick}
 use Rattle.group_world.specs.declared.member.Place.{Place}
 use Rattle.group_world.specs.declared.member.Place.TheVariants as place
-use Rattle.group_world.specs.Member.{NodeCall, CallEnds, IsDone, IsOfMember, IsOpen, Makes, Member, Refuses, Running, call_of_ask, call_outcome, call_of_campaign, failing, member_after_fall, member_of, running, store_of}
+use Rattle.group_world.specs.Member.{NodeCall, CallEnds, IsDone, IsOfMember, IsOpen, IsSettled, Makes, Member, Refuses, Running, call_of_ask, call_outcome, call_of_campaign, failing, member_after_fall, member_of, running, store_of}
 
 abbrev pub Answer : Type 0
 Answer = Result (Unit {0}) NodeFault
@@ -171,16 +171,16 @@ tick_rests n = by n.proposer where
 
 -- ---- a call that the node has answered
 
--- What holds after a call with the plan of the node `m` of the group, which is `new` now. It is
--- open unless its save failed; the call ends as it should, however its place is settled; and
--- nothing has changed if memory ran out.
-pub record IsAnswered (plan : Option Bool) (new : NodeState StoreState) (console : List ℕ) (m : Member) (ask : Ask)
+-- What holds after a call with the plan of the node `m` of the group, which is at the place `new`
+-- now. It is open unless its save failed; the call ends as it should, however its place is settled;
+-- and nothing has changed if memory ran out.
+pub record IsAnswered (plan : Option Bool) (new : Place) (console : List ℕ) (m : Member) (ask : Ask)
     (now : List Datagram) (answer : Answer) : Type 0 where
-  pub works : ¬ IsErrOf answer fault.Store → IsOpen new
-  pub ends : (s : Place) (d : Done) → (IsErrOf answer fault.Store → s ≡ place.Down (store_of (place.Up new)))
-      → (¬ IsErrOf answer fault.Store → s ≡ place.Up new) → IsDone answer d → (q : Running) → m.node ≡ Some q
+  pub works : ¬ IsErrOf answer fault.Store → IsSettled new
+  pub ends : (s : Place) (d : Done) → (IsErrOf answer fault.Store → s ≡ place.Down (store_of new))
+      → (¬ IsErrOf answer fault.Store → s ≡ new) → IsDone answer d → (q : Running) → m.node ≡ Some q
       → CallEnds q.known.me m q.progress (call_outcome plan m.kept (call_of_ask q.known ask)) d (member_of s console) now []
-  pub same : (s : Place) → (¬ IsErrOf answer fault.Store → s ≡ place.Up new) → answer ≡ Err fault.Memory
+  pub same : (s : Place) → (¬ IsErrOf answer fault.Store → s ≡ new) → answer ≡ Err fault.Memory
       → (member_of s console ≡ m) × (now ≡ [])
 
 -- a call of an open node with an empty outbox is not refused as `Stopped` or `OutboxFull`
@@ -248,7 +248,7 @@ module _ {plan : Option Bool} {old new : NodeState StoreState} {console : List �
 
   module _ {answer : Answer} (let_in : IsLetIn old.protocol before answer) where
     answered : (ask : Ask) (made : Response) → Said old new made now answer → IsCall (call_of_ask old.protocol.known ask) made answer
-        → IsAnswered plan new console m ask now answer
+        → IsAnswered plan (place.Up new) console m ask now answer
     answered ask made said is = record {
       works = stays_open answer said;
       ends = λ s d fell stays done q up.
@@ -263,7 +263,7 @@ module _ {plan : Option Bool} {old new : NodeState StoreState} {console : List �
         → Saves (Unit {0}) (Unit {0}) (λ (s : StoreState). s) old.protocol new.protocol
         (on_message old.protocol.known message.sender message.body) answer
         → IfErr answer (λ f. (f ≡ fault.Stopped) ⊎ (f ≡ fault.OutboxFull) ⊎ (f ≡ fault.Memory) ⊎ (f ≡ fault.Store))
-        → IsAnswered plan new console m (Hear message) now answer
+        → IsAnswered plan (place.Up new) console m (Hear message) now answer
     heard message does saves others =
         answered (Hear message) _ (said empty does saves)
         (never_refused answer _ (λ f either store memory. neither either memory store) (taken answer h.opens empty let_in _ others))
@@ -274,7 +274,7 @@ module _ {plan : Option Bool} {old new : NodeState StoreState} {console : List �
         → (IsOpen old → IsCampaignRefused old.protocol.known answer)
         → IfErr answer (λ f. (f ≡ fault.Stopped) ⊎ (f ≡ fault.OutboxFull) ⊎ (f ≡ fault.RoundsSpent) ⊎ (f ≡ fault.PlacesSpent)
         ⊎ (f ≡ fault.Memory) ⊎ (f ≡ fault.Store))
-        → IsAnswered plan new console m Campaign now answer
+        → IsAnswered plan (place.Up new) console m Campaign now answer
     campaign_answered does saves campaigns others =
         answered Campaign _ (said empty does saves) (is_campaign answer (campaigns h.opens) (taken answer h.opens empty let_in _ others))
 
@@ -282,7 +282,7 @@ module _ {plan : Option Bool} {old new : NodeState StoreState} {console : List �
     pub tick_answered : Does old.protocol new.protocol before now (on_tick old.protocol.known) answer
         → new.protocol.store ≡ old.protocol.store
         → IfErr answer (λ f. (f ≡ fault.Stopped) ⊎ (f ≡ fault.OutboxFull) ⊎ (f ≡ fault.Memory))
-        → IsAnswered plan new console m Tick now answer
+        → IsAnswered plan (place.Up new) console m Tick now answer
     tick_answered does store others =
         let memory = taken answer h.opens empty let_in (λ f. f ≡ fault.Memory) others in
         let never = no_device answer memory in

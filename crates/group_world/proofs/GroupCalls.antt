@@ -4,7 +4,7 @@ use Rattle.std.proofs.lemmas.List.{set-get_or, append-nil}
 use Rattle.std.proofs.Common.{set, ◌≡◌, ◌∙◌, ℕ, zero, suc, ◌-◌, ◌<◌, nat_lt, All, Bool, true, false, if◌then◌else◌, List, [], ◌∷◌, ◌++◌, get_or, length, slice_get, slice_set, is_some, Option, None, Some, Result, Ok, Err, IfOk, OnErr, OnOk, inr, refl, sym, ap, subst, arith}
 use Rattle.std.specs.List.{cons_option}
 use Rattle.std.proofs.lemmas.Bool.{ltb-true}
-use Rattle.std.proofs.lemmas.Result.{on_err_weaker}
+use Rattle.std.proofs.lemmas.Result.{IfOk-weaker, on_err_weaker}
 use Rattle.std.proofs.lemmas.List.Elements.{All-head, All-tail}
 use Rattle.paxos_msg.specs.declared.value.Value.{Value}
 use Rattle.paxos_msg.specs.declared.message.Group.{Group}
@@ -21,13 +21,15 @@ use Rattle.group_world.specs.declared.event.Done.{Done}
 use Rattle.group_world.specs.declared.event.Done.TheVariants.{Applied}
 use Rattle.group_world.specs.declared.fault.WorldFault.{WorldFault}
 use Rattle.group_world.specs.declared.fault.WorldFault.TheVariants.{NoMessage, NoNode, NodeDown}
-use Rattle.group_world.specs.Event.{Goes, Leaves, Performs, node_of}
-use Rattle.group_world.specs.Group.{HasUp, IsUp, group_after, me_of, member_at, message_of, messages_in, World}
-use Rattle.group_world.specs.Member.{NodeCall, call_outcome, CallOutcome, CallEnds, FailsByMemory, Fell, Happened, Member, Refused, Running, RunsMember, member_after, member_after_release, sent_by, typed_by}
+use Rattle.group_world.specs.declared.member.Ask.{Ask}
+use Rattle.group_world.specs.Event.{Goes, Leaves, LeavesAsked, Performs, node_of}
+use Rattle.group_world.specs.Group.{HasUp, group_after, me_of, member_at, message_of, messages_in, World}
+use Rattle.group_world.specs.Member.{NodeCall, call_of_ask, call_of_press, call_outcome, CallOutcome, CallEnds, FailsByMemory, Fell, Happened, Member, Refused, Running, RunsMember, member_after, member_after_release, sent_by, typed_by}
 use Rattle.group_world.specs.Refusals.{Applies, refusal, refusal_at, refusal_of, unless_up}
 use Rattle.group_world.specs.Sound.{IsSound, IsSpelling}
 use Rattle.group_world.specs.declared.event.Event.{Event}
 use Rattle.group_world.proofs.SoundWorldsAgree.{next_of}
+use Rattle.group_world.proofs.WorldAsGroup.{running}
 
 -- a node of the list has a number, and lies at the index before it
 is_at : (members : List Member) (i : ℕ) (m : Member) → member_at members i ≡ Some m → (0 < i) × (slice_get members (i - 1) ≡ Some m)
@@ -43,89 +45,116 @@ set_same xs k x e = ap (set xs k) (sym (get_or_from_slice_get xs k x x e)) ∙ s
 -- ---- a node of the code's group `w`, which contracts see as `was` and which a call lends out
 
 -- a node that is up has a number
-pub above : {was : World} {i : ℕ} {m : Member} {q : Running} → IsUp was i m q → 0 < i
-above {was} {i} {m} up = (is_at was.members i m up.there).0
+pub above : {was : World} {i : ℕ} → HasUp was i → 0 < i
+above {was} {i} (m, q, up) = (is_at was.members i m up.there).0
 
--- the world with these parts
-abbrev pub parts : World → List Member → List Datagram → List Value → World
-parts w members sent typed = record w { members = members; sent = sent; typed = typed }
+-- the world in which the node at the index `place` is `new`, and this was sent and typed
+abbrev pub parts : World → ℕ → Member → List Datagram → List Value → World
+parts w place new sent typed = record w { members = slice_set w.members place new; sent = sent; typed = typed }
 
 -- nothing was sent, or typed
 pub none_more : {X : Type 0} (xs : List X) → xs ≡ xs ++ []
 none_more xs = sym (append-nil xs)
 
 -- `lent` is node `i`, which lies at the index `place` of the list
-module _ {w was : World} (is : w ≡ was) (i : ℕ) {place : ℕ} {m lent : Member} (there : member_at was.members i ≡ Some m)
-    (at : place ≡ i - 1) (value : lent ≡ get_or w.members place lent) where
-  pub lent_is : lent ≡ m
-  lent_is =
-      value ∙ (λ t. get_or (is t).members (at t) lent)
-      ∙ get_or_from_slice_get was.members (i - 1) m lent (is_at was.members i m there).1
+module _ {w was : World} (is : w ≡ was) (i : ℕ) {place : ℕ} {lent : Member} (at : place ≡ i - 1)
+    (value : lent ≡ get_or w.members place lent) where
+  module _ {m : Member} (there : member_at was.members i ≡ Some m) where
+    pub lent_is : lent ≡ m
+    lent_is =
+        value ∙ (λ t. get_or (is t).members (at t) lent)
+        ∙ get_or_from_slice_get was.members (i - 1) m lent (is_at was.members i m there).1
 
-  -- the world after a call of the lent node
-  left_so : {sent : List Datagram} {typed : List Value} (packets : List Datagram) (keys : List Value) (new : Member)
-      → sent ≡ w.sent ++ packets → typed ≡ w.typed ++ keys
-      → parts w (slice_set w.members place new) sent typed
-      ≡ parts was (slice_set was.members (i - 1) new) (was.sent ++ packets) (was.typed ++ keys)
-  left_so packets keys new sends types = rw (sends, types, at, is) refl
+    -- the world after a call of the lent node
+    left_so : {sent : List Datagram} {typed : List Value} (packets : List Datagram) (keys : List Value) (new : Member)
+        → sent ≡ w.sent ++ packets → typed ≡ w.typed ++ keys
+        → parts w place new sent typed ≡ parts was (i - 1) new (was.sent ++ packets) (was.typed ++ keys)
+    left_so packets keys new sends types = rw (sends, types, at, is) refl
 
-  -- the world in which node `i` is put where it was, and nothing was sent or typed
-  same_world : parts was (slice_set was.members (i - 1) m) (was.sent ++ []) (was.typed ++ []) ≡ was
-  same_world = rw (set_same was.members (i - 1) m (is_at was.members i m there).1, append-nil was.sent, append-nil was.typed) refl
+    -- the world in which node `i` is put where it was, and nothing was sent or typed
+    same_world : parts was (i - 1) m (was.sent ++ []) (was.typed ++ []) ≡ was
+    same_world = rw (set_same was.members (i - 1) m (is_at was.members i m there).1, append-nil was.sent, append-nil was.typed) refl
 
-  -- a call by which nothing changes
-  unchanged : {new : Member} {packets sent : List Datagram} {typed : List Value} → sent ≡ w.sent ++ packets → typed ≡ w.typed
-      → new ≡ lent → packets ≡ [] → parts w (slice_set w.members place new) sent typed ≡ was
-  unchanged {new} {packets} sends types same none =
-      left_so packets [] new sends (types ∙ none_more w.typed) ∙ rw (same, lent_is, none) same_world
+    pub leaves : {new : Member} {me : Me} {progress : Progress} {d : Done} {packets sent : List Datagram} {keys typed : List Value}
+        (plan : Option Bool) (call : Me → Record → NodeCall) → me ≡ me_of was i → sent ≡ w.sent ++ packets → typed ≡ w.typed ++ keys
+        → CallEnds me lent progress (call_outcome plan lent.kept (call me lent.kept)) d new packets keys
+        → Leaves was i m progress plan (call (me_of was i) m.kept) d (parts w place new sent typed)
+    leaves {new} {me} {progress} {d} {packets} {keys = keys} plan call me_is sends types ends =
+        let o = call_outcome plan m.kept (call (me_of was i) m.kept) in
+        let ends_so = subst (λ x. CallEnds x m progress (call_outcome plan m.kept (call x m.kept)) d new packets keys) me_is
+        (subst (λ (x : Member). CallEnds me x progress (call_outcome plan x.kept (call me x.kept)) d new packets keys) lent_is ends) in
+        (ends_so.answer, left_so packets keys new sends types ∙ by o ends_so.left ends_so.sends ends_so.types)
+      where
+        by : (o : CallOutcome) → new ≡ member_after m progress o → packets ≡ sent_by (me_of was i) o → keys ≡ typed_by o
+            → parts was (i - 1) new (was.sent ++ packets) (was.typed ++ keys) ≡ group_after was i m progress o
+        by (Refused f) left sends types = rw (left, sends, types) same_world
+        by (Fell kept) left sends types = rw (left, sends, types, append-nil was.sent, append-nil was.typed) refl
+        by (Happened made typed) left sends types = rw (left, sends, types) refl
 
-  pub unchanged_on_err : {E : Type 0} {sent : List Datagram} {typed : List Value} (new : Member) (packets : List Datagram)
-      (r : Result Done E) → sent ≡ w.sent ++ packets → typed ≡ w.typed → OnErr r ((new ≡ lent) × (packets ≡ []))
-      → OnErr r (parts w (slice_set w.members place new) sent typed ≡ was)
-  unchanged_on_err new packets r sends types same = on_err_weaker r (λ h. unchanged sends types h.0 h.1) same
+  -- ---- it is up
 
-  pub leaves : {new : Member} {me : Me} {progress : Progress} {d : Done} {packets sent : List Datagram} {keys typed : List Value}
-      (plan : Option Bool) (call : Me → Record → NodeCall) → me ≡ me_of was i → sent ≡ w.sent ++ packets → typed ≡ w.typed ++ keys
-      → CallEnds me lent progress (call_outcome plan lent.kept (call me lent.kept)) d new packets keys
-      → Leaves was i m progress plan (call (me_of was i) m.kept) d (parts w (slice_set w.members place new) sent typed)
-  leaves {new} {me} {progress} {d} {packets} {keys = keys} plan call me_is sends types ends =
-      let o = call_outcome plan m.kept (call (me_of was i) m.kept) in
-      let ends_so = subst (λ x. CallEnds x m progress (call_outcome plan m.kept (call x m.kept)) d new packets keys) me_is
-      (subst (λ (x : Member). CallEnds me x progress (call_outcome plan x.kept (call me x.kept)) d new packets keys) lent_is ends) in
-      (ends_so.answer, left_so packets keys new sends types ∙ by o ends_so.left ends_so.sends ends_so.types)
-    where
-      by : (o : CallOutcome) → new ≡ member_after m progress o → packets ≡ sent_by (me_of was i) o → keys ≡ typed_by o
-          → parts was (slice_set was.members (i - 1) new) (was.sent ++ packets) (was.typed ++ keys) ≡ group_after was i m progress o
-      by (Refused f) left sends types = rw (left, sends, types) same_world
-      by (Fell kept) left sends types = rw (left, sends, types, append-nil was.sent, append-nil was.typed) refl
-      by (Happened made typed) left sends types = rw (left, sends, types) refl
+  module _ (has : HasUp was i) where
+    pub lent_up : lent.node ≡ Some has.1
+    lent_up = ap (λ (x : Member). x.node) (lent_is has.2.there) ∙ has.2.up
 
-  -- a run, a release and a crash
-  pub runs_so : {new : Member} {q : Running} {steps : ℕ} (plan : Option Bool) → IsUp was i m q → RunsMember lent q steps new
-      → Performs was plan (act.Run i steps) Applied (parts w (slice_set w.members place new) w.sent w.typed)
-  runs_so {new} {q} {steps} plan up h =
-      let k = rw lent_is at h in
-      (m, q, k.progress, k.ran, up, k.runs, k.replay, refl, rw (at, is, k.new_is) refl)
+    -- a call by which nothing changes
+    pub unchanged_on_err : {E : Type 0} {sent : List Datagram} {typed : List Value} (new : Member) (packets : List Datagram)
+        (r : Result Done E) → sent ≡ w.sent ++ packets → typed ≡ w.typed → OnErr r ((new ≡ lent) × (packets ≡ []))
+        → OnErr r (parts w place new sent typed ≡ was)
+    unchanged_on_err new packets r sends types same = on_err_weaker r (λ h.
+        left_so has.2.there packets [] new sends (types ∙ none_more w.typed)
+        ∙ rw (h.0, lent_is has.2.there, h.1) (same_world has.2.there)) same
 
-  pub releases_so : {new : Member} {q : Running} {d : Done} (plan : Option Bool) → IsUp was i m q
-      → new ≡ member_after_release lent q (next_of q) → d ≡ Applied
-      → Performs was plan (act.Release i) d (parts w (slice_set w.members place new) w.sent w.typed)
-  releases_so {q = q} plan up new_is done = (m, q, up, done, rw (at, is, new_is, lent_is) refl)
+    -- a press
+    pub presses_so : {new : Member} {byte : ℕ} {d : Done} {keys typed : List Value} → IsSound was → (plan : Option Bool) → byte < 256
+        → typed ≡ w.typed ++ keys
+        → ((q : Running) → lent.node ≡ Some q
+        → CallEnds q.known.me lent q.progress (call_outcome plan lent.kept (call_of_press q.known byte)) d new [] keys)
+        → Performs was plan (act.Press i byte) d (parts w place new w.sent typed)
+    presses_so {byte = byte} sound plan low types ends =
+        let (m, q, up) = has in (
+          m,
+          q,
+          up,
+          low,
+          leaves up.there plan (λ _ _. call_of_press q.known byte) (running sound up).me_is (none_more _) types (ends q lent_up),
+        )
 
-  pub crashes_so : {new : Member} {q : Running} (plan : Option Bool) → IsUp was i m q → new ≡ record lent { node = None }
-      → Performs was plan (act.Crash i) Applied (parts w (slice_set w.members place new) w.sent w.typed)
-  crashes_so {q = q} plan up new_is = (m, q, up, refl, rw (at, is, new_is, lent_is) refl)
+    -- a delivery, a campaign and a tick
+    pub asks_so : {sent : List Datagram} (new : Member) (packets : List Datagram) → IsSound was → (plan : Option Bool) (ask : Ask)
+        (r : Result Done WorldFault) → sent ≡ w.sent ++ packets
+        → ((q : Running) → lent.node ≡ Some q → IfOk r (λ d.
+        CallEnds q.known.me lent q.progress (call_outcome plan lent.kept (call_of_ask q.known ask)) d new packets []))
+        → IfOk r (λ d. LeavesAsked was i plan ask d (parts w place new sent w.typed))
+    asks_so new packets sound plan ask r sends ends =
+        let (m, q, up) = has in
+        IfOk-weaker r _ _
+        (λ d ends. (
+          m,
+          q,
+          up,
+          leaves up.there plan (λ _ _. call_of_ask q.known ask) (running sound up).me_is sends (none_more _) ends,
+        )) (ends q lent_up)
 
--- it is lent out as it is
-pub lent_up : {w was : World} {i place : ℕ} {m lent : Member} {q : Running} (is : w ≡ was) → IsUp was i m q → place ≡ i - 1
-    → lent ≡ get_or w.members place lent → lent.node ≡ Some q
-lent_up {i = i} is up at value = ap (λ (x : Member). x.node) (lent_is is i up.there at value) ∙ up.up
+    -- a run, a release and a crash
+    runs_by : {new : Member} {steps : ℕ} (plan : Option Bool) → RunsMember has.0 has.1 steps new
+        → Performs was plan (act.Run i steps) Applied (parts w place new w.sent w.typed)
+    runs_by plan k = (has.0, has.1, k.progress, k.ran, has.2, k.runs, k.replay, refl, rw (at, is, k.new_is) refl)
 
--- a release, which either happened or ran out of memory
-pub ok_done : {E : Type 0} {P : Type 0} (Q : Done → Type 0) (r : Result Done E) → OnOk r P → IfOk r (λ d. d ≡ Applied)
-    → (P → (d : Done) → d ≡ Applied → Q d) → IfOk r Q
-ok_done Q (Ok d) p done by = by p d done
-ok_done Q (Err e) p done by = tt
+    pub runs_so : {new : Member} {steps : ℕ} (plan : Option Bool) → ((q : Running) → lent.node ≡ Some q → RunsMember lent q steps new)
+        → Performs was plan (act.Run i steps) Applied (parts w place new w.sent w.typed)
+    runs_so plan runs = runs_by plan (rw (lent_is has.2.there) at (runs has.1 lent_up))
+
+    pub releases_so : (new : Member) (r : Result Done WorldFault) (plan : Option Bool)
+        → ((q : Running) → lent.node ≡ Some q → OnOk r (new ≡ member_after_release lent q (next_of q))) → IfOk r (λ d. d ≡ Applied)
+        → IfOk r (λ d. Performs was plan (act.Release i) d (parts w place new w.sent w.typed))
+    releases_so new (Ok d) plan ok done =
+        let (m, q, up) = has in (m, q, up, done, rw (at, is, ok q lent_up, lent_is up.there) refl)
+    releases_so new (Err e) plan ok done = tt
+
+    pub crashes_so : {new : Member} (plan : Option Bool) → new ≡ record lent { node = None }
+        → Performs was plan (act.Crash i) Applied (parts w place new w.sent w.typed)
+    crashes_so plan new_is = let (m, q, up) = has in (m, q, up, refl, rw (at, is, new_is, lent_is up.there) refl)
 
 -- an event that was not refused before it was tried
 pub applied : {w v : World} {e : Event} (r : Result Done WorldFault) → IfOk r (λ d. Goes w e d v) → OnErr r (v ≡ w) → FailsByMemory r
@@ -177,10 +206,9 @@ up_by m (Some q) e none = (q, e)
 
 -- an event of a node that has to be up
 pub found_up : (w : World) {said act : Act} → act ≡ said → ((m : Member) → refusal_at w said m ≡ unless_up m)
-    → None ≡ refusal w act → HasUp w (node_of said)
+    → refusal w act ≡ None → HasUp w (node_of said)
 found_up w {said} is at none =
-    let taken = sym (subst (λ x. None ≡ refusal w x) is none) in
-    let there = found_at w _ _ (refusal_of w said) refl refl taken in
+    let there = found_at w _ _ (refusal_of w said) refl refl (rw is at none) in
     let up = up_by there.0 there.0.node refl (sym (at there.0) ∙ there.2) in
     (there.0, up.0, record { there = there.1; up = up.1 })
 
@@ -189,10 +217,9 @@ sent_when true o none = (refl, none)
 sent_when false o none = absurd cc
 
 -- a delivery
-pub found_sent : (w : World) {k i : ℕ} {a : Act} → a ≡ act.Deliver k i → None ≡ refusal w a → (k < length w.sent) × HasUp w i
+pub found_sent : (w : World) {k i : ℕ} {a : Act} → a ≡ act.Deliver k i → refusal w a ≡ None → (k < length w.sent) × HasUp w i
 found_sent w {k} {i} is none =
-    let taken = sym (subst (λ x. None ≡ refusal w x) is none) in
-    let there = found_at w i _ (refusal_of w (act.Deliver k i)) refl refl taken in
+    let there = found_at w i _ (refusal_of w (act.Deliver k i)) refl refl (rw is at none) in
     let sent = sent_when (nat_lt k (length w.sent)) _ there.2 in
     let up = up_by there.0 there.0.node refl sent.1 in
     (ltb-true k _ sent.0, (there.0, up.0, record { there = there.1; up = up.1 }))

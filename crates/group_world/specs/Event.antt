@@ -16,8 +16,9 @@ use Rattle.group_world.specs.declared.event.Done.TheVariants.{Applied, Refused, 
 use Rattle.group_world.specs.declared.event.Event.{Event}
 use Rattle.group_world.specs.declared.event.Outcome.{Outcome}
 use Rattle.group_world.specs.declared.event.Outcome.TheVariants.{Kept, FailedOld, FailedNew}
+use Rattle.group_world.specs.declared.member.Ask.{Ask}
 use Rattle.group_world.specs.Group.{IsDown, IsUp, World, group_after, me_of, messages_in, with_member, world_after_fall}
-use Rattle.group_world.specs.Member.{NodeCall, CallOutcome, Makes, Member, Running, at_progress, call_outcome, call_of_campaign, done_of, call_of_press, member_after_release, call_of_start}
+use Rattle.group_world.specs.Member.{NodeCall, CallOutcome, Makes, Member, Running, at_progress, call_outcome, call_of_ask, call_of_campaign, done_of, call_of_press, member_after_release, call_of_start}
 
 -- An act as an event of its group.
 abbrev pub event_of : Act → group.Event
@@ -65,6 +66,12 @@ LeavesBy w i m progress o d v = (d ≡ done_of o) × (v ≡ group_after w i m pr
 -- Forbids: a packet of a call whose save failed.
 abbrev pub Leaves : World → ℕ → Member → Progress → Option Bool → NodeCall → Done → World → Type 0
 Leaves w i m progress plan call d v = LeavesBy w i m progress (call_outcome plan m.kept call) d v
+
+-- The answer `d` and the world `v` are those of this call of node `i`, which is up.
+abbrev pub LeavesAsked : World → ℕ → Option Bool → Ask → Done → World → Type 0
+LeavesAsked w i plan ask d v =
+    (m : Member) × (q : Running) × IsUp w i m q
+    × Leaves w i m q.progress plan (call_of_ask q.known ask) d v
 
 -- An act that leads from the world `w` to `v`, with the answer `d`. `plan` says whether its save
 -- fails.

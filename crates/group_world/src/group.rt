@@ -3,9 +3,9 @@ ghost use Rattle.std.specs.Prelude.{◌≡◌, ◌+◌, ◌-◌, ◌∷◌, ◌+
 ghost use Rattle.paxos_msg.specs.Records.{empty_record};
 ghost use Rattle.group_node.specs.declared.limits.TheConstants.{MOST_PACKETS};
 ghost use Rattle.group_world.specs.declared.event.Done.TheVariants.{Applied};
-ghost use Rattle.group_world.specs.Event.{Leaves, Performs};
-ghost use Rattle.group_world.specs.Group.{HasUp, IsDown, IsUp, member_at, new_world};
-ghost use Rattle.group_world.specs.Member.{call_of_ask, FailsByMemory, IsOfMember, Running};
+ghost use Rattle.group_world.specs.Event.{LeavesAsked, Performs};
+ghost use Rattle.group_world.specs.Group.{HasUp, IsDown, member_at, new_world};
+ghost use Rattle.group_world.specs.Member.{FailsByMemory, IsOfMember, Running};
 ghost use Rattle.group_world.specs.Refusals.{Applies, refusal};
 ghost use Rattle.group_world.specs.Sound.{IsSound};
 ghost use Rattle.group_world.specs.Member as state;
@@ -200,11 +200,9 @@ impl<'a> GroupState<'a> {
     /// whether its save fails, and what the store then keeps.
     fn ask(&mut self, node: u8, ask: &Ask<'_>, plan: Option<bool>) -> Result<Done, WorldFault>
         requires sound { IsSound self.old }
-        requires up { (m : state.Member) × (q : Running) × IsUp self.old node m q
-            × IsOfMember q.known ask.now }
-        ensures leaves { (m : state.Member) (q : Running) → IsUp self.old node m q
-            → IfOk result (λ d. Leaves self.old node m q.progress plan
-            (call_of_ask q.known ask.now) d self.new) }
+        requires up { HasUp self.old node }
+        requires fits { (q : Running) → IsOfMember q.known ask.now }
+        ensures leaves { IfOk result (λ d. LeavesAsked self.old node plan ask.now d self.new) }
         ensures err { OnErr result (self.new ≡ self.old) }
         ensures memory { FailsByMemory result }
     {
@@ -286,17 +284,16 @@ impl<'a> GroupState<'a> {
         self.members[place(node)].start(self.alloc, self.program, config, plan)
     }
 
-    /// Performs the event. Fails with what `refusal` returns, or with `Memory` if memory runs out;
-    /// then nothing has changed.
-    pub(crate) fn apply(&mut self, event: &Event) -> Result<Done, WorldFault>
+    /// Performs the act, which is not refused. `plan` says whether its save fails, and what the
+    /// store then keeps. Fails with `Memory` if memory runs out; then nothing has changed.
+    fn perform(&mut self, act: &Act, plan: Option<bool>) -> Result<Done, WorldFault>
         requires sound { IsSound self.old }
-        ensures { Applies self.old event.now result self.new }
+        requires taken { refusal self.old act.now ≡ None }
+        ensures acts { IfOk result (λ d. Performs self.old plan act.now d self.new) }
+        ensures err { OnErr result (self.new ≡ self.old) }
+        ensures memory { FailsByMemory result }
     {
-        if let Some(fault) = self.refusal(&event.act) {
-            return Err(fault);
-        }
-        let plan = event.save.plan();
-        match event.act {
+        match *act {
             Act::Press(node, byte) => self.press(node, byte),
             Act::Deliver(message, node) => self.deliver(message, node, plan),
             Act::Campaign(node) => self.ask(node, &Ask::Campaign, plan),
@@ -312,5 +309,17 @@ impl<'a> GroupState<'a> {
             }
             Act::Start(node) => self.start(node, plan),
         }
+    }
+
+    /// Performs the event. Fails with what `refusal` returns, or with `Memory` if memory runs out;
+    /// then nothing has changed.
+    pub(crate) fn apply(&mut self, event: &Event) -> Result<Done, WorldFault>
+        requires sound { IsSound self.old }
+        ensures { Applies self.old event.now result self.new }
+    {
+        if let Some(fault) = self.refusal(&event.act) {
+            return Err(fault);
+        }
+        self.perform(&event.act, event.save.plan())
     }
 }

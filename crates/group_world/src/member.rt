@@ -271,20 +271,12 @@ impl<'a> Member<'a> {
         match &mut self.place {
             Place::Up(node) => {
                 node.fail_next(plan);
-                match ask {
-                    Ask::Hear(view) => {
-                        let answer = node.on_message(view, outbox);
-                        self.place.settle(alloc, answer)
-                    }
-                    Ask::Campaign => {
-                        let answer = node.campaign(outbox);
-                        self.place.settle(alloc, answer)
-                    }
-                    Ask::Tick => {
-                        let answer = node.tick(outbox);
-                        self.place.settle(alloc, answer)
-                    }
-                }
+                let answer = match ask {
+                    Ask::Hear(view) => node.on_message(view, outbox),
+                    Ask::Campaign => node.campaign(outbox),
+                    Ask::Tick => node.tick(outbox),
+                };
+                self.place.settle(alloc, answer)
             }
             Place::Down(_) => unreachable!(),
         }

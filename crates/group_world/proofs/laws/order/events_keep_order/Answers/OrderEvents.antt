@@ -29,7 +29,7 @@ use Rattle.group_world.specs.Sound.{IsSound, IsSpelling}
 use Rattle.group_world.proofs.OrderLists.{none_in}
 use Rattle.group_world.proofs.laws.order.events_keep_order.Answers.OrderNodes.{Goes, read_of, campaign_goes, message_goes, tick_goes, AreAsked, Laws, none_asked, submit_found}
 use Rattle.group_world.proofs.OrderRows.{first_due, fresh_row, new_name, parted_row, typed_row, other_row}
-use Rattle.group_world.proofs.SoundWorldsAgree.{front_chosen, next_of}
+use Rattle.group_world.proofs.SoundWorldsAgree.{front_chosen, next_of, FrontLaws}
 use Rattle.group_world.proofs.WorldAsGroup.{running, first_node, each_changed}
 use Rattle.pcode_file.specs.Parts.{Parts}
 use Rattle.paxos_msg.specs.declared.message.Group.{Group}
@@ -42,7 +42,7 @@ use Rattle.group_node.specs.declared.fault.NodeFault.{NodeFault}
 use Rattle.std.proofs.lemmas.List.Quantifiers.{all_pairs_push}
 use Rattle.std.proofs.lemmas.Option.{IfSome_then}
 use Rattle.group_world.specs.Order.{HaveOneName}
-use Rattle.group_world.proofs.OrderFronts.{chosen_typed}
+use Rattle.group_world.proofs.OrderFronts.{chosen_typed, OrderLaws}
 
 -- ---- the facts of typed keys, after one node has changed
 
@@ -184,18 +184,10 @@ module _ (laws : Laws) {w : World} (sound : IsSound w) (h : IsOrdered w) {i : �
   node_is = ap (λ (me : Me). me.node) (running sound up).me_is
 
   front : AreChosen w.group.size (world_state w).sent (front_values q.known.learner.learned)
-  front =
-      front_chosen (record { many = laws.values_are_learned.ensures.many; at_place = laws.values_are_learned.ensures.at_place })
-      (running sound up).learned
+  front = let laws : FrontLaws = assumption in front_chosen laws (running sound up).learned
 
   was_typed : (k : Key) → Contains (read_of q.known) k → Contains (world_state w).typed k
-  was_typed =
-      chosen_typed (record {
-        more = laws.keys_are_read_once.ensures.more;
-        same = laws.keys_are_read_once.ensures.same;
-        has = laws.key_tests_are_exact.ensures.has;
-        choice = record { one = laws.agreement.ensures.one_value; free = laws.agreement.ensures.submitted };
-      }) sound h (front_values q.known.learner.learned) front
+  was_typed = let laws : OrderLaws = assumption in chosen_typed laws sound h (front_values q.known.learner.learned) front
 
   goes_starts : {o : Option Value} {done : Response} → Goes q.known o done → m.kept.starts ≤ done.node.kept.starts
   goes_starts goes = omega (arith, own.start, goes.starts)
