@@ -1,16 +1,31 @@
 use Rattle.std.proofs.Common.{◌+◌, refl, sym, arith}
+use Rattle.pcode_machine.specs.Turns.{AreQuiet}
+use Rattle.paxos_learner.specs.Input.{learned_input}
 use Rattle.group_node.specs.declared.player.Player.{Player}
+use Rattle.group_node.specs.Player.{Advances}
 use Rattle.group_node.proofs.Exact.{Laws, advanced, advances, to_advanced, makes-wrote, exact_idle, exact_fed, halts_waiting, halts_ended}
 use Rattle.group_node.proofs.player.Player.turn.Goals as goal
+use Rattle.group_node.proofs.player.Player.turn.Goals.{After-from}
+
+laws : After-from → Laws
+laws c = record { there = c.run_is_after.ensures; longer = c.same_step_on_longer_input.ensures }
+
+-- the player once its machine has run, before it takes or writes a byte
+abbrev ran : After-from → Player
+ran c = record c.args.self.now { machine = c.run-made.new.self; steps = c.args.self.now.steps + c.from.result }
+
+ran_on : (c : After-from)
+    → AreQuiet c.args.self.now.machine.program c.run-made.result.0 c.args.self.now.machine.state c.run-made.new.self.state
+    → Advances (learned_input c.args.learner.now.learned) c.run-made.result.0 c.args.self.now (ran c)
+ran_on c quiet =
+    advances _ c.quiet_steps_lead_on.ensures c.requires.exact quiet c.run-made.ensures.program refl
+    (omega (arith, c.from.ensures)) refl refl
 
 pub returns-in-Ended-clause-turns : goal.returns-in-Ended-clause-turns
 returns-in-Ended-clause-turns c =
-    let laws : Laws = record { there = c.run_is_after.ensures; longer = c.same_step_on_longer_input.ensures } in
+    let before = (goal.at.returns-in-Ended-clause-turns c).After-from in
     let h = rw c.in-Ended.is at c.run-made.ensures.pauses in
-    let a =
-    advances _ c.quiet_steps_lead_on.ensures c.requires.exact h.1 c.run-made.ensures.program refl
-    (omega (arith, c.from.ensures)) refl refl in
-    (h.0, a, halts_ended laws a.exact c.run-made.ensures.program h.2)
+    let a = ran_on before h.1 in (h.0, a, halts_ended (laws before) a.exact c.run-made.ensures.program h.2)
 
 pub returns-in-Wrote-clause-turns : goal.returns-in-Wrote-clause-turns
 returns-in-Wrote-clause-turns c =
@@ -20,9 +35,9 @@ returns-in-Wrote-clause-turns c =
 pub returns-in-Wrote-clause-exact : goal.returns-in-Wrote-clause-exact
 unfolding returns-in-Wrote-clause-turns
 returns-in-Wrote-clause-exact c =
-    let laws : Laws = record { there = c.run_is_after.ensures; longer = c.same_step_on_longer_input.ensures } in
+    let before = (goal.at.returns-in-Wrote-clause-exact c).After-from in
     let h = rw c.in-Wrote.is at c.run-made.ensures.pauses in
-    rw c.write.ensures (exact_idle laws (returns-in-Wrote-clause-turns c).2.exact c.requires.room (record {
+    rw c.write.ensures (exact_idle (laws before) (returns-in-Wrote-clause-turns c).2.exact c.requires.room (record {
       program = c.run-made.ensures.program;
       made = makes-wrote h.5;
       waits = refl;
@@ -35,24 +50,17 @@ returns-in-Wrote-clause-exact c =
 
 pub returns-in-Some-clause-turns : goal.returns-in-Some-clause-turns
 returns-in-Some-clause-turns c =
-    let h = rw c.in-Wants.is at c.run-made.ensures.pauses in
-    let mid : Player = record c.args.self.now { machine = c.run-made.new.self; steps = c.args.self.now.steps + c.from.result } in
-    let a =
-    advances {new = mid} _ c.quiet_steps_lead_on.ensures c.requires.exact h.1 c.run-made.ensures.program refl
-    (omega (arith, c.from.ensures)) refl refl in
-    (c.run-made.result.0, mid, a, h.0, refl)
+    let before = (goal.at.returns-in-Some-clause-turns c).After-from in
+    let h = rw c.in-Wants.is at c.run-made.ensures.pauses in (c.run-made.result.0, ran before, ran_on before h.1, h.0, refl)
 
 pub returns-in-Some-clause-exact : goal.returns-in-Some-clause-exact
 unfolding returns-in-Some-clause-turns
 returns-in-Some-clause-exact c =
-    let laws : Laws = record { there = c.run_is_after.ensures; longer = c.same_step_on_longer_input.ensures } in
-    exact_fed laws (returns-in-Some-clause-turns c).2.exact c.requires.room (sym c.in-Some.ensures) c.feed.ensures.1
+    exact_fed (laws (goal.at.returns-in-Some-clause-exact c).After-from) (returns-in-Some-clause-turns c).2.exact c.requires.room
+    (sym c.in-Some.ensures) c.feed.ensures.1
 
 pub returns-in-None-clause-turns : goal.returns-in-None-clause-turns
 returns-in-None-clause-turns c =
-    let laws : Laws = record { there = c.run_is_after.ensures; longer = c.same_step_on_longer_input.ensures } in
+    let before = (goal.at.returns-in-None-clause-turns c).After-from in
     let h = rw c.in-Wants.is at c.run-made.ensures.pauses in
-    let a =
-    advances _ c.quiet_steps_lead_on.ensures c.requires.exact h.1 c.run-made.ensures.program refl
-    (omega (arith, c.from.ensures)) refl refl in
-    (h.0, a, halts_waiting laws a.exact c.run-made.ensures.program h.2 (sym c.in-None.ensures))
+    let a = ran_on before h.1 in (h.0, a, halts_waiting (laws before) a.exact c.run-made.ensures.program h.2 (sym c.in-None.ensures))
