@@ -1,7 +1,8 @@
 -- How a call of a node that may send ends, by the contract of the node's call.
 use Rattle.std.proofs.lemmas.Option.{same_Some}
 use Rattle.std.proofs.Common.{◌≡◌, ◌≢◌, ◌⊎◌, ◌∙◌, ◌<◌, ℕ, Bool, if◌then◌else◌, List, [], Option, None, Some, Result, Ok, Err, IfErr, IsErrOf, OnErr, OnOk, length, inl, inr, refl, sym, ap, subst, arith}
-use Rattle.std.proofs.lemmas.Bool.{both_ways, eqb-true, false_from_ne_true, lt-ltb}
+use Rattle.std.proofs.lemmas.Bool.Decides.{nat_tests}
+use Rattle.std.proofs.lemmas.Bool.{both_ways, false_from_ne_true}
 use Rattle.paxos_msg.specs.Batches.{Change, Msg, Record}
 use Rattle.paxos_msg.specs.Fits.{Fits}
 use Rattle.paxos_acceptor.specs.Stores.{FailsAsTold, StoreState}
@@ -100,7 +101,7 @@ never_refused (Err f) P none others = record { ok = tt; fell = λ e. refl; refus
 
 -- a campaign with a round and a place to spare is made
 goes : (n : Known) → last_round n < 4294967295 → front n ≢ 65536 → call_of_campaign n ≡ Makes (on_campaign n) []
-goes n less other = rw (lt-ltb _ _ less, false_from_ne_true _ (λ e. other (eqb-true (front n) 65536 e))) refl
+goes n less other = grind (arith, nat_tests)
 
 -- a campaign, by its refusals
 is_campaign : {n : Known} (answer : Answer) → IsCampaignRefused n answer
@@ -123,8 +124,7 @@ is_campaign {n} (Err f) says others = record {
     by : (f ≡ fault.RoundsSpent) ⊎ (f ≡ fault.PlacesSpent) ⊎ (f ≡ fault.Memory) ⊎ (f ≡ fault.Store) → f ≢ fault.Store → f ≢ fault.Memory
         → call_of_campaign n ≡ Refuses f
     by (inl rounds) store memory = rw (says.rounds.0 (ap Err rounds), rounds) refl
-    by (inr (inl places)) store memory =
-        let at = says.places.0 (ap Err places) in rw (lt-ltb _ _ at.0, at.1, places) refl
+    by (inr (inl places)) store memory = let at = says.places.0 (ap Err places) in grind (arith, nat_tests)
     by (inr (inr (inl is))) store memory = absurd (memory is)
     by (inr (inr (inr is))) store memory = absurd (store is)
 

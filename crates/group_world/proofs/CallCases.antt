@@ -1,7 +1,7 @@
 -- The calls that may be refused, by cases: what holds of each refusal, and of the call if it is not
 -- refused, holds of it.
-use Rattle.std.proofs.Common.{◌≢◌, ℕ, ◌<◌, [], ◌∷◌, length, inl, inr}
-use Rattle.std.proofs.lemmas.Bool.{cases_eq, cases_lt, eq-eqb, le-ltb, lt-ltb, ne_eqb}
+use Rattle.std.proofs.Common.{◌≢◌, ℕ, ◌<◌, [], ◌∷◌, length, arith}
+use Rattle.std.proofs.lemmas.Bool.Decides.{nat_tests}
 use Rattle.paxos_msg.specs.Batches.{Record}
 use Rattle.paxos_acceptor.specs.declared.me.Me.{Me}
 use Rattle.group_node.specs.declared.fault.NodeFault.{NodeFault}
@@ -12,25 +12,10 @@ use Rattle.group_world.specs.Member.{NodeCall, Makes, Refuses, call_of_campaign,
 module _ (P : NodeCall → Type 0) (refused : (f : NodeFault) → P (Refuses f)) where
   pub press_cases : (n : Known) (byte : ℕ)
       → (length n.waiting ≢ 256 → next_serial n ≢ 4294967296 → P (Makes (on_typed n byte) (new_key n byte ∷ []))) → P (call_of_press n byte)
-  press_cases n byte made = elim (cases_eq (length n.waiting) 256) [
-    | inl e ↦ rw (eq-eqb _ 256 e) (refused _)
-    | inr ne ↦ rw (ne_eqb (length n.waiting) 256 ne) (elim (cases_eq (next_serial n) 4294967296) [
-      | inl e ↦ rw (eq-eqb (next_serial n) 4294967296 e) (refused _)
-      | inr other ↦ rw (ne_eqb (next_serial n) 4294967296 other) (made ne other)
-    ])
-  ]
+  press_cases n byte made = grind (arith, nat_tests, made, refused)
 
   pub campaign_cases : (n : Known) → (last_round n < 4294967295 → front n ≢ 65536 → P (Makes (on_campaign n) [])) → P (call_of_campaign n)
-  campaign_cases n made = elim (cases_lt (last_round n) 4294967295) [
-    | inr high ↦ rw (le-ltb _ 4294967295 high) (refused _)
-    | inl low ↦ rw (lt-ltb _ 4294967295 low) (elim (cases_eq (front n) 65536) [
-      | inl e ↦ rw (eq-eqb (front n) 65536 e) (refused _)
-      | inr other ↦ rw (ne_eqb (front n) 65536 other) (made low other)
-    ])
-  ]
+  campaign_cases n made = grind (arith, nat_tests, made, refused)
 
   pub start_cases : (me : Me) (r : Record) → (r.starts ≢ 4294967295 → P (Makes (on_start me r) [])) → P (call_of_start me r)
-  start_cases me r made = elim (cases_eq r.starts 4294967295) [
-    | inl e ↦ rw (eq-eqb r.starts 4294967295 e) (refused _)
-    | inr other ↦ rw (ne_eqb r.starts 4294967295 other) (made other)
-  ]
+  start_cases me r made = grind (arith, nat_tests, made, refused)

@@ -1,7 +1,8 @@
 -- The keys of one start of a node among other keys: their serials, and the typed ones as a row.
 -- What follows for the keys that wait, and how the row goes on.
-use Rattle.std.proofs.Common.{◌≡◌, ◌∙◌, ℕ, ◌==◌, true, false, List, [], ◌∷◌, ◌++◌, map, get_or, inl, inr, refl, sym, ap, subst, zero, suc, ◌+◌, length, ◌⊎◌, append_assoc, arith, ◌<◌, length-append}
-use Rattle.std.proofs.lemmas.Bool.{and_parts, and_from, eqb-true, eq-eqb, false_from_ne_true, cases_order}
+use Rattle.std.proofs.Common.{◌≡◌, ◌∙◌, ℕ, true, false, List, [], ◌∷◌, ◌++◌, map, get_or, inl, inr, refl, sym, ap, subst, zero, suc, ◌+◌, length, ◌⊎◌, append_assoc, arith, ◌<◌, length-append}
+use Rattle.std.proofs.lemmas.Bool.Decides.{nat_tests}
+use Rattle.std.proofs.lemmas.Bool.{cases_order}
 use Rattle.std.proofs.lemmas.List.{append-nil, get_or_default, map-append, length-map, get_or-map, get_or_at, get_or_append_left}
 use Rattle.std.proofs.lemmas.List.Elements.{filter-append, Contains-append_left, Contains-append_right, All-append, All-contains, All-nil, All-weaker, Contains-get_or}
 use Rattle.std.specs.List.{Contains, All, range_with_len}
@@ -19,15 +20,13 @@ use Rattle.std.proofs.lemmas.List.FromFn.{length-range_with_len, get_or-range_wi
 
 -- a key of the start, by the test
 pub of_test : (node start : ℕ) (k : Key) → is_of node start k ≡ true → (k.node ≡ node) × (k.start ≡ start)
-of_test node start k h =
-    let parts = and_parts (k.node == node) (k.start == start) h in
-    (eqb-true k.node node parts.0, eqb-true k.start start parts.1)
+of_test node start k h = grind (arith, nat_tests)
 
 test_of : (node start : ℕ) (k : Key) → k.node ≡ node → k.start ≡ start → is_of node start k ≡ true
-test_of node start k e f = and_from (k.node == node) (k.start == start) (eq-eqb k.node node e) (eq-eqb k.start start f)
+test_of node start k e f = grind (arith, nat_tests)
 
 not_of : (node start : ℕ) (k : Key) → ((k.node ≡ node) → (k.start ≡ start) → ⊥) → is_of node start k ≡ false
-not_of node start k ne = false_from_ne_true _ (λ h. ne (of_test node start k h).0 (of_test node start k h).1)
+not_of node start k ne = grind (arith, nat_tests, ne)
 
 -- ---- serials as elements
 

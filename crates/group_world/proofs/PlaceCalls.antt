@@ -1,9 +1,10 @@
 -- A node of the group after a press, a run, a release and a start, by the contracts of the node's
 -- calls.
 use Rattle.std.proofs.lemmas.Option.{none-some, some_pair_parts}
-use Rattle.std.proofs.lemmas.Bool.{both_ways, ne_eqb, eqb-true, false_from_ne_true}
+use Rattle.std.proofs.lemmas.Bool.Decides.{nat_tests}
+use Rattle.std.proofs.lemmas.Bool.{both_ways, ne_eqb}
 use Rattle.group_world.proofs.SoundWorldsAgree.{next_of}
-use Rattle.std.proofs.Common.{◌≡◌, ◌≢◌, ◌↔◌, ◌⊎◌, ◌∙◌, ◌<◌, ◌≤◌, Bool, true, false, ℕ, List, [], ◌∷◌, ◌+◌, length, option_map, Option, None, Some, Result, Ok, Err, IfErr, IfOk, IsErrOf, MatchResult, inl, inr, refl, sym, ap, subst, arith, ◌==◌, OnErr}
+use Rattle.std.proofs.Common.{◌≡◌, ◌≢◌, ◌↔◌, ◌⊎◌, ◌∙◌, ◌<◌, ◌≤◌, Bool, true, false, ℕ, List, [], ◌∷◌, ◌+◌, length, option_map, Option, None, Some, Result, Ok, Err, IfErr, IfOk, IsErrOf, MatchResult, inl, inr, refl, sym, ap, subst, arith, OnErr}
 use Rattle.paxos_msg.specs.declared.value.Value.{Value}
 use Rattle.paxos_acceptor.specs.Stores.{StoreState, FailsAsTold}
 use Rattle.group_node.specs.declared.fault.NodeFault.{NodeFault}
@@ -90,7 +91,7 @@ presses old new plan console byte (Err f) is_open t =
     by (inr (inl busy)) = rw ((t.busy.0 (ap Err busy)).1, busy) refl
     by (inr (inr spent)) =
         let h = t.spent.0 (ap Err spent) in
-        rw (ne_eqb (length old.protocol.known.waiting) 256 (λ e. omega (arith, e, h.1)), h.2, spent) refl
+        grind (arith, nat_tests)
 
 -- a node at which a byte was typed is still open
 pub typed_open : {old new : NodeState StoreState} {byte : ℕ} {answer : Result Value NodeFault} → IsOpen old
@@ -163,8 +164,7 @@ releases_none old new console not same = rw (same, no_byte (next_of (running old
 
 -- a start with a start to spare
 start_makes : (me : Me) (kept : Record) → kept.starts < 4294967295 → call_of_start me kept ≡ Makes (on_start me kept) []
-start_makes me kept less =
-    rw (false_from_ne_true (kept.starts == 4294967295) (λ e. absurd (omega (arith, eqb-true kept.starts 4294967295 e, less)))) refl
+start_makes me kept less = grind (arith, nat_tests)
 
 -- a node that is down
 abbrev down : Record → List ℕ → Member

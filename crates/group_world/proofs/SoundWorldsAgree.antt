@@ -24,6 +24,7 @@ use Rattle.pcode_file.specs.Parts.{Parts}
 use Rattle.paxos_learner.specs.Input.{front_values, input_of, values_below}
 use Rattle.paxos_learner.specs.Learner.{front_of}
 use Rattle.group_node.specs.States.{input}
+use Rattle.std.proofs.lemmas.Bool.Decides.{nat_tests}
 use Rattle.std.proofs.lemmas.Bool.{cases_eq, eq-eqb, ne_eqb, lt-ltb}
 use Rattle.std.proofs.lemmas.List.{length_push}
 use Rattle.group_node.specs.Output.{unreleased_of}
@@ -101,24 +102,15 @@ module _ {console all : List ℕ} {k b : ℕ} (h : IsOffer console all k b) wher
 
   -- it never comes too early
   no_gap : offer_answer console k ≢ Gap
-  no_gap gap = elim (cases_eq k (length console)) [
-    | inl e ↦ let next = answer_next e in absurd cc
-    | inr ne ↦ let again = answer_again ne in absurd cc
-  ]
+  no_gap gap = grind (arith, nat_tests, h.shown)
 
   -- a byte that comes again is there
   repeat_is_same : offer_answer console k ≡ Repeat → slice_get console k ≡ Some b
-  repeat_is_same again = elim (cases_eq k (length console)) [
-    | inl e ↦ let next = answer_next e in absurd cc
-    | inr ne ↦ same_byte (omega (arith, h.shown))
-  ]
+  repeat_is_same again = grind (arith, nat_tests, h.shown, same_byte)
 
   -- the console shows the byte after the offer
   pub shown_then : k + 1 ≤ length (offered console k b)
-  shown_then = elim (cases_eq k (length console)) [
-    | inl e ↦ rw (eq-eqb k _ e) (omega (arith, length_push console b))
-    | inr ne ↦ rw (ne_eqb k (length console) ne) (omega (arith, h.shown))
-  ]
+  shown_then = grind (arith, nat_tests, h.shown, length_push console b)
 
   -- the console is as it was, or begins that output
   pub same_or_prefix : (offered console k b ≡ console) ⊎ IsPrefix (offered console k b) all
