@@ -287,7 +287,7 @@ all_fit = All-from_recursion FitsHere all (
   (
     (ballot_fits, omega arith, omega arith, omega arith, omega arith, tt),
     (
-      (letter_fits, own_keys 1 2 1 (65 ∷ []) (omega arith)),
+      (letter_fits, own_keys 2 1 65 [] (refl, tt)),
       (omega arith, ((ballot_fits, refl, omega arith, letter_fits), ((ballot_fits, omega arith, letter_fits), tt))),
     ),
   ),

@@ -4,7 +4,7 @@
 use Rattle.std.proofs.lemmas.Bool.Decides.{nat_tests}
 use Rattle.std.specs.List.{AllByRecursion as EachOf, Contains, flat_map, slice_get, list_all}
 use Rattle.std.proofs.lemmas.Option.{same_Some}
-use Rattle.std.proofs.Common.{◌≡◌, ◌≢◌, ◌<◌, ◌≤◌, ℕ, zero, suc, List, [], ◌∷◌, ◌++◌, map, Option, Some, None, IfSome, refl, sym, subst, inl, inr, arith, lit<, ◌==◌, Bool, IsTrue, ap, ◌⊎◌, All, nat_lt, true, length, ◌+◌}
+use Rattle.std.proofs.Common.{◌≡◌, ◌≢◌, ◌<◌, ◌≤◌, ℕ, zero, suc, List, [], ◌∷◌, ◌++◌, map, Option, Some, None, IfSome, refl, sym, subst, inl, inr, arith, lit<, ◌==◌, Bool, IsTrue, ap, ◌⊎◌, All, nat_lt, true, length}
 use Rattle.std.proofs.lemmas.List.Elements.{Contains-get_or, All-contains, All-from_recursion, Contains-push}
 use Rattle.std.proofs.lemmas.List.Quantifiers.{all_pairs_push}
 use Rattle.pcode_file.specs.Parts.{Parts}
@@ -198,34 +198,32 @@ module _ (sent : Sent) (r : Record) (s : ℕ) (v : Value) (grew : Grew 1 sent (r
 
 -- ---- the three
 
--- the keys of a batch are of its node
-of_node : (node start first : ℕ) (bytes : List ℕ) (key : Key) → Contains (keys_of (Keys node start first bytes)) key → key.node ≡ node
-of_node node start first [] key among = absurd (omega (arith, among.1))
-of_node node start first (byte ∷ bytes) key (zero, below, at) = ap (λ (k : Key). k.node) (sym at)
-of_node node start first (byte ∷ bytes) key (suc i, below, at) = of_node node start (first + 1) bytes key (i, omega arith, at)
-
--- so they are its own
-pub own_keys : (node start first : ℕ) (bytes : List ℕ) → 0 < length bytes → AreOwnKeys batches node (Keys node start first bytes)
-own_keys node start first [] some = absurd (omega arith)
-own_keys node start first (byte ∷ bytes) some =
-    record { has_key = λ none. absurd cc; at_node = of_node node start first (byte ∷ bytes) }
-
--- the keys of a batch were typed at the node
-own_batch : (first : ℕ) (bytes : List ℕ) → 0 < length bytes → EachOf (Contains typed) (keys_of (Keys 1 1 first bytes))
-    → IsTyped typed 1 (Keys 1 1 first bytes)
-own_batch first bytes some each = record {
-  own = own_keys 1 1 first bytes some;
-  known = λ k among. each_of (Contains typed) (keys_of (Keys 1 1 first bytes)) k each among;
+-- keys that are all of the node are its own
+pub own_keys : (start first byte : ℕ) (bytes : List ℕ) → EachOf (λ k. k.node ≡ 1) (keys_of (Keys 1 start first (byte ∷ bytes)))
+    → AreOwnKeys batches 1 (Keys 1 start first (byte ∷ bytes))
+own_keys start first byte bytes each = record {
+  has_key = λ none. absurd cc;
+  at_node = λ k among. each_of (λ k. k.node ≡ 1) (keys_of (Keys 1 start first (byte ∷ bytes))) k each among;
 }
 
+-- the keys of each batch were typed at the node
 typed_a : IsTyped typed 1 batch_a
-typed_a = own_batch 1 (65 ∷ []) (omega arith) ((0, lit< tt, refl), tt)
+typed_a = record {
+  own = own_keys 1 1 65 [] (refl, tt);
+  known = λ k among. each_of (Contains typed) (keys_of batch_a) k ((0, lit< tt, refl), tt) among;
+}
 
 typed_ab : IsTyped typed 1 batch_ab
-typed_ab = own_batch 1 (65 ∷ 66 ∷ []) (omega arith) ((0, lit< tt, refl), ((1, lit< tt, refl), tt))
+typed_ab = record {
+  own = own_keys 1 1 65 (66 ∷ []) (refl, (refl, tt));
+  known = λ k among. each_of (Contains typed) (keys_of batch_ab) k ((0, lit< tt, refl), ((1, lit< tt, refl), tt)) among;
+}
 
 typed_c : IsTyped typed 1 batch_c
-typed_c = own_batch 3 (67 ∷ []) (omega arith) ((2, lit< tt, refl), tt)
+typed_c = record {
+  own = own_keys 1 3 67 [] (refl, tt);
+  known = λ k among. each_of (Contains typed) (keys_of batch_c) k ((2, lit< tt, refl), tt) among;
+}
 
 grew_0 : Grew 1 sent_0 (records_of kept_0)
 grew_0 =

@@ -57,21 +57,19 @@ has_in within h =
 -- a key of the start is the last of its keys
 own_more : (node start : ℕ) (keys : List Key) (k : Key) → is_of node start k ≡ true
     → those_of node start (keys ++ k ∷ []) ≡ those_of node start keys ++ k ∷ []
-own_more node start keys k e = filter-append _ keys (k ∷ []) ∙ ap (λ rest. those_of node start keys ++ rest) (rw e refl)
+own_more node start keys k e = rw (filter-append, e) refl
 
 -- another key changes nothing
 pub other_more : (node start : ℕ) (keys : List Key) (k : Key) → is_of node start k ≡ false
     → those_of node start (keys ++ k ∷ []) ≡ those_of node start keys
-other_more node start keys k e =
-    filter-append _ keys (k ∷ []) ∙ ap (λ rest. those_of node start keys ++ rest) (rw e refl) ∙ append-nil _
+other_more node start keys k e = rw (filter-append, e) (append-nil _)
 
 -- after serials in a row the key with the next serial goes on with the row
 pub row_more : (node start last : ℕ) (keys : List Key) (k : Key) → is_of node start k ≡ true → 1 + last ≡ k.serial
     → serials_of node start keys ≡ range_with_len 1 last
     → serials_of node start (keys ++ k ∷ []) ≡ range_with_len 1 (last + 1)
 row_more node start last keys k own next row =
-    ap (map (λ (x : Key). x.serial)) (own_more node start keys k own) ∙ map-append _ _ (k ∷ [])
-    ∙ ap (λ l. l ++ k.serial ∷ []) row ∙ sym (range_more 1 last k.serial next)
+    rw (own_more node start keys k own, map-append, row) (sym (range_more 1 last k.serial next))
 
 -- ---- keys that are apart
 

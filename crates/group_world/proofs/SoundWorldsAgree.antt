@@ -8,7 +8,7 @@ use Rattle.paxos_msg.specs.declared.value.Value.{Value}
 use Rattle.paxos_msg.specs.Batches.{Grew, IsFree, Record, Sent}
 use Rattle.paxos_msg.specs.Chosen.{IsChosen}
 use Rattle.paxos_msg.specs.Keys.{Key, keys_of}
-use Rattle.group_node.specs.declared.console.Offer.TheVariants.{Gap, Repeat, Fresh}
+use Rattle.group_node.specs.declared.console.Offer.TheVariants.{Gap, Repeat}
 use Rattle.group_node.specs.Console.{offer_answer, offered}
 use Rattle.group_node.specs.Inputs.{IsInput, AreChosen}
 use Rattle.group_node.specs.World.{Up}
@@ -25,7 +25,6 @@ use Rattle.paxos_learner.specs.Input.{front_values, input_of, values_below}
 use Rattle.paxos_learner.specs.Learner.{front_of}
 use Rattle.group_node.specs.States.{input}
 use Rattle.std.proofs.lemmas.Bool.Decides.{nat_tests}
-use Rattle.std.proofs.lemmas.Bool.{cases_eq, eq-eqb, ne_eqb, lt-ltb}
 use Rattle.std.proofs.lemmas.List.{length_push}
 use Rattle.group_node.specs.Output.{unreleased_of}
 
@@ -93,13 +92,6 @@ module _ {console all : List ℕ} {k b : ℕ} (h : IsOffer console all k b) wher
       let there = some_at console k low in
       there.1 ∙ ap Some (compare_get console all k there.0 b h.compare there.1 h.byte)
 
-  -- the answer if the byte comes next, and if it does not
-  answer_next : k ≡ length console → offer_answer console k ≡ Fresh
-  answer_next e = rw (eq-eqb k _ e) refl
-
-  answer_again : k ≢ length console → offer_answer console k ≡ Repeat
-  answer_again ne = rw (ne_eqb k (length console) ne, lt-ltb k (length console) (omega (arith, h.shown))) refl
-
   -- it never comes too early
   no_gap : offer_answer console k ≢ Gap
   no_gap gap = grind (arith, nat_tests, h.shown)
@@ -114,10 +106,7 @@ module _ {console all : List ℕ} {k b : ℕ} (h : IsOffer console all k b) wher
 
   -- the console is as it was, or begins that output
   pub same_or_prefix : (offered console k b ≡ console) ⊎ IsPrefix (offered console k b) all
-  same_or_prefix = elim (cases_eq k (length console)) [
-    | inl e ↦ inr (rw (eq-eqb k (length console) e) (fresh_prefix e))
-    | inr ne ↦ inl (rw (ne_eqb k (length console) ne) refl)
-  ]
+  same_or_prefix = grind (arith, nat_tests, fresh_prefix)
 
 -- ---- output on chosen values
 

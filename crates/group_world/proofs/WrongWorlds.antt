@@ -262,8 +262,7 @@ alone h =
 -- ---- promises
 
 not_below : ¬ IsBelow (ballot 2) (ballot 1)
-not_below (inl h) = omega arith
-not_below (inr h) = omega arith
+not_below h = grind (arith, nat_tests)
 
 abbrev hears : WorldState
 hears = first_node (runs_with (promised 1 2) empty) (prepares 1)

@@ -1,6 +1,7 @@
 -- A node's row after each of its calls: its start, its serials, the keys that wait and what it has
 -- learned; and the Submits that the calls send, as packets and as messages of the group.
 use Rattle.std.proofs.Common.{◌&&◌, not, All, IfSome, option_map, nat_lt, is_none, ◌≡◌, ◌∙◌, ℕ, suc, ◌+◌, ◌≤◌, Bool, true, false, List, [], ◌∷◌, length, Option, Some, None, if◌then◌else◌, refl, sym, ap, arith, get_or, subst, inl, inr, ◌++◌}
+use Rattle.std.proofs.lemmas.Bool.Decides.{nat_tests}
 use Rattle.paxos_msg.specs.Tests.{same_ballot}
 use Rattle.paxos_proposer.specs.Proposer.{next_of, coverage_of, is_covered, proposed_at, proposer_after_part, asks_on, Proposer}
 use Rattle.group_node.specs.ProposerRows.{is_known, offer_after, offering, prepare_from, proposing_on, submitted, taking_part, on_campaign}
@@ -8,7 +9,6 @@ use Rattle.std.proofs.lemmas.List.Elements.{All-take, All-contains, All-append, 
 use Rattle.std.specs.FinMap.{FinMap, get}
 use Rattle.std.specs.Ordering.{nat_cmp}
 use Rattle.std.specs.List.{range_with_len, Contains, cons_option, filter_map}
-use Rattle.paxos_acceptor.specs.Cases.{is_promised}
 use Rattle.group_node.specs.Known.{front, Response, next_serial, Known, quiet, waiting_keys}
 use Rattle.group_node.specs.LearnerRows.{tell_packet}
 use Rattle.group_node.specs.Tick.{accepts_again, asks_again, prepares_again, submits, asks, on_tick, batch_of, ticked}
@@ -17,7 +17,6 @@ use Rattle.std.proofs.lemmas.Option.{same_Some}
 use Rattle.std.proofs.lemmas.List.{length-drop}
 use Rattle.paxos_msg.specs.declared.ballot.Ballot.{Ballot}
 use Rattle.paxos_msg.specs.declared.message.Body.TheVariants.{Accept, Accepted, Ask, Prepare, Promise, Refused, Submit, Tell}
-use Rattle.paxos_msg.specs.declared.record.Change.TheVariants as change
 use Rattle.paxos_msg.specs.declared.value.Value.{Value}
 use Rattle.paxos_msg.specs.Batches.{Body, Record, Vote, Msg}
 use Rattle.paxos_msg.specs.Keys.{Key, keys_from}
@@ -75,22 +74,25 @@ accepts_asked o (vote ∷ votes) = All-cons (IsPacketAsked o) _ (accepts_of vote
 
 -- packets that are made of places
 module _ (o : Option Value) where
-  if_asked : (t : Bool) (packet : Option Packet) → IfSome packet (IsPacketAsked o) → IfSome (if t then packet else None) (IsPacketAsked o)
+  abbrev IfAsked : Option Packet → Type 0
+  IfAsked packet = IfSome packet (IsPacketAsked o)
+
+  if_asked : (t : Bool) (packet : Option Packet) → IfAsked packet → IfAsked (if t then packet else None)
   if_asked true packet h = h
   if_asked false packet h = tt
 
   -- a packet of what is there, if it is
-  of_asked : {X : Type 0} (f : X → Packet) (x : Option X) → ((x : X) → IsPacketAsked o (f x)) → IfSome (option_map f x) (IsPacketAsked o)
+  of_asked : {X : Type 0} (f : X → Packet) (x : Option X) → ((x : X) → IsPacketAsked o (f x)) → IfAsked (option_map f x)
   of_asked f None h = tt
   of_asked f (Some x) h = h x
 
-  cons_asked : (packet : Option Packet) (packets : List Packet) → IfSome packet (IsPacketAsked o) → AreAsked o packets
+  cons_asked : (packet : Option Packet) (packets : List Packet) → IfAsked packet → AreAsked o packets
       → AreAsked o (cons_option packet packets)
   cons_asked None packets h rest = rest
   cons_asked (Some packet) packets h rest = All-cons (IsPacketAsked o) packet packets h rest
 
   -- a packet for each place, or none
-  each_asked : (f : ℕ → Option Packet) → ((s : ℕ) → IfSome (f s) (IsPacketAsked o)) → (places : List ℕ) → AreAsked o (filter_map f places)
+  each_asked : (f : ℕ → Option Packet) → ((s : ℕ) → IfAsked (f s)) → (places : List ℕ) → AreAsked o (filter_map f places)
   each_asked f all [] = none_asked o
   each_asked f all (s ∷ places) = cons_asked (f s) _ (all s) (each_asked f all places)
 
@@ -167,10 +169,8 @@ record IsPlain (r : Record) (answer : Answer) : Type 0 where
 
 prepared_plain : (o : Option Ballot) (r : Record) (b : Ballot) (from : ℕ) → IsPlain r (prepared o r b from)
 prepared_plain (Some p) r b from = record { starts = refl; says = tt }
-prepared_plain None r b from = record { starts = by (is_promised r.promised b); says = tt } where
-  by : (t : Bool) → (after r (if t then None else Some (change.Promise b))).starts ≡ r.starts
-  by true = refl
-  by false = refl
+prepared_plain None r b from =
+    record { starts = grind (arith, nat_tests); says = tt }
 
 voted_plain : (o : Option Value) (r : Record) (b : Ballot) (s : ℕ) (v : Value) → IsPlain r (voted o b s v)
 voted_plain (Some w) r b s v = record { starts = refl; says = tt }
@@ -224,13 +224,9 @@ row_stays laws n j (Ask from) = quiet_stays n (same_learned n) (tells_asked None
 row_stays laws n j (Tell s v) = quiet_stays n (laws.learned_stays.ensures.told n.learner s v) (none_asked None)
 
 -- no more keys leave than wait
-count_by : (read ks : List Key) (t : Bool) → count_read read ks ≤ length ks → (if t then suc (count_read read ks) else 0) ≤ suc (length ks)
-count_by read ks true h = omega arith
-count_by read ks false h = omega arith
-
 count_few : (read keys : List Key) → count_read read keys ≤ length keys
 count_few read [] = omega arith
-count_few read (k ∷ ks) = count_by read ks _ (count_few read ks)
+count_few read (k ∷ ks) = grind (arith, nat_tests, count_few read ks)
 
 keys_many : (node start serial : ℕ) (bytes : List ℕ) → length (keys_from node start serial bytes) ≡ length bytes
 keys_many node start serial [] = refl
