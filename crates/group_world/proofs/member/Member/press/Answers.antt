@@ -1,3 +1,4 @@
+use Rattle.std.proofs.Common.{◌≤◌, length}
 use Rattle.group_world.specs.declared.member.Place.TheVariants as place
 use Rattle.group_world.specs.Member.{member_of}
 use Rattle.group_world.proofs.PlaceCalls.{Presses, Types, presses, typed_open, up_not_down}
@@ -12,18 +13,8 @@ unreachable-unreachable c = absurd c.unreachable.result
 
 types : (c : goal.After-typed) → Types c.in-Up.node c.typed.new.self c.args.byte c.typed.result
 types c =
-    let h = c.typed.ensures in
-    record {
-      ok = h.ok;
-      known = h.known;
-      rest = h.rest;
-      err = h.err;
-      stopped = h.stopped.0;
-      busy = h.busy;
-      spent = h.spent;
-      others = h.others;
-      few = rw (← c.waiting-waiting.ensures.count) c.waiting-waiting.ensures.few;
-    }
+    let few : length c.in-Up.node.protocol.known.waiting ≤ 256 = rw (← c.waiting-waiting.ensures.count) c.waiting-waiting.ensures.few in
+    assumption
 
 pub invariant_of-self : goal.invariant_of-self
 invariant_of-self c = typed_open (rw c.in-Up.is at c.self.invariant) (types c)

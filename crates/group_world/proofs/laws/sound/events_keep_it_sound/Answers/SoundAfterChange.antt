@@ -213,9 +213,7 @@ module _ (laws : Laws) {w : World} (h : IsSound w) (i : ℕ) {m : Member} (there
   -- the node goes down, with its record
   pub crash_sound : IsSound (world_after_fall w i m m.kept)
   crash_sound =
-      let own = h.members i m there in
-      kept_sound (record { kept = m.kept; console = m.console; node = None }) refl
-      (record { ranges = own.ranges; backed = own.backed; shown = own.shown; running = tt })
+      let own = h.members i m there in kept_sound (record { kept = m.kept; console = m.console; node = None }) refl assumption
 
   -- a save that fails keeps the world sound
   pub fall_sound : (made : Response) {progress : Progress} {keys : List Value} → MayMake w i m made progress keys
@@ -249,22 +247,9 @@ module _ (laws : Laws) {w : World} (h : IsSound w) {i : ℕ} {m : Member} {q : R
       → IsSound (with_member w i (record { kept = m.kept; console = console; node = Some (record q { progress = progress }) }))
   played_sound progress console program replay few shown =
       let sound = running h up in
+      let own = h.members i m up.there in
       let new : Member = record { kept = m.kept; console = console; node = Some (record q { progress = progress }) } in
-      kept_sound laws h i up.there new refl (record {
-        ranges = (h.members i m up.there).ranges;
-        backed = (h.members i m up.there).backed;
-        shown = shown;
-        running = record {
-          me_is = sound.me_is;
-          kept_is = sound.kept_is;
-          ranges = sound.ranges;
-          backs = sound.backs;
-          learned = sound.learned;
-          program = program ∙ sound.program;
-          replay = replay;
-          shown = few;
-        };
-      })
+      let same = program ∙ sound.program in kept_sound laws h i up.there new refl assumption
 
   pub run_sound : (progress : Progress) → progress.program ≡ q.progress.program
       → progress.released ≡ q.progress.released → IsReplay (input q.known) progress
