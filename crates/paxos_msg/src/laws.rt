@@ -1,7 +1,7 @@
 //! The laws of the protocol, over its definitions alone. A function without a result is empty: its
 //! contract is the law.
 
-ghost use Rattle.std.specs.Prelude.{◌≡◌, ◌≢◌, ◌↔◌, ◌⊎◌, ◌<◌, ◌≤◌, ◌+◌, ◌*◌, ◌++◌, ◌∷◌, [], ℕ, Bool, true, false, IsTrue, IsSomeAnd, List, Option, Some, Contains, length};
+ghost use Rattle.std.specs.Prelude.{◌≡◌, ◌≢◌, ◌↔◌, ◌⊎◌, ◌<◌, ◌≤◌, ◌+◌, ◌*◌, ◌++◌, ◌∷◌, [], ℕ, Bool, true, false, IsTrue, IsSomeAnd, List, Option, Some, Contains};
 ghost use Rattle.paxos_msg.specs.declared.ballot.Ballot.{Ballot};
 ghost use Rattle.paxos_msg.specs.declared.message.Body.TheVariants.{Accept, Ask, Prepare, Refused, Submit, Tell};
 ghost use Rattle.paxos_msg.specs.Batches.{Body, Change, Grew, IsFree, MaySend, MaySendAll, Record, Sent, Vote};
@@ -9,7 +9,7 @@ ghost use Rattle.paxos_msg.specs.declared.record.Change.TheVariants.{Ballotted, 
 ghost use Rattle.paxos_msg.specs.declared.value.Value.{Value};
 ghost use Rattle.paxos_msg.specs.Ballots.{count_of, IsAtMost, IsBelow, IsMajority};
 ghost use Rattle.paxos_msg.specs.Chosen.{IsChosen, IsChosenBy};
-ghost use Rattle.paxos_msg.specs.Keys.{AreOwnKeys, batches, Key, keys_of};
+ghost use Rattle.paxos_msg.specs.Keys.{Key, keys_of};
 ghost use Rattle.std.specs.Option.{option_to_list};
 ghost use Rattle.paxos_msg.specs.declared.record.Record as v1_record;
 ghost use Rattle.paxos_msg.specs.Fits.{IsValue};
@@ -66,12 +66,6 @@ pub fn majorities_meet()
         (i : ℕ) × (0 < i) × (i ≤ size) × IsTrue (p i) × IsTrue (q i) }
 {}
 
-/// A larger set of nodes counts at least as many of the nodes 1 to `n`.
-pub fn larger_sets_count_more()
-    ensures at_least { (n : ℕ) (p q : ℕ → Bool)
-        → ((i : ℕ) → 0 < i → i ≤ n → IsTrue (p i) → IsTrue (q i)) → count_of p n ≤ count_of q n }
-{}
-
 /// In a group of an even size a majority is more than half, so half is no majority. In a group of
 /// an odd size it is at least half of one node more.
 pub fn half_is_no_majority()
@@ -83,12 +77,6 @@ pub fn half_is_no_majority()
         → ¬ IsMajority (2 * half) members }
     ensures odd { (half : ℕ) (members : ℕ → Bool) →
         IsMajority (2 * half + 1) members ↔ (half + 1 ≤ count_of members (2 * half + 1)) }
-{}
-
-/// The keys of a batch that has any are own keys of the node that it names.
-pub fn batches_have_own_keys()
-    ensures own { (node start first : ℕ) (bytes : List ℕ) → 0 < length bytes
-        → AreOwnKeys batches node (Value.Keys node start first bytes) }
 {}
 
 /// A vote that is put at a place is found there, and no other place changes. Votes that ascend
