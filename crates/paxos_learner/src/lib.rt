@@ -6,8 +6,8 @@
 //! `known_front()` has risen from `place`, `input_after(place)` gives the bytes that the places
 //! from there on have added to the input.
 //!
-//! `learned`, `has_learned` and `has_read` look up places and keys. `laws` has empty functions: the
-//! contract of each is a law.
+//! `learned`, `has_learned` and `has_read` look up places and keys. The functions of `laws` do
+//! nothing: the contract of each is a law.
 #![tactic(auto)]
 
 mod heard;
