@@ -122,20 +122,11 @@ fn started_host<'a>(
 }
 
 /// A node of the group, and what it has released.
+#[derive(Drop)]
 struct Player<'a> {
     host: Host<'a, MemoryStore>,
     node: u8,
     console: Vec<u8>,
-}
-
-impl Drop for Player<'_> {
-    fn drop(self) {
-        let Player {
-            host: _host,
-            node: _node,
-            console: _console,
-        } = self;
-    }
 }
 
 impl<'a> Player<'a> {
