@@ -6,6 +6,13 @@ use Rattle.pcode_frames.specs.declared.halt.Halt.{Halt}
 use Rattle.pcode_frames.specs.declared.limits.TheConstants.{LIVE_WORDS, STACK_WORDS, MOST_FRAMES}
 use Rattle.pcode_frames.specs.declared.halt.Halt.TheVariants.{Empty, Overflow, BadMemory}
 
+-- The number of a refusal's execution error.
+-- Source: Manual, execution errors.
+abbrev pub halt_number : Halt → ℕ
+halt_number Empty = 0
+halt_number Overflow = 4
+halt_number BadMemory = 7
+
 -- Memory, evaluation stack and frames as one value.
 -- The live words run from word 1 on. The stack has its top first. The frames have the main frame
 -- first and the current one last.

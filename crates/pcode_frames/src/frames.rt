@@ -14,21 +14,13 @@ use std::marker::Model;
 
 /// The frames, seen as a list, the main frame first and the current one last; at most 1,024. `new`
 /// allocates their room, and no other call allocates.
+#[derive(Drop)]
 pub struct Frames {
     /// The frames below the current one; empty if there is no current one.
     below: Vec<Frame>,
     /// The current frame. It has its own field, since an interpreter reads it before each
     /// instruction: here that is a few loads from the struct itself, and none from the heap.
     current: Option<Frame>,
-}
-
-impl Drop for Frames {
-    fn drop(self) {
-        let Frames {
-            below: _below,
-            current: _current,
-        } = self;
-    }
 }
 
 impl Model for Frames {

@@ -1,6 +1,6 @@
 //! Why a call, a return, a push or a pop is refused.
 ghost use Rattle.std.specs.Prelude.{◌≡◌};
-ghost use Rattle.pcode_frames.specs.Halt.{halt_number};
+ghost use Rattle.pcode_frames.specs.Frames.{halt_number};
 
 use thiserror::Error;
 

@@ -10,14 +10,9 @@ use std::marker::Model;
 /// Memory, seen as the list of its live words from word 1 on. Word 0 is never live. `new` allocates
 /// all of its room, and no other call allocates. A new one has no live word: frames make words
 /// live.
+#[derive(Drop)]
 pub struct Memory {
     pub(crate) words: Vec<u16>,
-}
-
-impl Drop for Memory {
-    fn drop(self) {
-        let Memory { words: _words } = self;
-    }
 }
 
 impl Model for Memory {

@@ -10,20 +10,12 @@ use std::marker::Model;
 
 /// The evaluation stack, seen as the list of its words, the top first; at most 1,024. `new`
 /// allocates all of its room, and no other call allocates.
+#[derive(Drop)]
 pub struct Stack {
     /// The 1,024 words of its room. The words on the stack are the last of them, the top first.
     room: Vec<u16>,
     /// The number of words of the room that are free.
     free: usize,
-}
-
-impl Drop for Stack {
-    fn drop(self) {
-        let Stack {
-            room: _room,
-            free: _free,
-        } = self;
-    }
 }
 
 impl Model for Stack {
