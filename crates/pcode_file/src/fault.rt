@@ -1,8 +1,5 @@
 //! Why a code file is refused.
-ghost use Rattle.std.specs.Prelude.{◌≡◌};
-ghost use Rattle.pcode_file.specs.declared.fault.FileFault.TheVariants.{Memory};
 
-use std::alloc::AllocError;
 use thiserror::Error;
 
 /// The first check that a file fails, in the order of the checks. Its text is the refusal's code,
@@ -43,12 +40,4 @@ pub enum FileFault {
     /// Out of memory. All checks have passed.
     #[error("F11")]
     Memory,
-}
-
-impl From<AllocError> for FileFault {
-    ghost from_gives = { λ _ fault. fault ≡ Memory };
-
-    fn from(_error: AllocError) -> FileFault {
-        FileFault::Memory
-    }
 }

@@ -32,22 +32,12 @@ pub struct Proc {
 }
 
 /// A code file that passed all checks.
+#[derive(Drop)]
 pub struct CodeFile {
     name: [u8; 8],
     segment: Vec<u8>,
     number: u8,
     procs: Vec<Proc>,
-}
-
-impl Drop for CodeFile {
-    fn drop(self) {
-        let CodeFile {
-            name: _name,
-            segment: _segment,
-            number: _number,
-            procs: _procs,
-        } = self;
-    }
 }
 
 impl Model for CodeFile {
@@ -164,20 +154,6 @@ fn checked(bytes: &[u8]) -> Result<(usize, &[u8], u8), FileFault>
     Ok((k, part, n))
 }
 
-/// Makes all checks in their order, and then allocates memory.
-fn read_checked(alloc: Global, bytes: &[u8]) -> Result<CodeFile, FileFault>
-    ensures { GivesUnlessMemory result (read_from bytes.now) }
-{
-    let (k, part, n) = checked(bytes)?;
-    let (procs, segment) = room(alloc, usize::from(n), part.len())?;
-    Ok(CodeFile {
-        name: name_at(bytes, k),
-        segment: copied(segment, part),
-        number: part[part.len() - 2],
-        procs: collected(procs, part, n),
-    })
-}
-
 impl CodeFile {
     /// Reads a whole code file. Returns one exactly if `bytes` are a code file, memory aside, and
     /// then with the parts of `bytes`. Otherwise fails with the first check that fails, in the
@@ -192,7 +168,16 @@ impl CodeFile {
         // The fault is the first check that fails.
         ensures exact { GivesUnlessMemory result (read_from bytes.now) }
     {
-        read_checked(alloc, bytes)
+        let (k, part, n) = checked(bytes)?;
+        let Ok((procs, segment)) = room(alloc, usize::from(n), part.len()) else {
+            return Err(FileFault::Memory);
+        };
+        Ok(CodeFile {
+            name: name_at(bytes, k),
+            segment: copied(segment, part),
+            number: part[part.len() - 2],
+            procs: collected(procs, part, n),
+        })
     }
 
     /// Returns the segment's bytes, fewer than 65,536.
