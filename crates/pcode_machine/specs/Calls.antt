@@ -1,5 +1,5 @@
--- Calls and returns, and the frames to which static links lead.
-use Rattle.std.specs.Prelude.{ℕ, ◌+◌, ◌-◌, List, Option, Result, Ok, Err, slice_get}
+-- Jumps that pop their operands, calls and returns, and the frames to which static links lead.
+use Rattle.std.specs.Prelude.{ℕ, ◌+◌, ◌-◌, List, [], ◌∷◌, Option, Result, Ok, Err, slice_get}
 use Rattle.std.specs.Option.{option_and_then}
 use Rattle.pcode_file.specs.declared.file.Proc.{Proc}
 use Rattle.pcode_file.specs.Parts.{Parts, procedure_of}
@@ -10,7 +10,22 @@ use Rattle.pcode_frames.specs.Frames as frames
 use Rattle.pcode_machine.specs.declared.turn.Stop.{Stop}
 use Rattle.pcode_machine.specs.declared.turn.Stop.TheVariants.{Error}
 use Rattle.pcode_machine.specs.Configuration.{State}
+use Rattle.pcode_machine.specs.declared.errors.ExecutionError.TheVariants.{StackUnderflow}
 use Rattle.pcode_machine.specs.Errors.{error_of}
+
+-- ---- Jumps.
+
+-- The state after a jump to where the word popped from this stack says, or its error.
+abbrev pub branched : (ℕ → ℕ) → State → List ℕ → Result State Stop
+branched to s [] = Err (Error StackUnderflow)
+branched to s (v ∷ rest) = Ok (record s { stack = rest; next = to v })
+
+-- The state after a jump to where two popped words say, the lower one first, or its error.
+abbrev pub branched_by_two : (ℕ → ℕ → ℕ) → State → List ℕ → Result State Stop
+branched_by_two to s (b ∷ a ∷ rest) = Ok (record s { stack = rest; next = to a b })
+branched_by_two to s _ = Err (Error StackUnderflow)
+
+-- ---- Calls and returns.
 
 -- The frame `n` static links up from the current one, if there is one.
 -- Source: Manual, static links.

@@ -1,6 +1,8 @@
 -- Packed fields: some bits of a word, named by a pointer to the word, a width in bits, and the
 -- place of the lowest bit. Their rules are this project's choice.
-use Rattle.std.specs.Prelude.{ℕ, ◌+◌, ◌*◌, ◌/◌, ◌%◌, ◌^◌, nat_lt, nat_le, ◌&&◌, if◌then◌else◌, Bool, List, ◌∷◌, length, Option, Some, None, Result, Ok, Err}
+use Rattle.std.specs.Prelude.{ℕ, ◌+◌, ◌*◌, ◌/◌, ◌%◌, ◌^◌, nat_lt, nat_le, ◌&&◌, if◌then◌else◌, Bool, List, ◌∷◌, length, Result, Ok, Err}
+use Rattle.std.specs.Option.{ok_or}
+use Rattle.base.specs.Steps.{◌>>=◌}
 use Rattle.pcode_frames.specs.declared.limits.TheConstants.{STACK_WORDS}
 use Rattle.pcode_frames.specs.Words.{with_word}
 use Rattle.pcode_machine.specs.declared.turn.Stop.{Stop}
@@ -42,17 +44,18 @@ field_indexed elements width j s (index ∷ pointer ∷ rest) =
     else Err (Error OutOfRange)
 field_indexed elements width j s _ = Err (Error StackUnderflow)
 
--- ---- LDP.
+-- ---- LDP and STP.
 
--- The field of a word, or error 7 if the word is not live.
-abbrev pub field_in : Option ℕ → ℕ → ℕ → Result ℕ ExecutionError
-field_in None width right = Err BadAddress
-field_in (Some word) width right = Ok (field_of word width right)
+-- The word at a pointer, if the bits are a field of it, or its error: 1 for no field, 7 for a word
+-- that is not live.
+abbrev pub word_with_field : List ℕ → ℕ → ℕ → ℕ → Result ℕ ExecutionError
+word_with_field words pointer width right =
+    if is_field width right then ok_or (pointed words pointer) BadAddress else Err OutOfRange
 
--- The field of the word at a pointer, or its error: 1 for no field, 7 for a word that is not live.
+-- The field of the word at a pointer, or its error.
 abbrev pub field_at : List ℕ → ℕ → ℕ → ℕ → Result ℕ ExecutionError
 field_at words pointer width right =
-    if is_field width right then field_in (pointed words pointer) width right else Err OutOfRange
+    word_with_field words pointer width right >>= λ word. Ok (field_of word width right)
 
 -- The state after LDP, or its error: the field takes the place of the three words that name it.
 -- Source: Manual, LDP.
@@ -61,19 +64,10 @@ field_loaded j s (right ∷ width ∷ pointer ∷ rest) =
     put_above (field_at s.words pointer width right) j s rest
 field_loaded j s _ = Err (Error StackUnderflow)
 
--- ---- STP.
-
--- The word with a value in the field, or error 7 if the word is not live.
-abbrev pub changed_in : Option ℕ → ℕ → ℕ → ℕ → Result ℕ ExecutionError
-changed_in None width right value = Err BadAddress
-changed_in (Some word) width right value = Ok (with_field word width right value)
-
--- The word at a pointer with a value in the field, or its error: 1 for no field, 7 for a word that
--- is not live.
+-- The word at a pointer with a value in the field, or its error.
 abbrev pub changed_at : List ℕ → ℕ → ℕ → ℕ → ℕ → Result ℕ ExecutionError
 changed_at words pointer width right value =
-    if is_field width right then changed_in (pointed words pointer) width right value
-    else Err OutOfRange
+    word_with_field words pointer width right >>= λ word. Ok (with_field word width right value)
 
 -- The state with a word stored at a pointer and this stack, or the error.
 abbrev pub put_at : Result ℕ ExecutionError → ℕ → ℕ → State → List ℕ → Result State Stop

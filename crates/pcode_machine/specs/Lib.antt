@@ -3,12 +3,10 @@ pub mod Configuration
 pub mod Arithmetic
 pub mod Comparisons
 pub mod Loads
-pub mod Stores
 pub mod Pointers
 pub mod Blocks
 pub mod Bytes
 pub mod Operations
-pub mod Jumps
 pub mod Calls
 pub mod Transfers
 pub mod Effects

@@ -1,6 +1,6 @@
 //! Packed fields, which are some bits of a word: IXP, LDP, STP.
-ghost use Rattle.std.specs.Prelude.{◌≡◌, ◌≤◌, ◌^◌, IsTrue};
-ghost use Rattle.pcode_machine.specs.Fields.{changed_at, field_at, field_indexed, field_loaded, field_of, field_stored, is_field, with_field};
+ghost use Rattle.std.specs.Prelude.{◌≡◌, ◌≤◌, ◌^◌, IsTrue, OnOk};
+ghost use Rattle.pcode_machine.specs.Fields.{field_indexed, field_loaded, field_of, field_stored, is_field, with_field, word_with_field};
 ghost use Rattle.pcode_machine.specs.Ready.{ChangesTo, state_of};
 
 use crate::errors::ExecutionError;
@@ -49,38 +49,21 @@ fn with_field(word: u16, width: u16, right: u16, value: u16) -> u16
     (word % low + low * field + above * (word / above)) as u16
 }
 
-/// Returns the field of the word at a pointer. Fails with error 1 if the bits are no field, and
-/// then with error 7 if the word is not live.
-fn field_at(memory: &Memory, pointer: u16, width: u16, right: u16) -> Result<u16, ExecutionError>
-    ensures { result ≡ field_at memory.now pointer width right }
-{
-    if !is_field(width, right) {
-        return Err(ExecutionError::OutOfRange);
-    }
-    match pointed(memory, pointer) {
-        Some(word) => Ok(field(word, width, right)),
-        None => Err(ExecutionError::BadAddress),
-    }
-}
-
-/// Returns the word at a pointer with `value` in the field. Fails with error 1 if the bits are no
-/// field, and then with error 7 if the word is not live.
-fn changed_at(
+/// Returns the word at a pointer, of which a field is read or changed. Fails with error 1 if the
+/// bits are no field, and then with error 7 if the word is not live.
+fn word_with_field(
     memory: &Memory,
     pointer: u16,
     width: u16,
     right: u16,
-    value: u16,
 ) -> Result<u16, ExecutionError>
-    ensures { result ≡ changed_at memory.now pointer width right value }
+    ensures value { result ≡ word_with_field memory.now pointer width right }
+    ensures field { OnOk result (IsTrue (is_field width right)) }
 {
     if !is_field(width, right) {
         return Err(ExecutionError::OutOfRange);
     }
-    match pointed(memory, pointer) {
-        Some(word) => Ok(with_field(word, width, right, value)),
-        None => Err(ExecutionError::BadAddress),
-    }
+    pointed(memory, pointer).ok_or(ExecutionError::BadAddress)
 }
 
 impl MachineParts {
@@ -92,10 +75,9 @@ impl MachineParts {
         ensures { ChangesTo (field_indexed elements width next (state_of self.old) self.old.stack)
             self.old self.new result }
     {
-        if self.stack.len() < 2 {
-            return Err(Stop::Error(ExecutionError::StackUnderflow));
-        }
-        if self.stack.top() >= 32768 {
+        let index = self.operand(0)?;
+        let pointer = self.operand(1)?;
+        if index >= 32768 {
             return Err(Stop::Error(ExecutionError::OutOfRange));
         }
         if self.stack.len() == STACK_WORDS {
@@ -103,8 +85,7 @@ impl MachineParts {
         }
         let elements = u16::from(elements);
         let width = u16::from(width);
-        let index = self.stack.pop()?;
-        let pointer = self.stack.top();
+        self.stack.discard(1);
         self.stack.set_top(pointer_past(pointer, index / elements));
         self.stack.push(width).unwrap();
         self.stack.push(index % elements * width).unwrap();
@@ -120,9 +101,9 @@ impl MachineParts {
         let right = self.operand(0)?;
         let width = self.operand(1)?;
         let pointer = self.operand(2)?;
-        let bits = field_at(&self.memory, pointer, width, right)?;
+        let word = word_with_field(&self.memory, pointer, width, right)?;
         self.stack.discard(2);
-        self.stack.set_top(bits);
+        self.stack.set_top(field(word, width, right));
         self.next = next;
         Ok(())
     }
@@ -137,10 +118,8 @@ impl MachineParts {
         let right = self.operand(1)?;
         let width = self.operand(2)?;
         let pointer = self.operand(3)?;
-        let word = changed_at(&self.memory, pointer, width, right, value)?;
-        self.stack.discard(4);
-        self.memory.put(pointer / 2, word);
-        self.next = next;
+        let word = word_with_field(&self.memory, pointer, width, right)?;
+        self.put_word(4, pointer / 2, with_field(word, width, right, value), next);
         Ok(())
     }
 }

@@ -22,14 +22,12 @@ mod errors;
 mod execute;
 mod fields;
 mod fused;
-mod jumps;
 pub mod laws;
 mod loads;
 mod machine;
 mod operations;
 mod parts;
 mod pointers;
-mod stores;
 mod transfers;
 mod turn;
 

@@ -32,10 +32,7 @@ impl MachineParts {
         ensures { ChangesTo (fetched words next (state_of self.old) self.old.stack)
             self.old self.new result }
     {
-        if self.stack.len() == 0 {
-            return Err(Stop::Error(ExecutionError::StackUnderflow));
-        }
-        let pointer = self.stack.top();
+        let pointer = self.operand(0)?;
         let Some(word) = pointed(&self.memory, pointer_past(pointer, words)) else {
             return Err(Stop::Error(ExecutionError::BadAddress));
         };
@@ -54,9 +51,7 @@ impl MachineParts {
         if pointed(&self.memory, pointer).is_none() {
             return Err(Stop::Error(ExecutionError::BadAddress));
         }
-        self.stack.discard(2);
-        self.memory.put(pointer / 2, value);
-        self.next = next;
+        self.put_word(2, pointer / 2, value, next);
         Ok(())
     }
 }
