@@ -6,9 +6,9 @@ use std::alloc::Global;
 use std::test::Fail;
 use test_programs::{PRINTS_A, code_file};
 
-/// Returns the file that prints A, with a name.
-fn letter(alloc: Global) -> Result<CodeFile, Fail> {
-    let bytes = code_file(alloc, b"LETTER  ", &PRINTS_A)?;
+/// Returns the file of a segment.
+fn file(alloc: Global, name: &[u8; 8], segment: &[u8]) -> Result<CodeFile, Fail> {
+    let bytes = code_file(alloc, name, segment)?;
     let file = CodeFile::read(alloc, bytes.as_slice())
         .ok()
         .ok_or("a file")?;
@@ -19,16 +19,16 @@ fn letter(alloc: Global) -> Result<CodeFile, Fail> {
 /// CodeFile::count (value, some), CodeFile::procedure (value): the parts of a code file.
 #[test]
 fn looks_at_a_file(rt: HostRuntime) -> Result<(), Fail> {
-    let file = letter(rt.alloc())?;
+    let file = file(rt.alloc(), b"LETTER  ", &PRINTS_A)?;
     assert!(rt; file.name() == *b"LETTER  " && file.segment() == PRINTS_A.as_slice());
     assert!(rt; file.number() == 1 && file.count() == 1);
     assert!(rt; file.procedure(0).is_none() && file.procedure(2).is_none());
     Ok(())
 }
 
-/// Returns the program of the file that prints A.
-fn program(alloc: Global) -> Result<Program, Fail> {
-    let program = Program::check(alloc, letter(alloc)?)
+/// Returns the program of a segment.
+fn program(alloc: Global, name: &[u8; 8], segment: &[u8]) -> Result<Program, Fail> {
+    let program = Program::check(alloc, file(alloc, name, segment)?)
         .ok()
         .ok_or("a program")?;
     Ok(program)
@@ -38,7 +38,7 @@ fn program(alloc: Global) -> Result<Program, Fail> {
 /// program.
 #[test]
 fn looks_at_a_program(rt: HostRuntime) -> Result<(), Fail> {
-    let program = program(rt.alloc())?;
+    let program = program(rt.alloc(), b"LETTER  ", &PRINTS_A)?;
     assert_eq!(rt; program.reached(), 10);
     for (at, reached) in [(0, true), (2, false), (12, true), (13, false), (28, false)] {
         assert_eq!(rt; program.is_start(at), reached, "at {at}");
@@ -72,7 +72,7 @@ fn takes_turn(machine: &mut Machine<'_>, offered: Option<u8>, turn: Turn) -> boo
 /// writes a byte. A byte that it does not want is not taken.
 #[test]
 fn steps_through_a_program(rt: HostRuntime) -> Result<(), Fail> {
-    let program = program(rt.alloc())?;
+    let program = program(rt.alloc(), b"LETTER  ", &PRINTS_A)?;
     let mut machine = Machine::new(rt.alloc(), &program).ok().ok_or("a machine")?;
     for (offered, turn) in TURNS {
         assert!(rt; takes_turn(&mut machine, offered, turn), "{turn:?}");
@@ -90,11 +90,7 @@ const READS_ONE: [u8; 26] = [
 /// after a byte.
 #[test]
 fn runs_and_takes_a_byte(rt: HostRuntime) -> Result<(), Fail> {
-    let bytes = code_file(rt.alloc(), b"READER  ", &READS_ONE)?;
-    let file = CodeFile::read(rt.alloc(), bytes.as_slice())
-        .ok()
-        .ok_or("a file")?;
-    let program = Program::check(rt.alloc(), file).ok().ok_or("a program")?;
+    let program = program(rt.alloc(), b"READER  ", &READS_ONE)?;
     let mut machine = Machine::new(rt.alloc(), &program).ok().ok_or("a machine")?;
     assert_eq!(rt; machine.run(3), (3, Pause::Spent));
     assert_eq!(rt; machine.run(100), (4, Pause::Wants));
@@ -107,7 +103,7 @@ fn runs_and_takes_a_byte(rt: HostRuntime) -> Result<(), Fail> {
 /// at the end.
 #[test]
 fn pauses_at_a_byte(rt: HostRuntime) -> Result<(), Fail> {
-    let program = program(rt.alloc())?;
+    let program = program(rt.alloc(), b"LETTER  ", &PRINTS_A)?;
     let mut machine = Machine::new(rt.alloc(), &program).ok().ok_or("a machine")?;
     assert_eq!(rt; machine.run(100), (10, Pause::Wrote(0x41)));
     assert_eq!(rt; machine.run(0), (0, Pause::Spent));
