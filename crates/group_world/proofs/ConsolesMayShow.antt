@@ -9,7 +9,7 @@ use Rattle.pcode_machine.specs.Outcome.{Goes as Leads_to, Outcome, outcome}
 use Rattle.pcode_machine.specs.Runs.{IsPrefix, LeadsIn, after_steps, led, out}
 use Rattle.paxos_msg.specs.declared.message.Group.{Group}
 use Rattle.paxos_msg.specs.Records.{empty_record}
-use Rattle.paxos_msg.specs.Grammar.{IsGroup}
+use Rattle.paxos_msg.specs.Fits.{IsGroup}
 use Rattle.group_node.specs.declared.player.Ran.TheVariants as more
 use Rattle.group_node.specs.Known.{on_start}
 use Rattle.group_node.specs.Output.{IsReplay, Progress, RunsOn, no_progress, unreleased_of}

@@ -6,7 +6,7 @@ use Rattle.std.proofs.lemmas.List.{take_more}
 use Rattle.std.proofs.lemmas.Option.{slice_get-get_or}
 use Rattle.pcode_file.specs.Parts.{Parts}
 use Rattle.paxos_msg.specs.declared.message.Group.{Group}
-use Rattle.paxos_msg.specs.Grammar.{IsGroup}
+use Rattle.paxos_msg.specs.Fits.{IsGroup}
 use Rattle.group_node.specs.States.{IsSize}
 use Rattle.group_world.specs.declared.event.Act.{Act}
 use Rattle.group_world.specs.declared.event.Done.{Done}

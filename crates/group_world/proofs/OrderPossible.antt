@@ -13,7 +13,7 @@ use Rattle.paxos_msg.specs.declared.value.Value.{Value}
 use Rattle.paxos_msg.specs.declared.value.Value.TheVariants.{Keys}
 use Rattle.paxos_msg.specs.Batches.{Body, Grew, IsTyped, Msg, Vote, Change, IsSafe, Record, Sent}
 use Rattle.paxos_msg.specs.Keys.{Key, keys_of, AreOwnKeys, batches}
-use Rattle.paxos_msg.specs.Fits.{IsValue, IsVote, IsBody, IsBallot, IsNode}
+use Rattle.paxos_msg.specs.Fits.{IsValue, IsVote, IsBody, IsBallot, IsNode, AreBytes}
 use Rattle.paxos_msg.specs.Messages.{IsSaid, IsSent, kept_vote_at}
 use Rattle.paxos_acceptor.specs.Backed.{IsVoteBacked}
 use Rattle.paxos_learner.specs.Input.{input_of}
@@ -37,7 +37,6 @@ use Rattle.paxos_msg.specs.Growth.{nothing, saves, sends}
 use Rattle.paxos_msg.specs.Records.{changed, empty_record, IsSaved}
 use Rattle.paxos_msg.specs.Sending.{IsReport, IsUnproposed}
 use Rattle.paxos_msg.specs.declared.message.Group.{Group}
-use Rattle.paxos_msg.specs.Grammar.{AreBytes}
 use Rattle.paxos_acceptor.specs.declared.me.Me.{Me}
 
 -- what holds of each of these, as a tuple, holds of one of them

@@ -12,8 +12,7 @@ use Rattle.paxos_msg.specs.Records.{empty_record}
 use Rattle.paxos_msg.specs.declared.message.Group.{Group}
 use Rattle.paxos_msg.specs.declared.value.Value.{Value}
 use Rattle.paxos_msg.specs.Batches.{Msg, Record, Sent}
-use Rattle.paxos_msg.specs.Fits.{IsBody, IsNode}
-use Rattle.paxos_msg.specs.Grammar.{IsGroup}
+use Rattle.paxos_msg.specs.Fits.{IsBody, IsNode, IsGroup}
 use Rattle.paxos_msg.specs.Keys.{keys_of}
 use Rattle.paxos_msg.specs.Reading.{message_at}
 use Rattle.paxos_msg.specs.Spelling.{Msgs}

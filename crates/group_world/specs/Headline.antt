@@ -6,7 +6,7 @@ use Rattle.pcode_machine.specs.Runs.{AreComparable, IsPrefix, IsOutput}
 use Rattle.paxos_msg.specs.declared.message.Group.{Group}
 use Rattle.paxos_msg.specs.declared.value.Value.{Value}
 use Rattle.paxos_msg.specs.Chosen.{IsChosen}
-use Rattle.paxos_msg.specs.Grammar.{IsGroup}
+use Rattle.paxos_msg.specs.Fits.{IsGroup}
 use Rattle.paxos_msg.specs.Keys.{Key, keys_of}
 use Rattle.group_node.specs.declared.console.Offer.TheVariants.{Gap, Repeat}
 use Rattle.group_node.specs.Console.{offer_answer}

@@ -8,7 +8,7 @@ use Rattle.paxos_msg.specs.declared.message.Group.{Group}
 use Rattle.paxos_msg.specs.declared.value.Value.{Value}
 use Rattle.paxos_msg.specs.Batches.{Grew, Msg, Record, Sent}
 use Rattle.paxos_msg.specs.Chosen.{IsChosen}
-use Rattle.paxos_msg.specs.Grammar.{IsGroup}
+use Rattle.paxos_msg.specs.Fits.{IsGroup}
 use Rattle.paxos_msg.specs.Keys.{Key}
 use Rattle.paxos_msg.specs.Spelling.{Msgs}
 use Rattle.paxos_acceptor.specs.declared.me.Me.{Me}

@@ -4,8 +4,7 @@ use Rattle.base.specs.Steps.{◌>>=◌}
 use Rattle.base.proofs.Steps.{bind_ok}
 use Rattle.paxos_msg.specs.declared.ballot.Ballot.{Ballot}
 use Rattle.paxos_msg.specs.declared.fault.WireFault.{WireFault}
-use Rattle.paxos_msg.specs.Fits.{AreVotes, IsBallot, IsValue}
-use Rattle.paxos_msg.specs.Grammar.{AreBytes}
+use Rattle.paxos_msg.specs.Fits.{AreVotes, IsBallot, IsValue, AreBytes}
 use Rattle.paxos_msg.specs.Reading.{ballot_at, number_at, votes_at}
 use Rattle.paxos_msg.specs.Spelling.{ballot_bytes, number_bytes, votes_bytes}
 use Rattle.paxos_msg.specs.Version1.{IsSingle, value_at_v1, value_bytes_v1}

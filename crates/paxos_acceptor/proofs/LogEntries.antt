@@ -6,8 +6,7 @@ use Rattle.paxos_msg.specs.declared.ballot.Ballot.{Ballot}
 use Rattle.paxos_msg.specs.Batches.{Change}
 use Rattle.paxos_msg.specs.declared.record.Change.TheVariants.{Start, Promise, Ballotted}
 use Rattle.paxos_msg.specs.declared.fault.WireFault.TheVariants as fault
-use Rattle.paxos_msg.specs.Fits.{IsPlace, IsValue}
-use Rattle.paxos_msg.specs.Grammar.{AreBytes}
+use Rattle.paxos_msg.specs.Fits.{IsPlace, IsValue, AreBytes}
 use Rattle.paxos_msg.specs.Reading.{place_at, value_at}
 use Rattle.paxos_msg.specs.Spelling.{ballot_bytes, number_bytes, value_bytes}
 use Rattle.paxos_acceptor.specs.declared.version.Version.{Version}

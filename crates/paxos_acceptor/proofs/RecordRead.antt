@@ -8,8 +8,7 @@ use Rattle.paxos_msg.specs.declared.ballot.Ballot.{Ballot}
 use Rattle.paxos_msg.specs.Batches.{Record, Vote}
 use Rattle.paxos_msg.specs.declared.fault.WireFault.{WireFault}
 use Rattle.paxos_msg.specs.declared.fault.WireFault.TheVariants as fault
-use Rattle.paxos_msg.specs.Fits.{IsBallot, AreVotes}
-use Rattle.paxos_msg.specs.Grammar.{AreBytes}
+use Rattle.paxos_msg.specs.Fits.{IsBallot, AreVotes, AreBytes}
 use Rattle.paxos_msg.specs.Spelling.{number_bytes, votes_bytes}
 use Rattle.paxos_acceptor.specs.declared.me.Me.{Me}
 use Rattle.paxos_acceptor.specs.declared.version.Version.{Version}

@@ -9,8 +9,7 @@ use Rattle.paxos_msg.specs.declared.ballot.Ballot.{Ballot}
 use Rattle.paxos_msg.specs.Batches.{Vote}
 use Rattle.paxos_msg.specs.declared.fault.WireFault.TheVariants as fault
 use Rattle.paxos_msg.specs.Ballots.{IsAtMost}
-use Rattle.paxos_msg.specs.Fits.{AreVotes, IsVote}
-use Rattle.paxos_msg.specs.Grammar.{AreBytes}
+use Rattle.paxos_msg.specs.Fits.{AreVotes, IsVote, AreBytes}
 use Rattle.paxos_msg.specs.Spelling.{ballot_bytes, number_bytes}
 use Rattle.paxos_msg.specs.Tests.{ballot_lt}
 use Rattle.paxos_msg.specs.Version1.{IsSingle, value_bytes_v1}

@@ -5,11 +5,10 @@ use Rattle.std.proofs.lemmas.Bool.Decides.{nat_tests}
 use Rattle.paxos_msg.specs.declared.fault.WireFault.TheVariants as fault
 use Rattle.paxos_msg.specs.Batches.{Body}
 use Rattle.paxos_msg.specs.declared.message.Body.TheVariants.{Promise}
-use Rattle.paxos_msg.specs.Fits.{IsBody}
+use Rattle.paxos_msg.specs.Fits.{IsBody, AreBytes}
 use Rattle.paxos_msg.specs.Spelling.{number_bytes, kind_of, body_bytes}
 use Rattle.paxos_msg.specs.Reading.{place_at, prepare_at, promise_at, accept_at, accepted_at, refused_at, submit_at, ask_at, tell_at, body_at}
 use Rattle.paxos_msg.specs.Tests.{ballot_lt}
-use Rattle.paxos_msg.specs.Grammar.{AreBytes}
 use Rattle.paxos_msg.proofs.Exact.{below}
 use Rattle.paxos_msg.proofs.Fields.{Exact, step, step_if, one_byte, ballots, own_ballots, places}
 use Rattle.paxos_msg.proofs.ValuesRead.{values, own_values}

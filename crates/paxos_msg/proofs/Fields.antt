@@ -4,12 +4,11 @@ use Rattle.std.proofs.Common.{◌≡◌, ◌↔◌, ℕ, suc, Bool, false, List,
 use Rattle.base.specs.Steps.{◌>>=◌, unless}
 use Rattle.base.proofs.Steps.{bind_ok, unless_ok}
 use Rattle.paxos_msg.specs.declared.fault.WireFault.{WireFault}
-use Rattle.paxos_msg.specs.Grammar.{AreBytes}
 use Rattle.std.proofs.lemmas.Bool.Decides.{nat_tests}
 use Rattle.byteorder.specs.Endian.{big_number}
 use Rattle.paxos_msg.specs.Spelling.{number_bytes, ballot_bytes}
 use Rattle.paxos_msg.specs.Reading.{first_byte, number_at, ballot_at, own_ballot_at, place_at}
-use Rattle.paxos_msg.specs.Fits.{IsBallot}
+use Rattle.paxos_msg.specs.Fits.{IsBallot, AreBytes}
 
 -- a reading gives just the value whose spelling is at the front of the bytes
 pub record Exact {A : Type 0} (read : List ℕ → Result (A × List ℕ) WireFault) (fits : A → Type 0) (spells : A → List ℕ) : Type 0 where

@@ -2,10 +2,9 @@
 use Rattle.std.proofs.Common.{◌≡◌, ℕ, ◌<◌, ◌≤◌, List, length, Ok, arith, ◌↔◌, [], refl, sym, ◌∙◌}
 use Rattle.std.proofs.lemmas.Bool.Decides.{nat_tests}
 use Rattle.paxos_msg.specs.declared.message.Group.{Group}
-use Rattle.paxos_msg.specs.Fits.{IsNode}
+use Rattle.paxos_msg.specs.Fits.{IsNode, AreBytes, IsGroup}
 use Rattle.paxos_msg.specs.Spelling.{header_bytes, kind_of, body_bytes, Msgs}
 use Rattle.paxos_msg.specs.Reading.{header_at, message_at}
-use Rattle.paxos_msg.specs.Grammar.{AreBytes, IsGroup}
 use Rattle.paxos_msg.proofs.Fields.{Exact, step, four_again}
 use Rattle.std.proofs.lemmas.Bool.{eqb-true, not-false}
 use Rattle.std.proofs.lemmas.List.{append-nil, nil_from_length}

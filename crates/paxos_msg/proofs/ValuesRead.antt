@@ -8,8 +8,7 @@ use Rattle.std.proofs.lemmas.Bool.Decides.{nat_tests}
 use Rattle.paxos_msg.specs.declared.fault.WireFault.TheVariants as fault
 use Rattle.paxos_msg.specs.declared.value.Value.{Value}
 use Rattle.paxos_msg.specs.declared.value.Value.TheVariants.{Noop, Keys}
-use Rattle.paxos_msg.specs.Fits.{IsBatch, IsCount, IsValue}
-use Rattle.paxos_msg.specs.Grammar.{AreBytes}
+use Rattle.paxos_msg.specs.Fits.{IsBatch, IsCount, IsValue, AreBytes}
 use Rattle.paxos_msg.specs.Keys.{AreOwnKeys, batches}
 use Rattle.paxos_msg.specs.Reading.{is_batch, is_node, characters_at, keys_at, value_at, own_keys_at}
 use Rattle.paxos_msg.specs.Spelling.{value_bytes}

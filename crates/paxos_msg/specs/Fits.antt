@@ -1,5 +1,5 @@
 -- The ranges of each field. A message has a spelling if all its fields are in their ranges.
-use Rattle.std.specs.Prelude.{◌≡◌, ℕ, ◌+◌, ◌^◌, ◌<◌, ◌≤◌, List, [], ◌∷◌, length}
+use Rattle.std.specs.Prelude.{◌≡◌, ℕ, ◌+◌, ◌^◌, ◌<◌, ◌≤◌, List, [], ◌∷◌, length, slice_index}
 use Rattle.paxos_msg.specs.declared.ballot.Ballot.{Ballot}
 use Rattle.paxos_msg.specs.declared.value.Value.{Value}
 use Rattle.paxos_msg.specs.declared.value.Value.TheVariants as value
@@ -7,9 +7,18 @@ use Rattle.paxos_msg.specs.Batches.{Body, Msg, Vote}
 use Rattle.paxos_msg.specs.declared.message.Group.{Group}
 use Rattle.paxos_msg.specs.declared.message.Body.TheVariants as body
 use Rattle.paxos_msg.specs.Ballots.{IsBelow, IsAtMost}
-use Rattle.paxos_msg.specs.Grammar.{AreBytes}
 use Rattle.paxos_msg.specs.Keys.{AreOwnKeys, batches}
-use Rattle.paxos_msg.specs.declared.limits.TheConstants.{LAST_PLACE, MOST_CHARACTERS, MOST_VOTES, PLACES}
+use Rattle.paxos_msg.specs.declared.limits.TheConstants.{LAST_PLACE, LAST_SERIAL, MOST_CHARACTERS, MOST_VOTES, PLACES}
+
+-- Numbers that are bytes, as the items of a `&[u8]` and of a `Vec<u8>` are.
+-- Allows: 255.
+-- Forbids: 256.
+abbrev pub AreBytes : List ℕ → Type 0
+AreBytes bytes = (i : ℕ) → slice_index bytes i < 256
+
+-- A group whose session fits four bytes, as that of each `Group` does.
+abbrev pub IsGroup : Group → Type 0
+IsGroup group = group.session < 2 ^ 32
 
 -- A node of a group of `size` nodes.
 abbrev pub IsNode : ℕ → ℕ → Type 0
@@ -33,7 +42,7 @@ IsPlace s = s ≤ LAST_PLACE
 abbrev pub IsBatch : ℕ → List ℕ → Type 0
 IsBatch first bytes =
     (0 < first) × (0 < length bytes) × (length bytes ≤ MOST_CHARACTERS)
-    × (first + length bytes ≤ 2 ^ 32) × AreBytes bytes
+    × (first + length bytes ≤ LAST_SERIAL + 1) × AreBytes bytes
 
 -- A no-op, or a batch of keys of a node of the group, in its ranges.
 abbrev pub IsValue : ℕ → Value → Type 0

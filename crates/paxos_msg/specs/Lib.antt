@@ -16,5 +16,4 @@ pub mod Chosen
 pub mod Growth
 pub mod Batches
 pub mod Migration
-pub mod Grammar
 pub mod Codes

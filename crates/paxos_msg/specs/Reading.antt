@@ -11,7 +11,7 @@ use Rattle.paxos_msg.specs.declared.message.Body.TheVariants.{Prepare, Promise, 
 use Rattle.paxos_msg.specs.declared.fault.WireFault.{WireFault}
 use Rattle.paxos_msg.specs.declared.fault.WireFault.TheVariants as fault
 use Rattle.paxos_msg.specs.Tests.{ballot_lt}
-use Rattle.paxos_msg.specs.declared.limits.TheConstants.{LAST_KIND, LAST_PLACE, MOST_CHARACTERS, MOST_VOTES, PLACES}
+use Rattle.paxos_msg.specs.declared.limits.TheConstants.{LAST_KIND, LAST_PLACE, LAST_SERIAL, MOST_CHARACTERS, MOST_VOTES, PLACES}
 
 -- The answer of a call, seen by `view`, is the result of reading.
 -- Allows: The same fault.
@@ -71,7 +71,8 @@ place_at most bytes = do
 abbrev pub is_batch : ℕ → ℕ → Bool
 is_batch first count =
     nat_lt 0 first
-    && (nat_lt 0 count && (nat_le count MOST_CHARACTERS && nat_le (first + count) 4294967296))
+    && (nat_lt 0 count
+    && (nat_le count MOST_CHARACTERS && nat_le (first + count) (LAST_SERIAL + 1)))
 
 -- The characters of a batch after their number, for a first key with serial `first`.
 unfoldable pub characters_at : ℕ → List ℕ → Result (List ℕ × List ℕ) WireFault

@@ -5,10 +5,9 @@ ghost use Rattle.paxos_msg.specs.declared.ballot.Ballot.{Ballot};
 ghost use Rattle.paxos_msg.specs.declared.value.Value.{Value};
 ghost use Rattle.paxos_msg.specs.Batches.{Msg, Vote};
 ghost use Rattle.paxos_msg.specs.declared.message.Group.{Group};
-ghost use Rattle.paxos_msg.specs.Fits.{AreVotes, IsBallot, IsValue, Fits};
+ghost use Rattle.paxos_msg.specs.Fits.{AreVotes, IsBallot, IsValue, Fits, AreBytes, IsGroup};
 ghost use Rattle.paxos_msg.specs.Spelling.{Msgs, ballot_bytes, number_bytes, value_bytes, votes_bytes, spelling};
 ghost use Rattle.paxos_msg.specs.Reading.{ballot_at, number_at, value_at, votes_at, message_at};
-ghost use Rattle.paxos_msg.specs.Grammar.{AreBytes, IsGroup};
 ghost use Rattle.paxos_msg.specs.Version1.{IsSingle, value_at_v1, value_bytes_v1};
 ghost use Rattle.paxos_msg.specs.declared.limits.TheConstants.{PLACES};
 

@@ -61,17 +61,9 @@ pub enum Body<V = Value> {
 }
 
 /// A message and the node that sent it.
+#[derive(Drop)]
 pub struct Msg<V = Value> {
     /// 1 to the group's size.
     pub sender: u8,
     pub body: Body<V>,
-}
-
-impl<V: Drop> Drop for Msg<V> {
-    fn drop(self) {
-        let Msg {
-            sender: _sender,
-            body: _body,
-        } = self;
-    }
 }

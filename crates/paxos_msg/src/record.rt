@@ -11,7 +11,7 @@ use crate::votes::Votes;
 use std::alloc::{AllocError, Global};
 
 /// The part of an acceptor that its store keeps.
-#[derive(Clone)]
+#[derive(Clone, Drop)]
 pub struct Record<V = Value> {
     /// The number of starts of the node.
     pub starts: u32,
@@ -19,16 +19,6 @@ pub struct Record<V = Value> {
     pub promised: Option<Ballot>,
     /// At most one vote for each place, none above the promised ballot.
     pub votes: Votes<V>,
-}
-
-impl<V: Drop> Drop for Record<V> {
-    fn drop(self) {
-        let Record {
-            starts: _starts,
-            promised: _promised,
-            votes: _votes,
-        } = self;
-    }
 }
 
 /// One change of a record.

@@ -10,15 +10,9 @@ use std::marker::Model;
 
 /// A list of votes, in ascending order of place. It is made from a `Vec` and turned back into one
 /// without memory.
-#[derive(Clone)]
+#[derive(Clone, Drop)]
 pub struct Votes<V = Value> {
     items: Vec<Vote<V>>,
-}
-
-impl<V: Drop> Drop for Votes<V> {
-    fn drop(self) {
-        let Votes { items: _items } = self;
-    }
 }
 
 impl<V> Model for Votes<V> {

@@ -6,7 +6,7 @@ use Rattle.paxos_msg.specs.Batches.{Msg}
 use Rattle.paxos_msg.specs.declared.fault.WireFault.{WireFault}
 use Rattle.paxos_msg.specs.Reading.{Gives, message_at}
 use Rattle.paxos_msg.specs.Spelling.{Msgs}
-use Rattle.paxos_msg.specs.Grammar.{AreBytes, IsGroup}
+use Rattle.paxos_msg.specs.Fits.{AreBytes, IsGroup}
 use Rattle.paxos_msg.specs.Views.{HasUpTo}
 use Rattle.paxos_msg.specs.declared.limits.TheConstants.{MOST_VOTES}
 use Rattle.paxos_msg.proofs.MessagesRead.{message_again, reading_is_spelling}

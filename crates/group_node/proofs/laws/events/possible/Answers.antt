@@ -8,8 +8,7 @@ use Rattle.paxos_msg.specs.declared.value.Value.{Value}
 use Rattle.paxos_msg.specs.declared.value.Value.TheVariants.{Keys, Noop}
 use Rattle.paxos_msg.specs.declared.message.Body.TheVariants.{Accept, Accepted, Prepare, Promise}
 use Rattle.paxos_msg.specs.Batches.{Sent, Vote}
-use Rattle.paxos_msg.specs.Fits.{IsBallot, IsBody, IsValue}
-use Rattle.paxos_msg.specs.Grammar.{AreBytes}
+use Rattle.paxos_msg.specs.Fits.{IsBallot, IsBody, IsValue, AreBytes}
 use Rattle.paxos_msg.specs.Keys.{Key}
 use Rattle.paxos_msg.specs.Messages.{IsSaid}
 use Rattle.paxos_proposer.specs.Backed.{IsProposerBacked, IsQuietUnder}

@@ -31,8 +31,7 @@ use Rattle.group_node.specs.Pump.{pump, accepts_of}
 use Rattle.group_world.specs.Ordered.{IsFirstUnread}
 use Rattle.group_world.proofs.OrderRows.{IsParted}
 use Rattle.paxos_msg.specs.declared.message.Group.{Group}
-use Rattle.paxos_msg.specs.Fits.{Fits}
-use Rattle.paxos_msg.specs.Grammar.{IsGroup}
+use Rattle.paxos_msg.specs.Fits.{Fits, IsGroup}
 use Rattle.paxos_msg.specs.Messages.{IsSaid}
 use Rattle.paxos_msg.specs.Spelling.{kind_of, Msgs, spelling}
 use Rattle.paxos_acceptor.specs.declared.me.Me.{Me}

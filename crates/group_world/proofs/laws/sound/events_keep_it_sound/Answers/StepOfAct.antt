@@ -10,7 +10,7 @@ use Rattle.std.specs.List.{cons_option}
 use Rattle.paxos_msg.specs.declared.message.Group.{Group}
 use Rattle.paxos_msg.specs.declared.value.Value.{Value}
 use Rattle.paxos_msg.specs.Batches.{Msg, Record, Change, Body}
-use Rattle.paxos_msg.specs.Fits.{Fits}
+use Rattle.paxos_msg.specs.Fits.{Fits, IsGroup}
 use Rattle.paxos_msg.specs.Keys.{Key, keys_of}
 use Rattle.group_node.specs.Protocol.{on_message}
 use Rattle.group_node.specs.Tick.{on_tick}
@@ -42,7 +42,6 @@ use Rattle.group_node.specs.declared.player.Ran.{Ran}
 use Rattle.group_world.specs.declared.event.Act.TheVariants.{Press, Deliver, Campaign, Tick, Run, Release, Crash, Start}
 use Rattle.group_world.proofs.SoundWorldsAgree.{next_of, next_written, written}
 use Rattle.std.proofs.lemmas.List.{length-replicate}
-use Rattle.paxos_msg.specs.Grammar.{IsGroup}
 use Rattle.paxos_msg.specs.Messages.{IsSent}
 
 -- ---- a call that an event makes
