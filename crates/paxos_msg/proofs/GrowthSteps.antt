@@ -7,11 +7,11 @@ use Rattle.std.proofs.lemmas.Bool.Decides.{nat_tests}
 use Rattle.paxos_msg.specs.declared.ballot.Ballot.{Ballot}
 use Rattle.paxos_msg.specs.declared.value.Value.{Value}
 use Rattle.paxos_msg.specs.declared.value.Value.TheVariants as value
-use Rattle.paxos_msg.specs.Batches.{Body, Change, Grew, IsTyped, MaySend, Record, Sent, Vote}
+use Rattle.paxos_msg.specs.Batches.{Body, Change, Grew, IsFree, IsSafe, IsTyped, MaySend, Record, Sent, Vote}
 use Rattle.paxos_msg.specs.declared.record.Change.TheVariants.{Ballotted}
 use Rattle.paxos_msg.specs.declared.record.Change.TheVariants.{Promise as ToPromise}
 use Rattle.paxos_msg.specs.declared.message.Body.TheVariants.{Promise, Accept, Accepted}
-use Rattle.paxos_msg.specs.Ballots.{IsAtMost}
+use Rattle.paxos_msg.specs.Ballots.{IsAtMost, IsMajority}
 use Rattle.paxos_msg.specs.Chosen.{is_listed}
 use Rattle.paxos_msg.specs.Growth.{sends, saves}
 use Rattle.paxos_msg.specs.Keys.{Key}
@@ -61,6 +61,19 @@ none_proposed sent b s none v (i, (k, below, at)) = grind (arith, nat_tests, lis
 pub promised : {sent : Sent} {i s : ℕ} {b : Ballot} (votes : List Vote) → IsSent sent i (Promise b s (suc s) votes)
     → IsPromised sent i b s (kept_vote_at votes s)
 promised votes is_sent = grind (arith, nat_tests)
+
+-- a submitted value is safe where each node of a majority promised without a vote
+pub safe_at_first : {size : ℕ} {sent : Sent} {b : Ballot} {s : ℕ} {v : Value} (nodes : List ℕ) → IsMajority size (is_listed nodes)
+    → AtEach (λ i. IsPromised sent i b s None) nodes → IsFree sent v → IsSafe size sent b s v
+safe_at_first nodes majority each free = record {
+  members = is_listed nodes;
+  reported = λ i. None;
+  best = None;
+  majority = majority;
+  promised = at_listed _ nodes each;
+  is_best = λ i member. refl;
+  value = free;
+}
 
 -- a record without votes reports none
 pub silent : (r : Record) (first upto : ℕ) → r.votes ≡ [] → IsReport r first upto []

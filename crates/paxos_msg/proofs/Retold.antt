@@ -15,7 +15,7 @@ use Rattle.paxos_msg.specs.Sending.{IsGreatest, IsReport}
 use Rattle.paxos_msg.specs.Chosen.{IsChosenBy, is_listed}
 use Rattle.paxos_msg.specs.Growth.{nothing}
 use Rattle.paxos_msg.proofs.BallotOrder.{at_most_refl}
-use Rattle.paxos_msg.proofs.GrowthSteps.{Grown, accepts, and_saved, and_sent, at_listed, is_typed, key_at, none_proposed, promised, promises, silent, typed_at}
+use Rattle.paxos_msg.proofs.GrowthSteps.{Grown, accepts, and_saved, and_sent, at_listed, is_typed, key_at, none_proposed, promised, promises, safe_at_first, silent, typed_at}
 
 abbrev lower : Ballot
 lower = record { round = 1; node = 1 }
@@ -52,16 +52,9 @@ abbrev three_promise : Grown 5
 three_promise = promises (promises (promises submits 1 lower 3 tt refl) 2 lower 3 tt refl) 3 lower 3 tt refl
 
 safe : IsSafe 5 three_promise.sent lower 3 key
-safe = record {
-  members = is_listed first_three;
-  reported = λ i. None;
-  best = None;
-  majority = lit< tt;
-  promised = at_listed (λ i. IsPromised three_promise.sent i lower 3 None) first_three
-      (promised [] (1, lit< tt, refl), (promised [] (2, lit< tt, refl), (promised [] (3, lit< tt, refl), tt)));
-  is_best = λ i member. refl;
-  value = inr (4, (0, lit< tt, refl));
-}
+safe = safe_at_first first_three (lit< tt)
+    (promised [] (1, lit< tt, refl), (promised [] (2, lit< tt, refl), (promised [] (3, lit< tt, refl), tt)))
+    (inr (4, (0, lit< tt, refl)))
 
 abbrev proposes : Grown 5
 proposes = and_sent three_promise 1 [] (Accept lower 3 key) (refl, inr (none_proposed three_promise.sent lower 3 refl, safe))

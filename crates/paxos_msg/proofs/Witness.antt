@@ -1,14 +1,14 @@
 -- A growth of a group of three, written out, in which a submitted key is chosen.
-use Rattle.std.proofs.Common.{ℕ, inr, List, [], ◌∷◌, None, refl, lit<}
+use Rattle.std.proofs.Common.{ℕ, inr, List, [], ◌∷◌, refl, lit<}
 use Rattle.paxos_msg.specs.declared.ballot.Ballot.{Ballot}
 use Rattle.paxos_msg.specs.Batches.{Grew, IsSafe, Record, Sent}
 use Rattle.paxos_msg.specs.declared.message.Body.TheVariants.{Prepare, Accept, Accepted, Submit}
-use Rattle.paxos_msg.specs.Messages.{IsSent, IsPromised}
+use Rattle.paxos_msg.specs.Messages.{IsSent}
 use Rattle.paxos_msg.specs.Records.{empty_record}
 use Rattle.paxos_msg.specs.Chosen.{IsChosen, is_listed}
 use Rattle.paxos_msg.specs.Growth.{nothing}
 use Rattle.paxos_msg.proofs.BallotOrder.{at_most_refl}
-use Rattle.paxos_msg.proofs.GrowthSteps.{Grown, accepts, and_sent, at_listed, is_typed, key_at, none_proposed, promised, promises, typed_at}
+use Rattle.paxos_msg.proofs.GrowthSteps.{Grown, accepts, and_sent, at_listed, is_typed, key_at, none_proposed, promised, promises, safe_at_first, typed_at}
 
 abbrev ballot : Ballot
 ballot = record { round = 1; node = 1 }
@@ -38,16 +38,8 @@ abbrev two_promise : Grown 3
 two_promise = promises prepares 2 ballot 0 tt refl
 
 safe : IsSafe 3 two_promise.sent ballot 0 (key_at 2)
-safe = record {
-  members = is_listed pair;
-  reported = λ i. None;
-  best = None;
-  majority = lit< tt;
-  promised = at_listed (λ i. IsPromised two_promise.sent i ballot 0 None) pair
-      (promised [] (1, lit< tt, refl), (promised [] (3, lit< tt, refl), tt));
-  is_best = λ i member. refl;
-  value = inr (2, (0, lit< tt, refl));
-}
+safe =
+    safe_at_first pair (lit< tt) (promised [] (1, lit< tt, refl), (promised [] (3, lit< tt, refl), tt)) (inr (2, (0, lit< tt, refl)))
 
 -- node 1 proposes the key, and both accept it
 abbrev proposes : Grown 3
