@@ -10,7 +10,7 @@ use Rattle.paxos_msg.specs.declared.message.Body.TheVariants.{Accept, Prepare}
 use Rattle.paxos_msg.specs.Batches.{Body, Msg, Record, Sent}
 use Rattle.paxos_msg.specs.Keys.{Key}
 use Rattle.paxos_msg.specs.Messages.{IsSaid, IsSent}
-use Rattle.paxos_acceptor.specs.Backed.{HasBackedVotes as IsVotesBacked}
+use Rattle.paxos_acceptor.specs.Records.{HasBackedVotes as IsVotesBacked}
 use Rattle.paxos_proposer.specs.Backed.{IsProposerBacked, IsQuietUnder}
 use Rattle.paxos_proposer.specs.Proposer.{Proposer}
 use Rattle.paxos_learner.specs.Backed.{IsLearnerBacked, Stays}

@@ -6,7 +6,7 @@ use Rattle.paxos_msg.specs.Ballots.{IsAtMost}
 use Rattle.paxos_msg.specs.Batches.{Change, Record, Sent}
 use Rattle.paxos_msg.specs.Records.{changed, MaySave}
 use Rattle.paxos_acceptor.specs.Answers.{after}
-use Rattle.paxos_acceptor.specs.Backed.{HasBackedVotes as IsVotesBacked}
+use Rattle.paxos_acceptor.specs.Records.{HasBackedVotes as IsVotesBacked}
 use Rattle.paxos_acceptor.specs.Stores.{IsOneOf}
 use Rattle.group_node.specs.Backs.{HasPromised, IsRecordBacked}
 use Rattle.group_node.specs.Steps.{IsSavedBy}

@@ -3,8 +3,7 @@ use Rattle.std.specs.Prelude.{ℕ, [], ◌∷◌, Option, Some, None, is_some, i
 use Rattle.paxos_msg.specs.declared.ballot.Ballot.{Ballot}
 use Rattle.paxos_msg.specs.declared.value.Value.{Value}
 use Rattle.paxos_msg.specs.Batches.{Record}
-use Rattle.paxos_acceptor.specs.Answers.{Answer, accept_of, after, prepare_of}
-use Rattle.paxos_acceptor.specs.Cases.{greater_promise}
+use Rattle.paxos_acceptor.specs.Answers.{Answer, accept_of, after, prepare_of, greater_promise}
 use Rattle.paxos_proposer.specs.Proposer.{Proposer}
 use Rattle.group_node.specs.declared.packet.To.{To}
 use Rattle.group_node.specs.declared.packet.To.TheVariants as whom

@@ -7,7 +7,7 @@ use Rattle.paxos_msg.specs.Ballots.{IsAtMost}
 use Rattle.paxos_msg.specs.Batches.{Record, Sent}
 use Rattle.paxos_msg.specs.Keys.{Key}
 use Rattle.paxos_msg.specs.Messages.{IsSaid}
-use Rattle.paxos_acceptor.specs.Backed.{HasBackedVotes as IsVotesBacked}
+use Rattle.paxos_acceptor.specs.Records.{HasBackedVotes as IsVotesBacked}
 use Rattle.paxos_proposer.specs.Backed.{IsProposerBacked}
 use Rattle.paxos_proposer.specs.Proposer.{Proposer}
 use Rattle.paxos_learner.specs.Backed.{IsLearnerBacked}

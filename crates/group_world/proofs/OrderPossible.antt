@@ -15,7 +15,7 @@ use Rattle.paxos_msg.specs.Batches.{Body, Grew, IsTyped, Msg, Vote, Change, IsSa
 use Rattle.paxos_msg.specs.Keys.{Key, keys_of, AreOwnKeys, batches}
 use Rattle.paxos_msg.specs.Fits.{IsValue, IsVote, IsBody, IsBallot, IsNode, AreBytes}
 use Rattle.paxos_msg.specs.Messages.{IsSaid, IsSent, kept_vote_at}
-use Rattle.paxos_acceptor.specs.Backed.{IsVoteBacked}
+use Rattle.paxos_acceptor.specs.Records.{IsVoteBacked}
 use Rattle.paxos_learner.specs.Input.{input_of}
 use Rattle.group_node.specs.Backs.{HasPromised, IsRecordBacked}
 use Rattle.group_node.specs.Inputs.{AreChosen}

@@ -1,5 +1,5 @@
 -- The answers of an acceptor, and the changes that it saves before them.
-use Rattle.std.specs.Prelude.{ℕ, ◌+◌, ◌-◌, nat_lt, List, All, length, take, slice_get, Option, Some, None, if◌then◌else◌}
+use Rattle.std.specs.Prelude.{ℕ, ◌+◌, ◌-◌, nat_lt, Bool, false, List, All, length, take, slice_get, Option, Some, None, if◌then◌else◌}
 use Rattle.std.specs.Option.{option_map_or}
 use Rattle.paxos_msg.specs.declared.ballot.Ballot.{Ballot}
 use Rattle.paxos_msg.specs.declared.value.Value.{Value}
@@ -9,9 +9,29 @@ use Rattle.paxos_msg.specs.declared.message.Body.TheVariants.{Promise, Accepted,
 use Rattle.paxos_msg.specs.Fits.{IsPlace}
 use Rattle.paxos_msg.specs.Messages.{kept_vote_at}
 use Rattle.paxos_msg.specs.Records.{changed}
-use Rattle.paxos_acceptor.specs.Cases.{greater_promise, is_promised, value_under}
 use Rattle.paxos_msg.specs.Places.{votes_from}
+use Rattle.paxos_msg.specs.Tests.{ballot_lt, same_ballot}
 use Rattle.paxos_msg.specs.declared.limits.TheConstants.{MOST_VOTES, PLACES}
+
+-- The promised ballot, if it is greater than `b`.
+-- Source: Simple 2.2.
+-- Allows: A ballot of the same round and a greater node.
+abbrev pub greater_promise : Option Ballot → Ballot → Option Ballot
+greater_promise None b = None
+greater_promise (Some p) b = if ballot_lt b p then Some p else None
+
+-- True if `b` is the promised ballot.
+-- Source: Simple 2.2.
+-- Forbids: A refusal of the promised ballot itself.
+abbrev pub is_promised : Option Ballot → Ballot → Bool
+is_promised None b = false
+is_promised (Some p) b = same_ballot p b
+
+-- The value of the vote, if it is under `b`.
+-- Source: Simple 2.2.
+abbrev pub value_under : Option Vote → Ballot → Option Value
+value_under None b = None
+value_under (Some vote) b = if same_ballot vote.ballot b then Some vote.value else None
 
 -- An answer, and the change that is saved before it, if any.
 pub record Answer : Type 0 where

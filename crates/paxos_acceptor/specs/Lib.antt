@@ -4,10 +4,8 @@ pub mod Version1
 pub mod RecordReading
 pub mod Stores
 pub mod Follows
-pub mod Backed
 pub mod Memories
 pub mod Opening
-pub mod Cases
 pub mod Saves
 pub mod Log
 pub mod Files

@@ -1,10 +1,10 @@
 -- A record as version 1 spelled it: a value was a single key or a no-op.
-use Rattle.std.specs.Prelude.{◌≡◌, ℕ, List, [], ◌∷◌, ◌++◌, length, All}
+use Rattle.std.specs.Prelude.{◌≡◌, ℕ, List, [], ◌∷◌, ◌++◌, All}
 use Rattle.paxos_msg.specs.Batches.{Record, Vote}
 use Rattle.paxos_msg.specs.Spelling.{number_bytes, ballot_bytes}
 use Rattle.paxos_msg.specs.Version1.{IsSingle, value_bytes_v1}
 use Rattle.paxos_acceptor.specs.declared.me.Me.{Me}
-use Rattle.paxos_acceptor.specs.Records.{IsRecord, record_header, promised_bytes}
+use Rattle.paxos_acceptor.specs.Records.{IsRecord, record_spelling}
 
 -- Votes, each for one key at most.
 abbrev pub AreSingle : List Vote → Type 0
@@ -21,9 +21,7 @@ votes_bytes_v1 (v ∷ vs) = vote_bytes_v1 v ++ votes_bytes_v1 vs
 
 -- The bytes of a record in version 1.
 abbrev pub record_bytes_v1 : Me → Record → List ℕ
-record_bytes_v1 me r =
-    record_header 1 me ++ number_bytes r.starts ++ promised_bytes r.promised
-    ++ number_bytes (length r.votes) ++ votes_bytes_v1 r.votes
+record_bytes_v1 = record_spelling 1 votes_bytes_v1
 
 -- Bytes that are the spelling of a record in its ranges in version 1, each of whose votes is for
 -- one key at most.

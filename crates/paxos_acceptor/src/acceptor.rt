@@ -1,22 +1,19 @@
 //! An acceptor.
 ghost use Rattle.std.specs.Prelude.{◌≡◌, ◌≢◌, ◌↔◌, false, None, Some, IfOk, IfErr, IsErrOf, MatchResult, Result};
-ghost use Rattle.paxos_msg.specs.declared.message.Body.TheVariants.{Accepted};
 ghost use Rattle.paxos_msg.specs.declared.record.Change.TheVariants.{Start};
 ghost use Rattle.paxos_msg.specs.Batches.{Record as Kept};
 ghost use Rattle.paxos_msg.specs.Fits.{IsBallot, IsPlace, IsValue};
-ghost use Rattle.paxos_acceptor.specs.Answers.{accept_of, prepare_of};
-ghost use Rattle.paxos_acceptor.specs.Cases.{greater_promise};
+ghost use Rattle.paxos_acceptor.specs.Answers.{accept_of, prepare_of, greater_promise};
 ghost use Rattle.paxos_acceptor.specs.Follows.{Follows};
 ghost use Rattle.paxos_acceptor.specs.Opening.{Opens, fault_of_load};
 ghost use Rattle.paxos_acceptor.specs.Records.{IsRecord};
 ghost use Rattle.paxos_acceptor.specs.Stores.{HasCause};
 ghost use Rattle.paxos_msg.specs.declared.limits.TheConstants.{LAST_START};
 
-use crate::cases::{greater_promise, is_promised, value_under};
+use crate::answers::{accepted, greater_promise, is_promised, part_from, value_under};
 use crate::codec::record_fits;
 use crate::fault::AcceptorFault;
 use crate::me::Me;
-use crate::part::part_from;
 use crate::saving::{save_to, save_vote};
 use crate::store::{Store, StoreFault};
 use paxos_msg::limits::LAST_START;
@@ -108,17 +105,6 @@ fn over<S: Store>(
         store,
         alloc,
     })
-}
-
-/// Returns the answer that reports `vote`.
-fn accepted(vote: &Vote) -> Body
-    ensures { result ≡ Accepted vote.now.ballot vote.now.place vote.now.value }
-{
-    Body::Accepted {
-        ballot: vote.ballot,
-        place: vote.place,
-        value: vote.value,
-    }
 }
 
 impl<S: Store> Acceptor<S> {

@@ -1,15 +1,13 @@
-//! Appends a change to a log as its next entry.
-ghost use Rattle.std.specs.Prelude.{◌≡◌, ◌+◌, ◌++◌, ◌≤◌, ℕ, length, vec_capacity, vec_len, OnErr, OnOk};
+//! Appends the entry of a change to a log.
+ghost use Rattle.std.specs.Prelude.{◌≡◌, ◌+◌, ◌++◌, ◌≤◌, ℕ, length, vec_capacity, vec_len, OnOk};
 ghost use Rattle.paxos_msg.specs.Spelling.{Puts};
 ghost use Rattle.paxos_msg.specs.declared.record.Change.{Change};
 ghost use Rattle.paxos_msg.specs.declared.value.Value.{Value};
 ghost use Rattle.paxos_acceptor.specs.declared.version.Version.TheVariants.{Two};
-ghost use Rattle.paxos_acceptor.specs.Log.{IsEntry, IsInRanges, MakesChange, entry_bytes};
-ghost use Rattle.paxos_acceptor.specs.Records.{IsRecord};
+ghost use Rattle.paxos_acceptor.specs.Log.{IsInRanges, entry_bytes};
 
-use crate::entry::enter;
 use crate::me::Me;
-use paxos_msg::{Change, Record, put_ballot, put_number, put_value};
+use paxos_msg::{Change, put_ballot, put_number, put_value};
 use std::alloc::AllocError;
 
 /// The length in bytes of the longest entry: its tag, a place, a ballot, and a batch of 32
@@ -41,23 +39,13 @@ fn put_entry(change: &Change, out: &mut Vec<u8>)
     }
 }
 
-/// Makes a change that can be made, and appends its entry to the bytes. The room for both is made
-/// first, so after an error nothing has changed.
-pub(crate) fn append(
-    kept: &mut Record,
-    change: Change,
-    me: Me,
-    out: &mut Vec<u8>,
-) -> Result<(), AllocError>
-    requires ranges { IsRecord me.group.size kept.old }
-    requires entry { IsEntry me.group.size kept.old change }
-    ensures makes { MakesChange me.group.size kept.old kept.new change result }
-    ensures spelled { OnOk result (out.new.items ≡ out.old.items ++ entry_bytes Two change) }
-    ensures unspelled { OnErr result (out.new.items ≡ out.old.items) }
+/// Makes room for the entry of a change whose fields are in their ranges, and appends it.
+pub(crate) fn append(change: &Change, me: Me, out: &mut Vec<u8>) -> Result<(), AllocError>
+    requires { IsInRanges me.group.size change.now }
+    ensures { OnOk result (out.new.items ≡ out.old.items ++ entry_bytes Two change.now) }
 {
     entries_are_short();
     out.reserve(MOST_BYTES)?;
-    enter(kept, change, me)?;
-    put_entry(&change, out);
+    put_entry(change, out);
     Ok(())
 }

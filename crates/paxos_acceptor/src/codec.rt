@@ -8,11 +8,13 @@ ghost use Rattle.paxos_msg.specs.Records.{changed};
 ghost use Rattle.paxos_msg.specs.Spelling.{Puts, number_bytes, votes_bytes};
 ghost use Rattle.paxos_acceptor.specs.declared.me.Me.{Me};
 ghost use Rattle.paxos_acceptor.specs.declared.version.Version.TheVariants.{One, Two};
+ghost use Rattle.paxos_acceptor.specs.Log.{IsEntry, MakesChange};
 ghost use Rattle.paxos_acceptor.specs.Records.{AreKept, IsRecord, Rec, record_header, promised_bytes, record_bytes};
 ghost use Rattle.paxos_acceptor.specs.RecordReading.{record_at};
 ghost use Rattle.paxos_acceptor.specs.Version1.{Rec1};
 ghost use Rattle.paxos_msg.specs.declared.limits.TheConstants.{PLACES};
 
+use crate::entry::enter;
 use crate::me::Me;
 use crate::reading::record_of;
 use crate::store::StoreFault;
@@ -22,8 +24,10 @@ use paxos_msg::grammar::{
     votes_are_spelling,
 };
 use paxos_msg::limits::PLACES;
-use paxos_msg::{Ballot, Record, Vote, fits_ballot, fits_votes, put_ballot, put_number, put_votes};
-use std::alloc::Global;
+use paxos_msg::{
+    Ballot, Change, Record, Vote, fits_ballot, fits_votes, put_ballot, put_number, put_votes,
+};
+use std::alloc::{AllocError, Global};
 
 /// Returns true if the votes may be kept with the promised ballot. Without one there are none. Else
 /// their places ascend and none is above it.
@@ -128,7 +132,7 @@ fn put_kept(votes: &[Vote], out: &mut Vec<u8>)
 }
 
 /// Returns the length in bytes of the longest spelling of a record with this many votes.
-pub(crate) fn most_bytes(votes: usize) -> usize
+fn most_bytes(votes: usize) -> usize
     requires { votes ≤ PLACES + 1 }
     ensures { result ≡ 22 + 52 * votes }
 {
@@ -136,7 +140,7 @@ pub(crate) fn most_bytes(votes: usize) -> usize
 }
 
 /// Appends the spelling of the record in version 2. The record is in its ranges.
-pub(crate) fn put_record(kept: &Record, me: Me, out: &mut Vec<u8>)
+fn put_record(kept: &Record, me: Me, out: &mut Vec<u8>)
     requires ranges { IsRecord me.group.size kept.now }
     requires room { vec_len out.old + (22 + 52 * length kept.now.votes) ≤ vec_capacity out.old }
     ensures { Puts out.old out.new (record_bytes me kept.now) }
@@ -161,9 +165,30 @@ pub fn record_encode(alloc: Global, kept: &Record, me: Me) -> Result<Vec<u8>, St
     Ok(out)
 }
 
+/// Makes a change that can be made, and returns the spelling of the changed record. The room for
+/// both is made first, so after an error nothing has changed.
+pub(crate) fn spell_changed(
+    alloc: Global,
+    kept: &mut Record,
+    change: Change,
+    me: Me,
+) -> Result<Vec<u8>, AllocError>
+    requires ranges { IsRecord me.group.size kept.old }
+    requires entry { IsEntry me.group.size kept.old change }
+    ensures makes { MakesChange me.group.size kept.old kept.new change result }
+    ensures spelled { IfOk result
+        (λ bytes. bytes.items ≡ record_bytes me (changed kept.old change)) }
+{
+    kept_votes_are_few();
+    let mut bytes = Vec::with_capacity(alloc, most_bytes(kept.votes.as_slice().len() + 1))?;
+    enter(kept, change, me)?;
+    put_record(kept, me, &mut bytes);
+    Ok(bytes)
+}
+
 /// A record has at most 65,536 votes, each spelled with at most 52 bytes. A change adds at most one
 /// vote.
-pub(crate) fn kept_votes_are_few()
+fn kept_votes_are_few()
     ensures few { (size : ℕ) (r : Record Value) → IsRecord size r → length r.votes ≤ PLACES }
     ensures short { (size : ℕ) (r : Record Value) → IsRecord size r
         → length (votes_bytes r.votes) ≤ 52 * length r.votes }

@@ -25,6 +25,7 @@ use std::rt::Files;
 ///
 /// Contracts see the record that was found or saved last, and how often the device has failed.
 /// After a fault nothing is saved until the record is loaded again.
+#[derive(Drop)]
 pub struct FileStore<R> {
     rt: R,
     path: String,
@@ -33,20 +34,6 @@ pub struct FileStore<R> {
     found: Option<Record>,
     form: Form,
     faults: u64,
-}
-
-impl<R: Drop> Drop for FileStore<R> {
-    fn drop(self) {
-        let FileStore {
-            rt: _rt,
-            path: _path,
-            fresh_path: _fresh_path,
-            me: _me,
-            found: _found,
-            form: _form,
-            faults: _faults,
-        } = self;
-    }
 }
 
 impl<R> Model for FileStore<R> {

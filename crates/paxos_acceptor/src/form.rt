@@ -10,7 +10,7 @@ ghost use Rattle.paxos_acceptor.specs.Log.{IsEntry, LogIn, MakesChange, log_head
 ghost use Rattle.paxos_acceptor.specs.Records.{IsRecord, record_bytes};
 
 use crate::append::append;
-use crate::codec::{kept_votes_are_few, most_bytes, put_record, record_decode, record_migrate};
+use crate::codec::{record_decode, record_migrate, spell_changed};
 use crate::entry::enter;
 use crate::laws::{files_are_known, forms_are_apart};
 use crate::log::{log_header, log_of};
@@ -138,29 +138,8 @@ fn new_log(alloc: Global, me: Me) -> Result<Vec<u8>, AllocError>
     Ok(bytes)
 }
 
-/// Makes a change that can be made, and returns the spelling of the changed record. The room for
-/// both is made first, so after an error nothing has changed.
-fn spell_changed(
-    alloc: Global,
-    kept: &mut Record,
-    change: Change,
-    me: Me,
-) -> Result<Vec<u8>, AllocError>
-    requires ranges { IsRecord me.group.size kept.old }
-    requires entry { IsEntry me.group.size kept.old change }
-    ensures makes { MakesChange me.group.size kept.old kept.new change result }
-    ensures spelled { IfOk result
-        (λ bytes. bytes.items ≡ record_bytes me (changed kept.old change)) }
-{
-    kept_votes_are_few();
-    let mut bytes = Vec::with_capacity(alloc, most_bytes(kept.votes.as_slice().len() + 1))?;
-    enter(kept, change, me)?;
-    put_record(kept, me, &mut bytes);
-    Ok(bytes)
-}
-
 /// Makes a change that can be made, and returns the bytes that a file of that form needs to have
-/// the changed record. After an error nothing has changed.
+/// the changed record. The change comes last, so after an error nothing has changed.
 pub(crate) fn patch_of(
     alloc: Global,
     form: &Form,
@@ -182,7 +161,8 @@ pub(crate) fn patch_of(
         Form::Cut(bytes) => (None, bytes.clone()?),
         Form::Log(length) => (Some(*length), Vec::new(alloc)),
     };
-    append(kept, change, me, &mut bytes)?;
+    append(&change, me, &mut bytes)?;
+    enter(kept, change, me)?;
     Ok(Patch { at, bytes })
 }
 

@@ -12,8 +12,8 @@
 #![tactic(auto)]
 
 mod acceptor;
+mod answers;
 mod append;
-mod cases;
 mod codec;
 mod disk;
 mod ending;
@@ -25,7 +25,6 @@ pub mod laws;
 mod log;
 mod me;
 mod memory;
-mod part;
 mod reading;
 mod saving;
 mod store;
@@ -34,7 +33,7 @@ mod version;
 mod version1;
 
 pub use acceptor::{Acceptor, OpenRefused};
-pub use cases::greater_promise;
+pub use answers::greater_promise;
 pub use codec::{record_decode, record_encode, record_fits, record_migrate};
 pub use fault::AcceptorFault;
 pub use file::FileStore;

@@ -11,20 +11,11 @@ use paxos_msg::{Change, Record};
 use std::marker::Model;
 
 /// A record in memory, and the planned fault of the next save, if any.
+#[derive(Drop)]
 pub struct MemoryStore {
     record: Record,
     plan: Option<bool>,
     faults: u64,
-}
-
-impl Drop for MemoryStore {
-    fn drop(self) {
-        let MemoryStore {
-            record: _record,
-            plan: _plan,
-            faults: _faults,
-        } = self;
-    }
 }
 
 impl Model for MemoryStore {

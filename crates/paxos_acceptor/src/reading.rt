@@ -105,29 +105,8 @@ fn lent_votes(
     Ok(votes)
 }
 
-/// Reads `count` votes under the ballot in that version, which have to be all of the bytes.
-fn votes_under(
-    alloc: Global,
-    version: Version,
-    group: Group,
-    ballot: Ballot,
-    count: u32,
-    bytes: &[u8],
-) -> Result<Vec<Vote>, StoreFault>
-    ensures { ReadsAs (λ votes. votes.items) result
-        (votes_of version group.size (Some ballot) count bytes.now) }
-{
-    match version {
-        Version::One => votes_of_v1(alloc, group, ballot, count, bytes),
-        Version::Two => match lent_votes(group, ballot, count, bytes) {
-            Ok(votes) => Ok(votes.collect(alloc)?),
-            Err(_) => Err(StoreFault::Bad),
-        },
-    }
-}
-
-/// Reads the votes of a record, which have to be all of the bytes. Without a promise there are
-/// none.
+/// Reads the votes of a record in that version, which have to be all of the bytes. Without a
+/// promise there are none.
 fn kept_votes(
     alloc: Global,
     version: Version,
@@ -138,10 +117,14 @@ fn kept_votes(
     ensures { ReadsAs (λ votes. votes.items) result
         (votes_of version group.size head.promised head.count bytes.now) }
 {
-    match head.promised {
-        Some(ballot) => votes_under(alloc, version, group, ballot, head.count, bytes),
-        None if head.count == 0 && bytes.is_empty() => Ok(Vec::new(alloc)),
-        None => Err(StoreFault::Bad),
+    match (head.promised, version) {
+        (None, _) if head.count == 0 && bytes.is_empty() => Ok(Vec::new(alloc)),
+        (None, _) => Err(StoreFault::Bad),
+        (Some(ballot), Version::One) => votes_of_v1(alloc, group, ballot, head.count, bytes),
+        (Some(ballot), Version::Two) => match lent_votes(group, ballot, head.count, bytes) {
+            Ok(votes) => Ok(votes.collect(alloc)?),
+            Err(_) => Err(StoreFault::Bad),
+        },
     }
 }
 

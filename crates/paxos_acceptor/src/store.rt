@@ -8,7 +8,7 @@ ghost use Rattle.paxos_acceptor.specs.Stores.{StoreState, FailsAsTold, HasCause,
 ghost use Rattle.paxos_msg.specs.declared.limits.TheConstants.{LAST_START};
 
 use paxos_msg::{Change, Record};
-use std::alloc::{AllocError, AllocFailed};
+use std::alloc::AllocError;
 
 /// The fault of a store.
 #[derive(Clone, Copy, Debug, PartialEq, Eq)]
@@ -26,14 +26,6 @@ impl From<AllocError> for StoreFault {
     ghost from_gives = { λ _ e. e ≡ Memory };
 
     fn from(_: AllocError) -> Self {
-        StoreFault::Memory
-    }
-}
-
-impl<T: Drop> From<AllocFailed<T>> for StoreFault {
-    ghost from_gives = { λ _ e. e ≡ Memory };
-
-    fn from(_: AllocFailed<T>) -> Self {
         StoreFault::Memory
     }
 }

@@ -63,7 +63,9 @@ pub(crate) fn votes_of_v1(
             return Err(StoreFault::Bad);
         };
         low = vote.place + 1;
-        votes.push(vote)?;
+        let Ok(()) = votes.push(vote) else {
+            return Err(StoreFault::Memory);
+        };
         rest = after;
     }
     if !rest.is_empty() {

@@ -1,7 +1,7 @@
 use Rattle.std.proofs.Common.{nat_lt, rules}
 use Rattle.std.proofs.lemmas.List.Sorted.{IsPartitionPoint-from_clause, IsPartitionedBy-ltb}
 use Rattle.paxos_acceptor.proofs.Reports.{dropped_at, places_rise}
-use Rattle.paxos_acceptor.proofs.part.count_before.Goals as goal
+use Rattle.paxos_acceptor.proofs.answers.count_before.Goals as goal
 
 -- the closure tests whether a vote's place is below
 pub returns-clause-rest : goal.returns-clause-rest

@@ -2,7 +2,7 @@ use Rattle.std.proofs.Common.{◌≤◌, arith}
 use Rattle.std.proofs.lemmas.List.{length-take}
 use Rattle.std.proofs.lemmas.List.Elements.{All-take}
 use Rattle.paxos_msg.specs.declared.limits.TheConstants.{MOST_VOTES}
-use Rattle.paxos_acceptor.proofs.part.upto.Goals as goal
+use Rattle.paxos_acceptor.proofs.answers.upto.Goals as goal
 
 pub slice_bounds-place_after-end : goal.slice_bounds-place_after-end
 slice_bounds-place_after-end c = omega (arith, length-take MOST_VOTES c.args.remaining.now)

@@ -9,7 +9,7 @@ pub returns-in_default : goal.returns-in_default
 returns-in_default c = rw (fault_next c.loop.invariant (omega arith) c.in_default.ensures.exact) refl
 
 pub loop-preserved : goal.loop-preserved
-loop-preserved c = rw (c.in_ok-push.ensures.items) (one_more c.loop.invariant (omega arith) c.in-Ok.ensures.exact)
+loop-preserved c = rw (c.in-Ok-push.ensures.items) (one_more c.loop.invariant (omega arith) c.in-Ok.ensures.exact)
 
 pub returns-then-not-is_empty : goal.returns-then-not-is_empty
 returns-then-not-is_empty c = rw (none_left c.loop.invariant (omega arith)) (search rules)

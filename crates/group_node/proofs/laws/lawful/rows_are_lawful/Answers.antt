@@ -15,9 +15,8 @@ use Rattle.paxos_msg.specs.Messages.{IsSaid}
 use Rattle.paxos_msg.specs.Records.{MaySave}
 use Rattle.paxos_msg.specs.Sending.{IsNoNewProposal}
 use Rattle.paxos_msg.specs.Tests.{ballot_lt}
-use Rattle.paxos_acceptor.specs.Answers.{accept_of, after, Answer, prepare_of}
-use Rattle.paxos_acceptor.specs.Backed.{HasBackedVotes as IsVotesBacked}
-use Rattle.paxos_acceptor.specs.Cases.{greater_promise}
+use Rattle.paxos_acceptor.specs.Answers.{accept_of, after, Answer, prepare_of, greater_promise}
+use Rattle.paxos_acceptor.specs.Records.{HasBackedVotes as IsVotesBacked}
 use Rattle.paxos_proposer.specs.Backed.{IsProposerBacked}
 use Rattle.paxos_proposer.specs.Proposer.{asks_on, Proposer, proposer_after_part}
 use Rattle.group_node.specs.declared.packet.To.{To}
