@@ -16,7 +16,7 @@ use Rattle.paxos_learner.specs.Entered.{keys_with}
 use Rattle.group_node.specs.Pump.{Proposals, accepts_of, offer, pump, stop}
 use Rattle.group_node.specs.Known.{Known, Response, quiet, front}
 use Rattle.paxos_msg.specs.declared.limits.TheConstants.{PLACES}
-use Rattle.group_node.specs.declared.limits.TheConstants.{MOST_PUMPED}
+use Rattle.paxos_proposer.specs.declared.proposer.TheConstants.{MOST_PUMPED}
 
 -- The greatest round of a ballot that the node has promised or that a Refused reported.
 abbrev pub last_round : Known → ℕ

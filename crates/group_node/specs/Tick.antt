@@ -11,7 +11,8 @@ use Rattle.group_node.specs.Packets.{Packet, to_all, to_one}
 use Rattle.group_node.specs.Pump.{accepts_of, pump}
 use Rattle.group_node.specs.Known.{Known, Response, front, own_batch}
 use Rattle.paxos_msg.specs.declared.limits.TheConstants.{LAST_PLACE, MOST_CHARACTERS, PLACES}
-use Rattle.group_node.specs.declared.limits.TheConstants.{MOST_AGAIN, MOST_PUMPED}
+use Rattle.group_node.specs.declared.limits.TheConstants.{MOST_AGAIN}
+use Rattle.paxos_proposer.specs.declared.proposer.TheConstants.{MOST_PUMPED}
 
 -- The Prepare that asks acceptor `i` for the rest, unless it has promised all places.
 abbrev pub asks_again : Proposer → ℕ → Option Packet

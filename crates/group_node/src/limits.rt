@@ -1,5 +1,7 @@
 //! The limits of a node, each under its name. Code, clauses and definitions cite them.
 
+pub use paxos_proposer::MOST_PUMPED;
+
 /// The most packets that an outbox holds.
 pub const MOST_PACKETS: usize = 64;
 
@@ -12,9 +14,6 @@ pub const TICK_PACKETS: usize = 43;
 
 /// The most packets of a tick that come from the proposer: all but the Submit and the Ask.
 pub const PROPOSER_PACKETS: usize = 41;
-
-/// The most proposals of one pump.
-pub const MOST_PUMPED: u8 = 16;
 
 /// The most Accepts that a tick sends again.
 pub const MOST_AGAIN: u8 = 16;

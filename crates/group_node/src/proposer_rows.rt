@@ -2,7 +2,7 @@
 ghost use Rattle.std.specs.Prelude.{◌≡◌, ℕ, ◌+◌, ◌<◌, ◌≤◌, ◌++◌, [], Err, OnErr, Some, length, option_map, ◌↔◌, ◌⊎◌, IfErr, IsErrOf, IfSome, OnOk, false};
 ghost use Rattle.paxos_msg.specs.declared.message.Body.TheVariants.{Submit};
 ghost use Rattle.paxos_msg.specs.declared.limits.TheConstants.{MOST_CHARACTERS, PLACES};
-ghost use Rattle.group_node.specs.declared.limits.TheConstants.{MOST_PUMPED};
+ghost use Rattle.paxos_proposer.specs.declared.proposer.TheConstants.{MOST_PUMPED};
 ghost use Rattle.group_node.specs.Protocol.{NeedsMemory, row};
 ghost use Rattle.paxos_msg.specs.declared.value.Value.{Value};
 ghost use Rattle.paxos_msg.specs.Fits.{IsBallot, IsPlace, IsValue, Fits};

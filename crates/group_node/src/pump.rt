@@ -3,7 +3,7 @@ ghost use Rattle.std.specs.Prelude.{◌≡◌, ◌≢◌, ◌+◌, ◌<◌, ◌�
 ghost use Rattle.paxos_msg.specs.Fits.{IsValue};
 ghost use Rattle.paxos_proposer.specs.Proposer.{next_of, next_value};
 ghost use Rattle.paxos_msg.specs.declared.limits.TheConstants.{PLACES};
-ghost use Rattle.group_node.specs.declared.limits.TheConstants.{MOST_PUMPED};
+ghost use Rattle.paxos_proposer.specs.declared.proposer.TheConstants.{MOST_PUMPED};
 ghost use Rattle.group_node.specs.Packets.{datagrams_of, GrowsBy, HasRoom};
 ghost use Rattle.group_node.specs.Pump.{accepts_of, propose, pump, stop};
 ghost use Rattle.group_node.specs.Ranges.{IsMember, IsOwnProposer};

@@ -2,7 +2,7 @@
 ghost use Rattle.paxos_proposer.specs.declared.fault.ProposerFault.TheVariants.{Memory};
 ghost use Rattle.std.specs.Prelude.{◌≡◌};
 
-use std::alloc::{AllocError, AllocFailed};
+use std::alloc::AllocError;
 use thiserror::Error;
 
 /// The fault of a proposer. Its text is the refusal's code.
@@ -23,14 +23,6 @@ impl From<AllocError> for ProposerFault {
     ghost from_gives = { λ _ fault. fault ≡ Memory };
 
     fn from(_error: AllocError) -> ProposerFault {
-        ProposerFault::Memory
-    }
-}
-
-impl<T: Drop> From<AllocFailed<T>> for ProposerFault {
-    ghost from_gives = { λ _ fault. fault ≡ Memory };
-
-    fn from(_error: AllocFailed<T>) -> ProposerFault {
         ProposerFault::Memory
     }
 }

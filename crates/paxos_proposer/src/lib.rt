@@ -19,5 +19,5 @@ mod proposer;
 mod rounds;
 
 pub use fault::ProposerFault;
-pub use proposer::{Proposer, RESERVED_PROPOSALS};
+pub use proposer::{MOST_PUMPED, Proposer, RESERVED_PROPOSALS};
 pub use rounds::next_ballot;

@@ -13,14 +13,18 @@ use paxos_msg::{Ballot, BodyView, PLACES, Value, View, Vote};
 use std::alloc::Global;
 use std::marker::Model;
 
+/// The most proposals with which a node goes on at one event, before it offers a value.
+pub const MOST_PUMPED: u8 = 16;
+
 /// The number of proposals that `Proposer::reserve` makes room for: those of one event of a node,
-/// which are at most 16 that go on, and one that offers a value.
-pub const RESERVED_PROPOSALS: usize = 17;
+/// which goes on and then offers a value.
+pub const RESERVED_PROPOSALS: usize = MOST_PUMPED as usize + 1;
 
 /// A proposer under one ballot. From the promises of the acceptors it finds the value that it may
 /// propose at each place, one place after another. A proposal takes two searches, and a part of a
 /// promise two for each of its votes, however many votes are kept. The calls that only read take
 /// none.
+#[derive(Drop)]
 pub struct Proposer {
     ballot: Ballot,
     size: u8,
@@ -32,19 +36,6 @@ pub struct Proposer {
     first: u32,
     /// The proposed values, at the first place and on, one after another.
     values: Vec<Value>,
-}
-
-impl Drop for Proposer {
-    fn drop(self) {
-        let Proposer {
-            ballot: _ballot,
-            size: _size,
-            coverages: _coverages,
-            kept: _kept,
-            first: _first,
-            values: _values,
-        } = self;
-    }
 }
 
 impl Model for Proposer {
@@ -225,7 +216,9 @@ impl Proposer {
             ballot: self.ballot,
             value,
         };
-        self.values.push(proposal.value)?;
+        let Ok(()) = self.values.push(proposal.value) else {
+            return Err(ProposerFault::Memory);
+        };
         self.kept.pass(place);
         Ok(Some(proposal))
     }

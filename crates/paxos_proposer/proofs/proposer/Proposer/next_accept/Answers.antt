@@ -11,7 +11,7 @@ invariant_of-self-2 c =
     let next : c.next_place-place.result ≡ c.self.inside.first + length c.self.inside.values.items =
     rw (← c.self.view_is) at c.next_place-place.ensures.next in
     let count : c.self.inside.first + length c.push.new.self.items ≡ c.next_place-place.result + 1
-    = omega (arith, ap length c.in_ok-push.ensures.items, length_push c.self.inside.values.items c.in-Some.value) in
+    = omega (arith, ap length c.in-Ok.ensures.items, length_push c.self.inside.values.items c.in-Some.value) in
     let below = c.next_value.ensures.below (ap is_some c.in-Some.is) in
     record {
       few = h.few;
