@@ -1,5 +1,5 @@
 -- A set of nodes, and the word that has their bits.
-use Rattle.std.proofs.Common.{◌≡◌, ◌∙◌, ℕ, zero, suc, ◌+◌, ◌-◌, ◌*◌, ◌/◌, ◌%◌, ◌^◌, ◌<◌, ◌≤◌, ◌==◌, ◌∷◌, true, false, if◌then◌else◌, bit_and, bit_or, get_or, set, nat_eq, refl, ap, arith}
+use Rattle.std.proofs.Common.{◌≡◌, ◌∙◌, ℕ, zero, suc, Bool, ◌+◌, ◌-◌, ◌*◌, ◌/◌, ◌%◌, ◌^◌, ◌<◌, ◌≤◌, ◌==◌, ◌∷◌, true, false, if◌then◌else◌, bit_and, bit_or, get_or, set, nat_eq, refl, ap, arith}
 use Rattle.std.specs.Int.Count.{ones, ones_step}
 use Rattle.std.specs.Int.{bit_at}
 use Rattle.std.proofs.Math.Nat.{pow-suc}
@@ -71,6 +71,11 @@ count_low mask (suc n) h =
     let parts : q % 2 ^ suc n ≡ (q / 2 ^ n % 2) * 2 ^ n + q % 2 ^ n = ap (λ (k : ℕ). q % 2 ^ k) one ∙ mod-pow-add q 1 n in
     let joined = ones_cat n (q / 2 ^ n % 2) (q % 2 ^ n) (mod_below q (2 ^ n) (pow_pos n)) in
     grind (arith, parts, joined, ones_bit (q / 2 ^ n % 2), count_low mask n, bit_node mask (suc n) h, bit_at-suc mask n)
+
+-- there are no more than those that are looked at
+pub count_within : (members : ℕ → Bool) (n : ℕ) → count_of members n ≤ n
+count_within members zero = omega arith
+count_within members (suc n) = grind (arith, nat_tests, count_within members n)
 
 pub count_nodes : (mask size : ℕ) → size ≤ 9
     → ones (bit_and (mask / 2) (1 * 2 ^ size % 65536 - 1)) ≡ count_of (has_node (nodes_of mask)) size

@@ -1,5 +1,6 @@
 -- Sets of nodes as the bits of one word.
 use Rattle.std.specs.Prelude.{◌≡◌, ℕ, zero, suc, ◌+◌, ◌*◌, ◌/◌, ◌%◌, ◌<◌, ◌^◌, ◌==◌, Bool, List, [], ◌∷◌, cond}
+use Rattle.paxos_msg.specs.declared.limits.TheConstants.{MOST_NODES}
 use Rattle.std.proofs.Common.{refl, arith}
 use Rattle.std.proofs.Math.Nat.{pow-suc}
 
@@ -8,11 +9,11 @@ unfoldable pub low_bits : ℕ → ℕ → List Bool
 low_bits zero mask = []
 low_bits (suc k) mask = (mask % 2 == 1) ∷ low_bits k (mask / 2)
 
--- True for each node, 0 to 9, whose bit is set.
+-- True for each node, 0 to the greatest, whose bit is set.
 -- Allows: Node 3, at bit value 8.
 -- Forbids: A word of 1,024 or more.
 unfoldable pub nodes_of : ℕ → List Bool
-nodes_of mask = low_bits 10 mask
+nodes_of mask = low_bits (MOST_NODES + 1) mask
 
 -- The word with these bits, from the lowest on.
 unfoldable pub mask_of : List Bool → ℕ
@@ -37,6 +38,6 @@ low_bits_back (suc k) mask h =
           (omega (arith, pow-suc 2 k)),
     )
 
-pub mask_back : (mask : ℕ) → mask < 1024 → mask_of (nodes_of mask) ≡ mask
+pub mask_back : (mask : ℕ) → mask < 2 ^ (MOST_NODES + 1) → mask_of (nodes_of mask) ≡ mask
 unfolding nodes_of
-mask_back mask h = low_bits_back 10 mask h
+mask_back mask h = low_bits_back (MOST_NODES + 1) mask h

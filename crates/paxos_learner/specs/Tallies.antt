@@ -1,11 +1,11 @@
 -- Tallies of places that are not learned.
-use Rattle.std.specs.Prelude.{ℕ, ◌&&◌, Bool, List, replicate, slice_index_or, slice_set, Option, Some, None, if◌then◌else◌, false, true}
+use Rattle.std.specs.Prelude.{ℕ, ◌+◌, ◌&&◌, Bool, List, replicate, slice_index_or, slice_set, Option, Some, None, if◌then◌else◌, false, true}
 use Rattle.paxos_msg.specs.declared.ballot.Ballot.{Ballot}
 use Rattle.paxos_msg.specs.declared.value.Value.{Value}
 use Rattle.paxos_msg.specs.Tests.{ballot_lt, same_ballot, same_value}
+use Rattle.paxos_msg.specs.declared.limits.TheConstants.{MOST_NODES}
 
--- The nodes that accepted the value under the ballot. `nodes` is true at the number of each, 1 to
--- 9.
+-- The nodes that accepted the value under the ballot. `nodes` is true at the number of each.
 -- Source: Simple 2.3.
 pub record Tally : Type 0 where
   pub ballot : Ballot
@@ -14,7 +14,7 @@ pub record Tally : Type 0 where
 
 -- The set without nodes.
 abbrev pub no_nodes : List Bool
-no_nodes = replicate 10 false
+no_nodes = replicate (MOST_NODES + 1) false
 
 -- True if node `i` is one of them.
 abbrev pub has_node : List Bool → ℕ → Bool

@@ -106,25 +106,11 @@ impl Input {
         }
     }
 
-    /// Returns the length of the input in bytes.
-    pub fn len(&self) -> usize
-        ensures { result ≡ length self.now.keys }
+    /// Returns the keys.
+    pub fn keys(&self) -> &KeySet
+        ensures { result.now.keys ≡ self.now.keys }
     {
-        self.keys.len()
-    }
-
-    /// Returns the byte of the input at `index`.
-    pub fn byte_at(&self, index: usize) -> Option<u8>
-        ensures { result ≡ option_map (λ k. k.byte) (slice_get self.now.keys index) }
-    {
-        self.keys.byte_at(index)
-    }
-
-    /// Returns true if the key is one of the input's.
-    pub fn contains(&self, key: TypedKey) -> bool
-        ensures { IsTrue result ↔ Contains self.now.keys (key_of key) }
-    {
-        self.keys.contains(key)
+        &self.keys
     }
 }
 

@@ -27,14 +27,9 @@ pub struct TypedKey {
 }
 
 /// Keys, each once, in the order in which they came.
+#[derive(Drop)]
 pub struct KeySet {
     keys: IndexSet<TypedKey>,
-}
-
-impl Drop for KeySet {
-    fn drop(self) {
-        let KeySet { keys: _keys } = self;
-    }
 }
 
 impl Model for KeySet {

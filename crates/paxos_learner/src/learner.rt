@@ -232,14 +232,14 @@ impl Learner {
     pub fn input_len(&self) -> usize
         ensures { result ≡ length (learned_input self.now.learned) }
     {
-        self.input.len()
+        self.input.keys().len()
     }
 
     /// Returns the byte of the learned input at `index`, from 0 on, if there is one.
     pub fn input_at(&self, index: usize) -> Option<u8>
         ensures { result ≡ slice_get (learned_input self.now.learned) index }
     {
-        self.input.byte_at(index)
+        self.input.keys().byte_at(index)
     }
 
     /// Returns true if the key is read in the learned input, that is, if it is in the value of a
@@ -248,7 +248,7 @@ impl Learner {
         ensures { IsTrue result
             ↔ Contains (keys_in_order (front_values self.now.learned)) (key_of key) }
     {
-        self.input.contains(key)
+        self.input.keys().contains(key)
     }
 
     /// Returns true if the key is in a learned value at any place, also above the front.

@@ -13,14 +13,15 @@ pub struct NodeSet {
 }
 
 impl Model for NodeSet {
-    ghost use Rattle.std.specs.Prelude.{Bool, List, ◌<◌};
+    ghost use Rattle.std.specs.Prelude.{Bool, List, ◌<◌, ◌+◌, ◌^◌};
     ghost use Rattle.paxos_learner.specs.Masks.{mask_back, mask_of, nodes_of};
+    ghost use Rattle.paxos_msg.specs.declared.limits.TheConstants.{MOST_NODES};
 
     ghost Value = { List Bool };
 
     ghost view = { λ s. nodes_of s.bits };
 
-    ghost invariant = { λ s. s.bits < 1024 };
+    ghost invariant = { λ s. s.bits < 2 ^ (MOST_NODES + 1) };
 
     ghost inverse = { λ nodes. record { bits = mask_of nodes } };
 
@@ -55,7 +56,7 @@ impl NodeSet {
     pub fn count(&self, size: u8) -> u32
         requires { size ≤ MOST_NODES }
         ensures count { result ≡ count_of (has_node self.now) size }
-        ensures few { result ≤ 16 }
+        ensures few { result ≤ size }
     {
         let from_one = self.bits >> 1;
         (from_one & ((1 << size) - 1)).count_ones()
