@@ -40,14 +40,9 @@ fn no_folder_for_a_file(rt: HostRuntime) -> Result<(), Fail> {
 
 /// A store in a file. Contracts see nothing of it, so that a test does not carry a record from one
 /// call to the next.
+#[derive(Drop)]
 struct Kept {
     store: FileStore<HostRuntime>,
-}
-
-impl Drop for Kept {
-    fn drop(self) {
-        let Kept { store: _store } = self;
-    }
 }
 
 impl Model for Kept {
