@@ -1,8 +1,9 @@
 //! Appends the entry of a change to a log.
-ghost use Rattle.std.specs.Prelude.{◌≡◌, ◌+◌, ◌++◌, ◌≤◌, ℕ, length, vec_capacity, vec_len, OnOk};
+ghost use Rattle.std.specs.Prelude.{◌≡◌, ◌+◌, ◌++◌, ◌≤◌, ℕ, length, vec_capacity, vec_len, OnErr, OnOk};
 ghost use Rattle.paxos_msg.specs.Spelling.{Puts};
 ghost use Rattle.paxos_msg.specs.declared.record.Change.{Change};
 ghost use Rattle.paxos_msg.specs.declared.value.Value.{Value};
+ghost use Rattle.paxos_acceptor.specs.declared.append.TheConstants.{MOST_BYTES};
 ghost use Rattle.paxos_acceptor.specs.declared.version.Version.TheVariants.{Two};
 ghost use Rattle.paxos_acceptor.specs.Log.{IsInRanges, entry_bytes};
 
@@ -14,9 +15,10 @@ use std::alloc::AllocError;
 /// characters.
 const MOST_BYTES: usize = 53;
 
-/// An entry that can be made has at most 53 bytes.
+/// An entry that can be made has at most `MOST_BYTES` bytes.
 fn entries_are_short()
-    ensures { (size : ℕ) (c : Change Value) → IsInRanges size c → length (entry_bytes Two c) ≤ 53 }
+    ensures { (size : ℕ) (c : Change Value) → IsInRanges size c
+        → length (entry_bytes Two c) ≤ MOST_BYTES }
 {}
 
 /// Appends the entry of the change, in version 2.
@@ -39,10 +41,12 @@ fn put_entry(change: &Change, out: &mut Vec<u8>)
     }
 }
 
-/// Makes room for the entry of a change whose fields are in their ranges, and appends it.
+/// Makes room for the entry of a change whose fields are in their ranges, and appends it. After an
+/// error nothing has changed.
 pub(crate) fn append(change: &Change, me: Me, out: &mut Vec<u8>) -> Result<(), AllocError>
     requires { IsInRanges me.group.size change.now }
-    ensures { OnOk result (out.new.items ≡ out.old.items ++ entry_bytes Two change.now) }
+    ensures spelled { OnOk result (out.new.items ≡ out.old.items ++ entry_bytes Two change.now) }
+    ensures unspelled { OnErr result (out.new.items ≡ out.old.items) }
 {
     entries_are_short();
     out.reserve(MOST_BYTES)?;
