@@ -21,3 +21,16 @@ hex_byte_of (h ∷ l ∷ []) =
     if nat_lt (digit_value h) 16 && nat_lt (digit_value l) 16
     then Some (digit_value h * 16 + digit_value l) else None
 hex_byte_of _ = None
+
+-- The bytes with one before them, where both exist.
+abbrev pub byte_before : Option ℕ → Option (List ℕ) → Option (List ℕ)
+byte_before (Some byte) (Some bytes) = Some (byte ∷ bytes)
+byte_before _ _ = None
+
+-- The bytes of pairs of hexadecimal digits, if all are pairs.
+-- Allows: digits of either case.
+-- Forbids: an odd number of digits, and any other character.
+abbrev pub hex_bytes_of : List ℕ → Option (List ℕ)
+hex_bytes_of [] = Some []
+hex_bytes_of (h ∷ []) = None
+hex_bytes_of (h ∷ l ∷ digits) = byte_before (hex_byte_of (h ∷ l ∷ [])) (hex_bytes_of digits)

@@ -1,7 +1,13 @@
--- Files and inputs that are read whole.
-use Rattle.std.specs.Prelude.{◌≡◌, ◌<◌, ◌≤◌, ℕ, List, length, Option}
+-- Files and inputs that are read whole, and why their bytes are no program.
+use Rattle.std.specs.Prelude.{◌≡◌, ◌<◌, ◌≤◌, ℕ, List, length, Option, Err}
 use Rattle.std.specs.Io.KnownBytes.{Consumes, IsAtEnd}
+use Rattle.pcode_file.specs.Parts.{Parts}
+use Rattle.pcode_file.specs.InFile.{InFile}
+use Rattle.pcode_file.specs.Checks.{GivesUnlessMemory, read_from}
+use Rattle.pcode_ops.specs.Reach.{IsRefusal}
 use Rattle.machine_run.specs.declared.files.TheConstants.{LONGEST_FILE}
+use Rattle.machine_run.specs.declared.refusal.MachineRefusal.{MachineRefusal}
+use Rattle.machine_run.specs.declared.refusal.MachineRefusal.TheVariants.{CodeFile, Load}
 
 -- All the bytes that a reader had left, `LONGEST_FILE` at most. It is at its end after them.
 pub record HasReadAll (from to : Option (List ℕ)) (bytes : List ℕ) : Type 0 where
@@ -14,3 +20,10 @@ pub record HasReadAll (from to : Option (List ℕ)) (bytes : List ℕ) : Type 0 
 abbrev pub HasReadFront : {E : Type 0} → Option (List ℕ) → Option (List ℕ) → E → E → Type 0
 HasReadFront from to memory e =
     (front : List ℕ) × Consumes from to front × (e ≡ memory → 0 < length front)
+
+-- The refusal of bytes that are no program: they are no code file, or one that is not loaded.
+-- Forbids: a refusal that is not of the file itself, such as of a read.
+abbrev pub IsNoProgram : List ℕ → MachineRefusal → Type 0
+IsNoProgram bytes (CodeFile fault) = GivesUnlessMemory {X = Parts} (Err fault) (read_from bytes)
+IsNoProgram bytes (Load fault) = (p : Parts) × InFile bytes p × IsRefusal p fault
+IsNoProgram bytes _ = ⊥

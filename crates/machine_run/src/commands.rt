@@ -20,7 +20,7 @@ pub fn run_bytes<R: Read, W: Write>(
     let program = load(alloc, bytes)?;
     let mut reader = Counting::new(reader);
     let mut writer = Counting::new(writer);
-    Ok(run_program(alloc, &mut reader, &mut writer, &program, steps)?)
+    run_program(alloc, &mut reader, &mut writer, &program, steps).map_err(MachineRefusal::Run)
 }
 
 /// Runs the program of a code file for at most `steps` steps.

@@ -14,7 +14,6 @@
 mod built_in;
 mod commands;
 mod files;
-mod hex;
 mod loading;
 mod refusal;
 mod run;
@@ -24,7 +23,6 @@ mod text;
 pub use built_in::run_built_in;
 pub use commands::{check_file, list_file, load_file, run_file};
 pub use files::{FileError, LONGEST_FILE, read_file, read_input, read_whole};
-pub use hex::{HexError, bytes_of};
 pub use loading::load;
 pub use refusal::{MachineRefusal, ShowFault};
 pub use run::{Finish, RunIo, run_program};

@@ -2,7 +2,7 @@
 ghost use Rattle.std.specs.Prelude.{IfOk, IfErr};
 ghost use Rattle.pcode_file.specs.InFile.{InFile};
 ghost use Rattle.pcode_ops.specs.Reach.{IsLoadable};
-ghost use Rattle.machine_run.specs.Loading.{IsNoProgram};
+ghost use Rattle.machine_run.specs.Files.{IsNoProgram};
 
 use crate::refusal::MachineRefusal;
 use pcode_file::CodeFile;
@@ -16,7 +16,7 @@ pub fn load(alloc: Global, bytes: &[u8]) -> Result<Program, MachineRefusal>
     ensures ok { IfOk result (λ program. InFile bytes.now program × IsLoadable program) }
     ensures err { IfErr result (IsNoProgram bytes.now) }
 {
-    let file = CodeFile::read(alloc, bytes)?;
+    let file = CodeFile::read(alloc, bytes).map_err(MachineRefusal::CodeFile)?;
     match Program::check(alloc, file) {
         Ok(program) => Ok(program),
         Err(refused) => Err(MachineRefusal::Load(refused.fault)),

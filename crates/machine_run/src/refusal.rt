@@ -43,28 +43,6 @@ impl From<FileError> for MachineRefusal {
     }
 }
 
-impl From<FileFault> for MachineRefusal {
-    ghost use Rattle.std.specs.Prelude.{◌≡◌};
-    ghost use Rattle.machine_run.specs.declared.refusal.MachineRefusal.TheVariants.{CodeFile};
-
-    ghost from_gives = { λ fault r. r ≡ CodeFile fault };
-
-    fn from(fault: FileFault) -> MachineRefusal {
-        MachineRefusal::CodeFile(fault)
-    }
-}
-
-impl From<RunIo> for MachineRefusal {
-    ghost use Rattle.std.specs.Prelude.{◌≡◌};
-    ghost use Rattle.machine_run.specs.declared.refusal.MachineRefusal.TheVariants.{Run};
-
-    ghost from_gives = { λ fault r. r ≡ Run fault };
-
-    fn from(fault: RunIo) -> MachineRefusal {
-        MachineRefusal::Run(fault)
-    }
-}
-
 /// Why a datagram is not printed.
 #[derive(Clone, Copy, Debug)]
 pub enum ShowFault {

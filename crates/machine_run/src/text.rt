@@ -3,9 +3,9 @@ ghost use Rattle.std.specs.Prelude.{◌≤◌, length};
 ghost use Rattle.paxos_msg.specs.declared.limits.TheConstants.{MOST_VOTES};
 ghost use Rattle.paxos_msg.specs.Views.{HasUpTo};
 
-use crate::hex::{HexError, bytes_of};
 use crate::refusal::{MachineRefusal, ShowFault};
 use crate::run::RunIo;
+use digits::{HexError, hex_bytes};
 use paxos_msg::{Ballot, BodyView, Group, LentVotes, View, Vote, decode};
 use std::alloc::Global;
 use std::io::{self, Write};
@@ -104,7 +104,7 @@ pub fn show<W: Write>(
     digits: &str,
     writer: &mut W,
 ) -> Result<(), ShowFault> {
-    let bytes = match bytes_of(alloc, digits) {
+    let bytes = match hex_bytes(alloc, digits) {
         Ok(bytes) => bytes,
         Err(HexError::Bad) => return Err(ShowFault::BadHex),
         Err(HexError::Memory) => {

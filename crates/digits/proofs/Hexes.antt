@@ -1,8 +1,7 @@
 -- Pairs of hexadecimal digits, read one after another.
 use Rattle.std.proofs.Common.{◌≡◌, ◌⊎◌, ℕ, IsSome, List, [], ◌∷◌, ◌++◌, Option, Some, None, take, refl, sym, ap, ◌∙◌, inl, inr}
 use Rattle.std.proofs.lemmas.List.{append_assoc}
-use Rattle.digits.specs.Digits.{hex_byte_of}
-use Rattle.machine_run.specs.Hex.{hex_bytes_of, byte_before}
+use Rattle.digits.specs.Digits.{byte_before, hex_byte_of, hex_bytes_of}
 
 -- bytes in front of those that are there
 abbrev pub bytes_before : List ℕ → Option (List ℕ) → Option (List ℕ)

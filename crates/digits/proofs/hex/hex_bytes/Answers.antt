@@ -1,7 +1,7 @@
 use Rattle.std.proofs.Common.{rules, ◌≡◌, [], ◌∷◌, ◌++◌, sym}
 use Rattle.std.specs.Slice.Iter.{chunks_rest}
-use Rattle.machine_run.proofs.Hexes.{IsReadUpTo, read_pair, unread}
-use Rattle.machine_run.proofs.hex.bytes_of.Goals as goal
+use Rattle.digits.proofs.Hexes.{IsReadUpTo, read_pair, unread}
+use Rattle.digits.proofs.hex.hex_bytes.Goals as goal
 
 pub loop-pair-init : goal.loop-pair-init
 loop-pair-init c = let all = unread c.args.text.now in search rules

@@ -1,11 +1,34 @@
 //! Bytes in hexadecimal digits of either case.
-ghost use Rattle.std.specs.Prelude.{◌≡◌, IsSome, IfOk, None, Some, take};
-ghost use Rattle.digits.specs.Digits.{hex_byte_of};
-ghost use Rattle.machine_run.specs.declared.hex.HexError.TheVariants.{Bad, Memory};
-ghost use Rattle.machine_run.specs.Hex.{hex_bytes_of};
+ghost use Rattle.std.specs.Prelude.{◌≡◌, ◌<◌, Err, IsSome, IfOk, None, Some, take};
+ghost use Rattle.std.specs.Char.{digit_value};
+ghost use Rattle.std.specs.Option.{SomeIff};
+ghost use Rattle.digits.specs.Digits.{hex_byte_of, hex_bytes_of};
+ghost use Rattle.digits.specs.declared.hex.HexError.TheVariants.{Bad, Memory};
 
-use digits::hex_byte;
 use std::alloc::Global;
+
+/// Returns the value of a hexadecimal digit of either case.
+fn hex_digit(byte: u8) -> Option<u8>
+    ensures { SomeIff result (digit_value byte < 16) (digit_value byte) }
+{
+    match byte {
+        b'0'..=b'9' => Some(byte - b'0'),
+        b'a'..=b'f' => Some(byte - b'a' + 10),
+        b'A'..=b'F' => Some(byte - b'A' + 10),
+        _ => None,
+    }
+}
+
+/// Returns the byte of exactly two hexadecimal digits of either case, the high one first. Returns
+/// `None` for any other bytes.
+pub fn hex_byte(digits: &[u8]) -> Option<u8>
+    ensures { result ≡ hex_byte_of digits.now }
+{
+    match digits {
+        [high, low] => Some(hex_digit(*high)? * 16 + hex_digit(*low)?),
+        _ => None,
+    }
+}
 
 /// Why digits are no bytes.
 #[derive(Clone, Copy, Debug, PartialEq, Eq)]
@@ -19,7 +42,7 @@ pub enum HexError {
 /// Returns the bytes that `text` spells in hexadecimal digits of either case, two for each byte,
 /// the high one first. Fails with `Bad` only if `text` is not all pairs of digits, and with
 /// `Memory` only if it begins with a pair.
-pub fn bytes_of(alloc: Global, text: &str) -> Result<Vec<u8>, HexError>
+pub fn hex_bytes(alloc: Global, text: &str) -> Result<Vec<u8>, HexError>
     ensures bytes { IfOk result (λ bytes. hex_bytes_of text.now ≡ Some bytes.items) }
     ensures bad { result ≡ Err Bad → hex_bytes_of text.now ≡ None }
     ensures memory { result ≡ Err Memory → IsSome (hex_byte_of (take 2 text.now)) }

@@ -1,7 +1,7 @@
 use Rattle.std.proofs.Common.{◌≡◌}
 use Rattle.std.specs.Slice.Iter.{chunks_rest, chunks_size}
-use Rattle.machine_run.proofs.Hexes.{IsReadUpTo}
-use Rattle.machine_run.proofs.hex.bytes_of.Given as goal
+use Rattle.digits.proofs.Hexes.{IsReadUpTo}
+use Rattle.digits.proofs.hex.hex_bytes.Given as goal
 
 abbrev pub invariant-loop-pair : goal.invariant-loop-pair
 invariant-loop-pair l =
