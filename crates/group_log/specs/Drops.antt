@@ -5,6 +5,7 @@ use Rattle.paxos_msg.specs.declared.fault.WireFault.{WireFault}
 use Rattle.paxos_msg.specs.declared.fault.WireFault.TheVariants as fault
 use Rattle.paxos_msg.specs.Batches.{Msg}
 use Rattle.paxos_msg.specs.Reading.{message_at}
+use Rattle.group_log.specs.declared.drops.TheConstants.{MOST_DROPS}
 use Rattle.group_log.specs.declared.drops.Drops.{Drops}
 use Rattle.group_log.specs.declared.drops.DropReason.{DropReason}
 use Rattle.group_log.specs.declared.drops.DropReason.TheVariants.{Source, Version, Size, Session, Damaged}
@@ -36,7 +37,7 @@ reason_of g bytes = reason_after g bytes (message_at g bytes)
 
 -- One more, up to the greatest count.
 abbrev pub one_more : ℕ → ℕ
-one_more n = min (n + 1) 4294967295
+one_more n = min (n + 1) MOST_DROPS
 
 -- The counts of dropped datagrams after one more.
 abbrev pub drops_with : Drops → DropReason → Drops

@@ -45,7 +45,10 @@ pub fn reason_of(group: Group, datagram: &[u8]) -> Option<DropReason>
     }
 }
 
-/// The number of datagrams that a node dropped, for each reason. A count ends at 4,294,967,295.
+/// The greatest count of dropped datagrams: a count stays there.
+pub const MOST_DROPS: u32 = 4_294_967_295;
+
+/// The number of datagrams that a node dropped, for each reason. A count ends at `MOST_DROPS`.
 #[derive(Clone, Copy, Debug, PartialEq, Eq, Default)]
 pub struct Drops {
     pub source: u32,

@@ -16,7 +16,7 @@ mod log;
 mod note;
 mod role;
 
-pub use drops::{DropReason, Drops, reason_of};
+pub use drops::{DropReason, Drops, MOST_DROPS, reason_of};
 pub use log::Log;
 pub use note::{End, Note, line_of};
 pub use role::Role;

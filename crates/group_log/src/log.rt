@@ -14,6 +14,7 @@ const DROPS_APART: u64 = 1;
 
 /// The log of one node. If it is on, it writes notes to `errors`, a line each. A line that cannot
 /// be made or written is left out.
+#[derive(Drop)]
 pub struct Log<'a, H, E> {
     alloc: Global,
     clock: &'a H,
@@ -23,21 +24,6 @@ pub struct Log<'a, H, E> {
     role: Role,
     is_full: bool,
     drops_noted: Option<Instant>,
-}
-
-impl<'a, H, E> Drop for Log<'a, H, E> {
-    fn drop(self) {
-        let Log {
-            alloc: _alloc,
-            clock: _clock,
-            errors: _errors,
-            is_on: _is_on,
-            node: _node,
-            role: _role,
-            is_full: _is_full,
-            drops_noted: _drops_noted,
-        } = self;
-    }
 }
 
 impl<'a, H: Clock, E: Write> Log<'a, H, E> {
