@@ -10,7 +10,8 @@ use Rattle.paxos_proposer.specs.Proposer.{proposer_after_part, asks_on, Proposer
 use Rattle.group_node.specs.Known.{Response, Known, quiet, front}
 use Rattle.group_node.specs.ProposerRows.{offer_after, offering, prepare_from, proposing_on, submitted, taking_part}
 use Rattle.group_node.specs.Pump.{pump}
-use Rattle.group_node.specs.Tick.{ticked, accept_again, accepts_again, asks, asks_again, batch_of, prepares_again}
+use Rattle.group_node.specs.Tick.{ticked, accept_again, accepts_again, asks, asks_again, prepares_again}
+use Rattle.group_node.specs.WaitingKeys.{batch_of}
 use Rattle.std.specs.Ordering.{nat_cmp}
 use Rattle.std.specs.FinMap.{FinMap, get}
 use Rattle.std.specs.List.{cons_option, filter_map, range_with_len}

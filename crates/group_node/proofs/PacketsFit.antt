@@ -13,7 +13,7 @@ use Rattle.paxos_msg.specs.Fits.{IsBody, IsBallot, IsValue, AreBytes}
 use Rattle.paxos_msg.specs.Keys.{AreOwnKeys, batches, keys_from, Key}
 use Rattle.paxos_learner.specs.Learner.{AreInWindow, front_of}
 use Rattle.group_node.specs.Known.{front, Known, own_batch}
-use Rattle.group_node.specs.Tick.{batch_of}
+use Rattle.group_node.specs.WaitingKeys.{batch_of}
 use Rattle.group_node.specs.Ranges.{IsInRange, AreFit, IsOwnProposer}
 use Rattle.std.proofs.lemmas.List.Elements.{All-cons}
 use Rattle.paxos_msg.specs.Batches.{Body}

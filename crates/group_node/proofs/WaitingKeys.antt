@@ -8,9 +8,8 @@ use Rattle.paxos_msg.specs.declared.value.Value.TheVariants.{Keys}
 use Rattle.paxos_msg.specs.Batches.{IsTyped}
 use Rattle.paxos_msg.specs.Keys.{Key, keys_from, keys_of}
 use Rattle.paxos_learner.specs.Input.{front_values, has_key, keys_in_order}
-use Rattle.group_node.specs.Known.{Known, own_batch, waiting_keys}
-use Rattle.group_node.specs.Tick.{batch_of}
-use Rattle.group_node.specs.WaitingKeys.{count_read, count_gone, without_read}
+use Rattle.group_node.specs.Known.{Known, own_batch}
+use Rattle.group_node.specs.WaitingKeys.{batch_of, count_gone, count_read, waiting_keys, without_read}
 use Rattle.group_node.specs.World.{AreParted}
 
 -- the keys of characters in two parts

@@ -11,7 +11,8 @@ use Rattle.paxos_acceptor.specs.Records.{HasBackedVotes as IsVotesBacked}
 use Rattle.paxos_proposer.specs.Backed.{IsProposerBacked}
 use Rattle.paxos_proposer.specs.Proposer.{Proposer}
 use Rattle.paxos_learner.specs.Backed.{IsLearnerBacked}
-use Rattle.group_node.specs.Known.{Known, waiting_keys}
+use Rattle.group_node.specs.Known.{Known}
+use Rattle.group_node.specs.WaitingKeys.{waiting_keys}
 
 -- The claim that a record has promised this ballot or a greater one.
 abbrev pub HasPromised : Record → Ballot → Type 0

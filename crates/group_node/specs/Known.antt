@@ -5,7 +5,7 @@ use Rattle.paxos_msg.specs.declared.value.Value.{Value}
 use Rattle.paxos_msg.specs.declared.value.Value.TheVariants.{Keys}
 use Rattle.paxos_msg.specs.declared.record.Change.TheVariants as change
 use Rattle.paxos_msg.specs.Batches.{Change, Record}
-use Rattle.paxos_msg.specs.Keys.{Key, keys_from}
+use Rattle.paxos_msg.specs.Keys.{Key}
 use Rattle.paxos_msg.specs.Records.{changed}
 use Rattle.paxos_acceptor.specs.declared.me.Me.{Me}
 use Rattle.paxos_proposer.specs.Proposer.{Proposer}
@@ -52,11 +52,6 @@ front n = front_of n.learner.learned
 -- serial.
 abbrev pub own_batch : Known → ℕ → List ℕ → Value
 own_batch n serial bytes = Keys n.me.node n.kept.starts serial bytes
-
--- The keys that wait, in order of serial.
--- Forbids: a gap in the serials that wait.
-abbrev pub waiting_keys : Known → List Key
-waiting_keys n = keys_from n.me.node n.kept.starts n.first n.waiting
 
 -- The serial of the next key that is typed.
 -- Allows: 4,294,967,296, which no key gets.

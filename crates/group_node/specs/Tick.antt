@@ -9,8 +9,9 @@ use Rattle.paxos_proposer.specs.Proposer.{Proposer, coverage_of, is_covered, nex
 use Rattle.paxos_learner.specs.Learner.{front_of}
 use Rattle.group_node.specs.Packets.{Packet, to_all, to_one}
 use Rattle.group_node.specs.Pump.{accepts_of, pump}
-use Rattle.group_node.specs.Known.{Known, Response, front, own_batch}
-use Rattle.paxos_msg.specs.declared.limits.TheConstants.{LAST_PLACE, MOST_CHARACTERS, PLACES}
+use Rattle.group_node.specs.Known.{Known, Response, front}
+use Rattle.group_node.specs.WaitingKeys.{batch_of}
+use Rattle.paxos_msg.specs.declared.limits.TheConstants.{LAST_PLACE, PLACES}
 use Rattle.group_node.specs.declared.limits.TheConstants.{MOST_AGAIN}
 use Rattle.paxos_proposer.specs.declared.proposer.TheConstants.{MOST_PUMPED}
 
@@ -41,11 +42,6 @@ abbrev pub accepts_again : FinMap nat_cmp Value → Proposer → List Packet
 accepts_again learned p =
     take MOST_AGAIN (filter_map (accept_again learned p)
     (range_with_len (front_of learned) (next_of p - front_of learned)))
-
--- The first keys that wait, at most 32, as one batch, if any wait.
-abbrev pub batch_of : Known → List ℕ → Option Value
-batch_of n [] = None
-batch_of n (byte ∷ bytes) = Some (own_batch n n.first (take MOST_CHARACTERS (byte ∷ bytes)))
 
 -- The Submit of a batch, if there is one.
 abbrev pub submits : Option Value → List Packet

@@ -1,8 +1,20 @@
--- The keys that wait after a message.
-use Rattle.std.specs.Prelude.{ℕ, suc, ◌+◌, List, [], ◌∷◌, drop, if◌then◌else◌}
-use Rattle.paxos_msg.specs.Keys.{Key}
+-- The typed keys that wait, the batch that is submitted of them, and those that a message leaves.
+use Rattle.std.specs.Prelude.{ℕ, suc, ◌+◌, List, [], ◌∷◌, drop, take, Option, Some, None, if◌then◌else◌}
+use Rattle.paxos_msg.specs.declared.limits.TheConstants.{MOST_CHARACTERS}
+use Rattle.paxos_msg.specs.declared.value.Value.{Value}
+use Rattle.paxos_msg.specs.Keys.{Key, keys_from}
 use Rattle.paxos_learner.specs.Input.{front_values, has_key, keys_in_order}
-use Rattle.group_node.specs.Known.{Known, waiting_keys}
+use Rattle.group_node.specs.Known.{Known, own_batch}
+
+-- The keys that wait, in order of serial.
+-- Forbids: a gap in the serials that wait.
+abbrev pub waiting_keys : Known → List Key
+waiting_keys n = keys_from n.me.node n.kept.starts n.first n.waiting
+
+-- The first keys that wait, at most 32, as one batch, if any wait.
+abbrev pub batch_of : Known → List ℕ → Option Value
+batch_of n [] = None
+batch_of n (byte ∷ bytes) = Some (own_batch n n.first (take MOST_CHARACTERS (byte ∷ bytes)))
 
 -- The number of keys that are read, up to the first that is not.
 abbrev pub count_read : List Key → List Key → ℕ

@@ -20,14 +20,9 @@ pub enum Offer {
 }
 
 /// A console. It shows bytes one after another, and takes back none.
+#[derive(Drop)]
 pub struct Console {
     bytes: Vec<u8>,
-}
-
-impl Drop for Console {
-    fn drop(self) {
-        let Console { bytes: _bytes } = self;
-    }
 }
 
 impl Model for Console {

@@ -51,22 +51,13 @@ impl Spare {
 }
 
 /// The packets that wait to be sent, the oldest first, at most 64.
+#[derive(Drop)]
 pub struct Outbox {
     packets: HeapCircularBuffer<Packet>,
     // A packet takes a buffer that is ready, and allocates nothing. A node makes as many ready as
     // it may need before it changes anything.
     spares: Vec<Spare>,
     alloc: Global,
-}
-
-impl Drop for Outbox {
-    fn drop(self) {
-        let Outbox {
-            packets: _packets,
-            spares: _spares,
-            alloc: _alloc,
-        } = self;
-    }
 }
 
 impl Model for Outbox {

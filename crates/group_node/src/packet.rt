@@ -11,19 +11,11 @@ pub enum To {
 }
 
 /// A datagram and its addressees.
+#[derive(Drop)]
 pub struct Packet {
     pub to: To,
     /// The bytes of the datagram, at most 440.
     pub bytes: Vec<u8>,
-}
-
-impl Drop for Packet {
-    fn drop(self) {
-        let Packet {
-            to: _to,
-            bytes: _bytes,
-        } = self;
-    }
 }
 
 impl Model for Packet {

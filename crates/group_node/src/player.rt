@@ -31,6 +31,7 @@ pub enum Ran {
 }
 
 /// The machine of a node, and its output.
+#[derive(Drop)]
 pub(crate) struct Player<'a> {
     pub(crate) machine: Machine<'a>,
     /// The output that was not released, the oldest byte first.
@@ -41,18 +42,6 @@ pub(crate) struct Player<'a> {
     pub(crate) read: usize,
     /// The number of output bytes that were released.
     pub(crate) released: u64,
-}
-
-impl<'a> Drop for Player<'a> {
-    fn drop(self) {
-        let Player {
-            machine: _machine,
-            unreleased: _unreleased,
-            steps: _steps,
-            read: _read,
-            released: _released,
-        } = self;
-    }
 }
 
 /// Returns how many of `steps` steps can still be counted after `made` steps.

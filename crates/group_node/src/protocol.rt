@@ -28,6 +28,7 @@ use std::alloc::Global;
 use std::marker::Model;
 
 /// The acceptor, the learner and the proposer of one node, and the keys that were typed at it.
+#[derive(Drop)]
 pub(crate) struct Protocol<S: Store> {
     pub(crate) me: Me,
     pub(crate) acceptor: Acceptor<S>,
@@ -39,21 +40,6 @@ pub(crate) struct Protocol<S: Store> {
     pub(crate) offered: KeySet,
     pub(crate) waiting: Waiting,
     pub(crate) alloc: Global,
-}
-
-impl<S: Store + Drop> Drop for Protocol<S> {
-    fn drop(self) {
-        let Protocol {
-            me: _me,
-            acceptor: _acceptor,
-            learner: _learner,
-            proposer: _proposer,
-            remembered: _remembered,
-            offered: _offered,
-            waiting: _waiting,
-            alloc: _alloc,
-        } = self;
-    }
 }
 
 impl<S: Store> Model for Protocol<S> {

@@ -17,8 +17,8 @@ ghost use Rattle.group_node.specs.AcceptorRows.{on_accept, on_prepare};
 ghost use Rattle.group_node.specs.Known.{on_typed, front, next_serial, Known, on_start};
 ghost use Rattle.group_node.specs.LearnerRows.{on_accepted, on_ask, on_tell};
 ghost use Rattle.group_node.specs.ProposerRows.{on_promise, on_submit, offer_after, on_campaign, on_refused, next_ballot};
-ghost use Rattle.group_node.specs.Tick.{on_tick, batch_of};
-ghost use Rattle.group_node.specs.WaitingKeys.{without_read};
+ghost use Rattle.group_node.specs.Tick.{on_tick};
+ghost use Rattle.group_node.specs.WaitingKeys.{batch_of, without_read};
 ghost use Rattle.group_node.specs.Pump.{offer, Proposals, pump};
 ghost use Rattle.group_node.specs.Ranges.{AreFit, IsFit, IsHeardFit, IsInRange, IsMember, IsOwnProposer};
 

@@ -4,9 +4,8 @@ ghost use Rattle.paxos_msg.specs.declared.value.Value.{Value};
 ghost use Rattle.paxos_msg.specs.Keys.{Key, keys_of};
 ghost use Rattle.paxos_learner.specs.Input.{front_values, keys_in_order};
 ghost use Rattle.paxos_msg.specs.declared.limits.TheConstants.{MOST_CHARACTERS};
-ghost use Rattle.group_node.specs.Known.{on_typed, new_key, Known, waiting_keys};
-ghost use Rattle.group_node.specs.Tick.{batch_of};
-ghost use Rattle.group_node.specs.WaitingKeys.{without_read};
+ghost use Rattle.group_node.specs.Known.{on_typed, new_key, Known};
+ghost use Rattle.group_node.specs.WaitingKeys.{batch_of, waiting_keys, without_read};
 
 use paxos_learner::laws::key_tests_are_exact;
 

@@ -13,7 +13,8 @@ use Rattle.paxos_msg.specs.Records.{changed, MaySave}
 use Rattle.paxos_acceptor.specs.Answers.{after}
 use Rattle.paxos_acceptor.specs.Stores.{IsOneOf}
 use Rattle.group_node.specs.Backs.{Backs}
-use Rattle.group_node.specs.Known.{Known, Response, new_key, next_serial, on_typed, waiting_keys}
+use Rattle.group_node.specs.Known.{Known, Response, new_key, next_serial, on_typed}
+use Rattle.group_node.specs.WaitingKeys.{waiting_keys}
 use Rattle.group_node.specs.Packets.{bodies_of}
 use Rattle.group_node.specs.Protocol.{on_message, row}
 use Rattle.group_node.specs.ProposerRows.{on_campaign, next_ballot}

@@ -15,15 +15,15 @@ use Rattle.paxos_msg.specs.Messages.{IsSent}
 use Rattle.paxos_msg.specs.Records.{MaySave}
 use Rattle.paxos_proposer.specs.Proposer.{coverage_of}
 use Rattle.group_node.specs.Backs.{Backs}
-use Rattle.group_node.specs.Known.{front, Known, new_key, on_typed, own_batch, waiting_keys}
+use Rattle.group_node.specs.Known.{front, Known, new_key, on_typed, own_batch}
 use Rattle.group_node.specs.Packets.{Packet, to_all}
 use Rattle.group_node.specs.Protocol.{row}
 use Rattle.group_node.specs.ProposerRows.{next_ballot, on_campaign}
 use Rattle.group_node.specs.Pump.{accepts_of, pump}
 use Rattle.group_node.specs.Ranges.{IsInRange}
 use Rattle.group_node.specs.Steps.{IsDelivered, IsLawful, messages_handed_out}
-use Rattle.group_node.specs.Tick.{accepts_again, asks, batch_of, prepares_again}
-use Rattle.group_node.specs.WaitingKeys.{count_gone}
+use Rattle.group_node.specs.Tick.{accepts_again, asks, prepares_again}
+use Rattle.group_node.specs.WaitingKeys.{batch_of, count_gone, waiting_keys}
 use Rattle.group_node.proofs.ByCases.{by_tick, each_accept, each_last, each_prepare}
 use Rattle.group_node.proofs.Campaigning.{next_is_above}
 use Rattle.group_node.proofs.Sending.{led_lawful, prepare_stable, sent_lawful, sound, then_pump, at_most_same, leading, goes_on, IsStable, sender_of, SendingLaws, stable_goes}

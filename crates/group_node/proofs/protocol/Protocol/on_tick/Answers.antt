@@ -7,7 +7,8 @@ use Rattle.paxos_msg.specs.declared.value.Value.{Value}
 use Rattle.paxos_msg.specs.declared.message.Body.TheVariants.{Ask}
 use Rattle.paxos_proposer.specs.Proposer.{Proposer}
 use Rattle.group_node.specs.Known.{front, Known}
-use Rattle.group_node.specs.Tick.{accepts_again, asks, on_tick, batch_of, prepares_again, submits}
+use Rattle.group_node.specs.Tick.{accepts_again, asks, on_tick, prepares_again, submits}
+use Rattle.group_node.specs.WaitingKeys.{batch_of}
 use Rattle.group_node.specs.Calls.{Does}
 use Rattle.group_node.specs.Packets.{Datagram, Packet, datagram_of, datagrams_of, to_all, Queue}
 use Rattle.group_node.specs.Pump.{accepts_of, pump}
