@@ -25,7 +25,7 @@ use Rattle.group_world.specs.declared.member.Ask.{Ask}
 use Rattle.group_world.specs.Event.{Goes, Leaves, LeavesAsked, Performs, node_of}
 use Rattle.group_world.specs.Group.{HasUp, group_after, me_of, member_at, message_of, messages_in, World}
 use Rattle.group_world.specs.Member.{NodeCall, call_of_ask, call_of_press, call_outcome, CallOutcome, CallEnds, FailsByMemory, Fell, Happened, Member, Refused, Running, RunsMember, member_after, member_after_release, sent_by, typed_by}
-use Rattle.group_world.specs.Refusals.{Applies, refusal, refusal_at, refusal_of, unless_up}
+use Rattle.group_world.specs.Refusals.{refusal, refusal_at, refusal_of, unless_up}
 use Rattle.group_world.specs.Sound.{IsSound, IsSpelling}
 use Rattle.group_world.specs.declared.event.Event.{Event}
 use Rattle.group_world.proofs.SoundWorldsAgree.{next_of}
@@ -155,12 +155,6 @@ module _ {w was : World} (is : w ≡ was) (i : ℕ) {place : ℕ} {lent : Member
     pub crashes_so : {new : Member} (plan : Option Bool) → new ≡ record lent { node = None }
         → Performs was plan (act.Crash i) Applied (parts w place new w.sent w.typed)
     crashes_so plan new_is = let (m, q, up) = has in (m, q, up, refl, rw (at, is, new_is, lent_is up.there) refl)
-
--- an event that was not refused before it was tried
-pub applied : {w v : World} {e : Event} (r : Result Done WorldFault) → IfOk r (λ d. Goes w e d v) → OnErr r (v ≡ w) → FailsByMemory r
-    → None ≡ refusal w e.act → Applies w e r v
-applied (Ok d) goes same memory none = record { goes = goes; taken = sym none; same = tt; refused = tt }
-applied (Err f) goes same memory none = record { goes = tt; taken = tt; same = same; refused = inr (sym none, memory) }
 
 -- ---- a delivery
 

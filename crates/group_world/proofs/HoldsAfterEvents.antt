@@ -109,7 +109,7 @@ prefix_refl a = record { rest = []; whole = sym (append-nil a) }
 prefix_trans : (a b c : List ℕ) → IsPrefix a b → IsPrefix b c → IsPrefix a c
 prefix_trans a b c h k = grind (arith, common_steps, append_assoc)
 
-grows_none : (w v : WorldState) → v ≡ w → Grows w v
+pub grows_none : (w v : WorldState) → v ≡ w → Grows w v
 grows_none w v e = record {
   size = ap (λ (x : WorldState). x.size) e;
   more = [];

@@ -10,7 +10,8 @@ use Rattle.paxos_msg.specs.Keys.{keys_of}
 use Rattle.paxos_msg.specs.Reading.{message_at}
 use Rattle.paxos_msg.specs.Records.{empty_record}
 use Rattle.paxos_acceptor.specs.declared.me.Me.{Me}
-use Rattle.group_node.specs.Known.{Response, waiting_keys}
+use Rattle.group_node.specs.Known.{Response}
+use Rattle.group_node.specs.WaitingKeys.{waiting_keys}
 use Rattle.group_node.specs.Output.{Progress}
 use Rattle.group_node.specs.Packets.{Datagram, datagrams_of}
 use Rattle.group_node.specs.States.{input}

@@ -1,5 +1,5 @@
 -- Why a world refuses an event, and how a list of events ends early.
-use Rattle.std.specs.Prelude.{◌≡◌, ◌⊎◌, ℕ, nat_lt, List, length, slice_get, take, Option, Some, None, is_some, if◌then◌else◌, Result, IfErr, IfOk, OnErr, OnOk}
+use Rattle.std.specs.Prelude.{◌≡◌, ◌⊎◌, ℕ, nat_lt, List, length, slice_get, take, Option, Some, None, is_some, if◌then◌else◌}
 use Rattle.group_world.specs.declared.event.Act.{Act}
 use Rattle.group_world.specs.declared.event.Act.TheVariants.{Press, Deliver, Campaign, Tick, Run, Release, Crash, Start}
 use Rattle.group_world.specs.declared.event.Done.{Done}
@@ -42,16 +42,6 @@ refusal w act = refusal_of w act (member_at w.members (node_of act))
 -- An event that is refused with `f`: as `refusal` says, or because memory ran out.
 abbrev pub IsRefused : World → Act → WorldFault → Type 0
 IsRefused w act f = (refusal w act ≡ Some f) ⊎ ((refusal w act ≡ None) × (f ≡ Memory))
-
--- What an event does: it happens, or it is refused and changes nothing.
--- `w` is the world before it, and `v` the one after it.
--- Forbids: a refusal other than `Memory` of an event that can happen.
-pub record Applies (w : World) (e : Event) (result : Result Done WorldFault) (v : World)
-    : Type 0 where
-  pub goes : IfOk result (λ d. Goes w e d v)
-  pub taken : OnOk result (refusal w e.act ≡ None)
-  pub same : OnErr result (v ≡ w)
-  pub refused : IfErr result (λ f. IsRefused w e.act f)
 
 -- The event with this number is the first of a list that is refused, and with `f`.
 pub record IsFirstRefused (w : World) (events : List Event) (number : ℕ)

@@ -6,11 +6,11 @@ ghost use Rattle.group_world.specs.declared.event.Done.TheVariants.{Applied};
 ghost use Rattle.group_world.specs.Event.{LeavesAsked, Performs};
 ghost use Rattle.group_world.specs.Group.{HasUp, IsDown, member_at, new_world};
 ghost use Rattle.group_world.specs.Member.{FailsByMemory, IsOfMember, Running};
-ghost use Rattle.group_world.specs.Refusals.{Applies, refusal};
+ghost use Rattle.group_world.specs.Refusals.{refusal};
 ghost use Rattle.group_world.specs.Sound.{IsSound};
 ghost use Rattle.group_world.specs.Member as state;
 
-use crate::event::{Act, Done, Event};
+use crate::event::{Act, Done};
 use crate::fault::WorldFault;
 use crate::member::{Ask, Member};
 use group_node::limits::MOST_PACKETS;
@@ -22,6 +22,7 @@ use std::marker::Model;
 
 /// A group and what happened to it so far. Its contracts say what each event does, and nothing
 /// else; what holds of the group is known of a `World`.
+#[derive(Drop)]
 pub(crate) struct GroupState<'a> {
     pub(crate) program: &'a Program,
     pub(crate) group: Group,
@@ -31,20 +32,6 @@ pub(crate) struct GroupState<'a> {
     // Empty between events.
     outbox: Outbox,
     alloc: Global,
-}
-
-impl<'a> Drop for GroupState<'a> {
-    fn drop(self) {
-        let GroupState {
-            program: _program,
-            group: _group,
-            members: _members,
-            sent: _sent,
-            typed: _typed,
-            outbox: _outbox,
-            alloc: _alloc,
-        } = self;
-    }
 }
 
 impl<'a> Model for GroupState<'a> {
@@ -286,7 +273,7 @@ impl<'a> GroupState<'a> {
 
     /// Performs the act, which is not refused. `plan` says whether its save fails, and what the
     /// store then keeps. Fails with `Memory` if memory runs out; then nothing has changed.
-    fn perform(&mut self, act: &Act, plan: Option<bool>) -> Result<Done, WorldFault>
+    pub(crate) fn perform(&mut self, act: &Act, plan: Option<bool>) -> Result<Done, WorldFault>
         requires sound { IsSound self.old }
         requires taken { refusal self.old act.now ≡ None }
         ensures acts { IfOk result (λ d. Performs self.old plan act.now d self.new) }
@@ -309,17 +296,5 @@ impl<'a> GroupState<'a> {
             }
             Act::Start(node) => self.start(node, plan),
         }
-    }
-
-    /// Performs the event. Fails with what `refusal` returns, or with `Memory` if memory runs out;
-    /// then nothing has changed.
-    pub(crate) fn apply(&mut self, event: &Event) -> Result<Done, WorldFault>
-        requires sound { IsSound self.old }
-        ensures { Applies self.old event.now result self.new }
-    {
-        if let Some(fault) = self.refusal(&event.act) {
-            return Err(fault);
-        }
-        self.perform(&event.act, event.save.plan())
     }
 }

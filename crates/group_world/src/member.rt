@@ -30,18 +30,10 @@ pub(crate) enum Ask<'a> {
 }
 
 /// The store of a node that is down, or the node.
+#[derive(Drop)]
 pub(crate) enum Place<'a> {
     Down(MemoryStore),
     Up(Node<'a, MemoryStore>),
-}
-
-impl<'a> Drop for Place<'a> {
-    fn drop(self) {
-        match self {
-            Place::Down(_store) => (),
-            Place::Up(_node) => (),
-        }
-    }
 }
 
 impl<'a> Place<'a> {
@@ -123,18 +115,10 @@ impl<'a> Place<'a> {
 }
 
 /// A node of the group, up or down, and its console, which outlives it.
+#[derive(Drop)]
 pub(crate) struct Member<'a> {
     place: Place<'a>,
     console: Console,
-}
-
-impl<'a> Drop for Member<'a> {
-    fn drop(self) {
-        let Member {
-            place: _place,
-            console: _console,
-        } = self;
-    }
 }
 
 impl<'a> Model for Member<'a> {

@@ -22,6 +22,7 @@ pub enum Line {
 }
 
 /// A script: a group, and what happens to it.
+#[derive(Drop)]
 pub struct Script {
     /// The number of the group's nodes.
     pub size: u8,
@@ -29,16 +30,6 @@ pub struct Script {
     pub session: u32,
     /// What happens, in order. Item `i` is line `i + 2` of the text.
     pub lines: Vec<Line>,
-}
-
-impl Drop for Script {
-    fn drop(self) {
-        let Script {
-            size: _size,
-            session: _session,
-            lines: _lines,
-        } = self;
-    }
 }
 
 /// Why a text is not read as a script.

@@ -110,7 +110,10 @@ impl<'a> World<'a> {
         ordered_worlds_are_orderly();
         agreement();
         sent_only_grows();
-        self.group.apply(event)
+        if let Some(fault) = self.group.refusal(&event.act) {
+            return Err(fault);
+        }
+        self.group.perform(&event.act, event.save.plan())
     }
 
     /// Returns the number of messages that were sent.

@@ -1,45 +1,108 @@
-use Rattle.std.proofs.lemmas.Result.{IfOk-weaker}
-use Rattle.group_world.specs.Event.{plan_of}
+use Rattle.std.proofs.Common.{◌∙◌, IfOk, inl, inr, refl, rules, sym}
+use Rattle.std.proofs.lemmas.Result.{IfErr-weaker, IfOk-weaker}
+use Rattle.group_world.specs.Event.{Goes, plan_of}
+use Rattle.group_world.specs.Group.{World, world_state}
+use Rattle.group_world.specs.Headline.{ConsolesAgree, ConsolesGrow, ConsolesHoldOutput, HasNoGap, LearnedAgree, LearnedChosen, LearnedStays}
+use Rattle.group_world.specs.Order.{KeysOnce, SerialsInOrder}
 use Rattle.group_world.specs.Ordered.{Holds}
-use Rattle.group_world.proofs.HoldsAfterEvents.{ChosenLaws, answer_grows, grown_learned, EventLaws, event_holds}
+use Rattle.group_world.proofs.HoldsAfterEvents.{ChosenLaws, EventLaws, Grows, answer_grows, event_holds, grown_learned, grows_none}
 use Rattle.group_world.proofs.world.World.apply.Goals as goal
+use Rattle.group_world.proofs.world.World.apply.Goals.{After-refusal}
 
-laws : goal.After-apply → EventLaws
+-- the claims of a world and of what it has become
+record Claims (w v : World) : Type 0 where
+  learned_stays : LearnedStays (world_state w) (world_state v)
+  consoles_grow : ConsolesGrow (world_state w) (world_state v)
+  learned_agree : LearnedAgree (world_state v)
+  learned_chosen : LearnedChosen (world_state v)
+  consoles_hold_output : ConsolesHoldOutput (world_state v)
+  consoles_agree : ConsolesAgree (world_state v)
+  no_gap : HasNoGap (world_state v)
+  key_once : KeysOnce (world_state v)
+  serials_in_order : SerialsInOrder (world_state v)
+
+claims : After-refusal → (w v : World) → Holds w → Holds v → Grows (world_state w) (world_state v) → Claims w v
+claims c w v before after grows =
+    let sound = c.sound_worlds_agree.ensures in
+    let ordered = c.ordered_worlds_are_orderly.ensures in
+    let chosen : ChosenLaws = assumption in
+    record {
+      learned_stays = grown_learned chosen w v before.sound after.sound grows;
+      consoles_grow = grows.consoles;
+      learned_agree = sound.learned_agree v after.sound;
+      learned_chosen = sound.learned_chosen v after.sound;
+      consoles_hold_output = sound.consoles_hold_output v after.sound;
+      consoles_agree = sound.consoles_agree v after.sound;
+      no_gap = sound.no_gap v after.sound;
+      key_once = ordered.once v after.sound after.ordered;
+      serials_in_order = ordered.order v after.sound after.ordered;
+    }
+
+-- ---- an event that is refused
+
+pub same-self : goal.same-self
+same-self c = refl
+
+pub returns-in-Some : goal.returns-in-Some
+returns-in-Some c =
+    let held = c.self.invariant in
+    let k = claims (goal.at.returns-in-Some c).After-refusal _ _ held held (grows_none _ _ refl) in
+    rw (← c.self.view_is) (record {
+      goes = tt;
+      step = tt;
+      taken = tt;
+      same = refl;
+      refused = inl (sym c.refusal.ensures ∙ c.in-Some.is);
+      learned_stays = k.learned_stays;
+      consoles_grow = k.consoles_grow;
+      learned_agree = k.learned_agree;
+      learned_chosen = k.learned_chosen;
+      consoles_hold_output = k.consoles_hold_output;
+      consoles_agree = k.consoles_agree;
+      no_gap = k.no_gap;
+      key_once = k.key_once;
+      serials_in_order = k.serials_in_order;
+    })
+
+-- ---- one that is not
+
+pub perform-requires : goal.perform-requires
+perform-requires c = record { sound = c.self.invariant.sound; taken = sym c.in_default.ensures }
+
+laws : goal.After-perform → EventLaws
 laws c = assumption
 
 -- the world after the event is sound and ordered
-holds : (c : goal.After-apply) → Holds c.apply.new.self
+holds : (c : goal.After-perform) → Holds c.perform.new.self
 holds c =
-    event_holds (laws c) _ c.apply.result c.self.invariant c.apply.ensures.goes c.apply.ensures.same
-
-pub apply-requires : goal.apply-requires
-apply-requires c = record { sound = c.self.invariant.sound }
+    event_holds (laws c) c.args.event.now c.perform.result c.self.invariant (rw (← c.plan.ensures) c.perform.ensures.acts)
+    c.perform.ensures.err
 
 pub invariant_of-self : goal.invariant_of-self
 invariant_of-self c = holds c
 
 pub returns : goal.returns
 returns c =
-    let before = c.self.invariant.sound in
-    let after = holds c in
-    let sound = c.sound_worlds_agree.ensures in
-    let step = IfOk-weaker c.apply.result _ _
-    (λ d goes. c.events_keep_it_sound.ensures.step c.self.inside.group _ (plan_of _) _ d before goes) c.apply.ensures.goes in
-    let grows = answer_grows c.self.inside.group _ _ c.apply.result step c.apply.ensures.same in
-    let chosen : ChosenLaws = assumption in
+    let r = c.perform.result in
+    let goes : IfOk r (λ d. Goes c.self.inside.group c.args.event.now d c.perform.new.self) =
+    rw (← c.plan.ensures) c.perform.ensures.acts in
+    let step = IfOk-weaker r _ _
+    (λ d goes. c.events_keep_it_sound.ensures.step c.self.inside.group _ (plan_of _) _ d c.self.invariant.sound goes) goes in
+    let k = claims (goal.at.returns c).After-refusal _ _ c.self.invariant (holds c)
+    (answer_grows c.self.inside.group _ _ r step c.perform.ensures.err) in
     rw (← c.self.view_is) (record {
-      goes = c.apply.ensures.goes;
+      goes = goes;
       step = step;
-      taken = c.apply.ensures.taken;
-      same = c.apply.ensures.same;
-      refused = c.apply.ensures.refused;
-      learned_stays = grown_learned chosen c.self.inside.group _ before after.sound grows;
-      consoles_grow = grows.consoles;
-      learned_agree = sound.learned_agree _ after.sound;
-      learned_chosen = sound.learned_chosen _ after.sound;
-      consoles_hold_output = sound.consoles_hold_output _ after.sound;
-      consoles_agree = sound.consoles_agree _ after.sound;
-      no_gap = sound.no_gap _ after.sound;
-      key_once = c.ordered_worlds_are_orderly.ensures.once _ after.sound after.ordered;
-      serials_in_order = c.ordered_worlds_are_orderly.ensures.order _ after.sound after.ordered;
+      taken = let none = sym c.in_default.ensures in search rules;
+      same = c.perform.ensures.err;
+      refused = IfErr-weaker r _ _ (λ f memory. inr (sym c.in_default.ensures, memory)) c.perform.ensures.memory;
+      learned_stays = k.learned_stays;
+      consoles_grow = k.consoles_grow;
+      learned_agree = k.learned_agree;
+      learned_chosen = k.learned_chosen;
+      consoles_hold_output = k.consoles_hold_output;
+      consoles_agree = k.consoles_agree;
+      no_gap = k.no_gap;
+      key_once = k.key_once;
+      serials_in_order = k.serials_in_order;
     })

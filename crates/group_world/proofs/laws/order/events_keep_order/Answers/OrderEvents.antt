@@ -18,8 +18,8 @@ use Rattle.paxos_msg.specs.Messages.{IsSaid}
 use Rattle.paxos_acceptor.specs.declared.me.Me.{Me}
 use Rattle.paxos_learner.specs.Input.{front_values, keys_in_order}
 use Rattle.group_node.specs.Inputs.{AreChosen}
-use Rattle.group_node.specs.Known.{Response, on_typed, new_key, next_serial, own_batch, on_start, waiting_keys}
-use Rattle.group_node.specs.Tick.{batch_of}
+use Rattle.group_node.specs.Known.{Response, on_typed, new_key, next_serial, own_batch, on_start}
+use Rattle.group_node.specs.WaitingKeys.{batch_of, waiting_keys}
 use Rattle.group_node.specs.Output.{Progress, no_progress}
 use Rattle.group_node.specs.Packets.{Datagram, Packet, datagrams_of}
 use Rattle.group_world.specs.Group.{IsUp, me_of, member_at, message_of, messages_in, with_member, World, world_after_call, world_after_fall, world_state, new_world}

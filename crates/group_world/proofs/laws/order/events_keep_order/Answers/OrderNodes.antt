@@ -9,9 +9,9 @@ use Rattle.std.proofs.lemmas.List.Elements.{All-take, All-contains, All-append, 
 use Rattle.std.specs.FinMap.{FinMap, get}
 use Rattle.std.specs.Ordering.{nat_cmp}
 use Rattle.std.specs.List.{range_with_len, Contains, cons_option, filter_map}
-use Rattle.group_node.specs.Known.{front, Response, next_serial, Known, quiet, waiting_keys}
+use Rattle.group_node.specs.Known.{front, Response, next_serial, Known, quiet}
 use Rattle.group_node.specs.LearnerRows.{tell_packet}
-use Rattle.group_node.specs.Tick.{accepts_again, asks_again, prepares_again, submits, asks, on_tick, batch_of, ticked}
+use Rattle.group_node.specs.Tick.{accepts_again, asks_again, prepares_again, submits, asks, on_tick, ticked}
 use Rattle.group_node.specs.Packets.{to_all, to_one, Datagram, Packet, datagram_of, datagrams_of}
 use Rattle.std.proofs.lemmas.Option.{same_Some}
 use Rattle.std.proofs.lemmas.List.{length-drop}
@@ -26,7 +26,7 @@ use Rattle.paxos_learner.specs.Input.{front_values, keys_in_order}
 use Rattle.group_node.specs.declared.packet.To.{To}
 use Rattle.group_node.specs.Protocol.{on_message, row}
 use Rattle.group_node.specs.AcceptorRows.{answering}
-use Rattle.group_node.specs.WaitingKeys.{count_read, count_gone, without_read}
+use Rattle.group_node.specs.WaitingKeys.{batch_of, count_gone, count_read, waiting_keys, without_read}
 use Rattle.group_node.specs.Pump.{pump, accepts_of}
 use Rattle.group_world.specs.Ordered.{IsFirstUnread}
 use Rattle.group_world.proofs.OrderRows.{IsParted}

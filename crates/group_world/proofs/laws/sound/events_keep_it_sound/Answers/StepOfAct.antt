@@ -2,7 +2,8 @@
 -- sound.
 use Rattle.std.proofs.Common.{length, ◌≡◌, ◌∙◌, ℕ, All, ◌<◌, ◌++◌, List, [], ◌∷◌, flat_map, slice_get, Some, refl, sym, ap, subst, append-nil, arith, ◌≢◌, Bool, true, false, if◌then◌else◌, Option, None, inl, inr, ◌+◌, ◌-◌, ◌≤◌}
 use Rattle.group_node.specs.ProposerRows.{last_round, on_campaign}
-use Rattle.group_node.specs.Known.{front, next_serial, Response, on_typed, new_key, on_start, waiting_keys}
+use Rattle.group_node.specs.Known.{front, next_serial, Response, on_typed, new_key, on_start}
+use Rattle.group_node.specs.WaitingKeys.{waiting_keys}
 use Rattle.group_world.proofs.CallCases.{campaign_cases, press_cases, start_cases}
 use Rattle.group_world.proofs.AskEnds.{tick_rests}
 use Rattle.std.proofs.lemmas.List.Elements.{All-cons, All-contains, All-nil, All-head, All-tail}
