@@ -4,10 +4,8 @@
 //!
 //! - `read_script` of `group_world`, which reads a script;
 //! - `sim`, which performs it on a group that runs a program, and whose contract says, line by
-//! line,
-//!   what happened and what was written;
-//! - or `sim_file`, which does the work of the command `sim` on a code file and the file of a
-//! script.
+//!   line, what happened and what was written;
+//! - or `sim_file`, which does the work of the command `sim` on a code file and a script's file.
 #![tactic(auto)]
 
 pub mod laws;

@@ -1,7 +1,7 @@
 //! The refusals of the command `sim`.
 use crate::simulation::Stopped;
 use group_world::{ScriptFault, WorldFault};
-use machine_run::{FileError, MachineRefusal, RunIo};
+use machine_run::MachineRefusal;
 use thiserror::Error;
 
 /// Why a line of a script is refused. The text follows the word `refused`.
@@ -35,33 +35,6 @@ impl From<MachineRefusal> for ScriptRefusal {
 
     fn from(refusal: MachineRefusal) -> ScriptRefusal {
         ScriptRefusal::Machine(refusal)
-    }
-}
-
-impl From<FileError> for ScriptRefusal {
-    ghost use Rattle.std.specs.Prelude.{◌≡◌};
-    ghost use Rattle.machine_run.specs.declared.files.FileError.TheVariants as error;
-    ghost use Rattle.machine_run.specs.declared.refusal.MachineRefusal.TheVariants.{File, Run};
-    ghost use Rattle.machine_run.specs.declared.run.RunIo.TheVariants as run;
-    ghost use Rattle.group_sim.specs.declared.refusal.ScriptRefusal.TheVariants.{Machine};
-
-    ghost from_gives = { λ fault r. (fault ≡ error.Unreadable → r ≡ Machine File)
-        × (fault ≡ error.Memory → r ≡ Machine (Run run.Memory)) };
-
-    fn from(error: FileError) -> ScriptRefusal {
-        ScriptRefusal::Machine(MachineRefusal::from(error))
-    }
-}
-
-impl From<RunIo> for ScriptRefusal {
-    ghost use Rattle.std.specs.Prelude.{◌≡◌};
-    ghost use Rattle.machine_run.specs.declared.refusal.MachineRefusal.TheVariants.{Run};
-    ghost use Rattle.group_sim.specs.declared.refusal.ScriptRefusal.TheVariants.{Machine};
-
-    ghost from_gives = { λ fault r. r ≡ Machine (Run fault) };
-
-    fn from(fault: RunIo) -> ScriptRefusal {
-        ScriptRefusal::Machine(MachineRefusal::Run(fault))
     }
 }
 

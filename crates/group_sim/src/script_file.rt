@@ -8,7 +8,7 @@ use std::rt::Files;
 
 /// Reads the script of a file. Fails with `File` if it can't be read or is not UTF-8.
 fn load_script<H: Files + AllocGlobal>(rt: &H, file: &str) -> Result<Script, ScriptRefusal> {
-    let bytes = read_file(rt, file)?;
+    let bytes = read_file(rt, file).map_err(MachineRefusal::from)?;
     let Ok(text) = str::from_utf8(bytes.as_slice()) else {
         return Err(ScriptRefusal::Machine(MachineRefusal::File));
     };
@@ -24,7 +24,7 @@ pub fn sim_file<H: Files + AllocGlobal, W: Write>(
 ) -> Result<(), ScriptRefusal> {
     let program = load_file(rt, file)?;
     let script = load_script(rt, script)?;
-    match sim(rt.alloc(), &program, &script, writer)? {
+    match sim(rt.alloc(), &program, &script, writer).map_err(MachineRefusal::Run)? {
         None => Ok(()),
         Some(stopped) => Err(ScriptRefusal::from(stopped)),
     }

@@ -42,28 +42,6 @@ enum Halt {
     Unwritten,
 }
 
-impl From<WorldFault> for Halt {
-    ghost use Rattle.std.specs.Prelude.{◌≡◌};
-    ghost use Rattle.group_sim.specs.declared.simulation.Halt.TheVariants.{Refused};
-
-    ghost from_gives = { λ fault halt. halt ≡ Refused fault };
-
-    fn from(fault: WorldFault) -> Self {
-        Halt::Refused(fault)
-    }
-}
-
-impl From<WriteFault> for Halt {
-    ghost use Rattle.std.specs.Prelude.{◌≡◌};
-    ghost use Rattle.group_sim.specs.declared.simulation.Halt.TheVariants.{Unwritten};
-
-    ghost from_gives = { λ _ halt. halt ≡ Unwritten };
-
-    fn from(_: WriteFault) -> Self {
-        Halt::Unwritten
-    }
-}
-
 /// Returns the code of a node's refusal.
 fn code(fault: NodeFault) -> &'static [u8]
     ensures { result.now ≡ code_of fault }
@@ -104,6 +82,7 @@ fn is_meant_for(to: To, node: u8) -> bool
 }
 
 /// A group on which a script is performed, and how far its settles have come.
+#[derive(Drop)]
 struct Simulation<'a> {
     world: World<'a>,
     size: u8,
@@ -113,17 +92,6 @@ struct Simulation<'a> {
     left: u32,
 }
 
-impl<'a> Drop for Simulation<'a> {
-    fn drop(self) {
-        let Simulation {
-            world: _world,
-            size: _size,
-            passed: _passed,
-            left: _left,
-        } = self;
-    }
-}
-
 impl Simulation<'_> {
     /// Applies an event of the line. Writes a refusal of its node, after which the script goes on.
     fn happen<W: Write>(&mut self, writer: &mut W, line: usize, event: &Event) -> Result<(), Halt>
@@ -131,14 +99,8 @@ impl Simulation<'_> {
         ensures happens { HappensAt line event.now (moment self.old (W.contents writer.old)) result
             (moment self.new (W.contents writer.new)) }
     {
-        let done = match self.world.apply(event) {
-            Ok(done) => done,
-            Err(fault) => return Err(Halt::Refused(fault)),
-        };
-        match tell(writer, line, done) {
-            Ok(()) => Ok(()),
-            Err(_) => Err(Halt::Unwritten),
-        }
+        let done = self.world.apply(event).map_err(Halt::Refused)?;
+        tell(writer, line, done).or(Err(Halt::Unwritten))
     }
 
     /// Performs an act of a settle, whose save does not fail.
@@ -198,9 +160,7 @@ impl Simulation<'_> {
     {
         let size = self.size;
         for before in 0..size {
-            if let Err(halt) = self.deliver(writer, line, message, to, 1 + before) {
-                return Err(halt);
-            }
+            self.deliver(writer, line, message, to, 1 + before)?;
         }
         Ok(())
     }
@@ -220,9 +180,7 @@ impl Simulation<'_> {
                 return Ok(());
             };
             let to = packet.to;
-            if let Err(halt) = self.pass(writer, line, message, to) {
-                return Err(halt);
-            }
+            self.pass(writer, line, message, to)?;
         }
         // A vector has no more items than this.
         let _sent = self.world.sent();
@@ -248,9 +206,7 @@ impl Simulation<'_> {
     {
         let waiting = self.waiting(node);
         for _ in 0..waiting {
-            if let Err(halt) = self.go_on(writer, line, Act::Release(node)) {
-                return Err(halt);
-            }
+            self.go_on(writer, line, Act::Release(node))?;
         }
         Ok(())
     }
@@ -264,9 +220,7 @@ impl Simulation<'_> {
         if !self.is_up(node) {
             return Ok(());
         }
-        if let Err(halt) = self.go_on(writer, line, Act::Run(node, SETTLE_STEPS)) {
-            return Err(halt);
-        }
+        self.go_on(writer, line, Act::Run(node, SETTLE_STEPS))?;
         self.release_all(writer, line, node)
     }
 
@@ -279,9 +233,7 @@ impl Simulation<'_> {
     {
         let size = self.size;
         for before in 0..size {
-            if let Err(halt) = self.play(writer, line, 1 + before) {
-                return Err(halt);
-            }
+            self.play(writer, line, 1 + before)?;
         }
         Ok(())
     }
@@ -294,9 +246,7 @@ impl Simulation<'_> {
             (moment self.new (W.contents writer.new)) }
     {
         self.left = DELIVERIES;
-        if let Err(halt) = self.deliver_all(writer, line) {
-            return Err(halt);
-        }
+        self.deliver_all(writer, line)?;
         self.play_all(writer, line)
     }
 
@@ -305,10 +255,7 @@ impl Simulation<'_> {
         ensures { Shows self.now.size (moment self.now (W.contents writer.old)) result
             (moment self.now (W.contents writer.new)) }
     {
-        match write_group(writer, &self.world, self.size) {
-            Ok(()) => Ok(()),
-            Err(_) => Err(Halt::Unwritten),
-        }
+        write_group(writer, &self.world, self.size).or(Err(Halt::Unwritten))
     }
 
     /// Performs a line.

@@ -9,5 +9,5 @@ loop-message-preserved g c =
       from = search rules;
       done =
           one_passed _ _ _ _ _ _ _ c.in-Some.packet.now c.loop-message.invariant.from c.loop-message.invariant.done
-          (sym c.in-Some.ensures) (rw (← c.packet.view_is) (rw c.loop-message.invariant.size at c.in_default-pass.ensures.passes));
+          (sym c.in-Some.ensures) (rw (← c.packet.view_is) (rw c.loop-message.invariant.size at c.in_ok-pass.ensures.passes));
     }

@@ -1,7 +1,9 @@
-use Rattle.std.proofs.Common.{arith}
+use Rattle.std.proofs.Common.{◌≡◌, Err, arith, rules}
 use Rattle.group_sim.proofs.Turns.{halts_within}
 use Rattle.group_sim.proofs.simulation.Simulation.release_all.Goals as goal
 
-pub returns-in-Err-clause-releases : goal.returns-in-Err-clause-releases
-returns-in-Err-clause-releases g c =
-    halts_within _ _ _ _ _ _ _ _ (omega (arith, c.waiting-waiting.ensures)) c.loop.invariant.done c.in-Err.ensures.happens
+pub returns-in_err-go_on-clause-releases : goal.returns-in_err-go_on-clause-releases
+returns-in_err-go_on-clause-releases g c =
+    let failed : c.from_residual.result ≡ Err c.in_err-go_on.field-0.0 = search rules in
+    rw failed
+    (halts_within _ _ _ _ _ _ _ _ (omega (arith, c.waiting-waiting.ensures)) c.loop.invariant.done c.in_err-go_on.ensures.happens)
