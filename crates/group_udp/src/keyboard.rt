@@ -80,6 +80,10 @@ impl Keyboard<'_> {
 
     /// Types what was brought, before a turn, as room allows, or campaigns if that was asked for.
     /// Returns what the node did.
+    ///
+    /// An empty datagram that comes first asks for a campaign. Otherwise the bytes of all datagrams
+    /// up to the first empty one are typed. While fewer than 64 keys have room, a datagram with
+    /// bytes stays where it is.
     pub fn press<H: Clock, S: Store>(
         &mut self,
         host: &mut Host<'_, S>,
@@ -96,7 +100,14 @@ impl Keyboard<'_> {
                 host.press(rest)?;
                 Ok(Pressed::Bytes)
             }
-            Keyboard::Datagrams(socket) => press_datagrams(host, wire, socket),
+            Keyboard::Datagrams(socket) if is_asked(socket) => campaign_when_asked(host, wire),
+            Keyboard::Datagrams(socket) => {
+                let mut buffer = [0u8; MOST_WAITING + 1];
+                let length = gather(socket, &mut buffer, host.node().waiting());
+                let mut bytes = &buffer[..length];
+                host.press(&mut bytes)?;
+                Ok(Pressed::Bytes)
+            }
         }
     }
 }
@@ -140,28 +151,4 @@ fn gather(socket: &UdpSocket, buffer: &mut [u8; MOST_WAITING + 1], waiting: usiz
         }
     }
     length
-}
-
-/// Takes what is there. If the first datagram is empty, the node campaigns. Otherwise the bytes of
-/// all datagrams up to the first empty one are typed. While fewer than 64 keys have room, a
-/// datagram with bytes stays where it is.
-fn press_datagrams<H: Clock, S: Store>(
-    host: &mut Host<'_, S>,
-    wire: &mut UdpWire<'_, H>,
-    socket: &UdpSocket,
-) -> Result<Pressed, GroupFault>
-    ensures pressed { HasPressedKeyboard S.honest S.fails_at_will S.state host.old host.new
-        result }
-    ensures stays { SameReleased host.old host.new }
-    ensures progress { host.new.progress ≡ host.old.progress }
-    ensures others { IfErr result IsRoundRefusal }
-{
-    if is_asked(socket) {
-        return campaign_when_asked(host, wire);
-    }
-    let mut buffer = [0u8; MOST_WAITING + 1];
-    let length = gather(socket, &mut buffer, host.node().waiting());
-    let mut bytes = &buffer[..length];
-    host.press(&mut bytes)?;
-    Ok(Pressed::Bytes)
 }

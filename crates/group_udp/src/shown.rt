@@ -22,21 +22,12 @@ use std::time::Clock;
 
 /// A node over a store in memory, its wire, and its console, which shows what was released of the
 /// node's output.
+#[derive(Drop)]
 pub struct ShownNode<'a, H> {
     host: Host<'a, MemoryStore>,
     wire: UdpWire<'a, H>,
     console: Console,
     ghost shows: { console.bytes ≡ released_of (input host.protocol.known) host.progress },
-}
-
-impl<'a, H> Drop for ShownNode<'a, H> {
-    fn drop(self) {
-        let ShownNode {
-            host: _host,
-            wire: _wire,
-            console: _console,
-        } = self;
-    }
 }
 
 /// Puts the first byte of the output that waits on the console, which has shown those before it.

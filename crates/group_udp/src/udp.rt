@@ -109,6 +109,7 @@ impl Watch {
 /// A node's socket, and the addresses of all nodes in order. Its receives don't wait; the node
 /// waits between its turns. What the node sends to itself does not pass the socket while there is
 /// room for it here.
+#[derive(Drop)]
 pub struct UdpWire<'a, H> {
     clock: &'a H,
     /// The node's number.
@@ -129,24 +130,6 @@ pub struct UdpWire<'a, H> {
     counted: Option<Group>,
     /// The number of datagrams that were dropped since these counts were set to 0.
     pub drops: Drops,
-}
-
-impl<'a, H> Drop for UdpWire<'a, H> {
-    fn drop(self) {
-        let UdpWire {
-            clock: _clock,
-            node: _node,
-            socket: _socket,
-            watch: _watch,
-            addresses: _addresses,
-            own: _own,
-            is_own_next: _is_own_next,
-            until: _until,
-            quiet: _quiet,
-            counted: _counted,
-            drops: _drops,
-        } = self;
-    }
 }
 
 impl<'a, H: Clock> UdpWire<'a, H> {
