@@ -52,17 +52,17 @@ static ALL: [Name; 7] = [
     Name::Node,
 ];
 
-/// Calls a function of the command's module.
+/// Names an item of the command's module, or calls a function of it.
 macro_rules! in_module {
-    ($command:expr, $call:ident($($argument:expr),*)) => {
+    ($command:expr, $($item:tt)*) => {
         match $command {
-            Name::Check => check::$call($($argument),*),
-            Name::List => list::$call($($argument),*),
-            Name::Run => run::$call($($argument),*),
-            Name::Show => show::$call($($argument),*),
-            Name::Sim => sim::$call($($argument),*),
-            Name::Net => net::$call($($argument),*),
-            Name::Node => node::$call($($argument),*),
+            Name::Check => check::$($item)*,
+            Name::List => list::$($item)*,
+            Name::Run => run::$($item)*,
+            Name::Show => show::$($item)*,
+            Name::Sim => sim::$($item)*,
+            Name::Net => net::$($item)*,
+            Name::Node => node::$($item)*,
         }
     };
 }
@@ -70,7 +70,7 @@ macro_rules! in_module {
 impl Name {
     /// Returns the word that names the command.
     pub fn word(self) -> &'static str {
-        in_module!(self, word())
+        in_module!(self, WORD)
     }
 
     /// Returns the command that a word names, if it names one.
@@ -85,8 +85,7 @@ impl Name {
 
     /// Returns the command's words, as clap reads them.
     fn words<'a>(self, alloc: Global) -> Result<Command<'a>, AllocError> {
-        let word = self.word();
-        in_module!(self, words(alloc, word))
+        in_module!(self, words(alloc))
     }
 
     /// Does what the command's words ask for. Returns how that ended, or what is wrong with the

@@ -3,30 +3,18 @@ use crate::value::Word;
 use clap::{Arg, Command};
 use std::alloc::{AllocError, Global};
 
-pub const FILE: Word = Word {
-    name: "FILE",
-    shown: "<FILE>",
-};
+pub const FILE: Word = Word::Required("FILE");
 
-pub const SIZE: Word = Word {
-    name: "SIZE",
-    shown: "<SIZE>",
-};
+pub const SIZE: Word = Word::Required("SIZE");
 
-pub const SESSION: Word = Word {
-    name: "SESSION",
-    shown: "<SESSION>",
-};
+pub const SESSION: Word = Word::Required("SESSION");
 
-pub const TURNS: Word = Word {
-    name: "TURNS",
-    shown: "<TURNS>",
-};
+pub const TURNS: Word = Word::Required("TURNS");
 
 /// Describes a required word: the path of a file, or digits of bytes. One that begins with a hyphen
 /// comes after `--`.
 pub fn text_arg<'a>(alloc: Global, word: Word, help: &'static str) -> Arg<'a> {
-    Arg::new(alloc, word.name).required(true).help(help)
+    Arg::new(alloc, word.name()).required(true).help(help)
 }
 
 /// Describes a required word. A number below 0 is taken too, so that it is refused as its value.
@@ -36,15 +24,10 @@ pub fn value_arg<'a>(alloc: Global, word: Word, help: &'static str) -> Arg<'a> {
 
 /// Describes an option with a value. A number below 0 is taken too, so that it is refused as its
 /// value.
-pub fn option_arg<'a>(
-    alloc: Global,
-    word: Word,
-    value_name: &'static str,
-    help: &'static str,
-) -> Arg<'a> {
-    Arg::new(alloc, word.name)
-        .long(word.name)
-        .value_name(value_name)
+pub fn option_arg<'a>(alloc: Global, word: Word, help: &'static str) -> Arg<'a> {
+    Arg::new(alloc, word.name())
+        .long(word.name())
+        .value_name(word.value_name())
         .allow_negative_numbers(true)
         .help(help)
 }

@@ -9,13 +9,41 @@ use std::alloc::{AllocError, AllocFailed};
 use std::fmt;
 use std::net::{SocketAddr, SocketAddrV4};
 
-/// A word of the command line that has a value.
+/// A word of the command line that has a value. As text it is as help shows it.
 #[derive(Clone, Copy, Debug, PartialEq, Eq)]
-pub struct Word {
-    /// The name under which its value is found.
-    pub name: &'static str,
-    /// Its name in a fault, as help shows it.
-    pub shown: &'static str,
+pub enum Word {
+    /// A required word, by its name.
+    Required(&'static str),
+    /// One required word or more, by their name.
+    Several(&'static str),
+    /// The value of an option: the option's name, and the value's.
+    Optional(&'static str, &'static str),
+}
+
+impl Word {
+    /// Returns the name under which its value is found.
+    pub fn name(self) -> &'static str {
+        match self {
+            Word::Required(name) | Word::Several(name) | Word::Optional(name, _) => name,
+        }
+    }
+
+    /// Returns the name of its value, as help shows it.
+    pub fn value_name(self) -> &'static str {
+        match self {
+            Word::Required(name) | Word::Several(name) | Word::Optional(_, name) => name,
+        }
+    }
+}
+
+impl fmt::Display for Word {
+    fn fmt<W: fmt::Write>(&self, f: &mut fmt::Formatter<W>) -> fmt::Result {
+        match *self {
+            Word::Required(name) => write!(f, "<{name}>"),
+            Word::Several(name) => write!(f, "<{name}>..."),
+            Word::Optional(name, value) => write!(f, "--{name} <{value}>"),
+        }
+    }
 }
 
 /// What is wrong with words, or that memory ran out while they were read.
@@ -44,18 +72,12 @@ impl<'a> fmt::Display for WordFault<'a> {
                 value,
                 word,
                 wanted,
-            } => {
-                let shown = word.shown;
-                write!(f, "invalid value '{value}' for '{shown}': {wanted}")
-            }
+            } => write!(f, "invalid value '{value}' for '{word}': {wanted}"),
             WordFault::Addresses { size, count } => write!(
                 f,
                 "there is one ADDR for each node: SIZE is {size}, and the number of ADDR is {count}"
             ),
-            WordFault::Missing(word) => {
-                let shown = word.shown;
-                write!(f, "'{shown}' is missing")
-            }
+            WordFault::Missing(word) => write!(f, "'{word}' is missing"),
             WordFault::Memory => f.write_str("there is no memory"),
         }
     }
@@ -96,7 +118,7 @@ pub fn refused_value<'a>(word: Word, value: &'a str, wanted: &'static str) -> Wo
 
 /// Returns the text of a required word.
 pub fn text_of<'a>(matches: &ArgMatches<'a>, word: Word) -> Result<&'a str, WordFault<'a>> {
-    matches.get_str(word.name).ok_or(WordFault::Missing(word))
+    matches.get_str(word.name()).ok_or(WordFault::Missing(word))
 }
 
 /// Reads a number from a word's text, from 0 to 255.

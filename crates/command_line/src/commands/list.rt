@@ -8,6 +8,9 @@ use std::alloc::{AllocError, Global};
 use std::io::Write;
 use std::rt::Files;
 
+/// The word that names the command.
+pub const WORD: &str = "list";
+
 /// The end of the command's help.
 const HELP: &str = "Example:
   pgroup list examples/echo.code
@@ -18,15 +21,10 @@ Exit status:
   2  a fault of the command line
 docs/FORMATS.md explains the codes and the instructions.";
 
-/// Returns the word that names the command.
-pub fn word() -> &'static str {
-    "list"
-}
-
 /// Returns the command's words, as clap reads them.
-pub fn words<'a>(alloc: Global, name: &'static str) -> Result<Command<'a>, AllocError> {
+pub fn words<'a>(alloc: Global) -> Result<Command<'a>, AllocError> {
     let about = "Lists the reached instructions of a code file";
-    on_file(alloc, name, about, HELP)
+    on_file(alloc, WORD, about, HELP)
 }
 
 /// Does what the words ask for. Returns how that ended, or what is wrong with the words.

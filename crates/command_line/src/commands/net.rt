@@ -10,6 +10,9 @@ use std::net::Net;
 use std::rt::Files;
 use std::time::Clock;
 
+/// The word that names the command.
+pub const WORD: &str = "net";
+
 /// The end of the command's help.
 const HELP: &str = "Standard input is read whole, and typed at node 1. At the end a line tells of
 each node how much it knows, and what its console shows.
@@ -24,15 +27,10 @@ Exit status:
   2  a fault of the command line
 docs/FORMATS.md explains the codes.";
 
-/// Returns the word that names the command.
-pub fn word() -> &'static str {
-    "net"
-}
-
 /// Returns the command's words, as clap reads them.
-pub fn words<'a>(alloc: Global, name: &'static str) -> Result<Command<'a>, AllocError> {
+pub fn words<'a>(alloc: Global) -> Result<Command<'a>, AllocError> {
     let about = "Runs a code file in a group in one process, on loopback UDP";
-    on_file(alloc, name, about, HELP)?
+    on_file(alloc, WORD, about, HELP)?
         .arg(size_arg(alloc))?
         .arg(value_arg(alloc, TURNS, "How many turns each node has"))
 }

@@ -17,34 +17,22 @@ use std::net::{Net, SocketAddr};
 use std::rt::{Env, Files};
 use std::time::Clock;
 
-const ID: Word = Word {
-    name: "ID",
-    shown: "<ID>",
-};
+const ID: Word = Word::Required("ID");
 
-const RECORD: Word = Word {
-    name: "RECORD",
-    shown: "<RECORD>",
-};
+const RECORD: Word = Word::Required("RECORD");
 
-const ADDR: Word = Word {
-    name: "ADDR",
-    shown: "<ADDR>...",
-};
+const ADDR: Word = Word::Several("ADDR");
 
-const SEEN: Word = Word {
-    name: "seen",
-    shown: "--seen <N>",
-};
+const SEEN: Word = Word::Optional("seen", "N");
 
-const KEYS: Word = Word {
-    name: "keys",
-    shown: "--keys <ADDR>",
-};
+const KEYS: Word = Word::Optional("keys", "ADDR");
 
 /// The usage, in two lines: it is too long for one.
 const USAGE: &str = "pgroup node [OPTIONS] <FILE> <ID> <SIZE> <SESSION> <RECORD> <TURNS>
                    <ADDR>...";
+
+/// The word that names the command.
+pub const WORD: &str = "node";
 
 /// The end of the command's help.
 const HELP: &str = "The output of the program is written to standard output. docs/GROUP.md tells
@@ -88,25 +76,20 @@ an empty one has the node ask to lead
         .long("campaign")
         .action(ArgAction::SetTrue)
         .help(campaign);
-    node.arg(option_arg(alloc, SEEN, "N", seen))?
+    node.arg(option_arg(alloc, SEEN, seen))?
         .arg(campaign)?
-        .arg(option_arg(alloc, KEYS, "ADDR", keys))
-}
-
-/// Returns the word that names the command.
-pub fn word() -> &'static str {
-    "node"
+        .arg(option_arg(alloc, KEYS, keys))
 }
 
 /// Returns the command's words, as clap reads them.
-pub fn words<'a>(alloc: Global, name: &'static str) -> Result<Command<'a>, AllocError> {
+pub fn words<'a>(alloc: Global) -> Result<Command<'a>, AllocError> {
     let about = "Runs a code file at one node of a group, on UDP";
     let session = "The group's session, 0 to 4294967295";
     let addresses = "The address of each node in order, as 127.0.0.1:7001";
     let addresses = value_arg(alloc, ADDR, addresses)
         .num_args(1..)
         .action(ArgAction::Append);
-    let node = on_file(alloc, name, about, HELP)?
+    let node = on_file(alloc, WORD, about, HELP)?
         .override_usage(USAGE)
         .arg(value_arg(alloc, ID, "The node's number, from 1 on"))?
         .arg(size_arg(alloc))?
@@ -140,7 +123,7 @@ fn read_addresses<'a>(
     matches: &ArgMatches<'a>,
     size: u8,
 ) -> Result<Vec<SocketAddr>, WordFault<'a>> {
-    let texts = matches.get_strs(ADDR.name).unwrap_or(&[]);
+    let texts = matches.get_strs(ADDR.name()).unwrap_or(&[]);
     let mut addresses = Vec::new(alloc);
     for text in texts {
         addresses.push(read_address(text, addresses.as_slice())?)?;
@@ -154,7 +137,7 @@ fn read_addresses<'a>(
 
 /// The number of `--seen`, 0 where it is not there.
 fn read_seen<'a>(matches: &ArgMatches<'a>) -> Result<u64, WordFault<'a>> {
-    match matches.get_str(SEEN.name) {
+    match matches.get_str(SEEN.name()) {
         None => Ok(0),
         Some(text) => large_in(SEEN, text),
     }
@@ -165,7 +148,7 @@ fn read_keys<'a>(
     matches: &ArgMatches<'a>,
     nodes: &[SocketAddr],
 ) -> Result<Option<SocketAddr>, WordFault<'a>> {
-    let Some(text) = matches.get_str(KEYS.name) else {
+    let Some(text) = matches.get_str(KEYS.name()) else {
         return Ok(None);
     };
     let address = address_in(KEYS, text)?;

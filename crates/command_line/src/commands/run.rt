@@ -11,10 +11,10 @@ use std::rt::Files;
 /// The most steps of a run, if the words do not say it.
 pub const DEFAULT_STEPS: u32 = 1_000_000;
 
-const STEPS: Word = Word {
-    name: "steps",
-    shown: "--steps <N>",
-};
+const STEPS: Word = Word::Optional("steps", "N");
+
+/// The word that names the command.
+pub const WORD: &str = "run";
 
 /// The end of the command's help.
 const HELP: &str = "Example:
@@ -28,16 +28,11 @@ Exit status:
   4  N steps were made, and the program has not ended: `steps`
 docs/FORMATS.md explains the codes and the errors.";
 
-/// Returns the word that names the command.
-pub fn word() -> &'static str {
-    "run"
-}
-
 /// Returns the command's words, as clap reads them.
-pub fn words<'a>(alloc: Global, name: &'static str) -> Result<Command<'a>, AllocError> {
+pub fn words<'a>(alloc: Global) -> Result<Command<'a>, AllocError> {
     let about = "Runs a code file on standard input and output";
     let steps = "How many steps at most, in decimal digits [default: 1000000]";
-    on_file(alloc, name, about, HELP)?.arg(option_arg(alloc, STEPS, "N", steps))
+    on_file(alloc, WORD, about, HELP)?.arg(option_arg(alloc, STEPS, steps))
 }
 
 /// Does what the words ask for. Returns how that ended, or what is wrong with the words.
@@ -48,7 +43,7 @@ pub fn perform<'a, H: Files + AllocGlobal, R: Read, W: Write>(
     writer: &mut W,
 ) -> Result<Outcome, WordFault<'a>> {
     let file = text_of(matches, FILE)?;
-    let steps = match matches.get_str(STEPS.name) {
+    let steps = match matches.get_str(STEPS.name()) {
         None => DEFAULT_STEPS,
         Some(text) => count_in(STEPS, text)?,
     };

@@ -8,10 +8,10 @@ use paxos_msg::Group;
 use std::alloc::{AllocError, Global};
 use std::io::Write;
 
-const HEX: Word = Word {
-    name: "HEX",
-    shown: "<HEX>",
-};
+const HEX: Word = Word::Required("HEX");
+
+/// The word that names the command.
+pub const WORD: &str = "show";
 
 /// The end of the command's help.
 const HELP: &str = "Example, which prints `prepare from 1 ballot 1.1 place 0`:
@@ -23,17 +23,12 @@ Exit status:
   2  a fault of the command line, among them `bad hex`
 docs/FORMATS.md explains the codes, and what is printed.";
 
-/// Returns the word that names the command.
-pub fn word() -> &'static str {
-    "show"
-}
-
 /// Returns the command's words, as clap reads them.
-pub fn words<'a>(alloc: Global, name: &'static str) -> Result<Command<'a>, AllocError> {
+pub fn words<'a>(alloc: Global) -> Result<Command<'a>, AllocError> {
     let size = "The number of the group's nodes, 0 to 255";
     let session = "The group's session, 0 to 4294967295";
     let hex = "The bytes in hexadecimal digits, two for each byte";
-    Command::new(alloc, name)
+    Command::new(alloc, WORD)
         .about("Prints a datagram")
         .after_help(HELP)
         .arg(value_arg(alloc, SIZE, size))?

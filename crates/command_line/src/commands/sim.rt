@@ -8,10 +8,10 @@ use std::alloc::{AllocError, Global};
 use std::io::Write;
 use std::rt::Files;
 
-const SCRIPT: Word = Word {
-    name: "SCRIPT",
-    shown: "<SCRIPT>",
-};
+const SCRIPT: Word = Word::Required("SCRIPT");
+
+/// The word that names the command.
+pub const WORD: &str = "sim";
 
 /// The end of the command's help.
 const HELP: &str = "Example:
@@ -25,16 +25,11 @@ Exit status:
   2  a fault of the command line
 docs/FORMATS.md explains the codes, and what a script may say.";
 
-/// Returns the word that names the command.
-pub fn word() -> &'static str {
-    "sim"
-}
-
 /// Returns the command's words, as clap reads them.
-pub fn words<'a>(alloc: Global, name: &'static str) -> Result<Command<'a>, AllocError> {
+pub fn words<'a>(alloc: Global) -> Result<Command<'a>, AllocError> {
     let about = "Runs a code file in a group, by a script";
     let script = "What happens to the group, line by line";
-    on_file(alloc, name, about, HELP)?.arg(text_arg(alloc, SCRIPT, script))
+    on_file(alloc, WORD, about, HELP)?.arg(text_arg(alloc, SCRIPT, script))
 }
 
 /// Does what the words ask for. Returns how that ended, or what is wrong with the words.
