@@ -4,78 +4,55 @@ use crate::program::reading_program;
 use group_node::To;
 use group_world::{Act, Done, Event, Outcome, World, WorldFault};
 use pcode_ops::Program;
-use std::alloc::Global;
+use std::alloc::{AllocError, Global};
 use std::marker::Model;
+use std::ops::Range;
 use std::test::Fail;
 
-/// Node 1 leads, and two keys are typed at node 2. All nodes learn both. Messages are
-/// numbered in the order in which they are sent: 0 asks for promises, 1 to 3 are the promises, 4
-/// and 10 submit a key, 5 and 11 ask what was learned, 6 and 12 propose, and the others report
-/// votes.
-const EVENTS: [Act; 62] = [
-    Act::Start(1),
-    Act::Start(2),
-    Act::Start(3),
-    Act::Campaign(1),
-    Act::Deliver(0, 1),
-    Act::Deliver(0, 2),
-    Act::Deliver(0, 3),
-    Act::Deliver(1, 1),
-    Act::Deliver(2, 1),
-    Act::Deliver(3, 1),
-    Act::Press(2, 0x48),
-    Act::Tick(2),
-    Act::Deliver(4, 1),
-    Act::Deliver(4, 2),
-    Act::Deliver(4, 3),
-    Act::Deliver(5, 1),
-    Act::Deliver(5, 2),
-    Act::Deliver(5, 3),
-    Act::Deliver(6, 1),
-    Act::Deliver(6, 2),
-    Act::Deliver(6, 3),
-    Act::Deliver(7, 1),
-    Act::Deliver(7, 2),
-    Act::Deliver(7, 3),
-    Act::Deliver(8, 1),
-    Act::Deliver(8, 2),
-    Act::Deliver(8, 3),
-    Act::Deliver(9, 1),
-    Act::Deliver(9, 2),
-    Act::Deliver(9, 3),
-    Act::Run(1, 1000),
-    Act::Release(1),
-    Act::Run(2, 1000),
-    Act::Release(2),
-    Act::Run(3, 1000),
-    Act::Release(3),
-    Act::Press(2, 0x51),
-    Act::Tick(2),
-    Act::Deliver(10, 1),
-    Act::Deliver(10, 2),
-    Act::Deliver(10, 3),
-    Act::Deliver(11, 1),
-    Act::Deliver(11, 2),
-    Act::Deliver(11, 3),
-    Act::Deliver(12, 1),
-    Act::Deliver(12, 2),
-    Act::Deliver(12, 3),
-    Act::Deliver(13, 1),
-    Act::Deliver(13, 2),
-    Act::Deliver(13, 3),
-    Act::Deliver(14, 1),
-    Act::Deliver(14, 2),
-    Act::Deliver(14, 3),
-    Act::Deliver(15, 1),
-    Act::Deliver(15, 2),
-    Act::Deliver(15, 3),
-    Act::Run(1, 1000),
-    Act::Release(1),
-    Act::Run(2, 1000),
-    Act::Release(2),
-    Act::Run(3, 1000),
-    Act::Release(3),
-];
+/// The nodes.
+const NODES: [u8; 3] = [1, 2, 3];
+
+/// Adds the delivery of each of these messages to all nodes.
+fn add_deliveries(events: &mut Vec<Act>, messages: Range<usize>) -> Result<(), AllocError> {
+    for message in messages {
+        for node in NODES {
+            events.push(Act::Deliver(message, node))?;
+        }
+    }
+    Ok(())
+}
+
+/// Adds the events by which a key is typed at node 2, and then all nodes hear these messages, run
+/// and release a byte.
+fn add_key(events: &mut Vec<Act>, byte: u8, messages: Range<usize>) -> Result<(), AllocError> {
+    events.push(Act::Press(2, byte))?;
+    events.push(Act::Tick(2))?;
+    add_deliveries(events, messages)?;
+    for node in NODES {
+        events.push(Act::Run(node, 1000))?;
+        events.push(Act::Release(node))?;
+    }
+    Ok(())
+}
+
+/// Returns the events: node 1 leads, two keys are typed at node 2, and all nodes learn both.
+/// Messages are numbered in the order in which they are sent: 0 asks for promises, 1 to 3 are the
+/// promises, 4 and 10 submit a key, 5 and 11 ask what was learned, 6 and 12 propose, and the others
+/// report votes.
+fn events(alloc: Global) -> Result<Vec<Act>, AllocError> {
+    let mut events = Vec::new(alloc);
+    for node in NODES {
+        events.push(Act::Start(node))?;
+    }
+    events.push(Act::Campaign(1))?;
+    add_deliveries(&mut events, 0..1)?;
+    for promise in 1..4 {
+        events.push(Act::Deliver(promise, 1))?;
+    }
+    add_key(&mut events, 0x48, 4..10)?;
+    add_key(&mut events, 0x51, 10..16)?;
+    Ok(events)
+}
 
 /// The events that save, by their numbers, and what each console shows in the end if the save
 /// fails: a start, a promise, a vote. The first key is typed after the promises; the second one is
@@ -97,9 +74,6 @@ const SAVES: [(usize, &[u8]); 12] = [
 
 /// The number of places that are checked. No more are used.
 const PLACES: u32 = 16;
-
-/// The nodes.
-const NODES: [u8; 3] = [1, 2, 3];
 
 /// The pairs of nodes.
 const PAIRS: [(u8, u8); 3] = [(1, 2), (1, 3), (2, 3)];
@@ -164,9 +138,9 @@ impl<'a> Watched<'a> {
         }
     }
 
-    /// Applies the first `count` events.
-    fn begin(&mut self, count: usize) -> Result<(), Fail> {
-        for act in EVENTS.iter().take(count) {
+    /// Applies the first `count` of these events.
+    fn begin(&mut self, events: &[Act], count: usize) -> Result<(), Fail> {
+        for act in events.iter().take(count) {
             self.go_on(*act)?;
         }
         Ok(())
@@ -254,9 +228,10 @@ fn stops_at(
     save: Outcome,
     shown: &[u8],
 ) -> Result<bool, Fail> {
+    let events = events(alloc)?;
     let mut group = Watched::new(alloc, program)?;
-    group.begin(event)?;
-    let Some(act) = EVENTS.get(event) else {
+    group.begin(events.as_slice(), event)?;
+    let Some(act) = events.get(event) else {
         return Ok(false);
     };
     if group.happen(*act, save)? != Done::Fell {
@@ -285,8 +260,9 @@ fn each_save_fails(rt: HostRuntime) -> Result<(), Fail> {
 #[test]
 fn no_save_fails(rt: HostRuntime) -> Result<(), Fail> {
     let program = reading_program(rt.alloc())?;
+    let events = events(rt.alloc())?;
     let mut group = Watched::new(rt.alloc(), &program)?;
-    group.begin(EVENTS.len())?;
+    group.begin(events.as_slice(), events.len())?;
     assert!(rt; group.shows(b"\x48\x51"));
     assert_eq!(rt; group.world.sent(), 16);
     Ok(())

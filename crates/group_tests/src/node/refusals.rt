@@ -5,7 +5,7 @@ use super::acts::Act::{
 };
 use super::acts::{Act, first_unlike};
 use super::datagrams::{ACCEPT, ASK_1, ASK_2, PREPARE};
-use crate::program::reading_program;
+use crate::program::{program, reading_program};
 use crate::seat::Seat;
 use group_node::To::All;
 use group_node::{NodeFault, Ran, StartRefused};
@@ -15,6 +15,7 @@ use pcode_ops::Program;
 use std::alloc::{AllocError, Global};
 use std::process::Abort;
 use std::test::Fail;
+use test_programs::READS;
 
 /// Returns a ballot of node 1.
 fn ballot(round: u32) -> Ballot {
@@ -33,14 +34,15 @@ fn fresh(
     Ok(unlike)
 }
 
-/// Asserts that node 1, after its first start over the program, answers as the lines say.
-pub fn assert_answers(
-    rt: &impl Abort,
-    alloc: Global,
-    program: &Program,
+/// Asserts that node 1, after its first start over the program of the segment, answers as the lines
+/// say.
+pub fn assert_answers<H: Abort + AllocGlobal>(
+    rt: &H,
+    segment: &[u8],
     lines: &[(Act, Option<NodeFault>)],
 ) -> Result<(), Fail> {
-    let unlike = fresh(alloc, program, lines)?;
+    let program = program(rt.alloc(), segment)?;
+    let unlike = fresh(rt.alloc(), &program, lines)?;
     assert_eq!(rt; unlike, None);
     Ok(())
 }
@@ -52,77 +54,57 @@ const FULL: Option<NodeFault> = Some(NodeFault::OutboxFull);
 /// places each call that may send is `OutboxFull`, and nothing has changed.
 #[test]
 fn outbox_is_full(rt: HostRuntime) -> Result<(), Fail> {
-    let program = reading_program(rt.alloc())?;
-    assert_answers(
-        &rt,
-        rt.alloc(),
-        &program,
-        &[
-            (Ticks, None),
-            (Types(0x48), None),
-            (Hears(&ASK_2), FULL),
-            (Campaigns, FULL),
-            (Ticks, FULL),
-            (Runs(1, Ran::More), None),
-            (Sends(All, &ASK_1), None),
-            (HasSentAll, None),
-            (Campaigns, None),
-        ],
-    )
+    let lines = [
+        (Ticks, None),
+        (Types(0x48), None),
+        (Hears(&ASK_2), FULL),
+        (Campaigns, FULL),
+        (Ticks, FULL),
+        (Runs(1, Ran::More), None),
+        (Sends(All, &ASK_1), None),
+        (HasSentAll, None),
+        (Campaigns, None),
+    ];
+    assert_answers(&rt, &READS, &lines)
 }
 
 /// Shows Node::tick (let_in, does), Outbox::pop (value, packets): once the outbox is empty a tick
 /// is taken again.
 #[test]
 fn outbox_is_ready_after_a_pop(rt: HostRuntime) -> Result<(), Fail> {
-    let program = reading_program(rt.alloc())?;
-    assert_answers(
-        &rt,
-        rt.alloc(),
-        &program,
-        &[
-            (Ticks, None),
-            (Ticks, FULL),
-            (Sends(All, &ASK_1), None),
-            (Ticks, None),
-            (Sends(All, &ASK_1), None),
-            (HasSentAll, None),
-        ],
-    )
+    let lines = [
+        (Ticks, None),
+        (Ticks, FULL),
+        (Sends(All, &ASK_1), None),
+        (Ticks, None),
+        (Sends(All, &ASK_1), None),
+        (HasSentAll, None),
+    ];
+    assert_answers(&rt, &READS, &lines)
 }
 
 /// Shows Node::typed (ok, known, busy), Node::waiting (count): 256 keys wait, and the next is
 /// `Busy`.
 #[test]
 fn most_keys_wait(rt: HostRuntime) -> Result<(), Fail> {
-    let program = reading_program(rt.alloc())?;
-    assert_answers(
-        &rt,
-        rt.alloc(),
-        &program,
-        &[
-            (TypesMany(256), None),
-            (Types(0x48), Some(NodeFault::Busy)),
-            (Knows(0, 256), None),
-        ],
-    )
+    let lines = [
+        (TypesMany(256), None),
+        (Types(0x48), Some(NodeFault::Busy)),
+        (Knows(0, 256), None),
+    ];
+    assert_answers(&rt, &READS, &lines)
 }
 
 /// Shows Node::campaign (places), Node::known_front (front): once all places are learned a campaign
 /// is `PlacesSpent`.
 #[test]
 fn places_are_spent(rt: HostRuntime) -> Result<(), Fail> {
-    let program = reading_program(rt.alloc())?;
-    assert_answers(
-        &rt,
-        rt.alloc(),
-        &program,
-        &[
-            (HearsOfAllPlaces, None),
-            (Knows(65_536, 0), None),
-            (Campaigns, Some(NodeFault::PlacesSpent)),
-        ],
-    )
+    let lines = [
+        (HearsOfAllPlaces, None),
+        (Knows(65_536, 0), None),
+        (Campaigns, Some(NodeFault::PlacesSpent)),
+    ];
+    assert_answers(&rt, &READS, &lines)
 }
 
 /// Returns a record with these counts, without votes.

@@ -1,7 +1,7 @@
 //! The machine of a node, whose output waits until it is released.
 use super::acts::Act::{HasOutput, ReleasesZeros, Runs};
 use super::refusals::assert_answers;
-use crate::program::writing_program;
+use crate::program::WRITES_300;
 use group_node::Ran::{Ended, Full, More};
 use pcode_machine::End;
 use std::test::Fail;
@@ -11,47 +11,33 @@ use std::test::Fail;
 /// the next step is not made.
 #[test]
 fn full_after_263_steps(rt: HostRuntime) -> Result<(), Fail> {
-    let program = writing_program(rt.alloc())?;
-    assert_answers(
-        &rt,
-        rt.alloc(),
-        &program,
-        &[
-            (Runs(0, More), None),
-            (Runs(262, More), None),
-            (HasOutput(255), None),
-            (Runs(1, More), None),
-            (HasOutput(256), None),
-            (Runs(1, Full), None),
-            (HasOutput(256), None),
-            (ReleasesZeros(0, 256), None),
-            (Runs(1000, Ended(End::Normal)), None),
-            (ReleasesZeros(256, 300), None),
-        ],
-    )?;
-    assert_answers(
-        &rt,
-        rt.alloc(),
-        &program,
-        &[(Runs(263, More), None), (Runs(1, Full), None)],
-    )
+    let one_by_one = [
+        (Runs(0, More), None),
+        (Runs(262, More), None),
+        (HasOutput(255), None),
+        (Runs(1, More), None),
+        (HasOutput(256), None),
+        (Runs(1, Full), None),
+        (HasOutput(256), None),
+        (ReleasesZeros(0, 256), None),
+        (Runs(1000, Ended(End::Normal)), None),
+        (ReleasesZeros(256, 300), None),
+    ];
+    assert_answers(&rt, &WRITES_300, &one_by_one)?;
+    let at_once = [(Runs(263, More), None), (Runs(1, Full), None)];
+    assert_answers(&rt, &WRITES_300, &at_once)
 }
 
 /// Shows Node::run (runs), Node::release (value, some): one run ends with `Full`, with steps to
 /// spare.
 #[test]
 fn full_in_one_call(rt: HostRuntime) -> Result<(), Fail> {
-    let program = writing_program(rt.alloc())?;
-    assert_answers(
-        &rt,
-        rt.alloc(),
-        &program,
-        &[
-            (Runs(1000, Full), None),
-            (HasOutput(256), None),
-            (ReleasesZeros(0, 256), None),
-            (Runs(1000, Ended(End::Normal)), None),
-            (ReleasesZeros(256, 300), None),
-        ],
-    )
+    let lines = [
+        (Runs(1000, Full), None),
+        (HasOutput(256), None),
+        (ReleasesZeros(0, 256), None),
+        (Runs(1000, Ended(End::Normal)), None),
+        (ReleasesZeros(256, 300), None),
+    ];
+    assert_answers(&rt, &WRITES_300, &lines)
 }
