@@ -197,76 +197,55 @@ pub enum Instr {
     Nop,
 }
 
+/// The number of the standard procedure, as in a listing.
+impl fmt::Display for StandardProcedure {
+    fn fmt<W: fmt::Write>(&self, f: &mut fmt::Formatter<W>) -> fmt::Result {
+        let number = self.number();
+        write!(f, "{number}")
+    }
+}
+
+/// Writes the text of an instruction, by a table that has each instruction once: the match has no
+/// default, so that none is left out.
+macro_rules! write_text {
+    ($instr:expr, $f:expr; $(
+        $name:ident $(($($operand:ident),+))? $({ $($field:tt)+ })? => $text:literal
+    ),+) => {
+        match $instr {
+            $(Instr::$name $(($($operand),+))? $({ $($field)+ })? => write!($f, $text),)+
+        }
+    };
+}
+
 /// The name and the operands, as in a listing. A jump's target is not in it.
 impl fmt::Display for Instr {
     fn fmt<W: fmt::Write>(&self, f: &mut fmt::Formatter<W>) -> fmt::Result {
-        match *self {
-            Instr::Sldc(n) => write!(f, "SLDC {n}"),
-            Instr::Ldcn => f.write_str("LDCN"),
-            Instr::Ldci(n) => write!(f, "LDCI {n}"),
-            Instr::Sldl(n) => write!(f, "SLDL {n}"),
-            Instr::Ldl(n) => write!(f, "LDL {n}"),
-            Instr::Stl(n) => write!(f, "STL {n}"),
-            Instr::Lla(n) => write!(f, "LLA {n}"),
-            Instr::Sldo(n) => write!(f, "SLDO {n}"),
-            Instr::Ldo(n) => write!(f, "LDO {n}"),
-            Instr::Sro(n) => write!(f, "SRO {n}"),
-            Instr::Lao(n) => write!(f, "LAO {n}"),
-            Instr::Lod(levels, n) => write!(f, "LOD {levels} {n}"),
-            Instr::Str(levels, n) => write!(f, "STR {levels} {n}"),
-            Instr::Lda(levels, n) => write!(f, "LDA {levels} {n}"),
-            Instr::Sto => f.write_str("STO"),
-            Instr::Sind(n) => write!(f, "SIND {n}"),
-            Instr::Ind(n) => write!(f, "IND {n}"),
-            Instr::Inc(n) => write!(f, "INC {n}"),
-            Instr::Ixa(n) => write!(f, "IXA {n}"),
-            Instr::Mov(n) => write!(f, "MOV {n}"),
-            Instr::Ldm(n) => write!(f, "LDM {n}"),
-            Instr::Stm(n) => write!(f, "STM {n}"),
-            Instr::Ldb => f.write_str("LDB"),
-            Instr::Stb => f.write_str("STB"),
-            Instr::Ixp(elements, width) => write!(f, "IXP {elements} {width}"),
-            Instr::Ldp => f.write_str("LDP"),
-            Instr::Stp => f.write_str("STP"),
-            Instr::Adi => f.write_str("ADI"),
-            Instr::Sbi => f.write_str("SBI"),
-            Instr::Mpi => f.write_str("MPI"),
-            Instr::Dvi => f.write_str("DVI"),
-            Instr::Modi => f.write_str("MODI"),
-            Instr::Abi => f.write_str("ABI"),
-            Instr::Ngi => f.write_str("NGI"),
-            Instr::Sqi => f.write_str("SQI"),
-            Instr::Chk => f.write_str("CHK"),
-            Instr::Land => f.write_str("LAND"),
-            Instr::Lor => f.write_str("LOR"),
-            Instr::Lnot => f.write_str("LNOT"),
-            Instr::Equi => f.write_str("EQUI"),
-            Instr::Neqi => f.write_str("NEQI"),
-            Instr::Leqi => f.write_str("LEQI"),
-            Instr::Lesi => f.write_str("LESI"),
-            Instr::Geqi => f.write_str("GEQI"),
-            Instr::Grti => f.write_str("GRTI"),
-            Instr::Equ => f.write_str("EQU 6"),
-            Instr::Neq => f.write_str("NEQ 6"),
-            Instr::Leq => f.write_str("LEQ 6"),
-            Instr::Les => f.write_str("LES 6"),
-            Instr::Geq => f.write_str("GEQ 6"),
-            Instr::Grt => f.write_str("GRT 6"),
-            Instr::Ujp(_) => f.write_str("UJP"),
-            Instr::Fjp(_) => f.write_str("FJP"),
-            Instr::Efj(_) => f.write_str("EFJ"),
-            Instr::Nfj(_) => f.write_str("NFJ"),
-            Instr::Xjp { low, high, .. } => write!(f, "XJP {low} {high}"),
-            Instr::Clp(n) => write!(f, "CLP {n}"),
-            Instr::Cgp(n) => write!(f, "CGP {n}"),
-            Instr::Cip(n) => write!(f, "CIP {n}"),
-            Instr::Csp(procedure) => {
-                let number = procedure.number();
-                write!(f, "CSP {number}")
-            }
-            Instr::Rnp(n) => write!(f, "RNP {n}"),
-            Instr::Rbp(n) => write!(f, "RBP {n}"),
-            Instr::Nop => f.write_str("NOP"),
-        }
+        write_text!(*self, f;
+            Sldc(n) => "SLDC {n}", Ldcn => "LDCN", Ldci(n) => "LDCI {n}",
+
+            Sldl(n) => "SLDL {n}", Ldl(n) => "LDL {n}", Stl(n) => "STL {n}", Lla(n) => "LLA {n}",
+            Sldo(n) => "SLDO {n}", Ldo(n) => "LDO {n}", Sro(n) => "SRO {n}", Lao(n) => "LAO {n}",
+            Lod(levels, n) => "LOD {levels} {n}", Str(levels, n) => "STR {levels} {n}",
+            Lda(levels, n) => "LDA {levels} {n}",
+
+            Sto => "STO", Sind(n) => "SIND {n}", Ind(n) => "IND {n}", Inc(n) => "INC {n}",
+            Ixa(n) => "IXA {n}", Mov(n) => "MOV {n}", Ldm(n) => "LDM {n}", Stm(n) => "STM {n}",
+            Ldb => "LDB", Stb => "STB", Ixp(elements, width) => "IXP {elements} {width}",
+            Ldp => "LDP", Stp => "STP",
+
+            Adi => "ADI", Sbi => "SBI", Mpi => "MPI", Dvi => "DVI", Modi => "MODI", Abi => "ABI",
+            Ngi => "NGI", Sqi => "SQI", Chk => "CHK", Land => "LAND", Lor => "LOR", Lnot => "LNOT",
+
+            Equi => "EQUI", Neqi => "NEQI", Leqi => "LEQI", Lesi => "LESI", Geqi => "GEQI",
+            Grti => "GRTI", Equ => "EQU 6", Neq => "NEQ 6", Leq => "LEQ 6", Les => "LES 6",
+            Geq => "GEQ 6", Grt => "GRT 6",
+
+            Ujp(_sb) => "UJP", Fjp(_sb) => "FJP", Efj(_sb) => "EFJ", Nfj(_sb) => "NFJ",
+            Xjp { low, high, .. } => "XJP {low} {high}",
+
+            Clp(n) => "CLP {n}", Cgp(n) => "CGP {n}", Cip(n) => "CIP {n}",
+            Csp(procedure) => "CSP {procedure}", Rnp(n) => "RNP {n}", Rbp(n) => "RBP {n}",
+            Nop => "NOP"
+        )
     }
 }
