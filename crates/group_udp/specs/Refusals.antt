@@ -33,10 +33,11 @@ IsRoundRefusal e = (e ≡ group.Node Stopped) ⊎ (e ≡ group.Node Store) ⊎ (
 abbrev pub IsWrittenRoundRefusal : GroupFault → Type 0
 IsWrittenRoundRefusal e = IsRoundRefusal e ⊎ (e ≡ write_failed)
 
--- What else a campaign may refuse.
+-- What a campaign may refuse: the node is stopped, a save failed, its rounds or its places are
+-- spent, or memory ran out.
 abbrev pub IsCampaignRefusal : GroupFault → Type 0
-IsCampaignRefusal e = (e ≡ group.Node fault.RoundsSpent) ⊎ (e ≡ group.Node fault.PlacesSpent)
-    ⊎ (e ≡ group.Node fault.Memory)
+IsCampaignRefusal e = IsTurnRefusal e ⊎ (e ≡ group.Node fault.RoundsSpent)
+    ⊎ (e ≡ group.Node fault.PlacesSpent) ⊎ (e ≡ group.Node fault.Memory)
 
 -- What else a start may refuse.
 abbrev pub IsStartRefusal : GroupFault → Type 0

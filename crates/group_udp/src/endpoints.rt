@@ -1,5 +1,5 @@
 //! Where the datagrams and the typed bytes of one node come from.
-ghost use Rattle.std.specs.Prelude.{◌≡◌, IfErr};
+ghost use Rattle.std.specs.Prelude.{IfErr};
 ghost use Rattle.group_udp.specs.Refusals.{IsOpenRefusal, IsSocketRefusal};
 
 use crate::fault::GroupFault;

@@ -1,6 +1,6 @@
 //! The command `net`: a group in one process, on loopback UDP, over stores in memory.
 ghost use Rattle.std.specs.Prelude.{◌≡◌, ◌⊎◌, IfErr};
-ghost use Rattle.group_udp.specs.Refusals.{IsCampaignRefusal, IsNetRefusal, IsOpenRefusal, IsRoundRefusal, IsShownTurnRefusal, IsTurnRefusal, no_memory};
+ghost use Rattle.group_udp.specs.Refusals.{IsCampaignRefusal, IsNetRefusal, IsOpenRefusal, IsRoundRefusal, IsShownTurnRefusal, no_memory};
 ghost use Rattle.machine_run.specs.declared.refusal.MachineRefusal.{MachineRefusal};
 
 use crate::fault::GroupFault;
@@ -8,7 +8,7 @@ use crate::own_datagrams::OwnDatagrams;
 use crate::shown::ShownNode;
 use crate::udp::{UdpWire, Watch, bind};
 use group_node::Config;
-use machine_run::{RunIo, load_file, read_input};
+use machine_run::{RunIo, load_file, read_whole};
 use mio::net::UdpSocket;
 use paxos_msg::Group;
 use pcode_ops::Program;
@@ -88,7 +88,7 @@ fn nodes<'a, H: Clock>(
 
 /// Has node 1 begin a ballot.
 fn campaign_first<H: Clock>(nodes: &mut [ShownNode<'_, H>]) -> Result<(), GroupFault>
-    ensures others { IfErr result (λ e. IsTurnRefusal e ⊎ IsCampaignRefusal e) }
+    ensures others { IfErr result IsCampaignRefusal }
 {
     match nodes.first_mut() {
         Some(node) => node.campaign(),
@@ -188,6 +188,6 @@ pub fn net_file<H: Files + Net + Clock + AllocGlobal, R: Read, W: Write>(
 {
     let program = load_file(rt, file)?;
     Config::new(1, size, SESSION)?;
-    let input = read_input(rt.alloc(), reader)?;
+    let input = read_whole(rt.alloc(), reader)?;
     net(rt, &program, size, turns, input.as_slice(), writer)
 }

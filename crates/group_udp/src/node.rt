@@ -5,7 +5,7 @@ use crate::fault::{GroupFault, end_of};
 use crate::run::run_over_file;
 use group_log::{Log, Note};
 use group_node::Config;
-use machine_run::{Counting, MachineRefusal, load_file, read_input};
+use machine_run::{Counting, MachineRefusal, load_file, read_whole};
 use paxos_msg::Group;
 use pcode_ops::Program;
 use std::io::{Read, Write};
@@ -62,7 +62,7 @@ fn node_noted<H: Files + Net + Clock + AllocGlobal + Copy + Drop, R: Read, W: Wr
     let program = load_noted(rt, file, log)?;
     let config = Config::new(plan.node, plan.group.size, plan.group.session)?;
     let input = match plan.keys {
-        None => read_input(rt.alloc(), reader)?,
+        None => read_whole(rt.alloc(), reader)?,
         Some(_) => Vec::new(rt.alloc()),
     };
     let mut writer = Counting::new(writer);

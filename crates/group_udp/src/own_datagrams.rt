@@ -1,5 +1,5 @@
 //! The datagrams that a node has sent to itself.
-ghost use Rattle.std.specs.Prelude.{◌≡◌, ◌==◌, ◌↔◌, ◌+◌, ◌<◌, ◌≤◌, [], ◌∷◌, ◌++◌, false, drop, length, min, option_map, slice_get, sum_by, take, IfOk, IfSome, IsTrue, MatchOption};
+ghost use Rattle.std.specs.Prelude.{◌≡◌, ◌==◌, ◌↔◌, ◌+◌, ◌<◌, ◌≤◌, [], ◌∷◌, ◌++◌, false, drop, length, min, option_map, slice_get, sum_by, take, IfOk, IsTrue, MatchOption};
 ghost use Rattle.group_udp.specs.declared.limits.TheConstants.{MOST_OWN, OWN_BYTES};
 
 use crate::limits::{MOST_OWN, OWN_BYTES};
@@ -82,7 +82,6 @@ impl OwnDatagrams {
         ensures bytes { MatchOption (slice_get self.old 0) (buffer.new ≡ buffer.old)
             (λ d. buffer.new ≡ take (length buffer.old) d ++ drop (length d) buffer.old) }
         ensures left { self.new ≡ drop 1 self.old }
-        ensures within { IfSome result (λ count. count ≤ length buffer.new) }
     {
         let length = self.lengths.pop_front()?;
         let count = length.min(buffer.len());

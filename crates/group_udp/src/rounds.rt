@@ -107,7 +107,7 @@ fn campaign_if<H: Clock, S: Store>(
         result }
     ensures stays { SameReleased host.old host.new }
     ensures progress { host.new.progress ≡ host.old.progress }
-    ensures others { IfErr result (λ e. IsRoundRefusal e ⊎ IsCampaignRefusal e) }
+    ensures others { IfErr result IsCampaignRefusal }
 {
     if is_asked {
         host.campaign(wire)?;

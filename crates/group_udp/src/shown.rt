@@ -1,10 +1,10 @@
 //! A node of a group in one process, whose output is shown on its console.
-ghost use Rattle.std.specs.Prelude.{◌≡◌, ◌<◌, ◌++◌, ◌∷◌, ◌⊎◌, ℕ, List, [], length, IfErr, OnErr, OnOk};
+ghost use Rattle.std.specs.Prelude.{◌≡◌, ◌<◌, ◌++◌, ◌∷◌, ℕ, [], length, IfErr, OnErr, OnOk};
 ghost use Rattle.group_node.specs.Output.{unreleased_of};
 ghost use Rattle.group_node.specs.States.{input};
 ghost use Rattle.group_wire.specs.Turns.{released_of};
 ghost use Rattle.group_udp.specs.Output.{ReleasesBytes, ShowsReleased};
-ghost use Rattle.group_udp.specs.Refusals.{IsCampaignRefusal, IsRoundRefusal, IsRunRefusal, IsShownTurnRefusal, IsTurnRefusal, no_memory};
+ghost use Rattle.group_udp.specs.Refusals.{IsCampaignRefusal, IsRoundRefusal, IsRunRefusal, IsShownTurnRefusal, no_memory};
 ghost use Rattle.group_udp.specs.Rounds.{HasShownAll, HasTurnedAndShown};
 
 use crate::fault::GroupFault;
@@ -94,7 +94,7 @@ impl<'a, H: Clock> ShownNode<'a, H> {
 
     /// Begins a ballot of the node's own.
     pub fn campaign(&mut self) -> Result<(), GroupFault>
-        ensures others { IfErr result (λ e. IsTurnRefusal e ⊎ IsCampaignRefusal e) }
+        ensures others { IfErr result IsCampaignRefusal }
     {
         Ok(self.host.campaign(&mut self.wire)?)
     }

@@ -6,6 +6,8 @@ use Rattle.pcode_file.specs.InFile.{InFile}
 use Rattle.pcode_file.specs.Checks.{GivesUnlessMemory, read_from}
 use Rattle.pcode_ops.specs.Reach.{IsRefusal}
 use Rattle.machine_run.specs.declared.files.TheConstants.{LONGEST_FILE}
+use Rattle.machine_run.specs.declared.run.RunIo.{RunIo}
+use Rattle.machine_run.specs.declared.run.RunIo.TheVariants.{Memory}
 use Rattle.machine_run.specs.declared.refusal.MachineRefusal.{MachineRefusal}
 use Rattle.machine_run.specs.declared.refusal.MachineRefusal.TheVariants.{CodeFile, Load}
 
@@ -17,9 +19,8 @@ pub record HasReadAll (from to : Option (List ℕ)) (bytes : List ℕ) : Type 0 
 
 -- A refusal to read on, after a front of the bytes that a reader had left.
 -- Forbids: `Memory` after an empty front.
-abbrev pub HasReadFront : {E : Type 0} → Option (List ℕ) → Option (List ℕ) → E → E → Type 0
-HasReadFront from to memory e =
-    (front : List ℕ) × Consumes from to front × (e ≡ memory → 0 < length front)
+abbrev pub HasReadFront : Option (List ℕ) → Option (List ℕ) → RunIo → Type 0
+HasReadFront from to e = (front : List ℕ) × Consumes from to front × (e ≡ Memory → 0 < length front)
 
 -- The refusal of bytes that are no program: they are no code file, or one that is not loaded.
 -- Forbids: a refusal that is not of the file itself, such as of a read.

@@ -1,8 +1,7 @@
 //! Files that are read whole.
 ghost use Rattle.std.specs.Prelude.{◌≢◌, IfErr, IfOk};
 ghost use Rattle.machine_run.specs.Files.{HasReadAll, HasReadFront};
-ghost use Rattle.machine_run.specs.declared.files.FileError.TheVariants.{Memory};
-ghost use Rattle.machine_run.specs.declared.run.RunIo.TheVariants as RunIo;
+ghost use Rattle.machine_run.specs.declared.run.RunIo.TheVariants.{Write};
 
 use crate::run::RunIo;
 use std::alloc::Global;
@@ -24,14 +23,15 @@ pub enum FileError {
 
 /// Returns all bytes that `reader` has left, which are at most 67,108,864. After a refusal the
 /// bytes read until then are gone from the reader, and no others. Fails with `Memory` only after it
-/// has read at least one byte.
+/// has read at least one byte, and never with `Write`.
 ///
-/// Fails with `Unreadable` if a read fails or there are more than `LONGEST_FILE` bytes.
-pub fn read_whole<R: Read>(alloc: Global, reader: &mut R) -> Result<Vec<u8>, FileError>
+/// Fails with `Read` if a read fails or there are more than `LONGEST_FILE` bytes.
+pub fn read_whole<R: Read>(alloc: Global, reader: &mut R) -> Result<Vec<u8>, RunIo>
     ensures whole { IfOk result
         (λ bytes. HasReadAll (R.remaining reader.old) (R.remaining reader.new) bytes.items) }
     ensures front { IfErr result
-        (HasReadFront (R.remaining reader.old) (R.remaining reader.new) Memory) }
+        (HasReadFront (R.remaining reader.old) (R.remaining reader.new)) }
+    ensures reads { IfErr result (λ e. e ≢ Write) }
 {
     let mut bytes = Vec::new(alloc);
     let mut buffer = [0u8; 4096];
@@ -40,42 +40,26 @@ pub fn read_whole<R: Read>(alloc: Global, reader: &mut R) -> Result<Vec<u8>, Fil
             Ok(0) => return Ok(bytes),
             Ok(n) => {
                 if n > LONGEST_FILE - bytes.len() {
-                    return Err(FileError::Unreadable);
+                    return Err(RunIo::Read);
                 }
                 if bytes.extend_from_slice(&buffer[..n]).is_err() {
-                    return Err(FileError::Memory);
+                    return Err(RunIo::Memory);
                 }
             }
-            Err(_) => return Err(FileError::Unreadable),
+            Err(_) => return Err(RunIo::Read),
         }
     }
-    Err(FileError::Unreadable)
+    Err(RunIo::Read)
 }
 
-/// Reads a file, as `read_whole` does. Fails with `Unreadable` if it can't be opened.
+/// Reads a file, as `read_whole` does. Fails with `Unreadable` also if it can't be opened.
 pub fn read_file<H: Files + AllocGlobal>(rt: &H, path: &str) -> Result<Vec<u8>, FileError> {
-    match fs::open(rt, path) {
-        Ok(mut file) => read_whole(rt.alloc(), &mut file),
-        Err(_) => Err(FileError::Unreadable),
-    }
-}
-
-/// Returns all bytes that `reader` has left, which are at most 67,108,864. After a refusal the
-/// bytes read until then are gone from the reader, and no others. Fails with `Memory` only after it
-/// has read at least one byte, and never with `Write`.
-///
-/// It is for an input that is not a file. Fails with `Read` if a read fails or there are more than
-/// `LONGEST_FILE` bytes.
-pub fn read_input<R: Read>(alloc: Global, reader: &mut R) -> Result<Vec<u8>, RunIo>
-    ensures whole { IfOk result
-        (λ bytes. HasReadAll (R.remaining reader.old) (R.remaining reader.new) bytes.items) }
-    ensures front { IfErr result
-        (HasReadFront (R.remaining reader.old) (R.remaining reader.new) RunIo.Memory) }
-    ensures reads { IfErr result (λ e. e ≢ RunIo.Write) }
-{
-    match read_whole(alloc, reader) {
+    let Ok(mut file) = fs::open(rt, path) else {
+        return Err(FileError::Unreadable);
+    };
+    match read_whole(rt.alloc(), &mut file) {
         Ok(bytes) => Ok(bytes),
-        Err(FileError::Memory) => Err(RunIo::Memory),
-        Err(FileError::Unreadable) => Err(RunIo::Read),
+        Err(RunIo::Memory) => Err(FileError::Memory),
+        Err(RunIo::Read | RunIo::Write) => Err(FileError::Unreadable),
     }
 }

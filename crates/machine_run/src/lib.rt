@@ -22,7 +22,7 @@ mod text;
 
 pub use built_in::run_built_in;
 pub use commands::{check_file, list_file, load_file, run_file};
-pub use files::{FileError, LONGEST_FILE, read_file, read_input, read_whole};
+pub use files::{FileError, LONGEST_FILE, read_file, read_whole};
 pub use loading::load;
 pub use refusal::{MachineRefusal, ShowFault};
 pub use run::{Finish, RunIo, run_program};
