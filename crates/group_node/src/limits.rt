@@ -12,9 +12,6 @@ pub const MESSAGE_PACKETS: usize = 17;
 /// pump, a Submit and an Ask.
 pub const TICK_PACKETS: usize = 43;
 
-/// The most packets of a tick that come from the proposer: all but the Submit and the Ask.
-pub const PROPOSER_PACKETS: usize = 41;
-
 /// The most Accepts that a tick sends again.
 pub const MOST_AGAIN: u8 = 16;
 

@@ -1,16 +1,15 @@
 //! What a node does at a tick.
-ghost use Rattle.std.specs.Prelude.{◌≡◌, ◌⊎◌, ◌+◌, ◌<◌, ◌≤◌, [], ◌∷◌, ◌++◌, Err, IsSome, IsTrue, OnErr, OnOk, Some, is_some, length};
+ghost use Rattle.std.specs.Prelude.{◌≡◌, ◌⊎◌, ◌+◌, ◌<◌, ◌≤◌, [], ◌∷◌, ◌++◌, Err, IsSome, IsTrue, OnErr, Some, is_some};
 ghost use Rattle.std.specs.Option.{option_to_list};
 ghost use Rattle.paxos_msg.specs.declared.message.Body.TheVariants.{Ask};
 ghost use Rattle.paxos_msg.specs.Fits.{IsBody};
 ghost use Rattle.paxos_msg.specs.declared.limits.TheConstants.{MOST_NODES};
-ghost use Rattle.group_node.specs.declared.limits.TheConstants.{MOST_AGAIN, PROPOSER_PACKETS, TICK_PACKETS};
-ghost use Rattle.paxos_proposer.specs.declared.proposer.TheConstants.{MOST_PUMPED};
+ghost use Rattle.group_node.specs.declared.limits.TheConstants.{MOST_AGAIN, TICK_PACKETS};
 ghost use Rattle.group_node.specs.Calls.{Does, MayLackMemory};
 ghost use Rattle.group_node.specs.Tick.{accept_again, accepts_again, asks_again, on_tick, prepares_again, submits};
 ghost use Rattle.group_node.specs.WaitingKeys.{batch_of};
 ghost use Rattle.group_node.specs.Packets.{datagrams_of, GrowsBy, HasRoom, to_all};
-ghost use Rattle.group_node.specs.Pump.{accepts_of, pump};
+ghost use Rattle.group_node.specs.Pump.{pump};
 ghost use Rattle.group_node.specs.Ranges.{IsMember, IsOwnProposer, MaySubmit};
 
 use crate::fault::NodeFault;
@@ -151,39 +150,6 @@ fn ask(batch: Option<Value>, from: u32, me: Me, outbox: &mut Outbox)
     outbox.put(me, To::All, Body::Ask { from });
 }
 
-/// Asks for more promises, sends Accepts again, and pumps, in this order. The room for the
-/// proposals is made before.
-fn propose_again(
-    learner: &Learner,
-    proposer: &mut Proposer,
-    me: Me,
-    outbox: &mut Outbox,
-) -> Result<(), NodeFault>
-    requires me { IsMember me }
-    requires own { IsOwnProposer me proposer.old.known }
-    requires room { HasRoom PROPOSER_PACKETS outbox.old }
-    requires empty { outbox.old.packets ≡ [] }
-    ensures known { OnOk result
-        (proposer.new.known ≡ (pump MOST_PUMPED proposer.old.known).proposer) }
-    ensures packets { OnOk result
-        (outbox.new.packets ≡ datagrams_of me
-        ((prepares_again proposer.old.known ++ accepts_again learner.now.learned proposer.old.known)
-        ++ accepts_of (pump MOST_PUMPED proposer.old.known).made)) }
-    ensures grows { GrowsBy PROPOSER_PACKETS outbox.old outbox.new }
-    ensures err { OnErr result
-        ((proposer.new.known ≡ proposer.old.known) × (outbox.new.packets ≡ outbox.old.packets)) }
-    ensures others { MayLackMemory result }
-    ensures own { IsOwnProposer me proposer.new.known }
-{
-    let Ok(()) = proposer.reserve() else {
-        return Err(NodeFault::Memory);
-    };
-    prepare_again(proposer, me, outbox);
-    accept_all_again(learner, proposer, me, outbox);
-    pump(proposer, me, outbox);
-    Ok(())
-}
-
 impl<S: Store> Protocol<S> {
     /// Returns the first keys that wait, at most 32, as one batch.
     fn batch(&self) -> Option<Value>
@@ -216,7 +182,12 @@ impl<S: Store> Protocol<S> {
         let batch = self.batch();
         let from = self.learner.known_front();
         if let Some(proposer) = &mut self.proposer {
-            propose_again(&self.learner, proposer, me, outbox)?;
+            let Ok(()) = proposer.reserve() else {
+                return Err(NodeFault::Memory);
+            };
+            prepare_again(proposer, me, outbox);
+            accept_all_again(&self.learner, proposer, me, outbox);
+            pump(proposer, me, outbox);
         }
         ask(batch, from, me, outbox);
         Ok(())

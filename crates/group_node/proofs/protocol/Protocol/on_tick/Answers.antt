@@ -10,6 +10,7 @@ use Rattle.group_node.specs.Known.{front, Known}
 use Rattle.group_node.specs.Tick.{accepts_again, asks, on_tick, prepares_again, submits}
 use Rattle.group_node.specs.WaitingKeys.{batch_of}
 use Rattle.group_node.specs.Calls.{Does}
+use Rattle.paxos_acceptor.specs.declared.me.Me.{Me}
 use Rattle.group_node.specs.Packets.{Datagram, Packet, datagram_of, datagrams_of, to_all, Queue}
 use Rattle.group_node.specs.Pump.{accepts_of, pump}
 use Rattle.group_node.specs.Ranges.{IsInRange}
@@ -17,7 +18,7 @@ use Rattle.group_node.specs.States.{Protocol}
 use Rattle.std.proofs.lemmas.Result.{err_from_is_err_and}
 use Rattle.group_node.specs.declared.fault.NodeFault.TheVariants.{Memory}
 use Rattle.group_node.proofs.protocol.Protocol.on_tick.Goals as goal
-use Rattle.group_node.proofs.protocol.Protocol.on_tick.Goals.{in-Some+in_ok-propose_again, in_default}
+use Rattle.group_node.proofs.protocol.Protocol.on_tick.Goals.{in-Some+in-Ok, in_default}
 
 -- what it asks last, as the code says
 asked : {n : Known} {now : List Datagram} {batch : Option Value} {from : ℕ} (mid : List Datagram) → IsInRange n
@@ -36,6 +37,12 @@ does_none : {S : Type 0} {inside old new : Protocol S} {before mid now : List Da
     → new.known ≡ inside.known → new.is_stopped ≡ inside.is_stopped
     → Does {S = S} {T = Unit {0}} old new before now (on_tick old.known) (Ok tt)
 does_none is last none e rules same = grind (arith, nat_tests)
+
+-- what is put into an empty outbox in three steps
+put_again : (me : Me) (ps qs rs : List Packet) {o one two three : List Datagram} → o ≡ []
+    → one ≡ o ++ datagrams_of me ps → two ≡ one ++ datagrams_of me qs → three ≡ two ++ datagrams_of me rs
+    → three ≡ datagrams_of me ((ps ++ qs) ++ rs)
+put_again me ps qs rs e a b c = rw (c, b, a, e) (simp map-append)
 
 -- so does one with a proposer that has proposed again and pumped
 does_some : {S : Type 0} {inside old new : Protocol S} {before mid now : List Datagram} {p q : Proposer} → inside ≡ old
@@ -56,17 +63,13 @@ does_some {inside = inside} {p = p} is last empty e one again rules same =
     ∙ ap (datagrams_of n.me) (append_assoc first pumped (asks n)) in
     grind (arith, nat_tests)
 
-pub returns-in_err-propose_again-clause-does : goal.returns-in_err-propose_again-clause-does
-returns-in_err-propose_again-clause-does g c =
-    let handed = err_from_is_err_and c.from_residual-in_err-propose_again.result c.from_residual-in_err-propose_again.ensures.1 in
-    let given = handed.2 in
-    let memory : handed.0 ≡ Memory = cc (given, c.in_err-propose_again.ensures.others) in
-    let same = c.in_err-propose_again.ensures.err in
-    rw (← c.self.view_is, handed.1, memory) (record {
+pub returns-in_default-reserve-clause-does : goal.returns-in_default-reserve-clause-does
+returns-in_default-reserve-clause-does g c =
+    rw (← c.self.view_is) (record {
       ok = tt;
       sends = tt;
-      err = rw (c.in-Some.is, same.0) refl;
-      unsent = same.1 ∙ c.make_ready.ensures.packets;
+      err = rw (c.in-Some.is, c.reserve.ensures.same) refl;
+      unsent = c.make_ready.ensures.packets;
       stops = search rules;
     })
 
@@ -80,15 +83,15 @@ pub invariant_of-self-2 : goal.invariant_of-self-2
 invariant_of-self-2 g c =
     let i = c.self.invariant in
     elim c.match-self.branch [
-      | in-Some+in_ok-propose_again w ↦
+      | in-Some+in-Ok w ↦
           let fits = c.what_goes_out_fits.ensures.tick _ i.1.ranges in
           rw w.self-inside-is (
             i.0,
             record {
               size = i.1.size;
               ranges =
-                  ticked_ranges {p = w.in-Some.proposer.known} {q = w.propose_again.new.proposer.known} i.1.ranges
-                  fits.ranges (rw w.in-Some.is refl) w.in_ok-propose_again.ensures.known;
+                  ticked_ranges {p = w.in-Some.proposer.known} {q = w.pump.new.proposer.known} i.1.ranges fits.ranges
+                  (rw w.in-Some.is refl) (rw w.reserve.ensures.same at w.pump.ensures.known);
               in_step = i.1.in_step;
             },
           )
@@ -102,10 +105,13 @@ returns-clause-does g c =
     let same = rw (← c.self.view_is) at batch in
     let last = asked c.match-self.outbox.packets i.1.ranges c.ask.ensures same c.known_front-from.ensures.front in
     elim c.match-self.branch [
-      | in-Some+in_ok-propose_again w ↦
-          does_some {p = w.in-Some.proposer.known} {q = w.propose_again.new.proposer.known} c.self.view_is
-          last c.requires.empty (rw w.in-Some.is refl) w.in_ok-propose_again.ensures.known
-          (ap (λ (q : Queue). q.packets) w.outbox-is ∙ w.in_ok-propose_again.ensures.packets)
+      | in-Some+in-Ok w ↦
+          let put =
+          put_again _ _ _ _ (cc (c.make_ready.ensures.packets, c.requires.empty))
+          w.prepare_again.ensures.packets w.accept_all_again.ensures.packets w.pump.ensures.packets in
+          does_some {p = w.in-Some.proposer.known} {q = w.pump.new.proposer.known} c.self.view_is last c.requires.empty
+          (rw w.in-Some.is refl) (rw w.reserve.ensures.same at w.pump.ensures.known)
+          (ap (λ (q : Queue). q.packets) w.outbox-is ∙ rw w.reserve.ensures.same at put)
           (rw w.self-inside-is refl) (rw w.self-inside-is refl)
       | in_default w ↦
           does_none c.self.view_is last (ap (λ (q : Queue). q.packets) w.outbox-is ∙ c.make_ready.ensures.packets)
