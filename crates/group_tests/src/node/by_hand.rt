@@ -11,16 +11,21 @@ use paxos_msg::{Group, Record, decode};
 use pcode_ops::Program;
 use std::alloc::Global;
 
+/// The group of one node, in its session.
+const GROUP: Group = Group {
+    size: 1,
+    session: 7,
+};
+
 /// Starts a node that is alone in its group, for the first time.
 fn alone(
     alloc: Global,
     program: &Program,
 ) -> Result<Node<'_, MemoryStore>, StartRefused<MemoryStore>>
-    ensures { IfOk result
-        (λ node. node.protocol.known.me.group ≡ record { size = 1; session = 7 }) }
+    ensures { IfOk result (λ node. node.protocol.known.me.group ≡ GROUP) }
 {
     let store = MemoryStore::new(Record::new(alloc));
-    let Ok(config) = Config::new(1, 1, 7) else {
+    let Ok(config) = Config::new(1, GROUP.size, GROUP.session) else {
         let fault = NodeFault::Id;
         return Err(StartRefused { fault, store });
     };
@@ -30,17 +35,13 @@ fn alone(
 /// Hands the node the oldest packet of its outbox. It is alone in its group, so each packet goes to
 /// itself.
 fn hear_itself(node: &mut Node<'_, MemoryStore>, outbox: &mut Outbox) -> Result<(), NodeFault>
-    requires { node.old.protocol.known.me.group ≡ record { size = 1; session = 7 } }
-    ensures { node.new.protocol.known.me.group ≡ record { size = 1; session = 7 } }
+    requires { node.old.protocol.known.me.group ≡ GROUP }
+    ensures { node.new.protocol.known.me.group ≡ GROUP }
 {
     let Some(packet) = outbox.pop() else {
         return Ok(());
     };
-    let group = Group {
-        size: 1,
-        session: 7,
-    };
-    match decode(packet.bytes.as_slice(), group) {
+    match decode(packet.bytes.as_slice(), GROUP) {
         Ok(view) => node.on_message(&view, outbox),
         Err(_) => Ok(()),
     }
@@ -48,7 +49,7 @@ fn hear_itself(node: &mut Node<'_, MemoryStore>, outbox: &mut Outbox) -> Result<
 
 /// Types a key, and makes the node lead.
 fn lead(node: &mut Node<'_, MemoryStore>, outbox: &mut Outbox) -> Result<(), NodeFault>
-    requires { node.old.protocol.known.me.group ≡ record { size = 1; session = 7 } }
+    requires { node.old.protocol.known.me.group ≡ GROUP }
 {
     let _key = node.typed(65)?; // it waits; the answer is the key
     node.campaign(outbox)?; // a promise is saved, and a Prepare is in the outbox
