@@ -1,4 +1,4 @@
-"""Rules of the pages and of the layout: links, LIBRARY's Rust, names of definitions, widths of lines."""
+"""Rules of the pages and of the layout: links, LIBRARY's Rust, names of definitions, widths of lines, imports."""
 import os
 import re
 
@@ -74,3 +74,24 @@ def check_citations():
                 other = cited.split(".")[0]
                 if other in crates and other != crate and not SHARED_LEMMAS.match(cited):
                     fault(f"{path}: cites {cited}, a lemma of another crate; what it needs is a clause or a law there")
+
+
+def is_used(name, text):
+    """Whether a text has a name; of an operator its sign, as `≤` of `◌≤◌`."""
+    if name == "if◌then◌else◌":
+        name = "then"
+    if "◌" in name:
+        return name.strip("◌") in text
+    return re.search(rf"(?<!\w){re.escape(name)}(?!\w)", text) is not None
+
+
+def check_imports():
+    for crate in tree.all_crates():
+        for path in tree.files_below(f"crates/{crate}/src", ".rt"):
+            text = text_of(path)
+            rest = re.sub(r"^ *(?:pub )?(?:ghost )?use .*$", "", text, flags=re.M)
+            for names in re.findall(r"^ *ghost use .*\{(.*)\};$", text, re.M):
+                for name in names.split(", "):
+                    name = name.split(" as ")[-1]
+                    if name != "self" and not is_used(name, rest):
+                        fault(f"{path}: imports {name}, which it does not use")

@@ -1,5 +1,5 @@
 //! What a node does at a Prepare and at an Accept: its acceptor answers.
-ghost use Rattle.std.specs.Prelude.{◌≡◌, ◌⊎◌, [], false, IfErr, option_map};
+ghost use Rattle.std.specs.Prelude.{◌≡◌, [], false, option_map};
 ghost use Rattle.paxos_msg.specs.Fits.{IsPlace};
 ghost use Rattle.group_node.specs.Calls.{Does, MayFailToSave, Saves};
 ghost use Rattle.group_node.specs.AcceptorRows.{accept_answered_to, on_accept, on_prepare, unless_passed};

@@ -1,5 +1,5 @@
 //! The machine of a node, and its output.
-ghost use Rattle.std.specs.Prelude.{◌≡◌, ◌↔◌, ◌+◌, ◌<◌, ◌≤◌, ◌++◌, ◌∷◌, ℕ, [], IfNone, IfOk, IfSome, IsTrue, List, OnSome, length, min, option_map, slice_get};
+ghost use Rattle.std.specs.Prelude.{◌≡◌, ◌↔◌, ◌+◌, ◌<◌, ◌≤◌, ◌++◌, ◌∷◌, ℕ, [], IfNone, IfOk, IsTrue, List, OnSome, length, min, option_map, slice_get};
 ghost use Rattle.circular_buffer.specs.Buffer.{buffer};
 ghost use Rattle.paxos_learner.specs.Input.{learned_input};
 ghost use Rattle.pcode_machine.specs.Turns.{WaitsOn};

@@ -1,5 +1,5 @@
 //! What a node does at a campaign, a Promise, a Refused and a Submit, with its proposer.
-ghost use Rattle.std.specs.Prelude.{◌≡◌, ℕ, ◌+◌, ◌<◌, ◌≤◌, ◌++◌, [], Err, OnErr, Some, length, option_map, ◌↔◌, ◌⊎◌, IfErr, IsErrOf, IfSome, OnOk, false};
+ghost use Rattle.std.specs.Prelude.{◌≡◌, ℕ, ◌+◌, ◌<◌, ◌≤◌, ◌++◌, [], Err, OnErr, Some, length, option_map, ◌⊎◌, IfErr, IsErrOf, IfSome, OnOk, false};
 ghost use Rattle.paxos_msg.specs.declared.message.Body.TheVariants.{Submit};
 ghost use Rattle.paxos_msg.specs.declared.limits.TheConstants.{MOST_CHARACTERS, PLACES};
 ghost use Rattle.paxos_proposer.specs.declared.proposer.TheConstants.{MOST_PUMPED};
@@ -9,7 +9,7 @@ ghost use Rattle.paxos_msg.specs.Fits.{IsBallot, IsPlace, IsValue, Fits};
 ghost use Rattle.group_node.specs.Calls.{Does, IsCampaignRefused, Knows, MayFailToSave, MayLackMemory, Saves};
 ghost use Rattle.group_node.specs.ProposerRows.{on_refused, greater_ballot, unless_refused, are_known, on_submit, is_known, is_known_key, offer_after, offered_with, prepare_from, on_campaign, beginning};
 ghost use Rattle.group_node.specs.Packets.{datagrams_of, GrowsBy, HasRoom};
-ghost use Rattle.paxos_proposer.specs.Proposer.{IsPromisePart, asks_after, greatest_round, heard_promise};
+ghost use Rattle.paxos_proposer.specs.Proposer.{IsPromisePart, asks_after, heard_promise};
 ghost use Rattle.paxos_msg.specs.declared.record.Change.TheVariants.{Promise};
 ghost use Rattle.paxos_msg.specs.Ballots.{IsBelow};
 ghost use Rattle.paxos_msg.specs.Keys.{keys_from};

@@ -1,18 +1,12 @@
 //! A node's part in the protocol: its parts, a start, a typed key, and the calls with an outbox.
-ghost use Rattle.std.specs.Prelude.{◌≡◌, ◌≢◌, ◌↔◌, ◌⊎◌, ◌<◌, ◌≤◌, [], None, false, true, length, IfErr, IfOk, IsErrOf, IsSome, OnOk};
-ghost use Rattle.paxos_msg.specs.declared.record.Change.TheVariants.{Start};
-ghost use Rattle.paxos_msg.specs.Records.{changed};
-ghost use Rattle.paxos_acceptor.specs.Stores.{FailsAsTold, HasCause, IsOneOf};
+ghost use Rattle.std.specs.Prelude.{◌≡◌, ◌⊎◌, ◌<◌, ◌≤◌, [], false, true, length, IfErr, IsErrOf};
 ghost use Rattle.paxos_msg.specs.declared.limits.TheConstants.{LAST_SERIAL};
 ghost use Rattle.group_node.specs.declared.limits.TheConstants.{MOST_WAITING};
 ghost use Rattle.group_node.specs.Ranges.{IsInRange};
-ghost use Rattle.group_node.specs.Known.{on_typed, new_key, next_serial, on_start, front};
+ghost use Rattle.group_node.specs.Known.{on_typed, new_key, next_serial, front};
 ghost use Rattle.paxos_msg.specs.Fits.{Fits};
-ghost use Rattle.paxos_proposer.specs.Proposer.{greatest_round};
 ghost use Rattle.group_node.specs.Calls.{Does, IsLetIn, Knows, MayFailToSave, Saves};
-ghost use Rattle.group_node.specs.Protocol.{NeedsMemory, on_message, row};
-ghost use Rattle.group_node.specs.ProposerRows.{on_campaign};
-ghost use Rattle.group_node.specs.Tick.{on_tick};
+ghost use Rattle.group_node.specs.Protocol.{NeedsMemory, row};
 ghost use Rattle.group_node.specs.WaitingKeys.{without_read};
 
 use crate::fault::NodeFault;

@@ -1,5 +1,5 @@
 //! The typed characters that wait.
-ghost use Rattle.std.specs.Prelude.{◌≡◌, ◌↔◌, ◌+◌, ◌<◌, ◌≤◌, ◌^◌, [], ◌∷◌, ◌++◌, drop, length, slice_get, take, IfOk, IfSome, IsSome};
+ghost use Rattle.std.specs.Prelude.{◌≡◌, ◌↔◌, ◌+◌, ◌<◌, ◌≤◌, ◌^◌, [], ◌∷◌, ◌++◌, drop, length, take, IfOk, IfSome, IsSome};
 ghost use Rattle.paxos_msg.specs.Keys.{keys_from};
 ghost use Rattle.paxos_learner.specs.Input.{front_values, keys_in_order};
 ghost use Rattle.paxos_msg.specs.declared.limits.TheConstants.{MOST_CHARACTERS};

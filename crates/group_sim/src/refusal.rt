@@ -60,7 +60,7 @@ impl From<ScriptFault> for ScriptRefusal {
 }
 
 impl From<Stopped> for ScriptRefusal {
-    ghost use Rattle.std.specs.Prelude.{◌≡◌, None, Some, ℕ};
+    ghost use Rattle.std.specs.Prelude.{◌≡◌, None, Some};
     ghost use Rattle.group_world.specs.declared.fault.WorldFault.{WorldFault};
     ghost use Rattle.group_sim.specs.declared.refusal.LineFault.TheVariants.{TooLong, World};
     ghost use Rattle.group_sim.specs.declared.refusal.ScriptRefusal.TheVariants.{Line};

@@ -1,5 +1,5 @@
 //! Nodes on wires in memory. One send or one receive fails.
-ghost use Rattle.std.specs.Prelude.{◌≡◌, ◌≤◌, length, IfSome};
+ghost use Rattle.std.specs.Prelude.{◌≤◌, length};
 
 use crate::program::reading_program;
 use group_node::{Config, NodeFault};

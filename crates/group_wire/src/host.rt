@@ -1,5 +1,5 @@
 //! A node with its outbox.
-ghost use Rattle.std.specs.Prelude.{◌≡◌, ◌⊎◌, ◌↔◌, ◌+◌, true, length, option_map, slice_get, IfErr, IfNone, IfOk, IsErrOf, OnSome};
+ghost use Rattle.std.specs.Prelude.{◌≡◌, ◌⊎◌, ◌+◌, length, option_map, slice_get, IfErr, IfNone, IfOk, OnSome};
 ghost use Rattle.group_node.specs.Known.{on_start};
 ghost use Rattle.group_node.specs.Output.{IsReplay, unreleased_of};
 ghost use Rattle.group_node.specs.States.{input};

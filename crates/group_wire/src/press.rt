@@ -1,5 +1,5 @@
 //! Bytes that are typed at a node.
-ghost use Rattle.std.specs.Prelude.{◌≡◌, ◌≢◌, ◌↔◌, ◌⊎◌, ◌+◌, ◌<◌, [], ◌∷◌, false, true, length, if◌then◌else◌, IfErr, IfOk, IsErrOf};
+ghost use Rattle.std.specs.Prelude.{◌≡◌, ◌↔◌, ◌+◌, ◌<◌, [], ◌∷◌, false, true, length, if◌then◌else◌, IfErr, IfOk, IsErrOf};
 ghost use Rattle.paxos_msg.specs.declared.limits.TheConstants.{LAST_SERIAL};
 ghost use Rattle.group_node.specs.declared.limits.TheConstants.{MOST_WAITING};
 ghost use Rattle.group_node.specs.Calls.{RefusesIfStopped};

@@ -1,5 +1,5 @@
 //! The turns of a node on its wire, and its receives between them.
-ghost use Rattle.std.specs.Prelude.{◌≡◌, ◌≢◌, ◌↔◌, ◌⊎◌, List, [], ◌∷◌, true, Option, Some, IfErr, IfOk, IsErrOf, OnErr, OnOk};
+ghost use Rattle.std.specs.Prelude.{◌≡◌, ◌≢◌, List, [], ◌∷◌, true, Option, Some, IfErr, IfOk, OnErr, OnOk};
 ghost use Rattle.group_node.specs.Output.{RunsOn};
 ghost use Rattle.group_node.specs.States.{input};
 ghost use Rattle.group_wire.specs.declared.limits.TheConstants.{TURN_STEPS};

@@ -1,5 +1,5 @@
 //! The nodes of a group, what was sent and what was typed. Each kind of event is one function.
-ghost use Rattle.std.specs.Prelude.{◌≡◌, ◌+◌, ◌-◌, ◌∷◌, ◌++◌, ◌<◌, ◌≤◌, [], Option, None, Some, length, vec_len, vec_capacity, option_map, replicate, IfOk, Bool, Err, OnErr, OnOk};
+ghost use Rattle.std.specs.Prelude.{◌≡◌, ◌+◌, ◌-◌, ◌∷◌, ◌++◌, ◌<◌, ◌≤◌, [], Option, None, Some, length, vec_len, vec_capacity, option_map, replicate, IfOk, Bool, Err, OnErr};
 ghost use Rattle.paxos_msg.specs.Records.{empty_record};
 ghost use Rattle.group_node.specs.declared.limits.TheConstants.{MOST_PACKETS};
 ghost use Rattle.group_world.specs.declared.event.Done.TheVariants.{Applied};

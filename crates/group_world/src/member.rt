@@ -1,5 +1,5 @@
 //! A node of the group: its place, up or down, and its console.
-ghost use Rattle.std.specs.Prelude.{◌≡◌, [], ◌∷◌, Bool, None, Option, Some, IfErr, IfOk, IsErrOf, MatchResult, OnOk, OnErr, option_map, slice_get, Err};
+ghost use Rattle.std.specs.Prelude.{◌≡◌, [], ◌∷◌, Bool, None, Option, Some, IfOk, IsErrOf, MatchResult, OnOk, OnErr, option_map, slice_get, Err};
 ghost use Rattle.paxos_msg.specs.Records.{empty_record};
 ghost use Rattle.paxos_acceptor.specs.Records.{IsRecord};
 ghost use Rattle.group_node.specs.Output.{no_progress, unreleased_of};

@@ -1,5 +1,5 @@
 //! A group whose invariant is known: after each event the claims of the main theorem hold.
-ghost use Rattle.std.specs.Prelude.{◌≡◌, ◌↔◌, ◌⊎◌, [], None, length, option_and_then, option_map, slice_get, IfErr, IfOk, IsErrOf, OnErr, OnOk};
+ghost use Rattle.std.specs.Prelude.{◌≡◌, ◌↔◌, ◌⊎◌, None, length, option_and_then, option_map, slice_get, IfErr, IfOk, IsErrOf, OnErr, OnOk};
 ghost use Rattle.group_node.specs.States.{IsSize};
 ghost use Rattle.group_world.specs.Event.{Goes, IsStep};
 ghost use Rattle.group_world.specs.Group.{member_at, new_world, world_state};

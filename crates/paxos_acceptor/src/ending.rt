@@ -1,5 +1,5 @@
 //! The end of a log, where an entry may have been cut.
-ghost use Rattle.std.specs.Prelude.{◌≡◌, ◌↔◌, IsTrue};
+ghost use Rattle.std.specs.Prelude.{◌↔◌, IsTrue};
 ghost use Rattle.paxos_acceptor.specs.Log.{IsCutBatch, IsCutVote, IsEnd};
 
 use crate::version::Version;

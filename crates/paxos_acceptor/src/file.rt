@@ -11,7 +11,7 @@ use crate::me::Me;
 use crate::store::{Store, StoreFault};
 use base::count_fault;
 use paxos_msg::{Change, Record};
-use std::alloc::{AllocError, Global};
+use std::alloc::AllocError;
 use std::io;
 use std::marker::Model;
 use std::rt::Files;

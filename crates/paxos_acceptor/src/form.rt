@@ -7,7 +7,7 @@ ghost use Rattle.paxos_acceptor.specs.declared.me.Me.{Me};
 ghost use Rattle.paxos_acceptor.specs.declared.version.Version.TheVariants.{Two};
 ghost use Rattle.paxos_acceptor.specs.Files.{IsFiledAs, IsFormAfter, IsFormIn, IsFormOf, IsPatch, IsWholeForm, IsWritten};
 ghost use Rattle.paxos_acceptor.specs.Log.{IsEntry, LogIn, MakesChange, log_header};
-ghost use Rattle.paxos_acceptor.specs.Records.{IsRecord, record_bytes};
+ghost use Rattle.paxos_acceptor.specs.Records.{IsRecord};
 
 use crate::append::append;
 use crate::codec::{record_decode, record_migrate, spell_changed};

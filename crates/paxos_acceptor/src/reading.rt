@@ -1,5 +1,5 @@
 //! Reads the bytes of a record, in either version.
-ghost use Rattle.std.specs.Prelude.{◌≡◌, ◌≤◌, length, IfOk, Some};
+ghost use Rattle.std.specs.Prelude.{◌≤◌, length, IfOk, Some};
 ghost use Rattle.paxos_msg.specs.Reading.{Gives, number_at};
 ghost use Rattle.paxos_acceptor.specs.RecordReading.{after_byte, head_at, record_header_at, promised_at, ReadsAs, record_at, votes_of};
 ghost use Rattle.paxos_acceptor.specs.declared.version.Version.TheVariants.{Two};

@@ -1,5 +1,5 @@
 //! The votes of a record of version 1.
-ghost use Rattle.std.specs.Prelude.{◌≡◌, ◌≤◌, IfOk, Some};
+ghost use Rattle.std.specs.Prelude.{◌≤◌, IfOk, Some};
 ghost use Rattle.paxos_msg.specs.Reading.{Gives};
 ghost use Rattle.paxos_acceptor.specs.RecordReading.{ReadsAs, vote_at_v1, votes_of};
 ghost use Rattle.paxos_acceptor.specs.declared.version.Version.TheVariants.{One};

@@ -1,6 +1,6 @@
 //! The input: the bytes of the keys of the places below the front, each key once.
-ghost use Rattle.std.specs.Prelude.{◌≡◌, ◌↔◌, ◌+◌, ◌*◌, ◌<◌, ◌≤◌, [], ◌∷◌, ◌++◌, IsTrue, OnOk, Contains, length, drop, map, option_map, slice_get};
-ghost use Rattle.paxos_learner.specs.Entered.{keys_with, count_below, key_of};
+ghost use Rattle.std.specs.Prelude.{◌≡◌, ◌+◌, ◌*◌, ◌<◌, ◌≤◌, [], ◌∷◌, ◌++◌, OnOk, length, drop, map};
+ghost use Rattle.paxos_learner.specs.Entered.{keys_with, count_below};
 ghost use Rattle.paxos_msg.specs.declared.limits.TheConstants.{MOST_CHARACTERS, PLACES};
 
 use crate::keys::{KeySet, TypedKey};

@@ -1,7 +1,7 @@
 //! The laws of a learner, over the definitions alone: a message keeps what is learned, and the
 //! input only grows at its end. Each law is the contract of a function that does nothing.
-ghost use Rattle.std.specs.Prelude.{◌≡◌, ◌↔◌, ◌<◌, ◌≤◌, ◌++◌, ◌∷◌, [], ℕ, Contains, IsTrue, List, Some, is_some, length, slice_get, true};
-ghost use Rattle.std.specs.FinMap.{empty, FinMap, get};
+ghost use Rattle.std.specs.Prelude.{◌≡◌, ◌↔◌, ◌<◌, ◌≤◌, ◌++◌, ◌∷◌, [], ℕ, Contains, IsTrue, List, length, slice_get, true};
+ghost use Rattle.std.specs.FinMap.{FinMap, get};
 ghost use Rattle.std.specs.Ordering.{nat_cmp};
 ghost use Rattle.indexmap.specs.IndexSet.{insert_key};
 ghost use Rattle.paxos_msg.specs.declared.ballot.Ballot.{Ballot};

@@ -1,5 +1,5 @@
 //! A map from places.
-ghost use Rattle.std.specs.Prelude.{◌≡◌, ◌+◌, ◌<◌, ◌≤◌, IfSome, OnErr, OnOk, length, option_map, slice_index};
+ghost use Rattle.std.specs.Prelude.{◌≡◌, ◌<◌, IfSome, OnErr, OnOk, length, option_map, slice_index};
 ghost use Rattle.std.specs.FinMap.{empty, get, insert, remove};
 
 use indexmap::IndexMap;

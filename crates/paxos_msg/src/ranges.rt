@@ -1,5 +1,5 @@
 //! Tests of the ranges of a message, which say if it has a spelling.
-ghost use Rattle.std.specs.Prelude.{◌≡◌, ◌↔◌, ◌≤◌, ◌<◌, IsTrue};
+ghost use Rattle.std.specs.Prelude.{◌↔◌, ◌<◌, IsTrue};
 ghost use Rattle.paxos_msg.specs.declared.message.Body.TheVariants as body;
 ghost use Rattle.paxos_msg.specs.Ballots.{IsBelow, IsAtMost};
 ghost use Rattle.paxos_msg.specs.Keys.{AreOwnKeys, batches};

@@ -3,7 +3,7 @@
 ghost use Rattle.std.specs.Prelude.{◌≡◌, ◌-◌, ◌+◌, ◌<◌, ◌≤◌, ℕ, List, min, Option, Some, IfSome, length};
 ghost use Rattle.std.specs.FinMap.{get};
 ghost use Rattle.paxos_msg.specs.declared.ballot.Ballot.{Ballot};
-ghost use Rattle.paxos_msg.specs.declared.message.Body.TheVariants.{Accept, Accepted, Ask, Prepare, Promise, Refused, Submit, Tell};
+ghost use Rattle.paxos_msg.specs.declared.message.Body.TheVariants.{Accept, Accepted, Ask, Prepare, Promise, Submit, Tell};
 ghost use Rattle.paxos_msg.specs.declared.value.Value.{Value};
 ghost use Rattle.paxos_msg.specs.Batches.{Body, Record, Vote};
 ghost use Rattle.paxos_msg.specs.Fits.{IsBody, IsValue};

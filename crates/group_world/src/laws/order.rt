@@ -1,5 +1,5 @@
 //! Laws of the order of the keys that a group has chosen.
-ghost use Rattle.std.specs.Prelude.{◌≡◌, ◌∷◌, [], Bool, ℕ, flat_map, List, map, Option};
+ghost use Rattle.std.specs.Prelude.{◌≡◌, ◌∷◌, [], Bool, flat_map, List, map, Option};
 ghost use Rattle.pcode_file.specs.Parts.{Parts};
 ghost use Rattle.paxos_msg.specs.declared.message.Group.{Group};
 ghost use Rattle.paxos_msg.specs.declared.value.Value.{Value};
