@@ -1,6 +1,6 @@
 -- The state after a call of a node, by its response.
 use Rattle.std.specs.Prelude.{◌≡◌, ◌≢◌, ◌↔◌, ◌⊎◌, ◌<◌, true, false, List, [], ◌++◌, length, None, Result, Err, IfErr, OnOk, OnErr, IsErrOf}
-use Rattle.paxos_acceptor.specs.Stores.{StoreState, FailsAsTold, HasCause, IsOneOf}
+use Rattle.paxos_acceptor.specs.Stores.{StoreState, FailsAsPlanned, HasCause, IsOneOf}
 use Rattle.paxos_acceptor.specs.declared.fault.AcceptorFault.{AcceptorFault}
 use Rattle.paxos_acceptor.specs.declared.fault.AcceptorFault.TheVariants as acceptor
 use Rattle.group_node.specs.declared.fault.NodeFault.{NodeFault}
@@ -64,8 +64,8 @@ pub record Saves {S T : Type 0} (honest at_will : Type 0) (state : S → StoreSt
   pub unplanned : done.saves ≢ None → OnOk result ((state old.store).plan ≡ None)
   pub used_up : IsErrOf result Store → (state new.store).plan ≡ None
   pub plan : ¬ IsErrOf result Store → (state new.store).plan ≡ (state old.store).plan
-  pub told : honest → at_will → IsErrOf result Store
-      → FailsAsTold (state old.store).plan old.known.kept done.node.kept (state new.store).stored
+  pub planned : honest → at_will → IsErrOf result Store
+      → FailsAsPlanned (state old.store).plan old.known.kept done.node.kept (state new.store).stored
   pub cause : HasCause (IsErrOf result Store) (state old.store).faults (state new.store).faults
 
 -- The refusals of a call without an outbox: as stopped, exactly if a save has failed.

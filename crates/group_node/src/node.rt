@@ -6,7 +6,7 @@ ghost use Rattle.paxos_msg.specs.Batches.{Record as Kept};
 ghost use Rattle.paxos_msg.specs.Fits.{Fits};
 ghost use Rattle.paxos_msg.specs.Records.{changed};
 ghost use Rattle.paxos_acceptor.specs.Records.{IsRecord};
-ghost use Rattle.paxos_acceptor.specs.Stores.{FailsAsTold, HasCause, IsOneOf};
+ghost use Rattle.paxos_acceptor.specs.Stores.{FailsAsPlanned, HasCause, IsOneOf};
 ghost use Rattle.paxos_acceptor.specs.declared.store.StoreFault.{StoreFault};
 ghost use Rattle.paxos_learner.specs.Learner.{IsFront};
 ghost use Rattle.paxos_msg.specs.declared.limits.TheConstants.{LAST_ROUND, LAST_SERIAL, LAST_START, PLACES};
@@ -132,9 +132,9 @@ impl<'a, S: Store> Node<'a, S> {
             → IfErr result (λ e. e.fault ≡ NodeFault.Store
             → IsOneOf (S.state e.store).stored (S.state store).stored
             (changed (S.state store).stored Start)) }
-        ensures told { S.honest → S.fails_at_will
+        ensures planned { S.honest → S.fails_at_will
             → IfErr result (λ e. e.fault ≡ NodeFault.Store
-            → FailsAsTold (S.state store).plan (S.state store).stored
+            → FailsAsPlanned (S.state store).plan (S.state store).stored
             (changed (S.state store).stored Start) (S.state e.store).stored) }
         ensures spare { S.fails_at_will → S.honest
             → IfErr result (λ e. e.fault ≡ NodeFault.Store

@@ -5,7 +5,7 @@ use Rattle.std.proofs.lemmas.Bool.Decides.{nat_tests}
 use Rattle.std.proofs.lemmas.Bool.{both_ways, false_from_ne_true}
 use Rattle.paxos_msg.specs.Batches.{Change, Msg, Record}
 use Rattle.paxos_msg.specs.Fits.{Fits}
-use Rattle.paxos_acceptor.specs.Stores.{FailsAsTold, StoreState}
+use Rattle.paxos_acceptor.specs.Stores.{FailsAsPlanned, StoreState}
 use Rattle.paxos_proposer.specs.Proposer.{Proposer}
 use Rattle.group_node.specs.declared.fault.NodeFault.{NodeFault}
 use Rattle.group_node.specs.declared.fault.NodeFault.TheVariants as fault
@@ -40,11 +40,11 @@ planless None plan h = refl
 planless (Some c) plan h = h (λ e. absurd cc)
 
 -- a failure was planned for a save that failed, and it left the record of the plan
-pub told : (saves : Option Change) (plan : Option Bool) (old next left : Record) → saves ≢ None → FailsAsTold plan old next left
+pub as_planned : (saves : Option Change) (plan : Option Bool) (old next left : Record) → saves ≢ None → FailsAsPlanned plan old next left
     → (is_kept : Bool) × (failing saves plan ≡ Some is_kept) × (left ≡ (if is_kept then next else old))
-told None plan old next left some h = absurd (some refl)
-told (Some c) None old next left some h = absurd h
-told (Some c) (Some is_kept) old next left some h = (is_kept, refl, h)
+as_planned None plan old next left some h = absurd (some refl)
+as_planned (Some c) None old next left some h = absurd h
+as_planned (Some c) (Some is_kept) old next left some h = (is_kept, refl, h)
 
 -- ---- a node that is asked
 
@@ -137,8 +137,8 @@ record Said (old new : NodeState StoreState) (made : Response) (now : List Datag
   pub unsaved : OnErr answer (¬ IsErrOf answer fault.Store → new.protocol.store.stored ≡ old.protocol.store.stored)
   pub unplanned : made.saves ≢ None → OnOk answer (old.protocol.store.plan ≡ None)
   pub never : made.saves ≡ None → ¬ IsErrOf answer fault.Store
-  pub told : IsErrOf answer fault.Store
-      → FailsAsTold old.protocol.store.plan old.protocol.known.kept made.node.kept new.protocol.store.stored
+  pub planned : IsErrOf answer fault.Store
+      → FailsAsPlanned old.protocol.store.plan old.protocol.known.kept made.node.kept new.protocol.store.stored
 
 -- the same by the records of the contract
 said : {old new : NodeState StoreState} {made : Response} {before now : List Datagram} {answer : Answer} → before ≡ []
@@ -150,7 +150,7 @@ said {old} {new} {made} {now = now} {answer = answer} empty does saves = record 
   unsaved = saves.unsaved tt;
   unplanned = saves.unplanned;
   never = saves.never;
-  told = saves.told tt tt;
+  planned = saves.planned tt tt;
 }
 
 -- what holds anyway holds at `Ok`, and at `Err`
@@ -224,7 +224,7 @@ module _ {plan : Option Bool} {old new : NodeState StoreState} {console : List �
         })
     call_ends (Err f) said is fell stays (inl (device, done)) =
         let e : IsErrOf {T = Unit {0}} (Err f) fault.Store = ap Err device in
-        let left = told made.saves _ old.protocol.known.kept _ _ (λ none. said.never none e) (said.told e) in
+        let left = as_planned made.saves _ old.protocol.known.kept _ _ (λ none. said.never none e) (said.planned e) in
         rw (is.fell e, ← h.planned, left.1) (record {
           answer = done;
           left = ap (λ x. member_of x console) (fell e) ∙ ap (λ r. member_after_fall (node_at old console) r) left.2;
@@ -294,7 +294,7 @@ module _ {plan : Option Bool} {old new : NodeState StoreState} {console : List �
           unsaved = on_err answer (λ fine. same);
           unplanned = λ some. absurd (some rests.1);
           never = λ none. never;
-          told = λ e. absurd (never e);
+          planned = λ e. absurd (never e);
         } in
         answered Tick _ says (never_refused answer _ (λ f is store memory. memory is) memory)
       where

@@ -6,7 +6,7 @@ use Rattle.std.proofs.lemmas.Bool.{both_ways, ne_eqb}
 use Rattle.group_world.proofs.SoundWorldsAgree.{next_of}
 use Rattle.std.proofs.Common.{◌≡◌, ◌≢◌, ◌↔◌, ◌⊎◌, ◌∙◌, ◌<◌, ◌≤◌, Bool, true, false, ℕ, List, [], ◌∷◌, ◌+◌, length, option_map, Option, None, Some, Result, Ok, Err, IfErr, IfOk, IsErrOf, MatchResult, inl, inr, refl, sym, ap, subst, arith, OnErr}
 use Rattle.paxos_msg.specs.declared.value.Value.{Value}
-use Rattle.paxos_acceptor.specs.Stores.{StoreState, FailsAsTold}
+use Rattle.paxos_acceptor.specs.Stores.{StoreState, FailsAsPlanned}
 use Rattle.group_node.specs.declared.fault.NodeFault.{NodeFault}
 use Rattle.group_node.specs.declared.fault.NodeFault.TheVariants as fault
 use Rattle.group_node.specs.declared.player.Ran.{Ran}
@@ -27,7 +27,7 @@ use Rattle.paxos_acceptor.specs.declared.me.Me.{Me}
 use Rattle.paxos_acceptor.specs.Records.{IsRecord}
 use Rattle.group_world.specs.declared.event.Done.{Done}
 use Rattle.group_world.specs.declared.fault.WorldFault.{WorldFault}
-use Rattle.group_world.proofs.AskEnds.{is_fault, told}
+use Rattle.group_world.proofs.AskEnds.{is_fault, as_planned}
 
 -- a node that is down has the record of its store
 pub down_kept : (s : Place) → running_of s ≡ None → kept_of s ≡ (store_of s).stored
@@ -175,7 +175,7 @@ pub record FailsToStart (plan : Option Bool) (me : Me) (kept left : Record) (f :
   pub bad : f ≡ fault.BadRecord → ¬ IsRecord me.group.size kept
   pub spent : f ≡ fault.StartsSpent → kept.starts ≡ 4294967295
   pub spare : f ≡ fault.Store → kept.starts < 4294967295
-  pub told : f ≡ fault.Store → FailsAsTold plan kept (changed kept change.Start) left
+  pub planned : f ≡ fault.Store → FailsAsPlanned plan kept (changed kept change.Start) left
   pub same : f ≢ fault.Store → left ≡ kept
   pub others : (f ≡ fault.Memory) ⊎ (f ≡ fault.Store) ⊎ (f ≡ fault.BadRecord) ⊎ (f ≡ fault.StartsSpent)
 
@@ -210,7 +210,7 @@ module _ (plan : Option Bool) (me : Me) (p : Parts) (s : Place) (console : List 
     -- the start that fails, by what it answered
     fails_so : IsRecord me.group.size (store_of s).stored → (d : Done) → IsDone (Err f) d → StartEnds d new
     fails_so ranges d (inl (device, answer)) =
-        let t = told (Some change.Start) plan (store_of s).stored _ store.stored (λ e. absurd cc) (fails.told device) in
+        let t = as_planned (Some change.Start) plan (store_of s).stored _ store.stored (λ e. absurd cc) (fails.planned device) in
         rw (left (inl device), of_store, start_makes me (store_of s).stored (fails.spare device), t.1)
         (record { answer = answer; left = ap (λ r. down r console) t.2; sends = refl; types = refl })
     fails_so ranges d (inr (not_store, not_memory, answer)) = by fails.others where

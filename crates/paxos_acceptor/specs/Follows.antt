@@ -2,7 +2,7 @@
 use Rattle.std.specs.Prelude.{◌≡◌, ◌≢◌, ◌↔◌, ◌⊎◌, Bool, false, true, Option, None, Result, OnOk, OnErr, IsErrOf}
 use Rattle.paxos_msg.specs.Batches.{Change, Record}
 use Rattle.paxos_acceptor.specs.Answers.{after}
-use Rattle.paxos_acceptor.specs.Stores.{StoreState, FailsAsTold, HasCause, IsOneOf}
+use Rattle.paxos_acceptor.specs.Stores.{StoreState, FailsAsPlanned, HasCause, IsOneOf}
 use Rattle.paxos_acceptor.specs.declared.fault.AcceptorFault.{AcceptorFault}
 use Rattle.paxos_acceptor.specs.declared.fault.AcceptorFault.TheVariants.{Store, Closed, StartsSpent}
 use Rattle.paxos_acceptor.specs.declared.me.Me.{Me}
@@ -53,7 +53,8 @@ pub record Follows {S T : Type 0} (honest at_will : Type 0) (state : S → Store
   pub unplanned : change ≢ None → OnOk result ((state old.store).plan ≡ None)
   pub used_up : IsErrOf result Store → (state new.store).plan ≡ None
   pub plan : ¬ IsErrOf result Store → (state new.store).plan ≡ (state old.store).plan
-  pub told : honest → at_will → IsErrOf result Store
-      → FailsAsTold (state old.store).plan old.kept (after old.kept change) (state new.store).stored
+  pub planned : honest → at_will → IsErrOf result Store
+      → FailsAsPlanned (state old.store).plan old.kept (after old.kept change)
+      (state new.store).stored
   -- `Store` counts one more fault, and no other answer counts one.
   pub cause : HasCause (IsErrOf result Store) (state old.store).faults (state new.store).faults

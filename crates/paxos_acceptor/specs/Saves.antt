@@ -1,7 +1,7 @@
 -- The state after a change that is saved.
 use Rattle.std.specs.Prelude.{◌≡◌, ◌↔◌, ◌⊎◌, Bool, true, None, Result, Err, OnOk, OnErr, IsErrOf}
 use Rattle.paxos_msg.specs.Batches.{Record}
-use Rattle.paxos_acceptor.specs.Stores.{StoreState, FailsAsTold, HasCause, IsOneOf}
+use Rattle.paxos_acceptor.specs.Stores.{StoreState, FailsAsPlanned, HasCause, IsOneOf}
 use Rattle.paxos_acceptor.specs.declared.fault.AcceptorFault.{AcceptorFault}
 use Rattle.paxos_acceptor.specs.declared.fault.AcceptorFault.TheVariants.{Memory, Store}
 
@@ -13,7 +13,7 @@ pub record SavesRecord {T : Type 0} (honest at_will : Type 0) (old new : StoreSt
   pub saved : honest → OnOk result (new.stored ≡ next)
   pub memory : honest → IsErrOf result Memory → new.stored ≡ old.stored
   pub device : honest → IsErrOf result Store → IsOneOf new.stored old.stored next
-  pub told : at_will → IsErrOf result Store → FailsAsTold old.plan old.stored next new.stored
+  pub planned : at_will → IsErrOf result Store → FailsAsPlanned old.plan old.stored next new.stored
   pub unplanned : OnOk result (old.plan ≡ None)
   pub used_up : IsErrOf result Store → new.plan ≡ None
   pub plan : ¬ IsErrOf result Store → new.plan ≡ old.plan

@@ -4,7 +4,7 @@ ghost use Rattle.paxos_msg.specs.declared.record.Change.TheVariants.{Start};
 ghost use Rattle.paxos_msg.specs.Messages.{IsAscending};
 ghost use Rattle.paxos_msg.specs.Records.{changed};
 ghost use Rattle.paxos_acceptor.specs.declared.store.StoreFault.TheVariants.{Memory, Device, Bad};
-ghost use Rattle.paxos_acceptor.specs.Stores.{StoreState, FailsAsTold, HasCause, IsOneOf};
+ghost use Rattle.paxos_acceptor.specs.Stores.{StoreState, FailsAsPlanned, HasCause, IsOneOf};
 ghost use Rattle.paxos_msg.specs.declared.limits.TheConstants.{LAST_START};
 
 use paxos_msg::{Change, Record};
@@ -83,8 +83,8 @@ pub trait Store {
         ensures device { honest → IsErrOf result Device
             → IsOneOf (state self.new).stored (state self.old).stored
             (changed (state self.old).stored change.now) }
-        ensures told { fails_at_will → IsErrOf result Device
-            → FailsAsTold (state self.old).plan (state self.old).stored
+        ensures planned { fails_at_will → IsErrOf result Device
+            → FailsAsPlanned (state self.old).plan (state self.old).stored
             (changed (state self.old).stored change.now) (state self.new).stored }
         ensures unplanned { OnOk result ((state self.old).plan ≡ None) }
         ensures used_up { IsErrOf result Device → (state self.new).plan ≡ None }

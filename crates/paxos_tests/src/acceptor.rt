@@ -100,7 +100,7 @@ fn promise_bytes_and_parts(rt: HostRuntime) -> Result<(), Fail> {
 /// (follows), Acceptor::new_start (answer, follows), Acceptor::open (loads, loaded, same, bad),
 /// Acceptor::record (same), Acceptor::is_closed, Acceptor::into_store, MemoryStore::save
 /// (by_plan), MemoryStore::load, MemoryStore::stored, MemoryStore::faults, MemoryStore::fail_next,
-/// Store::load (loads, found, same), Store::save (saved, device, told, unplanned, used_up),
+/// Store::load (loads, found, same), Store::save (saved, device, planned, unplanned, used_up),
 /// Store::faults, Store::fail_next (plan), Record::new: a save that fails closes the acceptor, and
 /// a restart finds the old record or the changed one.
 #[test]

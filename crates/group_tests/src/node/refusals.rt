@@ -201,7 +201,7 @@ fn refusal(alloc: Global, program: &Program, store: MemoryStore) -> Option<(Node
     }
 }
 
-/// Shows Node::start (loads, bad, spent, device, told, same): starts over a bad record, over the
+/// Shows Node::start (loads, bad, spent, device, planned, same): starts over a bad record, over the
 /// last start, and over a save that fails, with what the store then has.
 #[test]
 fn refused_starts(rt: HostRuntime) -> Result<(), Fail> {

@@ -28,7 +28,7 @@ fails : (c : goal.After-settle) → FailsToStart c.args.plan c.args.config (stor
     c.in-Err.field-0.store.stored c.in-Err.field-0.fault
 fails c =
     let h = rw (c.fail_next.ensures, c.into_store-store.ensures, c.taken.ensures) at c.in-Err.ensures in
-    record { bad = h.bad tt; spent = h.spent tt; spare = h.spare tt tt; told = h.told tt tt; same = h.same tt; others = h.others }
+    record { bad = h.bad tt; spent = h.spent tt; spare = h.spare tt tt; planned = h.planned tt tt; same = h.same tt; others = h.others }
 
 pub returns-in-Err-clause-ends : goal.returns-in-Err-clause-ends
 returns-in-Err-clause-ends c =
