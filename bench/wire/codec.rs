@@ -169,7 +169,7 @@ impl<'a> Reader<'a> {
         Ok(Characters { len, bytes })
     }
 
-    /// The fields of a batch behind its node.
+    /// Reads the fields of a batch that follow its node.
     fn keys_of(&mut self, node: u8) -> Result<Value, Fault> {
         let start = self.count()?;
         let first = self.number()?;
