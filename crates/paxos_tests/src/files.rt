@@ -93,23 +93,28 @@ fn has_voted(record: &Record) -> bool {
         && record.votes.as_slice() == [vote_for_none(3, FIRST)].as_slice()
 }
 
+/// Saves these changes in the record of the file at `path`, one after another. Returns the number
+/// of starts that the record had before.
+fn save_in_file(rt: HostRuntime, path: &str, changes: &[Change]) -> Result<u32, Fail> {
+    let mut store = Kept::new(rt, path)?;
+    let starts = store.starts()?;
+    store.save(changes)?;
+    Ok(starts)
+}
+
 /// Shows FileStore::new, FileStore::load, FileStore::save (notes): a file keeps what was saved,
 /// each save built on the one before.
 #[test]
 fn keeps_a_record_in_a_file(rt: HostRuntime) -> Result<(), Fail> {
     let path = "record_of_a_test";
     let _ = fs::remove_file(&rt, path);
-    let mut store = Kept::new(rt, path)?;
-    assert_eq!(rt; store.starts()?, 0);
-    store.save(&[
+    let first = [
         Change::Start,
         Change::Promise(FIRST),
         Change::Ballotted(3, FIRST, Value::Noop),
-    ])?;
-
-    let mut store = Kept::new(rt, path)?;
-    assert_eq!(rt; store.starts()?, 1);
-    store.save(&[Change::Start])?;
+    ];
+    assert_eq!(rt; save_in_file(rt, path, &first)?, 0);
+    assert_eq!(rt; save_in_file(rt, path, &[Change::Start])?, 1);
     let record = Kept::new(rt, path)?.load()?;
     assert!(rt; has_voted(&record));
     fs::remove_file(&rt, path)?;
