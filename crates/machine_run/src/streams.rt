@@ -6,10 +6,10 @@
 ghost use Rattle.std.specs.Prelude.{◌≡◌, ℕ, List, [], ◌∷◌, Option, IsNone, MatchResult};
 ghost use Rattle.std.specs.Option.{option_to_list};
 ghost use Rattle.std.specs.Io.KnownBytes.{Keeps, Appends, Consumes, IsAtEnd};
-ghost use Rattle.base.specs.Faults.{HasRisen};
+ghost use Rattle.base.specs.Faults.{CountsFault, HasRisen};
 
 use base::count_fault;
-use std::io::{Read, Write};
+use std::io::{ErrorKind, Read, Write};
 
 /// A read failed.
 #[derive(Clone, Copy, Debug, PartialEq, Eq)]
@@ -78,21 +78,74 @@ impl<T> Counting<T> {
     }
 }
 
+/// Counts a read that failed.
+fn read_failed(faults: &mut u64) -> ReadFault
+    ensures { HasRisen faults.old faults.new }
+{
+    *faults = count_fault(*faults);
+    ReadFault
+}
+
+/// Counts a write that failed or took nothing.
+fn write_failed(faults: &mut u64) -> WriteFault
+    ensures { HasRisen faults.old faults.new }
+{
+    *faults = count_fault(*faults);
+    WriteFault
+}
+
+/// Reads the next byte, again if a read was interrupted by a signal. `None` is the end of the
+/// bytes.
+fn next_byte<R: Read>(reader: &mut R, faults: &mut u64) -> Result<Option<u8>, ReadFault>
+    ensures bytes { MatchResult result
+        (λ found. Consumes (R.remaining reader.old) (R.remaining reader.new) (option_to_list found)
+        × (IsNone found → IsAtEnd (R.remaining reader.new)))
+        (λ _. Consumes (R.remaining reader.old) (R.remaining reader.new) []) }
+    ensures faults { CountsFault faults.old faults.new result }
+{
+    let mut buffer = [0u8; 1];
+    for _ in 0..u64::MAX {
+        match reader.read(&mut buffer) {
+            Ok(0) => return Ok(None),
+            Ok(_) => return Ok(Some(buffer[0])),
+            Err(fault) => {
+                if fault.kind() != ErrorKind::Interrupted {
+                    return Err(read_failed(faults));
+                }
+            }
+        }
+    }
+    Err(read_failed(faults))
+}
+
+/// Writes a byte, again if a write was interrupted by a signal.
+fn put_byte<W: Write>(writer: &mut W, faults: &mut u64, byte: u8) -> Result<(), WriteFault>
+    ensures bytes { MatchResult result
+        (λ _. Appends (W.contents writer.old) (W.contents writer.new) (byte ∷ []))
+        (λ _. Keeps (W.contents writer.old) (W.contents writer.new)) }
+    ensures faults { CountsFault faults.old faults.new result }
+{
+    for _ in 0..u64::MAX {
+        match writer.write(&[byte]) {
+            Ok(1) => return Ok(()),
+            Ok(_) => return Err(write_failed(faults)),
+            Err(fault) => {
+                if fault.kind() != ErrorKind::Interrupted {
+                    return Err(write_failed(faults));
+                }
+            }
+        }
+    }
+    Err(write_failed(faults))
+}
+
 impl<R: Read> ByteReader for Counting<R> {
     ghost remaining = { λ r. R.remaining r.inner };
 
     ghost read_faults = { λ r. r.faults };
 
     fn read_byte(&mut self) -> Result<Option<u8>, ReadFault> {
-        let mut buffer = [0u8; 1];
-        match self.inner.read(&mut buffer) {
-            Ok(0) => Ok(None),
-            Ok(_) => Ok(Some(buffer[0])),
-            Err(_) => {
-                self.faults = count_fault(self.faults);
-                Err(ReadFault)
-            }
-        }
+        next_byte(&mut self.inner, &mut self.faults)
     }
 }
 
@@ -102,12 +155,6 @@ impl<W: Write> ByteWriter for Counting<W> {
     ghost write_faults = { λ w. w.faults };
 
     fn write_byte(&mut self, byte: u8) -> Result<(), WriteFault> {
-        match self.inner.write(&[byte]) {
-            Ok(1) => Ok(()),
-            _ => {
-                self.faults = count_fault(self.faults);
-                Err(WriteFault)
-            }
-        }
+        put_byte(&mut self.inner, &mut self.faults, byte)
     }
 }
