@@ -1,6 +1,7 @@
 pub mod ByCases
 pub mod Ranges
 pub mod Fitting
+mod Slotted
 pub mod Reports
 pub mod Backing
 mod Fields
@@ -10,3 +11,7 @@ mod LogEntries
 mod LogFolds
 mod LogGrowth
 mod Forms
+mod RecordIn
+mod TornAppends
+mod DiskCalls
+mod Restarts

@@ -11,8 +11,8 @@ use Rattle.paxos_msg.specs.Reading.{place_at, value_at}
 use Rattle.paxos_msg.specs.Spelling.{ballot_bytes, number_bytes, value_bytes}
 use Rattle.paxos_acceptor.specs.declared.version.Version.{Version}
 use Rattle.paxos_acceptor.specs.declared.version.Version.TheVariants.{One, Two}
-use Rattle.paxos_acceptor.specs.Log.{IsFor, IsInRanges, entry_bytes, value_spelling}
-use Rattle.paxos_acceptor.specs.LogReading.{BeginsEntry, entry_at, log_promise_at, value_in, log_vote_at}
+use Rattle.paxos_acceptor.specs.Entries.{BeginsEntry, IsFor, IsInRanges, entry_bytes, value_spelling}
+use Rattle.paxos_acceptor.specs.LogReading.{entry_at, log_promise_at, log_vote_at, value_in}
 use Rattle.paxos_acceptor.proofs.Fields.{Exact, Fields, others, step}
 
 module _ (F : Fields) (V : (size : ℕ) → Exact (value_at size) (IsValue size) value_bytes) (version : Version) (size : ℕ) where

@@ -1,5 +1,5 @@
 -- Folding the entries of a log one after the other.
-use Rattle.std.proofs.Common.{◌≡◌, ◌∙◌, ℕ, ◌+◌, List, [], ◌∷◌, ◌++◌, length, refl, ap, sym, subst, append-nil, append_assoc, arith}
+use Rattle.std.proofs.Common.{◌≡◌, ◌∙◌, ℕ, ◌+◌, List, [], ◌∷◌, ◌++◌, length, inl, inr, refl, ap, sym, subst, append-nil, append_assoc, arith}
 use Rattle.std.proofs.lemmas.List.{length-append}
 use Rattle.paxos_msg.specs.Batches.{Change, Record}
 use Rattle.paxos_msg.specs.declared.record.Change.TheVariants.{Start, Promise, Ballotted}
@@ -8,39 +8,55 @@ use Rattle.paxos_msg.specs.Records.{changed, empty_record}
 use Rattle.paxos_acceptor.specs.declared.me.Me.{Me}
 use Rattle.paxos_acceptor.specs.declared.version.Version.{Version}
 use Rattle.paxos_acceptor.specs.declared.version.Version.TheVariants.{One, Two}
-use Rattle.paxos_acceptor.specs.Log.{Folds, IsEnd, IsFold, IsInRanges, IsNext, LogIn, entries_bytes, entry_bytes, log_header}
-use Rattle.paxos_acceptor.specs.LogReading.{BeginsEntry, SameFolds}
+use Rattle.paxos_acceptor.specs.declared.ending.Ending.{Ending}
+use Rattle.paxos_acceptor.specs.declared.ending.Ending.TheVariants.{Cut, Torn}
+use Rattle.paxos_acceptor.specs.Ending.{IsEnd, IsLogEnd}
+use Rattle.paxos_acceptor.specs.Entries.{BeginsEntry, IsInRanges, IsNext, entries_bytes, entry_bytes}
+use Rattle.paxos_acceptor.specs.Log.{Folds, IsFold, LogBy, log_header}
+use Rattle.paxos_acceptor.specs.LogReading.{SameFolds}
 
 -- ---- a whole entry is no end
 
--- the spelling of an entry is no end
-whole : (version : Version) (size : ℕ) (c : Change) (rest : List ℕ) → IsInRanges size c → ¬ IsEnd version (entry_bytes version c ++ rest)
-whole version size Start rest fits h = omega (arith, h)
-whole version size (Promise b) rest fits h = omega (arith, h)
-whole One size (Ballotted s b Noop) rest fits h = omega (arith, h)
-whole Two size (Ballotted s b Noop) rest fits h = omega (arith, h)
-whole One size (Ballotted s b (Keys node start first bytes)) rest fits h = omega (arith, h, length-append bytes rest, fits.2.2.1)
-whole Two size (Ballotted s b (Keys node start first bytes)) rest fits h = omega (arith, h, length-append bytes rest)
+-- the spelling of an entry is none that was cut
+uncut : (version : Version) (size : ℕ) (c : Change) (rest : List ℕ) → IsInRanges size c → ¬ IsEnd version (entry_bytes version c ++ rest)
+uncut version size Start rest fits h = omega (arith, h)
+uncut version size (Promise b) rest fits h = omega (arith, h)
+uncut One size (Ballotted s b Noop) rest fits h = omega (arith, h)
+uncut Two size (Ballotted s b Noop) rest fits h = omega (arith, h)
+uncut One size (Ballotted s b (Keys node start first bytes)) rest fits h = omega (arith, h, length-append bytes rest, fits.2.2.1)
+uncut Two size (Ballotted s b (Keys node start first bytes)) rest fits h = omega (arith, h, length-append bytes rest)
 
-module _ (version : Version) (size : ℕ) where
+-- what begins with an entry is not over
+pub whole : (ending : Ending) (version : Version) (size : ℕ) (bytes : List ℕ) (c : Change) (rest : List ℕ)
+    → BeginsEntry version size bytes c rest → ¬ IsLogEnd ending version size bytes
+whole Cut version size bytes c rest b h = uncut version size c rest b.in_ranges (subst (IsEnd version) b.spelled h)
+whole (Torn total) version size bytes c rest b (inl h) = uncut version size c rest b.in_ranges (subst (IsEnd version) b.spelled h)
+whole (Torn total) version size bytes c rest b (inr h) = h.none c rest b
+
+-- nothing is over
+pub none_left : (ending : Ending) (version : Version) (size : ℕ) → IsLogEnd ending version size []
+none_left Cut version size = tt
+none_left (Torn total) version size = inl tt
+
+module _ (ending : Ending) (version : Version) (size : ℕ) where
   -- ---- at the end
 
-  pub no_more : (r : Record) (bytes : List ℕ) → IsEnd version bytes → Folds version size r bytes r bytes
+  pub no_more : (r : Record) (bytes : List ℕ) → IsLogEnd ending version size bytes → Folds ending version size r bytes r bytes
   no_more r bytes ends = ([], record { entries = tt; spelled = refl; ends = ends; all = refl })
 
-  pub at_end : (r : Record) (bytes : List ℕ) (made : Record) (end : List ℕ) → IsEnd version bytes
-      → Folds version size r bytes made end → (r ≡ made) × (bytes ≡ end)
+  pub at_end : (r : Record) (bytes : List ℕ) (made : Record) (end : List ℕ) → IsLogEnd ending version size bytes
+      → Folds ending version size r bytes made end → (r ≡ made) × (bytes ≡ end)
   at_end r bytes made end ends ([], h) = (sym h.all, h.spelled)
   at_end r bytes made end ends (c ∷ cs, h) =
-      let parts = rw append_assoc at h.spelled in
-      absurd (whole version size c (entries_bytes version cs ++ end) h.entries.0.in_ranges (subst (IsEnd version) parts ends))
+      absurd (whole ending version size bytes c (entries_bytes version cs ++ end)
+      (record { in_ranges = h.entries.0.in_ranges; is_for = h.entries.1; spelled = rw append_assoc at h.spelled }) ends)
 
   -- ---- before it
 
   -- what follows where there is a first entry, which can be made
-  first : {G : Type 0} (r : Record) (bytes : List ℕ) (made : Record) (end : List ℕ) → ¬ IsEnd version bytes
-      → Folds version size r bytes made end → ((c : Change) (rest : List ℕ) → BeginsEntry version size bytes c rest → IsNext r c
-      → Folds version size (changed r c) rest made end → G) → G
+  pub first : {G : Type 0} (r : Record) (bytes : List ℕ) (made : Record) (end : List ℕ) → ¬ IsLogEnd ending version size bytes
+      → Folds ending version size r bytes made end → ((c : Change) (rest : List ℕ) → BeginsEntry version size bytes c rest → IsNext r c
+      → Folds ending version size (changed r c) rest made end → G) → G
   first r bytes made end more ([], h) goal = absurd (more (rw h.spelled h.ends))
   first r bytes made end more (c ∷ cs, h) goal =
       goal c (entries_bytes version cs ++ end)
@@ -49,8 +65,8 @@ module _ (version : Version) (size : ℕ) where
 
   -- an entry before them
   pub with_first : (r : Record) (bytes : List ℕ) (c : Change) (rest : List ℕ) (made : Record) (end : List ℕ)
-      → BeginsEntry version size bytes c rest → IsNext r c → Folds version size (changed r c) rest made end
-      → Folds version size r bytes made end
+      → BeginsEntry version size bytes c rest → IsNext r c → Folds ending version size (changed r c) rest made end
+      → Folds ending version size r bytes made end
   with_first r bytes c rest made end b next h = (
     c ∷ h.0,
     record {
@@ -62,28 +78,34 @@ module _ (version : Version) (size : ℕ) where
   )
 
   -- whole entries, and what comes after them
-  pub joined : (r : Record) (xs : List ℕ) (cs : List Change) (s : Record) (ys : List ℕ) (made : Record) (end : List ℕ)
-      → IsFold version size r xs cs s [] → Folds version size s ys made end → Folds version size r (xs ++ ys) made end
+  pub joined : {other : Ending} (r : Record) (xs : List ℕ) (cs : List Change) (s : Record) (ys : List ℕ) (made : Record) (end : List ℕ)
+      → IsFold other version size r xs cs s [] → Folds ending version size s ys made end → Folds ending version size r (xs ++ ys) made end
   joined r xs [] s ys made end h k = rw (h.spelled, ← h.all) k
   joined r xs (c ∷ cs) s ys made end h k =
       with_first r _ c (entries_bytes version cs ++ ys) _ _
       (record { in_ranges = h.entries.0.in_ranges; is_for = h.entries.1; spelled = rw (h.spelled, append-nil, append_assoc) refl })
       h.entries.0.next
-      (joined (changed r c) (entries_bytes version cs) cs s ys made end
-      (record { entries = h.entries.2; spelled = sym (append-nil (entries_bytes version cs)); ends = tt; all = h.all }) k)
+      (joined {other = ending} (changed r c) (entries_bytes version cs) cs s ys made end
+      (record {
+        entries = h.entries.2;
+        spelled = sym (append-nil (entries_bytes version cs));
+        ends = none_left ending version size;
+        all =
+            h.all;
+      }) k)
 
   pub none_first : (r : Record) (bytes : List ℕ)
-      → ((c : Change) (rest : List ℕ) → ¬ BeginsEntry version size bytes c rest) → ¬ IsEnd version bytes
-      → (made : Record) (end : List ℕ) → ¬ Folds version size r bytes made end
+      → ((c : Change) (rest : List ℕ) → ¬ BeginsEntry version size bytes c rest) → ¬ IsLogEnd ending version size bytes
+      → (made : Record) (end : List ℕ) → ¬ Folds ending version size r bytes made end
   none_first r bytes none more made end h = first r bytes made end more h (λ c rest begins _ _. none c rest begins)
 
   module _ (r : Record) (bytes : List ℕ) (c : Change) (rest : List ℕ) (b : BeginsEntry version size bytes c rest)
       (only : (d : Change) (xs : List ℕ) → BeginsEntry version size bytes d xs → (c ≡ d) × (rest ≡ xs))
-      (more : ¬ IsEnd version bytes) where
-    pub not_next : ¬ IsNext r c → (made : Record) (end : List ℕ) → ¬ Folds version size r bytes made end
+      (more : ¬ IsLogEnd ending version size bytes) where
+    pub not_next : ¬ IsNext r c → (made : Record) (end : List ℕ) → ¬ Folds ending version size r bytes made end
     not_next not made end h = first r bytes made end more h (λ d xs begins next _. not (rw (only d xs begins).0 next))
 
-    pub same_folds : IsNext r c → SameFolds version size r bytes (changed r c) rest
+    pub same_folds : IsNext r c → SameFolds ending version size r bytes (changed r c) rest
     same_folds next made end = (
       λ h. first r bytes made end more h (λ d xs begins _ others. rw ((only d xs begins).0, (only d xs begins).1) others),
       with_first r bytes c rest made end b next,
@@ -91,10 +113,10 @@ module _ (version : Version) (size : ℕ) where
 
 -- ---- whole logs
 
-pub entries_of_log : (version : Version) (me : Me) (bytes xs : List ℕ) (r : Record) (n : ℕ)
-    → bytes ≡ log_header version me ++ xs → LogIn version me bytes r n
-    → (end : List ℕ) × Folds version me.group.size empty_record xs r end × (n + length end ≡ length bytes)
-entries_of_log version me bytes xs r n e h =
+pub entries_of_log : (ending : Ending) (version : Version) (me : Me) (bytes xs : List ℕ) (r : Record) (n : ℕ)
+    → bytes ≡ log_header version me ++ xs → LogBy ending version me bytes r n
+    → (end : List ℕ) × Folds ending version me.group.size empty_record xs r end × (n + length end ≡ length bytes)
+entries_of_log ending version me bytes xs r n e h =
     let both : log_header version me ++ h.0 ≡ log_header version me ++ xs = sym h.2 ∙ e in
     let same : h.0 ≡ xs = cc in
     (h.1, rw same at h.3, h.4)

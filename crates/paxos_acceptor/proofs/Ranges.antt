@@ -12,10 +12,12 @@ use Rattle.paxos_msg.specs.Fits.{IsBallot, IsPlace, IsValue, IsVote, AreVotes}
 use Rattle.paxos_msg.specs.Messages.{AreAbove, IsAscending}
 use Rattle.paxos_msg.specs.Records.{changed, empty_record, with_vote}
 use Rattle.paxos_msg.specs.Spelling.{votes_bytes}
+use Rattle.paxos_acceptor.specs.declared.ending.Ending.{Ending}
 use Rattle.paxos_acceptor.specs.declared.me.Me.{Me}
 use Rattle.paxos_acceptor.specs.declared.store.StoreFault.{StoreFault}
 use Rattle.paxos_acceptor.specs.declared.version.Version.{Version}
-use Rattle.paxos_acceptor.specs.Log.{AreEntries, IsEntry, IsNext, LogIn, folded}
+use Rattle.paxos_acceptor.specs.Entries.{IsEntry, IsNext}
+use Rattle.paxos_acceptor.specs.Log.{AreEntries, LogBy, folded}
 use Rattle.paxos_acceptor.specs.Records.{AreKept, IsRecord}
 
 pub at_most_itself : (b : Ballot) → IsAtMost b b
@@ -33,7 +35,7 @@ raised rises le lt h = record {
 }
 
 -- the three cases of votes with one more
-with_cases : (P : List Vote → Type 0) (x : Vote) (xs : List Vote) (vote : Vote) → (vote.place < x.place → P (vote ∷ (x ∷ xs)))
+pub with_cases : (P : List Vote → Type 0) (x : Vote) (xs : List Vote) (vote : Vote) → (vote.place < x.place → P (vote ∷ (x ∷ xs)))
     → (x.place ≡ vote.place → P (vote ∷ xs)) → (x.place < vote.place → P (x ∷ with_vote xs vote)) → P (with_vote (x ∷ xs) vote)
 with_cases P x xs vote below same above = by (nat_lt vote.place x.place) (x.place == vote.place) refl refl where
   by : (t u : Bool) → nat_lt vote.place x.place ≡ t → (x.place == vote.place) ≡ u
@@ -169,16 +171,17 @@ folded_in_ranges version size r [] h entries = h
 folded_in_ranges version size r (c ∷ cs) h entries =
     folded_in_ranges version size (changed r c) cs (entry_in_ranges size r c entries.0 h) entries.2
 
-pub log_in_ranges : (version : Version) (me : Me) (bytes : List ℕ) (r : Record) (n : ℕ) → LogIn version me bytes r n
+pub log_in_ranges : (ending : Ending) (version : Version) (me : Me) (bytes : List ℕ) (r : Record) (n : ℕ)
+    → LogBy ending version me bytes r n
     → IsRecord me.group.size r
-log_in_ranges version me bytes r n h =
+log_in_ranges ending version me bytes r n h =
     rw h.3.1.all
     (folded_in_ranges version me.group.size empty_record h.3.0 (record { starts = omega arith; kept = refl }) h.3.1.entries)
 
-pub read_in_ranges : (version : Version) (me : Me) (bytes : List ℕ) (read : Result (Record × ℕ) StoreFault)
-    → IfOk read (λ x. LogIn version me bytes x.0 x.1) → IfOk read (λ x. IsRecord me.group.size x.0)
-read_in_ranges version me bytes (Ok x) h = log_in_ranges version me bytes x.0 x.1 h
-read_in_ranges version me bytes (Err fault) h = tt
+pub read_in_ranges : (ending : Ending) (version : Version) (me : Me) (bytes : List ℕ) (read : Result (Record × ℕ) StoreFault)
+    → IfOk read (λ x. LogBy ending version me bytes x.0 x.1) → IfOk read (λ x. IsRecord me.group.size x.0)
+read_in_ranges ending version me bytes (Ok x) h = log_in_ranges ending version me bytes x.0 x.1 h
+read_in_ranges ending version me bytes (Err fault) h = tt
 
 -- a start that can be counted is one to spare
 pub start_to_spare : (size : ℕ) (r : Record) (c : Change) → IsEntry size r c → c ≡ Start → r.starts < 4294967295

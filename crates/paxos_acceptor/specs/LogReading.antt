@@ -1,6 +1,6 @@
 -- Reading an entry of a log from left to right. Which fault it has does not matter: the bytes are
 -- no log.
-use Rattle.std.specs.Prelude.{◌≡◌, ◌↔◌, ◌++◌, ℕ, ◌==◌, List, Result, Ok, Err, if◌then◌else◌}
+use Rattle.std.specs.Prelude.{◌↔◌, ℕ, ◌==◌, List, Result, Ok, Err, if◌then◌else◌}
 use Rattle.base.specs.Steps.{◌>>=◌}
 use Rattle.paxos_msg.specs.Batches.{Change, Record}
 use Rattle.paxos_msg.specs.declared.record.Change.TheVariants.{Start, Promise, Ballotted}
@@ -9,7 +9,8 @@ use Rattle.paxos_msg.specs.declared.fault.WireFault.{WireFault}
 use Rattle.paxos_msg.specs.declared.fault.WireFault.TheVariants as fault
 use Rattle.paxos_msg.specs.Reading.{ballot_at, first_byte, place_at, value_at}
 use Rattle.paxos_msg.specs.Version1.{value_at_v1}
-use Rattle.paxos_acceptor.specs.Log.{Folds, IsFor, IsInRanges, entry_bytes}
+use Rattle.paxos_acceptor.specs.Log.{Folds}
+use Rattle.paxos_acceptor.specs.declared.ending.Ending.{Ending}
 use Rattle.paxos_acceptor.specs.declared.version.Version.{Version}
 use Rattle.paxos_acceptor.specs.declared.version.Version.TheVariants.{One, Two}
 use Rattle.paxos_msg.specs.declared.limits.TheConstants.{LAST_PLACE}
@@ -42,15 +43,8 @@ tagged version size tag bytes =
 unfoldable pub entry_at : Version → ℕ → List ℕ → Result (Change × List ℕ) WireFault
 entry_at version size bytes = first_byte bytes >>= λ tag. tagged version size tag.0 tag.1
 
--- The bytes begin with the spelling of this change, and `rest` is after it.
-pub record BeginsEntry (version : Version) (size : ℕ) (bytes : List ℕ) (c : Change)
-    (rest : List ℕ) : Type 0 where
-  pub in_ranges : IsInRanges size c
-  pub is_for : IsFor version c
-  pub spelled : bytes ≡ entry_bytes version c ++ rest
-
--- The folds of `bytes` from `r` are those of `rest` from `s`.
-abbrev pub SameFolds : Version → ℕ → Record → List ℕ → Record → List ℕ → Type 0
-SameFolds version size r bytes s rest =
+-- The folds of `bytes` from `r` with such an end are those of `rest` from `s`.
+abbrev pub SameFolds : Ending → Version → ℕ → Record → List ℕ → Record → List ℕ → Type 0
+SameFolds ending version size r bytes s rest =
     (made : Record) (end : List ℕ)
-    → Folds version size r bytes made end ↔ Folds version size s rest made end
+    → Folds ending version size r bytes made end ↔ Folds ending version size s rest made end

@@ -117,6 +117,9 @@ impl<S: Store> Acceptor<S> {
     /// `BadRecord` then comes only where it is out of its ranges. The plan of any store stays. A
     /// store that fails at will is never refused with `Store`. `Store` counts one more fault, and
     /// nothing else counts one.
+    ///
+    /// Call `new_start` before the first answer. What was loaded may come from a save whose sync
+    /// has failed in an earlier process, and is on the disk for sure only after the next save.
     pub fn open(alloc: Global, store: S, me: Me) -> Result<Acceptor<S>, OpenRefused<S>>
         ensures loads { (answer : Result Kept StoreFault) × (left : S) × S.loads store answer left
             × Opens me answer left result }

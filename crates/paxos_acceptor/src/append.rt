@@ -1,19 +1,23 @@
 //! Appends the entry of a change to a log.
-ghost use Rattle.std.specs.Prelude.{◌≡◌, ◌+◌, ◌++◌, ◌≤◌, ℕ, length, vec_capacity, vec_len, OnErr, OnOk};
+ghost use Rattle.std.specs.Prelude.{◌≡◌, ◌+◌, ◌*◌, ◌++◌, ◌≤◌, ℕ, IfOk, length, vec_capacity, vec_len, OnErr, OnOk};
 ghost use Rattle.paxos_msg.specs.Spelling.{Puts};
 ghost use Rattle.paxos_msg.specs.declared.record.Change.{Change};
 ghost use Rattle.paxos_msg.specs.declared.value.Value.{Value};
-ghost use Rattle.paxos_acceptor.specs.declared.append.TheConstants.{MOST_BYTES};
 ghost use Rattle.paxos_acceptor.specs.declared.version.Version.TheVariants.{Two};
-ghost use Rattle.paxos_acceptor.specs.Log.{IsInRanges, entry_bytes};
+ghost use Rattle.paxos_acceptor.specs.Entries.{IsInRanges, entries_bytes, entry_bytes};
+ghost use Rattle.paxos_acceptor.specs.Padding.{IsAppended, again};
 
 use crate::me::Me;
-use paxos_msg::{Change, put_ballot, put_number, put_value};
-use std::alloc::AllocError;
+use crate::padding::{MOST_PROMISES, PROMISE, promises_before};
+use paxos_msg::{Ballot, Change, put_ballot, put_number, put_value};
+use std::alloc::{AllocError, Global};
 
 /// The length in bytes of the longest entry: its tag, a place, a ballot, and a batch of 32
 /// characters.
 const MOST_BYTES: usize = 53;
+
+/// The most bytes that a save appends to a log: promises and an entry, 89.
+pub(crate) const MOST_APPENDED: usize = MOST_PROMISES * PROMISE + MOST_BYTES;
 
 /// An entry that can be made has at most `MOST_BYTES` bytes.
 fn entries_are_short()
@@ -39,6 +43,36 @@ fn put_entry(change: &Change, out: &mut Vec<u8>)
             put_value(value, out);
         }
     }
+}
+
+/// Appends the entry of this promise so many times, in version 2.
+fn put_again(ballot: Ballot, times: usize, out: &mut Vec<u8>)
+    requires room { vec_len out.old + PROMISE * times ≤ vec_capacity out.old }
+    ensures { Puts out.old out.new (entries_bytes Two (again ballot times)) }
+{
+    for time in 0..times {
+        put_entry(&Change::Promise(ballot), out);
+    }
+}
+
+/// Returns what goes behind a log of `at` bytes for a change whose fields are in their ranges: its
+/// entry, and before it the promised ballot's promise as often as the sectors need.
+pub(crate) fn append_behind(
+    alloc: Global,
+    at: usize,
+    promised: Ballot,
+    change: &Change,
+    me: Me,
+) -> Result<Vec<u8>, AllocError>
+    requires { IsInRanges me.group.size change.now }
+    ensures { IfOk result (λ bytes. IsAppended promised at change.now bytes.items) }
+{
+    entries_are_short();
+    let times = promises_before(at, change);
+    let mut bytes = Vec::with_capacity(alloc, MOST_APPENDED)?;
+    put_again(promised, times, &mut bytes);
+    put_entry(change, &mut bytes);
+    Ok(bytes)
 }
 
 /// Makes room for the entry of a change whose fields are in their ranges, and appends it. After an

@@ -8,7 +8,7 @@ ghost use Rattle.paxos_msg.specs.Records.{changed};
 ghost use Rattle.paxos_msg.specs.Spelling.{Puts, number_bytes, votes_bytes};
 ghost use Rattle.paxos_acceptor.specs.declared.me.Me.{Me};
 ghost use Rattle.paxos_acceptor.specs.declared.version.Version.TheVariants.{One, Two};
-ghost use Rattle.paxos_acceptor.specs.Log.{IsEntry, MakesChange};
+ghost use Rattle.paxos_acceptor.specs.Entries.{IsEntry, MakesChange};
 ghost use Rattle.paxos_acceptor.specs.Records.{AreKept, IsRecord, Rec, record_header, promised_bytes, record_bytes};
 ghost use Rattle.paxos_acceptor.specs.RecordReading.{record_at};
 ghost use Rattle.paxos_acceptor.specs.Version1.{Rec1};
@@ -82,7 +82,7 @@ pub fn record_migrate(alloc: Global, bytes: &[u8], me: Me) -> Result<Record, Sto
 
 /// Bytes are read as a record in a version exactly where they are its spelling in that version and
 /// it is in its ranges.
-fn record_is_spelling()
+pub(crate) fn record_is_spelling()
     ensures two { (me : Me) (bytes : List ℕ) (r : Record Value) → me.group.session < 2 ^ 32
         → AreBytes bytes → (record_at Two me bytes ≡ Ok r) ↔ Rec me bytes r }
     ensures one { (me : Me) (bytes : List ℕ) (r : Record Value) → me.group.session < 2 ^ 32

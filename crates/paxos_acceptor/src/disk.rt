@@ -1,90 +1,101 @@
-//! Reads and writes a file so that a restart finds the bytes that were read or written.
-ghost use Rattle.std.specs.Prelude.{◌≡◌, ◌≢◌, None, Ok, Err, Some, IfErr, IfOk};
-ghost use Rattle.std.specs.IoError.{error_kind};
+//! Disks, which have the file of a record.
+ghost use Rattle.base.specs.Faults.{CountsFault};
+ghost use Rattle.std.specs.Prelude.{◌≡◌, ◌^◌, ◌<◌, ℕ, [], Some, length, take, IfOk, IfSome, IsSomeAnd, OnErr, OnOk};
+ghost use Rattle.paxos_acceptor.specs.Disks.{Appends, AppendsSome, doubted, put, seen_in, synced, with_fresh, unsynced};
+ghost use Rattle.paxos_acceptor.specs.Reads.{IsLengthOf};
+ghost use Rattle.paxos_acceptor.specs.Stores.{IsOneOf};
 
-use crate::form::Patch;
-use crate::synced::{Synced, sync_folder};
-use paxos_msg::limits::PLACES;
-use std::fs;
-use std::fs::{File, OpenFile, OpenOptions};
-use std::io::{self, ErrorKind, Read, Write};
-use std::rt::Files;
+use base::count_fault;
 
-/// Returns the result of a read, with `None` for a missing file. Every other error stays one.
-pub(crate) fn if_there<T: Drop>(read: io::Result<T>) -> io::Result<Option<T>>
-    ensures there { IfOk read (λ x. result ≡ Ok (Some x)) }
-    ensures missing { IfErr read (λ e. error_kind e ≡ ErrorKind.NotFound → result ≡ Ok None) }
-    ensures others { IfErr read (λ e. error_kind e ≢ ErrorKind.NotFound → result ≡ Err e) }
+/// A call of a disk has failed, or is not known to have succeeded.
+#[derive(Clone, Copy, Debug, PartialEq, Eq)]
+pub struct DiskFault;
+
+/// Returns the result of a call, and counts its fault.
+pub(crate) fn counted<T>(answer: Result<T, DiskFault>, faults: &mut u64) -> Result<T, DiskFault>
+    ensures same { result ≡ answer }
+    ensures cause { CountsFault faults.old faults.new result }
 {
-    match read {
-        Ok(found) => Ok(Some(found)),
-        Err(e) if e.kind() == ErrorKind::NotFound => Ok(None),
-        Err(e) => Err(e),
+    if answer.is_err() {
+        *faults = count_fault(*faults);
     }
+    answer
 }
 
-/// The length in bytes of the longest whole record: 22, and 52 for a vote at each place.
-const LONGEST_RECORD: u64 = 22 + 52 * PLACES as u64;
+/// A disk with the file of a record, and a second file that can get its name.
+///
+/// Any call may fail. A disk on which a crash comes fails from then on in each call, and changes no
+/// more. So what is promised of a disk after any answer is promised of a crash at any moment.
+pub trait Disk {
+    ghost use Rattle.paxos_acceptor.specs.Disks.{Folder};
 
-/// Reads the first `most` bytes of a file, or all if it has fewer.
-fn read_most<R: Files + AllocGlobal>(rt: &R, path: &str, most: u64) -> io::Result<Vec<u8>> {
-    let mut bytes = Vec::new(rt.alloc());
-    File::open(rt, path)?.take(most).read_to_end(&mut bytes)?;
-    Ok(bytes)
-}
+    /// The proposition that such a disk does what its contract says. Where it cannot be shown, as
+    /// for the system's files, contracts know nothing of it.
+    ghost honest: { Type 0 };
 
-/// Reads a file: all of it if it begins as a log does, else at most one byte more than the longest
-/// whole record. So of a file without an end, which is no record, only the first megabytes are
-/// read.
-fn read_record<R: Files + AllocGlobal>(rt: &R, path: &str) -> io::Result<Vec<u8>> {
-    if read_most(rt, path, 2)?.as_slice() == b"PL".as_slice() {
-        return fs::read(rt, path);
-    }
-    read_most(rt, path, LONGEST_RECORD + 1)
-}
+    /// What it has.
+    ghost folder: { Self → Folder };
 
-/// Reads the file and syncs it and its folder before it returns. Returns `None` if there is no
-/// file. The file may come from a save that failed after the renaming.
-pub(crate) fn read_synced<R: Files + AllocGlobal>(
-    rt: &R,
-    path: &str,
-) -> io::Result<Option<Vec<u8>>> {
-    let found = if_there(read_record(rt, path))?;
-    if found.is_some() {
-        File::open(rt, path)?.sync_all()?;
-        sync_folder(rt, path)?;
-    }
-    Ok(found)
-}
+    /// How often a call of it has failed. Each error counts one more, and nothing else counts one.
+    ghost faults: { Self → ℕ };
 
-/// Writes the bytes to the fresh file, and then gives it the path. A restart finds the old bytes or
-/// the new ones, and no others.
-fn replace_synced<R: Files>(rt: &R, path: &str, fresh_path: &str, bytes: &[u8]) -> io::Result<()> {
-    Synced::write(rt, fresh_path, bytes)?.put_at(rt, path)
-}
+    /// Returns the length of the file, or `None` if there is no file.
+    fn length(&mut self) -> Result<Option<u64>, DiskFault>
+        ensures found { honest → IfOk result (IsLengthOf (seen_in (folder self.old))) }
+        ensures same { honest → folder self.new ≡ folder self.old }
+        ensures cause { CountsFault (faults self.old) (faults self.new) result };
 
-/// Appends the bytes to a file of `length` bytes and syncs them. Fails if the file has another
-/// length. A restart finds the old bytes, and after them all of the new ones or a beginning of
-/// them.
-fn append_synced<R: Files>(rt: &R, path: &str, length: usize, bytes: &[u8]) -> io::Result<()> {
-    let mut file = OpenOptions::new().append(true).open(rt, path)?;
-    if file.metadata()?.len() != length as u64 {
-        return Err(io::Error::from(ErrorKind::InvalidData));
-    }
-    file.write_all(bytes)?;
-    file.sync_data()
-}
+    /// Reads the first bytes of the file, as many as the slice has. Fails if the file has fewer.
+    fn read(&mut self, bytes: &mut [u8]) -> Result<(), DiskFault>
+        ensures found { honest → OnOk result (IsSomeAnd (seen_in (folder self.old))
+            (λ all. bytes.new ≡ take (length bytes.old) all)) }
+        ensures same { honest → folder self.new ≡ folder self.old }
+        ensures cause { CountsFault (faults self.old) (faults self.new) result };
 
-/// Writes the patch of a save.
-pub(crate) fn put_synced<R: Files>(
-    rt: &R,
-    path: &str,
-    fresh_path: &str,
-    patch: &Patch,
-) -> io::Result<()> {
-    let bytes = patch.bytes.as_slice();
-    match patch.at {
-        Some(length) => append_synced(rt, path, length, bytes),
-        None => replace_synced(rt, path, fresh_path, bytes),
-    }
+    /// Appends the bytes to the file. A file has fewer than 2 to the power of 63 bytes.
+    fn append(&mut self, bytes: &[u8]) -> Result<(), DiskFault>
+        ensures ok { honest → OnOk result (Appends (folder self.old) bytes.now (folder self.new)) }
+        ensures short { honest → OnOk result
+            (IfSome (seen_in (folder self.new)) (λ all. length all < 2 ^ 63)) }
+        ensures err { honest
+            → OnErr result (AppendsSome (folder self.old) bytes.now (folder self.new)) }
+        ensures cause { CountsFault (faults self.old) (faults self.new) result };
+
+    /// Syncs the file: what was written to it is on the disk.
+    fn sync(&mut self) -> Result<(), DiskFault>
+        ensures ok { honest → OnOk result
+            (folder self.new ≡ record (folder self.old) { file = synced (folder self.old).file }) }
+        ensures err { honest → OnErr result (IsOneOf (folder self.new) (folder self.old)
+            (record (folder self.old) { file = doubted (folder self.old).file })) }
+        ensures cause { CountsFault (faults self.old) (faults self.new) result };
+
+    /// Syncs the folder: the file has its name on the disk.
+    fn sync_folder(&mut self) -> Result<(), DiskFault>
+        ensures ok { honest
+            → OnOk result (folder self.new ≡ record (folder self.old) { others = [] }) }
+        ensures err { honest → OnErr result (folder self.new ≡ folder self.old) }
+        ensures cause { CountsFault (faults self.old) (faults self.new) result };
+
+    /// Begins the second file anew and writes the bytes to it.
+    fn write_fresh(&mut self, bytes: &[u8]) -> Result<(), DiskFault>
+        ensures ok { honest → OnOk result
+            (folder self.new ≡ with_fresh (folder self.old) (Some (unsynced bytes.now))) }
+        ensures err { honest → OnErr result
+            ((fresh : _) × (folder self.new ≡ with_fresh (folder self.old) fresh)) }
+        ensures cause { CountsFault (faults self.old) (faults self.new) result };
+
+    /// Syncs the second file.
+    fn sync_fresh(&mut self) -> Result<(), DiskFault>
+        ensures ok { honest → OnOk result (folder self.new
+            ≡ with_fresh (folder self.old) (synced (folder self.old).fresh)) }
+        ensures err { honest → OnErr result
+            ((fresh : _) × (folder self.new ≡ with_fresh (folder self.old) fresh)) }
+        ensures cause { CountsFault (faults self.old) (faults self.new) result };
+
+    /// Gives the second file the name of the first, in its place.
+    fn put_fresh(&mut self) -> Result<(), DiskFault>
+        ensures ok { honest → OnOk result (folder self.new ≡ put (folder self.old)) }
+        ensures err { honest → OnErr result
+            (IsOneOf (folder self.new) (folder self.old) (put (folder self.old))) }
+        ensures cause { CountsFault (faults self.old) (faults self.new) result };
 }

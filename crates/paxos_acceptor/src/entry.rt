@@ -2,7 +2,7 @@
 ghost use Rattle.std.specs.Prelude.{◌↔◌, IfSome, IsTrue};
 ghost use Rattle.paxos_msg.specs.Ballots.{IsAtMost};
 ghost use Rattle.paxos_msg.specs.Fits.{IsBallot, IsPlace, IsValue};
-ghost use Rattle.paxos_acceptor.specs.Log.{IsEntry, IsInRanges, IsNext, MakesChange};
+ghost use Rattle.paxos_acceptor.specs.Entries.{IsEntry, IsInRanges, MakesChange, MayFollow};
 ghost use Rattle.paxos_acceptor.specs.Records.{IsRecord};
 
 use crate::me::Me;
@@ -43,15 +43,16 @@ fn is_in_ranges(size: u8, change: Change) -> bool
     }
 }
 
-/// Returns true if a change whose fields are in their ranges can be made to the record. There is a
-/// start to spare, and no ballot is below the promised one.
-pub(crate) fn is_next(kept: &Record, change: &Change) -> bool
-    ensures { IsTrue result ↔ IsNext kept.now change.now }
+/// Returns true if a change whose fields are in their ranges can be made to a record with these
+/// starts and this promised ballot. There is a start to spare, and no ballot is below the promised
+/// one.
+pub(crate) fn is_next(starts: u32, promised: Option<Ballot>, change: &Change) -> bool
+    ensures { IsTrue result ↔ MayFollow starts promised change.now }
 {
     match change {
-        Change::Start => kept.starts < LAST_START,
-        Change::Promise(ballot) => is_not_below(kept.promised, *ballot),
-        Change::Ballotted(_, ballot, _) => is_not_below(kept.promised, *ballot),
+        Change::Start => starts < LAST_START,
+        Change::Promise(ballot) => is_not_below(promised, *ballot),
+        Change::Ballotted(_, ballot, _) => is_not_below(promised, *ballot),
     }
 }
 
@@ -60,7 +61,7 @@ pub(crate) fn is_next(kept: &Record, change: &Change) -> bool
 pub(crate) fn is_entry(kept: &Record, change: &Change, me: Me) -> bool
     ensures { IsTrue result ↔ IsEntry me.group.size kept.now change.now }
 {
-    is_in_ranges(me.group.size, *change) && is_next(kept, change)
+    is_in_ranges(me.group.size, *change) && is_next(kept.starts, kept.promised, change)
 }
 
 /// Makes a change that can be made. After an error nothing has changed.

@@ -4,17 +4,21 @@ ghost use Rattle.paxos_msg.specs.declared.record.Record.{Record};
 ghost use Rattle.paxos_msg.specs.declared.value.Value.{Value};
 ghost use Rattle.paxos_msg.specs.Records.{changed, empty_record};
 ghost use Rattle.paxos_acceptor.specs.declared.me.Me.{Me};
-ghost use Rattle.paxos_acceptor.specs.declared.version.Version.TheVariants.{Two};
-ghost use Rattle.paxos_acceptor.specs.Files.{IsFiledAs, IsFormAfter, IsFormIn, IsFormOf, IsPatch, IsWholeForm, IsWritten};
-ghost use Rattle.paxos_acceptor.specs.Log.{IsEntry, LogIn, MakesChange, log_header};
+ghost use Rattle.paxos_acceptor.specs.Files.{IsFiledAs, IsAnew, IsFormAfter, IsFormIn, IsFormOf, IsPatch, IsWholeForm, IsWritten, log_of_starts};
+ghost use Rattle.paxos_acceptor.specs.Log.{LogFound};
+ghost use Rattle.paxos_acceptor.specs.Entries.{IsEntry, MakesChange};
 ghost use Rattle.paxos_acceptor.specs.Records.{IsRecord};
+ghost use Rattle.paxos_acceptor.specs.Disks.{Folder};
+ghost use Rattle.paxos_acceptor.specs.Reads.{IsKeptAs};
 
-use crate::append::append;
+use crate::append::{append, append_behind};
 use crate::codec::{record_decode, record_migrate, spell_changed};
+use crate::ending::Ending;
 use crate::entry::enter;
 use crate::laws::{files_are_known, forms_are_apart};
-use crate::log::{log_header, log_of};
+use crate::log::{log_of, new_log};
 use crate::me::Me;
+use crate::shortening::shortened;
 use crate::store::StoreFault;
 use crate::version::Version;
 use paxos_msg::{Change, Record};
@@ -25,12 +29,14 @@ use std::alloc::{AllocError, Global};
 pub(crate) enum Form {
     /// There is no file.
     Missing,
-    /// A log whose last entry was cut. The bytes are its header and its whole entries.
-    Cut(Vec<u8>),
-    /// A log of this many bytes, without a cut entry.
+    /// A log that was loaded: its header and whole entries, and the length of the file. The next
+    /// save writes it anew, since an entry may have been cut or torn, and a sync before the load
+    /// may have failed.
+    Loaded(Vec<u8>, usize),
+    /// A log of this many bytes that a save of this store has left.
     Log(usize),
-    /// A whole record, or a log of version 1.
-    Whole,
+    /// A whole record, or a log of version 1, of this many bytes.
+    Whole(usize),
 }
 
 /// The bytes that a save writes to a file.
@@ -60,7 +66,7 @@ fn record_of_whole(alloc: Global, bytes: &[u8], me: Me) -> Result<Record, StoreF
         Err(StoreFault::Bad) => {}
         read => return read,
     }
-    let (record, _taken) = log_of(alloc, Version::One, bytes, me)?;
+    let (record, _taken) = log_of(alloc, Ending::Cut, Version::One, bytes, me)?;
     Ok(record)
 }
 
@@ -71,14 +77,14 @@ fn record_of_bytes(
     bytes: &[u8],
     me: Me,
 ) -> Result<(Record, Option<usize>), StoreFault>
-    ensures log { IfOk result (λ x. IfSome x.1 (LogIn Two me bytes.now x.0)) }
+    ensures log { IfOk result (λ x. IfSome x.1 (LogFound me bytes.now x.0)) }
     ensures whole { IfOk result (λ x. IsNone x.1 → IsWholeForm me bytes.now x.0) }
     ensures only { (r : Record Value) → IsWritten me bytes.now r → IfOk result (λ x. x.0 ≡ r) }
     ensures bad { IsErrOf result StoreFault.Bad → (r : Record Value) → ¬ IsWritten me bytes.now r }
     ensures others { ¬ IsErrOf result StoreFault.Device }
 {
     forms_are_apart();
-    match log_of(alloc, Version::Two, bytes, me) {
+    match log_of(alloc, Ending::Torn(bytes.len()), Version::Two, bytes, me) {
         Ok((record, taken)) => Ok((record, Some(taken))),
         Err(StoreFault::Bad) => {
             let record = record_of_whole(alloc, bytes, me)?;
@@ -92,15 +98,16 @@ fn record_of_bytes(
 /// entries of a log of version 2.
 fn form_of_bytes(mut bytes: Vec<u8>, log: Option<usize>) -> Form
     requires { IfSome log (λ n. n ≤ length bytes.items) }
-    ensures { (me : Me) (r : Record Value) → IfSome log (LogIn Two me bytes.items r)
+    ensures form { (me : Me) (r : Record Value) → IfSome log (LogFound me bytes.items r)
         → (IsNone log → IsWholeForm me bytes.items r) → IsFormIn me bytes.items r result }
+    ensures kept { (folder : Folder) → IsKeptAs folder result }
 {
+    let length = bytes.len();
     match log {
-        None => Form::Whole,
-        Some(taken) if taken == bytes.len() => Form::Log(taken),
+        None => Form::Whole(length),
         Some(taken) => {
             bytes.truncate(taken);
-            Form::Cut(bytes)
+            Form::Loaded(bytes, length)
         }
     }
 }
@@ -119,6 +126,7 @@ pub(crate) fn form_of(
     ensures bad { IsErrOf result StoreFault.Bad
         → IfSome file (λ bytes. (r : Record Value) → ¬ IsWritten me bytes.items r) }
     ensures fits { IfOk result (λ x. IsFiledAs me x.0 x.1) }
+    ensures kept { IfOk result (λ x. (folder : Folder) → IsKeptAs folder x.1) }
     ensures others { ¬ IsErrOf result StoreFault.Device }
 {
     files_are_known();
@@ -129,13 +137,24 @@ pub(crate) fn form_of(
     Ok((record, form_of_bytes(bytes, log)))
 }
 
-/// Returns the header of a new log.
-fn new_log(alloc: Global, me: Me) -> Result<Vec<u8>, AllocError>
-    ensures { IfOk result (λ bytes. bytes.items ≡ log_header Two me) }
+/// Returns the log of so many starts.
+fn log_of_starts(alloc: Global, starts: u32, me: Me) -> Result<Vec<u8>, AllocError>
+    ensures { IfOk result (λ bytes. bytes.items ≡ log_of_starts me starts) }
 {
-    let mut bytes = Vec::new(alloc);
-    bytes.extend_from_slice(log_header(Version::Two, me).as_slice())?;
+    let mut bytes = new_log(alloc, me)?;
+    bytes.resize(bytes.len() + starts as usize, 1)?;
     Ok(bytes)
+}
+
+/// Returns the log as it is, or one of less than half its length with the same record.
+fn written_anew(alloc: Global, log: &[u8], kept: &Record, me: Me) -> Result<Vec<u8>, AllocError>
+    requires { IsRecord me.group.size kept.now }
+    ensures { IfOk result (λ bytes. IsAnew me log.now kept.now bytes.items) }
+{
+    match shortened(alloc, log, kept, me)? {
+        Some(short) => Ok(short),
+        None => log.to_vec(alloc),
+    }
 }
 
 /// Makes a change that can be made, and returns the bytes that a file of that form needs to have
@@ -152,18 +171,26 @@ pub(crate) fn patch_of(
     ensures makes { MakesChange me.group.size kept.old kept.new change result }
     ensures patch { IfOk result (λ patch. IsPatch me kept.old change form.now patch) }
 {
-    let (at, mut bytes) = match form {
-        Form::Whole => {
+    let mut bytes = match form {
+        Form::Whole(_) => {
             let bytes = spell_changed(alloc, kept, change, me)?;
             return Ok(Patch { at: None, bytes });
         }
-        Form::Missing => (None, new_log(alloc, me)?),
-        Form::Cut(bytes) => (None, bytes.clone()?),
-        Form::Log(length) => (Some(*length), Vec::new(alloc)),
+        Form::Missing => log_of_starts(alloc, 0, me)?,
+        Form::Loaded(bytes, _) => written_anew(alloc, bytes.as_slice(), kept, me)?,
+        Form::Log(length) => {
+            if let Some(promised) = kept.promised {
+                let bytes = append_behind(alloc, *length, promised, &change, me)?;
+                enter(kept, change, me)?;
+                let at = Some(*length);
+                return Ok(Patch { at, bytes });
+            }
+            log_of_starts(alloc, kept.starts, me)?
+        }
     };
     append(&change, me, &mut bytes)?;
     enter(kept, change, me)?;
-    Ok(Patch { at, bytes })
+    Ok(Patch { at: None, bytes })
 }
 
 /// Returns the form of a file that had the first form and got the patch.
@@ -171,10 +198,12 @@ pub(crate) fn form_after(form: &Form, patch: &Patch) -> Form
     ensures after { IsFormAfter form.now patch.now result }
     ensures fits { (me : Me) (r : Record Value) → IsFormOf me r result }
 {
-    let length = patch.bytes.len();
+    let length = match patch.at {
+        None => patch.bytes.len(),
+        Some(before) => before.saturating_add(patch.bytes.len()),
+    };
     match form {
-        Form::Missing | Form::Cut(_) => Form::Log(length),
-        Form::Log(before) => Form::Log(before.saturating_add(length)),
-        Form::Whole => Form::Whole,
+        Form::Missing | Form::Loaded(_, _) | Form::Log(_) => Form::Log(length),
+        Form::Whole(_) => Form::Whole(length),
     }
 }

@@ -1,13 +1,13 @@
 //! The laws of an acceptor, over the definitions alone: its answer may be sent, over the record
 //! after its save. Each function is empty: its contract is the law.
-ghost use Rattle.std.specs.Prelude.{◌≡◌, ◌≢◌, ◌+◌, ◌^◌, ◌++◌, ◌<◌, ◌⊎◌, ℕ, List, Option, Some, IfSome, length, take};
+ghost use Rattle.std.specs.Prelude.{◌≡◌, ◌≢◌, ◌+◌, ◌^◌, ◌++◌, ◌<◌, ◌≤◌, ◌⊎◌, ℕ, Bool, List, Option, Some, IfSome, length, take};
 ghost use Rattle.paxos_msg.specs.declared.ballot.Ballot.{Ballot};
 ghost use Rattle.paxos_msg.specs.declared.message.Body.TheVariants.{Accept};
 ghost use Rattle.paxos_msg.specs.Ballots.{IsBelow};
 ghost use Rattle.paxos_msg.specs.Batches.{Change, MaySend, Record, Sent};
 ghost use Rattle.paxos_msg.specs.declared.record.Change.TheVariants.{Promise, Start};
 ghost use Rattle.paxos_msg.specs.declared.value.Value.{Value};
-ghost use Rattle.paxos_msg.specs.Fits.{IsBallot, IsBody, IsPlace, IsValue};
+ghost use Rattle.paxos_msg.specs.Fits.{AreBytes, IsBallot, IsBody, IsPlace, IsValue};
 ghost use Rattle.paxos_msg.specs.Keys.{Key};
 ghost use Rattle.paxos_msg.specs.Messages.{IsSaid};
 ghost use Rattle.paxos_msg.specs.Records.{changed, empty_record, MaySave};
@@ -15,16 +15,21 @@ ghost use Rattle.paxos_acceptor.specs.declared.me.Me.{Me};
 ghost use Rattle.paxos_acceptor.specs.declared.version.Version.TheVariants.{One, Two};
 ghost use Rattle.paxos_acceptor.specs.declared.version.Version.{Version};
 ghost use Rattle.paxos_acceptor.specs.Answers.{accept_of, after, prepare_of};
+ghost use Rattle.paxos_acceptor.specs.declared.ending.Ending.{Ending};
 ghost use Rattle.paxos_acceptor.specs.declared.form.Form.{Form};
 ghost use Rattle.paxos_acceptor.specs.declared.form.Form.TheVariants.{Missing};
 ghost use Rattle.paxos_acceptor.specs.declared.form.Patch.{Patch};
+ghost use Rattle.paxos_acceptor.specs.Entries.{IsEntry, entry_bytes};
 ghost use Rattle.paxos_acceptor.specs.Files.{IsFiledAs, IsFormAfter, IsFormIn, IsPatch, patched};
-ghost use Rattle.paxos_acceptor.specs.Log.{IsEntry, IsUncut, LogIn, entry_bytes, log_header};
+ghost use Rattle.paxos_acceptor.specs.Log.{IsUncut, LogBy, LogFound, LogIn, log_header};
+ghost use Rattle.paxos_acceptor.specs.Padding.{IsAppended};
+ghost use Rattle.paxos_acceptor.specs.Sectors.{torn};
 ghost use Rattle.paxos_acceptor.specs.Records.{IsRecord, Rec, HasBackedVotes};
 ghost use Rattle.paxos_acceptor.specs.Stores.{IsOneOf};
 ghost use Rattle.paxos_acceptor.specs.Version1.{Rec1};
 ghost use Rattle.paxos_msg.specs.declared.limits.TheConstants.{LAST_START};
 
+use crate::log_reading::entry_is_spelling;
 use paxos_msg::laws::votes_are_by_place;
 
 /// The empty record is backed by whatever was sent. A record stays backed after a start, after any
@@ -94,6 +99,26 @@ pub fn logs_grow()
         → IsUncut me (take n bytes) r }
 {}
 
+/// What a crash leaves of an append to a log, by sectors as they were written or as zeros, is a log
+/// of the record before it or after it, behind whose whole entries a load passes over the end. It
+/// is never one of another record, and never bad.
+pub fn torn_appends()
+    ensures { (me : Me) (r : Record) (c : Change) (b : Ballot) (bytes xs ys : List ℕ)
+        (lost : ℕ → Bool) → IsRecord me.group.size r → IsEntry me.group.size r c
+        → r.promised ≡ Some b → IsUncut me bytes r → IsAppended b (length bytes) c (xs ++ ys)
+        → ((n : ℕ) × LogFound me (bytes ++ torn lost (length bytes) xs) r n)
+        ⊎ ((n : ℕ) × LogFound me (bytes ++ torn lost (length bytes) xs) (changed r c) n) }
+{}
+
+/// A load passes over nothing of a log with whole entries alone, whatever a crash has left behind
+/// it. So nothing that was synced is passed over.
+pub fn synced_entries_stay()
+    ensures { (me : Me) (r s : Record) (bytes left : List ℕ) (n : ℕ) → AreBytes (bytes ++ left)
+        → IsUncut me bytes r → LogFound me (bytes ++ left) s n → length bytes ≤ n }
+{
+    entry_is_spelling();
+}
+
 /// If the record and the Prepare's ballot and place are in their ranges, so are the answer,
 /// whichever node sends it, and the record after the save.
 pub fn promises_fit()
@@ -147,10 +172,10 @@ pub(crate) fn files_are_known()
 pub fn forms_are_apart()
     ensures records { (me : Me) (bytes : List ℕ) (r old : Record) → Rec me bytes r
         → ¬ Rec1 me bytes old }
-    ensures logs { (me : Me) (bytes : List ℕ) (r s : Record) (m n : ℕ) → LogIn Two me bytes r m
-        → ¬ LogIn One me bytes s n }
-    ensures log_or_record { (me : Me) (version : Version) (bytes : List ℕ) (r s : Record) (n : ℕ)
-        → LogIn version me bytes r n → ¬ Rec me bytes s }
-    ensures log_or_old_record { (me : Me) (version : Version) (bytes : List ℕ) (r s : Record)
-        (n : ℕ) → LogIn version me bytes r n → ¬ Rec1 me bytes s }
+    ensures logs { (ending other : Ending) (me : Me) (bytes : List ℕ) (r s : Record) (m n : ℕ)
+        → LogBy ending Two me bytes r m → ¬ LogBy other One me bytes s n }
+    ensures log_or_record { (me : Me) (ending : Ending) (version : Version) (bytes : List ℕ)
+        (r s : Record) (n : ℕ) → LogBy ending version me bytes r n → ¬ Rec me bytes s }
+    ensures log_or_old_record { (me : Me) (ending : Ending) (version : Version) (bytes : List ℕ)
+        (r s : Record) (n : ℕ) → LogBy ending version me bytes r n → ¬ Rec1 me bytes s }
 {}

@@ -7,6 +7,7 @@ ghost use Rattle.paxos_acceptor.specs.declared.store.StoreFault.TheVariants.{Mem
 ghost use Rattle.paxos_acceptor.specs.Stores.{StoreState, FailsAsPlanned, HasCause, IsOneOf};
 ghost use Rattle.paxos_msg.specs.declared.limits.TheConstants.{LAST_START};
 
+use crate::disk::DiskFault;
 use paxos_msg::{Change, Record};
 use std::alloc::AllocError;
 
@@ -27,6 +28,14 @@ impl From<AllocError> for StoreFault {
 
     fn from(_: AllocError) -> Self {
         StoreFault::Memory
+    }
+}
+
+impl From<DiskFault> for StoreFault {
+    ghost from_gives = { λ _ e. e ≡ Device };
+
+    fn from(_: DiskFault) -> Self {
+        StoreFault::Device
     }
 }
 

@@ -7,6 +7,8 @@ mod acceptor;
 #[cfg(test)]
 mod choosing;
 #[cfg(test)]
+mod crashes;
+#[cfg(test)]
 mod datagrams;
 #[cfg(test)]
 mod files;
@@ -20,3 +22,5 @@ mod logs;
 mod proposer;
 #[cfg(test)]
 mod records;
+#[cfg(test)]
+mod sectors;

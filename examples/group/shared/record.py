@@ -22,6 +22,8 @@ HEADER = 22
 LOG_HEADER = 9
 # The tags of a log's entries.
 START, PROMISE, VOTE = 1, 2, 3
+# The bytes of a sector, and the most that a save appends.
+SECTOR, MOST_APPENDED = 512, 89
 
 
 class Damaged(Exception):
@@ -124,36 +126,61 @@ def is_cut_at(data, at, version):
     return version == 2 and 0 < data[at + 20] <= MOST_KEYS and size < 21 + data[at + 20]
 
 
-def with_entry(reader, record):
-    """The record with the change of the next entry."""
+def entry_of(reader, record):
+    """The next entry of the record's log: its tag, and its place, ballot and value, if any."""
     tag = reader.number(1)
     must(tag in (START, PROMISE, VOTE), f"an entry with the tag {tag}")
     if tag == START:
-        must(record.starts < LAST_START, f"a start after {LAST_START}")
-        return record._replace(starts=record.starts + 1)
+        return tag, None, None, NOOP
     place = reader.number(4) if tag == VOTE else 0
     must(place < PLACES, f"a vote at place {place}")
     ballot = ballot_of(reader, record.size)
+    value = value_of(reader, record.version, record.size) if tag == VOTE else NOOP
+    return tag, place, ballot, value
+
+
+def with_entry(record, tag, place, ballot, value):
+    """The record with the change of an entry."""
+    if tag == START:
+        must(record.starts < LAST_START, f"a start after {LAST_START}")
+        return record._replace(starts=record.starts + 1)
     is_below = record.promised is not None and ballot < record.promised
     must(not is_below, f"an entry under {text_of(ballot)} after {text_of(record.promised)}")
     if tag == VOTE:
-        record.votes[place] = (ballot, value_of(reader, record.version, record.size))
+        record.votes[place] = (ballot, value)
     return record._replace(promised=ballot)
 
 
-def with_entries(reader, record):
-    """The record with the changes of all whole entries. One that was cut at the end is left."""
+def is_torn(end, at, version):
+    """Whether a crash may have left these bytes, which begin with no entry, of an append to a log
+    of `at` bytes: those up to the next sector are zeros, or those from there on."""
+    edge = SECTOR - at % SECTOR
+    is_lost = not any(end[:edge]) or (len(end) > edge and not any(end[edge:]))
+    return version == 2 and len(end) <= MOST_APPENDED and is_lost
+
+
+def with_entries(reader, record, offset):
+    """The record with the changes of all whole entries. What a crash may have left of an append is
+    left. The reader's bytes begin at this offset of the log."""
     while not is_cut_at(reader.data, reader.at, record.version):
-        record = with_entry(reader, record)
+        at = reader.at
+        try:
+            entry = entry_of(reader, record)
+        except Damaged:
+            reader.at = at
+            if is_torn(reader.data[at:], offset + at, record.version):
+                return record
+            raise
+        record = with_entry(record, *entry)
     return record
 
 
 def record_of(data):
-    """The record whose bytes these are, all of them but an entry that was cut."""
+    """The record whose bytes these are, all of them but what a crash may have left at the end."""
     reader = Reader(data)
     letters, record = owner_of(reader)
     if letters == b"PL":
-        record = with_entries(reader, record)
+        record = with_entries(reader, record, 0)
         return record._replace(votes=dict(sorted(record.votes.items())))
     head = head_of(reader, record)
     record = head._replace(votes=votes_of(reader, head.version, head.size, head.promised))
@@ -196,7 +223,7 @@ class Head:
         """The record with what follows it in its log."""
         reader = Reader(data)
         try:
-            self.record = with_entries(reader, self.record)
+            self.record = with_entries(reader, self.record, self.at)
         except Damaged:
             self.inode = None
             raise

@@ -10,4 +10,4 @@ returns-clause-only c = rw (c.in-Some.is, ← c.as_slice.ensures.value) c.in_ok-
 
 pub returns-clause-fits : goal.returns-clause-fits
 returns-clause-fits c =
-    c.files_are_known.ensures.fits _ c.in-Some.bytes.items _ _ (c.form_of_bytes.ensures _ _ (search rules) (search rules))
+    c.files_are_known.ensures.fits _ c.in-Some.bytes.items _ _ (c.form_of_bytes.ensures.form _ _ (search rules) (search rules))

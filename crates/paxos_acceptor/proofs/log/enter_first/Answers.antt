@@ -3,13 +3,13 @@ use Rattle.std.proofs.Common.{refl, rules}
 use Rattle.paxos_acceptor.proofs.log.enter_first.Goals as goal
 
 pub returns-in_default-clause-bad : goal.returns-in_default-clause-bad
-returns-in_default-clause-bad c = λ _. none_first _ _ _ _ (c.in_default.ensures.none refl) c.requires.more
+returns-in_default-clause-bad c = λ _. none_first _ _ _ _ _ (c.in_default.ensures.none refl) c.requires.more
 
 pub returns-then-not-is_next-clause-bad : goal.returns-then-not-is_next-clause-bad
 returns-then-not-is_next-clause-bad c =
-    λ _. not_next _ _ _ _ _ _ c.in-Ok.ensures.found c.in-Ok.ensures.only c.requires.more (search rules)
+    λ _. not_next _ _ _ _ _ _ _ c.in-Ok.ensures.found c.in-Ok.ensures.only c.requires.more (search rules)
 
 pub returns-clause-same : goal.returns-clause-same
 returns-clause-same c =
     rw c.in_ok-enter.ensures.ok
-    (same_folds _ _ _ _ _ _ c.in-Ok.ensures.found c.in-Ok.ensures.only c.requires.more (search rules))
+    (same_folds _ _ _ _ _ _ _ c.in-Ok.ensures.found c.in-Ok.ensures.only c.requires.more (search rules))

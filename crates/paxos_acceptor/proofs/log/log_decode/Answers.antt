@@ -1,4 +1,5 @@
 use Rattle.std.proofs.Common.{inl, inr, rules}
+use Rattle.paxos_acceptor.specs.declared.ending.Ending.TheVariants.{Cut}
 use Rattle.paxos_acceptor.specs.declared.version.Version.TheVariants.{One, Two}
 use Rattle.paxos_acceptor.proofs.Ranges.{read_in_ranges}
 use Rattle.paxos_acceptor.proofs.log.log_decode.Goals as goal
@@ -10,7 +11,7 @@ returns-in-Err-Bad-clause-bad c = λ h r n log. elim log [
 ]
 
 pub returns-in-Err-Bad-clause-ranges : goal.returns-in-Err-Bad-clause-ranges
-returns-in-Err-Bad-clause-ranges c = read_in_ranges One c.args.me c.args.bytes.now _ c.log_of-in-Err-Bad.ensures.found
+returns-in-Err-Bad-clause-ranges c = read_in_ranges Cut One c.args.me c.args.bytes.now _ c.log_of-in-Err-Bad.ensures.found
 
 pub returns-in_default-2-clause-ranges : goal.returns-in_default-2-clause-ranges
-returns-in_default-2-clause-ranges c = read_in_ranges Two c.args.me c.args.bytes.now _ c.log_of.ensures.found
+returns-in_default-2-clause-ranges c = read_in_ranges Cut Two c.args.me c.args.bytes.now _ c.log_of.ensures.found

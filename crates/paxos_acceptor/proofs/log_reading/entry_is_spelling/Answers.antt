@@ -1,6 +1,6 @@
 use Rattle.paxos_acceptor.proofs.Fields.{by_law, by_law_of_two}
 use Rattle.paxos_acceptor.proofs.LogEntries.{entry_law}
-use Rattle.paxos_acceptor.proofs.log.entry_is_spelling.Goals as goal
+use Rattle.paxos_acceptor.proofs.log_reading.entry_is_spelling.Goals as goal
 
 pub returns : goal.returns
 returns c = λ version size. entry_law (record {

@@ -1,0 +1,264 @@
+//! Votes that are appended where a sector ends, what a crash leaves of them, and logs that are
+//! written anew.
+use super::acceptor::{FIRST, ME};
+use super::crashes::{LOST, Unknown, are_same, found, store_over};
+use paxos_acceptor::{FaultPlan, LogStore, MemoryDisk, Store, StoreFault, log_decode};
+use paxos_msg::{Change, Characters, Record, Value};
+use std::alloc::{AllocError, Global};
+use std::process::Abort;
+use std::test::Fail;
+
+/// The header of a log of this node.
+const HEADER: [u8; 9] = [0x50, 0x4C, 0x02, 0x02, 0x03, 0x00, 0x00, 0x00, 0x07];
+
+/// The promise of the first ballot.
+const PROMISE: [u8; 6] = [0x02, 0x00, 0x00, 0x00, 0x01, 0x01];
+
+/// Returns a log of so many starts, and a promise of the first ballot if wanted.
+fn log_of(alloc: Global, starts: u32, is_promised: bool) -> Result<Vec<u8>, AllocError> {
+    let mut bytes = HEADER.as_slice().to_vec(alloc)?;
+    for _ in 0..starts {
+        bytes.push(1)?;
+    }
+    if is_promised {
+        bytes.extend_from_slice(PROMISE.as_slice())?;
+    }
+    Ok(bytes)
+}
+
+/// Returns the record of a log and of these bytes after it.
+fn record_of(alloc: Global, log: &[u8], more: &[u8]) -> Result<Record, Fail> {
+    let mut bytes = log.to_vec(alloc)?;
+    bytes.extend_from_slice(more)?;
+    let (record, _) = log_decode(alloc, bytes.as_slice(), ME)?;
+    Ok(record)
+}
+
+/// A vote under the first ballot at place 7, as a change and as an entry. It is for so many
+/// characters, none of which is zero, or for none.
+struct Voted {
+    change: Change,
+    entry: Vec<u8>,
+}
+
+impl Drop for Voted {
+    fn drop(self) {
+        let Voted {
+            change: _change,
+            entry: _entry,
+        } = self;
+    }
+}
+
+fn vote_of(alloc: Global, characters: u8) -> Result<Voted, AllocError> {
+    let mut entry = [3, 0, 0, 0, 7, 0, 0, 0, 1, 1].as_slice().to_vec(alloc)?;
+    let text = [0x41; 32];
+    let text = text
+        .as_slice()
+        .get(..usize::from(characters))
+        .unwrap_or_default();
+    let value = match Characters::new(text) {
+        None => {
+            entry.push(0)?;
+            Value::Noop
+        }
+        Some(bytes) => {
+            entry.extend_from_slice([1, 2, 0, 0, 0, 1, 0, 0, 0, 1, characters].as_slice())?;
+            entry.extend_from_slice(text)?;
+            Value::Keys {
+                node: 2,
+                start: 1,
+                first: 1,
+                bytes,
+            }
+        }
+    };
+    let change = Change::Ballotted(7, FIRST, value);
+    Ok(Voted { change, entry })
+}
+
+/// Checks all that a crash leaves: the record before the last save, or after it. Returns how much
+/// that is.
+fn check_left(
+    rt: &impl Abort,
+    alloc: Global,
+    disk: &Unknown,
+    old: &Record,
+    new: &Record,
+) -> Result<u32, Fail> {
+    let mut tried: u32 = 0;
+    for which in 0..disk.disk.names() {
+        for count in 0..disk.disk.loose(which).saturating_add(1) {
+            for lost in LOST.as_slice().iter() {
+                let record = found(alloc, disk.disk.left(alloc, which, count, *lost)?)?;
+                assert!(rt; are_same(&record, old) || are_same(&record, new));
+                tried = tried.saturating_add(1);
+            }
+        }
+    }
+    Ok(tried)
+}
+
+/// Loads a log, saves a start and then the vote, on a disk on which a crash comes after so many
+/// calls: a load makes 4, the first save 5, and an append 3. Checks what is left.
+fn tear(
+    rt: &impl Abort,
+    alloc: Global,
+    log: Vec<u8>,
+    calls: u64,
+    vote: &Voted,
+) -> Result<u32, Fail> {
+    let old = record_of(alloc, log.as_slice(), [1].as_slice())?;
+    let mut more = [1].as_slice().to_vec(alloc)?;
+    more.extend_from_slice(vote.entry.as_slice())?;
+    let new = record_of(alloc, log.as_slice(), more.as_slice())?;
+
+    let mut disk = MemoryDisk::new(alloc, Some(log));
+    disk.plan(Some(FaultPlan {
+        calls,
+        part: 0,
+        is_crash: true,
+    }));
+    let mut store = LogStore::new(alloc, Unknown { disk }, ME);
+    store.load()?;
+    store.save(&Change::Start)?;
+    assert!(rt; store.save(&vote.change).is_err());
+    check_left(rt, alloc, &store.into_disk(), &old, &new)
+}
+
+/// Shows laws::torn_appends, LogStore::save (restarts), LogStore::load (good): a vote is appended
+/// where a sector ends at each of its bytes, and the power is cut before the sync.
+#[test]
+fn votes_across_sectors(rt: HostRuntime) -> Result<(), Fail> {
+    let mut tried: u32 = 0;
+    for starts in 430..500 {
+        for characters in [0, 32].as_slice().iter() {
+            let vote = vote_of(rt.alloc(), *characters)?;
+            let log = log_of(rt.alloc(), starts, true)?;
+            tried = tear(&rt, rt.alloc(), log, 11, &vote)?.saturating_add(tried);
+        }
+    }
+    assert!(rt; tried > 20_000);
+    Ok(())
+}
+
+/// Shows LogStore::save (restarts), LogStore::load (good): before a ballot is promised a vote is
+/// written with its whole log, and the power is cut at each call.
+#[test]
+fn first_votes_across_sectors(rt: HostRuntime) -> Result<(), Fail> {
+    let mut tried: u32 = 0;
+    for starts in 450..504 {
+        for calls in 9..14 {
+            let vote = vote_of(rt.alloc(), 32)?;
+            let log = log_of(rt.alloc(), starts, false)?;
+            tried = tear(&rt, rt.alloc(), log, calls, &vote)?.saturating_add(tried);
+        }
+    }
+    assert!(rt; tried > 1000);
+    Ok(())
+}
+
+/// Returns true if the bytes are no log, and a store passes over their end, to the record of so
+/// many of the first bytes.
+fn passes_over(alloc: Global, bytes: Vec<u8>, kept: usize) -> Result<bool, Fail> {
+    if log_decode(alloc, bytes.as_slice(), ME).err() != Some(StoreFault::Bad) {
+        return Ok(false);
+    }
+    let (record, _) = log_decode(alloc, bytes.get(..kept).unwrap_or_default(), ME)?;
+    match found(alloc, Some(bytes)) {
+        Ok(loaded) => Ok(are_same(&loaded, &record)),
+        Err(_) => Ok(false),
+    }
+}
+
+/// Returns a log of so many bytes, from 15 on, and these bytes after it.
+fn with_end(alloc: Global, length: u32, end: &[u8]) -> Result<Vec<u8>, AllocError> {
+    let mut bytes = log_of(alloc, length.saturating_sub(15), true)?;
+    bytes.extend_from_slice(end)?;
+    Ok(bytes)
+}
+
+/// Returns true if a store takes these bytes for no record.
+fn are_refused(alloc: Global, bytes: Vec<u8>) -> bool {
+    found(alloc, Some(bytes)).err() == Some(StoreFault::Bad)
+}
+
+/// Shows LogStore::load (good): zeros behind a log, up to the longest append, are passed over.
+#[test]
+fn zeros_behind_a_log(rt: HostRuntime) -> Result<(), Fail> {
+    let alloc = rt.alloc();
+    let zeros = [0; 90];
+    for length in [15u32, 100, 450, 511, 512, 513].as_slice().iter() {
+        for count in 1..90 {
+            let end = zeros.get(..count).unwrap_or_default();
+            assert!(rt; passes_over(alloc, with_end(alloc, *length, end)?, *length as usize)?);
+        }
+        assert!(rt; are_refused(alloc, with_end(alloc, *length, zeros.as_slice())?));
+    }
+    Ok(())
+}
+
+/// Shows LogStore::load (good): bytes of which one sector is zeros are passed over; others, which
+/// no crash leaves, are no record.
+#[test]
+fn sectors_behind_a_log(rt: HostRuntime) -> Result<(), Fail> {
+    let alloc = rt.alloc();
+    // The next sector begins at 512.
+    let first_lost = [0, 0, 0x33, 0x44];
+    let second_lost = [0x04, 0x05, 0, 0];
+    for end in [first_lost, second_lost].as_slice().iter() {
+        assert!(rt; passes_over(alloc, with_end(alloc, 510, end.as_slice())?, 510)?);
+        assert!(rt; are_refused(alloc, with_end(alloc, 100, end.as_slice())?));
+    }
+    assert!(rt; are_refused(alloc, with_end(alloc, 509, first_lost.as_slice())?));
+    assert!(rt; are_refused(alloc, with_end(alloc, 510, [0x04, 0x05, 0x33].as_slice())?));
+    assert!(rt; are_refused(alloc, with_end(alloc, 100, [0x04].as_slice())?));
+    Ok(())
+}
+
+/// Shows LogStore::load, LogStore::save (saved): a log of more than a megabyte with the promises of
+/// ever greater ballots is written anew with the last one alone. Its record stays.
+#[test]
+fn long_log(rt: HostRuntime) -> Result<(), Fail> {
+    let alloc = rt.alloc();
+    let mut bytes = log_of(alloc, 2, true)?;
+    for round in 2..175_000 {
+        bytes.push(2)?;
+        bytes.extend_from_slice(u32::to_be_bytes(round).as_slice())?;
+        bytes.push(1)?;
+    }
+    let expected = record_of(alloc, bytes.as_slice(), [1].as_slice())?;
+    let mut store = store_over(alloc, Some(bytes));
+    store.load()?;
+    store.save(&Change::Start)?;
+    let left = store.disk().disk.left(alloc, 0, 0, [false, false])?;
+    let length = left.as_ref().map(|bytes| bytes.len());
+    // The header, two starts, the promise, and the start that was saved.
+    assert_eq!(rt; length, Some(9 + 2 + 6 + 1));
+    assert!(rt; are_same(&found(alloc, left)?, &expected));
+    Ok(())
+}
+
+/// Returns the entry of a vote for none under the first ballot.
+fn vote_for_none(place: u32) -> [u8; 11] {
+    let [first, second, third, fourth] = place.to_be_bytes();
+    [3, first, second, third, fourth, 0, 0, 0, 1, 1, 0]
+}
+
+/// Shows log_decode (found): votes are in order of place, whatever the order of their entries.
+#[test]
+fn votes_in_descending_places(rt: HostRuntime) -> Result<(), Fail> {
+    let alloc = rt.alloc();
+    let mut up = log_of(alloc, 1, true)?;
+    let mut down = log_of(alloc, 1, true)?;
+    for place in 0..300 {
+        up.extend_from_slice(vote_for_none(place).as_slice())?;
+        down.extend_from_slice(vote_for_none(299 - place).as_slice())?;
+    }
+    let (ascending, _) = log_decode(alloc, up.as_slice(), ME)?;
+    let (descending, taken) = log_decode(alloc, down.as_slice(), ME)?;
+    assert_eq!(rt; taken, down.len());
+    assert!(rt; are_same(&ascending, &descending));
+    assert_eq!(rt; ascending.votes.as_slice().len(), 300);
+    Ok(())
+}
