@@ -38,13 +38,13 @@ def folder():
     return tempfile.TemporaryDirectory(prefix="pgroup-", dir=place)
 
 
-def compiled(room):
-    """Compiles tests/again.c. Returns the library's path, or None if there is no C compiler."""
+def compiled(room, name="again"):
+    """Compiles a library of tests. Returns its path, or None if there is no C compiler."""
     compiler = shutil.which("cc") or shutil.which("gcc")
     if not compiler:
         return None
-    library = os.path.join(room, "again.so")
-    source = os.path.join(TESTS, "again.c")
+    library = os.path.join(room, name + ".so")
+    source = os.path.join(TESTS, name + ".c")
     subprocess.run([compiler, "-shared", "-fPIC", "-O1", "-Wall", "-o", library, source], check=True)
     return library
 
