@@ -239,8 +239,8 @@ class Images:
 
     WAYS = ("all", "none", "writes", "sectors", "sectors")
 
-    def __init__(self, writes, size):
-        self.writes, self.size = writes, size
+    def __init__(self, writes, size, superblock):
+        self.writes, self.size, self.superblock = writes, size, superblock
         self.flushes = [index for index, it in enumerate(writes) if it.data is None]
         self.runs = runs_of(writes)
         self.stays = bytearray(size)  # what was flushed, with all writes before this index
@@ -262,12 +262,14 @@ class Images:
         share = {"all": 1, "none": 0, "writes": draw.choice((0.2, 0.5, 0.8))}[way]
         return way, [(it.offset, it.data) for it in there if draw.random() < share]
 
-    @staticmethod
-    def sectors(write, draw):
-        """Draws the sectors of a write that stay."""
+    def sectors(self, write, draw):
+        """Draws the sectors of a write that stay. All of the superblock stays, or nothing of it."""
         share = draw.choice((0.2, 0.5, 0.8))
+        stays = False
         for at in range(0, len(write.data), SECTOR):
-            if draw.random() < share:
+            if write.offset + at not in self.superblock[1:]:
+                stays = draw.random() < share
+            if stays:
                 yield write.offset + at, write.data[at : at + SECTOR]
 
     def put(self, path, pieces):
