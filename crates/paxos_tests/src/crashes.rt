@@ -214,44 +214,37 @@ fn check(rt: &impl Abort, alloc: Global, saved: &Saved) -> Result<u32, Fail> {
     Ok(tried)
 }
 
-/// Shows LogStore::save (restarts), LogStore::load (good), MemoryDisk::left: a crash at each call
-/// of a load and of six saves, after each byte that it writes.
-#[test]
-fn crash_at_each_call(rt: HostRuntime) -> Result<(), Fail> {
+/// Checks what is left of six saves with such a fault at each call, after each byte that it writes.
+/// A crash ends them; after a call that alone fails all are made in the end.
+fn check_faults(rt: &impl Abort, alloc: Global, is_crash: bool) -> Result<(), Fail> {
     let mut tried = 0;
     for calls in 0..40 {
         for part in 0..60 {
             let plan = FaultPlan {
                 calls,
                 part,
-                is_crash: true,
+                is_crash,
             };
-            let saved = run(rt.alloc(), plan);
-            assert_eq!(rt; saved.sure, saved.done);
-            tried = check(&rt, rt.alloc(), &saved)?.saturating_add(tried);
+            let saved = run(alloc, plan);
+            let made = if is_crash { saved.sure } else { CHANGES };
+            assert_eq!(rt; saved.done, made);
+            tried = check(rt, alloc, &saved)?.saturating_add(tried);
         }
     }
     assert!(rt; tried > 10_000);
     Ok(())
 }
 
+/// Shows LogStore::save (restarts), LogStore::load (good), MemoryDisk::left: a crash at each call
+/// of a load and of six saves, after each byte that it writes.
+#[test]
+fn crash_at_each_call(rt: HostRuntime) -> Result<(), Fail> {
+    check_faults(&rt, rt.alloc(), true)
+}
+
 /// Shows LogStore::save (restarts, notes), LogStore::load (good): one call that fails, whatever it
 /// has done; then the record is loaded again, the other changes are saved, and a crash comes.
 #[test]
 fn one_call_fails(rt: HostRuntime) -> Result<(), Fail> {
-    let mut tried = 0;
-    for calls in 0..40 {
-        for part in 0..60 {
-            let plan = FaultPlan {
-                calls,
-                part,
-                is_crash: false,
-            };
-            let saved = run(rt.alloc(), plan);
-            assert_eq!(rt; saved.done, CHANGES);
-            tried = check(&rt, rt.alloc(), &saved)?.saturating_add(tried);
-        }
-    }
-    assert!(rt; tried > 10_000);
-    Ok(())
+    check_faults(&rt, rt.alloc(), false)
 }
