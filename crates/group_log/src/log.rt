@@ -109,22 +109,23 @@ impl<'a, H: Clock, E: Write> Log<'a, H, E> {
         self.role = next;
     }
 
-    /// Notes dropped datagrams, at most once a second, and sets the counts to 0.
-    pub fn dropped(&mut self, drops: &mut Drops) {
+    /// Notes dropped datagrams, at most once a second. Returns true if it did; then they are to be
+    /// counted from 0 again.
+    pub fn dropped(&mut self, drops: &Drops) -> bool {
         if !self.is_on || *drops == Drops::default() {
-            return;
+            return false;
         }
         let Ok(now) = Instant::now(self.clock) else {
-            return;
+            return false;
         };
         if let Some(last) = self.drops_noted
             && now.saturating_duration_since(last) < Duration::from_secs(DROPS_APART)
         {
-            return;
+            return false;
         }
         self.drops_noted = Some(now);
         self.note(&Note::Dropped(*drops));
-        *drops = Drops::default();
+        true
     }
 
     /// Notes that typed bytes are left for which there is no room. Until there is room again, notes

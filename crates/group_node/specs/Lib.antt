@@ -18,4 +18,5 @@ pub mod Player
 pub mod Console
 pub mod States
 pub mod Calls
+pub mod Deeds
 pub mod Fault

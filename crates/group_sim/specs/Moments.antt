@@ -41,39 +41,39 @@ abbrev pub moment : Simulation → Option (List ℕ) → Moment
 moment s written = record { world = s.world; passed = s.passed; left = s.left; written = written }
 
 -- A relation of a moment, an answer (done, or the script halts) and the moment after it.
-abbrev pub Deed : Type 1
-Deed = Moment → Result (Unit {0}) Halt → Moment → Type 0
+abbrev pub Task : Type 1
+Task = Moment → Result (Unit {0}) Halt → Moment → Type 0
 
 -- ---- one after the other
 
--- The first n of numbered deeds, from the number `first` on, are done in order.
-abbrev pub AreDone : (ℕ → Deed) → ℕ → ℕ → Moment → Moment → Type 0
-AreDone deed first zero a b = b ≡ a
-AreDone deed first (suc n) a b =
-    (mid : Moment) × AreDone deed first n a mid × deed (first + n) mid (Ok tt) b
+-- The first n of numbered tasks, from the number `first` on, are done in order.
+abbrev pub AreDone : (ℕ → Task) → ℕ → ℕ → Moment → Moment → Type 0
+AreDone task first zero a b = b ≡ a
+AreDone task first (suc n) a b =
+    (mid : Moment) × AreDone task first n a mid × task (first + n) mid (Ok tt) b
 
--- The deed `number` is the first that halts, and halts with `h`.
-pub record HaltsAt (deed : ℕ → Deed) (first number : ℕ) (a : Moment) (h : Halt)
+-- The task `number` is the first that halts, and halts with `h`.
+pub record HaltsAt (task : ℕ → Task) (first number : ℕ) (a : Moment) (h : Halt)
     (b : Moment) : Type 0 where
   pub before : Moment
-  pub done : AreDone deed first (number - first) a before
+  pub done : AreDone task first (number - first) a before
   pub after_first : first ≤ number
-  pub halts : deed number before (Err h) b
+  pub halts : task number before (Err h) b
 
--- A deed of n deeds in order, up to the first that halts.
-abbrev pub InTurn : (ℕ → Deed) → ℕ → ℕ → Deed
-InTurn deed first n a (Ok x) b = AreDone deed first n a b
-InTurn deed first n a (Err h) b =
-    (number : ℕ) × (number < first + n) × HaltsAt deed first number a h b
+-- A task of n tasks in order, up to the first that halts.
+abbrev pub InTurn : (ℕ → Task) → ℕ → ℕ → Task
+InTurn task first n a (Ok x) b = AreDone task first n a b
+InTurn task first n a (Err h) b =
+    (number : ℕ) × (number < first + n) × HaltsAt task first number a h b
 
--- A deed and then another, unless the first halts.
-abbrev pub Then : Deed → Deed → Deed
+-- A task and then another, unless the first halts.
+abbrev pub Then : Task → Task → Task
 Then first second a (Ok x) b = (mid : Moment) × first a (Ok tt) mid × second mid (Ok tt) b
 Then first second a (Err h) b =
     first a (Err h) b ⊎ ((mid : Moment) × first a (Ok tt) mid × second mid (Err h) b)
 
--- The deed that changes nothing.
-abbrev pub DoesNothing : Deed
+-- The task that changes nothing.
+abbrev pub DoesNothing : Task
 DoesNothing a r b = (r ≡ Ok tt) × (b ≡ a)
 
 -- ---- an event
@@ -97,7 +97,7 @@ pub record LeavesFront (a : Moment) (world : World) (text : List ℕ) (b : Momen
 -- world refuses it, nothing has changed.
 -- Allows: an event that its node refuses.
 -- Forbids: a text that is not written.
-abbrev pub HappensAt : ℕ → Event → Deed
+abbrev pub HappensAt : ℕ → Event → Task
 HappensAt number e a (Ok x) b =
     (world : World) × (done : Done) × Goes a.world e done world
     × LeavesWorld a world (event_text number done) b
@@ -124,20 +124,20 @@ steps = 1000
 
 -- A delivery, which is one of those that the settle may still make.
 -- If none is left, the settle is too long.
-abbrev pub Spends : ℕ → Act → Deed
+abbrev pub Spends : ℕ → Act → Task
 Spends number act a r b =
     ((a.left ≡ 0) × (r ≡ Err halt.TooLong) × (b ≡ a))
     ⊎ ((0 < a.left) × HappensAt number (kept_event act) (record a { left = a.left - 1 }) r b)
 
 -- The delivery of message k to node i, if it is for that node and the node is up.
 -- Allows: a message to a node that is down.
-abbrev pub DeliversOne : ℕ → ℕ → To → ℕ → Deed
+abbrev pub DeliversOne : ℕ → ℕ → To → ℕ → Task
 DeliversOne number k to i a r b =
     ((is_meant to i && is_some (node_at a.world i) ≡ false) × DoesNothing a r b)
     ⊎ ((is_meant to i && is_some (node_at a.world i) ≡ true) × Spends number (Deliver k i) a r b)
 
 -- The deliveries of message k to those whom it is for and who are up, in ascending order.
-abbrev pub PassesOn : ℕ → ℕ → ℕ → Deed
+abbrev pub PassesOn : ℕ → ℕ → ℕ → Task
 PassesOn number size k a r b =
     (message : Datagram) × (slice_get a.world.sent k ≡ Some message)
     × InTurn (DeliversOne number k message.to) 1 size a r b
@@ -145,7 +145,7 @@ PassesOn number size k a r b =
 -- The deliveries of the messages that no settle has passed, and of those that they cause.
 -- They come in the order in which they were sent, until there are no more.
 -- Forbids: a message that is passed twice.
-abbrev pub DeliversAll : ℕ → ℕ → Deed
+abbrev pub DeliversAll : ℕ → ℕ → Task
 DeliversAll number size a (Ok x) b =
     (n : ℕ) × (mid : Moment) × AreDone (PassesOn number size) a.passed n a mid
     × (length mid.world.sent ≤ a.passed + n) × (b ≡ record mid { passed = a.passed + n })
@@ -157,19 +157,19 @@ waiting None = 0
 waiting (Some q) = length (unreleased_of (input q.known) q.progress)
 
 -- The release of all output that waits at node i.
-abbrev pub ReleasesAll : ℕ → ℕ → Deed
+abbrev pub ReleasesAll : ℕ → ℕ → Task
 ReleasesAll number i a r b =
     InTurn (λ k. HappensAt number (kept_event (Release i))) 0 (waiting (node_at a.world i)) a r b
 
 -- The steps of node i, if it is up, and the release of all its output that waits.
-abbrev pub Plays : ℕ → ℕ → Deed
+abbrev pub Plays : ℕ → ℕ → Task
 Plays number i a r b =
     ((is_some (node_at a.world i) ≡ false) × DoesNothing a r b)
     ⊎ ((is_some (node_at a.world i) ≡ true)
     × Then (HappensAt number (kept_event (Run i steps))) (ReleasesAll number i) a r b)
 
 -- A settle: all deliveries, and then each node that is up runs and releases all, ascending.
-abbrev pub Settles : ℕ → ℕ → Deed
+abbrev pub Settles : ℕ → ℕ → Task
 Settles number size a r b =
     Then (DeliversAll number size) (InTurn (Plays number) 1 size)
     (record a { left = deliveries }) r b
@@ -179,20 +179,20 @@ Settles number size a r b =
 -- A `show` of a group of this size: its text is written, and nothing else has changed.
 -- Allows: a group whose nodes are all down; a failed write, which leaves a prefix of the text.
 -- Forbids: another text.
-abbrev pub Shows : ℕ → Deed
+abbrev pub Shows : ℕ → Task
 Shows size a (Ok x) b = LeavesWorld a a.world (group_text a.world size) b
 Shows size a (Err (halt.Refused f)) b = ⊥
 Shows size a (Err halt.TooLong) b = ⊥
 Shows size a (Err halt.Unwritten) b = LeavesFront a a.world (group_text a.world size) b
 
--- The deed of a line of this number.
-abbrev pub Says : ℕ → ℕ → Line → Deed
+-- The task of a line of this number.
+abbrev pub Says : ℕ → ℕ → Line → Task
 Says size number (line.Act e) = HappensAt number e
 Says size number line.Settle = Settles number size
 Says size number line.Show = Shows size
 
--- The deed of line `number`, which is the item `number - 2` of the lines.
-abbrev pub LineIsDone : ℕ → List Line → ℕ → Deed
+-- The task of line `number`, which is the item `number - 2` of the lines.
+abbrev pub LineIsDone : ℕ → List Line → ℕ → Task
 LineIsDone size lines number a r b =
     (said : Line) × (slice_get lines (number - 2) ≡ Some said) × Says size number said a r b
 

@@ -3,6 +3,8 @@
 #![tactic(auto)]
 
 #[cfg(test)]
+mod logs;
+#[cfg(test)]
 mod node;
 #[cfg(test)]
 mod program;

@@ -16,7 +16,7 @@ fn text_of(alloc: Global, lines: &str) -> Result<String, AllocError> {
 
 /// Returns the events of lines that are separated by commas. None of them is a `settle` or a
 /// `show`.
-fn events_of(alloc: Global, lines: &str) -> Result<Vec<Event>, Fail> {
+pub fn events_of(alloc: Global, lines: &str) -> Result<Vec<Event>, Fail> {
     let text = format!(in alloc; "size 3 session 7, {lines}")?;
     let text = text_of(alloc, text.as_str())?;
     let script = read_script(alloc, text.as_str())?;

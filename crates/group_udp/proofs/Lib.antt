@@ -1,7 +1,10 @@
-mod Calls
+mod Going
+mod Starting
+mod Pressing
 mod Releasing
 mod Consoles
 mod Writing
 mod Showing
+mod Running
 mod Senders
 mod Kept

@@ -11,7 +11,7 @@ use Rattle.group_node.specs.Output.{Progress, unreleased_of}
 use Rattle.group_node.specs.States.{Protocol, input}
 use Rattle.group_wire.specs.Turns.{released_of}
 use Rattle.group_udp.specs.Output.{ReleasesBytes}
-use Rattle.group_udp.specs.Rounds.{LosesOutput, NodeMoment, WritesAll}
+use Rattle.group_udp.specs.Releases.{LosesOutput, NodeMoment, WritesAll}
 
 -- the first byte that waits, with its number
 abbrev pub next_of : List ℕ → Progress → Option (ℕ × ℕ)

@@ -8,7 +8,7 @@ use Rattle.group_node.specs.Output.{IsReplay}
 use Rattle.group_node.specs.States.{NodeState, input}
 use Rattle.group_wire.specs.Turns.{released_by}
 use Rattle.group_udp.specs.Output.{AppendsOutput, ReleasesBytes, WritesOutput}
-use Rattle.group_udp.specs.Rounds.{LosesOutput, NodeMoment, WritesAll}
+use Rattle.group_udp.specs.Releases.{LosesOutput, NodeMoment, WritesAll}
 use Rattle.group_udp.proofs.Releasing.{released_on}
 
 -- some bytes, and then others, without the first n

@@ -1,6 +1,10 @@
 pub mod Output
 pub mod Refusals
-pub mod Rounds
+pub mod Prompts
+pub mod Going
+pub mod Pressing
+pub mod Releases
 pub mod Runs
+pub mod Ends
 pub mod Sources
 pub mod OwnDatagrams

@@ -16,8 +16,8 @@ write_failed = Machine (Run Write)
 abbrev pub no_memory : GroupFault
 no_memory = Machine (Run Memory)
 
--- What a node may refuse when it hears, takes a turn or campaigns as asked: it is stopped, or a
--- save failed.
+-- What a node of a group in one process may refuse when it takes a turn: it is stopped, or a save
+-- failed.
 abbrev pub IsTurnRefusal : GroupFault → Type 0
 IsTurnRefusal e = (e ≡ group.Node Stopped) ⊎ (e ≡ group.Node Store)
 
@@ -25,18 +25,23 @@ IsTurnRefusal e = (e ≡ group.Node Stopped) ⊎ (e ≡ group.Node Store)
 abbrev pub IsShownTurnRefusal : GroupFault → Type 0
 IsShownTurnRefusal e = IsTurnRefusal e ⊎ (e ≡ no_memory)
 
--- What a node may refuse in a round: it is stopped, a save failed, or its serials are spent.
+-- What it may refuse when bytes are typed at it: also spent serials.
+abbrev pub IsPressRefusal : GroupFault → Type 0
+IsPressRefusal e = IsTurnRefusal e ⊎ (e ≡ group.Node SerialSpent)
+
+-- What a node may refuse in a round, in which no save has failed before: a save fails, or its
+-- serials are spent.
 abbrev pub IsRoundRefusal : GroupFault → Type 0
-IsRoundRefusal e = (e ≡ group.Node Stopped) ⊎ (e ≡ group.Node Store) ⊎ (e ≡ group.Node SerialSpent)
+IsRoundRefusal e = (e ≡ group.Node Store) ⊎ (e ≡ group.Node SerialSpent)
 
 -- What a round whose output is written may refuse: also a failed write.
 abbrev pub IsWrittenRoundRefusal : GroupFault → Type 0
 IsWrittenRoundRefusal e = IsRoundRefusal e ⊎ (e ≡ write_failed)
 
--- What a campaign may refuse: the node is stopped, a save failed, its rounds or its places are
--- spent, or memory ran out.
+-- What a campaign of such a node may refuse: a save fails, its rounds or its places are spent, or
+-- memory ran out.
 abbrev pub IsCampaignRefusal : GroupFault → Type 0
-IsCampaignRefusal e = IsTurnRefusal e ⊎ (e ≡ group.Node fault.RoundsSpent)
+IsCampaignRefusal e = (e ≡ group.Node Store) ⊎ (e ≡ group.Node fault.RoundsSpent)
     ⊎ (e ≡ group.Node fault.PlacesSpent) ⊎ (e ≡ group.Node fault.Memory)
 
 -- What else a start may refuse.
@@ -58,4 +63,4 @@ IsOpenRefusal e = IsSocketRefusal e ⊎ (e ≡ no_memory)
 -- Why a group in one process ends early.
 abbrev pub IsNetRefusal : GroupFault → Type 0
 IsNetRefusal e = IsOpenRefusal e ⊎ (e ≡ group.Node fault.Size) ⊎ (e ≡ group.Node fault.Id)
-    ⊎ IsRunRefusal e
+    ⊎ (e ≡ group.Node Stopped) ⊎ IsRunRefusal e

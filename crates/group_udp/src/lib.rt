@@ -3,7 +3,9 @@
 //! It is for programs that run a group on real machines. Call first:
 //!
 //! - `node_file`, which does the work of the command `node`: it runs one node of a group, as a
-//!   `NodePlan` says, and its contract says what is written;
+//!   `NodePlan` says;
+//! - `run_node`, the same over any store, wire and keyboard: its contract says that the run is a
+//!   process of a group, what passes over the wire, what is typed and what is written;
 //! - `net_file`, which does the work of the command `net`: it runs all nodes of a group on
 //!   loopback;
 //! - `laws::consoles_go_on`, a law: the output of a node continues over its starts.
@@ -21,12 +23,20 @@ mod node;
 mod own_datagrams;
 mod release;
 mod rest;
+mod resting;
 mod rounds;
 mod run;
 mod shown;
 mod sources;
+mod text;
+mod typed;
 mod udp;
 
+pub use endpoints::Endpoints;
 pub use fault::GroupFault;
+pub use keyboard::{Keyboard, PRESS_ROOM};
 pub use net::net_file;
 pub use node::{NodePlan, node_file};
+pub use resting::RestingWire;
+pub use run::run_node;
+pub use text::Text;

@@ -1,13 +1,13 @@
 //! The command `net`: a group in one process, on loopback UDP, over stores in memory.
 ghost use Rattle.std.specs.Prelude.{◌≡◌, ◌⊎◌, IfErr};
-ghost use Rattle.group_udp.specs.Refusals.{IsCampaignRefusal, IsNetRefusal, IsOpenRefusal, IsRoundRefusal, IsShownTurnRefusal, no_memory};
+ghost use Rattle.group_udp.specs.Refusals.{IsCampaignRefusal, IsNetRefusal, IsOpenRefusal, IsPressRefusal, IsShownTurnRefusal, no_memory};
 ghost use Rattle.machine_run.specs.declared.refusal.MachineRefusal.{MachineRefusal};
 
 use crate::fault::GroupFault;
 use crate::own_datagrams::OwnDatagrams;
 use crate::shown::ShownNode;
 use crate::udp::{UdpWire, Watch, bind};
-use group_node::Config;
+use group_node::{Config, NodeFault};
 use machine_run::{RunIo, load_file, read_whole};
 use mio::net::UdpSocket;
 use paxos_msg::Group;
@@ -88,7 +88,8 @@ fn nodes<'a, H: Clock>(
 
 /// Has node 1 begin a ballot.
 fn campaign_first<H: Clock>(nodes: &mut [ShownNode<'_, H>]) -> Result<(), GroupFault>
-    ensures others { IfErr result IsCampaignRefusal }
+    ensures others { IfErr result (λ e. (e ≡ GroupFault.Node NodeFault.Stopped)
+        ⊎ IsCampaignRefusal e) }
 {
     match nodes.first_mut() {
         Some(node) => node.campaign(),
@@ -101,7 +102,7 @@ fn press_first<H: Clock>(
     nodes: &mut [ShownNode<'_, H>],
     bytes: &mut &[u8],
 ) -> Result<(), GroupFault>
-    ensures others { IfErr result IsRoundRefusal }
+    ensures others { IfErr result IsPressRefusal }
 {
     match nodes.first_mut() {
         Some(node) => node.press(bytes),
@@ -125,7 +126,7 @@ fn play<H: Clock>(
     turns: u32,
     input: &[u8],
 ) -> Result<(), GroupFault>
-    ensures others { IfErr result (λ e. IsRoundRefusal e ⊎ (e ≡ no_memory)) }
+    ensures others { IfErr result (λ e. IsPressRefusal e ⊎ (e ≡ no_memory)) }
 {
     let mut rest = input;
     for _ in 0..turns {

@@ -1,13 +1,16 @@
 //! The command `node`: one node of a group on UDP, over a record in a file.
-ghost use Rattle.group_udp.specs.Runs.{HasRunOrRefused};
+ghost use Rattle.std.specs.Prelude.{IfErr, IfOk};
+ghost use Rattle.machine_run.specs.Files.{IsFileRefusal, IsLoadedProgram};
+ghost use Rattle.group_udp.specs.Ends.{EndsLoaded, EndsNode, IsTypedText, IsRefusedInput};
 
 use crate::fault::{GroupFault, end_of};
-use crate::run::run_over_file;
+use crate::run::run_opened;
 use group_log::{Log, Note};
 use group_node::Config;
-use machine_run::{Counting, MachineRefusal, load_file, read_whole};
+use machine_run::{ByteWriter, MachineRefusal, load_file, read_whole};
 use paxos_msg::Group;
 use pcode_ops::Program;
+use std::alloc::Global;
 use std::io::{Read, Write};
 use std::net::{Net, SocketAddr};
 use std::rt::Files;
@@ -38,7 +41,10 @@ fn load_noted<H: Files + Clock + AllocGlobal, E: Write>(
     rt: &H,
     file: &str,
     log: &mut Log<'_, H, E>,
-) -> Result<Program, MachineRefusal> {
+) -> Result<Program, MachineRefusal>
+    ensures ok { IfOk result IsLoadedProgram }
+    ensures err { IfErr result IsFileRefusal }
+{
     let loaded = load_file(rt, file);
     if let Err(MachineRefusal::File) = &loaded {
         log.note(&Note::NoFile(file));
@@ -46,8 +52,50 @@ fn load_noted<H: Files + Clock + AllocGlobal, E: Write>(
     loaded
 }
 
+/// Returns the text that is typed: all that the reader has left, or none if typed bytes come as
+/// datagrams.
+fn input_of<R: Read>(
+    alloc: Global,
+    plan: &NodePlan<'_>,
+    reader: &mut R,
+) -> Result<Vec<u8>, GroupFault>
+    ensures ok { IfOk result (λ text.
+        IsTypedText plan.now.keys (R.remaining reader.old) (R.remaining reader.new) text.items) }
+    ensures err { IfErr result
+        (IsRefusedInput plan.now (R.remaining reader.old) (R.remaining reader.new)) }
+{
+    match plan.keys {
+        None => Ok(read_whole(alloc, reader)?),
+        Some(_) => Ok(Vec::new(alloc)),
+    }
+}
+
+/// Runs a program at one node, as `node_file` says.
+fn node_loaded<
+    H: Files + Net + Clock + AllocGlobal + Copy + Drop,
+    R: Read,
+    W: ByteWriter,
+    E: Write,
+>(
+    rt: &H,
+    program: &Program,
+    plan: &NodePlan<'_>,
+    reader: &mut R,
+    writer: &mut W,
+    log: &mut Log<'_, H, E>,
+) -> Result<(), GroupFault>
+    ensures ends { EndsLoaded program.now plan.now (R.remaining reader.old)
+        (R.remaining reader.new) (W.contents writer.old) (W.contents writer.new) result }
+{
+    let config = Config::new(plan.node, plan.group.size, plan.group.session)?;
+    // There is such a node.
+    config.me();
+    let text = input_of(rt.alloc(), plan, reader)?;
+    run_opened(rt, program, config, plan, text.as_slice(), writer, log)
+}
+
 /// Runs the program of a code file at one node, as `node_file` says.
-fn node_noted<H: Files + Net + Clock + AllocGlobal + Copy + Drop, R: Read, W: Write, E: Write>(
+fn node_noted<H: Files + Net + Clock + AllocGlobal + Copy + Drop, R: Read, W: ByteWriter, E: Write>(
     rt: &H,
     file: &str,
     plan: &NodePlan<'_>,
@@ -55,40 +103,33 @@ fn node_noted<H: Files + Net + Clock + AllocGlobal + Copy + Drop, R: Read, W: Wr
     writer: &mut W,
     log: &mut Log<'_, H, E>,
 ) -> Result<(), GroupFault>
-    ensures runs { HasRunOrRefused
-        (record { node = plan.now.node; group = plan.now.group }) plan.now.campaigns plan.now.seen
-        plan.now.turns (W.contents writer.old) (W.contents writer.new) result }
+    ensures ends { EndsNode plan.now (R.remaining reader.old) (R.remaining reader.new)
+        (W.contents writer.old) (W.contents writer.new) result }
 {
     let program = load_noted(rt, file, log)?;
-    let config = Config::new(plan.node, plan.group.size, plan.group.session)?;
-    let input = match plan.keys {
-        None => read_whole(rt.alloc(), reader)?,
-        Some(_) => Vec::new(rt.alloc()),
-    };
-    let mut writer = Counting::new(writer);
-    run_over_file(
-        rt,
-        &program,
-        config,
-        plan,
-        input.as_slice(),
-        &mut writer,
-        log,
-    )
+    node_loaded(rt, &program, plan, reader, writer, log)
 }
 
-/// Runs the plan's node over its record, up to the first refusal: it starts, campaigns if the plan
-/// says so, and makes as many rounds as `turns` says (`HasRunOrRefused`). A wrapper of `writer`
-/// gets the program's output from its beginning on, but for bytes numbered below `seen` and one
-/// that a failed write lost. A refusal before the start leaves `writer` as it was.
+/// Runs the plan's node over its record, up to the first refusal (`EndsNode`): it starts, campaigns
+/// if the plan says so, and makes as many rounds as `turns` says. It is a process of its group over
+/// a load of the store at the plan's path.
+///
+/// What is typed is a front of what the reader had left, or comes as datagrams. `writer` gets each
+/// byte that the node has released, from number `seen` on, once and in order, but for one that a
+/// failed write lost, and nothing else.
 ///
 /// The code file is looked at first, then the node and its group, then the input, which is not read
-/// if typed bytes come as datagrams. What the writer holds after a run is known of the wrapper that
-/// counts its faults: a contract can't say that a call over any `ByteWriter` leaves the same `&mut`
-/// in it.
+/// if typed bytes come as datagrams, then the sockets, and then the record. A refusal before the
+/// start leaves `writer` as it was. What the system's files hold and what passes over its sockets
+/// is unknown to contracts.
 ///
 /// `errors` gets the notes of the node, if the plan asks for a log.
-pub fn node_file<H: Files + Net + Clock + AllocGlobal + Copy + Drop, R: Read, W: Write, E: Write>(
+pub fn node_file<
+    H: Files + Net + Clock + AllocGlobal + Copy + Drop,
+    R: Read,
+    W: ByteWriter,
+    E: Write,
+>(
     rt: &H,
     file: &str,
     plan: &NodePlan<'_>,
@@ -96,9 +137,8 @@ pub fn node_file<H: Files + Net + Clock + AllocGlobal + Copy + Drop, R: Read, W:
     writer: &mut W,
     errors: &mut E,
 ) -> Result<(), GroupFault>
-    ensures runs { HasRunOrRefused
-        (record { node = plan.now.node; group = plan.now.group }) plan.now.campaigns plan.now.seen
-        plan.now.turns (W.contents writer.old) (W.contents writer.new) result }
+    ensures ends { EndsNode plan.now (R.remaining reader.old) (R.remaining reader.new)
+        (W.contents writer.old) (W.contents writer.new) result }
 {
     let mut log = Log::new(rt.alloc(), rt, errors, plan.node, plan.is_logged);
     let done = node_noted(rt, file, plan, reader, writer, &mut log);

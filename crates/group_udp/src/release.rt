@@ -1,11 +1,14 @@
 //! The output of a node, released to a writer.
-ghost use Rattle.std.specs.Prelude.{◌≡◌, ◌<◌, ◌≤◌, [], ◌∷◌, IsOk, MatchResult};
+ghost use Rattle.std.specs.Prelude.{◌≡◌, ◌<◌, ◌≤◌, [], ◌∷◌, IsOk, MatchResult, Option};
 ghost use Rattle.std.specs.Io.KnownBytes.{Appends, Keeps};
 ghost use Rattle.base.specs.Faults.{CountsFault};
-ghost use Rattle.group_udp.specs.Rounds.{HasReleased};
+ghost use Rattle.group_wire.specs.Doings.{HasActed};
+ghost use Rattle.group_wire.specs.Traffic.{Traffic};
+ghost use Rattle.group_udp.specs.Releases.{HasReleased};
 
 use crate::fault::GroupFault;
 use group_wire::Host;
+use group_wire::laws::deeds_go_on;
 use machine_run::{ByteWriter, RunIo, WriteFault};
 use paxos_acceptor::Store;
 
@@ -42,7 +45,9 @@ pub fn release_all<S: Store, W: ByteWriter>(
         (record { node = host.old; written = W.contents writer.old })
         (record { node = host.new; written = W.contents writer.new }) result }
     ensures faults { CountsFault (W.write_faults writer.old) (W.write_faults writer.new) result }
+    ensures acts { (passed : Option Traffic) → HasActed host.old host.new passed passed [] }
 {
+    deeds_go_on::<S>();
     while let Some((number, byte)) = host.release() {
         match write_unseen(writer, seen, number, byte) {
             Ok(()) => (),

@@ -1,25 +1,27 @@
 //! A node's rest between two turns, and a turn.
-ghost use Rattle.std.specs.Prelude.{◌≡◌, IfErr};
-ghost use Rattle.group_wire.specs.Turns.{SameReleased};
+ghost use Rattle.std.specs.Prelude.{◌≡◌, [], ◌∷◌, false, true, Ok, IfErr, IfOk, OnOk};
+ghost use Rattle.group_node.specs.Deeds.{Run};
+ghost use Rattle.group_wire.specs.declared.answers.Turned.{Turned};
+ghost use Rattle.group_wire.specs.declared.limits.TheConstants.{TURN_STEPS};
+ghost use Rattle.group_wire.specs.Doings.{HasActed};
+ghost use Rattle.group_wire.specs.Turns.{HasTurned, SameReleased};
+ghost use Rattle.group_udp.specs.Going.{FailsAt, is_busy_after};
 ghost use Rattle.group_udp.specs.Output.{SameProgram};
-ghost use Rattle.group_udp.specs.Refusals.{IsTurnRefusal};
-ghost use Rattle.group_udp.specs.Rounds.{HasOwnTurn, HasRested, RestsUnless, is_busy_after};
 
 use crate::endpoints::Endpoints;
 use crate::fault::GroupFault;
+use crate::keyboard::Keyboard;
 use crate::limits::MOST_RESTING;
-use crate::udp::UdpWire;
-use group_node::Ran;
-use group_wire::{Heard, Host};
+use crate::resting::RestingWire;
+use group_node::{NodeFault, Ran};
+use group_wire::laws::deeds_go_on;
+use group_wire::{Heard, Host, Wire};
 use paxos_acceptor::Store;
-use std::time::Clock;
 
 /// Returns true if the known front has moved since it was at `front`, and notes that on the wire.
-fn has_moved<H: Clock, S: Store>(
-    host: &Host<'_, S>,
-    front: u32,
-    wire: &mut UdpWire<'_, H>,
-) -> bool {
+fn has_moved<T: RestingWire, S: Store>(host: &Host<'_, S>, front: u32, wire: &mut T) -> bool
+    ensures passed { T.traffic wire.new ≡ T.traffic wire.old }
+{
     let has_moved = host.node().known_front() > front;
     if has_moved {
         wire.stir();
@@ -27,31 +29,57 @@ fn has_moved<H: Clock, S: Store>(
     has_moved
 }
 
-/// Hears what comes to a node that has nothing to do, until a place has become known, bytes were
-/// typed, or the rest is over. What a message asks for is done when it is heard, so it needs no
-/// tick; and a tick after each would make the other nodes tick in turn, without end.
+/// Receives once, and waits if nothing came. Returns true if the rest is over: it has taken its
+/// time, bytes were typed and `is_ended_by_keys`, or the known front has moved since it was at
+/// `front`.
+fn rest_once<T: RestingWire, S: Store>(
+    host: &mut Host<'_, S>,
+    wire: &mut T,
+    front: u32,
+    is_ended_by_keys: bool,
+) -> Result<bool, GroupFault>
+    requires works { host.old.protocol.is_stopped ≡ false }
+    ensures works { OnOk result (host.new.protocol.is_stopped ≡ false) }
+    ensures acts { OnOk result
+        (HasActed host.old host.new (T.traffic wire.old) (T.traffic wire.new) []) }
+    ensures refused { IfErr result
+        (FailsAt host.old host.new (T.traffic wire.old) (T.traffic wire.new) []) }
+    ensures stays { SameReleased host.old host.new }
+    ensures progress { host.new.progress ≡ host.old.progress }
+{
+    match host.hear(wire) {
+        Ok(Heard::Nothing) => Ok(!wire.wait(is_ended_by_keys)),
+        Ok(_) => Ok(has_moved(host, front, wire)),
+        Err(fault) => Err(GroupFault::Node(fault)),
+    }
+}
+
+/// Hears what comes to a node that has nothing to do, at most 64 datagrams, until a place has
+/// become known, bytes were typed, or the rest is over. What a message asks for is done when it is
+/// heard, so it needs no tick; and a tick after each would make the other nodes tick in turn,
+/// without end.
 ///
 /// While typed keys wait, their batch is under way, and further bytes do not end the rest: so the
 /// next tick submits all that came meanwhile.
-fn rest<H: Clock, S: Store>(
-    host: &mut Host<'_, S>,
-    wire: &mut UdpWire<'_, H>,
-) -> Result<(), GroupFault>
-    ensures rests { HasRested S.honest S.state host.old host.new result }
+fn rest<T: RestingWire, S: Store>(host: &mut Host<'_, S>, wire: &mut T) -> Result<(), GroupFault>
+    requires works { host.old.protocol.is_stopped ≡ false }
+    ensures works { OnOk result (host.new.protocol.is_stopped ≡ false) }
+    ensures acts { OnOk result
+        (HasActed host.old host.new (T.traffic wire.old) (T.traffic wire.new) []) }
+    ensures refused { IfErr result
+        (FailsAt host.old host.new (T.traffic wire.old) (T.traffic wire.new) []) }
     ensures stays { SameReleased host.old host.new }
     ensures progress { host.new.progress ≡ host.old.progress }
-    ensures others { IfErr result IsTurnRefusal }
 {
+    deeds_go_on::<S>();
     let front = host.node().known_front();
     let is_ended_by_keys = host.node().waiting() == 0;
     wire.begin_rest();
     for _ in 0..MOST_RESTING {
-        let is_over = match host.hear(wire)? {
-            Heard::Nothing => !wire.wait(is_ended_by_keys),
-            Heard::Dropped | Heard::Lost | Heard::Message => has_moved(host, front, wire),
-        };
-        if is_over {
-            return Ok(());
+        match rest_once(host, wire, front, is_ended_by_keys) {
+            Ok(false) => {}
+            Ok(true) => return Ok(()),
+            Err(fault) => return Err(fault),
         }
     }
     Ok(())
@@ -59,16 +87,24 @@ fn rest<H: Clock, S: Store>(
 
 /// Rests, unless the node is busy, or no keys wait and there is something to be typed at it. A rest
 /// keeps what was released.
-pub fn rest_unless_busy<H: Clock, S: Store>(
+pub fn rest_unless_busy<T: RestingWire, K: Keyboard, S: Store>(
     host: &mut Host<'_, S>,
-    endpoints: &mut Endpoints<'_, H>,
+    endpoints: &mut Endpoints<T, K>,
     is_busy: bool,
 ) -> Result<(), GroupFault>
-    ensures rests { RestsUnless S.honest S.state is_busy host.old host.new result }
+    requires works { host.old.protocol.is_stopped ≡ false }
+    ensures works { OnOk result (host.new.protocol.is_stopped ≡ false) }
+    ensures busy { is_busy ≡ true → (result ≡ Ok tt) × (host.new ≡ host.old)
+        × (endpoints.new ≡ endpoints.old) }
+    ensures acts { OnOk result (HasActed host.old host.new (T.traffic endpoints.old.wire)
+        (T.traffic endpoints.new.wire) []) }
+    ensures refused { IfErr result (FailsAt host.old host.new (T.traffic endpoints.old.wire)
+        (T.traffic endpoints.new.wire) []) }
+    ensures untyped { endpoints.new.keyboard ≡ endpoints.old.keyboard }
     ensures stays { SameReleased host.old host.new }
     ensures progress { host.new.progress ≡ host.old.progress }
-    ensures others { IfErr result IsTurnRefusal }
 {
+    deeds_go_on::<S>();
     if is_busy {
         return Ok(());
     }
@@ -90,15 +126,21 @@ fn is_busy_after(ran: Ran) -> bool
 }
 
 /// Takes a turn of the node on its wire. Returns true if the node is busy after it.
-pub fn own_turn<H: Clock, S: Store>(
-    host: &mut Host<'_, S>,
-    wire: &mut UdpWire<'_, H>,
-) -> Result<bool, GroupFault>
-    ensures turns { HasOwnTurn S.honest S.state host.old host.new result }
+pub fn own_turn<T: Wire, S: Store>(host: &mut Host<'_, S>, wire: &mut T) -> Result<bool, GroupFault>
+    requires works { host.old.protocol.is_stopped ≡ false }
+    ensures works { OnOk result (host.new.protocol.is_stopped ≡ false) }
+    ensures turned { IfOk result (λ busy. (done : Turned)
+        × HasTurned S.honest S.state host.old host.new (T.traffic wire.old) (T.traffic wire.new)
+        (Ok done) × (busy ≡ is_busy_after done.ran)) }
+    ensures acts { OnOk result (HasActed host.old host.new (T.traffic wire.old) (T.traffic wire.new)
+        (Run TURN_STEPS ∷ [])) }
+    ensures refused { IfErr result
+        (FailsAt host.old host.new (T.traffic wire.old) (T.traffic wire.new) []) }
     ensures program { SameProgram host.old host.new }
     ensures stays { SameReleased host.old host.new }
-    ensures others { IfErr result IsTurnRefusal }
 {
-    let turned = host.turn(wire)?;
-    Ok(is_busy_after(turned.ran))
+    match host.turn(wire) {
+        Ok(turned) => Ok(is_busy_after(turned.ran)),
+        Err(fault) => Err(GroupFault::Node(fault)),
+    }
 }

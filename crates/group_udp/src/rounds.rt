@@ -1,62 +1,79 @@
 //! The rounds of one node: each is a rest, typing, a turn, and the release of all output.
-ghost use Rattle.std.specs.Prelude.{◌≡◌, [], ◌⊎◌, IfErr, IsErrOf, OnOk};
+ghost use Rattle.std.specs.Prelude.{◌≡◌, [], false, ◌⊎◌, IfErr, IsErrOf, OnOk};
 ghost use Rattle.group_node.specs.States.{input};
 ghost use Rattle.group_node.specs.Output.{unreleased_of};
 ghost use Rattle.group_wire.specs.Turns.{SameReleased};
+ghost use Rattle.group_udp.specs.Going.{CampaignsIf, HasGone, around, planned};
 ghost use Rattle.group_udp.specs.Output.{AppendsOutput, SameProgram};
 ghost use Rattle.group_udp.specs.Refusals.{IsCampaignRefusal, IsRoundRefusal, IsWrittenRoundRefusal, write_failed};
-ghost use Rattle.group_udp.specs.Rounds.{CampaignsIf, HasCampaignedAndPlayed, HasPlayed, HasRestedAndTurned, IsRound};
 
-use crate::endpoints::Endpoints;
+use crate::endpoints::{Endpoints, note_pressed};
 use crate::fault::GroupFault;
+use crate::keyboard::{Keyboard, press};
 use crate::node::NodePlan;
 use crate::release::release_all;
 use crate::rest::{own_turn, rest_unless_busy};
-use crate::udp::UdpWire;
+use crate::resting::RestingWire;
 use group_log::Log;
-use group_wire::Host;
+use group_wire::laws::deeds_go_on;
+use group_wire::{Host, Wire};
 use machine_run::ByteWriter;
 use paxos_acceptor::Store;
 use std::io::Write;
 use std::time::Clock;
 
+/// Notes the datagrams that the wire has dropped, if it is time for that.
+fn note_drops<H: Clock, T: RestingWire, E: Write>(wire: &mut T, log: &mut Log<'_, H, E>)
+    ensures passed { T.traffic wire.new ≡ T.traffic wire.old }
+{
+    if log.dropped(&wire.drops()) {
+        wire.clear_drops();
+    }
+}
+
 /// Rests, unless the node is busy; types bytes at it; and takes its turn. Returns true if the node
 /// is busy then. What was released before stays as it is.
-fn rest_and_turn<H: Clock, S: Store, E: Write>(
+fn rest_and_turn<H: Clock, T: RestingWire, K: Keyboard, S: Store, E: Write>(
     host: &mut Host<'_, S>,
-    endpoints: &mut Endpoints<'_, H>,
+    endpoints: &mut Endpoints<T, K>,
     is_busy: bool,
     log: &mut Log<'_, H, E>,
 ) -> Result<bool, GroupFault>
-    ensures turns { HasRestedAndTurned S.honest S.fails_at_will S.state is_busy host.old host.new
-        result }
+    requires works { host.old.protocol.is_stopped ≡ false }
+    ensures works { OnOk result (host.new.protocol.is_stopped ≡ false) }
+    ensures goes { HasGone [] host.old host.new
+        (around (T.traffic endpoints.old.wire) (K.remaining endpoints.old.keyboard))
+        (around (T.traffic endpoints.new.wire) (K.remaining endpoints.new.keyboard)) 1 result }
     ensures program { SameProgram host.old host.new }
     ensures stays { SameReleased host.old host.new }
     ensures others { IfErr result IsRoundRefusal }
 {
+    deeds_go_on::<S>();
     rest_unless_busy(host, endpoints, is_busy)?;
     log.look(host.node());
-    let pressed = endpoints.keyboard.press(host, &mut endpoints.wire)?;
-    endpoints.note_pressed(host, pressed, log);
+    let pressed = press(host, endpoints)?;
+    note_pressed(host, &endpoints.keyboard, pressed, log);
     let more = own_turn(host, &mut endpoints.wire)?;
     log.look(host.node());
-    log.dropped(&mut endpoints.wire.drops);
+    note_drops(&mut endpoints.wire, log);
     Ok(more)
 }
 
 /// Makes a round: a rest, typing, a turn, and then the release of all output. The bytes from number
 /// `seen` on are written. Returns true if the node is busy.
-fn round<H: Clock, S: Store, W: ByteWriter, E: Write>(
+fn round<H: Clock, T: RestingWire, K: Keyboard, S: Store, W: ByteWriter, E: Write>(
     host: &mut Host<'_, S>,
     seen: u64,
-    endpoints: &mut Endpoints<'_, H>,
+    endpoints: &mut Endpoints<T, K>,
     is_busy: bool,
     writer: &mut W,
     log: &mut Log<'_, H, E>,
 ) -> Result<bool, GroupFault>
-    ensures round { IsRound S.honest S.fails_at_will S.state seen is_busy
-        (record { node = host.old; written = W.contents writer.old })
-        (record { node = host.new; written = W.contents writer.new }) result }
+    requires works { host.old.protocol.is_stopped ≡ false }
+    ensures works { OnOk result (host.new.protocol.is_stopped ≡ false) }
+    ensures goes { HasGone [] host.old host.new
+        (around (T.traffic endpoints.old.wire) (K.remaining endpoints.old.keyboard))
+        (around (T.traffic endpoints.new.wire) (K.remaining endpoints.new.keyboard)) 1 result }
     ensures program { SameProgram host.old host.new }
     ensures writes { AppendsOutput seen host.old host.new (IsErrOf result write_failed)
         (W.contents writer.old) (W.contents writer.new) }
@@ -64,6 +81,7 @@ fn round<H: Clock, S: Store, W: ByteWriter, E: Write>(
         (unreleased_of (input host.new.protocol.known) host.new.progress ≡ []) }
     ensures others { IfErr result IsWrittenRoundRefusal }
 {
+    deeds_go_on::<S>();
     let more = rest_and_turn(host, endpoints, is_busy, log)?;
     // The machine is where a replay from the start is.
     host.unreleased();
@@ -71,25 +89,27 @@ fn round<H: Clock, S: Store, W: ByteWriter, E: Write>(
     Ok(more)
 }
 
-/// Makes as many rounds as the plan has turns, up to the first refusal: a stopped node, a failed
-/// save, spent serials, or a failed write. Over all rounds the bytes that were released are
-/// written, each once and in order, but for those that were seen. If a write fails, the last one is
-/// lost.
-fn play<H: Clock, S: Store, W: ByteWriter, E: Write>(
+/// Makes as many rounds as the plan has turns, up to the first refusal: a failed save, spent
+/// serials, or a failed write. Over all rounds the bytes that were released are written, each once
+/// and in order, but for those that were seen. If a write fails, the last one is lost.
+fn play<H: Clock, T: RestingWire, K: Keyboard, S: Store, W: ByteWriter, E: Write>(
     host: &mut Host<'_, S>,
     plan: &NodePlan<'_>,
-    endpoints: &mut Endpoints<'_, H>,
+    endpoints: &mut Endpoints<T, K>,
     writer: &mut W,
     log: &mut Log<'_, H, E>,
 ) -> Result<(), GroupFault>
-    ensures plays { HasPlayed S.honest S.fails_at_will S.state plan.now.seen plan.now.turns
-        (record { node = host.old; written = W.contents writer.old })
-        (record { node = host.new; written = W.contents writer.new }) result }
+    requires works { host.old.protocol.is_stopped ≡ false }
+    ensures goes { HasGone [] host.old host.new
+        (around (T.traffic endpoints.old.wire) (K.remaining endpoints.old.keyboard))
+        (around (T.traffic endpoints.new.wire) (K.remaining endpoints.new.keyboard)) plan.now.turns
+        result }
     ensures program { SameProgram host.old host.new }
     ensures writes { AppendsOutput plan.now.seen host.old host.new (IsErrOf result write_failed)
         (W.contents writer.old) (W.contents writer.new) }
     ensures others { IfErr result IsWrittenRoundRefusal }
 {
+    deeds_go_on::<S>();
     let mut is_busy = true;
     for _ in 0..plan.turns {
         is_busy = round(host, plan.seen, endpoints, is_busy, writer, log)?;
@@ -98,17 +118,20 @@ fn play<H: Clock, S: Store, W: ByteWriter, E: Write>(
 }
 
 /// Campaigns, if `is_asked`.
-fn campaign_if<H: Clock, S: Store>(
+fn campaign_if<T: Wire, S: Store>(
     host: &mut Host<'_, S>,
-    wire: &mut UdpWire<'_, H>,
+    wire: &mut T,
     is_asked: bool,
 ) -> Result<(), GroupFault>
-    ensures campaigns { CampaignsIf S.honest S.fails_at_will S.state is_asked host.old host.new
-        result }
+    requires works { host.old.protocol.is_stopped ≡ false }
+    ensures works { OnOk result (host.new.protocol.is_stopped ≡ false) }
+    ensures acts { CampaignsIf is_asked host.old host.new (T.traffic wire.old)
+        (T.traffic wire.new) result }
     ensures stays { SameReleased host.old host.new }
     ensures progress { host.new.progress ≡ host.old.progress }
     ensures others { IfErr result IsCampaignRefusal }
 {
+    deeds_go_on::<S>();
     if is_asked {
         host.campaign(wire)?;
     }
@@ -117,23 +140,25 @@ fn campaign_if<H: Clock, S: Store>(
 
 /// Campaigns, if the plan says so, and then makes the rounds. A campaign that is refused ends it,
 /// and nothing is written.
-pub fn campaign_and_play<H: Clock, S: Store, W: ByteWriter, E: Write>(
+pub fn campaign_and_play<H: Clock, T: RestingWire, K: Keyboard, S: Store, W: ByteWriter, E: Write>(
     host: &mut Host<'_, S>,
     plan: &NodePlan<'_>,
-    endpoints: &mut Endpoints<'_, H>,
+    endpoints: &mut Endpoints<T, K>,
     writer: &mut W,
     log: &mut Log<'_, H, E>,
 ) -> Result<(), GroupFault>
-    ensures plays { HasCampaignedAndPlayed S.honest S.fails_at_will S.state plan.now.campaigns
-        plan.now.seen plan.now.turns
-        (record { node = host.old; written = W.contents writer.old })
-        (record { node = host.new; written = W.contents writer.new }) result }
+    requires works { host.old.protocol.is_stopped ≡ false }
+    ensures goes { HasGone (planned plan.now.campaigns) host.old host.new
+        (around (T.traffic endpoints.old.wire) (K.remaining endpoints.old.keyboard))
+        (around (T.traffic endpoints.new.wire) (K.remaining endpoints.new.keyboard)) plan.now.turns
+        result }
     ensures program { SameProgram host.old host.new }
     ensures writes { AppendsOutput plan.now.seen host.old host.new (IsErrOf result write_failed)
         (W.contents writer.old) (W.contents writer.new) }
     ensures others { IfErr result
         (λ e. IsWrittenRoundRefusal e ⊎ IsCampaignRefusal e) }
 {
+    deeds_go_on::<S>();
     campaign_if(host, &mut endpoints.wire, plan.campaigns)?;
     play(host, plan, endpoints, writer, log)
 }

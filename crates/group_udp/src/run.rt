@@ -1,15 +1,21 @@
-//! A whole run of one node over its store.
-ghost use Rattle.std.specs.Prelude.{◌⊎◌, IfErr, IsErrOf};
-ghost use Rattle.group_udp.specs.Refusals.{IsOpenRefusal, IsRunRefusal, write_failed};
-ghost use Rattle.group_udp.specs.Runs.{HasRunNode, HasRunOverFile, HasShown};
+//! A whole run of one node: over any store, wire and keyboard, and over those of the system.
+ghost use Rattle.std.specs.Prelude.{◌⊎◌, IfErr};
+ghost use Rattle.group_udp.specs.Ends.{RunsOpened, RunsOverFile};
+ghost use Rattle.group_udp.specs.Going.{around};
+ghost use Rattle.group_udp.specs.Refusals.{IsOpenRefusal, IsRunRefusal};
+ghost use Rattle.group_udp.specs.Runs.{RunsOrRefuses};
 
-use crate::endpoints::Endpoints;
+use crate::endpoints::{Endpoints, open_keyboard, open_wire};
 use crate::fault::GroupFault;
+use crate::keyboard::Keyboard;
 use crate::node::NodePlan;
+use crate::resting::RestingWire;
 use crate::rounds::campaign_and_play;
+use crate::text::Text;
+use crate::udp::{UdpWire, Watch};
 use group_log::Log;
 use group_node::Config;
-use group_wire::Host;
+use group_wire::{Host, Wire};
 use machine_run::ByteWriter;
 use paxos_acceptor::{FileStore, Store};
 use pcode_ops::Program;
@@ -19,24 +25,31 @@ use std::net::Net;
 use std::rt::Files;
 use std::time::Clock;
 
-/// Runs one node over a store. A start that is refused ends it, and nothing is written. Over the
-/// whole run those bytes of its released output are written whose number is not below the plan's
-/// `seen`. If a write fails, the last of them is lost.
-fn run_over<H: Clock, S: Store + Drop, W: ByteWriter, E: Write>(
+/// Runs one node over a store, a wire and a keyboard, as `plan` says (`RunsOrRefuses`). It starts
+/// over the record that one load of the store gives, campaigns if it is to, and makes as many
+/// rounds as there are turns. It is a process of its group: exactly what its deeds send and receive
+/// passes over the wire.
+///
+/// What is typed is what the keyboard gave, each byte once and in order. `writer` gets each byte
+/// that the node has released, from number `seen` on, once and in order, and nothing else.
+///
+/// A start that is refused ends it, and nothing passes, nothing is typed, and nothing is written.
+/// Else it ends at the first failed save or write, if the plan's campaign is refused, or where a
+/// byte is typed and the serials are spent.
+pub fn run_node<H: Clock, T: RestingWire, K: Keyboard, S: Store + Drop, W: ByteWriter, E: Write>(
     alloc: Global,
     program: &Program,
     config: Config,
     store: S,
     plan: &NodePlan<'_>,
-    endpoints: &mut Endpoints<'_, H>,
+    endpoints: &mut Endpoints<T, K>,
     writer: &mut W,
     log: &mut Log<'_, H, E>,
 ) -> Result<(), GroupFault>
-    ensures runs { HasRunNode S.honest S.fails_at_will S.state S.loads config program.now store
-        plan.now.campaigns plan.now.seen plan.now.turns (W.contents writer.old)
-        (W.contents writer.new) result }
-    ensures written { HasShown program.now plan.now.seen (IsErrOf result write_failed)
-        (W.contents writer.old) (W.contents writer.new) }
+    ensures ends { RunsOrRefuses S.honest S.state S.loads config program.now store plan.now
+        (around (T.traffic endpoints.old.wire) (K.remaining endpoints.old.keyboard))
+        (around (T.traffic endpoints.new.wire) (K.remaining endpoints.new.keyboard))
+        (W.contents writer.old) (W.contents writer.new) result }
     ensures others { IfErr result IsRunRefusal }
 {
     let mut host = Host::start(alloc, program, config, store)?;
@@ -47,9 +60,42 @@ fn run_over<H: Clock, S: Store + Drop, W: ByteWriter, E: Write>(
     played
 }
 
-/// Runs one node over the record of its file, for as many turns as the plan says. It types `text`,
-/// unless typed bytes come as datagrams. It ends at the node's first refusal.
-pub fn run_over_file<H: Files + Net + Clock + AllocGlobal + Copy + Drop, W: ByteWriter, E: Write>(
+/// Runs one node over the record in the file that the plan names.
+fn run_over_file<
+    H: Files + Net + Clock + AllocGlobal + Copy + Drop,
+    K: Keyboard,
+    W: ByteWriter,
+    E: Write,
+>(
+    rt: &H,
+    program: &Program,
+    config: Config,
+    plan: &NodePlan<'_>,
+    endpoints: &mut Endpoints<UdpWire<'_, H>, K>,
+    writer: &mut W,
+    log: &mut Log<'_, H, E>,
+) -> Result<(), GroupFault>
+    ensures ends { RunsOverFile config program.now plan.now
+        (K.remaining endpoints.old.keyboard) (K.remaining endpoints.new.keyboard)
+        (W.contents writer.old) (W.contents writer.new) result }
+    ensures others { IfErr result (λ e. IsOpenRefusal e ⊎ IsRunRefusal e) }
+{
+    let store = FileStore::new(*rt, plan.record, config.me())?;
+    run_node(
+        rt.alloc(),
+        program,
+        config,
+        store,
+        plan,
+        endpoints,
+        writer,
+        log,
+    )
+}
+
+/// Opens the sockets that the plan names, and runs the node. It types `text`, unless typed bytes
+/// come as datagrams.
+pub fn run_opened<H: Files + Net + Clock + AllocGlobal + Copy + Drop, W: ByteWriter, E: Write>(
     rt: &H,
     program: &Program,
     config: Config,
@@ -58,22 +104,19 @@ pub fn run_over_file<H: Files + Net + Clock + AllocGlobal + Copy + Drop, W: Byte
     writer: &mut W,
     log: &mut Log<'_, H, E>,
 ) -> Result<(), GroupFault>
-    ensures runs { HasRunOverFile config program.now plan.now.campaigns plan.now.seen plan.now.turns
+    ensures ends { RunsOpened config program.now plan.now text.now
         (W.contents writer.old) (W.contents writer.new) result }
-    ensures written { HasShown program.now plan.now.seen (IsErrOf result write_failed)
-        (W.contents writer.old) (W.contents writer.new) }
     ensures others { IfErr result (λ e. IsOpenRefusal e ⊎ IsRunRefusal e) }
 {
-    let mut endpoints = Endpoints::open(rt, plan, text, log)?;
-    let store = FileStore::new(*rt, plan.record, config.me())?;
-    run_over(
-        rt.alloc(),
-        program,
-        config,
-        store,
-        plan,
-        &mut endpoints,
-        writer,
-        log,
-    )
+    let watch = Watch::new(rt)?;
+    let Some(address) = plan.keys else {
+        let wire = open_wire(rt, plan, watch, log)?;
+        let keyboard = Text { rest: text };
+        let mut endpoints = Endpoints { wire, keyboard };
+        return run_over_file(rt, program, config, plan, &mut endpoints, writer, log);
+    };
+    let keyboard = open_keyboard(rt, address, &watch, log)?;
+    let wire = open_wire(rt, plan, watch, log)?;
+    let mut endpoints = Endpoints { wire, keyboard };
+    run_over_file(rt, program, config, plan, &mut endpoints, writer, log)
 }

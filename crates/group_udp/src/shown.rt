@@ -1,17 +1,22 @@
 //! A node of a group in one process, whose output is shown on its console.
-ghost use Rattle.std.specs.Prelude.{◌≡◌, ◌<◌, ◌++◌, ◌∷◌, ℕ, [], length, IfErr, OnErr, OnOk};
+ghost use Rattle.std.specs.Prelude.{◌≡◌, ◌<◌, ◌⊎◌, ◌++◌, ◌∷◌, ℕ, [], length, IfErr, None, OnErr, OnOk, Option};
 ghost use Rattle.group_node.specs.Output.{unreleased_of};
 ghost use Rattle.group_node.specs.States.{input};
+ghost use Rattle.group_node.specs.Deeds.{Run};
+ghost use Rattle.group_wire.specs.declared.limits.TheConstants.{TURN_STEPS};
+ghost use Rattle.group_wire.specs.Doings.{HasActed};
+ghost use Rattle.group_wire.specs.Traffic.{Traffic};
 ghost use Rattle.group_wire.specs.Turns.{released_of};
 ghost use Rattle.group_udp.specs.Output.{ReleasesBytes, ShowsReleased};
-ghost use Rattle.group_udp.specs.Refusals.{IsCampaignRefusal, IsRoundRefusal, IsRunRefusal, IsShownTurnRefusal, no_memory};
-ghost use Rattle.group_udp.specs.Rounds.{HasShownAll, HasTurnedAndShown};
+ghost use Rattle.group_udp.specs.Refusals.{IsCampaignRefusal, IsPressRefusal, IsRunRefusal, IsShownTurnRefusal, no_memory};
+ghost use Rattle.group_udp.specs.Releases.{HasShownAll};
 
 use crate::fault::GroupFault;
-use crate::rest::own_turn;
+use crate::resting::RestingWire;
 use crate::udp::UdpWire;
-use group_node::{Config, Console, Offer};
+use group_node::{Config, Console, NodeFault, Offer};
 use group_wire::Host;
+use group_wire::laws::deeds_go_on;
 use machine_run::{RunIo, write_bytes};
 use paxos_acceptor::{MemoryStore, Store};
 use paxos_msg::Record;
@@ -43,7 +48,9 @@ fn show_next<S: Store>(host: &mut Host<'_, S>, console: &mut Console) -> Result<
     ensures none { OnErr result (host.new.progress ≡ host.old.progress) }
     ensures others { IfErr result (λ e. e ≡ no_memory) }
     ensures rest { host.new.protocol ≡ host.old.protocol }
+    ensures acts { (passed : Option Traffic) → HasActed host.old host.new passed passed [] }
 {
+    deeds_go_on::<S>();
     if console.reserve().is_err() {
         return Err(GroupFault::from(RunIo::Memory));
     }
@@ -65,7 +72,9 @@ fn show_all<S: Store>(host: &mut Host<'_, S>, console: &mut Console) -> Result<(
         (console.new.bytes ≡ console.old.bytes
         ++ unreleased_of (input host.old.protocol.known) host.old.progress) }
     ensures shown { HasShownAll host.old host.new result }
+    ensures acts { (passed : Option Traffic) → HasActed host.old host.new passed passed [] }
 {
+    deeds_go_on::<S>();
     for _ in 0..host.unreleased() {
         show_next(host, console)?;
     }
@@ -94,14 +103,15 @@ impl<'a, H: Clock> ShownNode<'a, H> {
 
     /// Begins a ballot of the node's own.
     pub fn campaign(&mut self) -> Result<(), GroupFault>
-        ensures others { IfErr result IsCampaignRefusal }
+        ensures others { IfErr result (λ e. (e ≡ GroupFault.Node NodeFault.Stopped)
+            ⊎ IsCampaignRefusal e) }
     {
         Ok(self.host.campaign(&mut self.wire)?)
     }
 
     /// Types as many of the bytes as there is room for, and takes them off the front.
     pub fn press(&mut self, bytes: &mut &[u8]) -> Result<(), GroupFault>
-        ensures others { IfErr result IsRoundRefusal }
+        ensures others { IfErr result IsPressRefusal }
     {
         Ok(self.host.press(bytes)?)
     }
@@ -109,6 +119,8 @@ impl<'a, H: Clock> ShownNode<'a, H> {
     /// Puts all output that waits on the console.
     fn show_output(&mut self) -> Result<(), GroupFault>
         ensures shown { HasShownAll self.old.host self.new.host result }
+        ensures acts { (passed : Option Traffic)
+            → HasActed self.old.host self.new.host passed passed [] }
     {
         show_all(&mut self.host, &mut self.console)
     }
@@ -116,12 +128,16 @@ impl<'a, H: Clock> ShownNode<'a, H> {
     /// Takes a turn of the node, once a datagram is there: its last tick has left it one. Then puts
     /// all output that waits on the console.
     pub fn turn(&mut self) -> Result<(), GroupFault>
-        ensures turns { HasTurnedAndShown self.old.host self.new.host result }
+        ensures acts { OnOk result
+            (HasActed self.old.host self.new.host None None (Run TURN_STEPS ∷ [])) }
+        ensures shown { OnOk result
+            (unreleased_of (input self.new.host.protocol.known) self.new.host.progress ≡ []) }
         ensures others { IfErr result IsShownTurnRefusal }
     {
+        deeds_go_on::<MemoryStore>();
         self.wire.begin_rest();
         self.wire.wait(true);
-        own_turn(&mut self.host, &mut self.wire)?;
+        self.host.turn(&mut self.wire)?;
         self.show_output()
     }
 

@@ -7,7 +7,8 @@ ghost use Rattle.group_udp.specs.Sources.{drop_of};
 use crate::fault::GroupFault;
 use crate::limits::{LONG_REST, SHORT_REST, SHORT_RESTS};
 use crate::own_datagrams::OwnDatagrams;
-use crate::sources::is_from_sender;
+use crate::resting::RestingWire;
+use crate::sources::{address_at, is_from_sender, taken_of};
 use group_log::{DropReason, Drops, reason_of};
 use group_wire::Wire;
 use mio::net::UdpSocket;
@@ -129,7 +130,7 @@ pub struct UdpWire<'a, H> {
     /// The group for which dropped datagrams are counted, or None if none are.
     counted: Option<Group>,
     /// The number of datagrams that were dropped since these counts were set to 0.
-    pub drops: Drops,
+    drops: Drops,
 }
 
 impl<'a, H: Clock> UdpWire<'a, H> {
@@ -173,22 +174,6 @@ impl<'a, H: Clock> UdpWire<'a, H> {
         }
     }
 
-    /// Notes that something has happened: the next rest is short.
-    pub fn stir(&mut self) {
-        self.quiet = 0;
-    }
-
-    /// Begins a rest of 10 milliseconds. If the last 100 rests were without an event it is longer,
-    /// up to 100 milliseconds.
-    pub fn begin_rest(&mut self) {
-        let length = Duration::from_millis(rest_after(self.quiet));
-        self.quiet = self.quiet.saturating_add(1);
-        self.until = match Instant::now(self.clock) {
-            Ok(now) => now.checked_add(length),
-            Err(_) => None,
-        };
-    }
-
     /// Returns the time that is left of the rest.
     fn left(&self) -> Option<Duration> {
         let now = Instant::now(self.clock).ok()?;
@@ -197,11 +182,8 @@ impl<'a, H: Clock> UdpWire<'a, H> {
 
     /// Sends a datagram by the socket. Returns whether the system took it.
     fn send_out(&self, to: u8, bytes: &[u8]) -> bool {
-        let Some(index) = usize::from(to).checked_sub(1) else {
-            return false;
-        };
-        match self.addresses.get(index) {
-            Some(address) => self.socket.send_to(bytes, *address).is_ok(),
+        match address_at(self.addresses, to) {
+            Some(address) => self.socket.send_to(bytes, address).is_ok(),
             None => false,
         }
     }
@@ -212,22 +194,10 @@ impl<'a, H: Clock> UdpWire<'a, H> {
         ensures within { IfSome result (λ count. count ≤ length buffer.new) }
     {
         let (count, source) = receive_from(&self.socket, buffer)?;
-        let is_taken = is_from_sender(self.addresses, source, &buffer[..count]);
-        self.count_drop(is_taken, &buffer[..count]);
-        if is_taken { Some(count) } else { Some(0) }
-    }
-
-    /// Waits for a datagram, unless one of the node's own is there. All that were in the socket
-    /// have been received. Returns true if there may be one: not if the rest is over, or if bytes
-    /// were typed and `is_ended_by_keys`.
-    pub fn wait(&mut self, is_ended_by_keys: bool) -> bool {
-        if !self.own.is_empty() {
-            return true;
-        }
-        match self.left() {
-            Some(left) => !(self.watch.wait(left) && is_ended_by_keys),
-            None => false,
-        }
+        let datagram = &buffer[..count];
+        let is_from_sender = is_from_sender(self.addresses, source, datagram);
+        self.count_drop(is_from_sender, datagram);
+        Some(taken_of(is_from_sender, datagram))
     }
 }
 
@@ -258,5 +228,42 @@ impl<H: Clock> Wire for UdpWire<'_, H> {
             None => self.own.pop_into(buffer),
             received => received,
         }
+    }
+}
+
+impl<H: Clock> RestingWire for UdpWire<'_, H> {
+    fn stir(&mut self) {
+        self.quiet = 0;
+    }
+
+    /// Begins a rest of 10 milliseconds. If the last 100 rests were without an event it is longer,
+    /// up to 100 milliseconds.
+    fn begin_rest(&mut self) {
+        let length = Duration::from_millis(rest_after(self.quiet));
+        self.quiet = self.quiet.saturating_add(1);
+        self.until = match Instant::now(self.clock) {
+            Ok(now) => now.checked_add(length),
+            Err(_) => None,
+        };
+    }
+
+    /// Waits for a datagram, unless one of the node's own is there. All that were in the socket
+    /// have been received.
+    fn wait(&mut self, is_ended_by_keys: bool) -> bool {
+        if !self.own.is_empty() {
+            return true;
+        }
+        match self.left() {
+            Some(left) => !(self.watch.wait(left) && is_ended_by_keys),
+            None => false,
+        }
+    }
+
+    fn drops(&self) -> Drops {
+        self.drops
+    }
+
+    fn clear_drops(&mut self) {
+        self.drops = Drops::default();
     }
 }

@@ -3,23 +3,29 @@ use Rattle.std.proofs.Common.{◌≡◌, ◌+◌, ◌-◌, ◌≤◌, ℕ, suc, 
 use Rattle.std.specs.List.{range_with_len}
 use Rattle.std.proofs.lemmas.Grind.{common_steps}
 use Rattle.std.proofs.lemmas.List.{map-append}
-use Rattle.group_node.specs.Known.{Known}
-use Rattle.group_node.specs.Packets.{Datagram, Packet}
-use Rattle.group_wire.specs.Traffic.{Letter, Traffic, grown, letters_of, posted}
+use Rattle.std.proofs.lemmas.Grind.{flat_map-append}
+use Rattle.paxos_acceptor.specs.declared.me.Me.{Me}
+use Rattle.group_node.specs.Packets.{Datagram}
+use Rattle.group_wire.specs.Doings.{Doing, transfers_in, transfers_of}
+use Rattle.group_wire.specs.Traffic.{Hands, Letter, Traffic, grown, handed, letters_of}
 
 -- traffic that grows twice, as at once
-pub grown_twice : (from via to : Option Traffic) (xs ys both : List Letter) (came more all : List (Option (List ℕ)))
-    → via ≡ grown from xs came → to ≡ grown via ys more → both ≡ xs ++ ys → all ≡ came ++ more → to ≡ grown from both all
-grown_twice from via to xs ys both came more all first second letters receives = grind (arith, common_steps)
+pub grown_twice : (from via to : Option Traffic) (xs ys all : Traffic)
+    → via ≡ grown from xs → to ≡ grown via ys → all ≡ xs ++ ys → to ≡ grown from all
+grown_twice from via to xs ys all first second whole = grind (arith, common_steps)
+
+-- letters that were handed over, and then others
+pub handed_then : (xs ys : List Letter) → handed (xs ++ ys) ≡ handed xs ++ handed ys
+handed_then xs ys = map-append (λ l. Hands l) xs ys
+
+-- what passed in some deeds, and then in others
+pub passed_then : (me : Me) (xs ys : List Doing) → transfers_of me (xs ++ ys) ≡ transfers_of me xs ++ transfers_of me ys
+passed_then me xs ys = flat_map-append (transfers_in me) xs ys
 
 -- the datagrams of some packets, and then of others
 pub letters_then : (size : ℕ) (xs ys : List Datagram) → letters_of size (xs ++ ys) ≡ letters_of size xs ++ letters_of size ys
 letters_then size [] ys = refl
 letters_then size (d ∷ xs) ys = let rest = letters_then size xs ys in grind (arith, common_steps)
-
--- packets of a node, and then others of the same node later on
-pub posted_then : (n later : Known) (xs ys : List Packet) → later.me ≡ n.me → posted n (xs ++ ys) ≡ posted n xs ++ posted later ys
-posted_then n later xs ys same = grind (arith, common_steps, map-append, letters_then)
 
 -- a datagram for node i
 abbrev pub letter : List ℕ → ℕ → Letter
@@ -27,8 +33,8 @@ letter bytes i = record { to = i; bytes = bytes }
 
 -- one more node: with the datagrams for those after it, it is all
 pub next_letter : (known new all : Option Traffic) (bytes : List ℕ) (size node : ℕ) → node ≤ size
-    → new ≡ grown known (letter bytes node ∷ []) []
-    → grown known (map (letter bytes) (range_with_len node (size + 1 - node))) [] ≡ all
-    → grown new (map (letter bytes) (range_with_len (node + 1) (size + 1 - (node + 1)))) [] ≡ all
+    → new ≡ grown known (Hands (letter bytes node) ∷ [])
+    → grown known (handed (map (letter bytes) (range_with_len node (size + 1 - node)))) ≡ all
+    → grown new (handed (map (letter bytes) (range_with_len (node + 1) (size + 1 - (node + 1))))) ≡ all
 next_letter known new all bytes size node within sent whole =
     let count : size + 1 - node ≡ suc (size + 1 - (node + 1)) = omega arith in grind (arith, common_steps)

@@ -16,7 +16,8 @@ use Rattle.group_node.specs.Protocol.{on_message}
 use Rattle.group_node.specs.States.{NodeState, input}
 use Rattle.group_node.specs.Tick.{on_tick}
 use Rattle.group_wire.specs.Arrivals.{Arrival, heard_of}
-use Rattle.group_wire.specs.Turns.{after_heard, ticked_if, released_by, released_of}
+use Rattle.group_wire.specs.Doings.{after_heard, ticked_if}
+use Rattle.group_wire.specs.Turns.{released_by, released_of}
 
 -- the laws of outputs and inputs that grow, and of what a node's calls learn
 pub record Laws : Type 0 where

@@ -1,5 +1,5 @@
 -- Messages that a node hears one after the other.
-use Rattle.std.proofs.Common.{rules, None, ◌≡◌, ◌≢◌, ◌+◌, ◌⊎◌, ◌↔◌, ℕ, Bool, true, List, [], ◌∷◌, ◌++◌, length, Option, Some, Result, Ok, Err, IfErr, IsErrOf, refl, sym, arith, append-nil, append_assoc}
+use Rattle.std.proofs.Common.{rules, None, ◌≡◌, ◌≢◌, ◌+◌, ◌⊎◌, ◌↔◌, ℕ, Bool, true, List, [], ◌∷◌, ◌++◌, length, Option, Some, Result, Ok, Err, IfErr, IsErrOf, refl, sym, ap, ◌∙◌, arith, append-nil, append_assoc}
 use Rattle.std.proofs.lemmas.List.{map-append}
 use Rattle.std.proofs.lemmas.List.Elements.{All-append, All-cons, All-nil, filter_map-append}
 use Rattle.std.proofs.lemmas.List.Sums.{sum_by-append}
@@ -16,21 +16,18 @@ use Rattle.group_node.specs.Calls.{IsLetIn}
 use Rattle.group_node.specs.States.{NodeState, Protocol}
 use Rattle.group_wire.specs.declared.answers.Heard.{Heard}
 use Rattle.group_wire.specs.declared.answers.Heard.TheVariants as answer
-use Rattle.group_wire.specs.Traffic.{Traffic, grown, letters_of, posted}
-use Rattle.group_wire.specs.Arrivals.{Arrival, Ending, Fate, Hears, GoesOn, Refuses, IsFateOf, Spells, heard_of, loss_of, lost_of, heard_message, received}
-use Rattle.group_wire.specs.Turns.{FailsAtEnd, HearsSome, IsHearingRefused, IsOne, IsWireTurn, TellsOfOne, after_heard, answer_of, sent_at, ticked_if}
-use Rattle.group_wire.proofs.Carrying.{grown_twice, posted_then}
+use Rattle.group_wire.specs.Traffic.{Gives, Traffic, grown, handed, letters_of}
+use Rattle.group_wire.specs.Arrivals.{Arrival, Ending, Fate, Hears, Loses, NoMessage, TooLong, GoesOn, Refuses, IsFateOf, Spells, heard_of, loss_of, lost_of, heard_message, received}
+use Rattle.group_wire.specs.Turns.{FailsAtEnd, HearsSome, IsHearingRefused, IsOne, IsWireTurn, TellsOfOne, answer_of}
+use Rattle.group_wire.specs.Doings.{after_fate, after_heard, hearing, last_receiving, receives, receiving, ticked_if, ticking, transfers_of}
+use Rattle.std.specs.List.{cons_option}
+use Rattle.paxos_acceptor.specs.declared.me.Me.{Me}
+use Rattle.group_wire.proofs.Carrying.{grown_twice, passed_then}
 
 -- some messages, and then others
 heard_then : (n : Known) (ms more : List Msg) → after_heard n (ms ++ more) ≡ after_heard (after_heard n ms) more
 heard_then n [] more = refl
 heard_then n (m ∷ ms) more = heard_then (on_message n m.sender m.body).node ms more
-
-sent_then : (n : Known) (ms more : List Msg) → sent_at n (ms ++ more) ≡ sent_at n ms ++ sent_at (after_heard n ms) more
-sent_then n [] more = refl
-sent_then n (m ∷ ms) more =
-    rw (sent_then (on_message n m.sender m.body).node ms more)
-    (sym (append_assoc (on_message n m.sender m.body).sends (sent_at (on_message n m.sender m.body).node ms) _))
 
 -- the messages of some arrivals, and then of others
 heard_of_both : (came later : List Arrival) → heard_of (came ++ later) ≡ heard_of came ++ heard_of later
@@ -44,6 +41,30 @@ received_then : (came later : List Arrival) (ending : Ending)
     → received (came ++ later) ending ≡ received came GoesOn ++ received later ending
 received_then came later ending = grind (arith, common_steps, map-append)
 
+-- a node after one datagram, and then others
+pub after_came : (n : Known) (fate : Fate) (rest : List Msg)
+    → after_heard n (cons_option (heard_message fate) rest) ≡ after_heard (after_fate n fate) rest
+after_came n (Hears m) rest = refl
+after_came n (Loses m) rest = refl
+after_came n TooLong rest = refl
+after_came n NoMessage rest = refl
+
+-- the deeds at some datagrams, and then at others
+receives_then : (me : Me) (n : Known) (came later : List Arrival)
+    → receives me n (came ++ later) ≡ receives me n came ++ receives me (after_heard n (heard_of came)) later
+receives_then me n [] later = refl
+receives_then me n (a ∷ came) later =
+    ap (λ more. receiving me n a ∷ more)
+    (receives_then me (after_fate n a.fate) came later
+    ∙ ap (λ k. receives me (after_fate n a.fate) came ++ receives me k later) (sym (after_came n a.fate (heard_of came))))
+
+-- hearing that goes on, and then more of it, as deeds
+hearing_then : (me : Me) (n : Known) (came later : List Arrival) (ending : Ending)
+    → hearing me n (came ++ later) ending ≡ hearing me n came GoesOn ++ hearing me (after_heard n (heard_of came)) later ending
+hearing_then me n came later ending =
+    rw (receives_then me n came later, append-nil (receives me n came))
+    (append_assoc (receives me n came) (receives me (after_heard n (heard_of came)) later) (last_receiving ending))
+
 -- a node that has heard some, and then others
 hears_then : {S : Type 0} {came later : List Arrival} {ending : Ending} {old mid new : NodeState S} {from via to : Option Traffic}
     → (old.protocol.is_stopped ≡ true → mid.protocol.is_stopped ≡ true)
@@ -53,9 +74,12 @@ hears_then : {S : Type 0} {came later : List Arrival} {ending : Ending} {old mid
 hears_then {S} {came} {later} {ending} {old} {mid} {new} {from} {via} {to} stays first second =
     let n : Known = old.protocol.known in
     let next : Known = mid.protocol.known in
-    let sent : posted n (sent_at n (heard_of (came ++ later)))
-    ≡ posted n (sent_at n (heard_of came)) ++ posted next (sent_at next (heard_of later)) =
-    rw (heard_of_both came later, sent_then n (heard_of came) (heard_of later), ← first.known) (posted_then n next _ _ first.me) in
+    let both : transfers_of n.me (hearing n.me n (came ++ later) ending)
+    ≡ transfers_of n.me (hearing n.me n came GoesOn) ++ transfers_of next.me (hearing next.me next later ending) =
+    ap (transfers_of n.me) (hearing_then n.me n came later ending)
+    ∙ passed_then n.me (hearing n.me n came GoesOn) (hearing n.me (after_heard n (heard_of came)) later ending)
+    ∙ (λ t. transfers_of n.me (hearing n.me n came GoesOn) ++ transfers_of (sym first.me t)
+    (hearing (sym first.me t) (sym first.known t) later ending)) in
     record {
       fates = All-append (λ (a : Arrival). IsFateOf n.me.group a.bytes a.fate) came later first.fates (rw first.me at second.fates);
       last = rw first.me at second.last;
@@ -65,7 +89,7 @@ hears_then {S} {came} {later} {ending} {old} {mid} {new} {from} {via} {to} stays
           grind (arith, common_steps, heard_of_both, lost_of_both);
       known = grind (arith, common_steps, heard_then, heard_of_both);
       me = cc;
-      traffic = grown_twice _ _ _ _ _ _ _ _ _ first.traffic second.traffic sent (received_then came later ending);
+      traffic = grown_twice _ _ _ _ _ _ first.traffic second.traffic both;
       progress = cc;
     }
 
@@ -83,7 +107,7 @@ pub hears_none : {S : Type 0} {honest : Type 0} (state : S → StoreState) {g : 
     (bytes : List ℕ) (fate : Fate) (h : Heard)
     → old.protocol.known.me.group ≡ g → IsFateOf g bytes fate → heard_message fate ≡ None
     → TellsOfOne (Ok h) (record { bytes = bytes; fate = fate } ∷ []) GoesOn → (old.protocol.is_stopped ≡ true → loss_of fate ≡ 0)
-    → new.protocol.known ≡ old.protocol.known → new.progress ≡ old.progress → to ≡ grown from [] (Some bytes ∷ [])
+    → new.protocol.known ≡ old.protocol.known → new.progress ≡ old.progress → to ≡ grown from (Gives (Some bytes) ∷ [])
     → HearsThere honest state old new from to (Ok h)
 hears_none state from to bytes fate h group is none tells without known progress traffic =
     (record { bytes = bytes; fate = fate } ∷ [], GoesOn, grind (arith, common_steps, All-cons, All-nil), tells, λ failed. absurd cc)
@@ -95,7 +119,7 @@ pub hears_one : {S : Type 0} {honest : Type 0} (state : S → StoreState) {g : G
     → new.protocol.known ≡ (on_message old.protocol.known m.sender m.body).node
     → (on_message old.protocol.known m.sender m.body).node.me ≡ old.protocol.known.me → new.progress ≡ old.progress → before ≡ []
     → waits ≡ before ++ datagrams_of old.protocol.known.me (on_message old.protocol.known m.sender m.body).sends
-    → to ≡ grown via (letters_of g.size waits) [] → via ≡ grown from [] (Some bytes ∷ [])
+    → to ≡ grown via (handed (letters_of g.size waits)) → via ≡ grown from (Gives (Some bytes) ∷ [])
     → HearsThere honest state old new from to (Ok answer.Message)
 hears_one state from via to bytes m before waits group spelled works known me progress empty sends traffic came =
     let a : Arrival = record { bytes = bytes; fate = Hears m } in
@@ -105,7 +129,7 @@ hears_one state from via to bytes m before waits group spelled works known me pr
 pub refuses_one : {S : Type 0} {honest : Type 0} (state : S → StoreState) {g : Group} {old new : NodeState S} (from to : Option Traffic)
     (bytes : List ℕ) (m : Msg) (fault : NodeFault) (result : Result Heard NodeFault)
     → old.protocol.known.me.group ≡ g → Spells g bytes m → new.protocol.known ≡ old.protocol.known → new.progress ≡ old.progress
-    → to ≡ grown from [] (Some bytes ∷ []) → result ≡ Err fault
+    → to ≡ grown from (Gives (Some bytes) ∷ []) → result ≡ Err fault
     → (honest → fault ≡ Store → IsOneOf (state new.protocol.store).stored old.protocol.known.kept
     (on_message old.protocol.known m.sender m.body).node.kept)
     → HearsThere honest state old new from to result
@@ -165,17 +189,20 @@ hears_one_more h stays (came, first, many, losses) (later, ending, second, told,
 pub turn_is : {S : Type 0} {g : Group} {came : List Arrival} {ending : Ending} {ticks : Bool} {old mid new : NodeState S}
     {from to : Option Traffic} (via : Option Traffic)
     → HearsSome g came ending old mid from via → new.protocol.known ≡ (ticked_if ticks mid.protocol.known).node
-    → to ≡ grown via (posted mid.protocol.known (ticked_if ticks mid.protocol.known).sends) []
+    → to ≡ grown via (transfers_of mid.protocol.known.me (ticking mid.protocol.known.me ticks mid.protocol.known))
     → IsWireTurn g came ending old new from to ticks
 turn_is {S} {g} {came} {ending} {ticks} {old} {mid} via h known last =
+    let n : Known = old.protocol.known in
     let next : Known = mid.protocol.known in
-    let sent = posted_then old.protocol.known next (sent_at old.protocol.known (heard_of came)) (ticked_if ticks next).sends h.me in
+    let heard : Known = after_heard n (heard_of came) in
+    let both : transfers_of n.me (hearing n.me n came ending ++ ticking n.me ticks heard)
+    ≡ transfers_of n.me (hearing n.me n came ending) ++ transfers_of next.me (ticking next.me ticks next) =
+    passed_then n.me (hearing n.me n came ending) (ticking n.me ticks heard)
+    ∙ (λ t. transfers_of n.me (hearing n.me n came ending) ++ transfers_of (sym h.me t) (ticking (sym h.me t) ticks (sym h.known t))) in
     record {
       fates = h.fates;
       last = h.last;
       deaf = h.deaf;
       known = rw (← h.known) known;
-      traffic =
-          rw (← h.known)
-          (grown_twice _ _ _ _ _ _ _ _ _ h.traffic last sent (sym (append-nil (received came ending))));
+      traffic = grown_twice _ _ _ _ _ _ h.traffic last both;
     }

@@ -1,3 +1,5 @@
 pub mod Carrying
 pub mod Hearing
 pub mod Going
+mod Acting
+mod Typing

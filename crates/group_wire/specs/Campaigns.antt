@@ -1,5 +1,5 @@
 -- A campaign of a node on its wire.
-use Rattle.std.specs.Prelude.{◌≡◌, ◌⊎◌, ◌↔◌, ◌<◌, true, false, [], Option, Result, IfErr, IsErrOf, OnErr, OnOk}
+use Rattle.std.specs.Prelude.{◌≡◌, ◌⊎◌, ◌↔◌, ◌<◌, true, false, Option, Result, IfErr, IsErrOf, OnErr, OnOk}
 use Rattle.paxos_msg.specs.declared.limits.TheConstants.{LAST_ROUND, PLACES}
 use Rattle.paxos_acceptor.specs.Stores.{StoreState}
 use Rattle.group_node.specs.declared.fault.NodeFault.{NodeFault}
@@ -8,7 +8,7 @@ use Rattle.group_node.specs.Calls.{RefusesIfStopped, Saves}
 use Rattle.group_node.specs.Known.{front}
 use Rattle.group_node.specs.ProposerRows.{last_round, on_campaign}
 use Rattle.group_node.specs.States.{NodeState}
-use Rattle.group_wire.specs.Traffic.{Traffic, grown, posted}
+use Rattle.group_wire.specs.Traffic.{Traffic, grown, handed, posted}
 
 -- A node and its wire after a campaign, with the answer.
 -- At `Ok` the node is that of `on_campaign`, and all that it sends went to the wire. At a refusal
@@ -19,7 +19,7 @@ pub record HasCampaigned {S : Type 0} (honest at_will : Type 0) (state : S → S
     : Type 0 where
   pub ok : OnOk result (new.protocol.known ≡ (on_campaign old.protocol.known).node)
   pub sends : OnOk result
-      (to ≡ grown from (posted old.protocol.known (on_campaign old.protocol.known).sends) [])
+      (to ≡ grown from (handed (posted old.protocol.known (on_campaign old.protocol.known).sends)))
   pub err : OnErr result (new.protocol.known ≡ old.protocol.known)
   pub unsent : OnErr result (to ≡ from)
   pub stops :

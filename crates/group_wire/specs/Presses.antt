@@ -1,15 +1,25 @@
 -- Bytes that are typed at a node.
-use Rattle.std.specs.Prelude.{◌≡◌, ◌≢◌, ◌↔◌, ◌⊎◌, ◌+◌, ◌<◌, ℕ, true, false, List, [], ◌++◌, length, Result, IfErr, IsErrOf, OnErr, OnOk}
+use Rattle.std.specs.Prelude.{◌≡◌, ◌≢◌, ◌↔◌, ◌⊎◌, ◌+◌, ◌<◌, ℕ, true, false, List, [], ◌∷◌, ◌++◌, length, Result, IfErr, IsErrOf, OnErr, OnOk}
 use Rattle.paxos_msg.specs.declared.limits.TheConstants.{LAST_SERIAL}
 use Rattle.group_node.specs.declared.limits.TheConstants.{MOST_WAITING}
 use Rattle.group_node.specs.declared.fault.NodeFault.{NodeFault}
 use Rattle.group_node.specs.declared.fault.NodeFault.TheVariants.{SerialSpent, Stopped}
-use Rattle.group_node.specs.Known.{Known, next_serial}
+use Rattle.group_node.specs.Known.{Known, next_serial, on_typed}
 use Rattle.group_node.specs.States.{NodeState}
 
 -- A node after these bytes were typed at it: their keys wait, after those that waited.
 abbrev pub after_pressed : Known → List ℕ → Known
 after_pressed n bytes = record n { waiting = n.waiting ++ bytes }
+
+-- Room for one more key: fewer than 256 wait, and there is a serial for it.
+abbrev pub HasKeyRoom : Known → Type 0
+HasKeyRoom n = (length n.waiting ≢ MOST_WAITING) × (next_serial n ≢ LAST_SERIAL + 1)
+
+-- Bytes that are typed one after the other, each where there is room for its key.
+abbrev pub AreTyped : Known → List ℕ → Type 0
+AreTyped n [] = Unit {0}
+AreTyped n (byte ∷ bytes) =
+    (byte < 256) × HasKeyRoom n × AreTyped (on_typed n byte).node bytes
 
 -- The refusals of typing: the node has stopped, or no serial is left.
 abbrev pub IsPressFault : NodeFault → Type 0
@@ -25,6 +35,7 @@ pub record HasPressed {S : Type 0} (old new : NodeState S) (before after : List 
   pub typed : List ℕ
   pub bytes : before ≡ typed ++ after
   pub known : new.protocol.known ≡ after_pressed old.protocol.known typed
+  pub room : AreTyped old.protocol.known typed
   pub full : OnOk result ((after ≡ []) ⊎ (length new.protocol.known.waiting ≡ MOST_WAITING))
   pub err : OnErr result (after ≢ [])
   pub others : IfErr result IsPressFault

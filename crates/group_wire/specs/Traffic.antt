@@ -11,17 +11,25 @@ pub record Letter : Type 0 where
   pub to : ℕ
   pub bytes : List ℕ
 
--- What a wire got to send and what each receive gave, each in order.
--- A receive gave a datagram, or nothing.
-pub record Traffic : Type 0 where
-  pub handed : List Letter
-  pub given : List (Option (List ℕ))
+-- What passes over a wire: a datagram that it gets to send, or what a receive gives.
+-- A receive gives a datagram, or nothing.
+pub data Transfer : Type 0 where
+  Hands : Letter → Transfer
+  Gives : Option (List ℕ) → Transfer
 
--- Known traffic after the wire got more datagrams to send and gave more receives.
+-- What has passed over a wire, in one order.
+-- Forbids: an answer that went out before the message that it answers had come.
+abbrev pub Traffic : Type 0
+Traffic = List Transfer
+
+-- Known traffic after more has passed.
 -- Allows: a wire whose traffic is unknown.
-abbrev pub grown : Option Traffic → List Letter → List (Option (List ℕ)) → Option Traffic
-grown known letters received =
-    option_map (λ t. record { handed = t.handed ++ letters; given = t.given ++ received }) known
+abbrev pub grown : Option Traffic → Traffic → Option Traffic
+grown known more = option_map (λ t. t ++ more) known
+
+-- Letters that a wire got to send, as traffic.
+abbrev pub handed : List Letter → Traffic
+handed letters = map (λ l. Hands l) letters
 
 -- A datagram in a group of `size` nodes as a letter for each node that it goes to, node 1 first.
 -- Allows: a letter to the sender itself.

@@ -1,5 +1,5 @@
 -- A turn of a node on its wire: the messages that it hears, a tick, and a run of its machine.
-use Rattle.std.specs.Prelude.{◌≡◌, ◌⊎◌, ◌↔◌, ◌≤◌, Bool, true, false, ⊤, if◌then◌else◌, List, [], ◌∷◌, ◌++◌, All, length, Option, Result, Ok, Err, IfErr, IfOk, IsErr, IsErrOf, OnErr, OnOk, ℕ, take}
+use Rattle.std.specs.Prelude.{◌≡◌, ◌⊎◌, ◌↔◌, ◌≤◌, Bool, true, false, ⊤, List, [], ◌∷◌, ◌++◌, All, length, Option, Result, Ok, Err, IfErr, IfOk, IsErr, IsErrOf, OnErr, OnOk, ℕ, take}
 use Rattle.paxos_msg.specs.declared.message.Group.{Group}
 use Rattle.paxos_msg.specs.Batches.{Msg}
 use Rattle.paxos_acceptor.specs.Stores.{HasCause, IsOneOf, StoreState}
@@ -7,17 +7,15 @@ use Rattle.group_node.specs.declared.fault.NodeFault.{NodeFault}
 use Rattle.group_node.specs.declared.fault.NodeFault.TheVariants.{Stopped, Store}
 use Rattle.group_node.specs.Protocol.{on_message}
 use Rattle.group_node.specs.Calls.{RefusesIfStopped}
-use Rattle.group_node.specs.Known.{Response, Known, quiet}
 use Rattle.group_node.specs.Output.{RunsOn, Progress}
-use Rattle.group_node.specs.Tick.{on_tick}
-use Rattle.group_node.specs.Packets.{Packet}
 use Rattle.group_node.specs.States.{NodeState, input}
 use Rattle.group_wire.specs.declared.answers.Heard.{Heard}
 use Rattle.group_wire.specs.declared.answers.Heard.TheVariants as answer
 use Rattle.group_wire.specs.declared.answers.Turned.{Turned}
 use Rattle.group_wire.specs.declared.limits.TheConstants.{MOST_RECEIVES, TURN_STEPS}
 use Rattle.group_wire.specs.Arrivals.{Arrival, Ending, EndsAt, Fate, GoesOn, Hears, IsFateOf, IsSpelledEnding, IsUnheard, Loses, NoMessage, NoneCame, TooLong, heard_of, lost_of, received}
-use Rattle.group_wire.specs.Traffic.{Traffic, grown, posted}
+use Rattle.group_wire.specs.Doings.{after_heard, hearing, ticked_if, ticking, transfers_of}
+use Rattle.group_wire.specs.Traffic.{Traffic, grown}
 use Rattle.pcode_machine.specs.Runs.{out}
 
 -- The bytes that were released: the first ones of the output so far on the input `x`.
@@ -31,21 +29,6 @@ released_by n = released_of (input n.protocol.known) n.progress
 -- Two states of a node in which it has released the same bytes.
 abbrev pub SameReleased : {S : Type 0} → NodeState S → NodeState S → Type 0
 SameReleased old new = released_by new ≡ released_by old
-
--- A node after it has heard these messages, one after the other.
-abbrev pub after_heard : Known → List Msg → Known
-after_heard n [] = n
-after_heard n (m ∷ ms) = after_heard (on_message n m.sender m.body).node ms
-
--- What a node sends at these messages.
-abbrev pub sent_at : Known → List Msg → List Packet
-sent_at n [] = []
-sent_at n (m ∷ ms) =
-    (on_message n m.sender m.body).sends ++ sent_at (on_message n m.sender m.body).node ms
-
--- A tick, or nothing.
-abbrev pub ticked_if : Bool → Known → Response
-ticked_if ticks n = if ticks then on_tick n else quiet n
 
 -- The refusals of a receive and of a turn: the node has stopped, or a save fails now.
 abbrev pub IsTurnFault : NodeFault → Type 0
@@ -61,9 +44,8 @@ pub record HearsSome {S : Type 0} (g : Group) (came : List Arrival) (ending : En
   pub deaf : old.protocol.is_stopped ≡ true → IsUnheard came
   pub known : new.protocol.known ≡ after_heard old.protocol.known (heard_of came)
   pub me : new.protocol.known.me ≡ old.protocol.known.me
-  pub traffic : to ≡ grown from
-      (posted old.protocol.known (sent_at old.protocol.known (heard_of came)))
-      (received came ending)
+  pub traffic : to ≡ grown from (transfers_of old.protocol.known.me
+      (hearing old.protocol.known.me old.protocol.known came ending))
   pub progress : new.progress ≡ old.progress
 
 -- A node and its wire once these datagrams came and the node then ticked, or did not.
@@ -79,10 +61,10 @@ pub record IsWireTurn {S : Type 0} (g : Group) (came : List Arrival) (ending : E
   pub deaf : old.protocol.is_stopped ≡ true → IsUnheard came
   pub known :
       new.protocol.known ≡ (ticked_if ticks (after_heard old.protocol.known (heard_of came))).node
-  pub traffic : to ≡ grown from
-      (posted old.protocol.known (sent_at old.protocol.known (heard_of came)
-      ++ (ticked_if ticks (after_heard old.protocol.known (heard_of came))).sends))
-      (received came ending)
+  pub traffic : to ≡ grown from (transfers_of old.protocol.known.me
+      (hearing old.protocol.known.me old.protocol.known came ending
+      ++ ticking old.protocol.known.me ticks
+      (after_heard old.protocol.known (heard_of came))))
 
 -- ---- what the answers say
 

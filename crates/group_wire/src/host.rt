@@ -1,9 +1,12 @@
 //! A node with its outbox.
-ghost use Rattle.std.specs.Prelude.{◌≡◌, ◌⊎◌, ◌+◌, length, option_map, slice_get, IfErr, IfNone, IfOk, OnSome};
+ghost use Rattle.std.specs.Prelude.{◌≡◌, ◌⊎◌, ◌+◌, [], ◌∷◌, length, Option, option_map, slice_get, IfErr, IfNone, IfOk, OnSome};
+ghost use Rattle.group_node.specs.Deeds.{Campaign};
 ghost use Rattle.group_node.specs.Known.{on_start};
 ghost use Rattle.group_node.specs.Output.{IsReplay, unreleased_of};
 ghost use Rattle.group_node.specs.States.{input};
 ghost use Rattle.group_wire.specs.Campaigns.{HasCampaigned};
+ghost use Rattle.group_wire.specs.Doings.{ActsBy, HasActed};
+ghost use Rattle.group_wire.specs.Traffic.{Traffic};
 ghost use Rattle.group_wire.specs.Turns.{SameReleased};
 ghost use Rattle.group_wire.specs.Starts.{HasStarted};
 
@@ -93,10 +96,8 @@ impl<'a, S: Store> Host<'a, S> {
         &self.node
     }
 
-    /// Begins the node's next ballot, as `on_campaign` defines, and passes what it sends to `wire`
-    /// at once (`HasCampaigned`). Its refusals come as those of `Node::campaign`, but none for a
-    /// full outbox. After a refusal nothing was sent.
-    pub fn campaign<T: Wire>(&mut self, wire: &mut T) -> Result<(), NodeFault>
+    /// Begins the node's next ballot, as `campaign` says.
+    fn begin_campaign<T: Wire>(&mut self, wire: &mut T) -> Result<(), NodeFault>
         ensures campaigned { HasCampaigned S.honest S.fails_at_will S.state self.old self.new
             (T.traffic wire.old) (T.traffic wire.new) result }
         ensures stays { SameReleased self.old self.new }
@@ -104,6 +105,19 @@ impl<'a, S: Store> Host<'a, S> {
         self.node.campaign(&mut self.outbox)?;
         send_all(wire, &mut self.outbox, self.group.size);
         Ok(())
+    }
+
+    /// Begins the node's next ballot, as `on_campaign` defines, and passes what it sends to `wire`
+    /// at once (`HasCampaigned`). Its refusals come as those of `Node::campaign`, but none for a
+    /// full outbox. After a refusal nothing was sent.
+    pub fn campaign<T: Wire>(&mut self, wire: &mut T) -> Result<(), NodeFault>
+        ensures campaigned { HasCampaigned S.honest S.fails_at_will S.state self.old self.new
+            (T.traffic wire.old) (T.traffic wire.new) result }
+        ensures acts { ActsBy self.old self.new (T.traffic wire.old) (T.traffic wire.new)
+            (Campaign ∷ []) (Campaign ∷ []) result }
+        ensures stays { SameReleased self.old self.new }
+    {
+        self.begin_campaign(wire)
     }
 
     /// Releases the first byte of the output that waits. Returns its number, which is the number of
@@ -118,6 +132,7 @@ impl<'a, S: Store> Host<'a, S> {
             ≡ record self.old.progress { released = self.old.progress.released + 1 }) }
         ensures none { IfNone result (self.new ≡ self.old) }
         ensures protocol { self.new.protocol ≡ self.old.protocol }
+        ensures acts { (passed : Option Traffic) → HasActed self.old self.new passed passed [] }
     {
         self.node.release()
     }

@@ -15,6 +15,7 @@
 
 mod answers;
 mod host;
+pub mod laws;
 pub mod limits;
 mod press;
 mod sending;

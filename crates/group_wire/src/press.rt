@@ -5,7 +5,8 @@ ghost use Rattle.group_node.specs.declared.limits.TheConstants.{MOST_WAITING};
 ghost use Rattle.group_node.specs.Calls.{RefusesIfStopped};
 ghost use Rattle.group_node.specs.Known.{next_serial};
 ghost use Rattle.group_wire.specs.Turns.{SameReleased};
-ghost use Rattle.group_wire.specs.Presses.{HasPressed, IsPressFault, after_pressed};
+ghost use Rattle.group_wire.specs.Doings.{ActsTyping};
+ghost use Rattle.group_wire.specs.Presses.{HasPressed, HasKeyRoom, IsPressFault, after_pressed};
 
 use crate::host::Host;
 use group_node::NodeFault;
@@ -18,6 +19,8 @@ impl<'a, S: Store> Host<'a, S> {
         ensures typed { IfOk result (λ has_room. self.new.protocol.known
             ≡ (if has_room then after_pressed self.old.protocol.known (byte ∷ [])
             else self.old.protocol.known)) }
+        ensures room { IfOk result (λ has_room.
+            has_room ≡ true → HasKeyRoom self.old.protocol.known) }
         ensures full { IfOk result (λ has_room.
             has_room ≡ false → length self.old.protocol.known.waiting ≡ MOST_WAITING) }
         ensures err { IfErr result (λ _. self.new.protocol.known ≡ self.old.protocol.known) }
@@ -31,11 +34,27 @@ impl<'a, S: Store> Host<'a, S> {
             × (self.new.protocol.is_stopped ≡ self.old.protocol.is_stopped)
             × (self.new.progress ≡ self.old.progress) }
     {
+        // At most 256 keys wait.
+        let _waiting = self.node.waiting();
         match self.node.typed(byte) {
             Ok(_) => Ok(true),
             Err(NodeFault::Busy) => Ok(false),
             Err(fault) => Err(fault),
         }
+    }
+
+    /// Types bytes from the front of `bytes`, as `press` says.
+    fn press_all(&mut self, bytes: &mut &[u8]) -> Result<(), NodeFault>
+        ensures pressed { HasPressed self.old self.new bytes.old.now bytes.new.now result }
+        ensures stays { SameReleased self.old self.new }
+    {
+        while let Some((byte, others)) = bytes.split_first() {
+            if !self.press_one(*byte)? {
+                return Ok(());
+            }
+            *bytes = others;
+        }
+        Ok(())
     }
 
     /// Types bytes from the front of `bytes`, each once and in order, and leaves the others there.
@@ -47,14 +66,9 @@ impl<'a, S: Store> Host<'a, S> {
     /// left.
     pub fn press(&mut self, bytes: &mut &[u8]) -> Result<(), NodeFault>
         ensures pressed { HasPressed self.old self.new bytes.old.now bytes.new.now result }
+        ensures acts { ActsTyping self.old self.new bytes.old.now bytes.new.now }
         ensures stays { SameReleased self.old self.new }
     {
-        while let Some((byte, others)) = bytes.split_first() {
-            if !self.press_one(*byte)? {
-                return Ok(());
-            }
-            *bytes = others;
-        }
-        Ok(())
+        self.press_all(bytes)
     }
 }

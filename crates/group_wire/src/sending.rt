@@ -1,6 +1,6 @@
 //! Packets of an outbox as datagrams on a wire.
 ghost use Rattle.std.specs.Prelude.{◌≡◌, []};
-ghost use Rattle.group_wire.specs.Traffic.{grown, letters_of, letters_to};
+ghost use Rattle.group_wire.specs.Traffic.{grown, handed, letters_of, letters_to};
 
 use crate::wire::Wire;
 use group_node::{Outbox, Packet, To};
@@ -8,7 +8,7 @@ use group_node::{Outbox, Packet, To};
 /// Sends a datagram on the wire to each node of a group of `size` nodes. A failed send is a loss.
 fn send_to_all<T: Wire>(wire: &mut T, bytes: &[u8], size: u8)
     ensures traffic { T.traffic wire.new
-        ≡ grown (T.traffic wire.old) (letters_to size To.All bytes.now) [] }
+        ≡ grown (T.traffic wire.old) (handed (letters_to size To.All bytes.now)) }
 {
     for node in 1..=size {
         wire.send(node, bytes);
@@ -18,7 +18,7 @@ fn send_to_all<T: Wire>(wire: &mut T, bytes: &[u8], size: u8)
 /// Sends a packet on the wire, once for each node that it goes to. A failed send is a loss.
 fn send_packet<T: Wire>(wire: &mut T, packet: &Packet, size: u8)
     ensures traffic { T.traffic wire.new
-        ≡ grown (T.traffic wire.old) (letters_to size packet.now.to packet.now.bytes) [] }
+        ≡ grown (T.traffic wire.old) (handed (letters_to size packet.now.to packet.now.bytes)) }
 {
     let bytes = packet.bytes.as_slice();
     match packet.to {
@@ -32,7 +32,7 @@ fn send_packet<T: Wire>(wire: &mut T, packet: &Packet, size: u8)
 /// Sends all packets of the outbox on the wire, the oldest first.
 pub fn send_all<T: Wire>(wire: &mut T, outbox: &mut Outbox, size: u8)
     ensures traffic { T.traffic wire.new
-        ≡ grown (T.traffic wire.old) (letters_of size outbox.old.packets) [] }
+        ≡ grown (T.traffic wire.old) (handed (letters_of size outbox.old.packets)) }
     ensures empty { outbox.new.packets ≡ [] }
 {
     while let Some(packet) = outbox.pop() {

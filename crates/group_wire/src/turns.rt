@@ -1,11 +1,13 @@
 //! The turns of a node on its wire, and its receives between them.
 ghost use Rattle.std.specs.Prelude.{◌≡◌, ◌≢◌, List, [], ◌∷◌, true, Option, Some, IfErr, IfOk, OnErr, OnOk};
+ghost use Rattle.group_node.specs.Deeds.{Run};
 ghost use Rattle.group_node.specs.Output.{RunsOn};
 ghost use Rattle.group_node.specs.States.{input};
 ghost use Rattle.group_wire.specs.declared.limits.TheConstants.{TURN_STEPS};
 ghost use Rattle.group_wire.specs.Arrivals.{Arrival, Ending, lost_of};
-ghost use Rattle.group_wire.specs.Turns.{SameReleased, IsRefusedIfStopped, FailsAtEnd, HasHeard, HasTurned, HearsOut, HearsSome, IsHearingRefused, TellsOfOne, ticked_if};
-ghost use Rattle.group_wire.specs.Traffic.{Traffic, grown, posted};
+ghost use Rattle.group_wire.specs.Turns.{SameReleased, IsRefusedIfStopped, FailsAtEnd, HasHeard, HasTurned, HearsOut, HearsSome, IsHearingRefused, TellsOfOne};
+ghost use Rattle.group_wire.specs.Doings.{ActsBy, ticked_if, ticking, transfers_of};
+ghost use Rattle.group_wire.specs.Traffic.{Gives, Traffic, grown};
 
 use crate::answers::{Heard, Turned};
 use crate::host::Host;
@@ -38,7 +40,7 @@ impl<'a, S: Store> Host<'a, S> {
     /// `Err` the node has refused the message.
     fn hear_bytes<T: Wire>(&mut self, wire: &mut T, bytes: &[u8]) -> Result<Heard, NodeFault>
         ensures hears { (from : Option Traffic)
-            → T.traffic wire.old ≡ grown from [] (Some bytes.now ∷ [])
+            → T.traffic wire.old ≡ grown from (Gives (Some bytes.now) ∷ [])
             → (came : List Arrival) × (ending : Ending)
             × HearsSome self.old.protocol.known.me.group came ending self.old self.new from
             (T.traffic wire.new)
@@ -105,8 +107,8 @@ impl<'a, S: Store> Host<'a, S> {
         ensures known { IfOk result (λ ticks.
             self.new.protocol.known ≡ (ticked_if ticks self.old.protocol.known).node) }
         ensures traffic { IfOk result (λ ticks. T.traffic wire.new
-            ≡ grown (T.traffic wire.old)
-            (posted self.old.protocol.known (ticked_if ticks self.old.protocol.known).sends) []) }
+            ≡ grown (T.traffic wire.old) (transfers_of self.old.protocol.known.me
+            (ticking self.old.protocol.known.me ticks self.old.protocol.known))) }
         ensures err { OnErr result
             ((self.new.protocol.known ≡ self.old.protocol.known)
             × (T.traffic wire.new ≡ T.traffic wire.old)) }
@@ -158,6 +160,8 @@ impl<'a, S: Store> Host<'a, S> {
     pub fn hear<T: Wire>(&mut self, wire: &mut T) -> Result<Heard, NodeFault>
         ensures heard { HasHeard S.honest S.state self.old self.new (T.traffic wire.old)
             (T.traffic wire.new) result }
+        ensures acts { ActsBy self.old self.new (T.traffic wire.old) (T.traffic wire.new) [] []
+            result }
         ensures stays { SameReleased self.old self.new }
     {
         calls_keep_what_is_learned();
@@ -172,9 +176,9 @@ impl<'a, S: Store> Host<'a, S> {
     /// Takes a turn on `wire`: receives until no datagram is there, at most 64 times, then ticks,
     /// then runs the machine for at most 1,000 steps (`HasTurned`). What these calls send goes to
     /// `wire`, in order. Returns why the run ended, whether the node ticked, and how many messages
-    /// were lost. Fails with `Stopped` exactly if a save had failed before, or with `Store` if one
-    /// fails now.
+    /// were lost.
     ///
+    /// Fails with `Stopped` exactly if a save had failed before, or with `Store` if one fails now.
     /// The node hears each message of the group that a datagram spells, in order. A datagram is
     /// dropped only if it has more than 1,400 bytes or spells no message of the group. If memory
     /// runs out at a message, the message is lost and counted; at the tick, the node does not tick.
@@ -187,6 +191,8 @@ impl<'a, S: Store> Host<'a, S> {
     pub fn turn<T: Wire>(&mut self, wire: &mut T) -> Result<Turned, NodeFault>
         ensures turned { HasTurned S.honest S.state self.old self.new (T.traffic wire.old)
             (T.traffic wire.new) result }
+        ensures acts { ActsBy self.old self.new (T.traffic wire.old) (T.traffic wire.new)
+            (Run TURN_STEPS ∷ []) [] result }
         ensures stays { SameReleased self.old self.new }
     {
         calls_keep_what_is_learned();
@@ -194,6 +200,9 @@ impl<'a, S: Store> Host<'a, S> {
         output_only_grows();
         // The machine is where a replay from the start is.
         self.unreleased();
-        self.take_turn(wire)
+        let turned = self.take_turn(wire);
+        // And so it is after the turn.
+        self.unreleased();
+        turned
     }
 }

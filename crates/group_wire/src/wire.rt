@@ -1,6 +1,6 @@
 //! What carries datagrams between the nodes of a group.
 ghost use Rattle.std.specs.Prelude.{◌≡◌, ◌≤◌, [], ◌∷◌, length, take, None, Option, Some, IfNone, IfSome};
-ghost use Rattle.group_wire.specs.Traffic.{Traffic, grown};
+ghost use Rattle.group_wire.specs.Traffic.{Gives, Hands, Traffic, grown};
 
 /// A node's connection to its group, itself included. Datagrams may be lost, repeated, delayed and
 /// reordered. Datagrams that are not the group's may come too.
@@ -14,7 +14,7 @@ pub trait Wire {
     /// Returns true if the datagram goes out; false is a loss.
     fn send(&mut self, to: u8, bytes: &[u8]) -> bool
         ensures handed { traffic self.new
-            ≡ grown (traffic self.old) (record { to = to; bytes = bytes.now } ∷ []) [] };
+            ≡ grown (traffic self.old) (Hands (record { to = to; bytes = bytes.now }) ∷ []) };
 
     /// Puts the next datagram, if one is there, at the front of `buffer`. Returns the number of its
     /// bytes there, at most the buffer's length, or `None`. Adds to the traffic what the receive
@@ -24,6 +24,8 @@ pub trait Wire {
     fn receive(&mut self, buffer: &mut [u8]) -> Option<usize>
         ensures within { IfSome result (λ count. count ≤ length buffer.new) }
         ensures given { IfSome result (λ count.
-            traffic self.new ≡ grown (traffic self.old) [] (Some (take count buffer.new) ∷ [])) }
-        ensures idle { IfNone result (traffic self.new ≡ grown (traffic self.old) [] (None ∷ [])) };
+            traffic self.new
+            ≡ grown (traffic self.old) (Gives (Some (take count buffer.new)) ∷ [])) }
+        ensures idle { IfNone result
+            (traffic self.new ≡ grown (traffic self.old) (Gives None ∷ [])) };
 }

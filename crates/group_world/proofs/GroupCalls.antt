@@ -1,7 +1,7 @@
 -- A group after each event, by its node after it.
 use Rattle.std.proofs.lemmas.Option.{none-some, get_or_from_slice_get}
 use Rattle.std.proofs.lemmas.List.{set-get_or, append-nil}
-use Rattle.std.proofs.Common.{set, ◌≡◌, ◌∙◌, ℕ, zero, suc, ◌-◌, ◌<◌, nat_lt, All, Bool, true, false, if◌then◌else◌, List, [], ◌∷◌, ◌++◌, get_or, length, slice_get, slice_set, is_some, Option, None, Some, Result, Ok, Err, IfOk, OnErr, OnOk, inr, refl, sym, ap, subst, arith}
+use Rattle.std.proofs.Common.{set, ◌≡◌, ◌∙◌, ℕ, zero, suc, ◌-◌, ◌<◌, nat_lt, All, Bool, true, false, if◌then◌else◌, List, [], ◌∷◌, ◌++◌, get_or, length, slice_get, slice_set, is_some, Option, None, Some, Result, Ok, Err, IfOk, OnErr, OnOk, refl, sym, ap, subst, arith}
 use Rattle.std.specs.List.{cons_option}
 use Rattle.std.proofs.lemmas.Bool.{ltb-true}
 use Rattle.std.proofs.lemmas.Result.{IfOk-weaker, on_err_weaker}
@@ -22,24 +22,23 @@ use Rattle.group_world.specs.declared.event.Done.TheVariants.{Applied}
 use Rattle.group_world.specs.declared.fault.WorldFault.{WorldFault}
 use Rattle.group_world.specs.declared.fault.WorldFault.TheVariants.{NoMessage, NoNode, NodeDown}
 use Rattle.group_world.specs.declared.member.Ask.{Ask}
-use Rattle.group_world.specs.Event.{Goes, Leaves, LeavesAsked, Performs, node_of}
+use Rattle.group_world.specs.Event.{Leaves, LeavesAsked, Performs, node_of}
 use Rattle.group_world.specs.Group.{HasUp, group_after, me_of, member_at, message_of, messages_in, World}
-use Rattle.group_world.specs.Member.{NodeCall, call_of_ask, call_of_press, call_outcome, CallOutcome, CallEnds, FailsByMemory, Fell, Happened, Member, Refused, Running, RunsMember, member_after, member_after_release, sent_by, typed_by}
+use Rattle.group_world.specs.Member.{NodeCall, call_of_ask, call_of_press, call_outcome, CallOutcome, CallEnds, Fell, Happened, Member, Refused, Running, RunsMember, member_after, member_after_release, sent_by, typed_by}
 use Rattle.group_world.specs.Refusals.{refusal, refusal_at, refusal_of, unless_up}
 use Rattle.group_world.specs.Sound.{IsSound, IsSpelling}
-use Rattle.group_world.specs.declared.event.Event.{Event}
 use Rattle.group_world.proofs.SoundWorldsAgree.{next_of}
 use Rattle.group_world.proofs.WorldAsGroup.{running}
 
 -- a node of the list has a number, and lies at the index before it
-is_at : (members : List Member) (i : ℕ) (m : Member) → member_at members i ≡ Some m → (0 < i) × (slice_get members (i - 1) ≡ Some m)
+pub is_at : (members : List Member) (i : ℕ) (m : Member) → member_at members i ≡ Some m → (0 < i) × (slice_get members (i - 1) ≡ Some m)
 is_at members zero m e = absurd cc
 is_at members (suc k) m e =
     let same : k ≡ suc k - 1 = omega arith in
     (omega arith, subst (λ j. slice_get members j ≡ Some m) same e)
 
 -- an element that is put where it was
-set_same : {X : Type 0} (xs : List X) (k : ℕ) (x : X) → slice_get xs k ≡ Some x → slice_set xs k x ≡ xs
+pub set_same : {X : Type 0} (xs : List X) (k : ℕ) (x : X) → slice_get xs k ≡ Some x → slice_set xs k x ≡ xs
 set_same xs k x e = ap (set xs k) (sym (get_or_from_slice_get xs k x x e)) ∙ set-get_or xs k x
 
 -- ---- a node of the code's group `w`, which contracts see as `was` and which a call lends out

@@ -3,18 +3,18 @@
 use Rattle.group_world.specs.declared.event.Act.{Act}
 use Rattle.std.proofs.lemmas.List.Elements.{All-from_recursion, All-take}
 use Rattle.group_node.specs.Ranges.{AllFit}
-use Rattle.std.proofs.Common.{take, ◌≡◌, ◌∙◌, ℕ, false, List, [], ◌∷◌, ◌++◌, drop, slice_get, Option, None, Some, refl, sym, ap, subst, arith, length, replicate, slice_set}
+use Rattle.std.proofs.Common.{take, ◌≡◌, ◌∙◌, ℕ, false, List, [], ◌∷◌, ◌++◌, drop, slice_get, Option, None, Some, refl, sym, ap, subst, arith, replicate, slice_set}
 use Rattle.std.proofs.lemmas.List.{map-append}
 use Rattle.pcode_ops.specs.Decoding.{instr_of}
 use Rattle.pcode_machine.specs.Runs.{after_steps, out}
 use Rattle.paxos_msg.specs.declared.message.Body.TheVariants.{Accept, Accepted, Ask, Prepare, Promise, Submit}
 use Rattle.paxos_msg.specs.declared.value.Value.{Value}
-use Rattle.paxos_msg.specs.Batches.{Body, Change, Record}
+use Rattle.paxos_msg.specs.Batches.{Body, Record}
 use Rattle.paxos_msg.specs.Fits.{IsValue}
 use Rattle.paxos_msg.specs.Keys.{Key}
 use Rattle.paxos_msg.specs.Records.{empty_record}
 use Rattle.paxos_learner.proofs.OnePlace.{get_here}
-use Rattle.std.specs.FinMap.{empty, FinMap, entries, get, get-empty, insert, remove, len-empty, len-entries, entries-insert}
+use Rattle.std.specs.FinMap.{empty, FinMap, entries, get, get-empty, insert, remove, entries-insert}
 use Rattle.group_node.specs.declared.player.Ran.TheVariants as more
 use Rattle.group_node.specs.Protocol.{on_message}
 use Rattle.group_node.specs.Known.{Response, Known}
@@ -26,9 +26,10 @@ use Rattle.group_world.specs.declared.event.Act.TheVariants as act
 use Rattle.group_world.specs.declared.event.Done.TheVariants.{Applied, Fell}
 use Rattle.group_world.specs.Event.{LeadsBy, Leaves, LeavesBy, Performs}
 use Rattle.group_world.specs.Group.{IsUp, new_world, up_of, with_member, World, world_state}
-use Rattle.group_world.specs.Member.{NodeCall, failing, Makes, Member, member_after_release, Running, save_outcome, call_of_campaign, call_of_press}
+use Rattle.group_world.specs.Member.{NodeCall, Makes, Member, member_after_release, Running, save_outcome, call_of_campaign, call_of_press}
 use Rattle.group_world.specs.Headline.{HasLearned}
 use Rattle.group_world.specs.Witness.{echoes, letter_batch, one, shown_events}
+use Rattle.group_world.proofs.WrittenLogs.{entries_none, not_failing}
 use Rattle.group_world.proofs.ConsolesMayShow.{StepsLaw, WritesLetter, all_go, is_step, replays, runs, ten_of, waits}
 use Rattle.group_world.proofs.WorldAsGroup.{ReadLaw, stopped}
 use Rattle.group_world.proofs.OrderPossible.{FitsHere, fit_read, own_keys, ballot, message, are_bytes, ballot_fits, me, node_fits}
@@ -44,10 +45,6 @@ use Rattle.group_node.specs.Pump.{pump}
 
 -- ---- maps of nothing, and of one value
 
-no_entries : {X : Type 0} (xs : List X) → length xs ≡ 0 → xs ≡ []
-no_entries [] e = refl
-no_entries (x ∷ xs) e = absurd (omega arith)
-
 abbrev nothing : FinMap nat_cmp Value
 nothing = empty
 
@@ -56,9 +53,6 @@ no_tallies = empty
 
 abbrev one_value : FinMap nat_cmp Value
 one_value = insert nothing 0 letter_batch
-
-entries_none : entries nothing ≡ []
-entries_none = no_entries _ (sym (len-entries nothing) ∙ len-empty nat_cmp Value)
 
 entries_one : entries one_value ≡ (0, letter_batch) ∷ []
 entries_one = entries-insert nat_cmp_total nothing 0 letter_batch ∙ rw entries_none refl
@@ -189,10 +183,6 @@ world m packets typed =
 
 -- ---- a call whose save, if it makes one, is kept
 
-not_failing : (saves : Option Change) → failing saves None ≡ None
-not_failing None = refl
-not_failing (Some c) = refl
-
 module _ (n : Known) (made : Response) (packets : List Packet) (typed keys : List Value) where
   abbrev before : World
   before = world (member n start []) packets typed
@@ -243,14 +233,14 @@ accepted = to_all (Accepted ballot 0 letter_batch)
 
 -- ---- its machine
 
-abbrev line : List ℕ
+abbrev pub line : List ℕ
 line = 65 ∷ []
 
-writes_letter : WritesLetter echoes line
+pub writes_letter : WritesLetter echoes line
 unfolding all_go is_step out after_steps instr_of
 writes_letter = record { goes = refl; writes = refl }
 
-abbrev ten : Progress
+abbrev pub ten : Progress
 ten = ten_of echoes
 
 -- the byte that waits on the learned input

@@ -12,4 +12,12 @@ mod ConsolesMayShow
 mod AskEnds
 mod PlaceCalls
 mod GroupCalls
+mod ProcessEvents
+mod EventProcesses
+mod TimedLogs
+mod LogParts
+mod LogEnds
+mod WrittenLogs
+mod WrongLogs
+mod KeyLog
 pub mod ScriptLines

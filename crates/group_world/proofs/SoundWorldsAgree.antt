@@ -1,7 +1,7 @@
 -- The claims about a sound world, for the law `sound_worlds_agree`: what is learned is chosen, and
 -- what machines write and consoles show is output on chosen values. First, a console after a byte
 -- that its node releases.
-use Rattle.std.proofs.Common.{◌≡◌, ◌≢◌, ◌∙◌, ℕ, List, Contains, Option, None, Some, option_map, inl, inr, refl, sym, ap, subst, slice_get, ◌<◌, ◌≤◌, [], length, append-nil, arith, get_or, zero, suc, ◌+◌, ◌⊎◌, ◌∷◌, ◌++◌, drop, append_assoc}
+use Rattle.std.proofs.Common.{◌≡◌, ◌≢◌, ◌∙◌, ℕ, List, Contains, Option, None, Some, option_map, inl, inr, refl, sym, ap, subst, slice_get, ◌<◌, ◌≤◌, [], length, append-nil, arith, get_or, zero, suc, ◌+◌, ◌⊎◌, ◌∷◌, ◌++◌, drop, take, append_assoc}
 use Rattle.std.specs.FinMap.{get, FinMap}
 use Rattle.pcode_machine.specs.Runs.{IsOutput, out, AreComparable, IsPrefix}
 use Rattle.paxos_msg.specs.declared.value.Value.{Value}
@@ -25,7 +25,8 @@ use Rattle.paxos_learner.specs.Input.{front_values, input_of, values_below}
 use Rattle.paxos_learner.specs.Learner.{front_of}
 use Rattle.group_node.specs.States.{input}
 use Rattle.std.proofs.lemmas.Bool.Decides.{nat_tests}
-use Rattle.std.proofs.lemmas.List.{length_push}
+use Rattle.std.proofs.lemmas.List.{length_push, take-append-le}
+use Rattle.group_world.specs.Processes.{ConsolesShowReleased}
 use Rattle.group_node.specs.Output.{unreleased_of}
 
 -- what the machine of a node has written, and the byte that the node releases next
@@ -165,6 +166,21 @@ module _ (laws : PlayLaws) {w : World} (h : IsSound w) where
       (chosen_output _ x (written q) (front_chosen laws.fronts sound.learned) chosen output) in
       record { compare = compare; begins = laws.shorter m.console (written q) compare; shown = sound.shown; byte = e }
 
+  -- its console is comparable with what its machine has written
+  console_compares : {i : ℕ} {m : Member} {q : Running} → IsUp w i m q → AreComparable m.console (written q)
+  console_compares {i} {m} {q} up =
+      let (x, chosen) = laws.there w.group.size _ in
+      let sound = running h up in
+      let output : IsOutput w.program (input q.known) (written q) =
+      (q.progress.steps, rw sound.program (record { rest = []; whole = sym (append-nil _) })) in
+      laws.compared w.program x x m.console (written q) (inl (laws.itself x)) (console_output i m x up.there chosen)
+      (chosen_output _ x (written q) (front_chosen laws.fronts sound.learned) chosen output)
+
+-- comparable lists begin alike
+first_alike : (a b : List ℕ) (k : ℕ) → AreComparable a b → k ≤ length a → k ≤ length b → take k b ≡ take k a
+first_alike a b k (inl h) low high = ap (take k) h.whole ∙ take-append-le k a h.rest low
+first_alike a b k (inr h) low high = sym (ap (take k) h.whole ∙ take-append-le k b h.rest high)
+
 -- ---- the claims
 
 -- The laws of agreement: at most one value is chosen at a place; it is a no-op or was submitted.
@@ -240,3 +256,20 @@ module _ (laws : PlayLaws) (w : World) (h : IsSound w) where
       let console = ap (λ o. (seat_of_member o).console) seen.is_up.there in
       subst (λ c. FitsNext c node.released byte) (sym console)
       (subst (λ (u : Up). FitsNext seen.member.console u.released byte) seen.seen (no_gap offer, repeat_is_same offer))
+
+  -- what was released is on the console
+  FitsReleased : List ℕ → Up → Type 0
+  FitsReleased console u = (u.released ≤ length console) × (take u.released u.configuration.output ≡ take u.released console)
+
+  pub consoles_show_released : ConsolesShowReleased (world_state w)
+  unfolding out FitsReleased
+  consoles_show_released i node up =
+      let seen = seen_up w i node up in
+      let q = seen.running in
+      let m = seen.member in
+      let sound = running h seen.is_up in
+      let alike = first_alike m.console (written q) q.progress.released (console_compares laws h seen.is_up) sound.shown
+      sound.replay.released in
+      let console = ap (λ o. (seat_of_member o).console) seen.is_up.there in
+      let fits : FitsReleased m.console (up_of q) = (sound.shown, alike) in
+      subst (λ c. FitsReleased c node) (sym console) (subst (FitsReleased m.console) seen.seen fits)

@@ -92,7 +92,7 @@ ReadLaw = (group : Group) (bytes : List ℕ) (m : Msg) → IsGroup group → Msg
 
 module _ (read : ReadLaw) (me : Me) (session : IsGroup me.group) (node : IsNode me.group.size me.node) where
   -- a node's packet
-  packet_read : (packet : Packet) → IsBody me.group.size me.node packet.body → (s : IsSpelling me.group (datagram_of me packet))
+  pub packet_read : (packet : Packet) → IsBody me.group.size me.node packet.body → (s : IsSpelling me.group (datagram_of me packet))
       × (s.message ≡ record { sender = me.node; body = packet.body })
   packet_read packet fits =
       let spells : Msgs me.group (datagram_of me packet).bytes (record { sender = me.node; body = packet.body }) =

@@ -2,6 +2,8 @@ pub mod Member
 pub mod Group
 pub mod Event
 pub mod Headline
+pub mod Processes
+pub mod Timed
 pub mod Sound
 pub mod Order
 pub mod Ordered
@@ -9,3 +11,6 @@ pub mod Refusals
 pub mod Scripts
 pub mod WrongWorlds
 pub mod Witness
+pub mod WrittenLogs
+pub mod WrongLogs
+pub mod KeyLog

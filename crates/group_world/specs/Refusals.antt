@@ -2,13 +2,12 @@
 use Rattle.std.specs.Prelude.{◌≡◌, ◌⊎◌, ℕ, nat_lt, List, length, slice_get, take, Option, Some, None, is_some, if◌then◌else◌}
 use Rattle.group_world.specs.declared.event.Act.{Act}
 use Rattle.group_world.specs.declared.event.Act.TheVariants.{Press, Deliver, Campaign, Tick, Run, Release, Crash, Start}
-use Rattle.group_world.specs.declared.event.Done.{Done}
 use Rattle.group_world.specs.declared.event.Event.{Event}
 use Rattle.group_node.specs.States.{IsSize}
 use Rattle.group_world.specs.declared.fault.RunFault.{RunFault}
 use Rattle.group_world.specs.declared.fault.WorldFault.{WorldFault}
 use Rattle.group_world.specs.declared.fault.WorldFault.TheVariants.{Memory, NoNode, NoMessage, NodeDown, NodeUp, Size}
-use Rattle.group_world.specs.Event.{Goes, LeadsBy, node_of}
+use Rattle.group_world.specs.Event.{LeadsBy, node_of}
 use Rattle.group_world.specs.Group.{member_at, World}
 use Rattle.group_world.specs.Member.{Member}
 

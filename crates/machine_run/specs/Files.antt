@@ -1,15 +1,15 @@
 -- Files and inputs that are read whole, and why their bytes are no program.
-use Rattle.std.specs.Prelude.{◌≡◌, ◌<◌, ◌≤◌, ℕ, List, length, Option, Err}
+use Rattle.std.specs.Prelude.{◌≡◌, ◌<◌, ◌≤◌, ◌⊎◌, ℕ, List, length, Option, Err}
 use Rattle.std.specs.Io.KnownBytes.{Consumes, IsAtEnd}
 use Rattle.pcode_file.specs.Parts.{Parts}
 use Rattle.pcode_file.specs.InFile.{InFile}
 use Rattle.pcode_file.specs.Checks.{GivesUnlessMemory, read_from}
-use Rattle.pcode_ops.specs.Reach.{IsRefusal}
+use Rattle.pcode_ops.specs.Reach.{IsLoadable, IsRefusal}
 use Rattle.machine_run.specs.declared.files.TheConstants.{LONGEST_FILE}
 use Rattle.machine_run.specs.declared.run.RunIo.{RunIo}
 use Rattle.machine_run.specs.declared.run.RunIo.TheVariants.{Memory}
 use Rattle.machine_run.specs.declared.refusal.MachineRefusal.{MachineRefusal}
-use Rattle.machine_run.specs.declared.refusal.MachineRefusal.TheVariants.{CodeFile, Load}
+use Rattle.machine_run.specs.declared.refusal.MachineRefusal.TheVariants.{CodeFile, File, Load, Run}
 
 -- All the bytes that a reader had left, `LONGEST_FILE` at most. It is at its end after them.
 pub record HasReadAll (from to : Option (List ℕ)) (bytes : List ℕ) : Type 0 where
@@ -28,3 +28,11 @@ abbrev pub IsNoProgram : List ℕ → MachineRefusal → Type 0
 IsNoProgram bytes (CodeFile fault) = GivesUnlessMemory {X = Parts} (Err fault) (read_from bytes)
 IsNoProgram bytes (Load fault) = (p : Parts) × InFile bytes p × IsRefusal p fault
 IsNoProgram bytes _ = ⊥
+
+-- The program of some code file.
+abbrev pub IsLoadedProgram : Parts → Type 0
+IsLoadedProgram program = (bytes : List ℕ) × InFile bytes program × IsLoadable program
+
+-- The refusal of a code file: it can't be read, memory ran out, or its bytes are no program.
+abbrev pub IsFileRefusal : MachineRefusal → Type 0
+IsFileRefusal e = (e ≡ File) ⊎ (e ≡ Run Memory) ⊎ ((bytes : List ℕ) × IsNoProgram bytes e)

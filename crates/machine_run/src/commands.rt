@@ -1,4 +1,7 @@
 //! The work of the commands `check`, `list` and `run` on a code file.
+ghost use Rattle.std.specs.Prelude.{IfErr, IfOk};
+ghost use Rattle.machine_run.specs.Files.{IsFileRefusal, IsLoadedProgram};
+
 use crate::files::read_file;
 use crate::loading::load;
 use crate::refusal::MachineRefusal;
@@ -35,8 +38,12 @@ pub fn run_file<H: Files + AllocGlobal, R: Read, W: Write>(
     run_bytes(rt.alloc(), bytes.as_slice(), steps, reader, writer)
 }
 
-/// Returns the program of a code file.
-pub fn load_file<H: Files + AllocGlobal>(rt: &H, file: &str) -> Result<Program, MachineRefusal> {
+/// Returns the program of a code file. Fails if the file can't be read (`File`), if memory runs
+/// out, or as `load` does if its bytes are no program.
+pub fn load_file<H: Files + AllocGlobal>(rt: &H, file: &str) -> Result<Program, MachineRefusal>
+    ensures ok { IfOk result IsLoadedProgram }
+    ensures err { IfErr result IsFileRefusal }
+{
     let bytes = read_file(rt, file)?;
     load(rt.alloc(), bytes.as_slice())
 }

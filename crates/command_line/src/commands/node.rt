@@ -9,6 +9,7 @@ use crate::value::{
 };
 use clap::{Arg, ArgAction, ArgMatches, Command};
 use group_udp::{NodePlan, node_file};
+use machine_run::Counting;
 use paxos_msg::Group;
 use std::alloc::{AllocError, Global};
 use std::env;
@@ -206,6 +207,7 @@ pub fn perform<
         keys,
         is_logged: is_log_asked(rt),
     };
-    let done = node_file(rt, file, &plan, reader, writer, errors);
+    let mut writer = Counting::new(writer);
+    let done = node_file(rt, file, &plan, reader, &mut writer, errors);
     Ok(Outcome::of_done(done))
 }

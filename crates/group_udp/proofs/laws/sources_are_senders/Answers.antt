@@ -5,4 +5,4 @@ use Rattle.group_udp.proofs.laws.sources_are_senders.Goals as goal
 
 pub returns : goal.returns
 returns c g m bytes at source i h sender =
-    from_named at source bytes i (ap (λ (bs : List ℕ). slice_get bs sender_index) h.spelled ∙ ap Some sender)
+    from_named at source bytes _ (ap (λ (bs : List ℕ). slice_get bs sender_index) h.spelled ∙ ap Some sender)

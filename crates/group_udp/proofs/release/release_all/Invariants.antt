@@ -1,6 +1,8 @@
-use Rattle.std.proofs.Common.{◌≡◌, length}
+use Rattle.std.proofs.Common.{◌≡◌, [], Option, length}
 use Rattle.group_node.specs.Output.{unreleased_of}
 use Rattle.group_node.specs.States.{input}
+use Rattle.group_wire.specs.Doings.{HasActed}
+use Rattle.group_wire.specs.Traffic.{Traffic}
 use Rattle.group_udp.proofs.Releasing.{WritesSome}
 use Rattle.group_udp.proofs.release.release_all.Given as goal
 
@@ -9,6 +11,7 @@ invariant-loop-number g l = record {
   writes : WritesSome l.seen (record { node = l.fn.host; written = g.W.ByteWriter.contents l.fn.writer })
       (record { node = l.host; written = g.W.ByteWriter.contents l.writer });
   faults : g.W.ByteWriter.write_faults l.writer ≡ g.W.ByteWriter.write_faults l.fn.writer;
+  acts : (passed : Option Traffic) → HasActed l.fn.host l.host passed passed [];
 }
 
 abbrev pub decreases-loop-number : goal.decreases-loop-number

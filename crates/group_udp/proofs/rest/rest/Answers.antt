@@ -1,19 +1,29 @@
-use Rattle.std.proofs.Common.{◌+◌, add-one}
-use Rattle.std.proofs.lemmas.Result.{err_from_is_err_and}
+use Rattle.std.proofs.Common.{[], ◌∙◌, refl, sym, subst}
+use Rattle.group_wire.specs.Doings.{HasActed}
 use Rattle.group_udp.proofs.rest.rest.Goals as goal
 
-pub returns-in_err-hear-clause-rests : goal.returns-in_err-hear-clause-rests
-returns-in_err-hear-clause-rests g c =
-    let p = err_from_is_err_and c.from_residual.result c.from_residual.ensures.1 in
-    rw p.1 (c.loop.counter, _, c.loop.invariant.hears, (_, c.in_err-hear.ensures.heard, p.2))
-
-pub returns-then-is_over-clause-rests : goal.returns-then-is_over-clause-rests
-returns-then-is_over-clause-rests g c =
-    (c.loop.counter + 1, rw (add-one c.loop.counter) (_, c.loop.invariant.hears, (_, c.in_ok-hear.ensures.heard)))
+pub loop-init : goal.loop-init
+loop-init g c = record {
+  acts = subst (λ t. HasActed c.args.host.now c.args.host.now (g.T.Wire.traffic c.args.wire.now) t []) (sym c.begin_rest.ensures.passed)
+      (c.deeds_go_on.ensures.none _ _);
+  works = c.requires.works;
+  stays = refl;
+  progress = refl;
+}
 
 pub loop-preserved : goal.loop-preserved
 loop-preserved g c = record {
-  hears = rw (add-one c.loop.counter) (_, c.loop.invariant.hears, (_, c.in_ok-hear.ensures.heard));
-  stays = cc;
-  progress = cc;
+  acts = c.deeds_go_on.ensures.more _ _ _ _ _ _ _ _ c.loop.invariant.acts c.in-Ok-false.ensures.acts;
+  works = c.in-Ok-false.ensures.works;
+  stays = c.in-Ok-false.ensures.stays ∙ c.loop.invariant.stays;
+  progress = c.in-Ok-false.ensures.progress ∙ c.loop.invariant.progress;
+}
+
+pub returns-in-Ok-true-clause-acts : goal.returns-in-Ok-true-clause-acts
+returns-in-Ok-true-clause-acts g c = c.deeds_go_on.ensures.more _ _ _ _ _ _ _ _ c.loop.invariant.acts c.in-Ok-true.ensures.acts
+
+pub returns-in-Err-clause-refused : goal.returns-in-Err-clause-refused
+returns-in-Err-clause-refused g c = record {
+  store = c.in-Err.ensures.refused.store;
+  fails = c.deeds_go_on.ensures.fails _ _ _ _ _ _ _ _ c.loop.invariant.acts c.in-Err.ensures.refused.fails;
 }

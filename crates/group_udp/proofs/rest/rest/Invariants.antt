@@ -1,12 +1,13 @@
-use Rattle.std.proofs.Common.{◌≡◌}
-use Rattle.group_wire.specs.Turns.{released_by}
-use Rattle.group_udp.specs.Rounds.{HearsMany}
+use Rattle.std.proofs.Common.{◌≡◌, [], false}
+use Rattle.group_wire.specs.Doings.{HasActed}
+use Rattle.group_wire.specs.Turns.{SameReleased}
 use Rattle.group_udp.proofs.rest.rest.Given as goal
 
--- nothing but what the node has heard has changed, once in each turn of the loop
+-- so far there were receives alone, nothing else has passed over the wire, and no save has failed
 abbrev pub invariant-loop : goal.invariant-loop
 invariant-loop g l = record {
-  hears : HearsMany g.S.Store.honest g.S.Store.state l.counter l.fn.host l.host;
-  stays : released_by l.host ≡ released_by l.fn.host;
-  progress : l.host.progress ≡ l.fn.host.progress;
+  acts : HasActed l.initial.host l.host (g.T.Wire.traffic l.fn.wire) (g.T.Wire.traffic l.wire) [];
+  works : l.host.protocol.is_stopped ≡ false;
+  stays : SameReleased l.initial.host l.host;
+  progress : l.host.progress ≡ l.initial.host.progress;
 }

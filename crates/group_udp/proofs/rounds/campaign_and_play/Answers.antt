@@ -1,7 +1,6 @@
-use Rattle.std.proofs.Common.{refl, arith}
+use Rattle.std.proofs.Common.{arith}
 use Rattle.std.proofs.lemmas.Result.{err_from_is_err_and}
-use Rattle.group_udp.specs.Rounds.{CampaignsIf, HasPlayed, Unwritten}
-use Rattle.group_udp.proofs.Calls.{then_last}
+use Rattle.group_udp.proofs.Going.{begun_by, campaign_refused}
 use Rattle.group_udp.proofs.Writing.{wrote_none}
 use Rattle.group_udp.proofs.rounds.campaign_and_play.Goals as goal
 
@@ -10,8 +9,11 @@ returns-in_err-campaign_if-clause-writes g c =
     wrote_none c.args.plan.now.seen c.args.host.now c.campaign_if.new.host _ _
     (let p = err_from_is_err_and c.from_residual.result c.from_residual.ensures.1 in grind arith) c.in_err-campaign_if.ensures.stays
 
-pub returns-clause-plays : goal.returns-clause-plays
-returns-clause-plays g c =
-    then_last (Unwritten (CampaignsIf g.S.Store.honest g.S.Store.fails_at_will g.S.Store.state c.args.plan.now.campaigns))
-    (HasPlayed g.S.Store.honest g.S.Store.fails_at_will g.S.Store.state c.args.plan.now.seen c.args.plan.now.turns) _ _ _ _ _
-    (c.in_ok-campaign_if.ensures.campaigns, refl) c.play.ensures.plays
+pub returns-in_err-campaign_if-clause-goes : goal.returns-in_err-campaign_if-clause-goes
+returns-in_err-campaign_if-clause-goes g c =
+    let p = err_from_is_err_and c.from_residual.result c.from_residual.ensures.1 in
+    rw (p.1, p.2) (campaign_refused c.in_err-campaign_if.ensures.acts)
+
+pub returns-clause-goes : goal.returns-clause-goes
+returns-clause-goes g c = begun_by c.deeds_go_on.ensures _ _ _ _ _ _ _ c.args.plan.now.turns c.play.result
+    c.in_ok-campaign_if.ensures.acts c.play.ensures.goes

@@ -1,5 +1,6 @@
-use Rattle.std.proofs.Common.{inl, inr, refl, arith}
+use Rattle.std.proofs.Common.{refl, arith}
 use Rattle.std.proofs.lemmas.Result.{err_from_is_err_and}
+use Rattle.group_udp.proofs.Going.{ended_after, gone_ended, gone_then, gone_unprompted}
 use Rattle.group_udp.proofs.Writing.{wrote_all, wrote_but_one, wrote_none}
 use Rattle.group_udp.proofs.rounds.round.Goals as goal
 
@@ -18,15 +19,19 @@ returns-in_err-release_all-clause-writes g c =
     wrote_but_one c.args.host.now _ c.in_err-release_all.ensures.released.0 c.in_ok-more.ensures.stays c.unreleased.ensures.replay
     (let p = err_from_is_err_and c.from_residual-in_err-release_all.result c.from_residual-in_err-release_all.ensures.1 in grind arith)
 
-pub returns-in_err-more-clause-round : goal.returns-in_err-more-clause-round
-returns-in_err-more-clause-round g c =
+pub returns-in_err-more-clause-goes : goal.returns-in_err-more-clause-goes
+returns-in_err-more-clause-goes g c =
     let p = err_from_is_err_and c.from_residual.result c.from_residual.ensures.1 in
-    rw (p.1, p.2) (inl (c.in_err-more.ensures.turns, refl))
+    rw (p.1, p.2) c.in_err-more.ensures.goes
 
-pub returns-in_err-release_all-clause-round : goal.returns-in_err-release_all-clause-round
-returns-in_err-release_all-clause-round g c =
+pub returns-in_err-release_all-clause-goes : goal.returns-in_err-release_all-clause-goes
+returns-in_err-release_all-clause-goes g c =
     let p = err_from_is_err_and c.from_residual-in_err-release_all.result c.from_residual-in_err-release_all.ensures.1 in
-    rw (p.1, p.2) (inr (_, _, (c.in_ok-more.ensures.turns, refl), c.in_err-release_all.ensures.released))
+    rw (p.1, p.2)
+    (ended_after 1 (omega arith)
+    (gone_ended (gone_then c.deeds_go_on.ensures c.in_ok-more.ensures.goes (gone_unprompted (c.in_err-release_all.ensures.acts _) refl))
+    (λ is. absurd (cc (c.in_err-release_all.ensures.released.1, is)))))
 
-pub returns-clause-round : goal.returns-clause-round
-returns-clause-round g c = (_, (c.in_ok-more.ensures.turns, refl), c.in_ok-release_all.ensures.released)
+pub returns-clause-goes : goal.returns-clause-goes
+returns-clause-goes g c =
+    gone_then c.deeds_go_on.ensures c.in_ok-more.ensures.goes (gone_unprompted (c.in_ok-release_all.ensures.acts _) refl)

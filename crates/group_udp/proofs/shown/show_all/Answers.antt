@@ -11,4 +11,12 @@ loop-preserved g c = record {
       c.in_ok-show_next.ensures.one c.in_ok-show_next.ensures.shows;
   shows = grind arith;
   protocol = cc;
+  acts = λ passed. c.deeds_go_on.ensures.more _ _ _ _ _ _ _ _ (c.loop.invariant.acts passed) (c.in_ok-show_next.ensures.acts passed);
 }
+
+pub returns-in_err-show_next-clause-acts : goal.returns-in_err-show_next-clause-acts
+returns-in_err-show_next-clause-acts g c passed =
+    c.deeds_go_on.ensures.more _ _ _ _ _ _ _ _ (c.loop.invariant.acts passed) (c.in_err-show_next.ensures.acts passed)
+
+pub returns-clause-acts : goal.returns-clause-acts
+returns-clause-acts g c passed = c.loop.invariant.acts passed

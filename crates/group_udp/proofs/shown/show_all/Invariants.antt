@@ -1,5 +1,7 @@
-use Rattle.std.proofs.Common.{◌≡◌, ◌++◌, ℕ, List, length}
+use Rattle.std.proofs.Common.{◌≡◌, ◌++◌, ℕ, List, [], Option, length}
 use Rattle.group_node.specs.States.{input}
+use Rattle.group_wire.specs.Doings.{HasActed}
+use Rattle.group_wire.specs.Traffic.{Traffic}
 use Rattle.group_wire.specs.Turns.{released_of}
 use Rattle.group_udp.specs.Output.{ReleasesBytes}
 use Rattle.group_udp.proofs.shown.show_all.Given as goal
@@ -11,4 +13,5 @@ invariant-loop g l = record {
       × (length gone ≡ l.counter) × (l.console.bytes ≡ l.fn.console.bytes ++ gone);
   shows : l.console.bytes ≡ released_of (input l.fn.host.protocol.known) l.host.progress;
   protocol : l.host.protocol ≡ l.fn.host.protocol;
+  acts : (passed : Option Traffic) → HasActed l.fn.host l.host passed passed [];
 }

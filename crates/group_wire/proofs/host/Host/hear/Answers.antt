@@ -1,4 +1,5 @@
 use Rattle.std.proofs.Common.{false, refl, arith}
+use Rattle.group_wire.proofs.Acting.{hear_acts_by}
 use Rattle.group_wire.proofs.Going.{call_stays}
 use Rattle.group_wire.proofs.host.Host.hear.Goals as goal
 
@@ -12,3 +13,15 @@ returns-clause-stays g c =
       message = c.calls_keep_what_is_learned.ensures.message;
       tick = c.calls_keep_what_is_learned.ensures.tick;
     }) hears.2.known c.unreleased.ensures.replay (rw hears.2.progress refl) (rw hears.2.progress (omega arith))
+
+pub returns-clause-acts : goal.returns-clause-acts
+returns-clause-acts g c =
+    let hears = c.hear_next.ensures.hears in
+    hear_acts_by {honest = g.S.Store.honest} {state = g.S.Store.state} c.hear_next.result (record {
+      came = hears.0;
+      ending = hears.1;
+      hears = hears.2;
+      tells = hears.3;
+      fault = hears.4;
+      refused = c.hear_next.ensures.refused;
+    })

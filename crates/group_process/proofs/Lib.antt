@@ -1,0 +1,9 @@
+mod Elements
+mod GivenWasSent
+mod RunHistories
+mod GroupLogs
+mod RunFronts
+mod RunsShow
+mod ConsolesOfRuns
+mod RunsMayHear
+mod NetworksCarry

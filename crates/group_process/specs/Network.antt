@@ -1,0 +1,96 @@
+-- A log of runs with what each receive gave, over a network that gives only what was handed to it.
+use Rattle.std.specs.Prelude.{◌≡◌, ℕ, ◌==◌, List, [], ◌∷◌, ◌++◌, Contains, filter, flat_map, map, Option, Some, None}
+use Rattle.std.specs.List.{AllByRecursion}
+use Rattle.pcode_file.specs.Parts.{Parts}
+use Rattle.paxos_msg.specs.declared.message.Group.{Group}
+use Rattle.paxos_msg.specs.Batches.{Msg}
+use Rattle.paxos_msg.specs.Fits.{IsNode}
+use Rattle.paxos_msg.specs.Records.{empty_record}
+use Rattle.paxos_acceptor.specs.declared.me.Me.{Me}
+use Rattle.group_node.specs.Deeds.{Hear, Start}
+use Rattle.group_node.specs.Packets.{Datagram}
+use Rattle.group_wire.specs.Arrivals.{Spells}
+use Rattle.group_wire.specs.Doings.{Doing}
+use Rattle.group_wire.specs.Traffic.{Letter, letters_of}
+use Rattle.group_world.specs.declared.event.Outcome.TheVariants.{Kept}
+use Rattle.group_world.specs.Processes.{Entry}
+use Rattle.group_process.specs.Runs.{AreRuns, Attempt, FailsToStart, IsGroupLog, NodeRun, Starts, ends_by, entries_of_attempt, entry_by, silent_entry}
+
+-- An entry with what a receive gave for it.
+pub record Received : Type 0 where
+  pub entry : Entry
+  pub given : List (Option (List ℕ))
+
+-- An entry with what a receive gave, and one for which nothing was received.
+abbrev pub with_given : List (Option (List ℕ)) → Entry → Received
+with_given given e = record { entry = e; given = given }
+
+abbrev pub unreceived : Entry → Received
+unreceived e = with_given [] e
+
+-- What a node does on its wire as an entry with what a receive gave.
+abbrev pub received_at : ℕ → Doing → Received
+received_at node d = with_given d.given (entry_by node Kept d)
+
+-- What a receive gave for the deed at which a save failed, if one did.
+abbrev pub given_for : Option Doing → List (Option (List ℕ))
+given_for None = []
+given_for (Some d) = d.given
+
+-- A run, and a start, as entries of its node with what receives gave.
+abbrev pub received_in_run : Me → NodeRun → List Received
+received_in_run me run =
+    unreceived (silent_entry me.node (Start run.process.loaded))
+    ∷ (map (received_at me.node) run.process.doings
+    ++ map (with_given (given_for run.process.failed)) (ends_by me run run.stand))
+
+abbrev pub received_in : Me → Attempt → List Received
+received_in me (Starts run) = received_in_run me run
+received_in me (FailsToStart loaded is_kept) =
+    map unreceived (entries_of_attempt me (FailsToStart loaded is_kept))
+
+-- The entries of one node, in order.
+abbrev pub received_by : ℕ → List Received → List Received
+received_by i log = filter (λ e. e.entry.node == i) log
+
+-- The entries without what was received.
+abbrev pub entries_alone : List Received → List Entry
+entries_alone log = map (λ e. e.entry) log
+
+-- What a receive gave, of which each datagram that spells a message is one of these letters, to
+-- whichever node.
+-- Allows: a datagram that spells no message, wherever it is from.
+-- Forbids: a message that nobody handed over.
+abbrev pub AreLetters : Group → List Letter → List (Option (List ℕ)) → Type 0
+AreLetters group letters given =
+    (bytes : List ℕ) (m : Msg) → Contains given (Some bytes) → Spells group bytes m
+    → (l : Letter) × Contains letters l × (l.bytes ≡ bytes)
+
+-- Entries for each of which a receive gave only what was handed over before it: at first, or by an
+-- entry before it.
+-- Allows: a datagram that never comes, or comes again and again, late, or before an older one, or
+-- at another node.
+abbrev pub AreDelivered : Group → List Datagram → List Received → Type 0
+AreDelivered group sent [] = Unit {0}
+AreDelivered group sent (e ∷ log) =
+    AreLetters group (letters_of group.size sent) e.given
+    × AreDelivered group (sent ++ e.entry.sent) log
+
+-- A log of the processes of a group with what was received, in one order of time. Each entry is of
+-- a node of the group, and those of each node are its runs, over a store that keeps its record.
+-- What a receive gave was handed over before.
+pub record IsNetworkLog (p : Parts) (group : Group) (runs : ℕ → List Attempt)
+    (log : List Received) : Type 0 where
+  pub among : AllByRecursion (λ e. IsNode group.size e.entry.node) log
+  pub entries : (i : ℕ) → received_by i log
+      ≡ flat_map (received_in (record { node = i; group = group })) (runs i)
+  pub started : (i : ℕ) → AreRuns p (record { node = i; group = group }) empty_record (runs i)
+  pub delivered : AreDelivered group [] log
+
+-- The claim that some runs of the processes of this group have such a log, which is a log of runs,
+-- and that one of them hears a message in it.
+abbrev pub MayHear : Parts → Group → Type 0
+MayHear p group =
+    (runs : ℕ → List Attempt) × (log : List Received) × (e : Received) × (m : Msg)
+    × IsNetworkLog p group runs log × IsGroupLog p group runs (entries_alone log) × Contains log e
+    × (e.entry.deed ≡ Hear m)

@@ -1,0 +1,118 @@
+//! Laws of processes, as facts about the definitions alone.
+ghost use Rattle.std.specs.Prelude.{◌≡◌, ℕ, ◌++◌, Contains, List, None, map};
+ghost use Rattle.pcode_file.specs.Parts.{Parts};
+ghost use Rattle.paxos_msg.specs.declared.message.Group.{Group};
+ghost use Rattle.paxos_msg.specs.Batches.{Msg};
+ghost use Rattle.paxos_msg.specs.Fits.{IsGroup};
+ghost use Rattle.paxos_msg.specs.Spelling.{Msgs};
+ghost use Rattle.paxos_acceptor.specs.declared.me.Me.{Me};
+ghost use Rattle.group_node.specs.Packets.{Datagram};
+ghost use Rattle.group_node.specs.States.{IsSize};
+ghost use Rattle.group_wire.specs.Traffic.{Letter, letters_of};
+ghost use Rattle.group_world.specs.Group.{messages_in};
+ghost use Rattle.group_world.specs.Member.{Member};
+ghost use Rattle.group_world.specs.Headline.{ConsolesAgree, ConsolesGrow, ConsolesHoldOutput, HasNoGap, LearnedAgree, LearnedChosen, LearnedStays};
+ghost use Rattle.group_world.specs.Order.{KeysOnce, SerialsInOrder};
+ghost use Rattle.group_world.specs.Processes.{ConsolesShowReleased, Entry};
+ghost use Rattle.group_process.specs.Network.{IsNetworkLog, MayHear, Received, entries_alone};
+ghost use Rattle.group_process.specs.Runs.{AlwaysLaterOfRuns, AlwaysOfNodes, AlwaysOfRuns, AreHistory, AreRuns, Attempt, ConsolesAreReleased, ConsolesShowRuns, HasRuns, IsAfterRuns, IsGroupLog, LeaveNodes};
+
+use group_world::laws::{fronts_of_logs, logs_have_one_end, processes_headline, processes_show};
+use paxos_msg::grammar::{spelling_is_read, spelling_is_short};
+use pcode_machine::laws::prefixes_are_ordered;
+
+/// A datagram that was handed over as a letter was sent. A message that a sent datagram spells is
+/// one of the messages that were sent.
+pub fn what_is_given_was_sent()
+    ensures letter { (size : ℕ) (sent : List Datagram) (l : Letter)
+        → Contains (letters_of size sent) l → Contains (map (λ x. x.bytes) sent) l.bytes }
+    ensures message { (group : Group) (sent : List Datagram) (bytes : List ℕ) (m : Msg)
+        → IsGroup group → Msgs group bytes m → Contains (map (λ x. x.bytes) sent) bytes
+        → Contains (messages_in group sent) m }
+{
+    spelling_is_read();
+}
+
+/// The runs of a node, one after the other, are a history of it, over a store that keeps its
+/// record.
+pub fn runs_are_histories()
+    ensures { (p : Parts) (me : Me) (m : Member) (runs : List Attempt) → m.node ≡ None
+        → AreRuns p me m.kept runs → AreHistory p me m runs }
+{}
+
+/// A log of the runs of a group leaves all its nodes, each as its runs left it. It leaves no other
+/// ones, whatever runs it is taken for.
+pub fn processes_make_a_log()
+    ensures nodes { (p : Parts) (group : Group) (runs : ℕ → List Attempt) (log : List Entry)
+        → IsGroupLog p group runs log → LeaveNodes p group runs log }
+    ensures only { (p : Parts) (group : Group) (runs others : ℕ → List Attempt) (log : List Entry)
+        (now other : List Member) → IsAfterRuns p group runs log now
+        → IsAfterRuns p group others log other → other ≡ now }
+{
+    runs_are_histories();
+    logs_have_one_end();
+}
+
+/// Each front of a log of runs is a log of runs: of the first ones of each node, of which the last
+/// one may be cut off at a deed. So what holds at the end of every log holds at each moment of one.
+pub fn fronts_of_runs()
+    ensures { (p : Parts) (group : Group) (runs : ℕ → List Attempt) (log more : List Entry)
+        → IsGroupLog p group runs (log ++ more) → HasRuns p group runs log }
+{}
+
+/// Where each datagram that a receive gave, if it spells a message, was handed to some wire before,
+/// all that is heard was sent before: a log of runs with what receives gave, over such a network,
+/// is a log of runs.
+pub fn networks_carry()
+    ensures { (p : Parts) (group : Group) (runs : ℕ → List Attempt) (log : List Received)
+        → IsGroup group → IsNetworkLog p group runs log
+        → IsGroupLog p group runs (entries_alone log) }
+{
+    spelling_is_read();
+}
+
+/// Some runs have such a log, so the premises of the main theorem can be met. In every group node 1
+/// may start, campaign, and hear its own Prepare.
+pub fn runs_may_hear()
+    ensures { (p : Parts) (group : Group) → IsSize group.size → IsGroup group → MayHear p group }
+{
+    spelling_is_short();
+    networks_carry();
+}
+
+/// The main theorem for processes on wires. It is about every program, every group of 1, 3, 5, 7 or
+/// 9 nodes, and every log of the runs of their processes in one order of time, over stores that
+/// keep their records and a network that carries what was sent.
+///
+/// - Such a log leaves nodes: all nodes of the group, each as its runs left it. It leaves no others
+/// (`processes_make_a_log`), and all claims are of these nodes.
+/// - Each front of a log is a log too. So the claims hold at each moment, and the last two between
+/// each two moments.
+/// - The console of a node begins with what each of its runs has released, also when the run is
+/// over, and it is what one of them has released, or nothing: the longest of these.
+pub fn runs_headline()
+    ensures nodes { (p : Parts) (group : Group) (runs : ℕ → List Attempt) (log : List Entry)
+        → IsGroupLog p group runs log → LeaveNodes p group runs log }
+    ensures fronts { (p : Parts) (group : Group) (runs : ℕ → List Attempt) (log more : List Entry)
+        → IsGroupLog p group runs (log ++ more) → HasRuns p group runs log }
+    ensures learned_agree { AlwaysOfRuns LearnedAgree }
+    ensures learned_chosen { AlwaysOfRuns LearnedChosen }
+    ensures consoles_hold_output { AlwaysOfRuns ConsolesHoldOutput }
+    ensures consoles_agree { AlwaysOfRuns ConsolesAgree }
+    ensures no_gap { AlwaysOfRuns HasNoGap }
+    ensures key_once { AlwaysOfRuns KeysOnce }
+    ensures serials_in_order { AlwaysOfRuns SerialsInOrder }
+    ensures shows_released { AlwaysOfRuns ConsolesShowReleased }
+    ensures shows_runs { AlwaysOfNodes ConsolesShowRuns }
+    ensures only_released { AlwaysOfNodes ConsolesAreReleased }
+    ensures learned_stays { AlwaysLaterOfRuns LearnedStays }
+    ensures consoles_grow { AlwaysLaterOfRuns ConsolesGrow }
+{
+    processes_make_a_log();
+    fronts_of_runs();
+    processes_headline();
+    processes_show();
+    fronts_of_logs();
+    logs_have_one_end();
+    prefixes_are_ordered();
+}

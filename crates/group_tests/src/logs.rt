@@ -1,0 +1,89 @@
+//! The written log of the laws of `group_world`, event by event.
+use crate::program::program;
+use crate::worlds::events_of;
+use group_world::{World, run};
+use paxos_msg::{Ballot, Characters, Value, Vote};
+use std::test::Fail;
+
+/// Reads a byte from unit 1, which echoes it: SLDC 65, SRO 3, and UNITREAD of one byte at word 3.
+const ECHOES: [u8; 28] = [
+    0x41, 0xab, 0x03, 0x01, 0xa5, 0x03, 0x00, 0x01, 0x00, 0x00, 0x9e, 0x05, 0xc1, 0x00, 0x02, 0x00,
+    0x04, 0x00, 0x06, 0x00, 0x14, 0x00, 0x01, 0x00, 0x02, 0x00, 0x01, 0x01,
+];
+
+/// The events: node 1 leads, the letter A is typed at node 2, nodes 2 and 3 accept it, and node 3
+/// learns and shows it.
+const EVENTS: &str =
+    "start 1, start 2, start 3, campaign 1, deliver 0 2, deliver 0 3, deliver 1 1, deliver 2 1, type 2 41, tick 2, deliver 3 1, deliver 5 2, deliver 5 3, deliver 6 3, deliver 7 3, run 3 10, release 3";
+
+/// The ballot of node 1.
+const BALLOT: Ballot = Ballot { round: 1, node: 1 };
+
+/// Returns the letter, typed first at node 2, as a batch of one.
+fn letter() -> Result<Value, Fail> {
+    let bytes = Characters::new(b"A").ok_or("no characters")?;
+    Ok(Value::Keys {
+        node: 2,
+        start: 1,
+        first: 1,
+        bytes,
+    })
+}
+
+/// Returns the vote for the letter at place 0.
+fn vote() -> Result<Vote, Fail> {
+    let value = letter()?;
+    Ok(Vote {
+        place: 0,
+        ballot: BALLOT,
+        value,
+    })
+}
+
+/// Returns true if a node's console has shown these bytes.
+fn has_shown(world: &World<'_>, node: u8, bytes: &[u8]) -> bool {
+    match world.console(node) {
+        Some(shown) => shown == bytes,
+        None => false,
+    }
+}
+
+/// Returns what a node has learned for place 0.
+fn learned(world: &World<'_>, node: u8) -> Option<Value> {
+    world.node(node).and_then(|node| node.learned(0))
+}
+
+/// Returns true if a node's record has one start, the ballot, and these votes.
+fn keeps(world: &World<'_>, node: u8, votes: &[Vote]) -> bool {
+    match world.record(node) {
+        Some(record) => {
+            record.starts == 1
+                && record.promised == Some(BALLOT)
+                && record.votes.as_slice() == votes
+        }
+        None => false,
+    }
+}
+
+/// Shows laws::a_written_log, run (happens): what the law says of the nodes after the log holds of
+/// the world after these events.
+#[test]
+fn the_written_log(rt: HostRuntime) -> Result<(), Fail> {
+    let program = program(rt.alloc(), &ECHOES)?;
+    let events = events_of(rt.alloc(), EVENTS)?;
+    let world = run(rt.alloc(), &program, 3, 7, events.as_slice())?;
+    let letter = letter()?;
+    assert_eq!(rt; world.sent(), 8);
+    assert_eq!(rt; world.typed(0), Some(letter));
+    assert_eq!(rt; world.typed(1), None);
+    assert_eq!(rt; learned(&world, 1), None);
+    assert_eq!(rt; learned(&world, 3), Some(letter));
+    assert!(rt; has_shown(&world, 1, b""));
+    assert!(rt; has_shown(&world, 2, b""));
+    assert!(rt; has_shown(&world, 3, b"A"));
+    let votes = [vote()?];
+    assert!(rt; keeps(&world, 1, &[]));
+    assert!(rt; keeps(&world, 2, &votes));
+    assert!(rt; keeps(&world, 3, &votes));
+    Ok(())
+}

@@ -1,0 +1,77 @@
+-- What a node does between its start and its end: its deeds, and what it is prompted to do.
+use Rattle.std.specs.Prelude.{◌≡◌, ◌≢◌, ◌≤◌, ◌⊎◌, ℕ, Bool, true, false, List, [], ◌∷◌, ◌++◌, Option, Result, Ok, Err}
+use Rattle.group_node.specs.declared.fault.NodeFault.TheVariants.{SerialSpent, Store}
+use Rattle.group_node.specs.declared.player.Ran.{Ran}
+use Rattle.group_node.specs.declared.player.Ran.TheVariants.{More, Full}
+use Rattle.group_node.specs.Deeds.{Campaign, Deed}
+use Rattle.group_node.specs.States.{NodeState}
+use Rattle.group_wire.specs.Doings.{Fails, HasActed}
+use Rattle.group_wire.specs.Traffic.{Traffic}
+use Rattle.group_udp.specs.declared.fault.GroupFault.{GroupFault}
+use Rattle.group_udp.specs.declared.fault.GroupFault.TheVariants as group
+use Rattle.group_udp.specs.Prompts.{IsPrompted, with_gift}
+
+-- What is known around a node: what has passed over its wire, and what its keyboard has left.
+pub record Around : Type 0 where
+  pub traffic : Option Traffic
+  pub keys : Option (List Deed)
+
+-- These two, put together.
+abbrev pub around : Option Traffic → Option (List Deed) → Around
+around traffic keys = record { traffic = traffic; keys = keys }
+
+-- The prompts of a plan before the first turn.
+abbrev pub planned : Bool → List Deed
+planned true = Campaign ∷ []
+planned false = []
+
+-- What a node did in so many turns, after the prompts `first`: its deeds have these and those of
+-- its keyboard, and exactly what passes in them has passed over its wire.
+pub record HasGoneOn {S : Type 0} (first : List Deed) (old new : NodeState S) (from to : Around)
+    (turns : ℕ) : Type 0 where
+  pub gift : List Deed
+  pub prompts : List Deed
+  pub given : from.keys ≡ with_gift gift to.keys
+  pub acts : HasActed old new from.traffic to.traffic (first ++ prompts)
+  pub prompted : IsPrompted gift turns ⊥ prompts
+
+-- What it did up to a refusal. Exactly if a save failed, its last deed is the one that failed.
+pub record HasEnded {S : Type 0} (first : List Deed) (old new : NodeState S) (from to : Around)
+    (turns : ℕ) (e : GroupFault) : Type 0 where
+  pub gift : List Deed
+  pub prompts : List Deed
+  pub given : from.keys ≡ with_gift gift to.keys
+  pub fails : e ≡ group.Node Store → Fails old new from.traffic to.traffic (first ++ prompts)
+  pub acts : e ≢ group.Node Store → HasActed old new from.traffic to.traffic (first ++ prompts)
+  pub prompted : IsPrompted gift turns (e ≡ group.Node SerialSpent) prompts
+
+-- What a node did, by the answer: so many turns at `Ok`, and at most so many up to a refusal, which
+-- may come before the prompts `first`.
+abbrev pub HasGone : {S T : Type 0} → List Deed → NodeState S → NodeState S → Around → Around → ℕ
+    → Result T GroupFault → Type 0
+HasGone first old new from to turns (Ok x) = HasGoneOn first old new from to turns
+HasGone first old new from to turns (Err e) =
+    (begun : List Deed) × ((begun ≡ first) ⊎ (begun ≡ [])) × (done : ℕ) × (done ≤ turns)
+    × HasEnded begun old new from to done e
+
+-- A call that is refused only since a save of the node fails now: then these are the prompts.
+pub record FailsAt {S : Type 0} (old new : NodeState S) (from to : Option Traffic)
+    (failing : List Deed) (e : GroupFault) : Type 0 where
+  pub store : e ≡ group.Node Store
+  pub fails : Fails old new from to failing
+
+-- A campaign before the first turn, if the plan has one. It is refused since a save fails, or does
+-- not begin.
+-- Forbids: a campaign that was not asked for, and none where one was.
+abbrev pub CampaignsIf : {S : Type 0} → Bool → NodeState S → NodeState S → Option Traffic
+    → Option Traffic → Result (Unit {0}) GroupFault → Type 0
+CampaignsIf is_asked old new from to (Ok x) = HasActed old new from to (planned is_asked)
+CampaignsIf is_asked old new from to (Err e) =
+    (is_asked ≡ true) × (e ≡ group.Node Store → Fails old new from to (planned true))
+    × (e ≢ group.Node Store → HasActed old new from to [])
+
+-- True if a node is busy after such a run: its machine has not ended, and does not wait for a key.
+abbrev pub is_busy_after : Ran → Bool
+is_busy_after More = true
+is_busy_after Full = true
+is_busy_after _ = false

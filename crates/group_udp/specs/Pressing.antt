@@ -1,0 +1,59 @@
+-- What happens at a node's keyboard before a turn.
+use Rattle.std.specs.Prelude.{◌≡◌, ◌≢◌, ℕ, List, [], ◌∷◌, ◌++◌, map, Option, Result, Ok, Err}
+use Rattle.paxos_acceptor.specs.Stores.{StoreState}
+use Rattle.group_node.specs.declared.fault.NodeFault.TheVariants.{SerialSpent, Stopped, Store}
+use Rattle.group_node.specs.Deeds.{Campaign, Deed, Press}
+use Rattle.group_node.specs.States.{NodeState}
+use Rattle.group_wire.specs.Campaigns.{HasCampaigned}
+use Rattle.group_wire.specs.Doings.{HasActed}
+use Rattle.group_wire.specs.Traffic.{Traffic}
+use Rattle.group_udp.specs.declared.fault.GroupFault.{GroupFault}
+use Rattle.group_udp.specs.declared.fault.GroupFault.TheVariants as group
+use Rattle.group_udp.specs.declared.keyboard.Pressed.{Pressed}
+use Rattle.group_udp.specs.declared.keyboard.Pressed.TheVariants.{Bytes, Campaigned, CampaignRefused}
+use Rattle.group_udp.specs.Going.{Around, FailsAt, HasEnded}
+use Rattle.group_udp.specs.Prompts.{with_gift}
+use Rattle.group_udp.specs.Refusals.{IsRoundRefusal}
+
+-- Typing of the bytes that a keyboard gave. If the serials are spent, the last of them are lost.
+-- Forbids: a byte that is typed twice, or that the keyboard did not give.
+abbrev pub HasTypedGiven : {S : Type 0} → NodeState S → NodeState S → Option (List Deed)
+    → Option (List Deed) → Result (Unit {0}) GroupFault → Type 0
+HasTypedGiven old new from to (Ok x) =
+    (typed : List ℕ) × (from ≡ with_gift (map Press typed) to)
+    × ((passed : Option Traffic) → HasActed old new passed passed (map Press typed))
+HasTypedGiven old new from to (Err e) =
+    (typed lost : List ℕ) × (e ≡ group.Node SerialSpent)
+    × (from ≡ with_gift (map Press (typed ++ lost)) to)
+    × ((passed : Option Traffic) → HasActed old new passed passed (map Press typed))
+
+-- A campaign that was asked for, and its answer. Only a save that fails ends the node.
+-- Allows: a campaign that does not begin.
+-- Forbids: a node that ends since no ballot or no place is left.
+abbrev pub HasCampaignedAsAsked : {S : Type 0} → Type 0 → Type 0 → (S → StoreState) → NodeState S
+    → NodeState S → Option Traffic → Option Traffic → Result Pressed GroupFault → Type 0
+HasCampaignedAsAsked honest at_will state old new from to (Ok Bytes) = ⊥
+HasCampaignedAsAsked honest at_will state old new from to (Ok Campaigned) =
+    HasActed old new from to (Campaign ∷ [])
+HasCampaignedAsAsked honest at_will state old new from to (Ok (CampaignRefused f)) =
+    HasCampaigned honest at_will state old new from to (Err f) × (f ≢ Stopped) × (f ≢ Store)
+    × HasActed old new from to []
+HasCampaignedAsAsked honest at_will state old new from to (Err e) =
+    FailsAt old new from to (Campaign ∷ []) e
+
+-- What happens at a keyboard before a turn: typing of what it gave, or a campaign that it asked
+-- for, as the answer says.
+abbrev pub HasPressedKeyboard : {S : Type 0} → Type 0 → Type 0 → (S → StoreState) → NodeState S
+    → NodeState S → Around → Around → Result Pressed GroupFault → Type 0
+HasPressedKeyboard honest at_will state old new from to (Ok Bytes) =
+    (typed : List ℕ) × (from.keys ≡ with_gift (map Press typed) to.keys)
+    × HasActed old new from.traffic to.traffic (map Press typed)
+HasPressedKeyboard honest at_will state old new from to (Ok Campaigned) =
+    (from.keys ≡ with_gift (Campaign ∷ []) to.keys)
+    × HasCampaignedAsAsked honest at_will state old new from.traffic to.traffic (Ok Campaigned)
+HasPressedKeyboard honest at_will state old new from to (Ok (CampaignRefused f)) =
+    (from.keys ≡ with_gift (Campaign ∷ []) to.keys)
+    × HasCampaignedAsAsked honest at_will state old new from.traffic to.traffic
+    (Ok (CampaignRefused f))
+HasPressedKeyboard honest at_will state old new from to (Err e) =
+    IsRoundRefusal e × HasEnded [] old new from to 0 e

@@ -1,0 +1,77 @@
+-- A log by a clock, in which all that is heard was sent earlier, is carried.
+use Rattle.std.proofs.lemmas.List.{append-nil, map-append}
+use Rattle.std.proofs.lemmas.List.Elements.{Contains-append_left, Contains-append_right, Contains-append_cases, filter_map-append}
+use Rattle.std.proofs.lemmas.Grind.{flat_map-append}
+use Rattle.std.proofs.Common.{◌≡◌, ◌<◌, ◌≤◌, ◌⊎◌, List, [], ◌∷◌, ◌++◌, append_assoc, inl, inr, sym, ap, subst, arith}
+use Rattle.std.specs.List.{AllByRecursion, Contains}
+use Rattle.paxos_msg.specs.declared.message.Group.{Group}
+use Rattle.paxos_msg.specs.Batches.{Msg}
+use Rattle.group_node.specs.Packets.{Datagram}
+use Rattle.group_world.specs.Group.{message_of, messages_in}
+use Rattle.group_node.specs.Deeds.{Deed, Hear}
+use Rattle.group_world.specs.Processes.{HearsOf, IsCarried, sent_in}
+use Rattle.group_world.specs.Timed.{AllHearEarlier, HearsEarlier, IsByTime, Timed, untimed}
+use Rattle.group_world.proofs.OrderLists.{in_cases, none_in}
+
+-- each element has what all have
+all_has : {X : Type 0} (P : X → Type 0) (xs : List X) (y : X) → AllByRecursion P xs → Contains xs y → P y
+all_has P [] y all h = absurd (none_in y h)
+all_has P (x ∷ xs) y all h = elim (in_cases x xs y h) [ inl e ↦ subst P e all.0 | inr later ↦ all_has P xs y all.1 later ]
+
+module _ (group : Group) where
+  -- a message of an entry is one of all that were sent
+  sent_by_one : (front : List Timed) (y : Timed) (m : Msg) → Contains front y → Contains (messages_in group y.entry.sent) m
+      → Contains (messages_in group (sent_in (untimed front))) m
+  sent_by_one [] y m there said = absurd (none_in y there)
+  sent_by_one (x ∷ front) y m there said =
+      let both = filter_map-append (message_of group) x.entry.sent (sent_in (untimed front)) in
+      let here : (x ≡ y) → Contains (messages_in group x.entry.sent ++ messages_in group (sent_in (untimed front))) m =
+      λ e. Contains-append_left _ _ m (subst (λ (z : Timed). Contains (messages_in group z.entry.sent) m) (sym e) said) in
+      let later : Contains front y → Contains (messages_in group x.entry.sent ++ messages_in group (sent_in (untimed front))) m =
+      λ h. Contains-append_right _ _ m (sent_by_one front y m h said) in
+      subst (λ ms. Contains ms m) (sym both) (elim (in_cases x front y there) [ inl e ↦ here e | inr h ↦ later h ])
+
+  module _ (sent : List Datagram) where
+    -- what was sent before all entries, and by those in front
+    abbrev before : List Timed → List Datagram
+    before front = sent ++ sent_in (untimed front)
+
+    -- the sender stands in front
+    sender_in_front : (front rest : List Timed) (x y : Timed) → AllByRecursion (λ z. x.time ≤ z.time) rest → Contains (front ++ x ∷ rest) y
+        → y.time < x.time → Contains front y
+    sender_in_front front rest x y later there earlier = elim (Contains-append_cases front (x ∷ rest) y there) [
+      | inl h ↦ h
+      | inr h ↦ absurd (not_later (in_cases x rest y h))
+    ]
+      where
+        not_later : (x ≡ y) ⊎ Contains rest y → ⊥
+        not_later (inl e) = let same = ap (λ (z : Timed). z.time) e in omega arith
+        not_later (inr h) = let least : x.time ≤ y.time = all_has (λ z. x.time ≤ z.time) rest y later h in omega arith
+
+    one_heard : (front rest : List Timed) (x : Timed) (deed : Deed) → AllByRecursion (λ z. x.time ≤ z.time) rest
+        → HearsEarlier group (front ++ x ∷ rest) x.time deed → HearsOf group (before front) deed
+    one_heard front rest x (Hear m) later (y, there, earlier, said) =
+        subst (λ ms. Contains ms m) (sym (filter_map-append (message_of group) sent (sent_in (untimed front))))
+        (Contains-append_right (messages_in group sent) _ m (sent_by_one front y m (sender_in_front front rest x y later there earlier)
+        said))
+    one_heard front rest x _ later heard = tt
+
+    next_before : (front : List Timed) (x : Timed) → before (front ++ x ∷ []) ≡ before front ++ x.entry.sent
+    next_before front x =
+        rw (map-append, flat_map-append, append-nil) (sym (append_assoc sent (sent_in (untimed front)) x.entry.sent))
+
+    all_carried : (front rest : List Timed) → IsByTime rest → AllHearEarlier group (front ++ rest) rest → IsCarried group (before front)
+        (untimed rest)
+    all_carried front [] order heard = tt
+    all_carried front (x ∷ rest) order heard =
+        let more : List Timed = front ++ x ∷ [] in
+        let same : more ++ rest ≡ front ++ x ∷ rest = append_assoc front (x ∷ []) rest in
+        let heard_so = subst (λ all. AllHearEarlier group all rest) (sym same) heard.1 in
+        let next = all_carried more rest order.1 heard_so in (
+          one_heard front rest x x.entry.deed order.0 heard.0,
+          subst (λ all. IsCarried group all (untimed rest)) (next_before front x) next,
+        )
+
+    pub timed_is_carried : (log : List Timed) → IsByTime log → AllHearEarlier group log log → IsCarried group sent (untimed log)
+    timed_is_carried log order heard =
+        subst (λ all. IsCarried group all (untimed log)) (append-nil sent) (all_carried [] log order heard)

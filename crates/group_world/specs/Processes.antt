@@ -1,0 +1,204 @@
+-- Processes that are the nodes of a group: what each of them did, in one order of time, over stores
+-- that keep their records and a network that carries what was sent.
+use Rattle.std.specs.Prelude.{◌≡◌, ℕ, ◌==◌, ◌<◌, ◌≤◌, List, [], ◌∷◌, ◌++◌, length, Contains, filter, flat_map, slice_get, take, Some, None}
+use Rattle.std.specs.List.{AllByRecursion}
+use Rattle.pcode_file.specs.Parts.{Parts}
+use Rattle.paxos_msg.specs.declared.message.Group.{Group}
+use Rattle.paxos_msg.specs.declared.value.Value.{Value}
+use Rattle.paxos_msg.specs.Fits.{IsGroup}
+use Rattle.paxos_acceptor.specs.declared.me.Me.{Me}
+use Rattle.group_node.specs.Deeds.{Deed, Idle, Start, Hear, Press, Campaign, Tick, Run, Release, Crash}
+use Rattle.group_node.specs.Output.{Progress, no_progress, unreleased_of}
+use Rattle.group_node.specs.Packets.{Datagram}
+use Rattle.group_node.specs.Protocol.{on_message}
+use Rattle.group_node.specs.States.{IsSize, input}
+use Rattle.group_node.specs.Tick.{on_tick}
+use Rattle.group_node.specs.World.{Up, WorldState}
+use Rattle.group_world.specs.declared.event.Act.{Act}
+use Rattle.group_world.specs.declared.event.Act.TheVariants as act
+use Rattle.group_world.specs.declared.event.Event.{Event}
+use Rattle.group_world.specs.declared.event.Outcome.{Outcome}
+use Rattle.group_world.specs.Event.{LeadsBy, plan_of}
+use Rattle.group_world.specs.Group.{World, me_of, member_at, messages_in, new_world, world_state}
+use Rattle.group_world.specs.Member.{CallEnds, Makes, Member, NodeCall, Running, RunsMember, call_of_campaign, call_of_press, call_of_start, call_outcome, done_of, member_after_fall, member_after_release}
+
+-- ---- what one process does
+
+-- A deed of the process of a node: the outcome of its save, if it made one, the datagrams that it
+-- sent, and the keys that were typed.
+-- A process that is killed in a call has done nothing, and crashes; or it has failed to save, with
+-- either record left; or it has done all of it, and crashes. Datagrams that it did not hand out any
+-- more are then lost.
+pub record Entry : Type 0 where
+  pub node : ℕ
+  pub deed : Deed
+  pub save : Outcome
+  pub sent : List Datagram
+  pub typed : List Value
+
+-- The entry and the node after it are those of this call of node `m`.
+abbrev pub EndsCall : Me → Member → Progress → NodeCall → Entry → Member → Type 0
+EndsCall me m progress call e new =
+    CallEnds me m progress (call_outcome (plan_of e.save) m.kept call)
+    (done_of (call_outcome (plan_of e.save) m.kept call)) new e.sent e.typed
+
+-- An entry at which nothing was sent or typed.
+abbrev pub IsSilent : Entry → Type 0
+IsSilent e = (e.sent ≡ []) × (e.typed ≡ [])
+
+-- The entry of this deed and the node after it, where the node was `m`. `p` is the program.
+-- A start reads the record that the node's store has.
+-- Forbids: a start over an older record; a deed of a node that is down.
+abbrev pub DoesDeed : Parts → Me → Member → Deed → Entry → Member → Type 0
+DoesDeed p me m Idle e new = (new ≡ m) × IsSilent e
+DoesDeed p me m (Start r) e new =
+    (m.node ≡ None) × (r ≡ m.kept) × EndsCall me m (no_progress p) (call_of_start me r) e new
+DoesDeed p me m (Hear message) e new =
+    (q : Running) × (m.node ≡ Some q)
+    × EndsCall me m q.progress (Makes (on_message q.known message.sender message.body) []) e new
+DoesDeed p me m (Press byte) e new =
+    (q : Running) × (m.node ≡ Some q) × (byte < 256)
+    × EndsCall me m q.progress (call_of_press q.known byte) e new
+DoesDeed p me m Campaign e new =
+    (q : Running) × (m.node ≡ Some q) × EndsCall me m q.progress (call_of_campaign q.known) e new
+DoesDeed p me m Tick e new =
+    (q : Running) × (m.node ≡ Some q) × EndsCall me m q.progress (Makes (on_tick q.known) []) e new
+DoesDeed p me m (Run steps) e new =
+    (q : Running) × (m.node ≡ Some q) × RunsMember m q steps new × IsSilent e
+DoesDeed p me m Release e new =
+    (q : Running) × (m.node ≡ Some q)
+    × (new ≡ member_after_release m q (slice_get (unreleased_of (input q.known) q.progress) 0))
+    × IsSilent e
+DoesDeed p me m Crash e new =
+    (q : Running) × (m.node ≡ Some q) × (new ≡ member_after_fall m m.kept) × IsSilent e
+
+-- The node `me`, which was `m`, after these entries.
+abbrev pub IsHistory : Parts → Me → Member → List Entry → Member → Type 0
+IsHistory p me m [] last = last ≡ m
+IsHistory p me m (e ∷ es) last =
+    (mid : Member) × DoesDeed p me m e.deed e mid × IsHistory p me mid es last
+
+-- ---- what the processes of a group do
+
+-- The entries of one node, in order.
+abbrev pub entries_of : ℕ → List Entry → List Entry
+entries_of i log = filter (λ e. e.node == i) log
+
+-- What was sent, and what was typed, in order.
+abbrev pub sent_in : List Entry → List Datagram
+sent_in log = flat_map (λ e. e.sent) log
+
+abbrev pub typed_in : List Entry → List Value
+typed_in log = flat_map (λ e. e.typed) log
+
+-- A deed that hears, if it hears a message, what one of these datagrams spells.
+abbrev pub HearsOf : Group → List Datagram → Deed → Type 0
+HearsOf group sent (Hear m) = Contains (messages_in group sent) m
+HearsOf group sent _ = Unit {0}
+
+-- Entries each of which hears only what was sent before it: at first, or by an entry before it.
+-- Allows: a datagram that never comes, or comes again and again, late, or before an older one, or
+-- at another node.
+-- Forbids: a message that nobody sent.
+abbrev pub IsCarried : Group → List Datagram → List Entry → Type 0
+IsCarried group sent [] = Unit {0}
+IsCarried group sent (e ∷ log) = HearsOf group sent e.deed × IsCarried group (sent ++ e.sent) log
+
+-- A log of the processes of a group that was `w`, whose nodes are `now` after it, node 1 first.
+-- The log is in one order of time. Each entry is of a node of the group. The entries of each node
+-- are a history of its process, over a store that keeps its record. What is heard was sent before.
+-- Allows: any order of the deeds of two nodes, where one does not hear what the other sent.
+pub record IsLog (w : World) (log : List Entry) (now : List Member) : Type 0 where
+  pub places : length now ≡ length w.members
+  pub among : AllByRecursion (λ e. (m : Member) × (member_at now e.node ≡ Some m)) log
+  pub nodes : (i : ℕ) (m last : Member) → member_at w.members i ≡ Some m
+      → member_at now i ≡ Some last
+      → IsHistory w.program (me_of w i) m (entries_of i log) last
+  pub carried : IsCarried w.group w.sent log
+
+-- The group after a log of its processes: these nodes, and what was sent and typed.
+abbrev pub after_log : World → List Entry → List Member → World
+after_log w log now =
+    record w { members = now; sent = w.sent ++ sent_in log; typed = w.typed ++ typed_in log }
+
+-- ---- what a log is as events
+
+-- The one event of this act, with the save that the entry has.
+abbrev pub event_with : Entry → Act → List Event
+event_with e a = record { act = a; save = e.save } ∷ []
+
+-- The events of an entry with this deed: an idle one is none, and each other is one, the same deed
+-- at the same node. A message that is heard is one of those that were sent before, by its number.
+-- Forbids: an event of another node, of another message or byte, or with another save.
+abbrev pub AreEventsOfDeed : Group → List Datagram → Entry → Deed → List Event → Type 0
+AreEventsOfDeed group sent e Idle events = events ≡ []
+AreEventsOfDeed group sent e (Start r) events = events ≡ event_with e (act.Start e.node)
+AreEventsOfDeed group sent e (Hear m) events =
+    (k : ℕ) × (slice_get (messages_in group sent) k ≡ Some m)
+    × (events ≡ event_with e (act.Deliver k e.node))
+AreEventsOfDeed group sent e (Press byte) events = events ≡ event_with e (act.Press e.node byte)
+AreEventsOfDeed group sent e Campaign events = events ≡ event_with e (act.Campaign e.node)
+AreEventsOfDeed group sent e Tick events = events ≡ event_with e (act.Tick e.node)
+AreEventsOfDeed group sent e (Run steps) events = events ≡ event_with e (act.Run e.node steps)
+AreEventsOfDeed group sent e Release events = events ≡ event_with e (act.Release e.node)
+AreEventsOfDeed group sent e Crash events = events ≡ event_with e (act.Crash e.node)
+
+-- The events of a log, entry by entry, where `sent` was sent before it.
+abbrev pub AreEventsOf : Group → List Datagram → List Entry → List Event → Type 0
+AreEventsOf group sent [] events = events ≡ []
+AreEventsOf group sent (e ∷ log) events =
+    (first : List Event) × (rest : List Event) × AreEventsOfDeed group sent e e.deed first
+    × AreEventsOf group (sent ++ e.sent) log rest × (events ≡ first ++ rest)
+
+-- The claim that the processes have done what the events of their log do.
+abbrev pub AreEvents : World → List Entry → List Member → Type 0
+AreEvents w log now =
+    (events : List Event) × AreEventsOf w.group w.sent log events
+    × LeadsBy w events (after_log w log now)
+
+-- ---- claims about processes
+
+-- What holds of the processes of every program and group, whatever they do.
+abbrev pub AlwaysOfProcesses : (WorldState → Type 0) → Type 0
+AlwaysOfProcesses P =
+    (p : Parts) (group : Group) (log : List Entry) (now : List Member) → IsSize group.size
+    → IsGroup group → IsLog (new_world p group) log now
+    → P (world_state (after_log (new_world p group) log now))
+
+-- What holds of every two moments of the processes, whatever they do before the first and in
+-- between.
+abbrev pub AlwaysLaterOfProcesses : (WorldState → WorldState → Type 0) → Type 0
+AlwaysLaterOfProcesses P =
+    (p : Parts) (group : Group) (log more : List Entry) (mid now : List Member)
+    → IsSize group.size → IsGroup group → IsLog (new_world p group) log mid
+    → IsLog (after_log (new_world p group) log mid) more now
+    → P (world_state (after_log (new_world p group) log mid))
+    (world_state (after_log (after_log (new_world p group) log mid) more now))
+
+-- What a node that is up has released is on its console: the first bytes of both are the same.
+-- Allows: a console that shows more, from an earlier start.
+-- Forbids: a released byte that the console does not have.
+abbrev pub ConsolesShowReleased : WorldState → Type 0
+ConsolesShowReleased w =
+    (i : ℕ) (node : Up) → (w.seats i).up ≡ Some node
+    → (node.released ≤ length (w.seats i).console)
+    × (take node.released node.configuration.output ≡ take node.released (w.seats i).console)
+
+-- The claim that a log of processes, with these events, leads from a group to another.
+abbrev pub MayBeLogged : World → List Event → World → Type 0
+MayBeLogged w events v =
+    (log : List Entry) × IsLog w log v.members × AreEventsOf w.group w.sent log events
+    × (v ≡ after_log w log v.members)
+
+-- ---- two parts of a log
+
+-- Nodes between two parts of a log of the processes of a group that was `w`: the first part leads
+-- to the nodes `mid`, and the second one from them to `now`.
+-- Allows: a part with no entries.
+pub record IsMoment (w : World) (log more : List Entry) (mid now : List Member) : Type 0 where
+  pub before : IsLog w log mid
+  pub after : IsLog (after_log w log mid) more now
+
+-- The claim that there are nodes between these two parts of a log.
+abbrev pub HasMoment : World → List Entry → List Entry → List Member → Type 0
+HasMoment w log more now = (mid : List Member) × IsMoment w log more mid now

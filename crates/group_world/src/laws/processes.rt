@@ -1,0 +1,107 @@
+//! Laws of processes, each of which is a node of a group.
+ghost use Rattle.std.specs.Prelude.{◌≡◌, ◌++◌, List};
+ghost use Rattle.pcode_file.specs.Parts.{Parts};
+ghost use Rattle.paxos_msg.specs.declared.message.Group.{Group};
+ghost use Rattle.paxos_acceptor.specs.declared.me.Me.{Me};
+ghost use Rattle.group_node.specs.Packets.{Datagram};
+ghost use Rattle.group_world.specs.declared.event.Event.{Event};
+ghost use Rattle.group_world.specs.Event.{LeadsBy};
+ghost use Rattle.group_world.specs.Group.{World};
+ghost use Rattle.group_world.specs.Headline.{ConsolesAgree, ConsolesGrow, ConsolesHoldOutput, HasNoGap, LearnedAgree, LearnedChosen, LearnedStays};
+ghost use Rattle.group_world.specs.Member.{Member};
+ghost use Rattle.group_world.specs.Order.{KeysOnce, SerialsInOrder};
+ghost use Rattle.group_world.specs.Processes.{AlwaysLaterOfProcesses, AlwaysOfProcesses, AreEvents, AreEventsOf, ConsolesShowReleased, Entry, HasMoment, IsCarried, IsHistory, IsLog, MayBeLogged, after_log};
+ghost use Rattle.group_world.specs.Timed.{AllHearEarlier, IsByTime, Timed, untimed};
+
+use crate::laws::order::events_keep_order;
+use crate::laws::sound::events_keep_it_sound;
+use crate::laws::worlds::{headline, later_worlds_agree};
+use group_node::laws::input_is_chosen;
+use paxos_learner::laws::values_are_learned;
+use paxos_msg::laws::agreement;
+use pcode_machine::laws::{output_only_grows, prefixes_are_ordered, run_is_after};
+
+/// What the processes of a group do is what a list of events does. It is about every log of a group
+/// in one order of time, in which each process does what its node's calls say, its store keeps its
+/// record, and what a process hears was sent before. The events of the log, entry by entry, lead
+/// from the group before it to the nodes after it, with all that was sent and typed.
+pub fn processes_are_events()
+    ensures { (w : World) (log : List Entry) (now : List Member) → IsLog w log now
+        → AreEvents w log now }
+{}
+
+/// Any events that are those of a log, entry by entry, lead to its nodes: if a message was sent
+/// more than once, whichever number they have for it.
+pub fn events_of_logs_lead()
+    ensures { (w : World) (log : List Entry) (now : List Member) (events : List Event)
+        → IsLog w log now → AreEventsOf w.group w.sent log events
+        → LeadsBy w events (after_log w log now) }
+{}
+
+/// What a list of events does some processes may do, with a log whose events these are: the law
+/// above leaves nothing out, and its premises can be met wherever events lead.
+pub fn events_are_processes()
+    ensures { (w v : World) (events : List Event) → LeadsBy w events v
+        → MayBeLogged w events v }
+{}
+
+/// A log in the order of time, by a clock, is carried if each deed hears only what a deed sent that
+/// began earlier. A deed begins when its receive has returned, and sends then. So where a network
+/// carries what was sent, a clock that is the same for all nodes gives such a log.
+pub fn time_orders_logs()
+    ensures { (group : Group) (sent : List Datagram) (log : List Timed) → IsByTime log
+        → AllHearEarlier group log log → IsCarried group sent (untimed log) }
+{}
+
+/// The main theorem for processes. It is about every program, every group of 1, 3, 5, 7 or 9 nodes,
+/// and every log of its processes from the group in which nothing has happened: starts, messages,
+/// typed bytes, campaigns, ticks, runs, releases and crashes, with saves that fail or not.
+pub fn processes_headline()
+    ensures learned_agree { AlwaysOfProcesses LearnedAgree }
+    ensures learned_chosen { AlwaysOfProcesses LearnedChosen }
+    ensures consoles_hold_output { AlwaysOfProcesses ConsolesHoldOutput }
+    ensures consoles_agree { AlwaysOfProcesses ConsolesAgree }
+    ensures no_gap { AlwaysOfProcesses HasNoGap }
+    ensures key_once { AlwaysOfProcesses KeysOnce }
+    ensures serials_in_order { AlwaysOfProcesses SerialsInOrder }
+    ensures learned_stays { AlwaysLaterOfProcesses LearnedStays }
+    ensures consoles_grow { AlwaysLaterOfProcesses ConsolesGrow }
+{
+    headline();
+    later_worlds_agree();
+    processes_are_events();
+}
+
+/// What a process has released since its start is on its console, in the same places: the console
+/// has at least as many bytes, and begins with the same ones. So what a process has written to its
+/// terminal, from a number on, is a part of the console of which the main theorem speaks.
+pub fn processes_show()
+    ensures shows { AlwaysOfProcesses ConsolesShowReleased }
+{
+    events_keep_it_sound();
+    events_keep_order();
+    agreement();
+    input_is_chosen();
+    values_are_learned();
+    output_only_grows();
+    prefixes_are_ordered();
+    processes_are_events();
+}
+
+/// Between two parts of a log there are nodes, which the first part leaves and from which the
+/// second one goes on. So each front of a log is a log, and what holds of every log holds at each
+/// moment of one.
+pub fn fronts_of_logs()
+    ensures { (w : World) (log more : List Entry) (now : List Member) → IsLog w (log ++ more) now
+        → HasMoment w log more now }
+{}
+
+/// Entries of a node leave one node, and a log leaves one list of nodes.
+pub fn logs_have_one_end()
+    ensures node { (p : Parts) (me : Me) (m : Member) (entries : List Entry) (last other : Member)
+        → IsHistory p me m entries last → IsHistory p me m entries other → other ≡ last }
+    ensures nodes { (w : World) (log : List Entry) (now other : List Member) → IsLog w log now
+        → IsLog w log other → other ≡ now }
+{
+    run_is_after();
+}
