@@ -17,7 +17,7 @@ import time
 sys.dont_write_bytecode = True  # no files of the tool's own in the repository
 TESTS = os.path.dirname(os.path.realpath(__file__))
 TOP = os.path.dirname(TESTS)
-SCRIPTS = os.path.join(TOP, "examples", "group")
+SCRIPTS = os.path.join(TOP, "tools", "group")
 sys.path.insert(0, SCRIPTS)
 from shared.nodes import TURNS, command_of, dropped_at, free_addresses
 from shared.record import NOOP, Damaged, read_head, read_record

@@ -1,5 +1,5 @@
 """Readers of code files and datagrams, and a writer of datagrams, apart from the program's, as docs/FORMATS.md describes them. Records are
-read by examples/group/shared/record.py."""
+read by tools/group/shared/record.py."""
 
 import collections
 

@@ -159,9 +159,10 @@ def is_torn(end, at, version):
     return version == 2 and len(end) <= MOST_APPENDED and is_lost
 
 
-def with_entries(reader, record, offset):
+def with_entries(reader, record, offset, note_start=lambda record: None):
     """The record with the changes of all whole entries. What a crash may have left of an append is
-    left. The reader's bytes begin at this offset of the log."""
+    left. The reader's bytes begin at this offset of the log. `note_start` is given the record
+    before each start."""
     while not is_cut_at(reader.data, reader.at, record.version):
         at = reader.at
         try:
@@ -171,6 +172,8 @@ def with_entries(reader, record, offset):
             if is_torn(reader.data[at:], offset + at, record.version):
                 return record
             raise
+        if entry[0] == START:
+            note_start(record)
         record = with_entry(record, *entry)
     return record
 
@@ -215,21 +218,31 @@ class Head:
             file.seek(LOG_HEADER)
             if letters == b"PR":
                 self.inode = None
-                return head_of(Reader(file.read(HEADER - LOG_HEADER)), record)
+                return self.whole(file, record)
             self.inode, self.at, self.record = inode, LOG_HEADER, record
             return self.follow(file.read())
+
+    def whole(self, file, record):
+        """A whole record, of which what comes before this place of the file was read."""
+        return head_of(Reader(file.read(HEADER - LOG_HEADER)), record)
+
+    def note_start(self, record):
+        """The log has a start of the node over this record."""
 
     def follow(self, data):
         """The record with what follows it in its log."""
         reader = Reader(data)
         try:
-            self.record = with_entries(reader, self.record, self.at)
+            self.record = with_entries(reader, self.record, self.at, self.note_start)
         except Damaged:
             self.inode = None
             raise
-        self.record.votes.clear()
         self.at += reader.at
-        return self.record
+        return self.kept(self.record)
+
+    def kept(self, record):
+        record.votes.clear()
+        return record
 
 
 def read_head(path):

@@ -2,7 +2,9 @@
 node to campaign."""
 
 import argparse
+import os
 import re
+import signal
 import socket
 
 
@@ -43,3 +45,17 @@ def ask(address, seconds=0.001):
         except socket.timeout:
             pass
     return False
+
+
+def run_script(main):
+    """The status of a script's `main`. Ctrl-C, and a reader of its output that has gone, end it as
+    they end others."""
+    try:
+        return main()
+    except KeyboardInterrupt:
+        number = signal.SIGINT
+    except BrokenPipeError:
+        number = signal.SIGPIPE
+    signal.signal(number, signal.SIG_DFL)
+    os.kill(os.getpid(), number)
+    return 1

@@ -1,0 +1,133 @@
+"""The files that a supervisor is given: what of them is refused at once, and the lines that say
+so."""
+
+import errno
+import os
+import subprocess
+import sys
+import time
+
+from .record import Damaged, read_record
+from .session import session_of
+
+# What does not go away by itself: a person has to look.
+LASTING = (
+    errno.ENOENT, errno.ENOTDIR, errno.EISDIR, errno.EACCES, errno.EPERM, errno.ELOOP,
+    errno.ENAMETOOLONG, errno.EROFS, errno.ENOEXEC,
+)
+QUIET = {"stdin": subprocess.DEVNULL, "stdout": subprocess.DEVNULL}
+
+
+class Refused(Exception):
+    """Why this cannot go on without a person."""
+
+
+def say(words, text):
+    """Writes a line with the time as a node's log has it. If it cannot be written it is left out."""
+    now = time.time_ns() // 10**6
+    try:
+        line = f"{now // 1000}.{now % 1000:03d} supervise node {words.id} {text}"
+        print(line, file=sys.stderr, flush=True)
+    except OSError:
+        pass
+
+
+def text_of_fault(fault):
+    name = "" if fault.filename is None else f"{fault.filename}: "
+    return f"{name}{fault.strerror or fault}"
+
+
+def refuse_lasting(fault):
+    """Refuses a fault that stays until a person does something about it."""
+    if fault.errno in LASTING:
+        raise Refused(text_of_fault(fault))
+
+
+def open_console(path):
+    """Opens the file that gets the output, at its end. A pipe that nobody reads is no fault that
+    stays."""
+    flags = os.O_WRONLY | os.O_APPEND | os.O_CREAT | os.O_NOCTTY | os.O_NONBLOCK | os.O_CLOEXEC
+    try:
+        console = os.open(path, flags, 0o666)
+    except OSError as fault:
+        if fault.errno == errno.ENXIO:
+            raise BlockingIOError(errno.EAGAIN, "nobody reads this console", path)
+        raise
+    os.set_blocking(console, True)
+    return console
+
+
+def check_folder(path, what):
+    folder = os.path.dirname(os.path.abspath(path))
+    if not os.path.isdir(folder):
+        raise Refused(f"the folder of the {what} {path} is missing: is its disk mounted?")
+    if not os.access(folder, os.W_OK | os.X_OK):
+        raise Refused(f"nothing can be written in {folder}, the folder of the {what}")
+
+
+def check_session(words):
+    """The session is the program's, so that nodes with different programs are of different groups.
+    The program may have been changed since the node was started last."""
+    with open(words.file, "rb") as file:
+        wanted = session_of(file.read(), words.generation)
+    if words.session != wanted and not words.any_session:
+        which = "the checksum" if words.generation == 1 else f"generation {words.generation}"
+        raise Refused(
+            f"session {words.session} is not {which} of {words.file}, which is {wanted}; "
+            "--generation N is for its N-th session, and --any-session for any other"
+        )
+
+
+def check_program(words):
+    """The program is there, and takes FILE."""
+    if not (os.path.isfile(words.program) and os.access(words.program, os.X_OK)):
+        raise Refused(f"there is no program {words.program}")
+    if not os.path.isfile(words.file):
+        raise Refused(f"there is no file {words.file}")
+    # The repository's ./run may build it first, and says so.
+    done = subprocess.run([words.program, "--help"], check=False, **QUIET)
+    if done.returncode != 0:
+        raise Refused(f"{words.program} cannot be run")
+    check = [words.program, "check", words.file]
+    done = subprocess.run(check, check=False, stdin=subprocess.DEVNULL, capture_output=True)
+    if done.returncode != 0:
+        said = (done.stderr + done.stdout).decode("utf-8", "replace").strip().split("\n")
+        raise Refused(f"{words.program} does not take {words.file}: {said[-1]}")
+
+
+def check_new(words):
+    """A new node has neither a record nor output."""
+    if os.path.exists(words.record):
+        raise Refused(f"--new, and there is {words.record}: leave --new out")
+    if os.path.isfile(words.console) and os.path.getsize(words.console) > 0:
+        raise Refused(f"--new, and {words.console} has output: of another session?")
+
+
+def promised_of(words, is_new):
+    """What the node's record has promised: nothing where it is new, and there is none."""
+    try:
+        record = read_record(words.record)
+    except FileNotFoundError:
+        if not is_new:
+            raise Refused(f"{words.record} is missing: is it lost? --new is for a new node")
+        return None
+    except Damaged as fault:
+        raise Refused(f"{words.record} is damaged: {fault}")
+    if (record.node, record.size, record.session) != (words.id, words.size, words.session):
+        raise Refused(f"{words.record} is of another node, size or session")
+    return record.promised
+
+
+def check_files(words):
+    """Refuses what a person got wrong before anything is started."""
+    try:
+        check_program(words)
+        check_session(words)
+        check_folder(words.record, "record")
+        check_folder(words.console, "console")
+        if words.new:
+            check_new(words)
+        promised_of(words, words.new)
+    except OSError as fault:
+        refuse_lasting(fault)
+        raise

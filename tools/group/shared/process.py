@@ -1,0 +1,198 @@
+"""The process of a node under a supervisor: when it is started, whether it moves, and how it ends
+with its supervisor."""
+
+import ctypes
+import os
+import select
+import signal
+import socket
+import subprocess
+import time
+
+from .beats import text_of_address_fault
+from .files import (
+    Refused, check_session, open_console, promised_of, refuse_lasting, say, text_of_fault,
+)
+from .nodes import command_of, left_at
+from .words import text_of
+
+PR_SET_PDEATHSIG = 1
+LIBC = ctypes.CDLL(None)
+# The least and the greatest pause before a node is started again, and how long a node has to run
+# for the pause to be the least again, in seconds.
+PAUSE, LONGEST_PAUSE, STEADY = 0.1, 5.0, 2.0
+
+
+def end_with(parent):
+    """In the node's process, before the program: the kernel kills it when this process ends."""
+    LIBC.prctl(PR_SET_PDEATHSIG, signal.SIGKILL, 0, 0, 0)
+    if os.getppid() != parent:
+        os._exit(1)
+
+
+def state_of(pid):
+    """The fields of a process's /proc/PID/stat after its name."""
+    with open(f"/proc/{pid}/stat", encoding="ascii", errors="replace") as stat:
+        return stat.read().rpartition(")")[2].split()
+
+
+def activity_of(pid):
+    """What grows while a process runs: its processor time, and how often it was given a processor.
+    A node that has nothing to do takes a turn every 10 to 100 milliseconds."""
+    try:
+        with open(f"/proc/{pid}/status", encoding="ascii", errors="replace") as status:
+            switches = [int(line.split()[1]) for line in status if "ctxt_switches" in line]
+        return switches, state_of(pid)[11:13]
+    except OSError:
+        return None
+
+
+class Node:
+    """The node's process, and when it may be started again."""
+
+    def __init__(self, words):
+        self.words = words
+        self.is_new = words.new
+        self.process, self.before, self.text = None, None, None
+        self.console, self.activity = None, None
+        self.is_held = self.is_full = False
+        self.started = self.moved = self.emptied = self.left = 0
+        self.pause, self.due = PAUSE, time.monotonic()
+
+    def tell(self, text):
+        """Says what keeps the node from starting, once."""
+        if text != self.text:
+            say(self.words, text)
+        self.text = text
+
+    def are_ports_free(self):
+        for address in (self.words.nodes[self.words.id - 1], self.words.keys):
+            with socket.socket(socket.AF_INET, socket.SOCK_DGRAM) as probe:
+                try:
+                    probe.bind(address)
+                except OSError as fault:
+                    why = text_of_address_fault(fault)
+                    self.tell(f"waits for {text_of(address)}: {why}; it is tried again")
+                    return False
+        return True
+
+    def command(self, seen, campaigns):
+        words = self.words
+        rest = ["--keys", text_of(words.keys), "--seen", seen] + ["--campaign"] * campaigns
+        place = (words.file, words.id, words.session, words.record)
+        return command_of(words.program, *place, words.nodes, *rest)
+
+    def start(self, now, campaigns=False):
+        """Starts the node, or puts it off where that cannot be done now."""
+        self.due = now + self.pause
+        self.pause = min(2 * self.pause, LONGEST_PAUSE)
+        try:
+            # While the ports are taken, a node that was there before may still write.
+            if self.are_ports_free():
+                self.start_process(now, campaigns)
+        except (OSError, subprocess.SubprocessError) as fault:
+            if isinstance(fault, OSError):
+                refuse_lasting(fault)
+                fault = text_of_fault(fault)
+            self.tell(f"cannot be started: {fault}; it is tried again")
+
+    def start_process(self, now, campaigns):
+        check_session(self.words)
+        self.before = promised_of(self.words, self.is_new)
+        parent = os.getpid()
+        self.close_console()
+        self.console = open_console(self.words.console)
+        command = self.command(os.fstat(self.console).st_size, campaigns)
+        self.process = subprocess.Popen(
+            command, stdin=subprocess.DEVNULL, stdout=self.console,
+            preexec_fn=lambda: end_with(parent),
+        )
+        self.started = self.moved = self.emptied = self.left = now
+        self.is_held = self.is_full = False
+        self.tell(f"started, process {self.process.pid}")
+
+    def tend(self, now):
+        """Starts the node if it is due, and notes that it has ended, or how it does."""
+        if self.process is None:
+            if now >= self.due:
+                self.start(now)
+            return
+        status = self.process.poll()
+        if status is not None:
+            self.note_end(status, now)
+            return
+        try:
+            self.watch_moves(now)
+            self.watch_keys(now)
+        except OSError:
+            pass  # The system cannot say it now.
+
+    def note_end(self, status, now):
+        self.process = None
+        if status == 2:
+            raise Refused("the program refuses its words")
+        if status == 0 or now - self.started > STEADY:
+            self.pause, self.due = PAUSE, now
+        say(self.words, f"ended {status_text(status)}; the node is started again")
+
+    def watch_moves(self, now):
+        activity = activity_of(self.process.pid)
+        if activity != self.activity:
+            self.activity, self.moved = activity, now
+            if self.is_held:
+                say(self.words, "moves again")
+            self.is_held = False
+        elif not self.is_held and now - self.moved >= self.words.silent:
+            self.is_held = True
+            say(self.words, f"does not move: {self.what_holds()}")
+
+    def what_holds(self):
+        try:
+            state = state_of(self.process.pid)[0]
+        except OSError:
+            state = ""
+        if state in ("T", "t"):
+            return "it was stopped by a signal"
+        if not select.select([], [self.console], [], 0)[1]:
+            return f"nobody reads its console {self.words.console}, which is full"
+        if state == "D":
+            return "it waits for a disk"
+        return f"its process {self.process.pid} is in state {state}"
+
+    def watch_keys(self, now):
+        """Says that typed keys wait in the socket, where they did so for a while: the node takes
+        none as it has no room for them."""
+        if left_at(self.words.keys):
+            self.left = now
+        else:
+            self.emptied = now
+        silent = self.words.silent
+        if not self.is_full and now - self.emptied >= silent:
+            self.is_full = True
+            say(self.words, "takes no typed keys: it has no room until those before are chosen")
+        elif self.is_full and now - self.left >= silent:
+            self.is_full = False
+            say(self.words, "takes typed keys again")
+
+    def is_ready(self, now):
+        """Whether it may be asked to campaign: it runs, moves, and had time to hear what the
+        others know."""
+        silent = self.words.silent
+        is_heard = now - self.moved < silent <= now - self.started
+        return self.process is not None and is_heard
+
+    def kill(self):
+        if self.process is not None:
+            self.process.kill()
+            self.process.wait()
+            self.process = None
+
+    def close_console(self):
+        if self.console is not None:
+            os.close(self.console)
+            self.console = None
+
+
+def status_text(status):
+    names = {it.value: it.name for it in signal.Signals}
+    return f"by {names.get(-status, -status)}" if status < 0 else f"with status {status}"

@@ -1,0 +1,63 @@
+"""The screen of `status --follow`."""
+
+import curses
+import time
+
+from .watch import Group, line_of
+
+# How often the group is looked at, in milliseconds.
+LOOK = 500
+
+
+def lines_of(group, height):
+    """The lines of the screen: the heading, and for each node its line and the end of its console,
+    with as many lines as there is room for."""
+    room = max(1, (height - 3) // len(group.nodes) - 2)
+    leader = group.leader()
+    lines = [time.strftime("%H:%M:%S ") + group.heading(), ""]
+    for node in group.nodes:
+        lines.append(line_of(node, leader))
+        shown = node.end_of_console()
+        if shown is None:
+            lines.append("    (its console is in no file that is known here; say --consoles)")
+        else:
+            lines += [f"    | {it}" for it in shown[-room:]]
+        lines.append("")
+    return lines + ["q or Ctrl-C ends this; the nodes go on"]
+
+
+def draw(window, group):
+    height, width = window.getmaxyx()
+    window.erase()
+    lines = lines_of(group, height)
+    for row, line in enumerate(lines[:height]):
+        try:
+            # Nothing fits behind the last column of the last row.
+            window.addnstr(row, 0, line, width - 1, curses.A_BOLD if row == 0 else 0)
+        except curses.error:
+            pass  # The window has just become smaller.
+    window.refresh()
+
+
+def keep_up(window, group):
+    try:
+        curses.curs_set(0)
+    except curses.error:
+        pass  # The terminal cannot hide it.
+    window.timeout(LOOK)
+    while True:
+        group.look()
+        draw(window, group)
+        if window.getch() in (ord("q"), ord("Q")):
+            return
+
+
+def follow(records, consoles):
+    """Keeps one screen up to date, until q or Ctrl-C. Returns why it cannot, or None."""
+    try:
+        curses.wrapper(keep_up, Group(records, consoles))
+    except KeyboardInterrupt:
+        pass
+    except curses.error as fault:
+        return f"the terminal: {fault}"
+    return None

@@ -1,0 +1,62 @@
+"""The words of `supervise`."""
+
+import os
+import shlex
+import sys
+
+from .words import address_of
+
+TOP = os.path.join(os.path.dirname(os.path.realpath(__file__)), "..", "..", "..")
+
+
+def add_words(add):
+    program = os.environ.get("PGROUP", os.path.join(TOP, "run"))
+    add("--file", metavar="FILE", required=True, help="the code file of the program")
+    add("--id", metavar="N", type=int, required=True, help="the node's number")
+    add("--size", metavar="N", type=int, required=True, help="how many nodes the group has")
+    add("--session", metavar="N", type=int, required=True, help="the group's number")
+    add("--generation", metavar="N", type=int, default=1,
+        help="the session is the N-th with this program (1)")
+    add("--any-session", action="store_true",
+        help="the session is no checksum of FILE; nothing checks that all nodes have the same FILE")
+    add("--record", metavar="FILE", required=True, help="the node's record")
+    add("--console", metavar="FILE", required=True, help="gets the output; made if not there")
+    add("--nodes", metavar="ADDR", type=address_of, nargs="+", required=True,
+        help="the address of each node, in order")
+    add("--keys", metavar="ADDR", type=address_of, required=True, help="where the keys come")
+    add("--beats", metavar="ADDR", type=address_of, nargs="+", required=True,
+        help="where each supervisor hears heartbeats, in order of the nodes")
+    add("--silent", metavar="SECONDS", type=float, default=3.0,
+        help="how long no leader is heard before a node is asked (3)")
+    add("--new", action="store_true", help="the node is new: there is no record yet")
+    add("--program", metavar="FILE", default=program,
+        help="pgroup; if not said, $PGROUP, or the repository's run")
+
+
+def check_words(parser, words):
+    if words.size not in (1, 3, 5, 7, 9) or not 1 <= words.id <= words.size:
+        parser.error("the size is 1, 3, 5, 7 or 9, and the id 1 to the size")
+    if not 0 <= words.session < 1 << 32 or words.generation < 1:
+        parser.error("the session is 0 to 4294967295, and the generation at least 1")
+    if not len(words.nodes) == len(words.beats) == words.size:
+        parser.error("--nodes and --beats want an address for each node")
+    if len(set(words.nodes + words.beats + [words.keys])) != 2 * words.size + 1:
+        parser.error("an address is given twice")
+    if "0.0.0.0" in [it[0] for it in words.nodes + words.beats]:
+        parser.error("0.0.0.0 is nowhere that a datagram comes from")
+    if not 0.1 <= words.silent <= 3600:
+        parser.error("--silent is 0.1 to 3600 seconds")
+    if any("\0" in it for it in (words.file, words.record, words.console, words.program)):
+        parser.error("the name of a file has a zero byte")
+
+
+def words_of(parser):
+    parser.convert_arg_line_to_args = lambda line: shlex.split(line, comments=True)
+    add_words(parser.add_argument)
+    try:
+        words = parser.parse_args()
+    except (ValueError, RecursionError) as fault:
+        # What a file of words may do to argparse: no text, a quotation without an end, itself.
+        parser.error(f"{' '.join(it for it in sys.argv[1:] if it[:1] == '@')}: {fault}")
+    check_words(parser, words)
+    return words

@@ -1,0 +1,185 @@
+"""What is seen of a group on this machine without asking it: its nodes' records, their processes,
+and the ends of their consoles."""
+
+import os
+import stat
+
+from .record import PLACES, Damaged, Head, record_of, text_of
+
+# How many bytes of a console's end are read.
+END = 8192
+
+
+class Whole(Head):
+    """The record of a file with its votes, again and again, and what it had promised when the node
+    was started last, where that is known: `before`."""
+
+    def __init__(self, path):
+        super().__init__(path)
+        self.before = None
+
+    def whole(self, file, record):
+        file.seek(0)
+        self.before = None
+        return record_of(file.read())
+
+    def note_start(self, record):
+        self.before = record.promised
+
+    def kept(self, record):
+        return record
+
+
+def words_of_process(pid):
+    try:
+        with open(f"/proc/{pid}/cmdline", "rb") as file:
+            return [os.fsdecode(it) for it in file.read().split(b"\0")]
+    except OSError:
+        return []
+
+
+def link_of(path):
+    try:
+        return os.readlink(path)
+    except OSError:
+        return None
+
+
+def is_at(path, pid, word):
+    """Whether a word of a process is the name of this file."""
+    folder = link_of(f"/proc/{pid}/cwd")
+    if not os.path.isabs(word) and folder is None:
+        return False
+    return os.path.realpath(os.path.join(folder or "/", word)) == os.path.realpath(path)
+
+
+def node_processes():
+    """The processes of nodes on this machine, each with its words after `node`."""
+    found = {}
+    for name in os.listdir("/proc"):
+        words = words_of_process(name) if name.isdigit() else []
+        if len(words) > 2 and words[1] == "node":
+            found[int(name)] = words[2:]
+    return found
+
+
+def state_of(pid):
+    try:
+        with open(f"/proc/{pid}/stat", encoding="ascii", errors="replace") as file:
+            return file.read().rpartition(")")[2].split()[0]
+    except OSError:
+        return None
+
+
+def file_of(pid, descriptor):
+    """The file that a process has there, or None if it has none or that cannot be seen."""
+    path = link_of(f"/proc/{pid}/fd/{descriptor}")
+    try:
+        return path if path and stat.S_ISREG(os.stat(path).st_mode) else None
+    except OSError:
+        return None
+
+
+def shown_as(character):
+    return character if " " <= character <= "~" else "."
+
+
+class Watched:
+    """A node: what was seen of it when `look` was called last."""
+
+    def __init__(self, path, console):
+        self.path, self.given = path, console
+        self.console = console
+        self.head = Whole(path)
+        self.record, self.fault, self.pid, self.state = None, None, None, None
+
+    def look(self, processes):
+        self.record, self.fault = None, None
+        try:
+            self.record = self.head.read()
+        except Damaged as fault:
+            self.fault = f"damaged: {fault}"
+        except OSError as fault:
+            self.fault = fault.strerror
+        mine = [
+            pid for pid, words in processes.items()
+            if any(is_at(self.path, pid, it) for it in words)
+        ]
+        self.pid = mine[0] if mine else None
+        self.state = state_of(self.pid) if mine else None
+        if self.given is None and mine:
+            self.console = file_of(self.pid, 1) or self.console
+
+    def is_up(self):
+        return self.state not in (None, "T", "t", "Z", "X")
+
+    def may_lead(self):
+        """The ballot under which it may lead: one of its own, of its present run."""
+        it = self.record
+        is_own = it and it.promised and it.promised.node == it.node
+        return it.promised if is_own and it.promised != self.head.before and self.is_up() else None
+
+    def end_of_console(self):
+        """The lines at the end of the console, or None where no file is known to have it."""
+        if self.console is None:
+            return None
+        try:
+            with open(self.console, "rb") as file:
+                size = file.seek(0, os.SEEK_END)
+                file.seek(max(0, size - END))
+                data = file.read(END)
+        except OSError as fault:
+            return [f"({self.console}: {fault.strerror})"]
+        text = data.replace(b"\r\n", b"\n").replace(b"\r", b"\n").decode("latin-1")
+        lines = ["".join(map(shown_as, line)) for line in text.split("\n")]
+        return lines[:-1] if lines[-1] == "" else lines
+
+
+class Group:
+    """The nodes whose records are given."""
+
+    def __init__(self, records, consoles):
+        self.nodes = [Watched(*it) for it in zip(records, consoles or [None] * len(records))]
+
+    def look(self):
+        processes = node_processes()
+        for it in self.nodes:
+            it.look(processes)
+
+    def size(self):
+        return max((it.record.size for it in self.nodes if it.record), default=len(self.nodes))
+
+    def leader(self):
+        """The greatest ballot that a majority has promised and whose node is up, or None."""
+        promised = [it.record.promised for it in self.nodes if it.record]
+        mine = [it.may_lead() for it in self.nodes]
+        found = [it for it in mine if it and 2 * promised.count(it) > self.size()]
+        return max(found, default=None)
+
+    def heading(self):
+        up, size, leader = sum(it.is_up() for it in self.nodes), self.size(), self.leader()
+        sessions = sorted({it.record.session for it in self.nodes if it.record})
+        what = "session" if len(sessions) < 2 else "different sessions"
+        names = ", ".join(str(it) for it in sessions)
+        majority = "a majority" if 2 * up > size else "no majority"
+        who = f"node {leader.node} leads, ballot {text_of(leader)}" if leader else "nobody leads"
+        return f"{what} {names}: {up} of {size} nodes run here, {majority}; {who}"
+
+
+def line_of(node, leader):
+    """What is seen of a node, in a line."""
+    if node.pid is None:
+        process = "does not run"
+    elif not node.is_up():
+        process = f"is stopped, process {node.pid}"
+    else:
+        does = "leads" if leader and leader == node.may_lead() else "runs"
+        process = f"{does}, process {node.pid}"
+    it = node.record
+    if it is None:
+        return f"{node.path}: {node.fault}; its node {process}"
+    share = 100 * len(it.votes) / PLACES
+    return (
+        f"node {it.node} {process}; starts {it.starts} promised {text_of(it.promised)} "
+        f"places {len(it.votes)} of {PLACES}, {share:.1f} %"
+    )
