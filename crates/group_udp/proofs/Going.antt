@@ -11,7 +11,7 @@ use Rattle.group_node.specs.declared.fault.NodeFault.{NodeFault}
 use Rattle.group_node.specs.declared.fault.NodeFault.TheVariants.{Store}
 use Rattle.group_udp.specs.declared.fault.GroupFault.{GroupFault}
 use Rattle.group_udp.specs.declared.fault.GroupFault.TheVariants as group
-use Rattle.group_udp.specs.Going.{Around, CampaignsIf, FailsAt, HasEnded, HasGone, HasGoneOn, around, planned}
+use Rattle.group_udp.specs.Going.{Around, CampaignsIf, FailsAt, HasEnded, HasGone, HasGoneOn, HasReason, around, planned}
 use Rattle.group_udp.specs.Prompts.{IsPrompted, byte_in, campaigns_in, turns_in, bytes_in, with_gift}
 
 -- ---- what a keyboard has left
@@ -127,6 +127,7 @@ module _ {S : Type 0} (laws : GoOn S) where
     acts = λ is. subst (HasActed old new from.traffic to.traffic) (append_assoc first h.prompts k.prompts)
         (laws.more old mid new from.traffic via.traffic to.traffic (first ++ h.prompts) k.prompts h.acts (k.acts is));
     prompted = prompted_both h.prompted k.prompted;
+    due = k.due;
   }
 
 -- ---- one call
@@ -153,6 +154,7 @@ ended_unprompted {left = left} h same = record {
   fails = λ _. h.fails;
   acts = λ not. absurd (not h.store);
   prompted = prompted_none;
+  due = rw h.store tt;
 }
 
 -- a refusal is of a save, or not
@@ -208,8 +210,9 @@ played_ended laws {mid = mid} {new} {via = via} {to} {made} {e = e} more before 
 
 -- a refusal that no save caused ends what was done
 pub gone_ended : {S : Type 0} {first : List Deed} {old new : NodeState S} {from to : Around} {turns : ℕ} {e : GroupFault}
-    → HasGoneOn first old new from to turns → e ≢ group.Node Store → HasEnded first old new from to turns e
-gone_ended h other = record {
+    → HasGoneOn first old new from to turns → e ≢ group.Node Store → HasReason e new.protocol.known
+    → HasEnded first old new from to turns e
+gone_ended h other due = record {
   gift = h.gift;
   prompts = h.prompts;
   given = h.given;
@@ -222,6 +225,7 @@ gone_ended h other = record {
     campaigns = h.prompted.campaigns;
     made = h.prompted.made;
   };
+  due = due;
 }
 
 -- ---- after a campaign of the plan
@@ -247,6 +251,7 @@ module _ {S : Type 0} (laws : GoOn S) (old mid new : NodeState S) (t u : Option 
     fails = λ is. laws.fails old mid new t u to.traffic first h.prompts begun (h.fails is);
     acts = λ is. laws.more old mid new t u to.traffic first h.prompts begun (h.acts is);
     prompted = h.prompted;
+    due = h.due;
   }
 
   -- the rounds after it, by their answer
@@ -264,7 +269,7 @@ module _ {S : Type 0} (laws : GoOn S) (old mid new : NodeState S) (t u : Option 
 pub campaign_refused : {S : Type 0} {old new : NodeState S} {t u : Option Traffic} {keys : Option (List Deed)} {asked : Bool} {turns : ℕ}
     {e : GroupFault} → CampaignsIf asked old new t u (Err e)
     → HasGone {T = Unit {0}} (planned asked) old new (around t keys) (around u keys) turns (Err e)
-campaign_refused {old = old} {new} {t} {u} {keys} {asked} {turns} {e} (is, fails, acts) = by (is_store e)
+campaign_refused {old = old} {new} {t} {u} {keys} {asked} {turns} {e} (is, fails, acts, due) = by (is_store e)
   where
     ended : (first : List Deed) → (e ≡ group.Node Store → Fails old new t u first) → (e ≢ group.Node Store → HasActed old new t u first)
         → HasEnded first old new (around t keys) (around u keys) 0 e
@@ -275,6 +280,7 @@ campaign_refused {old = old} {new} {t} {u} {keys} {asked} {turns} {e} (is, fails
       fails = λ is. subst (Fails old new t u) (sym (append-nil first)) (fail is);
       acts = λ is. subst (HasActed old new t u) (sym (append-nil first)) (act is);
       prompted = prompted_none;
+      due = due;
     }
 
     by : (e ≡ group.Node Store) ⊎ (e ≢ group.Node Store)

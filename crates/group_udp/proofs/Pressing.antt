@@ -48,8 +48,15 @@ typed_some {after = after} to e h (typed, whole, acts) same works given =
     let spent : e ≡ SerialSpent = elim h.others [
       | inl stopped ↦ let closed = (h.stopped.0 (ap Err stopped)).0 in absurd cc
       | inr spent ↦ spent
-    ] in
-    (typed, after, ap group.Node spent, given ∙ ap (λ bs. with_gift (map Press bs) to) (sym same ∙ whole), acts)
+    ] in (
+      typed,
+      after,
+      ap group.Node spent,
+      given ∙ ap (λ bs. with_gift (map Press bs) to) (sym same ∙ whole),
+      rw spent
+          (h.spent.0 (ap Err spent)).3,
+      acts,
+    )
 
 -- ---- what the node did with it
 
@@ -66,13 +73,14 @@ pressed_on honest at_will state (CampaignRefused f) (given, refused) =
 -- typing that spent the serials
 pub typing_ended : {S : Type 0} {old new : NodeState S} (passed : Option Traffic) {from to : Option (List Deed)} {e : GroupFault}
     → HasTypedGiven old new from to (Err e) → HasEnded [] old new (around passed from) (around passed to) 0 e
-typing_ended passed (typed, lost, spent, given, acts) = record {
+typing_ended passed (typed, lost, spent, given, due, acts) = record {
   gift = map Press (typed ++ lost);
   prompts = map Press typed;
   given = given;
   fails = λ store. absurd cc;
   acts = λ _. acts passed;
   prompted = prompted_lost typed lost (λ not. absurd (not spent));
+  due = due;
 }
 
 -- a campaign that was asked for, and failed to save
@@ -86,6 +94,7 @@ campaign_ended h given = record {
   fails = λ _. h.fails;
   acts = λ not. absurd (not h.store);
   prompted = prompted_campaign;
+  due = rw h.store tt;
 }
 
 -- a campaign that was asked for, by its answer
@@ -107,5 +116,5 @@ bytes_pressed honest at_will state at left via (typed, given, acts) none = (type
 pub bytes_refused : {S : Type 0} (honest at_will : Type 0) (state : S → StoreState) {old new : NodeState S} (at : Option Traffic)
     {keys : Option (List Deed)} (left via : Option (List Deed)) {e : GroupFault} → HasTypedGiven old new via left (Err e)
     → keys ≡ with_gift [] via → HasPressedKeyboard honest at_will state old new (around at keys) (around at left) (Err e)
-bytes_refused honest at_will state at left via (typed, lost, spent, given, acts) none =
-    (inr spent, typing_ended at (typed, lost, spent, gift_both [] (map Press (typed ++ lost)) left none given, acts))
+bytes_refused honest at_will state at left via (typed, lost, spent, given, due, acts) none =
+    (inr spent, typing_ended at (typed, lost, spent, gift_both [] (map Press (typed ++ lost)) left none given, due, acts))

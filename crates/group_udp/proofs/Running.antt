@@ -48,6 +48,7 @@ module _ {S honest : Type 0} {state : S → StoreState} (loads : S → Result Re
     few = omega arith;
     all = refl;
     ends = tt;
+    due = tt;
     writes = written_from program plan.seen first last _ before after starts.progress replay writes;
   }
   runs_by (Err e) (begun, is, done, few, h) writes others = record {
@@ -74,6 +75,7 @@ module _ {S honest : Type 0} {state : S → StoreState} (loads : S → Result Re
     few = few;
     all = tt;
     ends = others;
+    due = h.due;
     writes = written_from program plan.seen first last _ before after starts.progress replay writes;
   }
 

@@ -1,10 +1,13 @@
 -- What a node does between its start and its end: its deeds, and what it is prompted to do.
-use Rattle.std.specs.Prelude.{◌≡◌, ◌≢◌, ◌≤◌, ◌⊎◌, ℕ, Bool, true, false, List, [], ◌∷◌, ◌++◌, Option, Result, Ok, Err}
-use Rattle.group_node.specs.declared.fault.NodeFault.TheVariants.{SerialSpent, Store}
+use Rattle.std.specs.Prelude.{◌≡◌, ◌≢◌, ◌≤◌, ◌+◌, ◌⊎◌, ℕ, Bool, true, false, List, [], ◌∷◌, ◌++◌, Option, Result, Ok, Err}
+use Rattle.group_node.specs.declared.fault.NodeFault.TheVariants.{PlacesSpent, RoundsSpent, SerialSpent, Store}
 use Rattle.group_node.specs.declared.player.Ran.{Ran}
 use Rattle.group_node.specs.declared.player.Ran.TheVariants.{More, Full}
 use Rattle.group_node.specs.Deeds.{Campaign, Deed}
+use Rattle.group_node.specs.Known.{Known, front, next_serial}
+use Rattle.group_node.specs.ProposerRows.{last_round}
 use Rattle.group_node.specs.States.{NodeState}
+use Rattle.paxos_msg.specs.declared.limits.TheConstants.{LAST_ROUND, LAST_SERIAL, PLACES}
 use Rattle.group_wire.specs.Doings.{Fails, HasActed}
 use Rattle.group_wire.specs.Traffic.{Traffic}
 use Rattle.group_udp.specs.declared.fault.GroupFault.{GroupFault}
@@ -25,6 +28,14 @@ abbrev pub planned : Bool → List Deed
 planned true = Campaign ∷ []
 planned false = []
 
+-- Why a node refuses so, by what it knows then: its serials, its rounds or its places are spent.
+-- Forbids: such a refusal where some are left.
+abbrev pub HasReason : GroupFault → Known → Type 0
+HasReason (group.Node SerialSpent) n = next_serial n ≡ LAST_SERIAL + 1
+HasReason (group.Node RoundsSpent) n = last_round n ≡ LAST_ROUND
+HasReason (group.Node PlacesSpent) n = front n ≡ PLACES
+HasReason _ n = Unit {0}
+
 -- What a node did in so many turns, after the prompts `first`: its deeds have these and those of
 -- its keyboard, and exactly what passes in them has passed over its wire.
 pub record HasGoneOn {S : Type 0} (first : List Deed) (old new : NodeState S) (from to : Around)
@@ -44,6 +55,7 @@ pub record HasEnded {S : Type 0} (first : List Deed) (old new : NodeState S) (fr
   pub fails : e ≡ group.Node Store → Fails old new from.traffic to.traffic (first ++ prompts)
   pub acts : e ≢ group.Node Store → HasActed old new from.traffic to.traffic (first ++ prompts)
   pub prompted : IsPrompted gift turns (e ≡ group.Node SerialSpent) prompts
+  pub due : HasReason e new.protocol.known
 
 -- What a node did, by the answer: so many turns at `Ok`, and at most so many up to a refusal, which
 -- may come before the prompts `first`.
@@ -68,7 +80,7 @@ abbrev pub CampaignsIf : {S : Type 0} → Bool → NodeState S → NodeState S �
 CampaignsIf is_asked old new from to (Ok x) = HasActed old new from to (planned is_asked)
 CampaignsIf is_asked old new from to (Err e) =
     (is_asked ≡ true) × (e ≡ group.Node Store → Fails old new from to (planned true))
-    × (e ≢ group.Node Store → HasActed old new from to [])
+    × (e ≢ group.Node Store → HasActed old new from to []) × HasReason e new.protocol.known
 
 -- True if a node is busy after such a run: its machine has not ended, and does not wait for a key.
 abbrev pub is_busy_after : Ran → Bool

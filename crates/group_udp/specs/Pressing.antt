@@ -11,7 +11,7 @@ use Rattle.group_udp.specs.declared.fault.GroupFault.{GroupFault}
 use Rattle.group_udp.specs.declared.fault.GroupFault.TheVariants as group
 use Rattle.group_udp.specs.declared.keyboard.Pressed.{Pressed}
 use Rattle.group_udp.specs.declared.keyboard.Pressed.TheVariants.{Bytes, Campaigned, CampaignRefused}
-use Rattle.group_udp.specs.Going.{Around, FailsAt, HasEnded}
+use Rattle.group_udp.specs.Going.{Around, FailsAt, HasEnded, HasReason}
 use Rattle.group_udp.specs.Prompts.{with_gift}
 use Rattle.group_udp.specs.Refusals.{IsRoundRefusal}
 
@@ -24,7 +24,7 @@ HasTypedGiven old new from to (Ok x) =
     × ((passed : Option Traffic) → HasActed old new passed passed (map Press typed))
 HasTypedGiven old new from to (Err e) =
     (typed lost : List ℕ) × (e ≡ group.Node SerialSpent)
-    × (from ≡ with_gift (map Press (typed ++ lost)) to)
+    × (from ≡ with_gift (map Press (typed ++ lost)) to) × HasReason e new.protocol.known
     × ((passed : Option Traffic) → HasActed old new passed passed (map Press typed))
 
 -- A campaign that was asked for, and its answer. Only a save that fails ends the node.

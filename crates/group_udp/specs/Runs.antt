@@ -18,7 +18,7 @@ use Rattle.group_wire.specs.Starts.{HasStarted}
 use Rattle.group_udp.specs.declared.fault.GroupFault.{GroupFault}
 use Rattle.group_udp.specs.declared.fault.GroupFault.TheVariants as group
 use Rattle.group_udp.specs.declared.node.NodePlan.{NodePlan}
-use Rattle.group_udp.specs.Going.{Around, planned}
+use Rattle.group_udp.specs.Going.{Around, HasReason, planned}
 use Rattle.group_udp.specs.Output.{shown_of}
 use Rattle.group_udp.specs.Prompts.{IsPrompted, with_gift}
 use Rattle.group_udp.specs.Refusals.{IsCampaignRefusal, IsWrittenRoundRefusal, write_failed}
@@ -59,6 +59,7 @@ pub record RunsNode {S : Type 0} (loads : S → Result Record StoreFault → S �
   pub few : turns ≤ plan.turns
   pub all : OnOk result (turns ≡ plan.turns)
   pub ends : IfErr result (λ e. IsWrittenRoundRefusal e ⊎ IsCampaignRefusal e)
+  pub due : IfErr result (λ e. HasReason e last.known)
   pub writes : WritesReleased plan.seen last (IsErrOf result write_failed) before after
 
 -- A run of a node over a store, a wire and a keyboard. Its start is refused; then nothing passes,
