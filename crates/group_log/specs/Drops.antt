@@ -1,11 +1,12 @@
 -- Why a node drops a datagram.
 use Rattle.std.specs.Prelude.{ℕ, ◌+◌, min, List, ◌==◌, if◌then◌else◌, Option, Some, None, Result, Ok, Err, slice_get}
+use Rattle.std.specs.declared.net.socket_addr.SocketAddr.{SocketAddr}
 use Rattle.paxos_msg.specs.declared.message.Group.{Group}
 use Rattle.paxos_msg.specs.declared.fault.WireFault.{WireFault}
 use Rattle.paxos_msg.specs.declared.fault.WireFault.TheVariants as fault
 use Rattle.paxos_msg.specs.Batches.{Msg}
 use Rattle.paxos_msg.specs.Reading.{message_at}
-use Rattle.group_log.specs.declared.drops.TheConstants.{MOST_DROPS}
+use Rattle.group_log.specs.declared.drops.TheConstants.{MOST_COUNTED}
 use Rattle.group_log.specs.declared.drops.Drops.{Drops}
 use Rattle.group_log.specs.declared.drops.DropReason.{DropReason}
 use Rattle.group_log.specs.declared.drops.DropReason.TheVariants.{Source, Version, Size, Session, Damaged}
@@ -37,12 +38,12 @@ reason_of g bytes = reason_after g bytes (message_at g bytes)
 
 -- One more, up to the greatest count.
 abbrev pub one_more : ℕ → ℕ
-one_more n = min (n + 1) MOST_DROPS
+one_more n = min (n + 1) MOST_COUNTED
 
--- The counts of dropped datagrams after one more.
-abbrev pub drops_with : Drops → DropReason → Drops
-drops_with d Source = record d { source = one_more d.source }
-drops_with d Version = record d { version = one_more d.version }
-drops_with d Size = record d { size = one_more d.size }
-drops_with d Session = record d { session = one_more d.session }
-drops_with d Damaged = record d { damaged = one_more d.damaged }
+-- The counts of dropped datagrams after one more, which came from this address.
+abbrev pub drops_with : Drops → DropReason → SocketAddr → Drops
+drops_with d Source from = record d { source = one_more d.source; last_source = Some from }
+drops_with d Version from = record d { version = one_more d.version }
+drops_with d Size from = record d { size = one_more d.size }
+drops_with d Session from = record d { session = one_more d.session }
+drops_with d Damaged from = record d { damaged = one_more d.damaged }

@@ -1,3 +1,4 @@
 pub mod Drops
 pub mod Notes
 pub mod Roles
+pub mod Sends

@@ -1,6 +1,7 @@
 -- The text of what a node says of itself. Its parts are nested to the right, as they are printed.
-use Rattle.std.specs.Prelude.{ℕ, ◌/◌, ◌%◌, List, ◌++◌, Option, Some, None, codes, decimal}
+use Rattle.std.specs.Prelude.{ℕ, ◌/◌, ◌%◌, List, [], ◌++◌, Option, Some, None, codes, decimal}
 use Rattle.std.specs.Net.Text.{socket_text}
+use Rattle.std.specs.declared.net.socket_addr.SocketAddr.{SocketAddr}
 use Rattle.paxos_msg.specs.declared.ballot.Ballot.{Ballot}
 use Rattle.paxos_msg.specs.declared.message.Group.{Group}
 use Rattle.group_node.specs.Fault.{code_of}
@@ -8,7 +9,7 @@ use Rattle.group_log.specs.declared.drops.Drops.{Drops}
 use Rattle.group_log.specs.declared.note.End.{End}
 use Rattle.group_log.specs.declared.note.End.TheVariants.{Turns, Node, Other}
 use Rattle.group_log.specs.declared.note.Note.{Note}
-use Rattle.group_log.specs.declared.note.Note.TheVariants.{NoFile, NoSocket, StartedNew, Started, Campaigns, CampaignRefused, Leads, BallotRefused, Dropped, Full, Ended}
+use Rattle.group_log.specs.declared.note.Note.TheVariants.{NoFile, NoSocket, StartedNew, Started, Campaigns, CampaignRefused, Leads, BallotRefused, Dropped, Unsent, Full, Ended}
 
 -- A text, a number in decimal digits, and what follows.
 abbrev pub numbered_note : List ℕ → ℕ → List ℕ → List ℕ
@@ -30,13 +31,18 @@ end_text Turns = codes "ended"
 end_text (Node fault) = codes "ended refused " ++ code_of fault
 end_text Other = codes "ended refused"
 
+-- Where the last datagram of a wrong source came from, if there was one.
+abbrev pub last_source_text : Option SocketAddr → List ℕ
+last_source_text None = []
+last_source_text (Some address) = codes " last source " ++ socket_text address
+
 -- The number of dropped datagrams for each reason.
 abbrev pub drops_text : Drops → List ℕ
 drops_text d = numbered_note (codes "dropped source ") d.source
     (numbered_note (codes " version ") d.version
     (numbered_note (codes " size ") d.size
     (numbered_note (codes " session ") d.session
-    (codes " damaged " ++ decimal d.damaged))))
+    (numbered_note (codes " damaged ") d.damaged (last_source_text d.last_source)))))
 
 -- The text of a note.
 abbrev pub note_text : Note → List ℕ
@@ -52,7 +58,11 @@ note_text (Leads ballot) = codes "leads ballot " ++ ballot_or_dash (Some ballot)
 note_text (BallotRefused ballot by) =
     codes "refused by " ++ (ballot_or_dash by ++ (codes " ballot " ++ ballot_or_dash (Some ballot)))
 note_text (Dropped drops) = drops_text drops
-note_text (Full waiting) = numbered_note (codes "full waiting ") waiting (codes " bytes left")
+note_text (Unsent count) =
+    numbered_note (codes "cannot send: none of ") count (codes " datagrams was taken")
+note_text (Full waiting) =
+    numbered_note (codes "no room for typed keys: ") waiting
+    (codes " wait to be chosen, and more are held back")
 note_text (Ended end) = end_text end
 
 -- The line of a note: the time in seconds with three decimals, the node, and the note.

@@ -3,6 +3,7 @@ ghost use Rattle.std.specs.Prelude.{◌≡◌, slice_get};
 ghost use Rattle.group_log.specs.Drops.{drops_with, group_reason, one_more, reason_of, size_index};
 
 use paxos_msg::{Group, WireFault, decode};
+use std::net::SocketAddr;
 
 /// The index in a datagram of its group's size.
 const SIZE: usize = 5;
@@ -45,10 +46,10 @@ pub fn reason_of(group: Group, datagram: &[u8]) -> Option<DropReason>
     }
 }
 
-/// The greatest count of dropped datagrams: a count stays there.
-pub const MOST_DROPS: u32 = 4_294_967_295;
+/// The greatest count of datagrams: a count stays there.
+pub const MOST_COUNTED: u32 = 4_294_967_295;
 
-/// The number of datagrams that a node dropped, for each reason. A count ends at `MOST_DROPS`.
+/// The number of datagrams that a node dropped, for each reason. A count ends at `MOST_COUNTED`.
 #[derive(Clone, Copy, Debug, PartialEq, Eq, Default)]
 pub struct Drops {
     pub source: u32,
@@ -56,22 +57,28 @@ pub struct Drops {
     pub size: u32,
     pub session: u32,
     pub damaged: u32,
+    /// Where the last of those came from that are counted under `source`.
+    pub last_source: Option<SocketAddr>,
 }
 
 /// Returns one more than `count`, or the greatest count.
-fn one_more(count: u32) -> u32
+pub(crate) fn one_more(count: u32) -> u32
     ensures { result ≡ one_more count }
 {
     count.saturating_add(1)
 }
 
 impl Drops {
-    /// Counts one more dropped datagram, under `reason` alone. A count stays at 4,294,967,295.
-    pub fn count(&mut self, reason: DropReason)
-        ensures { self.new ≡ drops_with self.old reason }
+    /// Counts one more dropped datagram, which came from `source`, under `reason` alone. A count
+    /// stays at 4,294,967,295.
+    pub fn count(&mut self, reason: DropReason, source: SocketAddr)
+        ensures { self.new ≡ drops_with self.old reason source }
     {
         match reason {
-            DropReason::Source => self.source = one_more(self.source),
+            DropReason::Source => {
+                self.source = one_more(self.source);
+                self.last_source = Some(source);
+            }
             DropReason::Version => self.version = one_more(self.version),
             DropReason::Size => self.size = one_more(self.size),
             DropReason::Session => self.session = one_more(self.session),

@@ -15,8 +15,10 @@ mod drops;
 mod log;
 mod note;
 mod role;
+mod sends;
 
-pub use drops::{DropReason, Drops, MOST_DROPS, reason_of};
+pub use drops::{DropReason, Drops, MOST_COUNTED, reason_of};
 pub use log::Log;
 pub use note::{End, Note, line_of};
 pub use role::Role;
+pub use sends::Sends;

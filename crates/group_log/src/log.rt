@@ -2,6 +2,7 @@
 use crate::drops::Drops;
 use crate::note::{Note, line_of};
 use crate::role::Role;
+use crate::sends::Sends;
 use group_node::Node;
 use paxos_acceptor::Store;
 use paxos_msg::{Ballot, Group};
@@ -9,8 +10,8 @@ use std::alloc::Global;
 use std::io::Write;
 use std::time::{Clock, Duration, Instant, SystemTime};
 
-/// The least time in seconds from one note of dropped datagrams to the next.
-const DROPS_APART: u64 = 1;
+/// The least time in seconds from one note of counted datagrams to the next.
+const COUNTS_APART: u64 = 1;
 
 /// The log of one node. If it is on, it writes notes to `errors`, a line each. A line that cannot
 /// be made or written is left out.
@@ -23,7 +24,7 @@ pub struct Log<'a, H, E> {
     node: u8,
     role: Role,
     is_full: bool,
-    drops_noted: Option<Instant>,
+    counts_noted: Option<Instant>,
 }
 
 impl<'a, H: Clock, E: Write> Log<'a, H, E> {
@@ -43,7 +44,7 @@ impl<'a, H: Clock, E: Write> Log<'a, H, E> {
             node,
             role: Role::Follower,
             is_full: false,
-            drops_noted: None,
+            counts_noted: None,
         }
     }
 
@@ -109,22 +110,32 @@ impl<'a, H: Clock, E: Write> Log<'a, H, E> {
         self.role = next;
     }
 
-    /// Notes dropped datagrams, at most once a second. Returns true if it did; then they are to be
-    /// counted from 0 again.
-    pub fn dropped(&mut self, drops: &Drops) -> bool {
-        if !self.is_on || *drops == Drops::default() {
-            return false;
-        }
+    /// Returns true if a second has passed since counted datagrams were last noted.
+    fn is_due(&mut self) -> bool {
         let Ok(now) = Instant::now(self.clock) else {
             return false;
         };
-        if let Some(last) = self.drops_noted
-            && now.saturating_duration_since(last) < Duration::from_secs(DROPS_APART)
+        if let Some(last) = self.counts_noted
+            && now.saturating_duration_since(last) < Duration::from_secs(COUNTS_APART)
         {
             return false;
         }
-        self.drops_noted = Some(now);
-        self.note(&Note::Dropped(*drops));
+        self.counts_noted = Some(now);
+        true
+    }
+
+    /// Notes dropped datagrams, and that none could be sent, at most once a second. Returns true if
+    /// it was time for that; then they are to be counted from 0 again.
+    pub fn counted(&mut self, drops: &Drops, sends: &Sends) -> bool {
+        if !self.is_on || !self.is_due() {
+            return false;
+        }
+        if *drops != Drops::default() {
+            self.note(&Note::Dropped(*drops));
+        }
+        if sends.is_cut_off() {
+            self.note(&Note::Unsent(sends.refused));
+        }
         true
     }
 

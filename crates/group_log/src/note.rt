@@ -49,6 +49,9 @@ pub enum Note<'a> {
     },
     /// It has dropped datagrams since the last note of this kind.
     Dropped(Drops),
+    /// It has sent so many datagrams to other nodes since the last such count, and the system took
+    /// none.
+    Unsent(u32),
     /// The keys that wait are this many, and typed bytes are left for which there is no room.
     Full(usize),
     /// Its run has ended.
@@ -88,6 +91,24 @@ impl fmt::Display for End {
     }
 }
 
+/// The source of a dropped datagram as text, or nothing.
+#[derive(Clone, Copy)]
+struct LastSource(Option<SocketAddr>);
+
+impl fmt::Display for LastSource {
+    ghost use Rattle.std.specs.Prelude.{Some};
+    ghost use Rattle.group_log.specs.Notes.{last_source_text};
+
+    ghost output = { λ last. Some (last_source_text last.0) };
+
+    fn fmt<W: fmt::Write>(&self, f: &mut fmt::Formatter<W>) -> fmt::Result {
+        match self.0 {
+            Some(address) => write!(f, " last source {address}"),
+            None => Ok(()),
+        }
+    }
+}
+
 impl fmt::Display for Drops {
     ghost use Rattle.std.specs.Prelude.{Some};
     ghost use Rattle.group_log.specs.Notes.{drops_text};
@@ -97,8 +118,13 @@ impl fmt::Display for Drops {
     fn fmt<W: fmt::Write>(&self, f: &mut fmt::Formatter<W>) -> fmt::Result {
         write!(
             f,
-            "dropped source {} version {} size {} session {} damaged {}",
-            self.source, self.version, self.size, self.session, self.damaged
+            "dropped source {} version {} size {} session {} damaged {}{}",
+            self.source,
+            self.version,
+            self.size,
+            self.session,
+            self.damaged,
+            LastSource(self.last_source)
         )
     }
 }
@@ -136,7 +162,11 @@ impl fmt::Display for Note<'_> {
                 Shown(Some(*ballot))
             ),
             Note::Dropped(drops) => write!(f, "{drops}"),
-            Note::Full(waiting) => write!(f, "full waiting {waiting} bytes left"),
+            Note::Unsent(count) => { write!(f, "cannot send: none of {count} datagrams was taken") }
+            Note::Full(waiting) => write!(
+                f,
+                "no room for typed keys: {waiting} wait to be chosen, and more are held back"
+            ),
             Note::Ended(end) => write!(f, "{end}"),
         }
     }

@@ -1,7 +1,8 @@
 -- Calls of a node, one after the other: their deeds, and what it was prompted to do.
-use Rattle.std.proofs.Common.{◌≡◌, ◌≢◌, ◌∙◌, ◌⊎◌, inl, inr, Bool, ℕ, ◌+◌, ◌<◌, ◌≤◌, List, [], ◌∷◌, ◌++◌, OnOk, map, Option, Some, None, Result, Ok, Err, refl, sym, ap, subst, arith, append_assoc, append-nil}
-use Rattle.std.proofs.lemmas.Grind.{flat_map-append}
-use Rattle.std.proofs.lemmas.List.{length-append}
+use Rattle.std.proofs.Common.{◌≡◌, ◌≢◌, ◌∙◌, ◌⊎◌, inl, inr, Bool, ℕ, ◌+◌, ◌<◌, ◌≤◌, List, [], ◌∷◌, ◌++◌, drop, length, take, OnOk, map, Option, Some, None, Result, Ok, Err, refl, sym, ap, subst, arith, append_assoc, append-nil}
+use Rattle.std.proofs.Math.Seq.{take-append_seam}
+use Rattle.std.proofs.lemmas.Grind.{common_steps, flat_map-append}
+use Rattle.std.proofs.lemmas.List.{length-append, take-append-drop}
 use Rattle.std.proofs.lemmas.List.Elements.{filter-append}
 use Rattle.group_node.specs.Deeds.{Campaign, Deed, Press, Run}
 use Rattle.group_node.specs.States.{NodeState}
@@ -12,18 +13,28 @@ use Rattle.group_node.specs.declared.fault.NodeFault.TheVariants.{Store}
 use Rattle.group_udp.specs.declared.fault.GroupFault.{GroupFault}
 use Rattle.group_udp.specs.declared.fault.GroupFault.TheVariants as group
 use Rattle.group_udp.specs.Going.{Around, CampaignsIf, FailsAt, HasEnded, HasGone, HasGoneOn, HasReason, around, planned}
-use Rattle.group_udp.specs.Prompts.{IsPrompted, byte_in, campaigns_in, turns_in, bytes_in, with_gift}
+use Rattle.group_udp.specs.Prompts.{IsPrompted, Remaining, before_gift, byte_in, campaigns_in, turns_in, bytes_in, with_gift}
 
 -- ---- what a keyboard has left
 
-pub gift_none : (left : Option (List Deed)) → left ≡ with_gift [] left
-gift_none None = refl
-gift_none (Some ds) = refl
+-- two keyboards have the same left
+pub same_left : (a b : Remaining) → a.bytes ≡ b.bytes → a.requests ≡ b.requests → a ≡ b
+same_left a b bytes requests = ap (λ x. record { bytes = x; requests = a.requests }) bytes
+    ∙ ap (λ r. record { bytes = b.bytes; requests = r }) requests
 
-pub gift_both : {a b : Option (List Deed)} (g h : List Deed) (c : Option (List Deed)) → a ≡ with_gift g b → b ≡ with_gift h c
+pub gift_none : (left : Option Remaining) → left ≡ with_gift [] left
+gift_none None = refl
+gift_none (Some left) = ap (λ l. Some l) (same_left left (before_gift [] left) refl (omega arith))
+
+gift_twice : (g h : List Deed) (left : Remaining) → before_gift g (before_gift h left) ≡ before_gift (g ++ h) left
+gift_twice g h left = same_left (before_gift g (before_gift h left)) (before_gift (g ++ h) left)
+    (sym (append_assoc (bytes_in g) (bytes_in h) left.bytes) ∙ ap (λ bs. bs ++ left.bytes) (sym (flat_map-append byte_in g h)))
+    (grind (arith, filter-append, length-append))
+
+pub gift_both : {a b : Option Remaining} (g h : List Deed) (c : Option Remaining) → a ≡ with_gift g b → b ≡ with_gift h c
     → a ≡ with_gift (g ++ h) c
 gift_both g h None first second = first ∙ ap (with_gift g) second
-gift_both g h (Some ds) first second = first ∙ ap (with_gift g) second ∙ ap (λ x. Some x) (sym (append_assoc g h ds))
+gift_both g h (Some left) first second = first ∙ ap (with_gift g) second ∙ ap (λ x. Some x) (gift_twice g h left)
 
 -- ---- prompts
 
@@ -39,17 +50,31 @@ prompted_campaign = record { lost = []; typed = refl; all = λ _. refl; campaign
 pub prompted_refused : IsPrompted (Campaign ∷ []) 0 ⊥ []
 prompted_refused = record { lost = []; typed = refl; all = λ _. refl; campaigns = omega arith; made = refl }
 
-typed_pressed : (bytes : List ℕ) → bytes_in (map Press bytes) ≡ bytes
+pub typed_pressed : (bytes : List ℕ) → bytes_in (map Press bytes) ≡ bytes
 typed_pressed [] = refl
 typed_pressed (b ∷ bytes) = ap (λ bs. b ∷ bs) (typed_pressed bytes)
 
-no_campaign : (bytes : List ℕ) → campaigns_in (map Press bytes) ≡ 0
+pub no_campaign : (bytes : List ℕ) → campaigns_in (map Press bytes) ≡ 0
 no_campaign [] = refl
 no_campaign (b ∷ bytes) = no_campaign bytes
 
 no_turn : (bytes : List ℕ) → turns_in (map Press bytes) ≡ 0
 no_turn [] = refl
 no_turn (b ∷ bytes) = no_turn bytes
+
+-- a keyboard of bytes alone gives some of them
+pub gift_typed : (bytes left all : List ℕ) → all ≡ bytes ++ left
+    → Some (record { bytes = all; requests = 0 }) ≡ with_gift (map Press bytes) (Some (record { bytes = left; requests = 0 }))
+gift_typed bytes left all same = ap (λ l. Some l)
+    (same_left (record { bytes = all; requests = 0 }) (before_gift (map Press bytes) (record { bytes = left; requests = 0 }))
+    (same ∙ ap (λ bs. bs ++ left) (sym (typed_pressed bytes))) (rw (no_campaign bytes) refl))
+
+-- these bytes are the first of a text, and stand before others
+pub gift_front : (n : ℕ) (all front others back : List ℕ) → length front ≡ n → front ≡ take n all → back ≡ drop n all
+    → Some (record { bytes = all; requests = 0 })
+    ≡ with_gift (map Press (take n (front ++ others))) (Some (record { bytes = back; requests = 0 }))
+gift_front n all front others back long is left = gift_typed (take n (front ++ others)) back all
+    (grind (arith, common_steps, take-append_seam front others, take-append-drop n all, long, is, left))
 
 -- bytes that are typed, and others that are lost
 pub prompted_lost : {spent : Type 0} (typed lost : List ℕ) → (¬ spent → lost ≡ [])
@@ -133,19 +158,19 @@ module _ {S : Type 0} (laws : GoOn S) where
 -- ---- one call
 
 -- receives, without the keyboard
-pub gone_unprompted : {S : Type 0} {old new : NodeState S} {from to : Option Traffic} {keys left : Option (List Deed)}
+pub gone_unprompted : {S : Type 0} {old new : NodeState S} {from to : Option Traffic} {keys left : Option Remaining}
     → HasActed old new from to [] → left ≡ keys → HasGoneOn [] old new (around from keys) (around to left) 0
 gone_unprompted {left = left} acts same =
     record { gift = []; prompts = []; given = sym same ∙ gift_none left; acts = acts; prompted = prompted_none }
 
 -- a turn
-pub gone_turn : {S : Type 0} {old new : NodeState S} {from to : Option Traffic} (steps : ℕ) {keys : Option (List Deed)}
+pub gone_turn : {S : Type 0} {old new : NodeState S} {from to : Option Traffic} (steps : ℕ) {keys : Option Remaining}
     → HasActed old new from to (Run steps ∷ []) → HasGoneOn [] old new (around from keys) (around to keys) 1
 gone_turn steps {keys} acts =
     record { gift = []; prompts = Run steps ∷ []; given = gift_none keys; acts = acts; prompted = prompted_turn steps }
 
 -- a call without the keyboard at which a save failed
-pub ended_unprompted : {S : Type 0} {old new : NodeState S} {from to : Option Traffic} {keys left : Option (List Deed)} {e : GroupFault}
+pub ended_unprompted : {S : Type 0} {old new : NodeState S} {from to : Option Traffic} {keys left : Option Remaining} {e : GroupFault}
     → FailsAt old new from to [] e → left ≡ keys → HasEnded [] old new (around from keys) (around to left) 0 e
 ended_unprompted {left = left} h same = record {
   gift = [];
@@ -169,22 +194,22 @@ is_store e = inr (λ is. absurd cc)
 
 -- ---- a turn, after a rest and typing
 
-module _ {S : Type 0} (laws : GoOn S) {old rested : NodeState S} {t u : Option Traffic} {keys same : Option (List Deed)}
+module _ {S : Type 0} (laws : GoOn S) {old rested : NodeState S} {t u : Option Traffic} {keys same : Option Remaining}
     (rest : HasActed old rested t u []) (unmoved : same ≡ keys) where
-  pub turned_on : {typed new : NodeState S} {v w : Option Traffic} {left : Option (List Deed)} (steps : ℕ)
+  pub turned_on : {typed new : NodeState S} {v w : Option Traffic} {left : Option Remaining} (steps : ℕ)
       → HasGoneOn [] rested typed (around u same) (around v left) 0 → HasActed typed new v w (Run steps ∷ [])
       → HasGoneOn [] old new (around t keys) (around w left) 1
   turned_on {v = v} {w} {left} steps press turn =
       gone_then laws {from = around t keys} {via = around u same} {to = around w left} (gone_unprompted rest unmoved)
       (gone_then laws {from = around u same} {via = around v left} {to = around w left} press (gone_turn steps turn))
 
-  pub press_ended : {new : NodeState S} {v : Option Traffic} {left : Option (List Deed)} {e : GroupFault}
+  pub press_ended : {new : NodeState S} {v : Option Traffic} {left : Option Remaining} {e : GroupFault}
       → HasEnded [] rested new (around u same) (around v left) 0 e
       → HasEnded [] old new (around t keys) (around v left) 0 e
   press_ended {v = v} {left} press = ended_then laws {from = around t keys} {via = around u same} {to = around v left}
       (gone_unprompted rest unmoved) press
 
-  pub turn_ended : {typed new : NodeState S} {v w : Option Traffic} {left : Option (List Deed)} {e : GroupFault}
+  pub turn_ended : {typed new : NodeState S} {v w : Option Traffic} {left : Option Remaining} {e : GroupFault}
       → HasGoneOn [] rested typed (around u same) (around v left) 0 → FailsAt typed new v w [] e
       → HasEnded [] old new (around t keys) (around w left) 0 e
   turn_ended {v = v} {w} {left} press turn =
@@ -230,7 +255,7 @@ gone_ended h other due = record {
 
 -- ---- after a campaign of the plan
 
-module _ {S : Type 0} (laws : GoOn S) (old mid new : NodeState S) (t u : Option Traffic) (keys : Option (List Deed)) (to : Around) where
+module _ {S : Type 0} (laws : GoOn S) (old mid new : NodeState S) (t u : Option Traffic) (keys : Option Remaining) (to : Around) where
   pub begun_on : {first : List Deed} {turns : ℕ} → HasActed old mid t u first → HasGoneOn [] mid new (around u keys) to turns
       → HasGoneOn first old new (around t keys) to turns
   begun_on {first} begun h = record {
@@ -266,7 +291,7 @@ module _ {S : Type 0} (laws : GoOn S) (old mid new : NodeState S) (t u : Option 
       (first, inl refl, done, few, begun_ended begun ended)
 
 -- a campaign of the plan that was refused
-pub campaign_refused : {S : Type 0} {old new : NodeState S} {t u : Option Traffic} {keys : Option (List Deed)} {asked : Bool} {turns : ℕ}
+pub campaign_refused : {S : Type 0} {old new : NodeState S} {t u : Option Traffic} {keys : Option Remaining} {asked : Bool} {turns : ℕ}
     {e : GroupFault} → CampaignsIf asked old new t u (Err e)
     → HasGone {T = Unit {0}} (planned asked) old new (around t keys) (around u keys) turns (Err e)
 campaign_refused {old = old} {new} {t} {u} {keys} {asked} {turns} {e} (is, fails, acts, due) = by (is_store e)

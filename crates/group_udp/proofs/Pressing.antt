@@ -4,7 +4,7 @@ use Rattle.std.proofs.lemmas.List.{length-append}
 use Rattle.paxos_acceptor.specs.Stores.{StoreState}
 use Rattle.group_node.specs.declared.fault.NodeFault.{NodeFault}
 use Rattle.group_node.specs.declared.fault.NodeFault.TheVariants.{SerialSpent}
-use Rattle.group_node.specs.Deeds.{Campaign, Deed, Press}
+use Rattle.group_node.specs.Deeds.{Campaign, Press}
 use Rattle.group_node.specs.States.{NodeState}
 use Rattle.group_wire.specs.Doings.{ActsTyping}
 use Rattle.group_wire.specs.Presses.{HasPressed}
@@ -12,10 +12,10 @@ use Rattle.group_wire.specs.Traffic.{Traffic}
 use Rattle.group_udp.specs.declared.fault.GroupFault.{GroupFault}
 use Rattle.group_udp.specs.declared.fault.GroupFault.TheVariants as group
 use Rattle.group_udp.specs.declared.keyboard.Pressed.{Pressed}
-use Rattle.group_udp.specs.declared.keyboard.Pressed.TheVariants.{Bytes, Campaigned, CampaignRefused}
+use Rattle.group_udp.specs.declared.keyboard.Pressed.TheVariants.{Bytes, Campaigned, CampaignRefused, Ignored}
 use Rattle.group_udp.specs.Going.{Around, FailsAt, HasEnded, HasGoneOn, around}
 use Rattle.group_udp.specs.Pressing.{HasCampaignedAsAsked, HasPressedKeyboard, HasTypedGiven}
-use Rattle.group_udp.specs.Prompts.{with_gift}
+use Rattle.group_udp.specs.Prompts.{Remaining, with_gift}
 use Rattle.group_udp.proofs.Going.{gift_both, prompted_campaign, prompted_lost, prompted_refused, prompted_typed}
 
 -- where all of some bytes have room, none is left
@@ -31,7 +31,7 @@ none_left {after = after} h room = elim h.full [
     by (x ∷ xs) some = absurd cc
 
 -- all that was given is typed
-pub typed_all : {S : Type 0} {old new : NodeState S} {bytes before after : List ℕ} {from : Option (List Deed)} (to : Option (List Deed))
+pub typed_all : {S : Type 0} {old new : NodeState S} {bytes before after : List ℕ} {from : Option Remaining} (to : Option Remaining)
     → HasPressed old new before after (Ok tt) → ActsTyping old new before after → before ≡ bytes
     → length old.protocol.known.waiting + length bytes ≤ 256 → from ≡ with_gift (map Press bytes) to → HasTypedGiven old new from to (Ok tt)
 typed_all to h (typed, whole, acts) same room given =
@@ -40,7 +40,7 @@ typed_all to h (typed, whole, acts) same room given =
     (typed, given ∙ ap (λ bs. with_gift (map Press bs) to) all, acts)
 
 -- the first of it are typed
-pub typed_some : {S : Type 0} {old new : NodeState S} {bytes before after : List ℕ} {from : Option (List Deed)} (to : Option (List Deed))
+pub typed_some : {S : Type 0} {old new : NodeState S} {bytes before after : List ℕ} {from : Option Remaining} (to : Option Remaining)
     (e : NodeFault)
     → HasPressed old new before after (Err e) → ActsTyping old new before after → before ≡ bytes → old.protocol.is_stopped ≡ false
     → from ≡ with_gift (map Press bytes) to → HasTypedGiven old new from to (Err (group.Node e))
@@ -65,13 +65,15 @@ pub pressed_on : {S : Type 0} (honest at_will : Type 0) (state : S → StoreStat
     → HasPressedKeyboard honest at_will state old new from to (Ok pressed) → HasGoneOn [] old new from to 0
 pressed_on honest at_will state Bytes (typed, given, acts) =
     record { gift = map Press typed; prompts = map Press typed; given = given; acts = acts; prompted = prompted_typed typed }
-pressed_on honest at_will state Campaigned (given, acts) =
-    record { gift = Campaign ∷ []; prompts = Campaign ∷ []; given = given; acts = acts; prompted = prompted_campaign }
+pressed_on honest at_will state Campaigned (given, asked) =
+    record { gift = Campaign ∷ []; prompts = Campaign ∷ []; given = given; acts = asked.1; prompted = prompted_campaign }
+pressed_on honest at_will state Ignored (given, asked) =
+    record { gift = Campaign ∷ []; prompts = []; given = given; acts = asked.1; prompted = prompted_refused }
 pressed_on honest at_will state (CampaignRefused f) (given, refused) =
-    record { gift = Campaign ∷ []; prompts = []; given = given; acts = refused.3; prompted = prompted_refused }
+    record { gift = Campaign ∷ []; prompts = []; given = given; acts = refused.4; prompted = prompted_refused }
 
 -- typing that spent the serials
-pub typing_ended : {S : Type 0} {old new : NodeState S} (passed : Option Traffic) {from to : Option (List Deed)} {e : GroupFault}
+pub typing_ended : {S : Type 0} {old new : NodeState S} (passed : Option Traffic) {from to : Option Remaining} {e : GroupFault}
     → HasTypedGiven old new from to (Err e) → HasEnded [] old new (around passed from) (around passed to) 0 e
 typing_ended passed (typed, lost, spent, given, due, acts) = record {
   gift = map Press (typed ++ lost);
@@ -84,7 +86,7 @@ typing_ended passed (typed, lost, spent, given, due, acts) = record {
 }
 
 -- a campaign that was asked for, and failed to save
-pub campaign_ended : {S : Type 0} {old new : NodeState S} {from to : Option Traffic} {keys left : Option (List Deed)} {e : GroupFault}
+pub campaign_ended : {S : Type 0} {old new : NodeState S} {from to : Option Traffic} {keys left : Option Remaining} {e : GroupFault}
     → FailsAt old new from to (Campaign ∷ []) e → keys ≡ with_gift (Campaign ∷ []) left
     → HasEnded [] old new (around from keys) (around to left) 0 e
 campaign_ended h given = record {
@@ -99,22 +101,23 @@ campaign_ended h given = record {
 
 -- a campaign that was asked for, by its answer
 pub asked_pressed : (S honest at_will : Type 0) (state : S → StoreState) (old new : NodeState S) (from to : Option Traffic)
-    (keys left : Option (List Deed)) (result : Result Pressed GroupFault)
+    (keys left : Option Remaining) (result : Result Pressed GroupFault)
     → HasCampaignedAsAsked honest at_will state old new from to result → keys ≡ with_gift (Campaign ∷ []) left
     → HasPressedKeyboard honest at_will state old new (around from keys) (around to left) result
 asked_pressed S honest at_will state old new from to keys left (Ok Bytes) h given = absurd h
 asked_pressed S honest at_will state old new from to keys left (Ok Campaigned) h given = (given, h)
+asked_pressed S honest at_will state old new from to keys left (Ok Ignored) h given = (given, h)
 asked_pressed S honest at_will state old new from to keys left (Ok (CampaignRefused f)) h given = (given, h)
-asked_pressed S honest at_will state old new from to keys left (Err e) h given = (inl h.store, campaign_ended h given)
+asked_pressed S honest at_will state old new from to keys left (Err e) (missing, h) given = (inl h.store, campaign_ended h given)
 
 -- typing, where no campaign was asked for
 pub bytes_pressed : {S : Type 0} (honest at_will : Type 0) (state : S → StoreState) {old new : NodeState S} (at : Option Traffic)
-    {keys : Option (List Deed)} (left via : Option (List Deed)) → HasTypedGiven old new via left (Ok tt) → keys ≡ with_gift [] via
+    {keys : Option Remaining} (left via : Option Remaining) → HasTypedGiven old new via left (Ok tt) → keys ≡ with_gift [] via
     → HasPressedKeyboard honest at_will state old new (around at keys) (around at left) (Ok Bytes)
 bytes_pressed honest at_will state at left via (typed, given, acts) none = (typed, gift_both [] (map Press typed) left none given, acts at)
 
 pub bytes_refused : {S : Type 0} (honest at_will : Type 0) (state : S → StoreState) {old new : NodeState S} (at : Option Traffic)
-    {keys : Option (List Deed)} (left via : Option (List Deed)) {e : GroupFault} → HasTypedGiven old new via left (Err e)
+    {keys : Option Remaining} (left via : Option Remaining) {e : GroupFault} → HasTypedGiven old new via left (Err e)
     → keys ≡ with_gift [] via → HasPressedKeyboard honest at_will state old new (around at keys) (around at left) (Err e)
 bytes_refused honest at_will state at left via (typed, lost, spent, given, due, acts) none =
     (inr spent, typing_ended at (typed, lost, spent, gift_both [] (map Press (typed ++ lost)) left none given, due, acts))

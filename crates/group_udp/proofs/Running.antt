@@ -1,12 +1,11 @@
 -- A whole run of a node, by its answer.
-use Rattle.std.proofs.Common.{◌≡◌, ◌⊎◌, inl, inr, ℕ, List, map, Option, Some, None, IfErr, IsErrOf, Result, Ok, Err, refl, sym, ap, subst, arith}
+use Rattle.std.proofs.Common.{◌≡◌, ◌⊎◌, inl, inr, ℕ, List, Option, Some, None, IfErr, IsErrOf, Result, Ok, Err, refl, sym, ap, subst, arith}
 use Rattle.std.specs.declared.net.socket_addr.SocketAddr.{SocketAddr}
 use Rattle.pcode_file.specs.Parts.{Parts}
 use Rattle.paxos_msg.specs.Batches.{Record}
 use Rattle.paxos_acceptor.specs.declared.me.Me.{Me}
 use Rattle.paxos_acceptor.specs.declared.store.StoreFault.{StoreFault}
 use Rattle.paxos_acceptor.specs.Stores.{StoreState}
-use Rattle.group_node.specs.Deeds.{Deed, Press}
 use Rattle.group_node.specs.Output.{IsReplay}
 use Rattle.group_node.specs.States.{IsConfig, NodeState, input}
 use Rattle.group_wire.specs.Doings.{working}
@@ -16,6 +15,7 @@ use Rattle.group_udp.specs.declared.node.NodePlan.{NodePlan}
 use Rattle.group_udp.specs.Ends.{EndsLoaded, IsTypedText, RunsOpened, RunsOverFile, keys_at_first, me_in}
 use Rattle.group_udp.specs.Going.{Around, HasGone, planned}
 use Rattle.group_udp.specs.Output.{AppendsOutput}
+use Rattle.group_udp.specs.Prompts.{Remaining}
 use Rattle.group_udp.specs.Refusals.{IsCampaignRefusal, IsWrittenRoundRefusal, write_failed}
 use Rattle.group_udp.specs.Runs.{RunsNode}
 use Rattle.group_udp.proofs.Going.{is_store}
@@ -83,14 +83,15 @@ module _ {S honest : Type 0} {state : S → StoreState} (loads : S → Result Re
 
 -- a text is typed
 pub opened_text : {me : Me} {program : Parts} {plan : NodePlan} (text : List ℕ) {before after : Option (List ℕ)}
-    {result : Result (Unit {0}) GroupFault} (to : Option (List Deed)) → plan.keys ≡ None
-    → RunsOverFile me program plan (Some (map Press text)) to before after result → RunsOpened me program plan text before after result
+    {result : Result (Unit {0}) GroupFault} (to : Option Remaining) → plan.keys ≡ None
+    → RunsOverFile me program plan (Some (record { bytes = text; requests = 0 })) to before after result
+    → RunsOpened me program plan text before after result
 opened_text {me} {program} {plan} text {before} {after} {result} to none h =
     inr (to, subst (λ k. RunsOverFile me program plan (keys_at_first k text) to before after result) (sym none) h)
 
 -- or typed bytes come as datagrams
 pub opened_datagrams : {me : Me} {program : Parts} {plan : NodePlan} (text : List ℕ) {before after : Option (List ℕ)}
-    {result : Result (Unit {0}) GroupFault} (to : Option (List Deed)) (address : SocketAddr) → plan.keys ≡ Some address
+    {result : Result (Unit {0}) GroupFault} (to : Option Remaining) (address : SocketAddr) → plan.keys ≡ Some address
     → RunsOverFile me program plan None to before after result → RunsOpened me program plan text before after result
 opened_datagrams {me} {program} {plan} text {before} {after} {result} to address some h =
     inr (to, subst (λ k. RunsOverFile me program plan (keys_at_first k text) to before after result) (sym some) h)

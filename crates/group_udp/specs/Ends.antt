@@ -1,6 +1,6 @@
 -- How a run of a node over the files and sockets of the system ends: its refusals in their order,
 -- or the run.
-use Rattle.std.specs.Prelude.{◌≡◌, ◌≢◌, ◌⊎◌, ◌<◌, ℕ, List, [], map, Option, Some, None, Result, Err}
+use Rattle.std.specs.Prelude.{◌≡◌, ◌≢◌, ◌⊎◌, ◌<◌, ℕ, List, [], Option, Some, None, Result, Err}
 use Rattle.std.specs.declared.net.socket_addr.SocketAddr.{SocketAddr}
 use Rattle.paxos_acceptor.specs.declared.me.Me.{Me}
 use Rattle.paxos_acceptor.specs.declared.store.StoreFault.{StoreFault}
@@ -10,7 +10,6 @@ use Rattle.paxos_msg.specs.Batches.{Record}
 use Rattle.paxos_msg.specs.Records.{empty_record}
 use Rattle.pcode_file.specs.Parts.{Parts}
 use Rattle.group_node.specs.declared.fault.NodeFault.TheVariants.{Id, Size}
-use Rattle.group_node.specs.Deeds.{Deed, Press}
 use Rattle.group_node.specs.States.{IsConfig, IsSize}
 use Rattle.machine_run.specs.declared.refusal.MachineRefusal.{MachineRefusal}
 use Rattle.machine_run.specs.declared.refusal.MachineRefusal.TheVariants.{Run}
@@ -21,6 +20,7 @@ use Rattle.group_udp.specs.declared.fault.GroupFault.{GroupFault}
 use Rattle.group_udp.specs.declared.fault.GroupFault.TheVariants as group
 use Rattle.group_udp.specs.declared.node.NodePlan.{NodePlan}
 use Rattle.group_udp.specs.Going.{around}
+use Rattle.group_udp.specs.Prompts.{Remaining}
 use Rattle.group_udp.specs.Refusals.{IsOpenRefusal}
 use Rattle.group_udp.specs.Runs.{RunsOrRefuses}
 
@@ -40,7 +40,7 @@ RefusesUnwritten why before after result =
 
 -- A run over a store in a file, whose wire is a socket: what passes over it is unknown. `from` and
 -- `to` are what the keyboard had left before and after. Or memory is missing.
-abbrev pub RunsOverFile : Me → Parts → NodePlan → Option (List Deed) → Option (List Deed)
+abbrev pub RunsOverFile : Me → Parts → NodePlan → Option Remaining → Option Remaining
     → Option (List ℕ) → Option (List ℕ) → Result (Unit {0}) GroupFault → Type 0
 RunsOverFile me program plan from to before after result =
     RefusesUnwritten IsOpenRefusal before after result
@@ -50,8 +50,8 @@ RunsOverFile me program plan from to before after result =
 
 -- What the keyboard of a plan has left at first: the text, or what datagrams will bring, which is
 -- unknown.
-abbrev pub keys_at_first : Option SocketAddr → List ℕ → Option (List Deed)
-keys_at_first None text = Some (map Press text)
+abbrev pub keys_at_first : Option SocketAddr → List ℕ → Option Remaining
+keys_at_first None text = Some (record { bytes = text; requests = 0 })
 keys_at_first (Some address) text = None
 
 -- Such a run once its sockets are open, or none, since a socket or memory is missing.
@@ -59,7 +59,7 @@ abbrev pub RunsOpened : Me → Parts → NodePlan → List ℕ → Option (List 
     → Result (Unit {0}) GroupFault → Type 0
 RunsOpened me program plan text before after result =
     RefusesUnwritten IsOpenRefusal before after result
-    ⊎ ((to : Option (List Deed))
+    ⊎ ((to : Option Remaining)
     × RunsOverFile me program plan (keys_at_first plan.keys text) to before after result)
 
 -- ---- the refusals before it, in their order

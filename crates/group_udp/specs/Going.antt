@@ -12,15 +12,15 @@ use Rattle.group_wire.specs.Doings.{Fails, HasActed}
 use Rattle.group_wire.specs.Traffic.{Traffic}
 use Rattle.group_udp.specs.declared.fault.GroupFault.{GroupFault}
 use Rattle.group_udp.specs.declared.fault.GroupFault.TheVariants as group
-use Rattle.group_udp.specs.Prompts.{IsPrompted, with_gift}
+use Rattle.group_udp.specs.Prompts.{IsPrompted, Remaining, with_gift}
 
 -- What is known around a node: what has passed over its wire, and what its keyboard has left.
 pub record Around : Type 0 where
   pub traffic : Option Traffic
-  pub keys : Option (List Deed)
+  pub keys : Option Remaining
 
 -- These two, put together.
-abbrev pub around : Option Traffic → Option (List Deed) → Around
+abbrev pub around : Option Traffic → Option Remaining → Around
 around traffic keys = record { traffic = traffic; keys = keys }
 
 -- The prompts of a plan before the first turn.

@@ -8,3 +8,4 @@ pub mod Runs
 pub mod Ends
 pub mod Sources
 pub mod OwnDatagrams
+pub mod Pace

@@ -1,8 +1,10 @@
 -- What happens at a node's keyboard before a turn.
-use Rattle.std.specs.Prelude.{◌≡◌, ◌≢◌, ℕ, List, [], ◌∷◌, ◌++◌, map, Option, Result, Ok, Err}
+use Rattle.std.specs.Prelude.{◌≡◌, ◌≢◌, ◌<◌, ℕ, true, All, List, [], ◌∷◌, ◌++◌, map, Option, Result, Ok, Err}
 use Rattle.paxos_acceptor.specs.Stores.{StoreState}
 use Rattle.group_node.specs.declared.fault.NodeFault.TheVariants.{SerialSpent, Stopped, Store}
-use Rattle.group_node.specs.Deeds.{Campaign, Deed, Press}
+use Rattle.group_node.specs.Deeds.{Campaign, Press}
+use Rattle.group_node.specs.Known.{Known, front}
+use Rattle.group_node.specs.ProposerRows.{is_leading}
 use Rattle.group_node.specs.States.{NodeState}
 use Rattle.group_wire.specs.Campaigns.{HasCampaigned}
 use Rattle.group_wire.specs.Doings.{HasActed}
@@ -10,15 +12,19 @@ use Rattle.group_wire.specs.Traffic.{Traffic}
 use Rattle.group_udp.specs.declared.fault.GroupFault.{GroupFault}
 use Rattle.group_udp.specs.declared.fault.GroupFault.TheVariants as group
 use Rattle.group_udp.specs.declared.keyboard.Pressed.{Pressed}
-use Rattle.group_udp.specs.declared.keyboard.Pressed.TheVariants.{Bytes, Campaigned, CampaignRefused}
+use Rattle.group_udp.specs.declared.keyboard.Pressed.TheVariants.{Bytes, Campaigned, CampaignRefused, Ignored}
 use Rattle.group_udp.specs.Going.{Around, FailsAt, HasEnded, HasReason}
-use Rattle.group_udp.specs.Prompts.{with_gift}
+use Rattle.group_udp.specs.Prompts.{Remaining, with_gift}
 use Rattle.group_udp.specs.Refusals.{IsRoundRefusal}
+
+-- A node that leads and misses nothing: it has learned each place at which its record has a vote.
+abbrev pub MissesNothing : Known → Type 0
+MissesNothing n = (is_leading n.proposer ≡ true) × All (λ v. v.place < front n) n.kept.votes
 
 -- Typing of the bytes that a keyboard gave. If the serials are spent, the last of them are lost.
 -- Forbids: a byte that is typed twice, or that the keyboard did not give.
-abbrev pub HasTypedGiven : {S : Type 0} → NodeState S → NodeState S → Option (List Deed)
-    → Option (List Deed) → Result (Unit {0}) GroupFault → Type 0
+abbrev pub HasTypedGiven : {S : Type 0} → NodeState S → NodeState S → Option Remaining
+    → Option Remaining → Result (Unit {0}) GroupFault → Type 0
 HasTypedGiven old new from to (Ok x) =
     (typed : List ℕ) × (from ≡ with_gift (map Press typed) to)
     × ((passed : Option Traffic) → HasActed old new passed passed (map Press typed))
@@ -27,19 +33,24 @@ HasTypedGiven old new from to (Err e) =
     × (from ≡ with_gift (map Press (typed ++ lost)) to) × HasReason e new.protocol.known
     × ((passed : Option Traffic) → HasActed old new passed passed (map Press typed))
 
--- A campaign that was asked for, and its answer. Only a save that fails ends the node.
+-- A campaign that was asked for, and its answer. Exactly a node that misses nothing ignores it.
+-- Only a save that fails ends the node.
 -- Allows: a campaign that does not begin.
--- Forbids: a node that ends since no ballot or no place is left.
+-- Forbids: a node that ends since no ballot or no place is left; a leader with a gap that stays
+-- under its ballot.
 abbrev pub HasCampaignedAsAsked : {S : Type 0} → Type 0 → Type 0 → (S → StoreState) → NodeState S
     → NodeState S → Option Traffic → Option Traffic → Result Pressed GroupFault → Type 0
 HasCampaignedAsAsked honest at_will state old new from to (Ok Bytes) = ⊥
+HasCampaignedAsAsked honest at_will state old new from to (Ok Ignored) =
+    MissesNothing old.protocol.known × HasActed old new from to []
 HasCampaignedAsAsked honest at_will state old new from to (Ok Campaigned) =
-    HasActed old new from to (Campaign ∷ [])
+    (¬ MissesNothing old.protocol.known) × HasActed old new from to (Campaign ∷ [])
 HasCampaignedAsAsked honest at_will state old new from to (Ok (CampaignRefused f)) =
-    HasCampaigned honest at_will state old new from to (Err f) × (f ≢ Stopped) × (f ≢ Store)
+    (¬ MissesNothing old.protocol.known)
+    × HasCampaigned honest at_will state old new from to (Err f) × (f ≢ Stopped) × (f ≢ Store)
     × HasActed old new from to []
 HasCampaignedAsAsked honest at_will state old new from to (Err e) =
-    FailsAt old new from to (Campaign ∷ []) e
+    (¬ MissesNothing old.protocol.known) × FailsAt old new from to (Campaign ∷ []) e
 
 -- What happens at a keyboard before a turn: typing of what it gave, or a campaign that it asked
 -- for, as the answer says.
@@ -48,6 +59,9 @@ abbrev pub HasPressedKeyboard : {S : Type 0} → Type 0 → Type 0 → (S → St
 HasPressedKeyboard honest at_will state old new from to (Ok Bytes) =
     (typed : List ℕ) × (from.keys ≡ with_gift (map Press typed) to.keys)
     × HasActed old new from.traffic to.traffic (map Press typed)
+HasPressedKeyboard honest at_will state old new from to (Ok Ignored) =
+    (from.keys ≡ with_gift (Campaign ∷ []) to.keys)
+    × HasCampaignedAsAsked honest at_will state old new from.traffic to.traffic (Ok Ignored)
 HasPressedKeyboard honest at_will state old new from to (Ok Campaigned) =
     (from.keys ≡ with_gift (Campaign ∷ []) to.keys)
     × HasCampaignedAsAsked honest at_will state old new from.traffic to.traffic (Ok Campaigned)

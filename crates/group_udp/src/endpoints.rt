@@ -10,6 +10,7 @@ use crate::sources::address_at;
 use crate::typed::TypedDatagrams;
 use crate::udp::{UdpWire, Watch, bind};
 use group_log::{Log, Note};
+use group_node::limits::MOST_WAITING;
 use group_wire::Host;
 use mio::net::UdpSocket;
 use paxos_acceptor::Store;
@@ -39,7 +40,7 @@ pub fn note_pressed<H: Clock, K: Keyboard, S: Store, E: Write>(
     }
     log.look(host.node());
     let waiting = host.node().waiting();
-    log.full(waiting, keyboard.is_left(waiting));
+    log.full(waiting, waiting >= MOST_WAITING && keyboard.has_bytes());
 }
 
 /// Binds a socket to the address, and notes a refusal.
@@ -58,17 +59,17 @@ fn bind_noted<H: Net + Clock, E: Write>(
 }
 
 /// Opens the socket of typed bytes at its address, which is watched.
-pub fn open_keyboard<H: Net + Clock, E: Write>(
-    rt: &H,
+pub fn open_keyboard<'a, H: Net + Clock + AllocGlobal, E: Write>(
+    rt: &'a H,
     address: SocketAddr,
     watch: &Watch,
     log: &mut Log<'_, H, E>,
-) -> Result<TypedDatagrams, GroupFault>
-    ensures others { IfErr result IsSocketRefusal }
+) -> Result<TypedDatagrams<'a, H>, GroupFault>
+    ensures others { IfErr result IsOpenRefusal }
 {
     let mut socket = bind_noted(rt, address, log)?;
     watch.add_typed(&mut socket)?;
-    Ok(TypedDatagrams { socket })
+    Ok(TypedDatagrams::new(rt, rt.alloc(), socket)?)
 }
 
 /// Opens the wire of the plan's node, on the socket of its address. Typed bytes end its waiting

@@ -1,41 +1,45 @@
 //! Where the typed bytes of a node come from, and what it does with them.
-ghost use Rattle.std.specs.Prelude.{◌≡◌, ◌+◌, ◌≤◌, [], ◌∷◌, List, Option, false, if◌then◌else◌, map, take, OnOk};
+ghost use Rattle.std.specs.Prelude.{◌≡◌, ◌+◌, ◌<◌, ◌≤◌, ◌↔◌, [], ◌∷◌, Option, false, if◌then◌else◌, map, take, IsTrue, OnOk};
 ghost use Rattle.group_node.specs.declared.limits.TheConstants.{MOST_WAITING};
-ghost use Rattle.group_node.specs.Deeds.{Campaign, Deed, Press};
+ghost use Rattle.group_node.specs.Deeds.{Campaign, Press};
 ghost use Rattle.group_wire.specs.Turns.{SameReleased};
 ghost use Rattle.group_udp.specs.Going.{around};
-ghost use Rattle.group_udp.specs.Pressing.{HasCampaignedAsAsked, HasPressedKeyboard, HasTypedGiven};
-ghost use Rattle.group_udp.specs.Prompts.{with_gift};
+ghost use Rattle.group_udp.specs.Pressing.{HasCampaignedAsAsked, HasPressedKeyboard, HasTypedGiven, MissesNothing};
+ghost use Rattle.group_udp.specs.Prompts.{Remaining, with_gift};
 
 use crate::endpoints::Endpoints;
 use crate::fault::GroupFault;
-use group_node::NodeFault;
 use group_node::limits::MOST_WAITING;
+use group_node::{Node, NodeFault};
+use group_wire::laws::deeds_go_on;
 use group_wire::{Host, Wire};
 use paxos_acceptor::Store;
 
-/// The most bytes that a keyboard gives at once, and a byte more, at which a longer datagram shows.
-pub const PRESS_ROOM: usize = MOST_WAITING + 1;
-
 /// What people do at a node: they type bytes, and ask it to campaign.
 pub trait Keyboard {
-    /// The bytes and the requests to campaign that it has left, in order, where that is known.
-    ghost remaining: { Self → Option (List Deed) };
+    /// The bytes that it has left, in order, and the number of requests to campaign, where that is
+    /// known.
+    ghost remaining: { Self → Option Remaining };
 
-    /// Returns true if there is something to be typed at a node at which `waiting` keys wait.
-    fn is_ready(&self, waiting: usize) -> bool;
+    /// Takes in what has come since the last look.
+    fn look(&mut self)
+        ensures same { remaining self.new ≡ remaining self.old };
 
-    /// Returns true if bytes are left for which there is no room at such a node.
-    fn is_left(&self, waiting: usize) -> bool;
+    /// Returns true if a request to campaign is there.
+    fn has_request(&self) -> bool;
 
-    /// Takes the next request to campaign, if it comes before all bytes. Returns true if one did.
+    /// Returns true if bytes are there.
+    fn has_bytes(&self) -> bool;
+
+    /// Takes a request to campaign, if one is there, also where bytes came before it. Returns true
+    /// if one was.
     fn is_asked(&mut self) -> bool
         ensures asked { remaining self.old
             ≡ with_gift (if result then Campaign ∷ [] else []) (remaining self.new) };
 
     /// Gives bytes for which there is room at a node at which `waiting` keys wait, at the front of
     /// `buffer`. Returns their number.
-    fn give(&mut self, buffer: &mut [u8; PRESS_ROOM], waiting: usize) -> usize
+    fn give(&mut self, buffer: &mut [u8; MOST_WAITING], waiting: usize) -> usize
         ensures within { result ≤ MOST_WAITING }
         ensures room { waiting ≤ MOST_WAITING → waiting + result ≤ MOST_WAITING }
         ensures given { remaining self.old
@@ -49,8 +53,17 @@ pub enum Pressed {
     Bytes,
     /// It was asked to campaign, and did.
     Campaigned,
+    /// It was asked to campaign, and leads already, with nothing missing.
+    Ignored,
     /// It was asked to campaign, and could not.
     CampaignRefused(NodeFault),
+}
+
+/// Returns true if the keyboard calls a node at which `waiting` keys wait from its rest: by a
+/// request, or by bytes if no key waits. While keys wait their batch is under way, and further
+/// bytes can wait for the next tick.
+pub fn is_calling<K: Keyboard>(keyboard: &K, waiting: usize) -> bool {
+    keyboard.has_request() || (waiting == 0 && keyboard.has_bytes())
 }
 
 /// Types what the keyboard gives now.
@@ -65,14 +78,25 @@ fn type_given<K: Keyboard, S: Store>(
     ensures stays { SameReleased host.old host.new }
     ensures progress { host.new.progress ≡ host.old.progress }
 {
-    let mut buffer = [0u8; PRESS_ROOM];
+    let mut buffer = [0u8; MOST_WAITING];
     let count = keyboard.give(&mut buffer, host.node().waiting());
     let mut bytes = &buffer[..count];
     Ok(host.press(&mut bytes)?)
 }
 
-/// Campaigns, as the node was asked to. Returns `CampaignRefused` if no ballot or no place is left
-/// or memory ran out: that ends nothing, and the node goes on as it was.
+/// Returns true if the node leads and misses nothing: it has learned each place at which its record
+/// has a vote.
+fn misses_nothing<S: Store>(node: &Node<'_, S>) -> bool
+    ensures { IsTrue result ↔ MissesNothing node.now.protocol.known }
+{
+    let front = node.known_front();
+    let votes = node.record().votes.as_slice();
+    node.is_leading() && votes.iter().all(|vote| vote.place < front)
+}
+
+/// Campaigns, as the node was asked to, unless it leads and misses nothing: a new ballot would only
+/// cost time. Returns `CampaignRefused` if no ballot or no place is left or memory ran out: that
+/// ends nothing, and the node goes on as it was.
 fn campaign_when_asked<T: Wire, S: Store>(
     host: &mut Host<'_, S>,
     wire: &mut T,
@@ -84,6 +108,10 @@ fn campaign_when_asked<T: Wire, S: Store>(
     ensures stays { SameReleased host.old host.new }
     ensures progress { host.new.progress ≡ host.old.progress }
 {
+    deeds_go_on::<S>();
+    if misses_nothing(host.node()) {
+        return Ok(Pressed::Ignored);
+    }
     match host.campaign(wire) {
         Ok(()) => Ok(Pressed::Campaigned),
         Err(fault @ (NodeFault::Stopped | NodeFault::Store)) => Err(GroupFault::Node(fault)),
@@ -91,8 +119,8 @@ fn campaign_when_asked<T: Wire, S: Store>(
     }
 }
 
-/// Types what the keyboard gives, before a turn, or campaigns if it asks for that first. Returns
-/// what the node did.
+/// Looks at the keyboard before a turn, and campaigns if it asks for that, or types what it gives.
+/// Returns what the node did.
 pub fn press<T: Wire, K: Keyboard, S: Store>(
     host: &mut Host<'_, S>,
     endpoints: &mut Endpoints<T, K>,
@@ -105,6 +133,7 @@ pub fn press<T: Wire, K: Keyboard, S: Store>(
     ensures stays { SameReleased host.old host.new }
     ensures progress { host.new.progress ≡ host.old.progress }
 {
+    endpoints.keyboard.look();
     if endpoints.keyboard.is_asked() {
         return campaign_when_asked(host, &mut endpoints.wire);
     }

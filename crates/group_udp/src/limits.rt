@@ -12,12 +12,23 @@ pub const MOST_OWN: usize = 256;
 /// The most bytes that the kept datagrams have all together.
 pub const OWN_BYTES: usize = 65_536;
 
-/// The time of a rest in milliseconds, while something happens.
+/// The most bytes that are kept of those that were typed and have no room yet.
+pub const MOST_KEPT: usize = 65_536;
+
+/// The most typed datagrams that are taken in at once.
+pub const MOST_TAKEN_IN: u32 = 256;
+
+/// The least time in milliseconds from one request to campaign that is taken to the next.
+pub const REQUESTS_APART: u64 = 100;
+
+/// The shortest time of a rest in milliseconds.
 pub const SHORT_REST: u64 = 10;
 
-/// The longest time of a rest in milliseconds.
+/// The time in milliseconds of the first rest of a node that sends nothing but Asks.
+pub const IDLE_REST: u64 = 50;
+
+/// The time in milliseconds of each further rest of such a node.
 pub const LONG_REST: u64 = 100;
 
-/// The number of short rests after the last event. They take a second. Each further rest is a
-/// millisecond longer than the one before.
-pub const SHORT_RESTS: u64 = 100;
+/// The longest time in milliseconds of a rest before a tick that repeats what was sent.
+pub const LONG_PAUSE: u64 = 200;

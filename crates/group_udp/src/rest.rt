@@ -10,73 +10,77 @@ ghost use Rattle.group_udp.specs.Output.{SameProgram};
 
 use crate::endpoints::Endpoints;
 use crate::fault::GroupFault;
-use crate::keyboard::Keyboard;
+use crate::keyboard::{Keyboard, is_calling};
 use crate::limits::MOST_RESTING;
-use crate::resting::RestingWire;
+use crate::resting::{RestingWire, Waited};
 use group_node::{NodeFault, Ran};
 use group_wire::laws::deeds_go_on;
 use group_wire::{Heard, Host, Wire};
 use paxos_acceptor::Store;
 
-/// Returns true if the known front has moved since it was at `front`, and notes that on the wire.
-fn has_moved<T: RestingWire, S: Store>(host: &Host<'_, S>, front: u32, wire: &mut T) -> bool
-    ensures passed { T.traffic wire.new ≡ T.traffic wire.old }
+/// Waits at the wire of a node at which `waiting` keys wait. Returns true if its rest is over: it
+/// has taken its time, or the keyboard calls.
+fn wait<T: RestingWire, K: Keyboard>(endpoints: &mut Endpoints<T, K>, waiting: usize) -> bool
+    ensures passed { T.traffic endpoints.new.wire ≡ T.traffic endpoints.old.wire }
+    ensures untyped { K.remaining endpoints.new.keyboard ≡ K.remaining endpoints.old.keyboard }
 {
-    let has_moved = host.node().known_front() > front;
-    if has_moved {
-        wire.stir();
+    match endpoints.wire.wait() {
+        Waited::Over => true,
+        Waited::Datagram => false,
+        Waited::Keyboard => {
+            endpoints.keyboard.look();
+            is_calling(&endpoints.keyboard, waiting)
+        }
     }
-    has_moved
 }
 
 /// Receives once, and waits if nothing came. Returns true if the rest is over: it has taken its
-/// time, bytes were typed and `is_ended_by_keys`, or the known front has moved since it was at
-/// `front`.
-fn rest_once<T: RestingWire, S: Store>(
+/// time, the keyboard calls, or the known front has moved since it was at `front`.
+fn rest_once<T: RestingWire, K: Keyboard, S: Store>(
     host: &mut Host<'_, S>,
-    wire: &mut T,
+    endpoints: &mut Endpoints<T, K>,
     front: u32,
-    is_ended_by_keys: bool,
 ) -> Result<bool, GroupFault>
     requires works { host.old.protocol.is_stopped ≡ false }
     ensures works { OnOk result (host.new.protocol.is_stopped ≡ false) }
-    ensures acts { OnOk result
-        (HasActed host.old host.new (T.traffic wire.old) (T.traffic wire.new) []) }
-    ensures refused { IfErr result
-        (FailsAt host.old host.new (T.traffic wire.old) (T.traffic wire.new) []) }
+    ensures acts { OnOk result (HasActed host.old host.new (T.traffic endpoints.old.wire)
+        (T.traffic endpoints.new.wire) []) }
+    ensures refused { IfErr result (FailsAt host.old host.new (T.traffic endpoints.old.wire)
+        (T.traffic endpoints.new.wire) []) }
+    ensures untyped { K.remaining endpoints.new.keyboard ≡ K.remaining endpoints.old.keyboard }
     ensures stays { SameReleased host.old host.new }
     ensures progress { host.new.progress ≡ host.old.progress }
 {
-    match host.hear(wire) {
-        Ok(Heard::Nothing) => Ok(!wire.wait(is_ended_by_keys)),
-        Ok(_) => Ok(has_moved(host, front, wire)),
+    match host.hear(&mut endpoints.wire) {
+        Ok(Heard::Nothing) => Ok(wait(endpoints, host.node().waiting())),
+        Ok(_) => Ok(host.node().known_front() > front),
         Err(fault) => Err(GroupFault::Node(fault)),
     }
 }
 
 /// Hears what comes to a node that has nothing to do, at most 64 datagrams, until a place has
-/// become known, bytes were typed, or the rest is over. What a message asks for is done when it is
-/// heard, so it needs no tick; and a tick after each would make the other nodes tick in turn,
+/// become known, the keyboard calls, or the rest is over. What a message asks for is done when it
+/// is heard, so it needs no tick; and a tick after each would make the other nodes tick in turn,
 /// without end.
-///
-/// While typed keys wait, their batch is under way, and further bytes do not end the rest: so the
-/// next tick submits all that came meanwhile.
-fn rest<T: RestingWire, S: Store>(host: &mut Host<'_, S>, wire: &mut T) -> Result<(), GroupFault>
+fn rest<T: RestingWire, K: Keyboard, S: Store>(
+    host: &mut Host<'_, S>,
+    endpoints: &mut Endpoints<T, K>,
+) -> Result<(), GroupFault>
     requires works { host.old.protocol.is_stopped ≡ false }
     ensures works { OnOk result (host.new.protocol.is_stopped ≡ false) }
-    ensures acts { OnOk result
-        (HasActed host.old host.new (T.traffic wire.old) (T.traffic wire.new) []) }
-    ensures refused { IfErr result
-        (FailsAt host.old host.new (T.traffic wire.old) (T.traffic wire.new) []) }
+    ensures acts { OnOk result (HasActed host.old host.new (T.traffic endpoints.old.wire)
+        (T.traffic endpoints.new.wire) []) }
+    ensures refused { IfErr result (FailsAt host.old host.new (T.traffic endpoints.old.wire)
+        (T.traffic endpoints.new.wire) []) }
+    ensures untyped { K.remaining endpoints.new.keyboard ≡ K.remaining endpoints.old.keyboard }
     ensures stays { SameReleased host.old host.new }
     ensures progress { host.new.progress ≡ host.old.progress }
 {
     deeds_go_on::<S>();
     let front = host.node().known_front();
-    let is_ended_by_keys = host.node().waiting() == 0;
-    wire.begin_rest();
+    endpoints.wire.begin_rest(front);
     for _ in 0..MOST_RESTING {
-        match rest_once(host, wire, front, is_ended_by_keys) {
+        match rest_once(host, endpoints, front) {
             Ok(false) => {}
             Ok(true) => return Ok(()),
             Err(fault) => return Err(fault),
@@ -85,8 +89,7 @@ fn rest<T: RestingWire, S: Store>(host: &mut Host<'_, S>, wire: &mut T) -> Resul
     Ok(())
 }
 
-/// Rests, unless the node is busy, or no keys wait and there is something to be typed at it. A rest
-/// keeps what was released.
+/// Rests, unless the node is busy, or the keyboard calls. A rest keeps what was released.
 pub fn rest_unless_busy<T: RestingWire, K: Keyboard, S: Store>(
     host: &mut Host<'_, S>,
     endpoints: &mut Endpoints<T, K>,
@@ -100,7 +103,7 @@ pub fn rest_unless_busy<T: RestingWire, K: Keyboard, S: Store>(
         (T.traffic endpoints.new.wire) []) }
     ensures refused { IfErr result (FailsAt host.old host.new (T.traffic endpoints.old.wire)
         (T.traffic endpoints.new.wire) []) }
-    ensures untyped { endpoints.new.keyboard ≡ endpoints.old.keyboard }
+    ensures untyped { K.remaining endpoints.new.keyboard ≡ K.remaining endpoints.old.keyboard }
     ensures stays { SameReleased host.old host.new }
     ensures progress { host.new.progress ≡ host.old.progress }
 {
@@ -108,10 +111,11 @@ pub fn rest_unless_busy<T: RestingWire, K: Keyboard, S: Store>(
     if is_busy {
         return Ok(());
     }
-    if host.node().waiting() == 0 && endpoints.keyboard.is_ready(0) {
+    endpoints.keyboard.look();
+    if is_calling(&endpoints.keyboard, host.node().waiting()) {
         return Ok(());
     }
-    rest(host, &mut endpoints.wire)
+    rest(host, endpoints)
 }
 
 /// Returns true if a node is busy after such a run: its machine has not ended, and does not wait

@@ -1,28 +1,37 @@
 //! A wire at which a node can rest.
 ghost use Rattle.std.specs.Prelude.{◌≡◌};
 
-use group_log::Drops;
+use group_log::{Drops, Sends};
 use group_wire::Wire;
+
+/// Why a wait at a wire has ended.
+#[derive(Clone, Copy, Debug, PartialEq, Eq)]
+pub enum Waited {
+    /// The rest is over.
+    Over,
+    /// A datagram may be there.
+    Datagram,
+    /// Something may have come to the keyboard.
+    Keyboard,
+}
 
 /// A wire at which a node can rest between its turns. Nothing passes over it in these calls.
 pub trait RestingWire: Wire {
-    /// Notes that something has happened: the next rest is short.
-    fn stir(&mut self)
+    /// Begins a rest of a node whose known front is `front`.
+    fn begin_rest(&mut self, front: u32)
         ensures passed { Self.traffic self.new ≡ Self.traffic self.old };
 
-    /// Begins a rest.
-    fn begin_rest(&mut self)
-        ensures passed { Self.traffic self.new ≡ Self.traffic self.old };
-
-    /// Waits for a datagram until the rest is over. Returns true if there may be one: not if the
-    /// rest is over, or if bytes were typed and `is_ended_by_keys`.
-    fn wait(&mut self, is_ended_by_keys: bool) -> bool
+    /// Waits until something may have come, or until the rest is over.
+    fn wait(&mut self) -> Waited
         ensures passed { Self.traffic self.new ≡ Self.traffic self.old };
 
     /// Returns the number of datagrams that were dropped since these counts were set to 0.
     fn drops(&self) -> Drops;
 
+    /// Returns the number of datagrams that were sent to other nodes since then.
+    fn sends(&self) -> Sends;
+
     /// Sets these counts to 0.
-    fn clear_drops(&mut self)
+    fn clear_counts(&mut self)
         ensures passed { Self.traffic self.new ≡ Self.traffic self.old };
 }

@@ -22,12 +22,12 @@ use paxos_acceptor::Store;
 use std::io::Write;
 use std::time::Clock;
 
-/// Notes the datagrams that the wire has dropped, if it is time for that.
-fn note_drops<H: Clock, T: RestingWire, E: Write>(wire: &mut T, log: &mut Log<'_, H, E>)
+/// Notes what the wire has counted of datagrams, if it is time for that.
+fn note_counts<H: Clock, T: RestingWire, E: Write>(wire: &mut T, log: &mut Log<'_, H, E>)
     ensures passed { T.traffic wire.new ≡ T.traffic wire.old }
 {
-    if log.dropped(&wire.drops()) {
-        wire.clear_drops();
+    if log.counted(&wire.drops(), &wire.sends()) {
+        wire.clear_counts();
     }
 }
 
@@ -55,7 +55,7 @@ fn rest_and_turn<H: Clock, T: RestingWire, K: Keyboard, S: Store, E: Write>(
     note_pressed(host, &endpoints.keyboard, pressed, log);
     let more = own_turn(host, &mut endpoints.wire)?;
     log.look(host.node());
-    note_drops(&mut endpoints.wire, log);
+    note_counts(&mut endpoints.wire, log);
     Ok(more)
 }
 

@@ -135,8 +135,8 @@ impl<'a, H: Clock> ShownNode<'a, H> {
         ensures others { IfErr result IsShownTurnRefusal }
     {
         deeds_go_on::<MemoryStore>();
-        self.wire.begin_rest();
-        self.wire.wait(true);
+        self.wire.begin_rest(self.host.node().known_front());
+        self.wire.wait();
         self.host.turn(&mut self.wire)?;
         self.show_output()
     }

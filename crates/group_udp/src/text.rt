@@ -1,5 +1,5 @@
 //! A text that is typed at a node.
-use crate::keyboard::{Keyboard, PRESS_ROOM};
+use crate::keyboard::Keyboard;
 use group_node::limits::MOST_WAITING;
 
 /// A text that is typed at a node, as there is room for it.
@@ -10,25 +10,27 @@ pub struct Text<'a> {
 }
 
 impl Keyboard for Text<'_> {
-    ghost use Rattle.std.specs.Prelude.{Some, map};
-    ghost use Rattle.group_node.specs.Deeds.{Press};
+    ghost use Rattle.std.specs.Prelude.{Some};
 
-    ghost remaining = { λ t. Some (map Press t.rest.now) };
+    ghost remaining = { λ t. Some (record { bytes = t.rest.now; requests = 0 }) };
 
-    fn is_ready(&self, waiting: usize) -> bool {
-        waiting < MOST_WAITING && !self.rest.is_empty()
-    }
-
-    fn is_left(&self, waiting: usize) -> bool {
-        waiting >= MOST_WAITING && !self.rest.is_empty()
-    }
+    // All of it is there.
+    fn look(&mut self) {}
 
     // A text asks for no campaign.
+    fn has_request(&self) -> bool {
+        false
+    }
+
+    fn has_bytes(&self) -> bool {
+        !self.rest.is_empty()
+    }
+
     fn is_asked(&mut self) -> bool {
         false
     }
 
-    fn give(&mut self, buffer: &mut [u8; PRESS_ROOM], waiting: usize) -> usize {
+    fn give(&mut self, buffer: &mut [u8; MOST_WAITING], waiting: usize) -> usize {
         let count = self.rest.len().min(MOST_WAITING.saturating_sub(waiting));
         let (now, later) = self.rest.split_at(count);
         buffer[..count].copy_from_slice(now);

@@ -1,15 +1,15 @@
 //! UDP sockets as wires.
-ghost use Rattle.std.specs.Prelude.{◌≡◌, ◌+◌, ◌-◌, ◌≤◌, min, length, IfErr, IfSome};
-ghost use Rattle.group_udp.specs.declared.limits.TheConstants.{LONG_REST, SHORT_REST, SHORT_RESTS};
+ghost use Rattle.std.specs.Prelude.{◌≡◌, ◌≤◌, length, IfErr, IfSome};
 ghost use Rattle.group_udp.specs.Refusals.{IsOpenRefusal, IsSocketRefusal};
 ghost use Rattle.group_udp.specs.Sources.{drop_of};
 
 use crate::fault::GroupFault;
-use crate::limits::{LONG_REST, SHORT_REST, SHORT_RESTS};
+use crate::limits::LONG_PAUSE;
 use crate::own_datagrams::OwnDatagrams;
-use crate::resting::RestingWire;
+use crate::pace::Pace;
+use crate::resting::{RestingWire, Waited};
 use crate::sources::{address_at, is_from_sender, taken_of};
-use group_log::{DropReason, Drops, reason_of};
+use group_log::{DropReason, Drops, Sends, reason_of};
 use group_wire::Wire;
 use mio::net::UdpSocket;
 use mio::{Events, Interest, Poll, Token};
@@ -22,13 +22,6 @@ const KIND: usize = 3;
 
 /// The kind of an Ask.
 const ASK: u8 = 7;
-
-/// Returns the time of a rest in milliseconds, after `quiet` rests without an event.
-fn rest_after(quiet: u64) -> u64
-    ensures { result ≡ min (SHORT_REST + (quiet - SHORT_RESTS)) LONG_REST }
-{
-    LONG_REST.min(SHORT_REST + quiet.saturating_sub(SHORT_RESTS))
-}
 
 /// Binds a socket at this address, whose calls never wait.
 pub fn bind<H: Net>(rt: &H, address: SocketAddr) -> Result<UdpSocket, GroupFault>
@@ -97,7 +90,7 @@ impl Watch {
         self.add(socket, TYPED)
     }
 
-    /// Waits up to `most` for a datagram. Returns true if typed bytes came; each arrival is
+    /// Waits up to `most` for a datagram. Returns true if a typed one came; each arrival is
     /// reported once.
     fn wait(&mut self, most: Duration) -> bool {
         match self.poll.poll(&mut self.events, Some(most)) {
@@ -125,12 +118,19 @@ pub struct UdpWire<'a, H> {
     is_own_next: bool,
     /// The end of the rest.
     until: Option<Instant>,
-    /// The number of rests that were begun since something happened.
-    quiet: u64,
+    pace: Pace,
+    /// The known front of the node when its last rest began.
+    front: u32,
+    /// True if anything but Asks was sent since then.
+    has_sent: bool,
+    /// When the node last learned a place, or later began to send anything but Asks.
+    since: Option<Instant>,
     /// The group for which dropped datagrams are counted, or None if none are.
     counted: Option<Group>,
-    /// The number of datagrams that were dropped since these counts were set to 0.
+    /// The number of datagrams that were dropped, and sent to other nodes, since these counts were
+    /// set to 0.
     drops: Drops,
+    sends: Sends,
 }
 
 impl<'a, H: Clock> UdpWire<'a, H> {
@@ -158,19 +158,23 @@ impl<'a, H: Clock> UdpWire<'a, H> {
             own,
             is_own_next: true,
             until: None,
-            quiet: 0,
+            pace: Pace::new(),
+            front: 0,
+            has_sent: false,
+            since: None,
             counted,
             drops: Drops::default(),
+            sends: Sends::default(),
         })
     }
 
     /// Counts a datagram, if the node drops it and dropped datagrams are counted.
-    fn count_drop(&mut self, is_from_sender: bool, datagram: &[u8]) {
+    fn count_drop(&mut self, is_from_sender: bool, source: SocketAddr, datagram: &[u8]) {
         let Some(group) = self.counted else {
             return;
         };
         if let Some(reason) = drop_of(group, is_from_sender, datagram) {
-            self.drops.count(reason);
+            self.drops.count(reason, source);
         }
     }
 
@@ -180,12 +184,43 @@ impl<'a, H: Clock> UdpWire<'a, H> {
         self.until?.checked_duration_since(now)
     }
 
-    /// Sends a datagram by the socket. Returns whether the system took it.
-    fn send_out(&self, to: u8, bytes: &[u8]) -> bool {
-        match address_at(self.addresses, to) {
+    /// Returns the time so many milliseconds from now, if the clock can be read.
+    fn time_in(&self, millis: u64) -> Option<Instant> {
+        let now = Instant::now(self.clock).ok()?;
+        now.checked_add(Duration::from_millis(millis))
+    }
+
+    /// Returns the time in milliseconds that it took to learn what was learned now.
+    fn took(&self) -> u64 {
+        let (Some(since), Ok(now)) = (self.since, Instant::now(self.clock)) else {
+            return 0;
+        };
+        u64::try_from(now.saturating_duration_since(since).as_millis()).unwrap_or(LONG_PAUSE)
+    }
+
+    /// Notes that the node sends something but an Ask. A rest that began while nothing was under
+    /// way ends soon then, since what is sent may be lost.
+    fn note_sent(&mut self) {
+        if !self.has_sent && !self.pace.is_sending {
+            let pause = self.pace.first;
+            let soon = self.time_in(pause);
+            self.until = self.until.min(soon);
+            self.since = self.time_in(0);
+        }
+        self.has_sent = true;
+    }
+
+    /// Sends a datagram by the socket, and counts it if datagrams are counted. Returns whether the
+    /// system took it.
+    fn send_out(&mut self, to: u8, bytes: &[u8]) -> bool {
+        let is_taken = match address_at(self.addresses, to) {
             Some(address) => self.socket.send_to(bytes, address).is_ok(),
             None => false,
+        };
+        if self.counted.is_some() && to != self.node {
+            self.sends.count(is_taken);
         }
+        is_taken
     }
 
     /// Receives the next datagram of the socket, if one is there. One from another address than its
@@ -196,7 +231,7 @@ impl<'a, H: Clock> UdpWire<'a, H> {
         let (count, source) = receive_from(&self.socket, buffer)?;
         let datagram = &buffer[..count];
         let is_from_sender = is_from_sender(self.addresses, source, datagram);
-        self.count_drop(is_from_sender, datagram);
+        self.count_drop(is_from_sender, source, datagram);
         Some(taken_of(is_from_sender, datagram))
     }
 }
@@ -210,7 +245,7 @@ impl<H: Clock> Wire for UdpWire<'_, H> {
     // A node that has nothing to do sends Asks alone.
     fn send(&mut self, to: u8, bytes: &[u8]) -> bool {
         if bytes.get(KIND) != Some(&ASK) {
-            self.stir();
+            self.note_sent();
         }
         if to == self.node && self.own.push(bytes) {
             return true;
@@ -232,30 +267,30 @@ impl<H: Clock> Wire for UdpWire<'_, H> {
 }
 
 impl<H: Clock> RestingWire for UdpWire<'_, H> {
-    fn stir(&mut self) {
-        self.quiet = 0;
-    }
-
-    /// Begins a rest of 10 milliseconds. If the last 100 rests were without an event it is longer,
-    /// up to 100 milliseconds.
-    fn begin_rest(&mut self) {
-        let length = Duration::from_millis(rest_after(self.quiet));
-        self.quiet = self.quiet.saturating_add(1);
-        self.until = match Instant::now(self.clock) {
-            Ok(now) => now.checked_add(length),
-            Err(_) => None,
-        };
+    /// Begins a rest, which is as long as the pace of the node says.
+    fn begin_rest(&mut self, front: u32) {
+        let has_learned = front > self.front;
+        let learned = if has_learned { Some(self.took()) } else { None };
+        self.pace = self.pace.next(learned, self.has_sent);
+        if has_learned {
+            self.since = self.time_in(0);
+        }
+        self.front = front;
+        self.has_sent = false;
+        let rest = self.pace.rest;
+        self.until = self.time_in(rest);
     }
 
     /// Waits for a datagram, unless one of the node's own is there. All that were in the socket
     /// have been received.
-    fn wait(&mut self, is_ended_by_keys: bool) -> bool {
+    fn wait(&mut self) -> Waited {
         if !self.own.is_empty() {
-            return true;
+            return Waited::Datagram;
         }
         match self.left() {
-            Some(left) => !(self.watch.wait(left) && is_ended_by_keys),
-            None => false,
+            Some(left) if self.watch.wait(left) => Waited::Keyboard,
+            Some(_) => Waited::Datagram,
+            None => Waited::Over,
         }
     }
 
@@ -263,7 +298,12 @@ impl<H: Clock> RestingWire for UdpWire<'_, H> {
         self.drops
     }
 
-    fn clear_drops(&mut self) {
+    fn sends(&self) -> Sends {
+        self.sends
+    }
+
+    fn clear_counts(&mut self) {
         self.drops = Drops::default();
+        self.sends = Sends::default();
     }
 }

@@ -4,9 +4,11 @@ use Rattle.group_udp.proofs.rest.rest.Goals as goal
 
 pub loop-init : goal.loop-init
 loop-init g c = record {
-  acts = subst (λ t. HasActed c.args.host.now c.args.host.now (g.T.Wire.traffic c.args.wire.now) t []) (sym c.begin_rest.ensures.passed)
+  acts = subst (λ t. HasActed c.args.host.now c.args.host.now (g.T.Wire.traffic c.args.endpoints.now.wire) t [])
+      (sym c.begin_rest.ensures.passed)
       (c.deeds_go_on.ensures.none _ _);
   works = c.requires.works;
+  untyped = refl;
   stays = refl;
   progress = refl;
 }
@@ -15,6 +17,7 @@ pub loop-preserved : goal.loop-preserved
 loop-preserved g c = record {
   acts = c.deeds_go_on.ensures.more _ _ _ _ _ _ _ _ c.loop.invariant.acts c.in-Ok-false.ensures.acts;
   works = c.in-Ok-false.ensures.works;
+  untyped = c.in-Ok-false.ensures.untyped ∙ c.loop.invariant.untyped;
   stays = c.in-Ok-false.ensures.stays ∙ c.loop.invariant.stays;
   progress = c.in-Ok-false.ensures.progress ∙ c.loop.invariant.progress;
 }

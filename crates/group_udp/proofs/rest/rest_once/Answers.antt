@@ -9,16 +9,11 @@ returns-in-Ok-Nothing-clause-works g c = hears_open _ _ c.in-Ok-Nothing.ensures.
 
 pub returns-in-Ok-Nothing-clause-acts : goal.returns-in-Ok-Nothing-clause-acts
 returns-in-Ok-Nothing-clause-acts g c =
-    subst (λ t. HasActed c.args.host.now c.hear.new.self (g.T.Wire.traffic c.args.wire.now) t []) (sym c.wait.ensures.passed)
+    subst (λ t. HasActed c.args.host.now c.hear.new.self (g.T.Wire.traffic c.args.endpoints.now.wire) t []) (sym c.wait.ensures.passed)
     c.in-Ok-Nothing.ensures.acts
 
 pub returns-in-Ok-clause-works : goal.returns-in-Ok-clause-works
 returns-in-Ok-clause-works g c = hears_open _ _ c.in-Ok.ensures.heard.refused.stops.0 c.requires.works (λ is. absurd (cc is))
-
-pub returns-in-Ok-clause-acts : goal.returns-in-Ok-clause-acts
-returns-in-Ok-clause-acts g c =
-    subst (λ t. HasActed c.args.host.now c.hear.new.self (g.T.Wire.traffic c.args.wire.now) t []) (sym c.has_moved.ensures.passed)
-    c.in-Ok.ensures.acts
 
 pub returns-in-Err-clause-refused : goal.returns-in-Err-clause-refused
 returns-in-Err-clause-refused g c =

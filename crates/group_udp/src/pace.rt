@@ -1,0 +1,71 @@
+//! How long a node rests between two turns.
+ghost use Rattle.std.specs.Prelude.{◌≡◌};
+ghost use Rattle.group_udp.specs.Pace.{first_after, pace_after, rest_after};
+
+use crate::limits::{IDLE_REST, LONG_PAUSE, LONG_REST, SHORT_REST};
+
+/// How long a node rests between two turns, and what its next rest depends on. Times are in
+/// milliseconds.
+#[derive(Clone, Copy, Debug, PartialEq, Eq)]
+pub struct Pace {
+    /// The time of the rest.
+    pub rest: u64,
+    /// The first pause between repeats: as long as it usually takes until a place is learned.
+    pub first: u64,
+    /// True if the node sent anything but Asks before the rest.
+    pub is_sending: bool,
+}
+
+impl Pace {
+    /// Returns the pace of a node that starts.
+    pub fn new() -> Pace {
+        Pace {
+            rest: SHORT_REST,
+            first: SHORT_REST,
+            is_sending: false,
+        }
+    }
+
+    /// Returns the first pause between repeats, once a place was learned after so many
+    /// milliseconds. It is twice this time, but at most four times as long as it was.
+    fn first_after(self, learned: Option<u64>) -> u64
+        ensures { result ≡ first_after self.first learned }
+    {
+        match learned {
+            Some(took) => {
+                let most = LONG_PAUSE.min(self.first.min(LONG_PAUSE) * 4);
+                SHORT_REST.max(most.min(took.min(LONG_PAUSE) * 2))
+            }
+            None => self.first,
+        }
+    }
+
+    /// Returns the time of the next rest.
+    fn rest_after(self, learned: Option<u64>, has_sent: bool) -> u64
+        ensures { result ≡ rest_after self learned has_sent }
+    {
+        match (learned.is_some(), has_sent, self.is_sending) {
+            (false, true, true) => self.rest.min(LONG_PAUSE / 2) * 2,
+            (_, true, _) => self.first_after(learned),
+            (false, false, false) => LONG_REST,
+            (_, false, _) => IDLE_REST,
+        }
+    }
+
+    /// Returns the pace at the next rest. `learned` is the time that it took to learn a place, if
+    /// one was learned since the last rest began, and `has_sent` is true if anything but Asks was
+    /// sent since then.
+    ///
+    /// If nothing was learned, what was sent repeats what was sent before, and the pause before the
+    /// next repeats is twice as long, up to 200 milliseconds. A node that sends nothing but Asks
+    /// rests for 50 milliseconds, and from then on for 100.
+    pub fn next(self, learned: Option<u64>, has_sent: bool) -> Pace
+        ensures { result ≡ pace_after self learned has_sent }
+    {
+        Pace {
+            rest: self.rest_after(learned, has_sent),
+            first: self.first_after(learned),
+            is_sending: has_sent,
+        }
+    }
+}
