@@ -1,6 +1,6 @@
 -- How long a node rests between two turns.
 use Rattle.std.specs.Prelude.{◌*◌, ℕ, min, max, Bool, true, false, if◌then◌else◌, Option, Some, None}
-use Rattle.group_udp.specs.declared.limits.TheConstants.{LONG_PAUSE, LONG_REST, IDLE_REST, SHORT_REST}
+use Rattle.group_udp.specs.declared.limits.TheConstants.{LONG_PAUSE, LONG_REST, SHORT_REST}
 use Rattle.group_udp.specs.declared.pace.Pace.{Pace}
 
 -- The first pause between repeats, once a place was learned after so many milliseconds.
@@ -13,9 +13,9 @@ first_after first (Some took) = max SHORT_REST (min (2 * took) (min (4 * first) 
 -- Forbids: a pause that grows though a place was learned, or before the first repeat.
 abbrev pub rest_after : Pace → Option ℕ → Bool → ℕ
 rest_after p (Some took) true = first_after p.first (Some took)
-rest_after p (Some took) false = IDLE_REST
+rest_after p (Some took) false = LONG_REST
 rest_after p None true = if p.is_sending then min (2 * p.rest) LONG_PAUSE else p.first
-rest_after p None false = if p.is_sending then IDLE_REST else LONG_REST
+rest_after p None false = LONG_REST
 
 -- The pace at the next rest.
 abbrev pub pace_after : Pace → Option ℕ → Bool → Pace

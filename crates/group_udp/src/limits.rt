@@ -1,7 +1,8 @@
 //! The limits of a node on UDP, each under its name. Code, clauses and definitions cite them.
 
-/// The most datagrams that a resting node hears or waits for.
-pub const MOST_RESTING: u32 = 64;
+/// The most datagrams that a resting node hears. It is so great that a rest ends when its time is
+/// over: if many datagrams ended it, the tick after it would bring as many again.
+pub const MOST_RESTING: u32 = 65_536;
 
 /// The most bytes of a datagram that is typed. A longer one is dropped.
 pub const LONGEST_PRESS: usize = 64;
@@ -24,10 +25,7 @@ pub const REQUESTS_APART: u64 = 100;
 /// The shortest time of a rest in milliseconds.
 pub const SHORT_REST: u64 = 10;
 
-/// The time in milliseconds of the first rest of a node that sends nothing but Asks.
-pub const IDLE_REST: u64 = 50;
-
-/// The time in milliseconds of each further rest of such a node.
+/// The time in milliseconds of a rest of a node that sends nothing but Asks.
 pub const LONG_REST: u64 = 100;
 
 /// The longest time in milliseconds of a rest before a tick that repeats what was sent.

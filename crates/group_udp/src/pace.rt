@@ -1,8 +1,9 @@
 //! How long a node rests between two turns.
-ghost use Rattle.std.specs.Prelude.{◌≡◌};
+ghost use Rattle.std.specs.Prelude.{◌≡◌, ◌-◌};
+ghost use Rattle.group_udp.specs.declared.limits.TheConstants.{SHORT_REST};
 ghost use Rattle.group_udp.specs.Pace.{first_after, pace_after, rest_after};
 
-use crate::limits::{IDLE_REST, LONG_PAUSE, LONG_REST, SHORT_REST};
+use crate::limits::{LONG_PAUSE, LONG_REST, SHORT_REST};
 
 /// How long a node rests between two turns, and what its next rest depends on. Times are in
 /// milliseconds.
@@ -47,8 +48,7 @@ impl Pace {
         match (learned.is_some(), has_sent, self.is_sending) {
             (false, true, true) => self.rest.min(LONG_PAUSE / 2) * 2,
             (_, true, _) => self.first_after(learned),
-            (false, false, false) => LONG_REST,
-            (_, false, _) => IDLE_REST,
+            (_, false, _) => LONG_REST,
         }
     }
 
@@ -58,7 +58,7 @@ impl Pace {
     ///
     /// If nothing was learned, what was sent repeats what was sent before, and the pause before the
     /// next repeats is twice as long, up to 200 milliseconds. A node that sends nothing but Asks
-    /// rests for 50 milliseconds, and from then on for 100.
+    /// rests for 100.
     pub fn next(self, learned: Option<u64>, has_sent: bool) -> Pace
         ensures { result ≡ pace_after self learned has_sent }
     {
@@ -67,5 +67,13 @@ impl Pace {
             first: self.first_after(learned),
             is_sending: has_sent,
         }
+    }
+
+    /// Returns the time in milliseconds that a rest takes at least, where more keys than those that
+    /// are under way are too few for a turn of their own: none where places are learned quickly.
+    pub fn least(self) -> u64
+        ensures { result ≡ self.first - SHORT_REST }
+    {
+        self.first.saturating_sub(SHORT_REST)
     }
 }

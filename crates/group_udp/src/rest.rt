@@ -17,6 +17,7 @@ use group_node::{NodeFault, Ran};
 use group_wire::laws::deeds_go_on;
 use group_wire::{Heard, Host, Wire};
 use paxos_acceptor::Store;
+use paxos_msg::limits::MOST_CHARACTERS;
 
 /// Waits at the wire of a node at which `waiting` keys wait. Returns true if its rest is over: it
 /// has taken its time, or the keyboard calls.
@@ -32,6 +33,17 @@ fn wait<T: RestingWire, K: Keyboard>(endpoints: &mut Endpoints<T, K>, waiting: u
             is_calling(&endpoints.keyboard, waiting)
         }
     }
+}
+
+/// Returns true if the rest of a node is over once a place has become known. While its typed keys
+/// are under way, and fewer wait than a place takes, it lasts as long as such a rest has to: else
+/// each place that is learned would open one for the few keys that came meanwhile, and have all be
+/// repeated that is under way. On a quick network that is no time.
+fn ends_rest<T: RestingWire>(wire: &mut T, waiting: usize) -> bool
+    ensures passed { T.traffic wire.new ≡ T.traffic wire.old }
+{
+    wire.note_learned();
+    waiting == 0 || waiting >= MOST_CHARACTERS || wire.is_over()
 }
 
 /// Receives once, and waits if nothing came. Returns true if the rest is over: it has taken its
@@ -53,13 +65,16 @@ fn rest_once<T: RestingWire, K: Keyboard, S: Store>(
 {
     match host.hear(&mut endpoints.wire) {
         Ok(Heard::Nothing) => Ok(wait(endpoints, host.node().waiting())),
-        Ok(_) => Ok(host.node().known_front() > front),
+        Ok(_) if host.node().known_front() > front => {
+            Ok(ends_rest(&mut endpoints.wire, host.node().waiting()))
+        }
+        Ok(_) => Ok(endpoints.wire.is_over()),
         Err(fault) => Err(GroupFault::Node(fault)),
     }
 }
 
-/// Hears what comes to a node that has nothing to do, at most 64 datagrams, until a place has
-/// become known, the keyboard calls, or the rest is over. What a message asks for is done when it
+/// Hears what comes to a node that has nothing to do, until a place has become known, the keyboard
+/// calls, or the rest has taken its time (`ends_rest`). What a message asks for is done when it
 /// is heard, so it needs no tick; and a tick after each would make the other nodes tick in turn,
 /// without end.
 fn rest<T: RestingWire, K: Keyboard, S: Store>(

@@ -21,6 +21,14 @@ pub trait RestingWire: Wire {
     fn begin_rest(&mut self, front: u32)
         ensures passed { Self.traffic self.new ≡ Self.traffic self.old };
 
+    /// Notes that a place has become known. The rest is over as soon as one may be at a node whose
+    /// typed keys are under way.
+    fn note_learned(&mut self)
+        ensures passed { Self.traffic self.new ≡ Self.traffic self.old };
+
+    /// Returns true if the rest is over.
+    fn is_over(&self) -> bool;
+
     /// Waits until something may have come, or until the rest is over.
     fn wait(&mut self) -> Waited
         ensures passed { Self.traffic self.new ≡ Self.traffic self.old };

@@ -116,12 +116,13 @@ pub struct UdpWire<'a, H> {
     /// the socket's come in turn, so that neither many datagrams of others nor a long answer of the
     /// node to itself holds the rest back.
     is_own_next: bool,
-    /// The end of the rest.
+    /// The begin and the end of the rest.
+    begun: Option<Instant>,
     until: Option<Instant>,
     pace: Pace,
     /// The known front of the node when its last rest began.
     front: u32,
-    /// True if anything but Asks was sent since then.
+    /// True if anything but Asks was sent since then, and since a place was learned in it.
     has_sent: bool,
     /// When the node last learned a place, or later began to send anything but Asks.
     since: Option<Instant>,
@@ -157,6 +158,7 @@ impl<'a, H: Clock> UdpWire<'a, H> {
             addresses,
             own,
             is_own_next: true,
+            begun: None,
             until: None,
             pace: Pace::new(),
             front: 0,
@@ -278,7 +280,19 @@ impl<H: Clock> RestingWire for UdpWire<'_, H> {
         self.front = front;
         self.has_sent = false;
         let rest = self.pace.rest;
+        self.begun = self.time_in(0);
         self.until = self.time_in(rest);
+    }
+
+    fn note_learned(&mut self) {
+        self.has_sent = false;
+        let least = Duration::from_millis(self.pace.least());
+        let soon = self.begun.and_then(|begun| begun.checked_add(least));
+        self.until = self.until.min(soon);
+    }
+
+    fn is_over(&self) -> bool {
+        self.left().is_none()
     }
 
     /// Waits for a datagram, unless one of the node's own is there. All that were in the socket
