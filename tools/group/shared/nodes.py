@@ -3,7 +3,6 @@ this folder share it with the tests and benches of groups."""
 
 import random
 import socket
-import sys
 
 from .words import text_of
 
@@ -56,16 +55,6 @@ def is_empty_at(port):
     """Returns true if there is a socket with this port and no datagram waits in it."""
     words = socket_at(port)
     return words is not None and words[4].endswith(":00000000")
-
-
-def left_at(address):
-    """Returns true if there is a socket at this address, connected to nobody, in which datagrams
-    wait."""
-    number = int.from_bytes(socket.inet_aton(address[0]), sys.byteorder)
-    wanted = [f"{number:08X}:{address[1]:04X}", "00000000:0000"]
-    with open("/proc/net/udp", encoding="ascii") as table:
-        lines = [line.split() for line in table]
-    return any(it[1:3] == wanted and not it[4].endswith(":00000000") for it in lines)
 
 
 def children_of(pid):

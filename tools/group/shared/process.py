@@ -13,7 +13,7 @@ from .beats import text_of_address_fault
 from .files import (
     Refused, check_session, open_console, promised_of, refuse_lasting, say, text_of_fault,
 )
-from .nodes import command_of, left_at
+from .nodes import command_of
 from .words import text_of
 
 PR_SET_PDEATHSIG = 1
@@ -38,7 +38,7 @@ def state_of(pid):
 
 def activity_of(pid):
     """What grows while a process runs: its processor time, and how often it was given a processor.
-    A node that has nothing to do takes a turn every 10 to 100 milliseconds."""
+    A node that has nothing to do takes a turn every 10 to 200 milliseconds."""
     try:
         with open(f"/proc/{pid}/status", encoding="ascii", errors="replace") as status:
             switches = [int(line.split()[1]) for line in status if "ctxt_switches" in line]
@@ -55,8 +55,8 @@ class Node:
         self.is_new = words.new
         self.process, self.before, self.text = None, None, None
         self.console, self.activity = None, None
-        self.is_held = self.is_full = False
-        self.started = self.moved = self.emptied = self.left = 0
+        self.is_held = False
+        self.started = self.moved = 0
         self.pause, self.due = PAUSE, time.monotonic()
 
     def tell(self, text):
@@ -76,39 +76,39 @@ class Node:
                     return False
         return True
 
-    def command(self, seen, campaigns):
+    def command(self, seen):
         words = self.words
-        rest = ["--keys", text_of(words.keys), "--seen", seen] + ["--campaign"] * campaigns
+        rest = ["--keys", text_of(words.keys), "--seen", seen]
         place = (words.file, words.id, words.session, words.record)
         return command_of(words.program, *place, words.nodes, *rest)
 
-    def start(self, now, campaigns=False):
+    def start(self, now):
         """Starts the node, or puts it off where that cannot be done now."""
         self.due = now + self.pause
         self.pause = min(2 * self.pause, LONGEST_PAUSE)
         try:
             # While the ports are taken, a node that was there before may still write.
             if self.are_ports_free():
-                self.start_process(now, campaigns)
+                self.start_process(now)
         except (OSError, subprocess.SubprocessError) as fault:
             if isinstance(fault, OSError):
                 refuse_lasting(fault)
                 fault = text_of_fault(fault)
             self.tell(f"cannot be started: {fault}; it is tried again")
 
-    def start_process(self, now, campaigns):
+    def start_process(self, now):
         check_session(self.words)
         self.before = promised_of(self.words, self.is_new)
         parent = os.getpid()
         self.close_console()
         self.console = open_console(self.words.console)
-        command = self.command(os.fstat(self.console).st_size, campaigns)
+        command = self.command(os.fstat(self.console).st_size)
         self.process = subprocess.Popen(
             command, stdin=subprocess.DEVNULL, stdout=self.console,
             preexec_fn=lambda: end_with(parent),
         )
-        self.started = self.moved = self.emptied = self.left = now
-        self.is_held = self.is_full = False
+        self.started = self.moved = now
+        self.is_held = False
         self.tell(f"started, process {self.process.pid}")
 
     def tend(self, now):
@@ -123,7 +123,6 @@ class Node:
             return
         try:
             self.watch_moves(now)
-            self.watch_keys(now)
         except OSError:
             pass  # The system cannot say it now.
 
@@ -158,21 +157,6 @@ class Node:
         if state == "D":
             return "it waits for a disk"
         return f"its process {self.process.pid} is in state {state}"
-
-    def watch_keys(self, now):
-        """Says that typed keys wait in the socket, where they did so for a while: the node takes
-        none as it has no room for them."""
-        if left_at(self.words.keys):
-            self.left = now
-        else:
-            self.emptied = now
-        silent = self.words.silent
-        if not self.is_full and now - self.emptied >= silent:
-            self.is_full = True
-            say(self.words, "takes no typed keys: it has no room until those before are chosen")
-        elif self.is_full and now - self.left >= silent:
-            self.is_full = False
-            say(self.words, "takes typed keys again")
 
     def is_ready(self, now):
         """Whether it may be asked to campaign: it runs, moves, and had time to hear what the
