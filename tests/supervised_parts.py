@@ -1,0 +1,118 @@
+"""A node under its supervisor (tools/group/supervise), as tests of supervised groups have it."""
+
+import os
+import re
+import subprocess
+
+from group_parts import (
+    ECHO, PROGRAM, Broken, await_that, bytes_of, dropped_at, free_addresses, text_of,
+)
+from script_checks import file_with, path_of, run, session_of
+from shared.nodes import children_of
+
+ASKED = {**os.environ, "PGROUP_LOG": "1"}
+
+
+def send_signal(pid, number):
+    """Sends a signal to a process, unless it has just ended."""
+    try:
+        os.kill(pid, number)
+    except ProcessLookupError:
+        pass
+
+
+class Supervised:
+    """A node of the echo under a supervisor, and their files in a folder."""
+
+    def __init__(self, number, folder, nodes, beats, keys, silent=3.0, around=()):
+        """`nodes` and `beats` have the addresses of the group, in order, and `keys` is the node's
+        own. `around` are words that come before each command, such as those that lead it into a
+        namespace."""
+        self.number, self.folder, self.around = number, folder, list(around)
+        self.nodes, self.beats, self.keys = nodes, beats, keys
+        self.record = os.path.join(folder, f"record{number}")
+        self.console = os.path.join(folder, f"console{number}")
+        self.errors = os.path.join(folder, f"errors{number}")
+        self.process = None
+        lines = f"--file {ECHO}  # the echo\n--id {number} --size {len(nodes)}\n"
+        lines += f"--session {session_of(ECHO)} --silent {silent}\n--program {PROGRAM}\n"
+        lines += f"--record {self.record}\n--console {self.console}\n"
+        lines += f"--nodes {' '.join(text_of(it) for it in nodes)}\n"
+        lines += f"--beats {' '.join(text_of(it) for it in beats)}\n"
+        lines += f"--keys {text_of(keys)}\n"
+        self.words = "@" + file_with(folder, f"words{number}", lines.encode())
+
+    def run(self, *more):
+        """Runs the supervisor to its end."""
+        return run("supervise", self.words, *more)
+
+    def begin(self, *more):
+        command = self.around + [path_of("supervise"), self.words, *more]
+        with open(self.errors, "ab") as errors:
+            self.process = subprocess.Popen(
+                command, stdin=subprocess.DEVNULL, stderr=errors, env=ASKED
+            )
+
+    def start(self, *more):
+        """Starts it, and waits until the node can be typed at."""
+        self.begin(*more)
+        await_that(self.is_up, f"the supervisor has started node {self.number}")
+
+    def is_up(self):
+        return dropped_at(self.keys[1]) is not None
+
+    def is_down(self):
+        return dropped_at(self.nodes[self.number - 1][1]) is None and not self.is_up()
+
+    def node(self):
+        """Returns the node's process, or None."""
+        found = children_of(self.process.pid) if self.process else []
+        if len(found) > 1:
+            raise Broken(f"the supervisor of node {self.number} has {len(found)} nodes")
+        return found[0] if found else None
+
+    def said(self):
+        return bytes_of(self.errors).decode()
+
+    def check(self):
+        """Raises Broken if the supervisor has ended by itself."""
+        if self.process and self.process.poll() is not None:
+            status = self.process.returncode
+            raise Broken(f"supervisor {self.number} has ended with {status}:\n{self.said()}")
+
+    def await_said(self, text, at_least=1):
+        """Waits until it has said this so often."""
+        def is_said():
+            self.check()
+            return len(re.findall(text, self.said())) >= at_least
+
+        await_that(is_said, f"supervisor {self.number} says {text}")
+
+    def kill(self):
+        """Kills the supervisor, if it runs. Its node has to end with it."""
+        if self.process:
+            self.process.kill()
+            self.process.wait()
+            self.process = None
+            await_that(self.is_down, f"node {self.number} ends with its supervisor", 20)
+
+    def terminate(self):
+        """Ends the supervisor by SIGTERM. Returns its status."""
+        self.process.terminate()
+        await_that(lambda: self.process.poll() is not None, "the supervisor has ended")
+        return self.process.returncode
+
+    def end(self):
+        if self.process:
+            self.process.kill()
+            self.process.wait()
+            self.process = None
+
+
+def group_of(size, folder, silent=3.0):
+    """Returns the nodes of a group of this size on this machine, none of them started."""
+    addresses = free_addresses(3 * size)
+    nodes, beats, keys = addresses[:size], addresses[size : 2 * size], addresses[2 * size :]
+    return [
+        Supervised(it, folder, nodes, beats, keys[it - 1], silent) for it in range(1, size + 1)
+    ]
