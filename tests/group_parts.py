@@ -152,6 +152,22 @@ def fault_of_end(file, records, consoles):
     return keys
 
 
+def fault_of_typed(node, now, typed, keys):
+    """Returns what is missing of the keys that were typed at a node, or None. `typed` has them by
+    the number of the start, and `now` is the present one: of it all are chosen, and of the others
+    the first ones."""
+    for start in {it[1] for it in keys if it[0] == node} | {now}:
+        mine = [it for it in keys if it[:2] == (node, start)]
+        serials, chosen = [it[2] for it in mine], bytes(it[3] for it in mine)
+        sent = typed.get(start, b"")
+        if serials != list(range(1, len(serials) + 1)) or not sent.startswith(chosen):
+            which = f"the keys of start {start} of node {node}"
+            raise Broken(f"{which} are not the first ones that were typed there")
+        if start == now and len(chosen) < len(sent):
+            return f"of {len(sent)} keys of the last start of node {node} {len(chosen)} are chosen"
+    return None
+
+
 class Node:
     """A node: its process while it runs, its files, and what was typed at each of its starts, by
     the start's number."""
@@ -316,20 +332,12 @@ class Group:
         return keys if isinstance(keys, str) else self.fault_of_typed(keys)
 
     def fault_of_typed(self, keys):
-        """Returns what is missing of the keys that were typed, start by start, or None."""
+        """Returns what is missing of the keys that were typed, or None."""
         for node in self.nodes:
             now = read_head(node.record).starts
-            typed = node.now_typed()
-            for start in {it[1] for it in keys if it[0] == node.number} | {now}:
-                mine = [it for it in keys if it[:2] == (node.number, start)]
-                serials, chosen = [it[2] for it in mine], bytes(it[3] for it in mine)
-                sent = typed.get(start, b"")
-                if serials != list(range(1, len(serials) + 1)) or not sent.startswith(chosen):
-                    which = f"the keys of start {start} of node {node.number}"
-                    raise Broken(f"{which} are not the first ones that were typed there")
-                if start == now and len(chosen) < len(sent):
-                    which = f"of {len(sent)} keys of the last start of node {node.number}"
-                    return f"{which} {len(chosen)} are chosen"
+            fault = fault_of_typed(node.number, now, node.now_typed(), keys)
+            if fault:
+                return fault
         return None
 
     def settle(self, remedy, seconds, times):
@@ -405,11 +413,12 @@ def seed_of(given):
     return seed
 
 
-def main_with_seed(name, parser, test):
-    """Runs the test of the script `name` with the words that `parser` reads and a seed. Returns the
-    status."""
+def main_with_seed(name, parser, test, check=lambda words: None):
+    """Runs the test of the script `name` with the words that `parser` reads, and that `check` does
+    not refuse, and a seed. Returns the status."""
     parser.add_argument("--seed", metavar="N", type=int)
     words = parser.parse_args()
+    check(words)
     words.seed = seed_of(words.seed)
     provide(name)
     return in_folder(lambda folder: test(folder, words))

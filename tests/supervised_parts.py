@@ -34,6 +34,8 @@ class Supervised:
         self.console = os.path.join(folder, f"console{number}")
         self.errors = os.path.join(folder, f"errors{number}")
         self.process = None
+        # How much of what they say was read, and how many starts of the node that has.
+        self.read = self.started = 0
         lines = f"--file {ECHO}  # the echo\n--id {number} --size {len(nodes)}\n"
         lines += f"--session {session_of(ECHO)} --silent {silent}\n--program {PROGRAM}\n"
         lines += f"--record {self.record}\n--console {self.console}\n"
@@ -74,6 +76,15 @@ class Supervised:
     def said(self):
         return bytes_of(self.errors).decode()
 
+    def starts(self):
+        """Returns how often the node was started, by what it says."""
+        with open(self.errors, "rb") as file:
+            file.seek(self.read)
+            lines = file.read().rpartition(b"\n")[0]
+        self.read += len(lines)
+        self.started += lines.count(b" node %d started size " % self.number)
+        return self.started
+
     def check(self):
         """Raises Broken if the supervisor has ended by itself."""
         if self.process and self.process.poll() is not None:
@@ -107,6 +118,13 @@ class Supervised:
             self.process.kill()
             self.process.wait()
             self.process = None
+
+
+def last_leader(group):
+    """Returns the one of these whose node began to lead last, by what the nodes say."""
+    ballots = re.findall(r" node \d leads ballot (\d+)\.(\d)\n", "".join(it.said() for it in group))
+    number = max((int(it), int(node)) for it, node in ballots)[1]
+    return group[number - 1]
 
 
 def group_of(size, folder, silent=3.0):

@@ -44,8 +44,9 @@ def check_words(parser, words):
         parser.error("an address is given twice")
     if "0.0.0.0" in [it[0] for it in words.nodes + words.beats]:
         parser.error("0.0.0.0 is nowhere that a datagram comes from")
-    if not 0.1 <= words.silent <= 3600:
-        parser.error("--silent is 0.1 to 3600 seconds")
+    # A node that rests moves every 200 milliseconds.
+    if not 0.3 <= words.silent <= 3600:
+        parser.error("--silent is 0.3 to 3600 seconds")
     if any("\0" in it for it in (words.file, words.record, words.console, words.program)):
         parser.error("the name of a file has a zero byte")
 
