@@ -1,11 +1,14 @@
-"""Hosts that are network namespaces of this machine, with a pair of virtual cards between each two.
-tests/partitions and tests/walk share them. They want root, and `ip` of iproute2."""
+"""Hosts that are namespaces of this machine, with a pair of virtual cards between each two of them.
+tests/partitions and tests/walk share them. They want root, `ip` of iproute2, and util-linux."""
 
 import itertools
 import os
+import signal
 import subprocess
+import sys
 
-from group_parts import Broken
+from group_parts import Broken, main_of_checks
+from shared.nodes import children_of
 
 
 def ip(*words, check=True):
@@ -59,3 +62,79 @@ class Network:
     def remove(self):
         for host in self.hosts:
             ip("netns", "del", self.name(host), check=False)
+
+
+# The bytes of a host's disk, which take room only where they are written.
+DISK = 256 << 20
+# A host begins by this: it mounts its disk, says so, and waits to be killed.
+BEGIN = 'mount $0 "$1" "$2" 2>&1 && echo up && exec sleep infinity'
+
+
+class Host:
+    """A machine: a host of a network, with a disk of its own and mounts of its own, and with a
+    namespace of processes, so that all of them are killed at once."""
+
+    def __init__(self, number, network, folder):
+        self.number, self.network = number, network
+        # The disk is at the same place at each host.
+        self.image, self.disk = os.path.join(folder, f"image{number}"), os.path.join(folder, "disk")
+        self.process, self.pid = None, None
+        self.has_loop = os.path.exists("/dev/loop-control")
+        os.makedirs(self.disk, exist_ok=True)
+
+    def must(self, *words):
+        done = subprocess.run(words, check=False, capture_output=True)
+        if done.returncode != 0:
+            raise Broken(f"{' '.join(words)}: {done.stderr.decode()}")
+
+    def make_disk(self):
+        """Makes an ext4 file system in a file, or a folder in memory where there are no loop
+        devices."""
+        if self.has_loop:
+            with open(self.image, "wb") as file:
+                file.truncate(DISK)
+            self.must("mkfs.ext4", "-q", "-F", self.image)
+        else:
+            os.mkdir(self.image)
+            self.must("mount", "-t", "tmpfs", "none", self.image)
+
+    def start(self):
+        how = "-oloop" if self.has_loop else "--bind"
+        spaces = ["unshare", "--mount", "--pid", "--fork", "--kill-child", "--mount-proc"]
+        words = [*self.network.inside(self.number), *spaces, "bash", "-c", BEGIN, how]
+        self.process = subprocess.Popen(
+            [*words, self.image, self.disk], stdin=subprocess.DEVNULL, stdout=subprocess.PIPE,
+            stderr=subprocess.DEVNULL,
+        )
+        said = self.process.stdout.readline().decode()
+        if said != "up\n":
+            raise Broken(f"host {self.number} does not start: {said}")
+        self.pid = children_of(self.process.pid)[0]
+
+    def inside(self, *words, user=0):
+        """Returns the words that run a command at this host, at the top of its disk. Ctrl-C at its
+        terminal is for the command alone, and its status is that of `nsenter` too."""
+        spaces = [f"--target={self.pid}", "--mount", "--net", "--pid"]
+        enter = ["nsenter", *spaces, f"--setuid={user}", f"--setgid={user}"]
+        signals = "env", "--ignore-signal=INT", *enter, "env", "--default-signal=INT"
+        return [*signals, "-C", self.disk, *words]
+
+    def kill(self):
+        """Kills all processes of the host."""
+        if self.process:
+            os.kill(self.pid, signal.SIGKILL)
+            self.process.wait()
+            self.process = None
+
+    def end(self):
+        self.kill()
+        if not self.has_loop and os.path.ismount(self.image):
+            self.must("umount", self.image)
+
+
+def main_as_root(name, *checks):
+    """Runs the checks of a script that wants root. Returns the status."""
+    if os.geteuid() != 0:
+        print(f"{name}: it wants root, for namespaces", file=sys.stderr)
+        return 2
+    return main_of_checks(name, *checks)
