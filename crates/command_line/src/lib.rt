@@ -3,21 +3,21 @@
 //! It is for the program `pgroup`, and for tests of its commands. Call first:
 //!
 //! - `words_of(rt)`, which returns the words that the program was given;
-//! - `answer(rt, words, reader, writer, errors)`, which does what the words ask for and returns the
-//!   status;
+//! - `command(rt, words, reader, writer, errors)`, which does what the words ask for and returns
+//!   the status;
 //! - `read_words(alloc, words)`, which only reads words: they ask for a command or for help, or
 //!   have a fault.
 //!
 //! Each command is a module of `commands`. To add one, write its module and name it there.
 #![tactic(auto)]
 
-mod answering;
+mod command;
 mod commands;
 mod outcome;
 mod reading;
 mod shared_words;
 mod value;
 
-pub use answering::{answer, explain};
+pub use command::{command, explain};
 pub use commands::run::DEFAULT_STEPS;
 pub use reading::{NotAsked, read_words, words_of};

@@ -1,13 +1,13 @@
 //! The program `pgroup`: the command line on the streams of its process.
 #![tactic(auto)]
 
-use command_line::{answer, explain, words_of};
+use command_line::{command, explain, words_of};
 use std::io;
 use std::process::ExitCode;
 
 fn main(rt: HostRuntime) -> ExitCode {
     let status = match words_of(&rt) {
-        Ok(words) => answer(
+        Ok(words) => command(
             &rt,
             words.as_slice(),
             &mut rt.reader(),

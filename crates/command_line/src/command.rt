@@ -45,7 +45,7 @@ fn perform<H: Files + Net + Clock + Env + AllocGlobal + Copy + Drop, R: Read, W:
 /// output and an error stream. Without words it runs the built-in program. Returns the status: 0; 1
 /// refused; 2 a fault of the command line; 3 an execution error; 4 the steps are spent. A fault of
 /// the error stream is ignored.
-pub fn answer<
+pub fn command<
     H: Files + Net + Clock + Env + AllocGlobal + Copy + Drop,
     R: Read,
     W: Write,
