@@ -11,13 +11,13 @@
 //! Each command is a module of `commands`. To add one, write its module and name it there.
 #![tactic(auto)]
 
-mod command;
 mod commands;
 mod outcome;
+mod program;
 mod reading;
 mod shared_words;
 mod value;
 
-pub use command::{command, explain};
 pub use commands::run::DEFAULT_STEPS;
+pub use program::{command, explain};
 pub use reading::{NotAsked, read_words, words_of};
