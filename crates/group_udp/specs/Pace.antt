@@ -1,5 +1,5 @@
 -- How long a node rests between two turns.
-use Rattle.std.specs.Prelude.{◌*◌, ℕ, min, max, Bool, true, false, if◌then◌else◌, Option, Some, None}
+use Rattle.std.specs.Prelude.{◌+◌, ◌-◌, ◌*◌, ◌/◌, ℕ, min, max, Bool, true, false, if◌then◌else◌, Option, Some, None}
 use Rattle.group_udp.specs.declared.limits.TheConstants.{LONG_PAUSE, LONG_REST, SHORT_REST}
 use Rattle.group_udp.specs.declared.pace.Pace.{Pace}
 
@@ -24,3 +24,8 @@ pace_after p learned has_sent = record {
   first = first_after p.first learned;
   is_sending = has_sent;
 }
+
+-- The time that a rest takes at least in a group of so many nodes while keys are under way, by the
+-- first pause.
+abbrev pub least_of : ℕ → ℕ → ℕ
+least_of first size = (min first LONG_PAUSE - SHORT_REST) * (size + 3) / 12

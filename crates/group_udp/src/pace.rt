@@ -1,7 +1,6 @@
 //! How long a node rests between two turns.
-ghost use Rattle.std.specs.Prelude.{◌≡◌, ◌-◌};
-ghost use Rattle.group_udp.specs.declared.limits.TheConstants.{SHORT_REST};
-ghost use Rattle.group_udp.specs.Pace.{first_after, pace_after, rest_after};
+ghost use Rattle.std.specs.Prelude.{◌≡◌};
+ghost use Rattle.group_udp.specs.Pace.{first_after, least_of, pace_after, rest_after};
 
 use crate::limits::{LONG_PAUSE, LONG_REST, SHORT_REST};
 
@@ -69,11 +68,14 @@ impl Pace {
         }
     }
 
-    /// Returns the time in milliseconds that a rest takes at least, where more keys than those that
-    /// are under way are too few for a turn of their own: none where places are learned quickly.
-    pub fn least(self) -> u64
-        ensures { result ≡ self.first - SHORT_REST }
+    /// Returns the time in milliseconds that a rest takes at least in a group of `size` nodes, if
+    /// more keys than those that are under way are too few for a turn of their own: none if places
+    /// are learned quickly, and else up to 95 for three nodes and 190 for nine, since with more
+    /// nodes a repeat costs more datagrams.
+    pub fn least(self, size: u8) -> u64
+        ensures { result ≡ least_of self.first size }
     {
-        self.first.saturating_sub(SHORT_REST)
+        let most = self.first.min(LONG_PAUSE).saturating_sub(SHORT_REST);
+        most * (u64::from(size) + 3) / 12
     }
 }

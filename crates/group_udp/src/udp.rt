@@ -14,6 +14,7 @@ use group_wire::Wire;
 use mio::net::UdpSocket;
 use mio::{Events, Interest, Poll, Token};
 use paxos_msg::Group;
+use paxos_msg::limits::MOST_NODES;
 use std::net::{Net, SocketAddr};
 use std::time::{Clock, Duration, Instant};
 
@@ -192,6 +193,11 @@ impl<'a, H: Clock> UdpWire<'a, H> {
         now.checked_add(Duration::from_millis(millis))
     }
 
+    /// Returns the number of nodes in the group.
+    fn size(&self) -> u8 {
+        u8::try_from(self.addresses.len()).unwrap_or(MOST_NODES)
+    }
+
     /// Returns the time in milliseconds that it took to learn what was learned now.
     fn took(&self) -> u64 {
         let (Some(since), Ok(now)) = (self.since, Instant::now(self.clock)) else {
@@ -286,7 +292,7 @@ impl<H: Clock> RestingWire for UdpWire<'_, H> {
 
     fn note_learned(&mut self) {
         self.has_sent = false;
-        let least = Duration::from_millis(self.pace.least());
+        let least = Duration::from_millis(self.pace.least(self.size()));
         let soon = self.begun.and_then(|begun| begun.checked_add(least));
         self.until = self.until.min(soon);
     }
