@@ -3,10 +3,12 @@ use Rattle.std.specs.Prelude.{◌+◌, ◌-◌, ◌*◌, ◌/◌, ℕ, min, max,
 use Rattle.group_udp.specs.declared.limits.TheConstants.{LONG_PAUSE, LONG_REST, SHORT_REST}
 use Rattle.group_udp.specs.declared.pace.Pace.{Pace}
 
--- The first pause between repeats, once a place was learned after so many milliseconds.
+-- The first pause between repeats, once a place was learned so many milliseconds after something
+-- was last sent for it.
 abbrev pub first_after : ℕ → Option ℕ → ℕ
 first_after first None = first
-first_after first (Some took) = max SHORT_REST (min (2 * took) (min (4 * first) LONG_PAUSE))
+first_after first (Some took) =
+    min (max (max SHORT_REST (first / 2)) (2 * took)) (max (min (4 * first) LONG_PAUSE) SHORT_REST)
 
 -- The time of the next rest, by whether the node sent anything but Asks before the last one, by
 -- the first pause, by what it has learned since then, and by whether it has sent any since then.

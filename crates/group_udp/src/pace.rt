@@ -26,15 +26,19 @@ impl Pace {
         }
     }
 
-    /// Returns the first pause between repeats, once a place was learned after so many
-    /// milliseconds. It is twice this time, but at most four times as long as it was.
+    /// Returns the first pause between repeats, once a place was learned so many milliseconds after
+    /// something was last sent for it. It is twice this time, but at least half of what it was, and
+    /// at most four times that.
     fn first_after(self, learned: Option<u64>) -> u64
         ensures { result ≡ first_after self.first learned }
     {
         match learned {
             Some(took) => {
                 let most = LONG_PAUSE.min(self.first.min(LONG_PAUSE) * 4);
-                SHORT_REST.max(most.min(took.min(LONG_PAUSE) * 2))
+                let least = SHORT_REST.max(self.first / 2);
+                least
+                    .max(took.min(LONG_PAUSE) * 2)
+                    .min(most.max(SHORT_REST))
             }
             None => self.first,
         }
@@ -51,9 +55,9 @@ impl Pace {
         }
     }
 
-    /// Returns the pace at the next rest. `learned` is the time that it took to learn a place, if
-    /// one was learned since the last rest began, and `has_sent` is true if anything but Asks was
-    /// sent since then.
+    /// Returns the pace at the next rest. `learned` is the time from when something was last sent
+    /// until a place was learned, if one was since the last rest began, and `has_sent` is true if
+    /// anything but Asks was sent since then.
     ///
     /// If nothing was learned, what was sent repeats what was sent before, and the pause before the
     /// next repeats is twice as long, up to 200 milliseconds. A node that sends nothing but Asks

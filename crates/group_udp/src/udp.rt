@@ -125,7 +125,7 @@ pub struct UdpWire<'a, H> {
     front: u32,
     /// True if anything but Asks was sent since then, and since a place was learned in it.
     has_sent: bool,
-    /// When the node last learned a place, or later began to send anything but Asks.
+    /// When something but Asks was last sent: before the last rest, or else first in it.
     since: Option<Instant>,
     /// The group for which dropped datagrams are counted, or None if none are.
     counted: Option<Group>,
@@ -198,7 +198,8 @@ impl<'a, H: Clock> UdpWire<'a, H> {
         u8::try_from(self.addresses.len()).unwrap_or(MOST_NODES)
     }
 
-    /// Returns the time in milliseconds that it took to learn what was learned now.
+    /// Returns the time in milliseconds from when something was last sent until now. An answer to
+    /// what was repeated comes soon on a quick network, whatever was lost before.
     fn took(&self) -> u64 {
         let (Some(since), Ok(now)) = (self.since, Instant::now(self.clock)) else {
             return 0;
@@ -280,9 +281,7 @@ impl<H: Clock> RestingWire for UdpWire<'_, H> {
         let has_learned = front > self.front;
         let learned = if has_learned { Some(self.took()) } else { None };
         self.pace = self.pace.next(learned, self.has_sent);
-        if has_learned {
-            self.since = self.time_in(0);
-        }
+        self.since = if self.has_sent { self.time_in(0) } else { None };
         self.front = front;
         self.has_sent = false;
         let rest = self.pace.rest;
