@@ -174,6 +174,7 @@ class Node:
 
     def __init__(self, number, folder, keys, addresses):
         self.number, self.keys, self.addresses = number, keys, addresses
+        self.session = SESSION
         self.record = os.path.join(folder, f"record{number}")
         self.console = os.path.join(folder, f"console{number}")
         self.errors = os.path.join(folder, f"errors{number}")
@@ -186,7 +187,8 @@ class Node:
         """Returns the node's command line, with `more` words after its own."""
         more = ("--keys", text_of(self.keys), *more)
         return command_of(
-            PROGRAM, file, self.number, SESSION, self.record, self.addresses, *more, turns=turns
+            PROGRAM, file, self.number, self.session, self.record, self.addresses, *more,
+            turns=turns,
         )
 
     def start(self, file, campaigns=False, env=None):

@@ -22,6 +22,8 @@ HEADER = 22
 LOG_HEADER = 9
 # The tags of a log's entries.
 START, PROMISE, VOTE = 1, 2, 3
+# What a file begins with that `renew` has put in the place of a retired record.
+RETIRED = b"retired: "
 # The bytes of a sector, and the most that a save appends.
 SECTOR, MOST_APPENDED = 512, 89
 
@@ -99,6 +101,7 @@ def votes_of(reader, version, size, promised):
 
 def owner_of(reader):
     """The letters that a record begins with, its version, node, size and session."""
+    must(not reader.data.startswith(RETIRED), "it was retired, as the session was renewed")
     letters = reader.take(2)
     must(letters in (b"PR", b"PL"), "it begins with neither PR nor PL")
     version = reader.number(1)
