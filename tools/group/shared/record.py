@@ -255,3 +255,9 @@ def read_head(path):
 
 def text_of(ballot):
     return "-" if ballot is None else f"{ballot.round}.{ballot.node}"
+
+
+def places_of(record):
+    """At how many places of the session a record has voted, and which share of all that is."""
+    taken = len(record.votes)
+    return f"{taken} of {PLACES}, {100 * taken / PLACES:.1f} %"

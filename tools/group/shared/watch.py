@@ -4,7 +4,7 @@ and the ends of their consoles."""
 import os
 import stat
 
-from .record import PLACES, Damaged, Head, record_of, text_of
+from .record import Damaged, Head, places_of, record_of, text_of
 
 # How many bytes of a console's end are read.
 END = 8192
@@ -178,8 +178,7 @@ def line_of(node, leader):
     it = node.record
     if it is None:
         return f"{node.path}: {node.fault}; its node {process}"
-    share = 100 * len(it.votes) / PLACES
     return (
         f"node {it.node} {process}; starts {it.starts} promised {text_of(it.promised)} "
-        f"places {len(it.votes)} of {PLACES}, {share:.1f} %"
+        f"places {places_of(it)}"
     )
