@@ -14,7 +14,7 @@ The definitions that public contracts cite, by crate and file. `docs/check --wri
 """
 WORDS = r"(?:(?:abbrev|unfoldable|opaque|pub|record|data|mixfix|infix[lr]?) +)+"
 BEGINS = re.compile(rf"^({WORDS})(?:\d+ +)?([^\s:(){{}}]+)")
-LABELS = ("Source:", "Allows:", "Forbids:")
+LABEL = re.compile(r"(?:^| )(?:Source|Allows|Forbids): ")
 
 
 class Definition:
@@ -22,9 +22,8 @@ class Definition:
         self.crate, self.path, self.name, self.comment, self.body = crate, path, name, comment, body
 
     def sentence(self):
-        """The first sentence of the comment, without what begins with a label."""
-        text = " ".join(it for it in self.comment if not it.startswith(LABELS))
-        text = re.split(r" (?:Source|Allows|Forbids): ", text)[0]
+        """The first sentence of the comment, which is before what begins with a label."""
+        text = LABEL.split(" ".join(self.comment))[0]
         it = re.match(r"(.*?[.?!])(?: (?=[A-Z`(])|$)", text)
         return it[1] if it else ""
 
