@@ -106,6 +106,11 @@ def take_over(group, places):
     fallen.await_keys()
 
 
+def are_equal(group):
+    """Whether all consoles show the same."""
+    return len({bytes_of(it.console) for it in group.nodes}) == 1
+
+
 def characters_in(group):
     """The characters that the group has chosen, in order."""
     values = values_of(records_of(group))
@@ -162,7 +167,8 @@ def check_real(folder, characters, wanted):
         group.end()
     real = [bytes_of(it) for it in records_of(group)]
     sizes = [len(it) for it in real]
-    expect(f"the new records are those of a real group, {sizes[0]} bytes each", real == wanted, sizes)
+    what = f"the new records are those of a real group, {sizes[0]} bytes each"
+    expect(what, real == wanted, sizes)
 
 
 def check_session(folder):
@@ -210,7 +216,7 @@ def check_full(folder):
         start_all(group)
         lead(group, group.nodes[0], b"a ")
         type_singly(group, PLACES)
-        await_that(lambda: len({bytes_of(it.console) for it in group.nodes}) == 1, "all show it")
+        await_that(lambda: are_equal(group), "all show it")
         group.end()
         typed = renew_group(group, 7, 8)
         for node in group.nodes:
@@ -279,7 +285,7 @@ def check_attached(folder):
             group.ask(group.nodes[session % 3])
             wanted += line + b"> "
             terminal.await_exactly(wanted.replace(b"\n", b"\r\n"))
-            await_that(lambda: len({bytes_of(it.console) for it in group.nodes}) == 1, "all show it")
+            await_that(lambda: are_equal(group), "all show it")
             group.end()
             if session < 10:
                 expect_end(f"session {session} is renewed", renewed(group, session, session + 1), 0)

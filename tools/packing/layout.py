@@ -1,0 +1,100 @@
+"""What a package has, and where: the program, the scripts, the man pages, the docs, and a unit of
+systemd. All links are relative, so the files may stand below any folder."""
+
+import glob
+import gzip
+import os
+import re
+import shutil
+import stat
+
+from . import manual
+
+TOP = manual.TOP
+# Where what is no program of its own stands. The folder has the repository's layout, so that the
+# scripts find each other and the program, which is its `run`.
+LIBRARY = "lib/pgroup"
+SCRIPTS = [*manual.SCRIPTS, "console"]
+# The examples that need nothing else of the repository.
+EXAMPLES = (
+    "*.code", "*.pas", "*.asm", "*.inc", "*.lst", "README.md", "terminal/*", "group/*.script",
+)
+
+
+def version_of(top=TOP):
+    """The newest version of CHANGELOG.md, and its date."""
+    with open(os.path.join(top, "CHANGELOG.md"), encoding="utf-8") as file:
+        found = re.search(r"^## (\d+\.\d+\.\d+) \((\d{4}-\d\d-\d\d)\)$", file.read(), re.M)
+    return found[1], found[2]
+
+
+class Tree:
+    """A folder that is filled, as `usr` of a package."""
+
+    def __init__(self, folder):
+        self.folder = folder
+
+    def path(self, name):
+        path = os.path.join(self.folder, name)
+        os.makedirs(os.path.dirname(path), exist_ok=True)
+        return path
+
+    def copy(self, source, name):
+        """Copies a file. It may be run by all where its source may be."""
+        path = shutil.copyfile(source, self.path(name))
+        is_run = os.stat(source).st_mode & stat.S_IXUSR
+        os.chmod(path, 0o755 if is_run else 0o644)
+
+    def write(self, name, data):
+        with open(self.path(name), "wb") as file:
+            file.write(data)
+        os.chmod(file.name, 0o644)
+
+    def link(self, name, target):
+        """A link that leads to another file of the tree."""
+        path = self.path(name)
+        os.symlink(os.path.relpath(os.path.join(self.folder, target), os.path.dirname(path)), path)
+
+
+def put_scripts(tree):
+    for name in manual.SCRIPTS:
+        tree.copy(os.path.join(manual.GROUP, name), f"{LIBRARY}/tools/group/{name}")
+    for path in sorted(glob.glob(os.path.join(manual.GROUP, "shared", "*.py"))):
+        tree.copy(path, f"{LIBRARY}/tools/group/shared/{os.path.basename(path)}")
+    tree.copy(os.path.join(TOP, "console"), f"{LIBRARY}/console")
+    tree.link(f"{LIBRARY}/run", "bin/pgroup")
+    for name in SCRIPTS:
+        where = "console" if name == "console" else f"tools/group/{name}"
+        tree.link(f"bin/pgroup-{name}", f"{LIBRARY}/{where}")
+
+
+def put_docs(tree):
+    for path in sorted(glob.glob(os.path.join(TOP, "docs", "man", "*.1"))):
+        with open(path, "rb") as file:
+            packed = gzip.compress(file.read(), mtime=0)
+        tree.write(f"share/man/man1/{os.path.basename(path)}.gz", packed)
+    for pattern in ("README.md", "CHANGELOG.md", "docs/*.md"):
+        for path in sorted(glob.glob(os.path.join(TOP, pattern))):
+            tree.copy(path, f"share/doc/pgroup/{os.path.relpath(path, TOP)}")
+    for pattern in EXAMPLES:
+        for path in sorted(glob.glob(os.path.join(TOP, "examples", pattern))):
+            tree.copy(path, f"share/doc/pgroup/{os.path.relpath(path, TOP)}")
+
+
+def put_all(folder, program):
+    """Fills a folder as `usr`."""
+    tree = Tree(folder)
+    tree.copy(program, "bin/pgroup")
+    put_scripts(tree)
+    put_docs(tree)
+    unit = os.path.join(manual.GROUP, "pgroup@.service")
+    tree.copy(unit, "lib/systemd/system/pgroup@.service")
+
+
+def settle(folder, seconds):
+    """Gives all folders the same rights, and all that is in the folder the same time."""
+    for at, folders, names in os.walk(folder):
+        os.chmod(at, 0o755)
+        for name in folders + names:
+            os.utime(os.path.join(at, name), (seconds, seconds), follow_symlinks=False)
+    os.utime(folder, (seconds, seconds))

@@ -1,0 +1,142 @@
+"""Man pages, made from the help texts: of the program's commands from what they print, and of the
+scripts from their own text and the words that they take. So a page says nothing that help does not.
+docs/man has them, and docs/check refuses a page that is another one."""
+
+import argparse
+import importlib.machinery
+import importlib.util
+import os
+import re
+import subprocess
+import sys
+
+TOP = os.path.join(os.path.dirname(os.path.realpath(__file__)), "..", "..")
+GROUP = os.path.join(TOP, "tools", "group")
+# The commands of the program that have a page, beside the one of all.
+COMMANDS = ("check", "list", "run", "show", "sim", "net", "node")
+SCRIPTS = ("attach", "lead", "renew", "status", "supervise")
+
+
+class Caught(Exception):
+    """A script has made its parser of words, which is the argument."""
+
+
+def escaped(line):
+    """A line of text as roff has it."""
+    line = line.replace("\\", "\\e").replace("-", "\\-")
+    return f"\\&{line}" if line[:1] in (".", "'") else line
+
+
+def body(lines):
+    """Lines that stay as they are."""
+    return [".nf", *map(escaped, lines), ".fi"]
+
+
+def page(name, about, sections):
+    """The page of a command: its name, what it does in a sentence, and its sections, each with a
+    title and its lines."""
+    lines = [f'.TH {name.upper()} 1 "" pgroup "pgroup manual"', ".SH NAME"]
+    lines.append(f"{escaped(name)} \\- {escaped(about.rstrip('.'))}")
+    for title, text in sorted(sections, key=lambda it: it[0] != "Synopsis"):
+        while text and not text[-1]:
+            text = text[:-1]
+        lines += [f'.SH "{title.upper()}"', *body(text)]
+    return "\n".join(lines) + "\n"
+
+
+def sections_of(text):
+    """The sections of a help text of the program. A line that ends in a colon, or `Usage: `, begins
+    one."""
+    sections = [("Description", [])]
+    for line in text.split("\n"):
+        begins = re.fullmatch(r"([A-Z][A-Za-z ]*)(, [^:]*)?:", line)
+        if line.startswith("Usage: "):
+            sections.append(("Synopsis", [line[len("Usage: ") :]]))
+        elif begins:
+            sections.append((begins[1] + (begins[2] or ""), []))
+        elif line.startswith("                   <") and sections[-1][0] == "Synopsis":
+            sections[-1][1].append(line[len("Usage: ") :])
+        elif line and not line.startswith(" ") and sections[-1][0] not in ("Description", "More"):
+            sections.append(("More", [line]))
+        else:
+            sections[-1][1].append(line)
+    return [(title, lines) for title, lines in sections if any(lines)]
+
+
+def program_page(program, command=None):
+    """The page of a command of the program, or of the program."""
+    words = [program, "help", command] if command else [program, "help"]
+    text = subprocess.run(words, check=True, capture_output=True).stdout.decode()
+    about, _, rest = text.partition("\n")
+    name = f"pgroup-{command}" if command else "pgroup"
+    return page(name, about, sections_of(rest.strip("\n")))
+
+
+def parser_of_script(path):
+    """The parser of a script's words. The script is not run beyond it."""
+    def caught(parser, *_words, **_more):
+        raise Caught(parser)
+
+    loader = importlib.machinery.SourceFileLoader("script", path)
+    module = importlib.util.module_from_spec(importlib.util.spec_from_loader("script", loader))
+    before = argparse.ArgumentParser.parse_args
+    sys.path.insert(0, os.path.dirname(path))
+    argparse.ArgumentParser.parse_args = caught
+    try:
+        loader.exec_module(module)
+        module.main()
+    except Caught as found:
+        return found.args[0]
+    finally:
+        argparse.ArgumentParser.parse_args = before
+        sys.path.remove(os.path.dirname(path))
+    raise AssertionError(f"{path} reads no words")
+
+
+def word_of(action):
+    """How a word of a script is said."""
+    metavar = action.metavar or ""
+    value = " ".join(metavar) if isinstance(metavar, tuple) else metavar
+    value += ".." if action.nargs == "+" else ""
+    if not action.option_strings:
+        return f"[{value}]" if action.nargs == "?" else value
+    return " ".join(filter(None, [action.option_strings[-1], value]))
+
+
+def script_page(name):
+    """The page of a script of tools/group."""
+    parser = parser_of_script(os.path.join(GROUP, name))
+    about, _, more = " ".join(parser.description.split()).partition(". ")
+    actions = [it for it in parser._actions if it.dest != "help"]
+    usage = [f"pgroup-{name} [OPTIONS] " + " ".join(
+        word_of(it) for it in actions if not it.option_strings)]
+    words = [line for it in actions for line in (word_of(it), f"    {it.help}")]
+    text = [more] if more else []
+    text += parser.epilog.strip("\n").split("\n")
+    # The text names the script as it is called in the repository.
+    text = [re.sub(rf"^(    ){name}\b", rf"\1pgroup-{name}", it) for it in text]
+    sections = [("Synopsis", usage), ("Words", words), ("Description", text)]
+    return page(f"pgroup-{name}", about, sections)
+
+
+def console_page():
+    """The page of the script `console`."""
+    words = [os.path.join(TOP, "console"), "--help"]
+    text = subprocess.run(words, check=True, capture_output=True).stdout.decode()
+    about, _, more = text.partition("\n\n")
+    first, _, rest = " ".join(about.split()).partition(": ")
+    rest = rest[:1].upper() + rest[1:]
+    lines = [rest, "", *more.replace("./console", "pgroup-console").split("\n")]
+    return page("pgroup-console", first, [("Description", lines)])
+
+
+def script_pages():
+    """The pages that need no program, by their names."""
+    pages = {f"pgroup-{it}.1": script_page(it) for it in SCRIPTS}
+    return {**pages, "pgroup-console.1": console_page()}
+
+
+def program_pages(program):
+    """The pages of the program, by their names."""
+    pages = {f"pgroup-{it}.1": program_page(program, it) for it in COMMANDS}
+    return {**pages, "pgroup.1": program_page(program)}
