@@ -7,7 +7,7 @@ import random
 import time
 
 from group_parts import (
-    ECHO, Broken, Group, ask, await_that, bytes_of, endless_in, free_addresses, keys_of,
+    ECHO, Broken, Group, await_that, bytes_of, endless_in, free_addresses, keys_of,
     output_of, read_head, read_record, text_of, values_of,
 )
 from renew_cut import renew_cut
