@@ -1,6 +1,8 @@
 """Rules of the pages and of the layout: links, LIBRARY's Rust, names of definitions, widths of lines, imports."""
+import importlib
 import os
 import re
+import sys
 
 from . import tree
 from .tree import fault, text_of
@@ -34,6 +36,18 @@ def check_rust_shown():
             fault(f"docs/LIBRARY.md: its Rust is not what is between the marks of {path}")
     if len(shown) != len(SHOWN):
         fault(f"docs/LIBRARY.md: shows Rust that no test compiles")
+
+
+def check_sentences():
+    """The sentences of the codes in docs/FORMATS.md are those of the scripts."""
+    sys.path.insert(0, f"{tree.TOP}/tools/group")
+    sentences = importlib.import_module("shared.codes").SENTENCES
+    table = text_of("docs/FORMATS.md").partition("| Code | Its sentence |\n|---|---|\n")[2].partition("\n\n")[0]
+    if [tree.cells_of(it) for it in table.split("\n")] != [[f"`{code}`", text] for code, text in sentences.items()]:
+        fault("docs/FORMATS.md: the sentences of the codes are not those of tools/group/shared/codes.py")
+    named = set(re.findall(r"(?<![\w.])[FOGEDV]\d+\b", text_of("docs/FORMATS.md"))) - sentences.keys()
+    if named - {"G13"}:
+        fault(f"docs/FORMATS.md: has codes without a sentence: {', '.join(sorted(named))}")
 
 
 # The module that has names of another on purpose.

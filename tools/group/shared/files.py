@@ -7,6 +7,7 @@ import subprocess
 import sys
 import time
 
+from .codes import with_sentence
 from .record import Damaged, read_record
 from .session import session_of
 
@@ -92,7 +93,8 @@ def check_program(words):
     done = subprocess.run(check, check=False, stdin=subprocess.DEVNULL, capture_output=True)
     if done.returncode != 0:
         said = (done.stderr + done.stdout).decode("utf-8", "replace").strip().split("\n")
-        raise Refused(f"{words.program} does not take {words.file}: {said[-1]}")
+        why = with_sentence(said[-1])
+        raise Refused(f"{words.program} does not take {words.file}: {why}")
 
 
 def check_new(words):

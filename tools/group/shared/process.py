@@ -10,10 +10,12 @@ import subprocess
 import time
 
 from .beats import text_of_address_fault
+from .codes import sentence_of, with_sentence
 from .files import (
     Refused, check_session, open_console, promised_of, refuse_lasting, say, text_of_fault,
 )
 from .nodes import command_of
+from .speech import Speech
 from .words import text_of
 
 PR_SET_PDEATHSIG = 1
@@ -54,7 +56,7 @@ class Node:
         self.words = words
         self.is_new = words.new
         self.process, self.before, self.text = None, None, None
-        self.console, self.activity = None, None
+        self.console, self.activity, self.speech = None, None, None
         self.is_held = False
         self.started = self.moved = 0
         self.pause, self.due = PAUSE, time.monotonic()
@@ -103,10 +105,12 @@ class Node:
         self.close_console()
         self.console = open_console(self.words.console)
         command = self.command(os.fstat(self.console).st_size)
-        self.process = subprocess.Popen(
-            command, stdin=subprocess.DEVNULL, stdout=self.console,
+        speech = Speech()
+        self.process = speech.leave_to(lambda begin: subprocess.Popen(
+            command, stdin=subprocess.DEVNULL, stdout=self.console, stderr=begin,
             preexec_fn=lambda: end_with(parent),
-        )
+        ))
+        self.speech = speech
         self.started = self.moved = now
         self.is_held = False
         self.tell(f"started, process {self.process.pid}")
@@ -121,6 +125,7 @@ class Node:
         if status is not None:
             self.note_end(status, now)
             return
+        self.speech.hand_on()
         try:
             self.watch_moves(now)
         except OSError:
@@ -128,11 +133,14 @@ class Node:
 
     def note_end(self, status, now):
         self.process = None
+        self.speech.close()
         if status == 2:
             raise Refused("the program refuses its words")
         if status == 0 or now - self.started > STEADY:
             self.pause, self.due = PAUSE, now
-        say(self.words, f"ended {status_text(status)}; the node is started again")
+        why = self.speech.last if status == 1 and sentence_of(self.speech.last) else None
+        text = f"{status_text(status)}, {with_sentence(why)}" if why else status_text(status)
+        say(self.words, f"ended {text}; the node is started again")
 
     def watch_moves(self, now):
         activity = activity_of(self.process.pid)
@@ -170,6 +178,7 @@ class Node:
             self.process.kill()
             self.process.wait()
             self.process = None
+            self.speech.close()
 
     def close_console(self):
         if self.console is not None:

@@ -4,10 +4,14 @@ and the ends of their consoles."""
 import os
 import stat
 
-from .record import Damaged, Head, places_of, record_of, text_of
+from .codes import with_sentence
+from .record import PLACES, Damaged, Head, places_of, read_record, record_of, text_of
+from .words import text_of as text_of_address
 
 # How many bytes of a console's end are read.
 END = 8192
+# The greatest round of a ballot.
+LAST_ROUND = 4294967295
 
 
 class Whole(Head):
@@ -61,6 +65,42 @@ def node_processes():
         if len(words) > 2 and words[1] == "node":
             found[int(name)] = words[2:]
     return found
+
+
+def has_keys_at(words, address):
+    """Whether a node with these words takes its keys at this address."""
+    said = [it.split("=", 1)[-1] for it in words if it.startswith("--keys=")]
+    said += [after for word, after in zip(words, words[1:]) if word == "--keys"]
+    return text_of_address(address) in said
+
+
+def record_word(words):
+    """The word RECORD of a node, the fifth that is neither an option nor an option's value, or None."""
+    values = {at + 1 for at, word in enumerate(words) if word in ("--seen", "--keys")}
+    plain = [it for at, it in enumerate(words) if at not in values and not it.startswith("--")]
+    return plain[4] if len(plain) > 4 else None
+
+
+def records_at(address):
+    """The records of the nodes of this machine whose keys come to this address."""
+    for pid, words in node_processes().items():
+        word = record_word(words) if has_keys_at(words, address) else None
+        if word:
+            try:
+                yield read_record(os.path.join(f"/proc/{pid}/cwd", word))
+            except (OSError, Damaged):
+                pass  # It cannot be seen.
+
+
+def refusals_at(address):
+    """Why the node whose keys come to this address would refuse to campaign, by its record, in a
+    list of at most one. Of a node of another machine nothing is known."""
+    for record in records_at(address):
+        if len(record.votes) == PLACES:
+            return [with_sentence("refused D12")]
+        if record.promised is not None and record.promised.round == LAST_ROUND:
+            return [with_sentence("refused D11")]
+    return []
 
 
 def state_of(pid):
