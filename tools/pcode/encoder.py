@@ -1,10 +1,12 @@
-"""Makes the code file of a source."""
+"""Encodes the instructions of one procedure."""
 
 import struct
-from dataclasses import dataclass
 
-from .instructions import BIG, BLOCK, BYTE, CALL, COMPARE, JUMP, LDCI, LEVELS, MOST_BYTES, PACKED, PLAIN, SHORT, XJP, Fault, at
-from .source import Line, in_range, number_of
+from .faults import Fault, at, in_range
+from .instructions import (BIG, BYTE, CALL, COMPARE, JUMP, LDCI, LEVELS, MOST_BYTES, MOST_FAR,
+                           PACKED, PLAIN, SHORT, XJP)
+
+FORMS = (PLAIN, SHORT, BYTE, BIG, LEVELS, PACKED, COMPARE, CALL, JUMP, {"LDCI": LDCI})
 
 
 def byte(value):
@@ -24,26 +26,26 @@ def big(value):
     return byte(128 + value // 256) + byte(value % 256)
 
 
-class Assembler:
-    """Assembles one procedure behind the code that is there already."""
+class Encoder:
+    """Encodes one procedure behind the code that is there already."""
 
-    def __init__(self, source, procedure, start):
-        self.source = source
+    def __init__(self, procedure, start):
         self.procedure = procedure
         self.start = start
         self.offsets = {}  # of labels
         self.far = []  # targets of the jump table, the one at JTAB-10 first
 
-    def value(self, name, text, least, most):
-        """The value of an instruction's operand."""
-        return in_range(f"the operand of {name}", number_of(text, self.procedure.names, self.source.names), least, most)
+    def number(self, operand):
+        """The number that an operand is."""
+        return operand
 
-    def callee(self, text):
-        """The number of the procedure that is called by its name or its number."""
-        for procedure in self.source.procedures:
-            if text in (procedure.name, str(procedure.number)):
-                return procedure.number
-        raise Fault(f"there is no procedure {text}")
+    def callee(self, operand):
+        """The number of the procedure that an operand means."""
+        return operand
+
+    def value(self, name, operand, least, most):
+        """The value of an instruction's operand."""
+        return in_range(f"the operand of {name}", self.number(operand), least, most)
 
     def offset(self, label):
         if label not in self.offsets:
@@ -51,12 +53,14 @@ class Assembler:
         return self.offsets[label]
 
     def jump(self, target, after):
-        """The operand of a jump that ends at `after`: forwards a distance, else a place in the jump table."""
+        """The operand of a jump that ends at `after`: forwards a distance, else a place in the
+        jump table."""
         if after <= target <= after + 127:
             return byte(target - after)
         if target not in self.far:
-            if len(self.far) == 60:
-                raise Fault("a procedure has at most 60 targets of jumps that lead back or more than 127 bytes ahead")
+            if len(self.far) == MOST_FAR:
+                raise Fault(f"a procedure has at most {MOST_FAR} targets of jumps that lead back "
+                            "or more than 127 bytes ahead")
             self.far.append(target)
         return byte(-10 - 2 * self.far.index(target))
 
@@ -67,15 +71,17 @@ class Assembler:
         return word(place - target)
 
     def case(self, line):
-        """XJP W1 W2 OTHER LABEL..: behind a byte that makes the offset even come W1, W2, UJP and the table."""
+        """XJP W1 W2 OTHER LABEL..: behind a byte that makes the offset even come W1, W2, UJP and
+        the table."""
         if len(line.operands) < 4:
             raise Fault("XJP has W1, W2, the label of all other values, and a label for each value")
-        low, high = (self.value("XJP", text, -32768, 32767) for text in line.operands[:2])
+        low, high = (self.value("XJP", it, -32768, 32767) for it in line.operands[:2])
         if low > high:
             raise Fault(f"W1 is at most W2, and {low} is above {high}")
         labels = line.operands[3:]
         if len(labels) != high - low + 1:
-            raise Fault(f"XJP {low} {high} wants labels for {high - low + 1} values, and has {len(labels)}")
+            raise Fault(f"XJP {low} {high} wants labels for {high - low + 1} values, and has "
+                        f"{len(labels)}")
         code = bytes([XJP]) + bytes((line.at + 1) % 2) + word(low) + word(high)
         other = line.at + len(code)
         code += bytes([JUMP["UJP"]]) + self.jump(self.offset(line.operands[2]), other + 2)
@@ -88,13 +94,13 @@ class Assembler:
         name, operands = line.name, line.operands
         if name == "XJP":
             return self.case(line)
-        forms = (PLAIN, SHORT, BYTE, BIG, LEVELS, PACKED, COMPARE, CALL, JUMP, {"LDCI": LDCI})
-        table = next((table for table in forms if name in table), None)
+        table = next((table for table in FORMS if name in table), None)
         if table is None:
             raise Fault(f"there is no instruction {name}")
         wanted = 0 if table is PLAIN else 2 if table in (LEVELS, PACKED) else 1
         if len(operands) != wanted:
-            raise Fault(f"{name} has {wanted} operand{'s' * (wanted != 1)}, and not {len(operands)}")
+            raise Fault(f"{name} has {wanted} operand{'s' * (wanted != 1)}, and not "
+                        f"{len(operands)}")
         if table is SHORT:
             base, least, most = SHORT[name]
             return byte(base + self.value(name, operands[0], least, most))
@@ -108,13 +114,10 @@ class Assembler:
         if table is BIG:
             return big(self.value(name, operands[0], 0, 32767))
         if table is LEVELS:
-            return byte(self.value(name, operands[0], 0, 255)) + big(self.value(name, operands[1], 0, 32767))
+            levels = byte(self.value(name, operands[0], 0, 255))
+            return levels + big(self.value(name, operands[1], 0, 32767))
         if table is PACKED:
-            elements = self.value(name, operands[0], 1, 16)
-            width = self.value(name, operands[1], 1, 16)
-            if elements * width > 16:
-                raise Fault(f"{elements} elements of {width} bits do not fit a word")
-            return byte(elements) + byte(width)
+            return self.packed(name, operands)
         if table is COMPARE:
             return byte(self.value(name, operands[0], 6, 6))
         if table is CALL:
@@ -122,6 +125,13 @@ class Assembler:
         if table is JUMP:
             return self.jump(self.offset(operands[0]), line.at + 2)
         return b"" if table is PLAIN else word(self.value(name, operands[0], -32768, 65535))
+
+    def packed(self, name, operands):
+        elements = self.value(name, operands[0], 1, 16)
+        width = self.value(name, operands[1], 1, 16)
+        if elements * width > 16:
+            raise Fault(f"{elements} elements of {width} bits do not fit a word")
+        return byte(elements) + byte(width)
 
     def code(self):
         """The bytes of all instructions, and the offsets of the labels."""
@@ -133,12 +143,13 @@ class Assembler:
                 code += self.encode(line)
                 if self.start + len(code) > MOST_BYTES:
                     raise Fault(f"the segment has more than {MOST_BYTES} bytes")
-        return bytes(code), {name: places[label.index] for name, label in self.procedure.labels.items()}
+        labels = self.procedure.labels.items()
+        return bytes(code), {name: places[label.index] for name, label in labels}
 
-    def assemble(self):
+    def part(self):
         """The part of the segment, and the offset of its attribute table's highest word."""
         # The length of an instruction does not depend on where labels are, so that a first pass,
-        # which takes all of them to be at 0, finds out where they are.
+        # which takes all of them to be at the start, finds out where they are.
         self.offsets = dict.fromkeys(self.procedure.labels, 0)
         _, self.offsets = self.code()
         self.far = []
@@ -153,44 +164,3 @@ class Assembler:
         part += word(self.start + len(part) - self.offsets.get("enter", self.start))
         jtab = self.start + len(part)
         return part + byte(self.procedure.number) + byte(self.procedure.level), jtab
-
-
-def assemble(source):
-    """The code file of a source: block 0, and the segment from block 1 on."""
-    segment, tables = b"", {}
-    for procedure in source.procedures:
-        part, jtab = Assembler(source, procedure, len(segment)).assemble()
-        segment += part
-        tables[procedure.number] = jtab
-    if len(segment) + 2 * len(tables) + 2 > MOST_BYTES:
-        raise Fault(f"the segment has more than {MOST_BYTES} bytes", source.file)
-    for number in sorted(tables, reverse=True):
-        segment += word(len(segment) - tables[number])
-    segment += byte(source.segment) + byte(len(tables))
-    block = bytearray(BLOCK)
-    struct.pack_into("<HH", block, 4, 1, len(segment))
-    block[72:80] = (source.name or "PROGRAM").encode("ascii").ljust(8)
-    return bytes(block) + segment + bytes(-len(segment) % BLOCK)
-
-
-@dataclass
-class Mapped:
-    """An instruction of the segment, and the line of the source that it comes of."""
-
-    procedure: int
-    at: int
-    line: Line
-
-    def __str__(self):
-        return f"procedure {self.procedure} at {self.at} {self.line.place} {self.line}"
-
-
-def map_of(source):
-    """Each instruction of a source that was assembled, in the order of the offsets."""
-    for procedure in source.procedures:
-        for line in procedure.lines:
-            yield Mapped(procedure.number, line.at, line)
-            if line.name == "XJP":
-                # Its UJP is an instruction too, behind the byte that makes the offset even, W1 and
-                # W2.
-                yield Mapped(procedure.number, line.at + 1 + (line.at + 1) % 2 + 4, line)

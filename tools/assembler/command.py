@@ -2,27 +2,32 @@
 
 import os
 import sys
-from contextlib import contextmanager
 
-from .codefile import assemble, map_of
-from .instructions import Fault, at
-from .listing import Lister
+from pcode.faults import Fault, at
+from pcode.files import drop_output, read_whole, write_whole
+from pcode.listing import Lister
+
+from .assembling import assemble, map_of
 from .source import read_source
 
-HELP = """Makes UCSD Pascal II.0 code files from assembly, and lists code files. It wants Python 3.8 or newer.
+HELP = """Makes UCSD Pascal II.0 code files from assembly, and lists code files. It wants Python
+3.8 or newer.
 
     assemble FILE.asm..                      writes FILE.code beside each
-    assemble --map FILE.asm                  prints for each instruction its procedure, its offset, and its line
-    assemble --map FILE.asm OFFSET           prints that of the instruction at an offset of the segment
+    assemble --map FILE.asm                  prints for each instruction its procedure, its offset,
+                                             and its line
+    assemble --map FILE.asm OFFSET           prints that of the instruction at an offset of the
+                                             segment
     assemble --map FILE.asm PROCEDURE OFFSET the same, if it is of that procedure
     assemble --list FILE.code..              prints the listing of each code file
     assemble --help                          prints this
 
-Status 0: it was done. Status 1: a file is refused, as `FILE:LINE: text`, or `FILE: text` where no line is at
-fault; then no code file is written, and those that were there are as they were. Or a code file or standard
-output cannot be written. Status 2: other words than these, or an older Python.
+Status 0: it was done. Status 1: a file is refused, as `FILE:LINE: text`, or `FILE: text` where no
+line is at fault; then no code file is written, and those that were there are as they were. Or a
+code file or standard output cannot be written. Status 2: other words than these, or an older
+Python.
 
-The language is explained in README.md, beside this program."""
+The language is explained in examples/README.md."""
 
 
 def read_asm(name):
@@ -31,29 +36,6 @@ def read_asm(name):
         raise Fault("the name of a source ends in .asm", name)
     source = read_source(name)
     return source, assemble(source)
-
-
-@contextmanager
-def removed_at_a_fault(name):
-    """Removes a file if what is done here cannot be done."""
-    try:
-        yield
-    except OSError:
-        os.remove(name)
-        raise
-
-
-def write_whole(name, data):
-    """Writes a file that is never there in part: beside it first, and then to its name."""
-    fresh = f"{name}.{os.getpid()}"
-    try:
-        with open(fresh, "xb") as file:
-            with removed_at_a_fault(fresh):
-                file.write(data)
-                file.flush()
-                os.replace(fresh, name)
-    except OSError as fault:
-        raise Fault(f"it cannot be written: {fault.strerror}", name) from None
 
 
 def make(names):
@@ -77,11 +59,7 @@ def print_map(name, numbers):
 def print_listings(names):
     """Prints the listings of code files, each if it can be listed to its end."""
     for name in names:
-        try:
-            with open(name, "rb") as file:
-                data = file.read()
-        except OSError as fault:
-            raise Fault(f"it cannot be read: {fault.strerror}", name) from None
+        data = read_whole(name)
         with at(name):
             lines = list(Lister(data).lines())
         for line in lines:
@@ -105,11 +83,6 @@ def run(words):
     else:
         return False
     return True
-
-
-def drop_output():
-    """Lets nothing more be written to standard output, not even at the end."""
-    os.dup2(os.open(os.devnull, os.O_WRONLY), 1)
 
 
 def main(words):

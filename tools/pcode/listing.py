@@ -1,15 +1,19 @@
-"""Lists a code file. It reads nothing but the code file, and shares only the table of instructions with the assembler."""
+"""Lists a code file. It reads nothing but the code file, and shares only the table of instructions
+with the encoder."""
 
 import struct
 
-from .instructions import BIG, BLOCK, BYTE, CALL, COMPARE, JUMP, LAST, LDCI, LEVELS, PACKED, PLAIN, SHORT, XJP, Fault
+from .faults import Fault
+from .instructions import (BIG, BLOCK, BYTE, CALL, COMPARE, JUMP, LAST, LDCI, LEVELS, PACKED, PLAIN,
+                           SHORT, XJP)
 
 
 def names_by_opcode():
     """The name and the form of each opcode, and the number of a short one."""
     table = {}
-    forms = {"plain": PLAIN, "byte": BYTE, "big": BIG, "levels": LEVELS, "packed": PACKED, "compare": COMPARE, "call": CALL,
-             "jump": JUMP, "word": {"LDCI": LDCI}, "case": {"XJP": XJP}}
+    forms = {"plain": PLAIN, "byte": BYTE, "big": BIG, "levels": LEVELS, "packed": PACKED,
+             "compare": COMPARE, "call": CALL, "jump": JUMP, "word": {"LDCI": LDCI},
+             "case": {"XJP": XJP}}
     for form, opcodes in forms.items():
         for name, opcode in opcodes.items():
             table[opcode] = name, form, 0
@@ -30,7 +34,8 @@ class Lister:
         if length < 2:
             raise Fault("block 0 names no segment")
         if block == 0 or block * BLOCK + length > len(data):
-            raise Fault(f"the segment has {length} bytes from block {block} on, and the file ends before")
+            raise Fault(f"the segment has {length} bytes from block {block} on, and the file ends "
+                        "before")
         self.code = data[block * BLOCK: block * BLOCK + length]
         self.names = names_by_opcode()
         self.tables = [self.pointer(length - 4 - 2 * k) for k in range(self.code[-1])]
@@ -64,7 +69,8 @@ class Lister:
         """The operands of an XJP: W1, W2, the offset of its UJP, and where its words lead."""
         after += after % 2
         low, high = struct.unpack("<hh", self.bytes_at(after, 4))
-        return [low, high, after + 4] + [self.pointer(after + 6 + 2 * k) for k in range(high - low + 1)]
+        words = range(after + 6, after + 6 + 2 * (high - low + 1), 2)
+        return [low, high, after + 4] + [self.pointer(word) for word in words]
 
     def look(self, at, jtab):
         """The text of an instruction, and the offsets that come after it."""

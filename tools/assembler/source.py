@@ -5,10 +5,13 @@ import re
 from dataclasses import dataclass, field
 from typing import Dict, List, Optional
 
-from .instructions import CALL, Fault, at
+from pcode import parts
+from pcode.faults import Fault, at, in_range
+from pcode.instructions import CALL
+from pcode.parts import Label, Line
 
 # Files that are included are looked for beside the file that includes them, and then here.
-HERE = os.path.dirname(os.path.dirname(os.path.abspath(__file__)))
+HERE = os.path.join(os.path.dirname(os.path.abspath(__file__)), "include")
 MOST_DEEP = 20  # files that include one another
 
 NAME = r"[A-Za-z_][A-Za-z_0-9]*"
@@ -37,39 +40,10 @@ class Constant:
 
 
 @dataclass
-class Line:
-    """An instruction: the words of the source, and its offset in the segment as soon as that is known."""
+class Procedure(parts.Procedure):
+    """A procedure, with the names of its own."""
 
-    place: Place
-    name: str
-    operands: List[str]
-    at: int = 0
-
-    def __str__(self):
-        return " ".join([self.name] + self.operands)
-
-
-@dataclass
-class Label:
-    """Where a label is set, and how many instructions of its procedure stand in front of it."""
-
-    place: Place
-    index: int
-
-
-@dataclass
-class Procedure:
-    """A procedure: its header, the names of its own, its instructions and its labels."""
-
-    place: Place
-    number: Optional[int]  # None until one is given to it, where its header has none
-    name: str
-    level: int
-    params: int
-    data: int
     names: Dict[str, Constant] = field(default_factory=dict)
-    lines: List[Line] = field(default_factory=list)
-    labels: Dict[str, Label] = field(default_factory=dict)
 
 
 @dataclass
@@ -81,13 +55,6 @@ class Source:
     segment: int = 1
     names: Dict[str, Constant] = field(default_factory=dict)
     procedures: List[Procedure] = field(default_factory=list)
-
-
-def in_range(what, value, least, most):
-    """The value, which has to be in a range."""
-    if not least <= value <= most:
-        raise Fault(f"{what} is {least} to {most}, and not {value}")
-    return value
 
 
 def number_of(word, *scopes):
@@ -118,13 +85,15 @@ def words_of(line):
             return words
         found = WORD.match(text, place)
         if not found:
-            raise Fault(f"{text[place:].rstrip()} begins with no word: a quote lacks its other one, or a blank is missing")
+            raise Fault(f"{text[place:].rstrip()} begins with no word: a quote lacks its other "
+                        "one, or a blank is missing")
         words.append(found[0])
         place = found.end()
 
 
 def characters(words):
-    """The operands of the SLDCs that push a text: each character of the strings, and all other words."""
+    """The operands of the SLDCs that push a text: each character of the strings, and all other
+    words."""
     for word in words:
         if word[0] == '"':
             yield from (f"'{character}'" for character in word[1:-1])
@@ -141,7 +110,8 @@ class FileReader:
         self.place = Place(file, 1)
 
     def read(self):
-        """Reads the file to its end. A fault of the file system is left to the caller, who knows who asked for it."""
+        """Reads the file to its end. A fault of the file system is left to the caller, who knows
+        who asked for it."""
         with open(self.file, "rb") as file:
             lines = file.read().split(b"\n")
         self.seen.add(os.path.realpath(self.file))
@@ -173,9 +143,11 @@ class FileReader:
         if self.source.name is not None:
             raise Fault("a program has one name, and this is a second one")
         if len(words[1]) > 8:
-            raise Fault(f"the name of a program has at most 8 characters, and {words[1]} has {len(words[1])}")
+            raise Fault(f"the name of a program has at most 8 characters, and {words[1]} has "
+                        f"{len(words[1])}")
         self.source.name = words[1]
-        self.source.segment = in_range("the number of a segment", number_of(words[3], self.source.names), 0, 255)
+        number = number_of(words[3], self.source.names)
+        self.source.segment = in_range("the number of a segment", number, 0, 255)
 
     def include(self, words):
         if len(words) != 2:
@@ -197,12 +169,14 @@ class FileReader:
     def take_header(self, words):
         words = words[1:]
         number = words.pop(0) if len(words) == 8 else None
-        if len(words) != 7 or words[1::2] != ["level", "params", "data"] or not re.fullmatch(NAME, words[0]):
+        is_header = len(words) == 7 and words[1::2] == ["level", "params", "data"]
+        if not is_header or not re.fullmatch(NAME, words[0]):
             raise Fault(HEADER)
         name = words[0]
         level, params, data = (number_of(word, self.source.names) for word in words[2::2])
         if number is not None:
-            number = in_range("the number of a procedure", number_of(number, self.source.names), 1, 255)
+            number = number_of(number, self.source.names)
+            number = in_range("the number of a procedure", number, 1, 255)
         in_range("a lex level", level, 0, 127)
         if (number == 1) != (level == 0):
             raise Fault("procedure 1 is at level 0, and no other is")
@@ -247,14 +221,16 @@ class FileReader:
     def take_text(self, words):
         """`text CGP put "BYE" lf`: an SLDC and the call for each character."""
         if len(words) < 4 or words[1] not in CALL:
-            raise Fault('a text is written: text CALL PROCEDURE CHARACTER.., as in text CGP put "BYE" 10')
+            raise Fault("a text is written: text CALL PROCEDURE CHARACTER.., "
+                        'as in text CGP put "BYE" 10')
         for operand in characters(words[3:]):
             self.procedure.lines.append(Line(self.place, "SLDC", [operand]))
             self.procedure.lines.append(Line(self.place, words[1], [words[2]]))
 
 
 def give_numbers(source):
-    """Gives the procedures without a number the lowest ones above 1 that are free, and looks whether none is missing."""
+    """Gives the procedures without a number the lowest ones above 1 that are free, and looks
+    whether none is missing."""
     taken = {procedure.number for procedure in source.procedures}
     free = (number for number in range(2, 256) if number not in taken)
     for procedure in source.procedures:
@@ -267,18 +243,21 @@ def give_numbers(source):
         raise Fault("there is no procedure 1, at which the program begins", source.file)
     for number in sorted(by_number):
         if number > 1 and number - 1 not in by_number:
-            raise Fault(f"there is no procedure {number - 1}, and this one has the number {number}", by_number[number].place)
+            raise Fault(f"there is no procedure {number - 1}, and this one has the number {number}",
+                        by_number[number].place)
 
 
 def look_through(procedure):
-    """Looks whether a procedure has instructions, the label exit, and an instruction behind each label."""
+    """Looks whether a procedure has instructions, the label exit, and an instruction behind each
+    label."""
     if not procedure.lines:
         raise Fault(f"procedure {procedure.name} has no instruction", procedure.place)
     if "exit" not in procedure.labels:
         raise Fault(f"procedure {procedure.name} has no label exit", procedure.place)
     for name, label in procedure.labels.items():
         if label.index == len(procedure.lines):
-            raise Fault(f"no instruction of the procedure stands behind the label {name}", label.place)
+            raise Fault(f"no instruction of the procedure stands behind the label {name}",
+                        label.place)
 
 
 def read_source(file):
