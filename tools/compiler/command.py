@@ -52,11 +52,14 @@ def words_parser():
         prog="compile", description=ABOUT, epilog=EXAMPLES, allow_abbrev=False,
         formatter_class=argparse.RawDescriptionHelpFormatter)
     parser.add_argument("file", metavar="FILE.pas", nargs="?", help="the text of the program")
-    parser.add_argument("-o", dest="output", metavar="FILE", help="the code file; FILE.code without")
+    parser.add_argument("-o", dest="output", metavar="FILE",
+                        help="the code file; FILE.code without")
     parser.add_argument("--line-end", choices=sorted(LINE_ENDS), default="lf",
                         help="what WRITELN writes: lf is 10 (the default), cr is 13")
     parser.add_argument("--heap", metavar="WORDS", type=heap_of, default=HEAP,
                         help=f"room for NEW in words; {HEAP} without")
+    parser.add_argument("--no-echo", action="store_true",
+                        help="READ does not show what it reads: for a terminal that does so")
     modes = parser.add_mutually_exclusive_group()
     modes.add_argument("--check", action="store_true", help="only says what is wrong")
     modes.add_argument("--asm", action="store_true", help="prints the program as assembly")
@@ -81,7 +84,8 @@ def make(words):
         print("\n".join(library()), end="")
         return
     text = read_text(words.file)
-    program = compile_text(text, words.file, Options(words.line_end, words.heap))
+    options = Options(words.line_end, words.heap, not words.no_echo)
+    program = compile_text(text, words.file, options)
     for note in program.notes:
         print(note, file=sys.stderr)
     if words.asm:

@@ -3,6 +3,7 @@
 import os
 import re
 from dataclasses import dataclass
+from functools import lru_cache
 from typing import Dict, List
 
 from pcode.codefile import code_file
@@ -28,6 +29,7 @@ class Options:
 
     line_end: str = "lf"  # what WRITELN writes
     heap: int = HEAP  # words for NEW
+    is_echoed: bool = True  # READ from INPUT shows what it reads
 
 
 @dataclass
@@ -58,13 +60,20 @@ def parse(text, file, faults):
     return Parser(lexer.all(), faults), lexer.notes
 
 
-def check_library(checker, options, faults):
-    constants: Dict[str, int] = {"LINEEND": LINE_ENDS[options.line_end], "HEAPWORDS": options.heap}
+@lru_cache(maxsize=None)
+def library_blocks():
+    """The syntax tree of the library, which is the same for all programs."""
     blocks = []
     for name in LIBRARY_FILES:
         path = library_path(name)
-        blocks.append(parse(read_text(path), path, faults)[0].library())
-    checker.check_library(blocks, constants)
+        blocks.append(parse(read_text(path), path, Faults())[0].library())
+    return blocks
+
+
+def check_library(checker, options):
+    constants: Dict[str, int] = {"LINEEND": LINE_ENDS[options.line_end], "HEAPWORDS": options.heap,
+                                 "ECHOED": 1 if options.is_echoed else 0}
+    checker.check_library(library_blocks(), constants)
 
 
 def checked(text, file, options):
@@ -72,11 +81,11 @@ def checked(text, file, options):
     faults, notes = Faults(), []
     checker = Checker(faults, LINE_ENDS[options.line_end])
     try:
-        check_library(checker, options, faults)
         parser, notes = parse(text, file, faults)
         with faults.caught():
             program = parser.program()
         if not faults.found:
+            check_library(checker, options)
             with faults.caught():
                 checker.check_program(program)
     except Enough:

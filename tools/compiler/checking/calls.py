@@ -7,22 +7,24 @@ from .sets import Sets
 from .types import Set, String, is_ordinal, is_same, with_article
 
 
-def count_of(number, what):
-    return f"{number} {what}{'s' * (number != 1)}"
-
-
 class Calls(Sets):
     def routine_call(self, routine, name, arguments):
         """A call of a procedure or function of the program."""
         if len(arguments) != len(routine.parameters):
-            wanted = count_of(len(routine.parameters), "parameter")
-            self.refuse(f"{name.written} has {wanted}, and {len(arguments)} are given", name.place)
+            self.refuse_count(name, str(len(routine.parameters)), len(arguments))
         given = []
         for parameter, argument in zip(routine.parameters, arguments):
             self.refuse_width(argument)
             make = self.by_address if parameter.is_var else self.by_value
             given.append(make(parameter, argument.value))
         return tree.Call(routine.result, routine, given)
+
+    def refuse_count(self, name, wanted, given):
+        """Refuses too few or too many parameters."""
+        many = "" if wanted == "1" else "s"
+        verb = "is" if given == 1 else "are"
+        self.refuse(f"{name.written} has {wanted} parameter{many}, and {given} {verb} given",
+                    name.place)
 
     def refuse_width(self, argument):
         if argument.width:
@@ -79,9 +81,7 @@ class Calls(Sets):
         many."""
         count = len(node.arguments)
         if not least <= count <= (most or least):
-            wanted = f"{least} to {most}" if most else str(least)
-            self.refuse(f"{node.name.written} has {wanted} parameters, and {count} are given",
-                        node.place)
+            self.refuse_count(node.name, f"{least} to {most}" if most else str(least), count)
         for argument in node.arguments:
             self.refuse_width(argument)
         return [argument.value for argument in node.arguments]

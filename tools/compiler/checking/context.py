@@ -6,7 +6,8 @@ from pcode.faults import Fault
 from ..parsing import syntax
 from ..parsing.lexer import fold
 from . import tree
-from .symbols import ConstantSymbol, FileSymbol, OpenedField, Routine, Standard, TypeSymbol, Variable
+from .symbols import (ConstantSymbol, FileSymbol, OpenedField, Routine, Standard, TypeSymbol,
+                      Variable)
 from .types import BOOLEAN, INTEGER, is_ordinal, with_article
 
 KINDS = {ConstantSymbol: "a constant", TypeSymbol: "a type", Variable: "a variable",

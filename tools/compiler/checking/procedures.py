@@ -43,8 +43,8 @@ class StandardProcedures(StandardFunctions):
             part = tree.Concatenation(String(max(1, part.type.most)), [part])
         part = tree.StringAddress(part)
         location = self.string_variable(text)
-        most = number(location.type.most)
-        return self.perform(node, "INSERTTEXT", part, tree.Address(location), self.integer(at), most)
+        most, text = number(location.type.most), tree.Address(location)
+        return self.perform(node, "INSERTTEXT", part, text, self.integer(at), most)
 
     def str(self, _name, node):
         value, text = self.take(node, 2)

@@ -171,8 +171,7 @@ ABSENT = {
     "there are no files: keep the data in an array, or read it from the console":
         "TEXT INTERACTIVE RESET REWRITE CLOSE GET PUT SEEK BLOCKREAD BLOCKWRITE",
     REALS: "REAL SIN COS ATAN EXP LN LOG SQRT TRUNC ROUND PWROFTEN",
-    "there is no clock, so that all nodes of a group see the same: ask for the time by READ": "TIME",
-    "it is not there: look for the character in a loop": "SCAN",
+    "there is no clock, so that all nodes of a group see the same: READ the time": "TIME",
     "it is not there: a unit is never busy, and nothing waits in it":
         "UNITCLEAR UNITBUSY UNITWAIT",
     "there is no DISPOSE in UCSD Pascal II.0: MARK and RELEASE give memory back": "DISPOSE",

@@ -19,7 +19,7 @@ BEGIN
       UNITREAD(2, C, 1);
       ISEOF[F] := C = CHR(3);            { Ctrl-C }
       ISEOLN[F] := (C = CHR(10)) OR (C = CHR(13)) OR ISEOF[F];
-      IF F = 1 THEN
+      IF F = ECHOED THEN                 { which is 0 where nothing is to be shown }
         IF ISEOF[F] THEN
         ELSE IF ISEOLN[F] THEN PUTCHAR(CHR(LINEEND))
         ELSE IF (C <> CHR(8)) AND (C <> CHR(127)) THEN PUTCHAR(C);
@@ -35,7 +35,7 @@ VAR
   B: BOOLEAN;
 BEGIN
   B := (WINDOW[F] = CHR(8)) OR (WINDOW[F] = CHR(127));
-  IF B AND (F = 1) AND (SHOWN > 0) THEN
+  IF B AND (F = ECHOED) AND (SHOWN > 0) THEN
     BEGIN
       PUTCHAR(CHR(8)); PUTCHAR(' '); PUTCHAR(CHR(8))
     END;

@@ -66,21 +66,20 @@ BEGIN
   WRITEPART(S, 1, ORD(S[0]), WIDTH)
 END;
 
-PROCEDURE WRITEBOOLEAN(B: BOOLEAN; WIDTH: INTEGER);
+PROCEDURE WRITEBOOLEAN(B: BOOLEAN; WIDTH: INTEGER);  { whole, as numbers are }
 VAR
-  T: PACKED ARRAY[1..4] OF CHAR;
-  F: PACKED ARRAY[1..5] OF CHAR;
+  T: PACKED ARRAY[1..5] OF CHAR;
+  N: INTEGER;
 BEGIN
-  IF B THEN
+  N := 4;
+  T := 'TRUE ';
+  IF NOT B THEN
     BEGIN
-      T := 'TRUE';
-      WRITEARRAY(T, 4, WIDTH)
-    END
-  ELSE
-    BEGIN
-      F := 'FALSE';
-      WRITEARRAY(F, 5, WIDTH)
-    END
+      N := 5;
+      T := 'FALSE'
+    END;
+  BLANKS(WIDTH - N);
+  UNITWRITE(1, T, N)
 END;
 
 { The codes of a terminal: column X and line Y, from 0 }

@@ -66,8 +66,8 @@ class Parser(TypeParser):
             self.next()
             self.refuse(NO_UNITS.format(self.now))
         if self.kind == "SEGMENT":
-            self.refuse("there are no segment procedures, since a program is one segment: leave out "
-                        "the word SEGMENT")
+            self.refuse("there are no segment procedures, since a program is one segment: leave "
+                        "out the word SEGMENT")
 
     def each(self, read):
         """What stands in a part, each with a ; behind it. A fault costs one of them."""

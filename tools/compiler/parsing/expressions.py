@@ -110,6 +110,8 @@ class ExpressionParser(Reader):
         if self.kind == "PROGRAM":  # of EXIT
             token = self.next()
             return syntax.Argument(place, syntax.Name(place, token.value, token.written))
+        if self.kind in ("=", "<>"):  # of SCAN alone
+            self.refuse("SCAN is not there: look for the character in a loop")
         value = self.expression()
         width = self.expression() if self.take(":") else None
         if width and self.kind == ":":

@@ -26,11 +26,12 @@ TOKEN = re.compile(r"""
 BRACKETS = {"(.": "[", ".)": "]"}
 DIGITS = 5  # of the greatest number
 MOST_INCLUDED = 20
+MOST_TEXT = 255
 
 # Options that change nothing in what a program does here, so that a note is enough.
 IDLE = {"C": "a comment of the code file", "D": "of the debugger", "F": "of the compiler's files",
         "G": "GOTO is always there", "L": "a listing: --list makes one", "N": "native code",
-        "P": "pages of a listing", "Q": "what the compiler shows", "S": "how the compiler is loaded",
+        "P": "pages of a listing", "Q": "what the compiler shows", "S": "how it is loaded",
         "T": "of the compiler's tables", "U": "the user's programs", "V": "lengths of VAR strings"}
 
 
@@ -57,8 +58,8 @@ def read_text(file, place=None) -> str:
         with open(file, encoding="latin-1", newline="") as stream:
             text = stream.read()
     except OSError as fault:
-        text_of_fault = f"{file} cannot be read: {fault.strerror}" if place else None
-        raise Fault(text_of_fault or f"it cannot be read: {fault.strerror}", place or file) from None
+        what = file if place else "it"
+        raise Fault(f"{what} cannot be read: {fault.strerror}", place or file) from None
     return text.replace("\r\n", "\n").replace("\r", "\n")
 
 
@@ -104,6 +105,11 @@ class Lexer:
 
     def refuse_character(self):
         place, character = self.place(), self.text[self.at]
+        quoted = re.compile(r'"[^"\n]*"').match(self.text, self.at)
+        if quoted:
+            self.put("text", quoted[0], quoted[0][1:-1])
+            self.move(quoted.end())
+            raise Fault("a text stands between ' and ', and not between double quotes", place)
         self.move(self.at + 1)
         if character == "'":
             self.move((self.text + "\n").index("\n", self.at))
@@ -118,13 +124,17 @@ class Lexer:
         elif group == "number":
             digits = written.lstrip("0") or "0"
             if len(digits) > DIGITS or int(digits) > 32768:
-                raise Fault(f"{written[:12]} is above 32767, the greatest INTEGER; there are no long "
-                            "integers", self.place())
+                self.put("number", written, 0)
+                raise Fault(f"{written[:12]} is above 32767, the greatest INTEGER; there are no "
+                            "long integers", self.place())
             self.put("number", written, int(digits))
         elif group == "real":
+            self.put("number", written, 0)
             raise Fault(f"{written[:12]} is a real number, and there are none: take an INTEGER, of "
                         "hundredths or the like", self.place())
         elif group == "text":
+            if len(written) > MOST_TEXT + 2:
+                raise Fault(f"a text has at most {MOST_TEXT} characters", self.place())
             self.put("text", written, written[1:-1].replace("''", "'"))
         elif group == "symbol":
             self.put(BRACKETS.get(written, written), written)
@@ -159,8 +169,8 @@ class Lexer:
 
     def include(self, name, place):
         if ":" in name or name.startswith("*"):
-            raise Fault(f"{name[:24]} is a file of a p-System's volume: put it beside this one, and "
-                        "name it without a volume", place)
+            raise Fault(f"{name[:24]} is a file of a p-System's volume: put it beside this one, "
+                        "and name it without a volume", place)
         if self.depth == MOST_INCLUDED:
             raise Fault(f"more than {MOST_INCLUDED} files include one another", place)
         path = os.path.join(os.path.dirname(self.file), name)

@@ -44,6 +44,11 @@ class Reader:
     def want(self, kind, why=""):
         """Takes a token of a kind, which has to be there."""
         if self.kind != kind:
+            if kind == ";" and self.at:
+                before = self.tokens[self.at - 1]
+                column = before.place.column + len(before.written)
+                self.refuse(f"; is wanted behind {before}{why}",
+                            before.place._replace(column=column))
             self.refuse(f"{SHOWN.get(kind, kind)} is wanted{why}, and not {self.now}")
         return self.next()
 
