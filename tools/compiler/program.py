@@ -37,7 +37,7 @@ class Compiled:
     """A program that was compiled."""
 
     segment: str  # its name in the code file
-    procedures: List[Procedure]  # in the order of their numbers
+    procedures: List[Procedure]  # in the order of their code: the program is the last
     data: bytes  # of the code file
     notes: List[str]
 
@@ -107,7 +107,8 @@ def compile_text(text, file, options=None) -> Compiled:
     main = checker.main
     try:
         with at(main.place):
-            procedures = Generator(checker.routines, checker.library).procedures()
+            program, *others = Generator(checker.routines, checker.library).procedures()
+            procedures = others + [program]
             name = re.sub(r"[^A-Z0-9]", "", main.name.upper())[:8]
             data = code_file(name, SEGMENT, procedures, main.place)
     except Fault as fault:

@@ -62,14 +62,14 @@ def ascii_of(text):
 def listing(program: Compiled):
     """The listing of the code file, with the lines of the text in front of what they became."""
     source = Source()
-    places = [{line.at: line.place for line in it.lines} for it in program.procedures]
+    places = {it.number: {line.at: line.place for line in it.lines} for it in program.procedures}
     number = shown = None
     for text in Lister(program.data).lines():
         words = text.split()
         if words[0] == "proc":
             number, shown = int(words[1]), None
         else:
-            place = places[number - 1].get(int(words[0]))
+            place = places[number].get(int(words[0]))
             if place and (place.file, place.line) != shown:
                 shown = place.file, place.line
                 yield f"; {source.line(place)}"
@@ -78,9 +78,8 @@ def listing(program: Compiled):
 
 def line_at(program: Compiled, number, offset, file):
     """The line that an instruction of a procedure comes from."""
-    if not 1 <= number <= len(program.procedures):
-        raise Fault(f"there are procedures 1 to {len(program.procedures)}, and not {number}", file)
-    for line in program.procedures[number - 1].lines:
-        if line.at == offset:
-            return Source().line(line.place)
+    for procedure in program.procedures:
+        for line in procedure.lines:
+            if (procedure.number, line.at) == (number, offset):
+                return Source().line(line.place)
     raise Fault(f"no instruction of procedure {number} begins at {offset}", file)
