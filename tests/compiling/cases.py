@@ -65,6 +65,9 @@ PROCEDURE P; BEGIN END; PROCEDURE Q; BEGIN EXIT(P) END;""", "Q; WRITE('X')", "",
 FUNCTION F(N: INTEGER): BOOLEAN; BEGIN WRITE(N); F := N > 0 END;""",
      "IF F(0) AND F(1) THEN; IF F(1) OR F(0) THEN", "", "0110", ""),
     # Numbers
+    ("numbers are compared", NUMBERS, "I := -1; J := 1; WRITE(I < J, I <= J, I > J, I >= J, "
+     "J <= J, J < J, J >= J, J > J, I = J, I <> J)", "",
+     "TRUETRUEFALSEFALSETRUEFALSETRUEFALSEFALSETRUE", ""),
     ("DIV and MOD cut off", NUMBERS,
      "I := -7; WRITE(I DIV 2, I MOD 2, 7 DIV (-2), (-7) MOD 2)", "", "-3-1-3-1", ""),
     ("sums go around", NUMBERS, "I := MAXINT; I := I + 1; WRITE(I, ABS(-32768), -32768)", "",
@@ -89,6 +92,9 @@ FUNCTION F(N: INTEGER): BOOLEAN; BEGIN WRITE(N); F := N > 0 END;""",
     ("a field that does not fit begins a word", "TYPE T = PACKED RECORD A: 0..255; B: 0..511; "
      "C: BOOLEAN END; VAR R: RECORD CASE BOOLEAN OF TRUE: (X: T); FALSE: (Y, Z: INTEGER) END;",
      "R.X.A := 255; R.X.B := 3; R.X.C := TRUE; WRITE(R.Y, ' ', R.Z)", "", "255 515", ""),
+    ("a range up to a power of two", "VAR A: PACKED ARRAY[0..5] OF 0..16; I: INTEGER;",
+     "FOR I := 0 TO 5 DO A[I] := 16; FOR I := 0 TO 5 DO WRITE(A[I]); WRITE(SIZEOF(A))", "",
+     "1616161616164", ""),
     ("sizes", "VAR S: STRING[10]; A: PACKED ARRAY[1..5] OF CHAR; B: ARRAY[1..5] OF CHAR; "
      "C: SET OF CHAR; D: PACKED RECORD X: BOOLEAN; Y: INTEGER END; P: ^INTEGER;",
      "WRITE(SIZEOF(S), ' ', SIZEOF(A), ' ', SIZEOF(B), ' ', SIZEOF(C), ' ', SIZEOF(D), ' ', "
@@ -129,6 +135,10 @@ FUNCTION F(N: INTEGER): BOOLEAN; BEGIN WRITE(N); F := N > 0 END;""",
     ("a set of 4,080", "VAR S: SET OF 0..4079; I: INTEGER;",
      "I := 4079; S := [5, I]; WRITE(I IN S, 4078 IN S, 5 IN S); WRITE(SIZEOF(S)); "
      "S := S + [I + 1]", "", "TRUEFALSETRUE510", ERROR + " 1"),
+    ("sets of several sizes", "VAR S: SET OF 0..15; T: SET OF 0..40; I: INTEGER;",
+     "S := [3]; T := [3, 40]; WRITE(S = T, S <= T, T <= S, 40 IN S + T, 40 IN T - S); "
+     "T := S; WRITE(T = S); I := 40; WRITE(T + [I] = [3, I])", "",
+     "FALSETRUEFALSETRUETRUETRUETRUE", ""),
     ("IN of brackets", "VAR C: CHAR;", "C := 'D'; WRITE(C IN ['A'..'C', 'D'], C IN [], "
      "C IN ['E'..'Z'])", "", "TRUEFALSEFALSE", ""),
     # The heap
@@ -168,6 +178,14 @@ VAR H, P: L; M: ^INTEGER; I: INTEGER;""", "H := NIL; FOR I := 1 TO 3 DO BEGIN NE
      "UNITREAD(1, A, 2); UNITREAD(2, A[2], 2); UNITWRITE(1, A[1], 3); {$I-} UNITWRITE(6, A, 1); "
      "N := IORESULT; {$I+} WRITE(N); UNITWRITE(6, A, 1)", "abcd", "abbcd2", ERROR + " 10"),
     # Procedures
+    ("variables of procedures around", """
+PROCEDURE A(P: INTEGER); VAR V: INTEGER;
+  PROCEDURE B(Q: INTEGER); VAR W: INTEGER;
+    PROCEDURE C;
+    BEGIN V := V + P; W := W + Q; IF V < 9 THEN C END;
+    PROCEDURE D; BEGIN C; WRITE(V, W) END;
+  BEGIN W := 5; D; IF Q > 1 THEN B(Q - 1); WRITE(V) END;
+BEGIN V := 1; B(2); WRITE(P, V) END;""", "A(4)", "", "99" "136" "13" "13" "413", ""),
     ("parameters and scopes", """TYPE R = RECORD A, B: INTEGER END; S5 = STRING[5];
 VAR X: R; T: STRING; K: SET OF CHAR;
 PROCEDURE P(Y: R; VAR Z: R; T: S5; VAR U: STRING; N: INTEGER);

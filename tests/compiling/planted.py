@@ -29,7 +29,7 @@ FAULTS = [
      "part = (lambda _, it: it[0])("),
     ("compiler/generating/code.py", "self.routine.level - routine.level, offset",
      "max(1, self.routine.level - routine.level - 1), offset"),
-    ("compiler/generating/code.py", "MOST_SHORT = 16", "MOST_SHORT = 15"),
+    ("compiler/generating/code.py", "MOST_SHORT = 16", "MOST_SHORT = 17"),
     ("compiler/generating/places.py", "if isinstance(place, Pointer) and place.offset:",
      "if isinstance(place, Pointer) and place.offset > 1:"),
     ("compiler/generating/places.py", "\"SBI\" if number > 0 else \"ADI\"", "\"SBI\""),

@@ -45,3 +45,8 @@ PROGRAMS = [
         "Column 1 is full.\nX, your column (1 to 7, Q to stop): x\nType one digit.\n"
         "X, your column (1 to 7, Q to stop): 12\nType one digit.\n"], ""),
 ]
+
+# What the assembly came to that was written by hand for the same texts: bytes of the segment, and
+# steps on the first input above.
+BY_HAND = {"echo.pas": (104, 231), "sieve.pas": (216, 81971), "calendar.pas": (470, 130331),
+           "towers.pas": (392, 5732), "sorter.pas": (600, 1794), "calculator.pas": (704, 3024)}

@@ -262,28 +262,39 @@ class Generator(Values):
         if is_function:
             self.procedures = []
         inner = around + own + local
-        if level < 3 and self.random.random() < 0.4:
-            self.routine(inner, level + 1)
-        self.body(routine, is_function, inner, local)
+        within = [self.routine(inner, level + 1) for _ in range(self.random.choice([0, 0, 1, 2]))
+                  if level < 3]
+        self.body(routine, is_function, inner, local, within)
         self.functions, self.procedures = kept
         (self.functions if is_function else self.procedures).append(routine)
+        return routine
 
-    def body(self, routine, is_function, variables, local):
+    def body(self, routine, is_function, variables, local, within):
         self.line("BEGIN")
         for it in local:
             self.each(it.name, it.kind, self.set_out)
         self.size = 60
         if is_function:
             self.line(f"{routine.name} := 0;")
+            self.call_within(within, variables)
             self.statements(variables, 2, [], 0, 3)
             self.line(f"{routine.name} := {self.number(variables, 1)};")
         else:
             self.line(f"FUEL := FUEL - 1; IF FUEL <= 0 THEN EXIT({routine.name});")
+            self.call_within(within, variables)
             self.statements(variables, 0, LOOPS, 2, 6)
             if self.random.random() < 0.3:
                 again = self.call_of([routine], variables, 2)
                 self.line(f"{again or 'WRITELN'};")
         self.line("END;")
+
+    def call_within(self, within, variables):
+        """Calls each routine that is declared in another, so that none is only there."""
+        for routine in within:
+            called = self.call_of([routine], variables, 1)
+            is_function = routine in self.functions
+            if called:
+                self.line(f"IF {called} > 0 THEN;" if is_function else f"{called};")
 
     def program(self) -> Program:
         shared = self.variables(self.random.randint(3, 10), "G")

@@ -68,7 +68,7 @@ class Types:
 
     def add_range(self, name):
         low = self.random.choice([0, 0, 0, 1, -5, 10])
-        high = low + self.random.choice([1, 3, 6, 15, 31, 100, 240])
+        high = low + self.random.choice([1, 2, 3, 6, 8, 15, 16, 31, 32, 64, 100, 240])
         self.ranges.append(Kind(name, "int", low, high))
         self.lines.append(f"  {name} = {low}..{high};")
 

@@ -4,6 +4,7 @@ from .random_types import BOOLEAN, CHAR, INTEGER
 
 COMPARISONS = ["=", "<>", "<", "<=", ">", ">="]
 MOST_DEEP = 4
+WILD = 0.2  # how often a wild program has an index or a value that may be outside
 
 
 class Values:
@@ -42,7 +43,7 @@ class Values:
             return found or self.random.choice(self.types.names)
         if depth >= 2 or self.random.random() < 0.4:
             return str(self.random.randint(kind.low, kind.high))
-        is_wild = self.wild == "index" and self.random.random() < 0.06
+        is_wild = self.wild == "index" and self.random.random() < WILD
         return self.bounded(kind.low, kind.high + is_wild, variables, depth + 1)
 
     def bounded(self, low, high, variables, depth):
@@ -58,7 +59,7 @@ class Values:
             return makers[kind.form](variables, depth)
         if kind is INTEGER:
             return self.number(variables, depth)
-        is_wild = self.wild == "index" and self.random.random() < 0.06
+        is_wild = self.wild == "index" and self.random.random() < WILD
         return self.bounded(kind.low, kind.high + is_wild, variables, depth)
 
     def constant(self):
@@ -79,7 +80,7 @@ class Values:
         left, operator = self.number(variables, depth + 1), self.random.choice("++--*DM")
         if operator in "DM":
             divisor = self.random.choice(["2", "3", "7", "10", "(-3)", "32767"])
-            if self.wild == "division" and self.random.random() < 0.1:
+            if self.wild == "division" and self.random.random() < WILD:
                 divisor = f"({self.number(variables, depth + 2)} MOD 6)"
             return f"@({left} {'DIV' if operator == 'D' else 'MOD'} {divisor})"
         is_known = self.random.random() < 0.4

@@ -1,7 +1,6 @@
 """Checks calls of procedures and functions, and their parameters."""
 
 from . import tree
-from .context import low_bit
 from .locations import is_packed, is_word
 from .sets import Sets
 from .types import Set, String, is_ordinal, is_same, with_article
@@ -91,6 +90,3 @@ class Calls(Sets):
         if not isinstance(location.type, String):
             self.refuse_type(node, location.type, "a STRING")
         return location
-
-    def ordinal_low(self, node):
-        return low_bit(self.ordinal(node))
