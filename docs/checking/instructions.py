@@ -1,11 +1,11 @@
-"""The table of instructions, which docs/FORMATS.md, specs/Opcodes.antt and the assembler of the examples share."""
+"""The table of instructions, which docs/FORMATS.md, specs/Opcodes.antt and the tools share."""
 import re
 import sys
 
 from . import tree
 from .tree import cells_of, fault, text_of
 
-# How docs/FORMATS.md and the assembler write each form of specs/Opcodes.antt.
+# How docs/FORMATS.md and tools/pcode write each form of specs/Opcodes.antt.
 FORMS = {
     "Alone": ("", "PLAIN"), "Numbered": ("number", "SHORT"), "WithByte": ("UB", "BYTE"), "WithBig": ("B", "BIG"), "WithWord": ("W", "LDCI"),
     "WithLevels": ("DB,B", "LEVELS"), "WithSigned": ("SB", "JUMP"), "Typed": ("type byte", "COMPARE"), "Packed": ("UB,UB", "PACKED"),
@@ -49,11 +49,11 @@ def rows_of_formats():
     return found
 
 
-def rows_of_assembler():
-    """The same of the assembler, with the names of its tables."""
-    sys.path.insert(0, f"{tree.TOP}/examples")
+def rows_of_tools():
+    """The same of tools/pcode, with the names of its tables."""
+    sys.path.insert(0, f"{tree.TOP}/tools")
     sys.dont_write_bytecode = True
-    from assembler import instructions as table
+    from pcode import instructions as table
 
     found = {("LDCI", table.LDCI, None, "LDCI"), ("XJP", table.XJP, None, "XJP")}
     for form in ("PLAIN", "BYTE", "BIG", "LEVELS", "PACKED", "COMPARE", "JUMP"):
@@ -67,7 +67,7 @@ def check_tables():
     rows = rows_of_specs()
     if len(rows) < 60:
         fault(f"crates/pcode_ops/specs/Opcodes.antt: only {len(rows)} rows were understood")
-    for place, found, column in (("docs/FORMATS.md", rows_of_formats(), 0), ("examples/assembler", rows_of_assembler(), 1)):
+    for place, found, column in (("docs/FORMATS.md", rows_of_formats(), 0), ("tools/pcode", rows_of_tools(), 1)):
         wanted = {(*row, FORMS[form][column]) for *row, form in rows}
         for row in sorted(wanted - found, key=str):
             fault(f"{place}: lacks the instruction {row} of specs/Opcodes.antt")

@@ -1,0 +1,1 @@
+"""What tests/compile and tests/pascal try the compiler with."""

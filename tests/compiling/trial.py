@@ -1,0 +1,278 @@
+"""Tries the compiler, for tests/compile, whose words these are: how many garbled texts are tried."""
+
+import glob
+import os
+import random
+import re
+import subprocess
+import sys
+import tempfile
+
+sys.dont_write_bytecode = True  # no files of the tool's own in the repository
+TESTS = os.path.dirname(os.path.dirname(os.path.abspath(__file__)))
+TOP = os.path.dirname(TESTS)
+TOOLS, EXAMPLES = os.path.join(TOP, "tools"), os.path.join(TOP, "examples")
+TOOL = os.path.join(TOOLS, "compile")
+sys.path[:0] = [TOOLS, TESTS]
+from assembler import command as assembler
+from compiler.command import RECURSION
+from compiler.parsing.lexer import read_text
+from compiler.program import Options, Refused, compile_text
+from compiling import limits
+from compiling.cases import CASES
+from compiling.programs import BY_HAND, PROGRAMS
+from compiling.refusals import (DECLARATIONS, DECLARED, LINE, SEVERAL, SEVERAL_PLACES, STATEMENTS,
+                                TEXTS, TYPED, TYPED_PLACES)
+
+BUILT = os.path.join(TOP, "crates", "pgroup", "out", "pgroup")
+PROGRAM = os.path.realpath(os.environ.get("PGROUP") or BUILT)
+STEPS = "4000000000"
+GARBLED = 2000
+# What is put into a text in a wrong place.
+BITS = ("STRING SET ^ NIL 0 32768 - [ ] VAR FORWARD; RECORD '' 1.5 WITH IN EXIT(PROGRAM) BEGIN "
+        "END CASE ; : := . .. ( ) PACKED ARRAY OF FUNCTION USES LABEL GOTO 1: { (* $R- {$R-} \" \0"
+        ).split(" ")
+
+
+def check(holds, what):
+    if not holds:
+        sys.exit(f"tests/compile: {what}")
+
+
+def write(name, data):
+    with open(name, "wb") as file:
+        file.write(data if isinstance(data, bytes) else data.encode("latin-1"))
+
+
+def read(name):
+    with open(name, "rb") as file:
+        return file.read()
+
+
+def faults_of(text, file="t.pas", options=None):
+    """What a text is refused with, as `LINE:COLUMN: text`; nothing where it is not."""
+    try:
+        compile_text(text, file, options)
+        return []
+    except Refused as refused:
+        return [f"{fault.place}: {fault}" for fault in refused.faults]
+
+
+def run(data, given, *words):
+    """What a code file writes on an input, and how it ends."""
+    write("t.code", data)
+    limit = words or ("--steps", STEPS)
+    done = subprocess.run([PROGRAM, "run", "t.code", *limit], check=False,
+                          input=given.encode("latin-1"), capture_output=True)
+    said = re.sub(r" in procedure .*\n|\n", "", done.stderr.decode())
+    return done.stdout.decode("latin-1"), said
+
+
+def prints(name, text, given, output, ending, options=None):
+    """Whether a program writes what it has to, and ends so."""
+    try:
+        data = compile_text(text, f"{name}.pas", options).data
+    except Refused as refused:
+        check(False, f"{name} is refused: {refused.faults[0].place}: {refused.faults[0]}")
+    found = run(data, given)
+    check(found == (output, ending), f"{name}: {found} is not {(output, ending)}")
+
+
+def try_cases():
+    for name, declarations, statements, given, output, ending in CASES:
+        text = f"PROGRAM T;\n{declarations}\nBEGIN\n{statements}\nEND.\n"
+        prints(name, text, given, output, ending)
+    cr = Options(line_end="cr", is_echoed=False)
+    text = "PROGRAM T; VAR S: STRING; BEGIN READLN(S); WRITELN(S) END."
+    prints("line ends", text, "a\r", "a\r", "", cr)
+    prints("no echo", text, "a\n", "a\n", "", Options(is_echoed=False))
+    write("part.inc", "CONST FIVE = 5;\n{$R-}")
+    text = "PROGRAM T; {$I part.inc}\nVAR N: 1..9; BEGIN N := 2 * FIVE; WRITE(N) END."
+    check("10 is outside 1..9" in faults_of(text)[0], "a constant of an included file")
+    prints("an included file", text.replace("N := 2 * ", "N := "), "", "5", "")
+    print(f"compile: {len(CASES) + 3} programs print what they have to")
+
+
+def try_programs():
+    """The examples and their programs, on the inputs that are written down with them."""
+    for name, given, output, ending in PROGRAMS:
+        data = compile_text(read_text(os.path.join(EXAMPLES, name)), name).data
+        found = run(data, given)
+        check(found[1] == ending, f"{name} ends with {found[1]!r}, and not with {ending!r}")
+        if isinstance(output, str):
+            check(found[0] == output, f"{name}: {found[0]!r} is not {output!r}")
+            continue
+        rest = found[0]
+        for part in output:
+            check(part in rest, f"{name}: {part!r} is not in {rest!r}")
+            rest = rest.split(part, 1)[1]
+    print(f"compile: the examples print what they have to on {len(PROGRAMS)} inputs")
+
+
+def try_sizes():
+    """No program is larger or takes more steps, by more than a tenth, than what was written by
+    hand."""
+    for name, (size, steps) in BY_HAND.items():
+        data = compile_text(read_text(os.path.join(EXAMPLES, name)), name).data
+        given = next(it[1] for it in PROGRAMS if it[0] == name)
+        length = int.from_bytes(data[6:8], "little")
+        check(length <= 1.1 * size, f"{name} has {length} bytes, and {size} by hand")
+        ending = run(data, given, "--steps", str(int(1.1 * steps) + 1))[1]
+        check(ending == "", f"{name} ends with {ending!r} within a tenth more than {steps} steps")
+    print(f"compile: {len(BY_HAND)} programs are as small and as fast as by hand, to a tenth")
+
+
+def try_made():
+    """Each example's code file is that of its text, its assembly makes the same, and its listing is
+    that of the loader with lines of the text between."""
+    found = sorted(glob.glob(os.path.join(EXAMPLES, "**", "*.pas"), recursive=True))
+    for path in found:
+        text, code, listing = path, path[:-4] + ".code", path[:-4] + ".lst"
+        check(tool("-o", "made.code", text)[0] == 0, f"{path} is refused")
+        check(read("made.code") == read(code), f"{code} is not that of its text")
+        status, assembly, _ = tool("--asm", text)
+        write("again.asm", assembly)
+        check(status == 0 and assembler.main(["again.asm"]) == 0, f"the assembly of {path}")
+        check(read("again.code") == read(code), f"the assembly of {path} makes another file")
+        status, listed, _ = tool("--list", os.path.basename(path), folder=os.path.dirname(path))
+        if os.path.exists(listing):
+            check(listed.encode() == read(listing), f"{listing} is not the listing of {path}")
+        plain = subprocess.run([PROGRAM, "list", code], check=True, capture_output=True).stdout
+        lines = [line for line in listed.splitlines(True) if not line.startswith(";")]
+        check("".join(lines).encode() == plain, f"the listing of {path}")
+    print(f"compile: {len(found)} code files are those of their texts, also by their assembly")
+
+
+def try_refusals():
+    count = 0
+    for statement, column, part in STATEMENTS:
+        told = faults_of(f"{DECLARED}{statement}\nEND.\n")
+        check(told and told[0].startswith(f"t.pas:{LINE}:{column}: ") and part in told[0],
+              f"{statement} ought to be refused at {LINE}:{column} with {part!r}; it is {told}")
+        count += 1
+    for declaration, column, part in DECLARATIONS:
+        told = faults_of(f"PROGRAM T;\n{declaration}\nBEGIN END.\n")
+        check(told and told[0].startswith(f"t.pas:2:{column}: ") and part in told[0],
+              f"{declaration} ought to be refused at 2:{column} with {part!r}; it is {told}")
+        count += 1
+    for text, place, part in TEXTS:
+        told = faults_of(text)
+        check(told and told[0].startswith(f"t.pas:{place}: ") and part in told[0],
+              f"{text!r} ought to be refused at {place} with {part!r}; it is {told}")
+    for text, places in ((SEVERAL, SEVERAL_PLACES), (TYPED, TYPED_PLACES)):
+        told = faults_of(text)
+        check([it.split(": ")[0][6:] for it in told] == places, f"all faults are told: {told}")
+    told = faults_of(DECLARED + "I := 'A';\n" * 20 + "END.")
+    check(len(told) == 10, "ten faults are told")
+    print(f"compile: {count + len(TEXTS) + 2} texts are refused at their places")
+
+
+def try_limits():
+    for name, text, given, output in limits.accepted():
+        prints(name, text, given, output, "")
+    for name, text, part in limits.refused():
+        told = faults_of(text)
+        check(len(told) > 0 and part in told[0], f"{name}: {told[:1]}")
+    print("compile: limits are met, and told")
+
+
+def garbled(random_source, texts):
+    """A text with some of its tokens lost, doubled or exchanged."""
+    tokens = list(random_source.choice(texts))
+    for _ in range(random_source.choice([1, 1, 1, 2, 3])):
+        at, chance = random_source.randrange(len(tokens)), random_source.random()
+        if chance < 0.3:
+            del tokens[at]
+        elif chance < 0.6:
+            tokens[at] = random_source.choice(tokens)
+        elif chance < 0.8:
+            tokens.insert(at, random_source.choice(tokens))
+        else:
+            tokens[at] = random_source.choice(BITS)
+    return "".join(tokens)
+
+
+def try_garbled(count):
+    """A garbled text is refused at a place, or makes a file that `check` takes."""
+    form = re.compile(r"\s+|\w+|'[^'\n]*'|\{[^}]*\}|\(\*|\*\)|:=|<>|<=|>=|\.\.|.")
+    texts = [form.findall(f"PROGRAM T;\n{it[1]}\nBEGIN\n{it[2]}\nEND.\n") for it in CASES]
+    names = ("echo", "calendar", "towers", "sorter", "calculator")
+    texts += [form.findall(read_text(os.path.join(EXAMPLES, f"{name}.pas"))) for name in names]
+    source, taken = random.Random(1), 0
+    for _ in range(count):
+        text = garbled(source, texts)
+        try:
+            data = compile_text(text, "t.pas").data
+        except Refused as refused:
+            told = str(refused.faults[0].place)
+            check(re.match(r"(t\.pas|part\.inc):\d+:\d+$", told), f"{told!r} is no place: {text}")
+            continue
+        taken += 1
+        write("t.code", data)
+        done = subprocess.run([PROGRAM, "check", "t.code"], check=False, capture_output=True)
+        check(done.returncode == 0, f"the loader says {done.stderr!r} of what is made of {text}")
+    print(f"compile: of {count} garbled texts {taken} make files that `check` takes, and "
+          f"{count - taken} are refused at a place")
+
+
+def tool(*words, folder=None):
+    """The command by a process of its own: its status, standard output and standard error."""
+    done = subprocess.run([sys.executable, TOOL, *words], check=False, capture_output=True,
+                          cwd=folder)
+    return done.returncode, done.stdout.decode("latin-1"), done.stderr.decode("latin-1")
+
+
+def try_command():
+    """The words, the statuses and the files."""
+    write("hello.pas", "PROGRAM HELLO;\nVAR N: INTEGER;\nBEGIN\n  N := 0;\n  {$L+} WRITELN('HI');\n"
+          "  N := 1 DIV N\nEND.\n")
+    status, out, err = tool("hello.pas")
+    check((status, out) == (0, "") and "hello.pas:5:3: note: the option L is not there" in err,
+          f"hello.pas: {status} {out} {err}")
+    done = subprocess.run([PROGRAM, "run", "hello.code"], check=False, capture_output=True)
+    said = re.fullmatch(rb"execution error 6 in procedure (\d+) at (\d+)\n", done.stderr)
+    check(done.stdout == b"HI\n" and said, f"hello.code says {done.stderr}")
+    found = tool("--where", said[1].decode(), said[2].decode(), "hello.pas")[1]
+    check(found == "hello.pas:6: N := 1 DIV N\n", f"--where says {found}")
+    check(tool("--where", "1", "9999", "hello.pas")[0] == 1, "--where 1 9999 is refused")
+    status, out, _ = tool("--help")
+    check(status == 0 and "nothing of it is proved" in out and "--where" in out, "--help")
+    for words in ((), ("--gone", "hello.pas"), ("--where", "1", "hello.pas"), ("hello.pas", "x"),
+                  ("--heap", "0", "hello.pas"), ("--check", "--asm", "hello.pas")):
+        check(tool(*words)[0] == 2, f"{words} are no words")
+    check("PROCEDURE PUTCHAR(C: CHAR);" in tool("--library")[1], "--library")
+    write("bad.pas", "PROGRAM B; BEGIN X := 1 END.")
+    write("bad.code", "old")
+    before = sorted(os.listdir("."))
+    check(tool("bad.pas") == (1, "", "bad.pas:1:18: X is not declared\n"), "bad.pas is refused")
+    check(tool("gone.pas")[0] == 1 and tool("--check", "hello.pas")[0] == 0, "gone.pas, --check")
+    check(tool("-o", "hello.pas", "hello.pas")[0] == 1, "the text is not written over")
+    check(sorted(os.listdir(".")) == before and read("bad.code") == b"old", "nothing is written")
+    check(tool("-o", "gone/x.code", "hello.pas")[0] == 1, "a folder that is not there")
+    old = "import sys; sys.version_info = (3, 6, 15); sys.argv = ['compile']; "
+    done = subprocess.run([sys.executable, "-c", f"{old}exec(open({TOOL!r}).read())"], check=False,
+                          capture_output=True)
+    check(done.returncode == 2 and b"Python 3.8 or newer is wanted" in done.stderr, "an old Python")
+    print("compile: words, statuses and files are as help says")
+
+
+def main(words):
+    if len(words) > 1 or not all(word.isdigit() for word in words):
+        print("usage: tests/compile [GARBLED]", file=sys.stderr)
+        return 2
+    if not os.environ.get("PGROUP"):
+        subprocess.run([os.path.join(TOP, "run"), "--help"], check=True, stdout=subprocess.DEVNULL)
+    sys.setrecursionlimit(RECURSION)
+    count = int(words[0]) if words else GARBLED
+    with tempfile.TemporaryDirectory() as room:
+        os.chdir(room)
+        for part in (try_cases, try_programs, try_sizes, try_made, try_refusals, try_limits,
+                     try_command):
+            part()
+        try_garbled(count)
+        os.chdir("/")
+    return 0
+
+
+if __name__ == "__main__":
+    sys.exit(main(sys.argv[1:]))

@@ -1,0 +1,187 @@
+"""Checks declarations, and a whole program."""
+
+from ..parsing import syntax
+from ..parsing.lexer import fold
+from .context import kind_of
+from .locations import is_word
+from .statements import Statements
+from .symbols import (Broken, ConstantSymbol, Copy, Parameter, Routine, Scopes, Standard,
+                      TypeSymbol, Variable)
+from .types import INTEGER, Ordinal, Pointer, Record
+
+MOST_ROUTINES = 255
+DEEPEST = 127
+# A function's frame begins with two words, of which the first is its value.
+RESULT_WORDS = 2
+# The main frame begins with INPUT and OUTPUT, which mean nothing here.
+FILE_WORDS = 2
+
+
+class Checker(Statements):
+    """The whole checker. Its entries are `check_library` and `check_program`."""
+
+    def __init__(self, faults, line_end):
+        super().__init__(Scopes(), faults, {})
+        self.line_end = line_end
+        self.main = Routine("PROGRAM", 0, None, None, words=FILE_WORDS, parameter_words=FILE_WORDS)
+
+    def check_library(self, blocks, constants):
+        """Declares the run-time library. Its procedures and variables get their numbers and
+        offsets where they are used."""
+        self.is_library, self.routine = True, self.main
+        self.scopes.open({fold(name): ConstantSymbol(INTEGER, it)
+                          for name, it in constants.items()})
+        self.scopes.scopes[-1]["ADDRESS"] = Standard("ADDRESS")
+        for block in blocks:
+            for declaration in block:
+                self.declare(declaration)
+        self.library = self.scopes.close()
+        self.is_library = False
+
+    def check_program(self, program):
+        """The routines of a program, the program itself first."""
+        main = self.main
+        main.name, main.place, main.number = program.name.written, program.place, 1
+        self.routines = [main]
+        self.scopes.open({program.name.name: main})
+        self.scopes.open()
+        self.block(main, program.block)
+        return self.routines
+
+    def block(self, routine, block):
+        around, self.routine = self.routine, routine
+        for declaration in block.declarations:
+            self.declare(declaration)
+        for symbol in self.scopes.scopes[-1].values():
+            if isinstance(symbol, Routine) and symbol.is_forward:
+                with self.faults.caught():
+                    self.refuse(f"{symbol.name} is declared FORWARD, and its body is missing",
+                                symbol.place)
+        routine.body = self.statement(block.body)
+        self.check_labels()
+        self.routine = around
+
+    def declare(self, node):
+        makers = {
+            syntax.LabelDeclaration: self.label, syntax.ConstDeclaration: self.const,
+            syntax.TypeDeclaration: self.type, syntax.VarDeclaration: self.variables,
+            syntax.RoutineDeclaration: self.routine_declaration,
+            syntax.TypesEnd: lambda _node: self.meet_targets(),
+        }
+        with self.faults.caught():
+            makers[type(node)](node)
+
+    def broken_at_a_fault(self, names, make):
+        """What is made; if it has a fault, the names are not told of again."""
+        try:
+            return make()
+        except Exception:
+            for name in names:
+                if not self.scopes.local(name):
+                    self.scopes.declare(name, Broken())
+            raise
+
+    def label(self, node):
+        if node.label in self.routine.labels:
+            self.refuse(f"the label {node.label} is declared twice", node.place)
+        self.routine.labels[node.label] = "declared"
+
+    def const(self, node):
+        symbol = self.broken_at_a_fault([node.name], lambda: self.constant(node.value))
+        self.scopes.declare(node.name, symbol)
+
+    def type(self, node):
+        kind = self.broken_at_a_fault([node.name], lambda: self.type_of(node.type))
+        if isinstance(node.type, syntax.Enumeration) and isinstance(kind, Ordinal):
+            kind.name = node.name.written
+        elif isinstance(kind, Record) and not kind.name:
+            kind.name = node.name.written
+        self.scopes.declare(node.name, TypeSymbol(kind))
+
+    def variables(self, node):
+        kind = self.broken_at_a_fault(node.names, lambda: self.type_of(node.type))
+        for name in node.names:
+            offset = 0 if self.is_library and self.routine is self.main else None
+            if offset is None:
+                offset = self.routine.allocate(kind.size, name.place)
+            self.scopes.declare(name, Variable(kind, self.routine, offset))
+
+    # Procedures and functions
+
+    def routine_declaration(self, node):
+        known = self.scopes.local(node.name)
+        if isinstance(known, Routine) and known.is_forward:
+            routine = known
+            routine.is_forward = False
+            self.check_again(node, routine)
+        else:
+            routine = self.fresh_routine(node)
+        if node.block is None:
+            routine.is_forward = True
+            return
+        self.scopes.open()
+        try:
+            self.declare_parameters(routine)
+            self.block(routine, node.block)
+        finally:
+            self.scopes.close()
+
+    def check_again(self, node, routine):
+        """The heading that comes behind a FORWARD declaration."""
+        if node.parameters or node.result:
+            self.refuse(f"the parameters and the type of {node.name.written} stand at its FORWARD "
+                        "declaration alone", node.place)
+        if node.is_function != bool(routine.result):
+            self.refuse(f"{node.name.written} is declared FORWARD as {kind_of(routine)}",
+                        node.place)
+
+    def fresh_routine(self, node):
+        level = self.routine.level + 1
+        routine = Routine(node.name.written, level, self.routine, node.place, self.is_library)
+        self.scopes.declare(node.name, routine)
+        if level > DEEPEST:
+            self.refuse(f"procedures are nested at most {DEEPEST} deep", node.place)
+        if not self.is_library:
+            self.routines.append(routine)
+            routine.number = len(self.routines)
+            if routine.number > MOST_ROUTINES:
+                self.refuse(f"a program has at most {MOST_ROUTINES} procedures, those of the "
+                            "library among them", node.place)
+        try:
+            self.heading(node, routine)
+        except Exception:
+            self.scopes.declare(node.name, Broken(), is_again=True)
+            raise
+        return routine
+
+    def heading(self, node, routine):
+        for group in node.parameters or []:
+            kind = self.type_of(group.type)
+            for name in group.names:
+                routine.parameters.append(Parameter(name.written, kind, group.is_var, name.place))
+        if node.is_function:
+            if not node.result:
+                self.refuse(f"the function {node.name.written} has no type: a : and its type are "
+                            "wanted", node.place)
+            routine.result = self.type_of(node.result)
+            if not isinstance(routine.result, (Ordinal, Pointer)):
+                self.refuse(f"a function gives a number, character, Boolean, name of a list or "
+                            f"pointer, and not a {routine.result}: take a VAR parameter",
+                            node.result.place)
+        words = len(routine.parameters) + (RESULT_WORDS if node.is_function else 0)
+        routine.words = routine.parameter_words = words
+
+    def declare_parameters(self, routine):
+        """The first parameter is pushed first, and so has the greatest offset."""
+        for k, parameter in enumerate(routine.parameters):
+            offset = routine.parameter_words - k
+            kind = parameter.type
+            if parameter.is_var or is_word(kind):
+                variable = Variable(kind, routine, offset, parameter.is_var)
+            else:
+                copy = routine.allocate(kind.size, parameter.place)
+                routine.copies.append(Copy(copy, offset, kind))
+                variable = Variable(kind, routine, copy)
+            name = syntax.Name(parameter.place, fold(parameter.name), parameter.name)
+            with self.faults.caught():
+                self.scopes.declare(name, variable)

@@ -1,0 +1,127 @@
+"""Checks the functions of the language."""
+
+from ..parsing import syntax
+from . import tree
+from .calls import Calls
+from .context import low_bit, number
+from .symbols import FileSymbol, Routine, TypeSymbol, Variable
+from .types import BOOLEAN, CHAR, INTEGER, Pointer, String, is_ordinal, wrap
+
+
+class StandardFunctions(Calls):
+    def standard_function(self, name, node):
+        makers = {
+            "ABS": self.abs_or_square, "SQR": self.abs_or_square, "CHR": self.chr, "ODD": self.odd,
+            "ORD": self.ord, "SUCC": self.neighbour, "PRED": self.neighbour,
+            "LENGTH": self.length, "POS": self.pos, "CONCAT": self.concat, "COPY": self.copy,
+            "EOLN": self.end_of, "EOF": self.end_of, "IORESULT": self.ioresult,
+            "MEMAVAIL": self.memavail, "SIZEOF": self.sizeof, "ADDRESS": self.address,
+        }
+        if name not in makers:
+            self.refuse(f"{name} is a procedure, and has no value", node.place)
+        return makers[name](name, node)
+
+    def abs_or_square(self, name, node):
+        value = self.integer(*self.take(node, 1))
+        if isinstance(value, tree.Constant):
+            result = abs(value.value) if name == "ABS" else value.value ** 2
+            return tree.Constant(INTEGER, wrap(result))
+        return tree.Operation(INTEGER, ("ABI" if name == "ABS" else "SQI",), [value])
+
+    def retyped(self, value, kind):
+        """The same word as a value of another type."""
+        if isinstance(value, tree.Constant):
+            return tree.Constant(kind, value.value)
+        if isinstance(value, tree.Load):
+            return tree.Load(kind, value.location)
+        if isinstance(value, tree.Operation):
+            return tree.Operation(kind, value.instruction, value.operands)
+        return tree.Operation(kind, (), [value])
+
+    def chr(self, _name, node):
+        return self.retyped(self.integer(*self.take(node, 1)), CHAR)
+
+    def odd(self, _name, node):
+        """All bits stay, and the lowest is looked at. So ORD(ODD(A) AND ODD(B)) works on all."""
+        return self.retyped(self.integer(*self.take(node, 1)), BOOLEAN)
+
+    def ord(self, _name, node):
+        argument, = self.take(node, 1)
+        value = self.value(argument)
+        if not is_ordinal(value.type) and not isinstance(value.type, Pointer):
+            self.refuse_type(argument, value.type, "a character, Boolean or name of a list")
+        return self.retyped(value, INTEGER)
+
+    def neighbour(self, name, node):
+        value = low_bit(self.ordinal(*self.take(node, 1)))
+        step = 1 if name == "SUCC" else -1
+        if isinstance(value, tree.Constant):
+            return tree.Constant(value.type, wrap(value.value + step))
+        instruction = "ADI" if step > 0 else "SBI"
+        return tree.Operation(value.type.host, (instruction,), [value, number(1)])
+
+    def length(self, _name, node):
+        text = self.string(*self.take(node, 1))
+        if isinstance(text, tree.TextValue):
+            return number(len(text.text))
+        return tree.Operation(INTEGER, ("LDB",), [tree.StringAddress(text), number(0)])
+
+    def pos(self, _name, node):
+        wanted, text = (self.string(it) for it in self.take(node, 2))
+        return self.call_library("POSITION", tree.StringAddress(wanted), tree.StringAddress(text))
+
+    def concat(self, _name, node):
+        parts = [self.string(it) for it in self.take(node, 1, 99)]
+        most = sum(longest(part) for part in parts)
+        return tree.Concatenation(String(max(1, min(most, 255))), parts)
+
+    def copy(self, _name, node):
+        text, at, count = self.take(node, 3)
+        text = self.string(text)
+        kind = String(max(1, longest(text)))
+        return tree.Copied(kind, text, self.integer(at), self.integer(count))
+
+    def file_of(self, arguments):
+        """INPUT or KEYBOARD as the first argument, or INPUT where there is none."""
+        first = arguments[0].value if arguments else None
+        if isinstance(first, syntax.Name):
+            symbol = self.scopes.find(first)
+            if isinstance(symbol, FileSymbol):
+                return symbol.name, arguments[1:]
+        return None, arguments
+
+    def end_of(self, name, node):
+        file, rest = self.file_of(node.arguments)
+        if rest or file == "OUTPUT":
+            self.refuse(f"{name} asks for the end of INPUT or KEYBOARD", node.place)
+        unit = number(2 if file == "KEYBOARD" else 1)
+        return self.call_library("ATEOLN" if name == "EOLN" else "ATEOF", unit)
+
+    def ioresult(self, _name, node):
+        self.take(node, 0)
+        return tree.Operation(INTEGER, ("CSP", 34), [])
+
+    def memavail(self, _name, node):
+        self.take(node, 0)
+        return self.call_library("MEMORY")
+
+    def address(self, _name, node):
+        """Where a variable lies; the library alone knows this function."""
+        return tree.Operation(INTEGER, (), [tree.Address(self.location(*self.take(node, 1)))])
+
+    def sizeof(self, _name, node):
+        """The bytes of a type or of a variable."""
+        argument, = self.take(node, 1)
+        symbol = self.scopes.find(argument) if isinstance(argument, syntax.Name) else None
+        if isinstance(symbol, TypeSymbol):
+            return number(2 * symbol.type.size)
+        if isinstance(symbol, (Routine, FileSymbol)):
+            self.refuse("SIZEOF asks for the bytes of a variable or type", argument.place)
+        if isinstance(symbol, Variable):
+            return number(2 * symbol.type.size)
+        return number(2 * self.location(argument).type.size)
+
+
+def longest(text):
+    """How many characters a string has at most."""
+    return len(text.text) if isinstance(text, tree.TextValue) else text.type.most

@@ -1,0 +1,94 @@
+"""Checks READ and WRITE, which become calls of the run-time library."""
+
+from ..parsing import syntax
+from . import tree
+from .context import number
+from .locations import is_word
+from .procedures import StandardProcedures
+from .types import CHAR, INTEGER, Array, String
+
+
+class InputOutput(StandardProcedures):
+    def write(self, name, node):
+        """WRITE(VALUE, VALUE:WIDTH ..): texts that follow one another are written at once."""
+        file, items = self.file_of(node.arguments)
+        if file and file == "INPUT":
+            self.refuse("INPUT is read, and not written", node.place)
+        if name == "WRITE" and not items:
+            self.refuse("WRITE has something to write", node.place)
+        statements, text = [], ""
+        for item in items:
+            known = self.known_text(item)
+            if known is not None:
+                text += known
+                continue
+            statements += self.text_written(node, text) + [self.item_written(node, item)]
+            text = ""
+        if name == "WRITELN":
+            text += chr(self.line_end)
+        return tree.Block(statements + self.text_written(node, text))
+
+    def text_written(self, node, text):
+        return [tree.WriteText(node.place, text)] if text else []
+
+    def known_text(self, item):
+        """What an item is to write, if that is known here."""
+        if not isinstance(item.value, (syntax.Text, syntax.Name)):
+            return None
+        if isinstance(item.value, syntax.Name) and item.width:
+            return None
+        value = self.value(item.value)
+        if isinstance(value, tree.Constant) and value.type is CHAR:
+            text = chr(value.value & 255)
+        elif isinstance(value, tree.TextValue):
+            text = value.text
+        else:
+            return None
+        if not item.width:
+            return text
+        width = self.integer(item.width)
+        if not isinstance(width, tree.Constant) or width.value > 255:
+            return None
+        return text.rjust(width.value)[:width.value if width.value > 0 else None]
+
+    def item_written(self, node, item):
+        value = self.value(item.value)
+        width = self.integer(item.width) if item.width else number(0)
+        if isinstance(value.type, String) or isinstance(value, tree.TextValue):
+            return self.perform(node, "WRITESTRING", tree.StringAddress(value), width)
+        if isinstance(value.type, Array) and value.type.is_text:
+            return self.perform(node, "WRITEARRAY", tree.Address(value.location),
+                                number(value.type.count), width)
+        names = {"INTEGER": "WRITEINT", "CHAR": "WRITECHAR", "BOOLEAN": "WRITEBOOLEAN"}
+        host = getattr(value.type, "host", None)
+        if not is_word(value.type) or not host or host.name not in names:
+            self.refuse_type(item.value, value.type, "an INTEGER, CHAR, BOOLEAN, STRING or packed "
+                             "array of characters")
+        if host is CHAR and not item.width:
+            return self.perform(node, "PUTCHAR", value)
+        return self.perform(node, names[host.name], value, width)
+
+    def read(self, name, node):
+        file, items = self.file_of(node.arguments)
+        if file == "OUTPUT":
+            self.refuse("OUTPUT is written, and not read", node.place)
+        if name == "READ" and not items:
+            self.refuse("READ has a variable to read", node.place)
+        unit = number(2 if file == "KEYBOARD" else 1)
+        statements = [self.item_read(node, item, unit) for item in items]
+        if name == "READLN":
+            statements.append(self.perform(node, "ENDLINE", unit))
+        return tree.Block(statements)
+
+    def item_read(self, node, item, unit):
+        self.refuse_width(item)
+        location = self.location(item.value)
+        kind = location.type
+        if isinstance(kind, String):
+            return self.perform(node, "READSTR", unit, tree.Address(location), number(kind.most))
+        host = getattr(kind, "host", None)
+        if host not in (CHAR, INTEGER):
+            self.refuse_type(item.value, kind, "an INTEGER, CHAR or STRING")
+        value = self.call_library("READCHAR" if host is CHAR else "READINT", unit)
+        value = self.fitted(value, kind, item.value, node.place.is_checked)
+        return tree.Assign(node.place, location, value)

@@ -1,0 +1,148 @@
+"""Checks the procedures of the language, but for READ and WRITE."""
+
+from ..parsing import syntax
+from . import tree
+from .context import number
+from .functions import StandardFunctions
+from .locations import is_packed
+from .symbols import Routine
+from .types import CHAR, Pointer, String
+
+UNITREAD, UNITWRITE, HALT, IOCHECK = 5, 6, 39, 0
+
+
+class StandardProcedures(StandardFunctions):
+    def standard_procedure(self, name, node):
+        makers = {
+            "DELETE": self.delete, "EXIT": self.exit, "FILLCHAR": self.fillchar,
+            "GOTOXY": self.gotoxy, "HALT": self.halt, "INSERT": self.insert, "MARK": self.mark,
+            "MOVELEFT": self.move, "MOVERIGHT": self.move, "NEW": self.new, "PAGE": self.page,
+            "READ": self.read, "READLN": self.read, "RELEASE": self.release, "STR": self.str,
+            "UNITREAD": self.transfer, "UNITWRITE": self.transfer, "WRITE": self.write,
+            "WRITELN": self.write,
+        }
+        if name not in makers:
+            self.refuse(f"{name} is a function: its value goes nowhere", node.place)
+        return makers[name](name, node)
+
+    def perform(self, node, name, *arguments):
+        """A call of a procedure of the library."""
+        return tree.Perform(node.place, self.call_library(name, *arguments))
+
+    # Strings
+
+    def delete(self, _name, node):
+        text, at, count = self.take(node, 3)
+        text = tree.Address(self.string_variable(text))
+        return self.perform(node, "DELETETEXT", text, self.integer(at), self.integer(count))
+
+    def insert(self, _name, node):
+        part, text, at = self.take(node, 3)
+        part = self.string(part)
+        if not isinstance(part, tree.TextValue):  # it may be the string into which it goes
+            part = tree.Concatenation(String(max(1, part.type.most)), [part])
+        part = tree.StringAddress(part)
+        location = self.string_variable(text)
+        most, text = number(location.type.most), tree.Address(location)
+        return self.perform(node, "INSERTTEXT", part, text, self.integer(at), most)
+
+    def str(self, _name, node):
+        value, text = self.take(node, 2)
+        location = self.string_variable(text)
+        most = number(location.type.most)
+        return self.perform(node, "DIGITS", self.integer(value), tree.Address(location), most)
+
+    # Bytes
+
+    def bytes_at(self, node):
+        """The base and the index of the bytes that a variable has."""
+        location = self.location(node)
+        if is_packed(location) and not is_byte(location):
+            self.refuse("a part of a packed array or record of fewer than 8 bits has no address",
+                        node.place)
+        return tree.ByteAddress(location)
+
+    def fillchar(self, _name, node):
+        target, count, character = self.take(node, 3)
+        value = self.value(character)
+        self.need(character, value.type, CHAR)
+        return self.perform(node, "FILL", self.bytes_at(target), self.integer(count), value)
+
+    def move(self, name, node):
+        source, target, count = self.take(node, 3)
+        return self.perform(node, name, self.bytes_at(source), self.bytes_at(target),
+                            self.integer(count))
+
+    def transfer(self, name, node):
+        """UNITREAD(UNIT, VARIABLE, LENGTH [, BLOCK [, MODE]])."""
+        unit, buffer, length, *rest = self.take(node, 3, 5)
+        values = [self.integer(unit), self.bytes_at(buffer), self.integer(length)]
+        values += [self.integer(it) for it in rest] + [number(0)] * (2 - len(rest))
+        number_of = UNITREAD if name == "UNITREAD" else UNITWRITE
+        done = tree.Transfer(node.place, number_of, values)
+        if not node.place.is_io_checked:
+            return done
+        return tree.Block([done, self.instruction(node, "CSP", IOCHECK)])
+
+    def instruction(self, node, *instruction):
+        return tree.Perform(node.place, tree.Operation(None, instruction, []))
+
+    # The heap
+
+    def pointer(self, node):
+        location = self.location(node)
+        if not isinstance(location.type, Pointer):
+            self.refuse_type(node, location.type, "a pointer")
+        return location
+
+    def new(self, _name, node):
+        """NEW(POINTER); the tags of variants that may follow save nothing."""
+        target, *tags = self.take(node, 1, 9)
+        for tag in tags:
+            self.ordinal(tag)
+        location = self.pointer(target)
+        if not location.type.target:
+            self.refuse_type(target, location.type, "a pointer to a type")
+        size = number(max(1, location.type.target.size))
+        return tree.Assign(node.place, location, self.call_library("TAKEROOM", size))
+
+    def mark(self, _name, node):
+        location = self.pointer(*self.take(node, 1))
+        return tree.Assign(node.place, location, self.call_library("TAKEROOM", number(0)))
+
+    def release(self, _name, node):
+        location = self.pointer(*self.take(node, 1))
+        return self.perform(node, "GIVEBACK", tree.Load(location.type, location))
+
+    # The end, and the screen
+
+    def exit(self, _name, node):
+        name, = self.take(node, 1)
+        if not isinstance(name, syntax.Name):
+            self.refuse("EXIT has the name of a procedure, or PROGRAM", node.place)
+        if name.name == "PROGRAM":
+            return tree.Exit(node.place, self.main)
+        symbol = self.scopes.find(name)
+        if not isinstance(symbol, Routine):
+            self.refuse(f"EXIT ends a procedure, and {name.written} is none", name.place)
+        return tree.Exit(node.place, symbol)
+
+    def halt(self, _name, node):
+        self.take(node, 0)
+        return self.instruction(node, "CSP", HALT)
+
+    def gotoxy(self, _name, node):
+        return self.perform(node, "SCREENXY", *(self.integer(it) for it in self.take(node, 2)))
+
+    def page(self, _name, node):
+        self.take(node, 0, 1)
+        file, rest = self.file_of(node.arguments)
+        if rest or file == "INPUT":
+            self.refuse("PAGE has the file OUTPUT, or none", node.place)
+        return self.perform(node, "CLEARSCREEN")
+
+
+def is_byte(location):
+    """Whether a location is a whole byte, which LDB and STB reach."""
+    return isinstance(location, tree.CharacterAt) or (
+        isinstance(location, tree.ElementAt) and location.base.type.is_bytes)

@@ -1,0 +1,171 @@
+"""Checks statements."""
+
+from ..parsing import syntax
+from . import tree
+from .context import kind_of, low_bit
+from .input_output import InputOutput
+from .locations import is_word
+from .symbols import OpenedField, Routine, Standard, Variable
+from .types import Record, Set, String, is_ordinal, with_article
+
+
+class Statements(InputOutput):
+    def statement(self, node):
+        """The checked tree of a statement; of one with a fault an empty block."""
+        checked = tree.Block([])
+        if node is None:
+            return checked
+        makers = {
+            syntax.Compound: lambda it: self.block_of(it.statements), syntax.Assign: self.assign,
+            syntax.CallStatement: self.call_statement, syntax.If: self.if_statement,
+            syntax.While: self.while_statement, syntax.Repeat: self.repeat,
+            syntax.For: self.for_statement, syntax.Case: self.case,
+            syntax.With: self.with_statement, syntax.Goto: self.goto,
+            syntax.Labelled: self.labelled,
+        }
+        with self.faults.caught():
+            checked = makers[type(node)](node)
+        return checked
+
+    def block_of(self, statements):
+        return tree.Block([self.statement(it) for it in statements])
+
+    # Assignments
+
+    def assign(self, node):
+        location = self.assigned(node.target)
+        value, kind = self.value(node.value), location.type
+        if is_word(kind):
+            value = self.fitted(value, kind, node.value, node.place.is_checked)
+            return tree.Assign(node.place, location, value)
+        if isinstance(kind, String):
+            most = tree.Constant(None, kind.most)
+            source = tree.StringAddress(self.string(node.value))
+            return self.perform(node, "ASSIGN", tree.Address(location), source, most)
+        if isinstance(kind, Set) and not isinstance(value.type, Set):
+            self.refuse_type(node.value, value.type, with_article(kind))
+        source = self.block_or_word(value, kind, node.value)
+        if isinstance(source, tree.TextValue):
+            return tree.StoreText(node.place, location, source.text)
+        return tree.MoveWords(node.place, location, source, kind.size)
+
+    def assigned(self, node):
+        """The location of an assignment: a variable, or the value of the function around it."""
+        symbol = self.scopes.find(node) if isinstance(node, syntax.Name) else None
+        if not isinstance(symbol, Routine):
+            return self.location(node)
+        around = self.routine
+        while around and around is not symbol:
+            around = around.parent
+        if not around or not symbol.result:
+            self.refuse(f"{node.written} is {kind_of(symbol)}: it gets a value within a function "
+                        "of that name alone", node.place)
+        return tree.VariableAt(symbol.result, Variable(symbol.result, symbol, 1))
+
+    def call_statement(self, node):
+        call = node.call
+        if isinstance(call, syntax.Name):
+            call = syntax.Call(call.place, call, [])
+        symbol = self.scopes.find(call.name)
+        if isinstance(symbol, Standard):
+            return self.standard_procedure(symbol.name, call)
+        if not isinstance(symbol, Routine) or not symbol.level:
+            missing = ": := is missing" if isinstance(symbol, (Variable, OpenedField)) else ""
+            self.refuse(f"{call.name.written} is {kind_of(symbol)}, and a procedure is wanted "
+                        f"here{missing}", node.place)
+        if symbol.result:
+            self.refuse(f"{call.name.written} is a function: its value goes nowhere", node.place)
+        return tree.Perform(node.place, self.routine_call(symbol, call.name, call.arguments))
+
+    # Choices and loops
+
+    def if_statement(self, node):
+        test = tree.Constant(None, 0)
+        with self.faults.caught():
+            test = self.boolean(node.test)
+        return tree.If(node.place, test, self.statement(node.yes),
+                       self.statement(node.no) if node.no else None)
+
+    def while_statement(self, node):
+        test = tree.Constant(None, 0)
+        with self.faults.caught():
+            test = self.boolean(node.test)
+        return tree.While(node.place, test, self.statement(node.body))
+
+    def repeat(self, node):
+        body = self.block_of(node.statements)
+        return tree.Repeat(node.place, body, self.boolean(node.test), node.test.place)
+
+    def for_statement(self, node):
+        name, is_checked = node.variable, node.place.is_checked
+        symbol = self.scopes.find(name)
+        if not isinstance(symbol, Variable) or not is_ordinal(symbol.type):
+            self.refuse(f"{name.written} is {kind_of(symbol)}, and FOR counts in a variable of "
+                        "numbers, characters or names of a list", name.place)
+        location, kind = tree.VariableAt(symbol.type, symbol), symbol.type
+        start = self.fitted(self.value(node.start), kind, node.start, is_checked)
+        limit = self.ordered(node.limit)
+        self.need(node.limit, limit.type, kind.host)
+        body = self.statement(node.body)
+        return tree.For(node.place, location, low_bit(start), limit, node.is_down, body)
+
+    def case(self, node):
+        selector = self.ordered(node.selector)
+        branches, seen = [], {}
+        for constants, body in node.branches:
+            values = []
+            for constant in constants:
+                symbol = self.ordinal_constant(constant)
+                self.need(constant, symbol.type, selector.type.host)
+                if symbol.value in seen:
+                    self.refuse(f"{symbol.type.shown(symbol.value)} stands in this CASE already, "
+                                f"in line {seen[symbol.value]}", constant.place)
+                seen[symbol.value] = constant.place.line
+                values.append(symbol.value)
+            branches.append((values, self.statement(body)))
+        if not branches:
+            self.refuse("this CASE has no constants", node.place)
+        return tree.Case(node.place, selector, branches)
+
+    def with_statement(self, node):
+        openings, opened = [], 0
+        try:
+            for record in node.records:
+                location = self.location(record)
+                if not isinstance(location.type, Record):
+                    self.refuse_type(record, location.type, "a RECORD")
+                opening = tree.Opening(location.type, location)
+                fields = location.type.fields.items()
+                self.scopes.open({name: OpenedField(opening, it) for name, it in fields})
+                opened += 1
+                openings.append(opening)
+            return tree.With(node.place, openings, self.statement(node.body))
+        finally:
+            for _ in range(opened):
+                self.scopes.close()
+
+    # Labels
+
+    def goto(self, node):
+        self.find_label(node)
+        if self.routine.labels[node.label] == "declared":
+            self.routine.labels[node.label] = node.place
+        return tree.Goto(node.place, node.label)
+
+    def labelled(self, node):
+        self.find_label(node)
+        if self.routine.labels[node.label] == "set":
+            self.refuse(f"the label {node.label} stands twice in {self.routine.name}", node.place)
+        self.routine.labels[node.label] = "set"
+        return tree.Labelled(node.place, node.label, self.statement(node.statement))
+
+    def find_label(self, node):
+        if node.label not in self.routine.labels:
+            self.refuse(f"the label {node.label} is not declared in {self.routine.name}: GOTO "
+                        "stays within a procedure", node.place)
+
+    def check_labels(self):
+        for label, state in self.routine.labels.items():
+            if state not in ("declared", "set"):
+                with self.faults.caught():
+                    self.refuse(f"the label {label} stands in front of no statement", state)

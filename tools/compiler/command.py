@@ -1,0 +1,131 @@
+"""The compiler's command line."""
+
+import argparse
+import os
+import sys
+
+from pcode.faults import Fault
+from pcode.files import drop_output, write_whole
+
+from . import report
+from .parsing.lexer import read_text
+from .program import HEAP, LIBRARY_FILES, LINE_ENDS, Options, Refused, compile_text, library_path
+
+ABOUT = """Compiles UCSD Pascal to a code file that pgroup runs. docs/PASCAL.md says which Pascal.
+
+It is a tool, and nothing of it is proved. A wrong compiler makes a wrong program; it cannot make a
+node do anything undefined, since the loader checks each code file."""
+EXAMPLES = """examples:
+  compile hello.pas                      writes hello.code
+  compile -o /tmp/h.code hello.pas       writes another file
+  compile --check hello.pas              says what is wrong, and writes nothing
+  compile --list hello.pas               the code with the lines of the text
+  compile --where 1 33 hello.pas         after `execution error 10 in procedure 1 at 33`: its line
+  compile --asm hello.pas > hello.asm    assembly, which tools/assemble makes the same file of
+  compile --line-end cr hello.pas        WRITELN writes 13, as in the p-System, and not 10
+  compile --heap 9000 hello.pas          more room for NEW
+
+READ takes 10 and 13 as the end of a line. A fault is told as FILE:LINE:COLUMN: what is wrong, on
+standard error, up to ten of them.
+
+Status 0: it was done. 1: the text has faults, or a file cannot be read or written; then no file is
+written, and an older one stays. 2: other words than these, or an older Python."""
+# Nested texts take some recursion; the parser refuses what is nested too deeply.
+RECURSION = 6000
+MOST_HEAP = 16000
+
+
+def heap_of(text):
+    if not (text.isascii() and text.isdigit() and len(text) <= 5 and 1 <= int(text) <= MOST_HEAP):
+        raise argparse.ArgumentTypeError(f"1 to {MOST_HEAP} words")
+    return int(text)
+
+
+def number_of(text):
+    if not (text.isascii() and text.isdigit() and len(text) <= 5):
+        raise argparse.ArgumentTypeError(f"{text} is no number")
+    return int(text)
+
+
+def words_parser():
+    parser = argparse.ArgumentParser(
+        prog="compile", description=ABOUT, epilog=EXAMPLES, allow_abbrev=False,
+        formatter_class=argparse.RawDescriptionHelpFormatter)
+    parser.add_argument("file", metavar="FILE.pas", nargs="?", help="the text of the program")
+    parser.add_argument("-o", dest="output", metavar="FILE",
+                        help="the code file; FILE.code without")
+    parser.add_argument("--line-end", choices=sorted(LINE_ENDS), default="lf",
+                        help="what WRITELN writes: lf is 10 (the default), cr is 13")
+    parser.add_argument("--heap", metavar="WORDS", type=heap_of, default=HEAP,
+                        help=f"room for NEW in words; {HEAP} without")
+    parser.add_argument("--no-echo", action="store_true",
+                        help="READ does not show what it reads: for a terminal that does so")
+    modes = parser.add_mutually_exclusive_group()
+    modes.add_argument("--check", action="store_true", help="only says what is wrong")
+    modes.add_argument("--asm", action="store_true", help="prints the program as assembly")
+    modes.add_argument("--list", action="store_true",
+                       help="prints the listing, with the lines of the text")
+    modes.add_argument("--where", nargs=2, metavar=("PROCEDURE", "OFFSET"), type=number_of,
+                       help="prints the line that an instruction comes from")
+    modes.add_argument("--library", action="store_true",
+                       help="prints the run-time library, which is Pascal; it wants no FILE.pas")
+    return parser
+
+
+def library():
+    for name in LIBRARY_FILES:
+        yield f"{{ {name}.pas }}"
+        yield read_text(library_path(name))
+
+
+def make(words):
+    """Does what the words say."""
+    if words.library:
+        print("\n".join(library()), end="")
+        return
+    text = read_text(words.file)
+    options = Options(words.line_end, words.heap, not words.no_echo)
+    program = compile_text(text, words.file, options)
+    for note in program.notes:
+        print(note, file=sys.stderr)
+    if words.asm:
+        print("\n".join(report.assembly(program)))
+    elif words.list:
+        print("\n".join(report.listing(program)))
+    elif words.where:
+        print(report.line_at(program, *words.where, words.file))
+    elif not words.check:
+        target = words.output or os.path.splitext(words.file)[0] + ".code"
+        if os.path.abspath(target) == os.path.abspath(words.file):
+            raise Fault("the code file would take the place of the text: name one by -o", target)
+        write_whole(target, program.data)
+
+
+def tell(fault, file):
+    print(f"{fault.place or file}: {fault}", file=sys.stderr)
+
+
+def main(arguments):
+    """Runs the command, and answers its status."""
+    parser = words_parser()
+    words = parser.parse_args(arguments)
+    if not words.file and not words.library:
+        parser.error("FILE.pas is missing")
+    sys.setrecursionlimit(RECURSION)
+    try:
+        make(words)
+        sys.stdout.flush()
+        return 0
+    except Refused as refused:
+        for fault in refused.faults:
+            tell(fault, words.file)
+    except Fault as fault:
+        tell(fault, words.file)
+    except RecursionError:
+        print(f"{words.file}:1:1: this text is nested too deeply", file=sys.stderr)
+    except BrokenPipeError:  # whoever reads the lines has enough
+        drop_output()
+    except OSError as fault:
+        drop_output()
+        print(f"standard output: {fault.strerror}", file=sys.stderr)
+    return 1

@@ -1,0 +1,1 @@
+"""From the checked tree to the procedures of a code file."""

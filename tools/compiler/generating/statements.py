@@ -1,0 +1,217 @@
+"""Statements."""
+
+from contextlib import contextmanager
+
+from ..checking import tree
+from .blocks import Blocks
+from .places import Frame
+from .values import words_of
+
+# Of a table for CASE: the words that lead nowhere, for each constant.
+MOST_SPARE = 8
+# Characters that are written at once, as the library's SCRATCH has room; fewer go one by one.
+SCRATCH, FEW = 80, 3
+
+
+class Statements(Blocks):
+    def statement(self, node):
+        makers = {
+            tree.Block: self.block, tree.Assign: self.assign, tree.MoveWords: self.move_words,
+            tree.StoreText: self.store_text, tree.WriteText: self.write_text,
+            tree.Perform: lambda it: self.push(it.value), tree.Transfer: self.transfer,
+            tree.Exit: self.exit, tree.If: self.if_statement, tree.While: self.while_statement,
+            tree.Repeat: self.repeat, tree.For: self.for_statement, tree.Case: self.case,
+            tree.With: self.with_statement, tree.Goto: self.goto, tree.Labelled: self.labelled,
+        }
+        if not isinstance(node, tree.Block):
+            self.code.place = node.place
+        with self.temporaries():
+            makers[type(node)](node)
+
+    @contextmanager
+    def temporaries(self):
+        """Temporaries that are made here are free again behind."""
+        top = self.top
+        yield
+        self.top = top
+
+    def temporary(self, words):
+        """Words of the frame for the time of a statement."""
+        offset = self.top + 1
+        self.top += words
+        self.most = max(self.most, self.top)
+        return Frame(self.routine, offset)
+
+    def block(self, node):
+        for statement in node.statements:
+            self.statement(statement)
+
+    def assign(self, node):
+        place = self.place(node.location)
+        self.prepare(place)
+        self.push(node.value)
+        self.store(place)
+
+    def move_words(self, node):
+        self.push_address(self.place(node.location))
+        self.push(node.source)
+        self.code.emit("MOV", node.words)
+
+    def store_text(self, node):
+        words = words_of(node.text)
+        self.push_address(self.place(node.location))
+        for word in reversed(words):
+            self.code.number(word - 65536 * (word > 32767))
+        self.code.emit("STM", len(words))
+
+    def write_text(self, node):
+        for k in range(0, len(node.text), SCRATCH):
+            part = node.text[k:k + SCRATCH]
+            if len(part) <= FEW:
+                for character in part:
+                    self.code.number(ord(character))
+                    self.call_library("PUTCHAR")
+                continue
+            variable = self.program.library["SCRATCH"]
+            self.store_words(Frame(variable.routine, self.offset_of(variable)), words_of(part))
+            self.code.number(len(part))
+            self.call_library("PUTTEXT")
+
+    def transfer(self, node):
+        for value in node.values:
+            self.push(value)
+        self.code.emit("CSP", node.procedure)
+
+    # Jumps
+
+    def exit(self, node):
+        if node.routine is not self.routine:
+            self.code.number(self.program.number_of(node.routine))
+            self.store(self.leaving())
+        self.code.emit("UJP", "exit")
+
+    def goto(self, node):
+        self.code.emit("UJP", f"G{node.label}")
+
+    def labelled(self, node):
+        self.code.set(f"G{node.label}")
+        self.statement(node.statement)
+
+    def if_statement(self, node):
+        code = self.code
+        otherwise = code.label()
+        self.jump_unless(node.test, otherwise)
+        self.statement(node.yes)
+        if node.no:
+            end = code.label()
+            code.emit("UJP", end)
+            code.set(otherwise)
+            self.statement(node.no)
+            code.set(end)
+        else:
+            code.set(otherwise)
+
+    def while_statement(self, node):
+        code = self.code
+        again, end = code.label(), code.label()
+        code.set(again)
+        self.jump_unless(node.test, end)
+        self.statement(node.body)
+        code.emit("UJP", again)
+        code.set(end)
+
+    def repeat(self, node):
+        again = self.code.label()
+        self.code.set(again)
+        self.statement(node.body)
+        self.code.place = node.until
+        self.jump_unless(node.test, again)
+
+    def for_statement(self, node):
+        """The variable is compared, and then counted: behind the loop it is one beyond the limit.
+        The limit is worked out once."""
+        code, limit = self.code, node.limit
+        self.assign(tree.Assign(node.place, node.location, node.start))
+        if not isinstance(limit, tree.Constant):
+            kept = self.temporary(1)
+            self.push(limit)
+            self.store(kept)
+        again, end = code.label(), code.label()
+        code.set(again)
+        self.load(self.place(node.location))
+        if isinstance(limit, tree.Constant):
+            code.number(limit.value)
+        else:
+            self.load(kept)
+        code.emit("GEQI" if node.is_down else "LEQI")
+        code.emit("FJP", end)
+        self.statement(node.body)
+        code.place = node.place
+        step = ("SBI",) if node.is_down else ("ADI",)
+        variable = tree.Load(node.location.type, node.location)
+        one = tree.Constant(None, 1)
+        self.assign(tree.Assign(node.place, node.location,
+                                tree.Operation(None, step, [variable, one])))
+        code.emit("UJP", again)
+        code.set(end)
+
+    def with_statement(self, node):
+        """The address of each record is worked out once, and kept if it is not known."""
+        for opening in node.openings:
+            place = self.place(opening.base)
+            opening.is_frame = isinstance(place, Frame)
+            if not opening.is_frame:
+                self.push_address(place)
+                place = self.temporary(1)
+                self.store(place)
+            opening.temporary = place
+        self.statement(node.body)
+
+    # CASE
+
+    def case(self, node):
+        values = [value for some, _ in node.branches for value in some]
+        spread = max(values) - min(values) + 1
+        if spread <= MOST_SPARE * (len(values) + 1):
+            self.case_by_table(node, min(values), max(values))
+        else:
+            self.case_by_tests(node)
+
+    def case_by_table(self, node, low, high):
+        """The branches come first, since an XJP's words lead back alone."""
+        code = self.code
+        table, end, where = code.label(), code.label(), {}
+        self.push(node.selector)
+        code.emit("UJP", table)
+        code.depth -= 1  # in the branches the selector is gone
+        for some, body in node.branches:
+            label = code.label()
+            code.set(label)
+            where.update((value, label) for value in some)
+            self.statement(body)
+            code.emit("UJP", end)
+        code.place = node.place
+        code.set(table)
+        code.depth += 1
+        labels = [where.get(value, "-") for value in range(low, high + 1)]
+        code.emit("XJP", low, high, end, *labels)
+        code.set(end)
+
+    def case_by_tests(self, node):
+        code, end = self.code, self.code.label()
+        kept = self.temporary(1)
+        self.push(node.selector)
+        self.store(kept)
+        for some, body in node.branches:
+            here, other = code.label(), code.label()
+            code.place = node.place
+            for k, value in enumerate(some):
+                self.load(kept)
+                code.number(value)
+                is_last = k + 1 == len(some)
+                code.emit("EFJ" if is_last else "NFJ", other if is_last else here)
+            code.set(here)
+            self.statement(body)
+            code.emit("UJP", end)
+            code.set(other)
+        code.set(end)

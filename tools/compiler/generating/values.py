@@ -1,0 +1,140 @@
+"""Values, and calls."""
+
+from ..checking import tree
+from .places import Frame, Places
+
+EQUAL_JUMPS = {"EQUI": "EFJ", "NEQI": "NFJ"}  # they jump where it does not hold
+
+
+def words_of(text, length=None):
+    """The words of characters, with the length in front of them if it is given."""
+    data = (text if length is None else chr(length) + text).encode("latin-1")
+    data += bytes(len(data) % 2)
+    return [int.from_bytes(data[k:k + 2], "little") for k in range(0, len(data), 2)]
+
+
+class Values(Places):
+    def push(self, node):
+        """Pushes a value, or the address that an argument is."""
+        makers = {
+            tree.Constant: lambda it: self.code.number(it.value),
+            tree.Load: lambda it: self.load(self.place(it.location)),
+            tree.Operation: self.operation, tree.Call: self.call, tree.Among: self.among,
+            tree.Address: lambda it: self.push_address(self.place(it.location)),
+            tree.ByteAddress: lambda it: self.push_bytes(it.location),
+            tree.StringAddress: lambda it: self.string(it.value),
+            tree.SetAddress: lambda it: self.set_address(it.value, it.words),
+            tree.TextValue: lambda it: self.text(words_of(it.text)),
+        }
+        makers[type(node)](node)
+
+    def operation(self, node):
+        for operand in node.operands:
+            self.push(operand)
+        if node.instruction:
+            self.code.emit(*node.instruction)
+
+    def text(self, words):
+        """Words that are known: they are put into a temporary, and its address is pushed."""
+        place = self.temporary(len(words))
+        self.store_words(place, words)
+        self.push_address(place)
+
+    def store_words(self, place, words):
+        self.push_address(place)
+        for word in reversed(words):
+            self.code.number(word - 65536 * (word > 32767))
+        self.code.emit("STM", len(words))
+
+    def jump_unless(self, test, label):
+        """Jumps where a Boolean does not hold."""
+        if isinstance(test, tree.Constant):
+            if not test.value & 1:
+                self.code.emit("UJP", label)
+            return
+        if isinstance(test, tree.Operation) and test.instruction[:1] in (("EQUI",), ("NEQI",)):
+            for operand in test.operands:
+                self.push(operand)
+            self.code.emit(EQUAL_JUMPS[test.instruction[0]], label)
+            return
+        self.push(test)
+        self.code.emit("FJP", label)
+
+    # Membership in brackets: comparisons, joined by OR
+
+    def among(self, node):
+        if not node.parts:
+            self.code.number(0)
+            return
+        again = self.repeated(node.value)
+        for k, (low, high) in enumerate(node.parts):
+            again()
+            self.push(low)
+            if high:
+                self.code.emit("GEQI")
+                again()
+                self.push(high)
+                self.code.emit("LEQI")
+                self.code.emit("LAND")
+            else:
+                self.code.emit("EQUI")
+            if k:
+                self.code.emit("LOR")
+
+    def repeated(self, value):
+        """What pushes a value again, which is worked out once."""
+        if isinstance(value, tree.Load) and isinstance(value.location, tree.VariableAt):
+            return lambda: self.push(value)
+        kept = self.temporary(1)
+        self.push(value)
+        self.store(kept)
+        return lambda: self.load(kept)
+
+    # Calls
+
+    def call(self, node):
+        for argument in node.arguments:
+            self.push(argument)
+        self.enter(node.routine)
+
+    def enter(self, routine):
+        """Calls a routine whose parameters are pushed."""
+        if routine.result:  # two words, of which the first is to be its value
+            self.code.number(0)
+            self.code.number(0)
+        number = self.program.number_of(routine)
+        if routine.level == 1:
+            self.code.emit("CGP", number)
+        else:
+            self.code.emit("CLP" if routine.parent is self.routine else "CIP", number)
+        self.code.depth -= routine.parameter_words
+        if routine.result:
+            self.code.depth += 1
+        if self.program.exits.get(routine):
+            self.leave_if_asked()
+
+    def call_library(self, name):
+        """Calls a procedure of the library whose parameters are pushed."""
+        self.enter(self.program.library[name])
+
+    def leave_if_asked(self):
+        """Behind a call that may end more than itself: goes to the end of this routine if it
+        did. Words that are pushed go first."""
+        self.load(self.leaving())
+        self.code.number(0)
+        if self.code.depth == 2:
+            self.code.emit("EFJ", "exit")
+            return
+        goes_on = self.code.label()
+        self.code.emit("NFJ", goes_on)
+        depth, kept = self.code.depth, self.temporary(1)
+        while self.code.depth:
+            self.store(kept)
+        self.code.emit("UJP", "exit")
+        self.code.depth = depth
+        self.code.set(goes_on)
+
+    def leaving(self):
+        """Where the number of the routine is that EXIT ends."""
+        variable = self.program.library["LEAVING"]
+        return Frame(variable.routine, self.offset_of(variable))

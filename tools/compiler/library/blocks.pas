@@ -1,0 +1,60 @@
+{ What the other files of the library stand on: bytes and words at an address.
+
+  The compiler calls these procedures for what a program says; a program does
+  not see their names. A parameter of the type BYTES takes the address of
+  anything: its bytes are used as far as the procedure is told. }
+{$R-}
+TYPE
+  BYTES = PACKED ARRAY[0..32765] OF CHAR;
+  WORDS = ARRAY[0..16382] OF INTEGER;
+
+VAR
+  LEAVING: INTEGER;              { the number of the procedure that EXIT ends, or 0 }
+
+{ Below 0, 0 or above 0, as the first N characters of S are below, equal to or
+  above those of T }
+FUNCTION COMPAREBYTES(VAR S, T: BYTES; N: INTEGER): INTEGER;
+VAR
+  I, D: INTEGER;
+BEGIN
+  I := 0;
+  REPEAT
+    D := ORD(S[I]) - ORD(T[I]);
+    I := I + 1
+  UNTIL (D <> 0) OR (I = N);
+  COMPAREBYTES := D
+END;
+
+FUNCTION SAMEWORDS(VAR S, T: WORDS; N: INTEGER): BOOLEAN;
+VAR
+  I: INTEGER;
+  SAME: BOOLEAN;
+BEGIN
+  I := 0;
+  REPEAT
+    SAME := S[I] = T[I];
+    I := I + 1
+  UNTIL (I >= N) OR NOT SAME;
+  SAMEWORDS := SAME
+END;
+
+PROCEDURE FILL(VAR D: BYTES; AT, N: INTEGER; C: CHAR);
+VAR
+  I: INTEGER;
+BEGIN
+  FOR I := AT TO AT + N - 1 DO D[I] := C
+END;
+
+PROCEDURE MOVELEFT(VAR S: BYTES; FROM: INTEGER; VAR D: BYTES; AT, N: INTEGER);
+VAR
+  I: INTEGER;
+BEGIN
+  FOR I := 0 TO N - 1 DO D[AT + I] := S[FROM + I]
+END;
+
+PROCEDURE MOVERIGHT(VAR S: BYTES; FROM: INTEGER; VAR D: BYTES; AT, N: INTEGER);
+VAR
+  I: INTEGER;
+BEGIN
+  FOR I := N - 1 DOWNTO 0 DO D[AT + I] := S[FROM + I]
+END;

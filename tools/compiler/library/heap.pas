@@ -1,0 +1,29 @@
+{ NEW, MARK, RELEASE and MEMAVAIL. The heap is an array of the program, with
+  HEAPWORDS words, of which the first USED are taken. ADDRESS is a function for
+  the library alone. }
+{$R-}
+VAR
+  USED: INTEGER;
+  ROOM: ARRAY[1..HEAPWORDS] OF INTEGER;
+
+FUNCTION TAKEROOM(N: INTEGER): INTEGER;  { the address; an execution error if it is full }
+VAR
+  LEFT: 0..MAXINT;
+BEGIN
+  {$R+} LEFT := HEAPWORDS - USED - N; {$R-}
+  TAKEROOM := ADDRESS(ROOM) + 2 * USED;
+  USED := USED + N
+END;
+
+PROCEDURE GIVEBACK(AT: INTEGER);
+VAR
+  BACK: 0..HEAPWORDS;
+BEGIN
+  {$R+} BACK := (AT - ADDRESS(ROOM)) DIV 2; {$R-}
+  USED := BACK
+END;
+
+FUNCTION MEMORY: INTEGER;
+BEGIN
+  MEMORY := HEAPWORDS - USED
+END;

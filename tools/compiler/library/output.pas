@@ -1,0 +1,99 @@
+{ WRITE, WRITELN, GOTOXY and PAGE. Unit 1 is the console. }
+{$R-}
+VAR
+  SCRATCH: PACKED ARRAY[1..80] OF CHAR;  { a text that is written at once }
+
+PROCEDURE PUTCHAR(C: CHAR);
+BEGIN
+  UNITWRITE(1, C, 1)
+END;
+
+PROCEDURE PUTTEXT(N: INTEGER);   { the first N characters of SCRATCH }
+BEGIN
+  UNITWRITE(1, SCRATCH, N)
+END;
+
+PROCEDURE BLANKS(N: INTEGER);
+VAR
+  I: INTEGER;
+BEGIN
+  FOR I := 1 TO N DO PUTCHAR(' ')
+END;
+
+PROCEDURE WRITECHAR(C: CHAR; WIDTH: INTEGER);
+BEGIN
+  BLANKS(WIDTH - 1);
+  PUTCHAR(C)
+END;
+
+PROCEDURE WRITEINT(N, WIDTH: INTEGER);   { -32768 too, which has no opposite }
+VAR
+  TEXT: PACKED ARRAY[0..5] OF CHAR;
+  I, REST: INTEGER;
+BEGIN
+  I := 6;
+  REST := N;
+  REPEAT
+    I := I - 1;
+    TEXT[I] := CHR(ABS(REST MOD 10) + ORD('0'));
+    REST := REST DIV 10
+  UNTIL REST = 0;
+  IF N < 0 THEN
+    BEGIN
+      I := I - 1;
+      TEXT[I] := '-'
+    END;
+  BLANKS(WIDTH - 6 + I);
+  UNITWRITE(1, TEXT[I], 6 - I)
+END;
+
+{ N characters of T from its byte AT on. A WIDTH above N puts blanks in front; one
+  from 1 to N cuts off; 0 and below do nothing }
+PROCEDURE WRITEPART(VAR T: BYTES; AT, N, WIDTH: INTEGER);
+BEGIN
+  IF WIDTH > N THEN BLANKS(WIDTH - N)
+  ELSE IF WIDTH > 0 THEN N := WIDTH;
+  UNITWRITE(1, T[AT], N)
+END;
+
+PROCEDURE WRITEARRAY(VAR T: BYTES; N, WIDTH: INTEGER);
+BEGIN
+  WRITEPART(T, 0, N, WIDTH)
+END;
+
+PROCEDURE WRITESTRING(VAR S: BYTES; WIDTH: INTEGER);
+BEGIN
+  WRITEPART(S, 1, ORD(S[0]), WIDTH)
+END;
+
+PROCEDURE WRITEBOOLEAN(B: BOOLEAN; WIDTH: INTEGER);  { whole, as numbers are }
+VAR
+  T: PACKED ARRAY[1..5] OF CHAR;
+  N: INTEGER;
+BEGIN
+  N := 4;
+  T := 'TRUE ';
+  IF NOT B THEN
+    BEGIN
+      N := 5;
+      T := 'FALSE'
+    END;
+  BLANKS(WIDTH - N);
+  UNITWRITE(1, T, N)
+END;
+
+{ The codes of a terminal: column X and line Y, from 0 }
+PROCEDURE SCREENXY(X, Y: INTEGER);
+BEGIN
+  PUTCHAR(CHR(27)); PUTCHAR('[');
+  WRITEINT(Y + 1, 0);
+  PUTCHAR(';');
+  WRITEINT(X + 1, 0);
+  PUTCHAR('H')
+END;
+
+PROCEDURE CLEARSCREEN;           { and goes to its upper left corner }
+BEGIN
+  PUTCHAR(CHR(27)); PUTCHAR('['); PUTCHAR('2'); PUTCHAR('J');
+  SCREENXY(0, 0)
+END;

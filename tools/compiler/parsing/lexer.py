@@ -1,0 +1,182 @@
+"""From text to tokens. Comments go, but for the compiler options in them."""
+
+import os
+import re
+from typing import Any, List, NamedTuple
+
+from pcode.faults import Fault
+
+from ..faults import Place
+
+# Of a word the first eight characters count.
+KEYWORDS = {word[:8] for word in (
+    "AND ARRAY BEGIN CASE CONST DIV DO DOWNTO ELSE END EXTERNAL FILE FOR FORWARD FUNCTION GOTO IF "
+    "IMPLEMENTATION IN INTERFACE LABEL MOD NOT OF OR PACKED PROCEDURE PROGRAM RECORD REPEAT "
+    "SEGMENT SET THEN TO TYPE UNIT UNTIL USES VAR WHILE WITH").split()}
+END = "the end of the text"
+TOKEN = re.compile(r"""
+    (?P<blank> [ \t\f]+ | \n )
+  | (?P<comment> \{ | \(\* )
+  | (?P<real> [0-9]+ ( \. [0-9]+ ( [eE] [-+]? [0-9]+ )? | [eE] [-+]? [0-9]+ ) )
+  | (?P<number> [0-9]+ )
+  | (?P<name> [A-Za-z] [A-Za-z0-9_]* )
+  | (?P<text> ' ( [^'\n] | '' )* ' )
+  | (?P<symbol> := | <> | <= | >= | \.\. | \(\. | \.\) | [-+*/=<>()\[\],;:.^] )
+""", re.VERBOSE)
+BRACKETS = {"(.": "[", ".)": "]"}
+DIGITS = 5  # of the greatest number
+MOST_INCLUDED = 20
+MOST_TEXT = 255
+
+# Options that change nothing in what a program does here, so that a note is enough.
+IDLE = {"C": "a comment of the code file", "D": "of the debugger", "F": "of the compiler's files",
+        "G": "GOTO is always there", "L": "a listing: --list makes one", "N": "native code",
+        "P": "pages of a listing", "Q": "what the compiler shows", "S": "how it is loaded",
+        "T": "of the compiler's tables", "U": "the user's programs", "V": "lengths of VAR strings"}
+
+
+class Token(NamedTuple):
+    """`kind` is name, number, text, or the keyword or symbol itself."""
+
+    kind: str
+    written: str
+    value: Any
+    place: Place
+
+    def __str__(self):
+        return self.written
+
+
+def fold(word: str) -> str:
+    """What counts of an identifier."""
+    return word.upper().replace("_", "")[:8]
+
+
+def read_text(file, place=None) -> str:
+    """The text of a file, a character for each byte."""
+    try:
+        with open(file, encoding="latin-1", newline="") as stream:
+            text = stream.read()
+    except OSError as fault:
+        what = file if place else "it"
+        raise Fault(f"{what} cannot be read: {fault.strerror}", place or file) from None
+    return text.replace("\r\n", "\n").replace("\r", "\n")
+
+
+class Lexer:
+    """Takes the tokens of a text, and of the files that it includes."""
+
+    def __init__(self, text, file, faults, depth=0):
+        self.text, self.file, self.faults, self.depth = text, file, faults, depth
+        self.tokens: List[Token] = []
+        self.at, self.line, self.start = 0, 1, 0  # the offset, its line, the offset of the line
+        self.options = {"R": True, "I": True}
+        self.notes: List[str] = []
+
+    def place(self):
+        return Place(self.file, self.line, self.at - self.start + 1, self.options["R"],
+                     self.options["I"])
+
+    def put(self, kind, written, value=None):
+        self.tokens.append(Token(kind, written, value, self.place()))
+
+    def move(self, end):
+        """Goes on at an offset, and counts the lines that lie between."""
+        lines = self.text.count("\n", self.at, end)
+        if lines:
+            self.line += lines
+            self.start = self.text.rindex("\n", self.at, end) + 1
+        self.at = end
+
+    def all(self) -> List[Token]:
+        while self.at < len(self.text):
+            found = TOKEN.match(self.text, self.at)
+            with self.faults.caught():
+                if not found:
+                    self.refuse_character()
+                elif found.lastgroup == "comment":
+                    self.comment(found[0])
+                else:
+                    self.take(found.lastgroup, found[0])
+            if found and found.lastgroup != "comment":
+                self.move(found.end())
+        self.put(END, END)
+        return self.tokens
+
+    def refuse_character(self):
+        place, character = self.place(), self.text[self.at]
+        quoted = re.compile(r'"[^"\n]*"').match(self.text, self.at)
+        if quoted:
+            self.put("text", quoted[0], quoted[0][1:-1])
+            self.move(quoted.end())
+            raise Fault("a text stands between ' and ', and not between double quotes", place)
+        self.move(self.at + 1)
+        if character == "'":
+            self.move((self.text + "\n").index("\n", self.at))
+            raise Fault("this text has no second quote on its line", place)
+        shown = character if " " < character < "\x7f" else f"number {ord(character)}"
+        raise Fault(f"the character {shown} is no part of Pascal", place)
+
+    def take(self, group, written):
+        if group == "name":
+            name = fold(written)
+            self.put(name if name in KEYWORDS else "name", written, name)
+        elif group == "number":
+            digits = written.lstrip("0") or "0"
+            if len(digits) > DIGITS or int(digits) > 32768:
+                self.put("number", written, 0)
+                raise Fault(f"{written[:12]} is above 32767, the greatest INTEGER; there are no "
+                            "long integers", self.place())
+            self.put("number", written, int(digits))
+        elif group == "real":
+            self.put("number", written, 0)
+            raise Fault(f"{written[:12]} is a real number, and there are none: take an INTEGER, of "
+                        "hundredths or the like", self.place())
+        elif group == "text":
+            if len(written) > MOST_TEXT + 2:
+                raise Fault(f"a text has at most {MOST_TEXT} characters", self.place())
+            self.put("text", written, written[1:-1].replace("''", "'"))
+        elif group == "symbol":
+            self.put(BRACKETS.get(written, written), written)
+
+    def comment(self, opening):
+        place, closing = self.place(), "}" if opening == "{" else "*)"
+        begin = self.at + len(opening)
+        end = self.text.find(closing, begin)
+        body = self.text[begin:end]
+        self.move(len(self.text) if end < 0 else end + len(closing))
+        if end < 0:
+            raise Fault(f"this comment has no {closing}", place)
+        if body.startswith("$"):
+            self.options_of(body[1:], place)
+
+    def options_of(self, text, place):
+        """`R+,I-` sets options; `I NAME` includes a file."""
+        included = re.fullmatch(r"[iI]\s*([^-+\s].*?)\s*", text, re.S)
+        if included:
+            self.include(included[1], place)
+            return
+        for word in text.split(","):
+            letter, sign = word.strip()[:1].upper(), word.strip()[1:2]
+            if letter in self.options and sign in ("+", "-"):
+                self.options[letter] = sign == "+"
+            elif letter in IDLE:
+                self.notes.append(f"{place}: note: the option {letter} is not there "
+                                  f"({IDLE[letter]}); it is passed over")
+            else:
+                raise Fault(f"there is no option {word.strip()[:12]}: R, I and I NAME are there",
+                            place)
+
+    def include(self, name, place):
+        if ":" in name or name.startswith("*"):
+            raise Fault(f"{name[:24]} is a file of a p-System's volume: put it beside this one, "
+                        "and name it without a volume", place)
+        if self.depth == MOST_INCLUDED:
+            raise Fault(f"more than {MOST_INCLUDED} files include one another", place)
+        path = os.path.join(os.path.dirname(self.file), name)
+        if "\0" in path:
+            raise Fault("the name of a file has no character 0", place)
+        inner = Lexer(read_text(path, place), path, self.faults, self.depth + 1)
+        inner.options = self.options
+        self.tokens += inner.all()[:-1]
+        self.notes += inner.notes

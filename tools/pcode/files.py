@@ -1,0 +1,42 @@
+"""Files that are read and written whole."""
+
+import os
+from contextlib import contextmanager
+
+from .faults import Fault
+
+
+def read_whole(name):
+    try:
+        with open(name, "rb") as file:
+            return file.read()
+    except OSError as fault:
+        raise Fault(f"it cannot be read: {fault.strerror}", name) from None
+
+
+@contextmanager
+def removed_at_a_fault(name):
+    """Removes a file if what is done here cannot be done."""
+    try:
+        yield
+    except OSError:
+        os.remove(name)
+        raise
+
+
+def write_whole(name, data):
+    """Writes a file that is never there in part: beside it first, and then to its name."""
+    fresh = f"{name}.{os.getpid()}"
+    try:
+        with open(fresh, "xb") as file:
+            with removed_at_a_fault(fresh):
+                file.write(data)
+                file.flush()
+                os.replace(fresh, name)
+    except OSError as fault:
+        raise Fault(f"it cannot be written: {fault.strerror}", name) from None
+
+
+def drop_output():
+    """Lets nothing more be written to standard output, not even at the end."""
+    os.dup2(os.open(os.devnull, os.O_WRONLY), 1)
