@@ -76,8 +76,8 @@ def check_widths():
                         fault(f"{path}:{number}: has {len(line)} columns, more than {most}")
 
 
-# What a proof may cite of the proofs of another crate: the lemmas of base, and those on std's maps.
-SHARED_LEMMAS = re.compile(r"base\.|paxos_learner\.proofs\.OnePlace\.")
+# What a proof may cite of the proofs of another crate: the lemmas of base, and two modules on std's lists and maps.
+SHARED_LEMMAS = re.compile(r"base\.|paxos_learner\.proofs\.OnePlace\.|group_node\.proofs\.Elements\.")
 
 
 def check_citations():

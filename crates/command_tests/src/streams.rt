@@ -47,6 +47,86 @@ fn a_reader_that_fails(rt: HostRuntime) -> Result<(), Fail> {
     Ok(())
 }
 
+/// A reader of an H, an I and a Q that fails once, where its second byte is asked for.
+#[derive(Drop)]
+struct ReaderFailsOnce {
+    calls: usize,
+}
+
+impl Read for ReaderFailsOnce {
+    fn read(&mut self, buffer: &mut [u8]) -> io::Result<usize> {
+        self.calls += 1;
+        let byte = match self.calls {
+            1 => b'H',
+            2 => return Err(io::Error::from(ErrorKind::Other)),
+            3 => b'I',
+            _ => b'Q',
+        };
+        match buffer.first_mut() {
+            Some(place) => {
+                *place = byte;
+                Ok(1)
+            }
+            None => Ok(0),
+        }
+    }
+}
+
+/// Shows what no clause says: a read that fails once is not made again, though the reader would go
+/// on. The run is refused as `E2`, after it has written what it had read.
+#[test]
+fn a_reader_that_fails_once(rt: HostRuntime) -> Result<(), Fail> {
+    let path = write_program(&rt, "reads", &READS)?;
+    let mut input = ReaderFailsOnce { calls: 0 };
+    let mut output = Vec::new(rt.alloc());
+    let ran = run_file(&rt, path.as_str(), DEFAULT_STEPS, &mut input, &mut output);
+    fs::remove_file(&rt, path.as_str())?;
+    assert!(rt; is_refused(rt.alloc(), ran, "E2")?);
+    assert_eq!(rt; output.as_slice(), b"H".as_slice());
+    assert_eq!(rt; input.calls, 2);
+    Ok(())
+}
+
+/// A writer that takes one byte, fails once, and takes each byte after that.
+#[derive(Drop)]
+struct WriterFailsOnce {
+    calls: usize,
+    first: u8,
+}
+
+impl Write for WriterFailsOnce {
+    fn write(&mut self, bytes: &[u8]) -> io::Result<usize> {
+        self.calls += 1;
+        match (self.calls, bytes.first()) {
+            (2, _) => Err(io::Error::from(ErrorKind::Other)),
+            (1, Some(byte)) => {
+                self.first = *byte;
+                Ok(1)
+            }
+            _ => Ok(1),
+        }
+    }
+
+    fn flush(&mut self) -> io::Result<()> {
+        Ok(())
+    }
+}
+
+/// Shows what no clause says: a write that fails once is not made again, though the writer would
+/// go on. The run is refused as `E3`, and reads no further byte.
+#[test]
+fn a_writer_that_fails_once(rt: HostRuntime) -> Result<(), Fail> {
+    let path = write_program(&rt, "reads", &READS)?;
+    let mut input: &[u8] = b"HIQ";
+    let mut output = WriterFailsOnce { calls: 0, first: 0 };
+    let ran = run_file(&rt, path.as_str(), DEFAULT_STEPS, &mut input, &mut output);
+    fs::remove_file(&rt, path.as_str())?;
+    assert!(rt; is_refused(rt.alloc(), ran, "E3")?);
+    assert_eq!(rt; (output.calls, output.first), (2, b'H'));
+    assert_eq!(rt; input, b"Q".as_slice());
+    Ok(())
+}
+
 /// A writer that fails at its first write, or takes nothing.
 #[derive(Drop)]
 struct FailingWriter {

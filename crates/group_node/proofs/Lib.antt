@@ -1,3 +1,4 @@
+pub mod Elements
 mod PacketsFit
 mod ByCases
 mod Sending
@@ -10,3 +11,9 @@ mod Seats
 mod NodeBackedAsMoreIsSent
 mod Saving
 mod WaitingKeys
+mod CallParts
+mod WrongLearning
+mod WrongSaves
+mod WrongOutputs
+mod WrongSends
+mod RightSteps

@@ -20,3 +20,4 @@ pub mod States
 pub mod Calls
 pub mod Deeds
 pub mod Fault
+pub mod WrongSteps

@@ -24,11 +24,11 @@ use Rattle.group_world.specs.Group.{World, new_world}
 use Rattle.group_world.specs.Member.{CallEnds, CallOutcome, Fell, Happened, Member, Refused, Running, member_after, member_after_release}
 use Rattle.group_world.specs.Processes.{DoesDeed, Entry, IsHistory, entries_of}
 use Rattle.group_process.specs.Runs.{AreRuns, Attempt, ConsolesAreReleased, FailsToStart, GoesOn, IsAfterRuns, IsAttempt, IsOver, NodeRun, Stand, StandsWith, Starts, ends_by, entries_of_attempt, entry_by, node_by, node_left, record_left, run_output, node_at_work, silent_entry}
-use Rattle.group_process.proofs.Elements.{first_in, rest_in}
 use Rattle.group_process.proofs.GroupLogs.{first, first_at}
 use Rattle.group_process.proofs.RunFronts.{ends_few}
 use Rattle.group_process.proofs.RunHistories.{IsAt, deed_is_entry, fall_is_history, history_then, stand_is_entry, start_is_entry}
 use Rattle.group_process.proofs.RunsShow.{LogLaws, down_before, node_there, run_shows}
+use Rattle.group_node.proofs.Elements.{first_in, rest_in}
 
 -- ---- one entry
 

@@ -1,4 +1,3 @@
-mod Elements
 mod GivenWasSent
 mod RunHistories
 mod GroupLogs

@@ -19,8 +19,8 @@ use Rattle.group_world.specs.declared.event.Outcome.TheVariants.{Kept}
 use Rattle.group_world.specs.Processes.{Entry, HearsOf, IsCarried, entries_of}
 use Rattle.group_process.specs.Network.{AreDelivered, AreLetters, IsNetworkLog, Received, entries_alone, given_for, received_at, received_by, received_in, received_in_run, with_given}
 use Rattle.group_process.specs.Runs.{AreRuns, Attempt, FailsToStart, GoesOn, IsAttempt, IsGroupLog, IsOver, NodeRun, Stand, Starts, end_after, run_end, ends_by, entries_of_attempt, entry_by, fall_of, record_left, silent_entry, unsaved}
-use Rattle.group_process.proofs.Elements.{first_in}
 use Rattle.group_process.proofs.GivenWasSent.{ReadLaw, letter_sent, message_sent}
+use Rattle.group_node.proofs.Elements.{first_in}
 
 -- ---- lists
 

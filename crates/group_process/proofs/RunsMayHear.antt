@@ -31,7 +31,7 @@ use Rattle.group_wire.specs.Traffic.{Letter, letters_of, letters_to}
 use Rattle.group_world.specs.declared.event.Outcome.TheVariants.{Kept}
 use Rattle.group_process.specs.Network.{AreDelivered, AreLetters, IsNetworkLog, MayHear, Received, entries_alone, received_by, received_in, received_in_run}
 use Rattle.group_process.specs.Runs.{AreRuns, Attempt, GoesOn, IsGroupLog, NodeRun, Starts, entry_by}
-use Rattle.group_process.proofs.Elements.{none_in, only_in}
+use Rattle.group_node.proofs.Elements.{none_in, only_in}
 
 -- the front of a node that has learned nothing
 no_entries : {X : Type 0} (xs : List X) → length xs ≡ 0 → xs ≡ []

@@ -19,9 +19,9 @@ use Rattle.group_world.specs.Headline.{ConsolesGrow}
 use Rattle.group_world.specs.Member.{Member}
 use Rattle.group_world.specs.Processes.{AlwaysLaterOfProcesses, AlwaysOfProcesses, ConsolesShowReleased, Entry, HasMoment, IsHistory, IsLog, entries_of}
 use Rattle.group_process.specs.Runs.{AreRuns, Attempt, ConsolesShowRuns, FailsToStart, GoesOn, IsAfterRuns, IsAttempt, IsLastIfOn, IsOver, NodeRun, Stand, Starts, ends_by, entries_of_attempt, entry_by, node_by, node_left, run_output, node_at_work, silent_entry}
-use Rattle.group_process.proofs.Elements.{in_cases, none_in}
 use Rattle.group_process.proofs.GroupLogs.{first, first_at}
 use Rattle.group_process.proofs.RunHistories.{IsAt, attempt_is_history, doings_are_entries, history_then, start_is_entry}
+use Rattle.group_node.proofs.Elements.{in_cases, none_in}
 
 -- ---- the node of a run
 

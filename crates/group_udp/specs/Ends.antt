@@ -79,11 +79,12 @@ IsRefusedNode plan e =
     ⊎ ((e ≡ group.Node Id) × IsSize plan.group.size
     × ((plan.node ≡ 0) ⊎ (plan.group.size < plan.node)))
 
--- The input can't be read whole. It is not read if typed bytes come as datagrams.
+-- The input can't be read whole: a read failed, of which none was counted before, or it is too
+-- long, or memory ran out. It is not read if typed bytes come as datagrams.
 abbrev pub IsRefusedInput : NodePlan → Option (List ℕ) → Option (List ℕ) → GroupFault → Type 0
 IsRefusedInput plan from to e =
-    (plan.keys ≡ None) × (fault : RunIo) × (fault ≢ Write) × HasReadFront from to fault
-    × (e ≡ group.Machine (Run fault))
+    (plan.keys ≡ None) × (faults : ℕ) × (fault : RunIo) × (fault ≢ Write)
+    × HasReadFront from to 0 faults fault × (e ≡ group.Machine (Run fault))
 
 -- The input that is typed.
 abbrev pub IsTypedText : Option SocketAddr → Option (List ℕ) → Option (List ℕ) → List ℕ → Type 0

@@ -10,7 +10,7 @@ use crate::limits::{LONG_PAUSE, LONG_REST, SHORT_REST};
 pub struct Pace {
     /// The time of the rest.
     pub rest: u64,
-    /// The first pause between repeats: as long as it usually takes until a place is learned.
+    /// The first pause between repeats: about twice the time from the last sending to learning.
     pub first: u64,
     /// True if the node sent anything but Asks before the rest.
     pub is_sending: bool,

@@ -22,16 +22,9 @@ use Rattle.group_world.specs.Event.{LeadsBy}
 use Rattle.group_world.specs.Group.{member_at, new_world, World, world_state}
 use Rattle.group_world.specs.Member.{at_progress, Member, member_after_call, member_after_release, Running}
 use Rattle.group_world.proofs.WorldAsGroup.{changed_here, stopped}
+use Rattle.group_world.specs.Witness.{letter_program}
 
--- ---- a program that writes the letter A
-
-abbrev writes_a : Parts
-writes_a = record {
-  name = [];
-  segment = 65 ∷ 171 ∷ 3 ∷ 1 ∷ 165 ∷ 3 ∷ 0 ∷ 1 ∷ 0 ∷ 0 ∷ 158 ∷ 6 ∷ 193 ∷ 0 ∷ 2 ∷ 0 ∷ 4 ∷ 0 ∷ 6 ∷ 0 ∷ 20 ∷ 0 ∷ 1 ∷ 0 ∷ 2 ∷ 0 ∷ 1 ∷ 1 ∷ [];
-  number = 1;
-  procs = (record { number = 1; level = 0; enter = 0; exit = 12; jtab = 22; low = 0; params = 2; vars = 1 }) ∷ [];
-}
+-- ---- steps that exist
 
 unfoldable pub is_step : Outcome → Bool
 is_step (Leads_to d) = true
@@ -42,7 +35,7 @@ unfoldable pub all_go : Parts → List ℕ → ℕ → Bool
 all_go p x zero = true
 all_go p x (suc n) = all_go p x n && is_step (outcome p x (after_steps p x n))
 
-goes_by : (p : Parts) (x : List ℕ) (c : Configuration) (o : Outcome) → is_step o ≡ true → outcome p x c ≡ o
+pub goes_by : (p : Parts) (x : List ℕ) (c : Configuration) (o : Outcome) → is_step o ≡ true → outcome p x c ≡ o
     → outcome p x c ≡ Leads_to (led c o)
 unfolding is_step
 goes_by p x c (Leads_to d) h e = e
@@ -88,12 +81,12 @@ module _ {p : Parts} {x : List ℕ} (h : WritesLetter p x) where
     over = refl;
   }
 
-writes_letter : (x : List ℕ) → WritesLetter writes_a x
+pub writes_letter : (x : List ℕ) → WritesLetter letter_program x
 unfolding all_go is_step out after_steps instr_of
 writes_letter x = record { goes = refl; writes = refl }
 
 abbrev ten : Progress
-ten = ten_of writes_a
+ten = ten_of letter_program
 
 -- ---- one node starts, runs and releases the letter
 
@@ -109,7 +102,7 @@ first = stopped empty_record
 
 -- a world that runs the program, in which nothing was sent or typed
 abbrev world : Group → List Member → World
-world group members = record { program = writes_a; group = group; members = members; sent = []; typed = [] }
+world group members = record { program = letter_program; group = group; members = members; sent = []; typed = [] }
 
 module _ (group : Group) (i : ℕ) where
   abbrev running : Progress → Running
@@ -117,10 +110,10 @@ module _ (group : Group) (i : ℕ) where
 
   -- the node after its start, after its run, and after its release
   abbrev up : Member
-  up = member_after_call (on_start (record { node = i; group = group }) empty_record) [] (no_progress writes_a)
+  up = member_after_call (on_start (record { node = i; group = group }) empty_record) [] (no_progress letter_program)
 
   abbrev ran : Member
-  ran = at_progress up (running (no_progress writes_a)) ten
+  ran = at_progress up (running (no_progress letter_program)) ten
 
   abbrev shown : Member
   shown = member_after_release ran (running ten) (slice_get (unreleased_of (input (running ten).known) ten) 0)
@@ -167,7 +160,7 @@ both_shown = world three (after_it three 2 (after_it three 1 (first ∷ first �
 pub bytes_are_possible : StepsLaw → (p : Parts) × (group : Group) × (events : List Event) × (w : World) × IsSize group.size × IsGroup group
     × LeadsBy (new_world p group) events w × (((world_state w).seats 1).console ≡ 65 ∷ []) × (((world_state w).seats 2).console ≡ 65 ∷ [])
 bytes_are_possible laws = (
-  writes_a,
+  letter_program,
   three,
   shows 1 ++ shows 2,
   both_shown,

@@ -41,10 +41,11 @@ use Rattle.group_world.specs.WrittenLogs.{node_in, started_times, three_nodes}
 use Rattle.group_world.proofs.ConsolesMayShow.{StepsLaw, replays, runs, waits}
 use Rattle.group_world.proofs.EventProcesses.{log_before, no_log, there_is}
 use Rattle.group_world.proofs.KeysMayShow.{line, ten, writes_letter}
-use Rattle.group_world.proofs.OrderPossible.{are_bytes, each_of}
+use Rattle.group_world.proofs.OrderPossible.{are_bytes}
 use Rattle.group_world.proofs.ProcessEvents.{events_lead, moved}
 use Rattle.group_world.proofs.WorldAsGroup.{ReadLaw, packet_read, stopped}
-use Rattle.group_world.proofs.WrittenLogs.{asking, campaign_does, entries_none, fresh, hear_does, kept_call, press_does, promise_does, start_does, up}
+use Rattle.group_world.proofs.WrittenLogs.{asking, campaign_does, fresh, hear_does, kept_call, press_does, promise_does, start_does, up}
+use Rattle.group_node.proofs.Elements.{each_of, entries_none}
 
 -- ---- the nodes
 

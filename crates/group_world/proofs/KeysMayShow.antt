@@ -14,7 +14,7 @@ use Rattle.paxos_msg.specs.Fits.{IsValue}
 use Rattle.paxos_msg.specs.Keys.{Key}
 use Rattle.paxos_msg.specs.Records.{empty_record}
 use Rattle.paxos_learner.proofs.OnePlace.{get_here}
-use Rattle.std.specs.FinMap.{empty, FinMap, entries, get, get-empty, insert, remove, entries-insert}
+use Rattle.std.specs.FinMap.{empty, FinMap, get, get-empty, insert, remove}
 use Rattle.group_node.specs.declared.player.Ran.TheVariants as more
 use Rattle.group_node.specs.Protocol.{on_message}
 use Rattle.group_node.specs.Known.{Response, Known}
@@ -29,12 +29,11 @@ use Rattle.group_world.specs.Group.{IsUp, new_world, up_of, with_member, World, 
 use Rattle.group_world.specs.Member.{NodeCall, Makes, Member, member_after_release, Running, save_outcome, call_of_campaign, call_of_press}
 use Rattle.group_world.specs.Headline.{HasLearned}
 use Rattle.group_world.specs.Witness.{echoes, letter_batch, one, shown_events}
-use Rattle.group_world.proofs.WrittenLogs.{entries_none, not_failing}
+use Rattle.group_world.proofs.WrittenLogs.{not_failing}
 use Rattle.group_world.proofs.ConsolesMayShow.{StepsLaw, WritesLetter, all_go, is_step, replays, runs, ten_of, waits}
 use Rattle.group_world.proofs.WorldAsGroup.{ReadLaw, stopped}
 use Rattle.group_world.proofs.OrderPossible.{FitsHere, fit_read, own_keys, ballot, message, are_bytes, ballot_fits, me, node_fits}
 use Rattle.std.specs.Ordering.{nat_cmp}
-use Rattle.std.specs.Cmp.{nat_cmp_total}
 use Rattle.paxos_msg.specs.declared.record.Change.TheVariants as change
 use Rattle.paxos_proposer.specs.Proposer.{Proposer, new_proposer, proposing}
 use Rattle.paxos_learner.specs.Entered.{keys_with}
@@ -42,6 +41,7 @@ use Rattle.paxos_learner.specs.Input.{learned_input}
 use Rattle.paxos_learner.specs.Tallies.{Tally}
 use Rattle.group_node.specs.Tick.{on_tick}
 use Rattle.group_node.specs.Pump.{pump}
+use Rattle.group_node.proofs.Elements.{entries_none, entries_one}
 
 -- ---- maps of nothing, and of one value
 
@@ -53,9 +53,6 @@ no_tallies = empty
 
 abbrev one_value : FinMap nat_cmp Value
 one_value = insert nothing 0 letter_batch
-
-entries_one : entries one_value ≡ (0, letter_batch) ∷ []
-entries_one = entries-insert nat_cmp_total nothing 0 letter_batch ∙ rw entries_none refl
 
 -- ---- the node
 
@@ -161,10 +158,10 @@ value_one = get_here nothing 0 letter_batch
 
 hears_accepted : on_message voting 1 (Accepted ballot 0 letter_batch) ≡ record
     { node = knowing; saves = None; sends = [] }
-hears_accepted = rw (value_none, entries_none, tally_none, entries_one, value_one) refl
+hears_accepted = rw (value_none, entries_none, tally_none, entries_one 0 letter_batch, value_one) refl
 
 input_is : learned_input one_value ≡ 65 ∷ []
-input_is = rw (entries_one, value_one) refl
+input_is = rw (entries_one 0 letter_batch, value_one) refl
 
 -- ---- its worlds
 

@@ -21,3 +21,10 @@ mod WrittenLogs
 mod WrongLogs
 mod KeyLog
 pub mod ScriptLines
+mod WrongGroups
+mod ChainedSteps
+mod TwoLearn
+mod TwoShow
+mod Takeover
+mod Restarts
+mod TwoStarts

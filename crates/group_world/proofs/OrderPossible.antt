@@ -5,7 +5,7 @@ use Rattle.std.proofs.lemmas.Bool.Decides.{nat_tests}
 use Rattle.std.specs.List.{AllByRecursion as EachOf, Contains, flat_map, slice_get, list_all}
 use Rattle.std.proofs.lemmas.Option.{same_Some}
 use Rattle.std.proofs.Common.{◌≡◌, ◌≢◌, ◌<◌, ◌≤◌, ℕ, zero, suc, List, [], ◌∷◌, ◌++◌, map, Option, Some, None, IfSome, refl, sym, subst, inl, inr, arith, lit<, ◌==◌, Bool, IsTrue, ap, ◌⊎◌, All, nat_lt, true, length}
-use Rattle.std.proofs.lemmas.List.Elements.{Contains-get_or, All-contains, All-from_recursion, Contains-push}
+use Rattle.std.proofs.lemmas.List.Elements.{Contains-get_or, All-from_recursion, Contains-push}
 use Rattle.std.proofs.lemmas.List.Quantifiers.{all_pairs_push}
 use Rattle.pcode_file.specs.Parts.{Parts}
 use Rattle.paxos_msg.specs.declared.message.Body.TheVariants.{Accept, Prepare, Submit, Tell, Accepted, Promise}
@@ -28,7 +28,7 @@ use Rattle.group_world.specs.Group.{me_of, member_at, World, world_state, seat_o
 use Rattle.group_world.specs.Member.{Member}
 use Rattle.group_node.specs.Ranges.{AllFit}
 use Rattle.group_world.proofs.WorldAsGroup.{nothing_shown, packets_read, ReadLaw, stopped}
-use Rattle.group_world.proofs.OrderLists.{left_place, none_in}
+use Rattle.group_world.proofs.OrderLists.{left_place}
 use Rattle.std.proofs.lemmas.Bool.{eqb-true, and_parts, ltb-true}
 use Rattle.paxos_msg.specs.declared.ballot.Ballot.{Ballot}
 use Rattle.paxos_msg.specs.declared.record.Change.TheVariants as change
@@ -38,10 +38,7 @@ use Rattle.paxos_msg.specs.Records.{changed, empty_record, IsSaved}
 use Rattle.paxos_msg.specs.Sending.{IsReport, IsUnproposed}
 use Rattle.paxos_msg.specs.declared.message.Group.{Group}
 use Rattle.paxos_acceptor.specs.declared.me.Me.{Me}
-
--- what holds of each of these, as a tuple, holds of one of them
-pub each_of : {X : Type 0} (P : X → Type 0) (xs : List X) (x : X) → EachOf P xs → Contains xs x → P x
-each_of P xs x each among = All-contains P xs x (All-from_recursion P xs each) among
+use Rattle.group_node.proofs.Elements.{each_of, none_in}
 
 -- ---- the keys, and the batches
 

@@ -9,12 +9,13 @@ use Rattle.std.specs.List.{Contains, All, range_with_len}
 use Rattle.paxos_msg.specs.Keys.{Key}
 use Rattle.group_world.specs.Order.{AreApart, HaveOneName, is_of, serials_of}
 use Rattle.group_world.specs.Ordered.{HasSerial, those_of, IsFirstUnread, IsPrepared, AreTypedKeys}
-use Rattle.group_world.proofs.OrderLists.{in_map, of_map, in_filter, of_filter, first_in, filter_none, of_range, range_more}
+use Rattle.group_world.proofs.OrderLists.{in_map, of_map, in_filter, of_filter, filter_none, of_range, range_more}
 use Rattle.paxos_msg.specs.declared.value.Value.{Value}
 use Rattle.paxos_msg.specs.Batches.{Sent}
 use Rattle.paxos_learner.specs.Input.{keys_in_order}
 use Rattle.group_node.specs.Inputs.{AreChosen}
 use Rattle.std.proofs.lemmas.List.FromFn.{length-range_with_len, get_or-range_with_len}
+use Rattle.group_node.proofs.Elements.{first_in}
 
 -- ---- keys of a start of a node
 

@@ -16,7 +16,7 @@ use Rattle.group_world.specs.Group.{IsUp, member_at, seat_of_member, up_of, Worl
 use Rattle.group_world.specs.Member.{Member, Running}
 use Rattle.group_world.specs.Headline.{ConsolesAgree, ConsolesHoldOutput, HasLearned, HasNoGap, LearnedAgree, LearnedChosen}
 use Rattle.group_world.specs.Sound.{IsSound, IsLearnedChosen}
-use Rattle.group_world.proofs.OrderLists.{none_in, left_place}
+use Rattle.group_world.proofs.OrderLists.{left_place}
 use Rattle.group_world.proofs.WorldAsGroup.{running}
 use Rattle.std.proofs.lemmas.Option.{slice_get_within, slice_get-get_or}
 use Rattle.std.specs.Ordering.{nat_cmp}
@@ -28,6 +28,7 @@ use Rattle.std.proofs.lemmas.Bool.Decides.{nat_tests}
 use Rattle.std.proofs.lemmas.List.{length_push, take-append-le}
 use Rattle.group_world.specs.Processes.{ConsolesShowReleased}
 use Rattle.group_node.specs.Output.{unreleased_of}
+use Rattle.group_node.proofs.Elements.{none_in}
 
 -- what the machine of a node has written, and the byte that the node releases next
 abbrev pub written : Running → List ℕ

@@ -11,7 +11,7 @@ use Rattle.group_world.specs.Group.{message_of, messages_in}
 use Rattle.group_node.specs.Deeds.{Deed, Hear}
 use Rattle.group_world.specs.Processes.{HearsOf, IsCarried, sent_in}
 use Rattle.group_world.specs.Timed.{AllHearEarlier, HearsEarlier, IsByTime, Timed, untimed}
-use Rattle.group_world.proofs.OrderLists.{in_cases, none_in}
+use Rattle.group_node.proofs.Elements.{in_cases, none_in}
 
 -- each element has what all have
 all_has : {X : Type 0} (P : X → Type 0) (xs : List X) (y : X) → AllByRecursion P xs → Contains xs y → P y

@@ -1,9 +1,7 @@
 -- Logs that are written down by hand, entry by entry: what each entry leaves, and what it says
 -- where it is one of a log.
-use Rattle.std.proofs.Common.{◌≡◌, ◌∙◌, ℕ, ◌+◌, ◌<◌, List, [], ◌∷◌, Option, None, Some, refl, sym, ap, subst, arith, length}
+use Rattle.std.proofs.Common.{◌≡◌, ℕ, ◌+◌, ◌<◌, List, [], ◌∷◌, Option, None, Some, refl, sym, ap, subst}
 use Rattle.std.proofs.lemmas.List.Elements.{All-from_recursion}
-use Rattle.std.specs.FinMap.{empty, entries, len-empty, len-entries}
-use Rattle.std.specs.Ordering.{nat_cmp}
 use Rattle.std.specs.List.{AllByRecursion}
 use Rattle.pcode_file.specs.Parts.{Parts}
 use Rattle.paxos_msg.specs.declared.message.Body.TheVariants.{Ask, Prepare, Promise}
@@ -29,6 +27,7 @@ use Rattle.group_world.specs.WrittenLogs.{entry_with, first_ballot, hear_entry, 
 use Rattle.group_world.proofs.ProcessEvents.{log_first, moved}
 use Rattle.group_world.proofs.EventProcesses.{log_before, no_log}
 use Rattle.group_world.proofs.WorldAsGroup.{ReadLaw, packets_read, stopped}
+use Rattle.group_node.proofs.Elements.{entries_none}
 
 -- ---- a log, entry by entry
 
@@ -100,13 +99,6 @@ start_does p me n spare = (
   refl,
   kept_call me (stopped (started_times n)) (no_progress p) (Start (started_times n)) _ (on_start me (started_times n)) [] spare,
 )
-
-pub entries_none : {X : Type 0} → entries (empty {X = X} {R = nat_cmp}) ≡ []
-entries_none {X} = no_entries _ (sym (len-entries (empty {X = X} {R = nat_cmp})) ∙ len-empty nat_cmp X)
-  where
-    no_entries : {Y : Type 0} (xs : List Y) → length xs ≡ 0 → xs ≡ []
-    no_entries [] e = refl
-    no_entries (x ∷ xs) e = absurd (omega arith)
 
 module _ (p : Parts) (me : Me) (kept : Record) (progress : Progress) (console : List ℕ) where
   -- a node that has heard nothing ticks

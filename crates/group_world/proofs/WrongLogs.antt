@@ -27,11 +27,11 @@ use Rattle.group_world.specs.Processes.{AreEventsOf, AreEventsOfDeed, DoesDeed, 
 use Rattle.group_world.specs.Timed.{AllHearEarlier, IsByTime, Timed}
 use Rattle.group_world.specs.WrittenLogs.{IsNoLog, IsSomeLog, entry_with, first_ballot, five_nodes, hear_entry, nine_nodes, node_in, quiet_entry, start_after, started_times, three_nodes}
 use Rattle.group_world.specs.WrongLogs.{IsOnlyOfUp, answers, campaigning, asks_all, crashes, deliver_event, failed_and_starts_over, heard_at, hears_ask_from, idle_sends, idle_types, nodes_down, only_start, press_event, press_types, presses, releasing, run_sends, starts_again_over, starts_twice, tick_sends, ticks, two_start}
-use Rattle.group_world.proofs.OrderLists.{first_in, in_cases, none_in}
 use Rattle.group_world.proofs.ProcessEvents.{log_first, moved}
 use Rattle.group_world.proofs.EventProcesses.{no_log}
 use Rattle.group_world.proofs.WorldAsGroup.{ReadLaw, changed_here, stopped}
 use Rattle.group_world.proofs.WrittenLogs.{Logs, after_start, asking, campaign_does, crash_does, fresh, logs_before, logs_none, press_does, ask_does, promise_does, sent_read, start_does, started, tick_does, up}
+use Rattle.group_node.proofs.Elements.{first_in, in_cases, none_in}
 
 -- ---- nodes that are up and down
 

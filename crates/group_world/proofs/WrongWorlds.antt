@@ -1,35 +1,29 @@
--- Worlds, steps and keys that break the promises, for the laws `wrong_worlds`, `wrong_steps` and
--- `wrong_orders`.
+-- Worlds and keys that break the claims, for the laws `wrong_worlds` and `wrong_orders`.
 use Rattle.std.proofs.lemmas.Bool.Decides.{nat_tests}
-use Rattle.paxos_msg.specs.Ballots.{count_of, IsMajority, IsBelow}
 use Rattle.paxos_msg.specs.Chosen.{is_listed, IsChosen, IsChosenBy}
 use Rattle.std.proofs.lemmas.Bool.{cases_eq, eq-eqb, lt-ltb}
-use Rattle.std.proofs.Common.{IsTrue, nat_lt, ◌==◌, false, ◌≤◌, ◌≡◌, ◌≢◌, ◌∙◌, ℕ, zero, suc, ◌+◌, ◌<◌, Bool, List, [], ◌∷◌, ◌++◌, Contains, slice_get, Some, inl, inr, ◌⊎◌, refl, sym, ap, subst, arith, lit<, Option, None}
+use Rattle.std.proofs.Common.{IsTrue, nat_lt, ◌==◌, ◌≡◌, ◌≢◌, ◌∙◌, ℕ, zero, suc, ◌+◌, ◌<◌, List, [], ◌∷◌, ◌++◌, Contains, slice_get, Some, inl, inr, ◌⊎◌, refl, sym, ap, subst, arith, lit<}
 use Rattle.std.proofs.lemmas.Option.{same_Some}
 use Rattle.pcode_machine.specs.Runs.{AreComparable, after_steps, begin, led, out}
 use Rattle.pcode_machine.specs.Configuration.{Configuration}
 use Rattle.pcode_machine.specs.Outcome.{outcome}
 use Rattle.paxos_msg.specs.declared.ballot.Ballot.{Ballot}
-use Rattle.paxos_msg.specs.declared.message.Body.TheVariants.{Accepted, Prepare}
+use Rattle.paxos_msg.specs.declared.message.Body.TheVariants.{Accepted}
 use Rattle.paxos_msg.specs.declared.value.Value.{Value}
 use Rattle.paxos_msg.specs.declared.value.Value.TheVariants.{Noop, Keys}
-use Rattle.paxos_msg.specs.Batches.{Msg, Sent, Body, Change, MaySend, MaySendAll}
-use Rattle.paxos_msg.specs.Messages.{IsSent, messages_of}
+use Rattle.paxos_msg.specs.Batches.{Msg, Sent}
+use Rattle.paxos_msg.specs.Messages.{IsSent}
 use Rattle.paxos_learner.proofs.OnePlace.{get_here}
 use Rattle.group_node.specs.Inputs.{AreChosen, IsInput}
-use Rattle.group_node.specs.World.{WorldState, CallOrFall, MayCause, Seat, Up, WorldStep}
+use Rattle.group_node.specs.World.{WorldState}
 use Rattle.group_world.specs.Headline.{ConsolesAgree, ConsolesGrow, ConsolesHoldOutput, HasLearned, HasNoGap, LearnedAgree, LearnedChosen, LearnedStays}
 use Rattle.group_world.specs.Order.{KeysOnce, SerialsInOrder, AreApart, AreInOrder}
-use Rattle.group_world.specs.WrongWorlds.{accepted_message, chosen, chosen_two, early_byte, key, knows, not_chosen, not_typed, other_byte, silent, two_consoles, two_values, wrong_console, first_node, prepares, promised, runs_with, stopped_with}
-use Rattle.group_world.proofs.OrderPossible.{each_of}
-use Rattle.group_world.proofs.OrderLists.{none_in}
-use Rattle.std.specs.FinMap.{empty, insert, get, get-empty}
+use Rattle.group_world.specs.WrongWorlds.{accepted_message, chosen, chosen_two, early_byte, key, knows, not_chosen, not_typed, other_byte, silent, two_consoles, two_values, wrong_console}
+use Rattle.std.specs.FinMap.{empty, insert}
 use Rattle.std.specs.List.{range_with_len}
 use Rattle.paxos_learner.specs.Input.{keys_in_order}
-use Rattle.std.specs.Ordering.{nat_cmp}
-use Rattle.paxos_msg.specs.Records.{empty_record}
-use Rattle.paxos_learner.specs.Backed.{MayLearn}
 use Rattle.group_node.specs.World as group
+use Rattle.group_node.proofs.Elements.{each_of, minority, none_in}
 
 -- ---- keys that are not in order, or not apart
 
@@ -113,25 +107,13 @@ who b i among =
       ),
     ) among b refl
 
--- a set of more nodes counts no fewer
-count_grows : (p q : ℕ → Bool) (n : ℕ) → ((i : ℕ) → i ≤ n → IsTrue (p i) → IsTrue (q i)) → count_of p n ≤ count_of q n
-count_grows p q zero all = omega arith
-count_grows p q (suc n) all =
-    grind (arith, nat_tests, all (suc n) (omega arith), count_grows p q n (λ i low. all i (omega arith)))
-
--- members that are among two of five are not a majority
-few : (members among : ℕ → Bool) → count_of among 5 ≤ 2 → ((i : ℕ) → i ≤ 5 → IsTrue (members i) → IsTrue (among i)) → ¬ IsMajority 5 members
-few members among low within h =
-    let less = count_grows members among 5 within in
-    omega (arith, h)
-
 not_by_three : (b : Ballot) → ¬ IsChosenBy 5 not_chosen.sent b 0 Noop
 not_by_three b (members, majority, each) = elim (cases_eq b.round 1) [
-  | inl one ↦ few members (λ i. i == 3) (omega arith) (λ i upto is. elim (who b i (each i is)) [
+  | inl one ↦ minority 5 members (λ i. i == 3) (omega arith) (λ i is. elim (who b i (each i is)) [
     | inl h ↦ eq-eqb i 3 h.0
     | inr h ↦ absurd (omega (arith, h.2))
   ]) majority
-  | inr ne ↦ few members (λ i. nat_lt 3 i) (omega arith) (λ i upto is. elim (who b i (each i is)) [
+  | inr ne ↦ minority 5 members (λ i. nat_lt 3 i) (omega arith) (λ i is. elim (who b i (each i is)) [
     | inl h ↦ absurd (ne h.1)
     | inr h ↦ lt-ltb 3 i (omega (arith, h.0, h.1))
   ]) majority
@@ -211,88 +193,3 @@ second_early h = early (h (key 2 66 ∷ key 1 65 ∷ []) (two_chosen (key 2 66) 
 
 pub second_left_out : ¬ SerialsInOrder (chosen_two (key 1 65) (key 3 67))
 second_left_out h = gap (h (key 1 65 ∷ key 3 67 ∷ []) (two_chosen (key 1 65) (key 3 67)))
-
--- ---- steps that no event makes
-
--- ---- what a tick may send and learn
-
-abbrev ballot : ℕ → Ballot
-ballot round = record { round = round; node = 1 }
-
-no_vote : (learned : ℕ → Option Value) (bodies : List Body)
-    → accepted_message 1 1 0 Noop ∷ [] ≡ messages_of 1 bodies
-    → MaySendAll 5 [] learned [] 1 empty_record bodies → ⊥
-no_vote learned [] e may = cc
-no_vote learned (body ∷ more) e may =
-    let first : accepted_message 1 1 0 Noop ≡ record { sender = 1; body = body } = cc in
-    let same = sym (ap (λ (m : Msg). m.body) first) in
-    let voted = subst (MaySend 5 [] learned [] 1 empty_record) same may.0 in
-    let none = voted.1 in
-    cc
-
-pub unproposed : ¬ WorldStep (first_node (runs_with empty_record empty) []) (group.Tick 1)
-    (first_node (runs_with empty_record empty) (accepted_message 1 1 0 Noop ∷ []))
-unproposed h = no_vote _ h.bodies h.rest.sent h.sends
-
--- nothing is chosen if nothing was sent
-none_chosen : (v : Value) → ¬ IsChosen 5 [] 0 v
-none_chosen v (b, (members, majority, each)) =
-    few members (λ i. false) (omega arith) (λ i upto is. absurd (none_in _ (each i is))) majority
-
-none_to_learn : (v : Value) → ¬ MayLearn 5 [] 0 v
-none_to_learn v (inl said) = none_in _ said.1
-none_to_learn v (inr chosen) = none_chosen v chosen
-
-pub alone : ¬ WorldStep (first_node (runs_with empty_record empty) []) (group.Tick 1)
-    (first_node (runs_with empty_record (insert empty 0 Noop)) [])
-alone h =
-    let up = ap (λ (s : Seat). s.up) h.left in
-    let now : knows (insert empty 0 Noop) ≡ h.now = cc in
-    let from = h.from in
-    let was : knows empty ≡ h.was = cc in
-    elim (h.learns.gains 0 Noop
-    (ap (λ (u : Up). get u.learned 0) (sym now) ∙ get_here empty 0 Noop)) [
-      | inl old ↦
-          let before = ap (λ (u : Up). get u.learned 0) was ∙ old in
-          let none : get (empty {X = Value} {R = nat_cmp}) 0 ≡ None = get-empty nat_cmp 0 in
-          cc
-      | inr may ↦ none_to_learn Noop may
-    ]
-
--- ---- promises
-
-not_below : ¬ IsBelow (ballot 2) (ballot 1)
-not_below h = grind (arith, nat_tests)
-
-abbrev hears : WorldState
-hears = first_node (runs_with (promised 1 2) empty) (prepares 1)
-
-abbrev gone_back : WorldState
-gone_back = first_node (runs_with (promised 1 1) empty) (prepares 1)
-
-no_way_back : (saved : Option Change) → MayCause (Prepare (ballot 1) 0) saved
-    → CallOrFall hears gone_back 1 saved → ⊥
-no_way_back saved (inl none) call =
-    let made = subst (CallOrFall hears gone_back 1) none call in
-    let same = ap (λ (x : Ballot). x.round) (same_Some (ballot 1) (ballot 2) (ap (λ (s : Seat). s.kept.promised) made.left)) in
-    omega arith
-no_way_back saved (inr some) call =
-    elim (subst (CallOrFall hears gone_back 1) some call) [
-      | inl made ↦ not_below made.saves
-      | inr member_after_fall ↦ not_below member_after_fall.1.saves
-    ]
-
-pub lower : ¬ WorldStep hears (group.Deliver 0 1) gone_back
-lower h =
-    let there = h.is_sent in
-    let same : record { sender = 1; body = Prepare (ballot 1) 0 } ≡ h.message = cc in
-    no_way_back h.saved (subst (λ (m : Msg). MayCause m.body h.saved) (sym same) h.cause) h.call
-
-pub forgotten : ¬ WorldStep (first_node (stopped_with (promised 1 2)) []) (group.Start 1)
-    (first_node (runs_with (record (promised 2 2) { promised = None }) empty) [])
-forgotten (down, inl h) =
-    let none = ap (λ (s : Seat). s.kept.promised) h.left in
-    cc
-forgotten (down, inr h) =
-    let none = h.down in
-    cc

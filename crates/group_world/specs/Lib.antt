@@ -14,3 +14,5 @@ pub mod Witness
 pub mod WrittenLogs
 pub mod WrongLogs
 pub mod KeyLog
+pub mod WrongGroups
+pub mod RightGroups

@@ -5,10 +5,10 @@ use Rattle.std.specs.Ordering.{nat_cmp}
 use Rattle.std.specs.FinMap.{FinMap, empty, insert}
 use Rattle.pcode_file.specs.Parts.{Parts}
 use Rattle.pcode_machine.specs.Configuration.{configuration_of, unframed}
-use Rattle.paxos_msg.specs.declared.message.Body.TheVariants.{Accepted, Prepare}
+use Rattle.paxos_msg.specs.declared.message.Body.TheVariants.{Accepted}
 use Rattle.paxos_msg.specs.declared.value.Value.{Value}
 use Rattle.paxos_msg.specs.declared.value.Value.TheVariants.{Keys, Noop}
-use Rattle.paxos_msg.specs.Batches.{Msg, Record, Sent}
+use Rattle.paxos_msg.specs.Batches.{Msg, Sent}
 use Rattle.paxos_msg.specs.Records.{empty_record}
 use Rattle.group_node.specs.World.{Seat, Up, WorldState}
 
@@ -115,26 +115,3 @@ other_byte = five 3 (releases (66 ∷ []) 0 (65 ∷ [])) 5 (shows []) []
 -- A group in which these two values are chosen at the places 0 and 1.
 abbrev pub chosen_two : Value → Value → WorldState
 chosen_two v u = five 4 (shows []) 5 (shows []) (chosen 0 v ++ chosen 1 u)
-
--- ---- steps: groups in which node 1 is this and the others have done nothing
-
--- A node with this stored record, which is up and has learned these values.
-abbrev pub runs_with : Record → FinMap nat_cmp Value → Seat
-runs_with kept values = record { kept = kept; console = []; up = Some (knows values) }
-
--- A node with this stored record, which is down.
-abbrev pub stopped_with : Record → Seat
-stopped_with kept = record { kept = kept; console = []; up = None }
-
--- A group in which node 1 is this, and the others have done nothing.
-abbrev pub first_node : Seat → Sent → WorldState
-first_node seat sent = five 1 seat 5 (shows []) sent
-
--- The record of a node with this many starts, which has promised node 1's ballot of this round.
-abbrev pub promised : ℕ → ℕ → Record
-promised starts round =
-    record { starts = starts; promised = Some (record { round = round; node = 1 }); votes = [] }
-
--- The one message of node 1 that asks for a promise of its ballot of this round.
-abbrev pub prepares : ℕ → Sent
-prepares round = record { sender = 1; body = Prepare (record { round = round; node = 1 }) 0 } ∷ []

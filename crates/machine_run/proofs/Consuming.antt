@@ -1,5 +1,5 @@
 -- Reads one after another.
-use Rattle.std.proofs.Common.{◌<◌, ◌≤◌, ℕ, List, ◌++◌, Option, Some, None, length, take, sym, ap, ◌∙◌, arith}
+use Rattle.std.proofs.Common.{◌<◌, ◌≤◌, ◌-◌, ℕ, List, ◌++◌, Option, Some, None, length, take, sym, ap, ◌∙◌, arith}
 use Rattle.std.proofs.lemmas.List.{append_assoc, length-append, length-take-le}
 use Rattle.std.specs.Io.KnownBytes.{Consumes}
 
@@ -12,3 +12,7 @@ consumes_on (Some old) (Some mid) (Some new) xs ys h k = h ∙ (ap (λ (r : List
 -- at least one byte was read
 pub some_read : (xs buf : List ℕ) (n : ℕ) → 0 < n → n ≤ length buf → 0 < length (xs ++ take n buf)
 some_read xs buf n some fits = omega (arith, length-append xs (take n buf), length-take-le n buf fits, some, fits)
+
+-- more bytes came than there may be
+pub too_many : (xs buf : List ℕ) (n most : ℕ) → n ≤ length buf → most - length xs < n → most < length (xs ++ take n buf)
+too_many xs buf n most fits over = omega (arith, length-append xs (take n buf), length-take-le n buf fits, over, fits)

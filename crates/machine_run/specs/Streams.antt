@@ -1,7 +1,41 @@
 -- What is known of a reader and a writer, what moved, and which faults of theirs were counted.
-use Rattle.std.specs.Prelude.{◌≡◌, ℕ, List, Option}
+use Rattle.std.specs.Prelude.{◌≡◌, ℕ, zero, suc, ◌==◌, Bool, true, false, if◌then◌else◌, List, Option, Some, None, Result, Ok, Err}
 use Rattle.std.specs.Io.KnownBytes.{Appends, Consumes}
+use Rattle.std.specs.IoError.{error_kind}
+use Rattle.std.specs.declared.io.Error.{Error}
+use Rattle.std.specs.declared.io.ErrorKind.{ErrorKind}
+use Rattle.std.specs.declared.io.ErrorKind.TheVariants.{Interrupted}
 use Rattle.base.specs.Faults.{HasRisen}
+use Rattle.machine_run.specs.declared.streams.ReadFault.{ReadFault}
+use Rattle.machine_run.specs.declared.streams.WriteFault.{WriteFault}
+
+-- ---- what the answer of a call means
+
+-- True if a signal interrupted the call, so that it is made again.
+abbrev pub is_interrupted : ErrorKind → Bool
+is_interrupted Interrupted = true
+is_interrupted _ = false
+
+-- What a call of `read` has read, or that it failed. It is `None` if the call is made again.
+-- Forbids: a failed read that is made again.
+abbrev pub bytes_read_of : Result ℕ Error → Option (Result ℕ ReadFault)
+bytes_read_of (Ok n) = Some (Ok n)
+bytes_read_of (Err e) = if is_interrupted (error_kind e) then None else Some (Err (record {}))
+
+-- The byte that a read of one byte has found, after which the buffer has this byte. It is `None` at
+-- the end, where nothing was read.
+-- Forbids: an end that is told as a fault.
+abbrev pub byte_found_of : ℕ → ℕ → Option ℕ
+byte_found_of n byte = if n == 0 then None else Some byte
+
+-- Whether a call of `write` for one byte has written it or failed. It is `None` if the call is made
+-- again. A call that took nothing has failed.
+-- Forbids: a failed write that is made again.
+abbrev pub byte_written_of : Result ℕ Error → Option (Result (Unit {0}) WriteFault)
+byte_written_of (Ok n) = if n == 1 then Some (Ok tt) else Some (Err (record {}))
+byte_written_of (Err e) = if is_interrupted (error_kind e) then None else Some (Err (record {}))
+
+-- ---- what is known of streams
 
 -- What is known of a reader and a writer: their bytes, and how often each has failed.
 -- The bytes are those that the reader has left and the writer holds, where they are known.

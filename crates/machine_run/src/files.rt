@@ -1,9 +1,10 @@
 //! Files that are read whole.
-ghost use Rattle.std.specs.Prelude.{◌≢◌, IfErr, IfOk};
+ghost use Rattle.std.specs.Prelude.{◌≡◌, ◌≢◌, IfErr, IfOk};
 ghost use Rattle.machine_run.specs.Files.{HasReadAll, HasReadFront};
 ghost use Rattle.machine_run.specs.declared.run.RunIo.TheVariants.{Write};
 
 use crate::run::RunIo;
+use crate::streams::{Counting, ReadFault};
 use std::alloc::Global;
 use std::fs;
 use std::io::Read;
@@ -25,18 +26,22 @@ pub enum FileError {
 /// bytes read until then are gone from the reader, and no others. Fails with `Memory` only after it
 /// has read at least one byte, and never with `Write`.
 ///
-/// Fails with `Read` if a read fails or there are more than `LONGEST_FILE` bytes.
-pub fn read_whole<R: Read>(alloc: Global, reader: &mut R) -> Result<Vec<u8>, RunIo>
+/// Fails with `Read` exactly if a read fails, which the reader counts, or if there are more than
+/// `LONGEST_FILE` bytes.
+pub fn read_whole<R: Read>(alloc: Global, reader: &mut Counting<R>) -> Result<Vec<u8>, RunIo>
     ensures whole { IfOk result
-        (λ bytes. HasReadAll (R.remaining reader.old) (R.remaining reader.new) bytes.items) }
+        (λ bytes. HasReadAll (R.remaining reader.old.inner) (R.remaining reader.new.inner)
+        bytes.items) }
     ensures front { IfErr result
-        (HasReadFront (R.remaining reader.old) (R.remaining reader.new)) }
+        (HasReadFront (R.remaining reader.old.inner) (R.remaining reader.new.inner)
+        reader.old.faults reader.new.faults) }
+    ensures faultless { IfOk result (λ _. reader.new.faults ≡ reader.old.faults) }
     ensures reads { IfErr result (λ e. e ≢ Write) }
 {
     let mut bytes = Vec::new(alloc);
     let mut buffer = [0u8; 4096];
-    for _ in 0..u64::MAX {
-        match reader.read(&mut buffer) {
+    for _ in 0..=LONGEST_FILE {
+        match reader.read_some(&mut buffer) {
             Ok(0) => return Ok(bytes),
             Ok(n) => {
                 if n > LONGEST_FILE - bytes.len() {
@@ -46,18 +51,19 @@ pub fn read_whole<R: Read>(alloc: Global, reader: &mut R) -> Result<Vec<u8>, Run
                     return Err(RunIo::Memory);
                 }
             }
-            Err(_) => return Err(RunIo::Read),
+            Err(ReadFault) => return Err(RunIo::Read),
         }
     }
-    Err(RunIo::Read)
+    // Each turn has added a byte at least.
+    unreachable!()
 }
 
 /// Reads a file, as `read_whole` does. Fails with `Unreadable` also if it can't be opened.
 pub fn read_file<H: Files + AllocGlobal>(rt: &H, path: &str) -> Result<Vec<u8>, FileError> {
-    let Ok(mut file) = fs::open(rt, path) else {
+    let Ok(file) = fs::open(rt, path) else {
         return Err(FileError::Unreadable);
     };
-    match read_whole(rt.alloc(), &mut file) {
+    match read_whole(rt.alloc(), &mut Counting::new(file)) {
         Ok(bytes) => Ok(bytes),
         Err(RunIo::Memory) => Err(FileError::Memory),
         Err(RunIo::Read | RunIo::Write) => Err(FileError::Unreadable),

@@ -2,14 +2,17 @@
 //!
 //! The contracts of std's `Read` and `Write` cannot say that a call failed, so no clause can say
 //! that a fault was really met. These two traits count faults. The wrapper `Counting` makes one of
-//! any `Read` or `Write`, and raises the count when its call returns an error.
-ghost use Rattle.std.specs.Prelude.{◌≡◌, ℕ, List, [], ◌∷◌, Option, IsNone, MatchResult};
+//! any `Read` or `Write`. What the answer of a call means, private functions with exact contracts
+//! say; that each call of `Counting` makes one call and takes its answer is what its lines show.
+ghost use Rattle.std.specs.Prelude.{◌≡◌, ℕ, List, [], ◌∷◌, ◌≤◌, length, IfOk, Option, IsNone, MatchResult};
 ghost use Rattle.std.specs.Option.{option_to_list};
-ghost use Rattle.std.specs.Io.KnownBytes.{Keeps, Appends, Consumes, IsAtEnd};
+ghost use Rattle.std.specs.Io.KnownBytes.{Keeps, Appends, Consumes, IsAtEnd, ReadConsumes};
+ghost use Rattle.std.specs.IoError.{error_kind};
 ghost use Rattle.base.specs.Faults.{CountsFault, HasRisen};
+ghost use Rattle.machine_run.specs.Streams.{byte_found_of, byte_written_of, bytes_read_of, is_interrupted};
 
 use base::count_fault;
-use std::io::{ErrorKind, Read, Write};
+use std::io::{self, ErrorKind, Read, Write};
 
 /// A read failed.
 #[derive(Clone, Copy, Debug, PartialEq, Eq)]
@@ -78,47 +81,57 @@ impl<T> Counting<T> {
     }
 }
 
-/// Counts a read that failed.
-fn read_failed(faults: &mut u64) -> ReadFault
-    ensures { HasRisen faults.old faults.new }
+/// Returns true if a signal interrupted a call that returned this error.
+fn was_interrupted(fault: &io::Error) -> bool
+    ensures { result ≡ is_interrupted (error_kind fault.now) }
 {
-    *faults = count_fault(*faults);
-    ReadFault
+    fault.kind() == ErrorKind::Interrupted
 }
 
-/// Counts a write that failed or took nothing.
-fn write_failed(faults: &mut u64) -> WriteFault
-    ensures { HasRisen faults.old faults.new }
+/// What the answer of a call of `read` means: how many bytes it has read, or that it failed. `None`
+/// means that a signal interrupted it, so that it is made again.
+fn bytes_read(answer: io::Result<usize>) -> Option<Result<usize, ReadFault>>
+    ensures { result ≡ bytes_read_of answer }
 {
-    *faults = count_fault(*faults);
-    WriteFault
+    match answer {
+        Ok(n) => Some(Ok(n)),
+        Err(fault) if was_interrupted(&fault) => None,
+        Err(_) => Some(Err(ReadFault)),
+    }
 }
 
-/// Reads the next byte, again if a read was interrupted by a signal. `None` is the end of the
-/// bytes.
-fn next_byte<R: Read>(reader: &mut R, faults: &mut u64) -> Result<Option<u8>, ReadFault>
-    ensures bytes { MatchResult result
-        (λ found. Consumes (R.remaining reader.old) (R.remaining reader.new) (option_to_list found)
-        × (IsNone found → IsAtEnd (R.remaining reader.new)))
-        (λ _. Consumes (R.remaining reader.old) (R.remaining reader.new) []) }
+/// What the answer of a call of `write` for one byte means: that the byte is written, or that the
+/// call failed, as it has if it took nothing. `None` means that it is made again.
+fn byte_written(answer: io::Result<usize>) -> Option<Result<(), WriteFault>>
+    ensures { result ≡ byte_written_of answer }
+{
+    match answer {
+        Ok(1) => Some(Ok(())),
+        Ok(_) => Some(Err(WriteFault)),
+        Err(fault) if was_interrupted(&fault) => None,
+        Err(_) => Some(Err(WriteFault)),
+    }
+}
+
+/// The byte that a read of one byte has found, after which the buffer has `byte`: none at the end.
+fn byte_found(n: usize, byte: u8) -> Option<u8>
+    ensures { result ≡ byte_found_of n byte }
+{
+    if n == 0 { None } else { Some(byte) }
+}
+
+/// Counts the fault of a call, if it failed.
+fn counted<T, E>(answer: Result<T, E>, faults: &mut u64) -> Result<T, E>
+    ensures same { result ≡ answer }
     ensures faults { CountsFault faults.old faults.new result }
 {
-    let mut buffer = [0u8; 1];
-    for _ in 0..u64::MAX {
-        match reader.read(&mut buffer) {
-            Ok(0) => return Ok(None),
-            Ok(_) => return Ok(Some(buffer[0])),
-            Err(fault) => {
-                if fault.kind() != ErrorKind::Interrupted {
-                    return Err(read_failed(faults));
-                }
-            }
-        }
+    if answer.is_err() {
+        *faults = count_fault(*faults);
     }
-    Err(read_failed(faults))
+    answer
 }
 
-/// Writes a byte, again if a write was interrupted by a signal.
+/// Writes a byte, again if a signal interrupted a write.
 fn put_byte<W: Write>(writer: &mut W, faults: &mut u64, byte: u8) -> Result<(), WriteFault>
     ensures bytes { MatchResult result
         (λ _. Appends (W.contents writer.old) (W.contents writer.new) (byte ∷ []))
@@ -126,17 +139,33 @@ fn put_byte<W: Write>(writer: &mut W, faults: &mut u64, byte: u8) -> Result<(), 
     ensures faults { CountsFault faults.old faults.new result }
 {
     for _ in 0..u64::MAX {
-        match writer.write(&[byte]) {
-            Ok(1) => return Ok(()),
-            Ok(_) => return Err(write_failed(faults)),
-            Err(fault) => {
-                if fault.kind() != ErrorKind::Interrupted {
-                    return Err(write_failed(faults));
-                }
-            }
+        let answer = writer.write(&[byte]);
+        if let Some(written) = byte_written(answer) {
+            return counted(written, faults);
         }
     }
-    Err(write_failed(faults))
+    counted(Err(WriteFault), faults)
+}
+
+impl<R: Read> Counting<R> {
+    /// Reads some bytes into `buffer`, again if a signal interrupted a read, and returns how many:
+    /// none only at the end, or if the buffer has no room. A call that fails takes no byte and
+    /// counts one more fault. No other call counts one.
+    pub fn read_some(&mut self, buffer: &mut [u8]) -> Result<usize, ReadFault>
+        ensures room { length buffer.new ≡ length buffer.old }
+        ensures fits { IfOk result (λ n. n ≤ length buffer.old) }
+        ensures bytes { ReadConsumes (R.remaining self.old.inner) (R.remaining self.new.inner)
+            result buffer.new }
+        ensures faults { CountsFault self.old.faults self.new.faults result }
+    {
+        for _ in 0..u64::MAX {
+            let answer = self.inner.read(buffer);
+            if let Some(read) = bytes_read(answer) {
+                return counted(read, &mut self.faults);
+            }
+        }
+        counted(Err(ReadFault), &mut self.faults)
+    }
 }
 
 impl<R: Read> ByteReader for Counting<R> {
@@ -145,7 +174,9 @@ impl<R: Read> ByteReader for Counting<R> {
     ghost read_faults = { λ r. r.faults };
 
     fn read_byte(&mut self) -> Result<Option<u8>, ReadFault> {
-        next_byte(&mut self.inner, &mut self.faults)
+        let mut buffer = [0u8; 1];
+        let n = self.read_some(&mut buffer)?;
+        Ok(byte_found(n, buffer[0]))
     }
 }
 

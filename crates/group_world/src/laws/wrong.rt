@@ -1,14 +1,8 @@
-//! Laws that the promises can be broken: worlds and steps written down by hand break them.
-ghost use Rattle.std.specs.Prelude.{◌∷◌, [], None};
-ghost use Rattle.std.specs.FinMap.{empty, insert};
-ghost use Rattle.paxos_msg.specs.declared.value.Value.TheVariants.{Noop};
+//! Laws that the claims of the main theorem can be broken: worlds written down by hand break them.
 ghost use Rattle.paxos_msg.specs.Chosen.{IsChosen};
-ghost use Rattle.paxos_msg.specs.Records.{empty_record};
-ghost use Rattle.group_node.specs.World.{WorldStep};
-ghost use Rattle.group_node.specs.World as group;
 ghost use Rattle.group_world.specs.Headline.{ConsolesAgree, ConsolesGrow, ConsolesHoldOutput, HasNoGap, LearnedAgree, LearnedChosen, LearnedStays};
 ghost use Rattle.group_world.specs.Order.{KeysOnce, SerialsInOrder};
-ghost use Rattle.group_world.specs.WrongWorlds.{accepted_message, chosen_two, early_byte, first_node, key, not_chosen, not_typed, other_byte, prepares, promised, runs_with, stopped_with, two_consoles, two_values, wrong_console};
+ghost use Rattle.group_world.specs.WrongWorlds.{chosen_two, early_byte, key, not_chosen, not_typed, other_byte, two_consoles, two_values, wrong_console};
 
 use group_node::laws::input_is_chosen;
 
@@ -36,21 +30,3 @@ pub fn wrong_worlds()
 {
     input_is_chosen();
 }
-
-/// No event leads to a group in which a node did what it may not. At a tick node 1 does not say
-/// that it has accepted what nobody proposed, and does not learn what nobody has accepted. It
-/// promises no lower round when it hears of one. A start does not forget what was promised.
-pub fn wrong_steps()
-    ensures says_unproposed { ¬ WorldStep
-        (first_node (runs_with empty_record empty) []) (group.Tick 1)
-        (first_node (runs_with empty_record empty) (accepted_message 1 1 0 Noop ∷ [])) }
-    ensures learns_alone { ¬ WorldStep
-        (first_node (runs_with empty_record empty) []) (group.Tick 1)
-        (first_node (runs_with empty_record (insert empty 0 Noop)) []) }
-    ensures lower_promise { ¬ WorldStep
-        (first_node (runs_with (promised 1 2) empty) (prepares 1)) (group.Deliver 0 1)
-        (first_node (runs_with (promised 1 1) empty) (prepares 1)) }
-    ensures forgets { ¬ WorldStep
-        (first_node (stopped_with (promised 1 2)) []) (group.Start 1)
-        (first_node (runs_with (record (promised 2 2) { promised = None }) empty) []) }
-{}

@@ -26,7 +26,6 @@ use Rattle.group_world.specs.Group.{IsUp, me_of, member_at, message_of, messages
 use Rattle.group_world.specs.Member.{Member, member_after_call, Running, at_progress, failing, Makes, Refuses, member_after_release, save_outcome, NodeCall}
 use Rattle.group_world.specs.Ordered.{IsDue, IsOrdered, AreTypedKeys, IsRowOf, AreTypedInOrder}
 use Rattle.group_world.specs.Sound.{IsSound, IsSpelling}
-use Rattle.group_world.proofs.OrderLists.{none_in}
 use Rattle.group_world.proofs.laws.order.events_keep_order.Answers.OrderNodes.{Goes, read_of, campaign_goes, message_goes, tick_goes, AreAsked, Laws, none_asked, submit_found}
 use Rattle.group_world.proofs.OrderRows.{first_due, fresh_row, new_name, parted_row, typed_row, other_row}
 use Rattle.group_world.proofs.SoundWorldsAgree.{front_chosen, next_of, FrontLaws}
@@ -43,6 +42,7 @@ use Rattle.std.proofs.lemmas.List.Quantifiers.{all_pairs_push}
 use Rattle.std.proofs.lemmas.Option.{IfSome_then}
 use Rattle.group_world.specs.Order.{HaveOneName}
 use Rattle.group_world.proofs.OrderFronts.{chosen_typed, OrderLaws}
+use Rattle.group_node.proofs.Elements.{none_in}
 
 -- ---- the facts of typed keys, after one node has changed
 
