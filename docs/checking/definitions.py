@@ -2,15 +2,16 @@
 import os
 import re
 
-from . import tree
+from . import bent, tree
 from .tree import fault, text_of
 
 PATH = "docs/DEFINITIONS.md"
 HEAD = """# Definitions
 
 The definitions that public contracts cite, by crate and file. `docs/check --write` writes this page from the comments in
-`crates/*/specs`, which also say what a definition allows and forbids. "Simple" is Lamport, "Paxos Made Simple" (2001);
-"manual" is the UCSD Pascal II.0 manual.
+`crates/*/specs`, which also say what a definition allows and forbids. "Bent by" names the must-fail edits that change the
+definition; a law or a call refuses each. "Simple" is Lamport, "Paxos Made Simple" (2001); "manual" is the UCSD Pascal II.0
+manual.
 """
 WORDS = r"(?:(?:abbrev|unfoldable|opaque|pub|record|data|mixfix|infix[lr]?) +)+"
 BEGINS = re.compile(rf"^({WORDS})(?:\d+ +)?([^\s:(){{}}]+)")
@@ -93,21 +94,35 @@ def listed(functions):
     return found
 
 
+def bent_in(crate):
+    """For the name of each definition of a crate, the edits that bend it, as a cell."""
+    found = bent.benders(crate, list(definitions_of(crate)))
+    return {name: ", ".join(f"`{it}`" for it in sorted(edits)) for name, edits in found.items()}
+
+
 def page(definitions):
     parts = [HEAD]
     for crate in tree.crates():
         of_crate = [it for it in definitions if it.crate == crate]
         if not of_crate:
             continue
+        edits = bent_in(crate)
         parts.append(f"\n## {crate}\n")
         for path in sorted({it.path for it in of_crate}):
             lines = text_of(path).split("\n")
             order = {it.name: lines.index(it.body.split("\n")[0]) for it in of_crate if it.path == path}
-            parts.append(f"\n[{os.path.basename(path)}](../{path})\n\n| Name | What it is | Source |\n|---|---|---|\n")
+            parts.append(f"\n[{os.path.basename(path)}](../{path})\n\n| Name | What it is | Source | Bent by |\n|---|---|---|---|\n")
             for it in sorted((it for it in of_crate if it.path == path), key=lambda it: order[it.name]):
                 sentence = it.sentence().replace("|", "\\|")
-                parts.append(f"| `{it.name}` | {sentence} | {it.source()} |\n")
+                parts.append(f"| `{it.name}` | {sentence} | {it.source()} | {edits.get(it.name, '')} |\n")
     return "".join(parts)
+
+
+def not_bent(functions):
+    """The definitions on the page that have a source and that no edit bends."""
+    found = [it for it in listed(functions) if it.source()]
+    edits = {crate: bent_in(crate) for crate in tree.crates()}
+    return [it for it in found if it.name not in edits[it.crate]]
 
 
 def check(functions, is_write):
