@@ -164,7 +164,10 @@ class Target:
         if there is None or there == stone_of(old, self.path):
             return False
         if not there.startswith(self.data):
-            raise Refused(f"{self.path} is there already, and has other bytes than the new record")
+            raise Refused(
+                f"{self.path} is there already, and has other bytes than the new record; a call "
+                "that was interrupted goes on with the records that it was given"
+            )
         return True
 
     def write(self):
