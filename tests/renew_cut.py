@@ -1,10 +1,12 @@
-"""Runs tools/group/renew in a process of its own, and kills that by SIGKILL right after one of the
-calls that `renew` makes at files: for tests/renew."""
+"""Runs tools/group/renew in a process of its own, as a copy of this one, which takes less time than
+a new Python; and kills it by SIGKILL right after one of its calls at files. For tests/renew."""
 
 import os
 import runpy
 import signal
+import subprocess
 import sys
+import tempfile
 import traceback
 
 from script_checks import path_of
@@ -46,12 +48,15 @@ class Cut:
         os.write = self.write
 
 
-def perform(words, left, output):
-    """The process of `renew`: it writes into this file, and is not left before its end."""
+def perform(words, left, files):
+    """The process of `renew`: these files are its standard input, output and error. It is not left
+    before its end."""
     status = 1
     try:
-        for number in (1, 2):
-            os.dup2(output, number)
+        for number, file in enumerate(files):
+            os.dup2(file.fileno(), number)
+        # What Python holds of its own standard input was read elsewhere.
+        sys.stdin = open(0, encoding="utf-8", closefd=False)
         sys.argv = [path_of("renew"), *map(str, words)]
         Cut(left).begin()
         runpy.run_path(sys.argv[0], run_name="__main__")
@@ -65,18 +70,20 @@ def perform(words, left, output):
         os._exit(status)
 
 
-def renew_cut(folder, left, *words):
+def renew_cut(left, *words):
     """Runs `renew` with these words, and kills it after so many calls; it ends by itself where it
-    makes fewer, and where `left` is 0. Returns its status, which is below 0 for a signal, and what
-    it has said."""
-    path = os.path.join(folder, "said")
-    output = os.open(path, os.O_WRONLY | os.O_CREAT | os.O_TRUNC)
-    sys.stdout.flush()
-    pid = os.fork()
-    if pid == 0:
-        perform(words, left, output)
-    os.close(output)
-    status = os.waitpid(pid, 0)[1]
-    with open(path, encoding="utf-8") as said:
-        text = said.read()
-    return -os.WTERMSIG(status) if os.WIFSIGNALED(status) else os.WEXITSTATUS(status), text
+    makes fewer, and where `left` is 0. Nobody answers what it asks. Returns how it has ended, and
+    what it has said, as subprocess.run does."""
+    with tempfile.TemporaryFile() as output, tempfile.TemporaryFile() as errors:
+        with open(os.devnull, "rb") as nobody:
+            sys.stdout.flush()
+            pid = os.fork()
+            if pid == 0:
+                perform(words, left, (nobody, output, errors))
+            status = os.waitpid(pid, 0)[1]
+        said = []
+        for file in (output, errors):
+            file.seek(0)
+            said.append(file.read())
+    code = -os.WTERMSIG(status) if os.WIFSIGNALED(status) else os.WEXITSTATUS(status)
+    return subprocess.CompletedProcess(words, code, *said)

@@ -230,16 +230,16 @@ def check_full(folder):
     expect("a full session goes on", shown == [output_of(ECHO, typed + b"\nand on\n")] * 3)
 
 
-def renew_under_kills(group, folder, old, new):
+def renew_under_kills(group, old, new):
     """Renews, and kills `renew` at some of its calls until it comes to its end."""
     words = ["--sessions", old, new, "--yes", *records_of(group)]
     kills = 0
     while True:
-        status, said = renew_cut(folder, group.random.randrange(1, 60), *words)
-        if status == 0:
+        done = renew_cut(group.random.randrange(1, 60), *words)
+        if done.returncode == 0:
             return kills
-        if status > 0:
-            raise Broken(f"renew is refused: {said}")
+        if done.returncode > 0:
+            raise Broken(f"renew is refused: {done.stderr.decode()}")
         kills += 1
 
 
@@ -259,7 +259,7 @@ def check_ten(folder):
             if not typed.startswith(before):
                 raise Broken("what was typed before is not the front of what was typed")
             if session < 17:
-                kills += renew_under_kills(group, folder, session, session + 1)
+                kills += renew_under_kills(group, session, session + 1)
                 begin_anew(group, session + 1, typed)
         shown = [bytes_of(it.console) for it in group.nodes]
     finally:

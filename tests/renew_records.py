@@ -4,7 +4,8 @@ is spelled here apart from the scripts, as docs/FORMATS.md describes it."""
 import os
 
 from group_parts import ECHO
-from script_checks import file_with, run
+from renew_cut import renew_cut
+from script_checks import file_with
 
 OLD, NEW = 7, 8
 # What `renew` makes of the characters HI for node N of three in session 8, by hand: the header, a
@@ -49,7 +50,7 @@ def records_in(folder, *logs):
 
 
 def renew(*words):
-    return run("renew", *words)
+    return renew_cut(0, *words)
 
 
 def by_number(*words):

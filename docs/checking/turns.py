@@ -45,7 +45,7 @@ def keys_of(functions, crate, text, place):
 def edits_of(functions, crate):
     found, old = [], []
     for path in tree.files_below(f"crates/{crate}/must-fail", ".edit"):
-        first = text_of(path).split("\n")[0].removeprefix("# ")
+        first = re.sub(r"^# ", "", text_of(path).split("\n")[0])
         it = LINE.fullmatch(first)
         if not it or it[1] != "Turns":
             old.append(path)

@@ -3,6 +3,7 @@ bytes."""
 
 import calendar
 import gzip
+import hashlib
 import os
 import subprocess
 import tarfile
@@ -39,6 +40,18 @@ def size_of(folder):
     return sum(os.lstat(it).st_size for it in files) // 1024 + 1
 
 
+def sums_of(folder):
+    """The lines of DEBIAN/md5sums, by which a system finds files that were changed."""
+    lines = []
+    for at, _, names in os.walk(os.path.join(folder, "usr")):
+        for path in (os.path.join(at, it) for it in names):
+            if not os.path.islink(path):
+                with open(path, "rb") as file:
+                    digest = hashlib.md5(file.read()).hexdigest()
+                lines.append(f"{digest}  {os.path.relpath(path, folder)}\n")
+    return "".join(sorted(lines, key=lambda it: it[34:]))
+
+
 def debian_package(room, program, version, date, out):
     """Makes the Debian package in the folder `out`. Returns its path."""
     tree, seconds = os.path.join(room, "debian"), seconds_of(date)
@@ -46,9 +59,9 @@ def debian_package(room, program, version, date, out):
     os.makedirs(os.path.join(tree, "etc", "pgroup"))
     control = os.path.join(tree, "DEBIAN")
     os.mkdir(control)
-    with open(os.path.join(control, "control"), "w", encoding="utf-8") as file:
-        file.write(CONTROL.format(version=version, size=size_of(tree)))
-    os.chmod(file.name, 0o644)
+    text = CONTROL.format(version=version, size=size_of(tree))
+    layout.Tree(control).write("md5sums", sums_of(tree).encode())
+    layout.Tree(control).write("control", text.encode())
     for name in ("postinst", "prerm", "postrm"):
         layout.Tree(control).copy(os.path.join(HERE, "debian", name), name)
     layout.settle(tree, seconds)

@@ -107,6 +107,7 @@ def script_page(name):
     """The page of a script of tools/group."""
     parser = parser_of_script(os.path.join(GROUP, name))
     about, _, more = " ".join(parser.description.split()).partition(". ")
+    # argparse has no other way to its list of words.
     actions = [it for it in parser._actions if it.dest != "help"]
     usage = [f"pgroup-{name} [OPTIONS] " + " ".join(
         word_of(it) for it in actions if not it.option_strings)]

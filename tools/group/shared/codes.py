@@ -55,7 +55,7 @@ SENTENCES = {
     "script": "the line is not one of a script",
     "settle": "a settle makes more than 10,000 deliveries",
     "D1": "memory ran out",
-    "D2": "the record cannot be loaded or saved: the disk, the folder, or another file in its place",
+    "D2": "the record cannot be loaded or saved: see its disk, its folder, and what has its place",
     "D3": "the record could not be saved before",
     "D4": "256 typed keys wait already",
     "D5": "the node has typed as many keys as it can in this start",
@@ -77,7 +77,7 @@ LINE = re.compile(r"(?:line \d+ )?(?:campaign )?refused ([A-Za-z0-9]+)")
 
 
 def sentence_of(line):
-    """The sentence of the code in a line that the program has written, or None where it has none."""
+    """The sentence of the code in a line of the program, or None where it has none."""
     found = LINE.match(line)
     return SENTENCES.get(found[1]) if found else None
 

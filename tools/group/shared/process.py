@@ -13,6 +13,7 @@ from .beats import text_of_address_fault
 from .codes import sentence_of, with_sentence
 from .files import (
     Refused, check_session, open_console, promised_of, refuse_lasting, say, text_of_fault,
+    why_unsaved,
 )
 from .nodes import command_of
 from .speech import Speech
@@ -138,9 +139,15 @@ class Node:
             raise Refused("the program refuses its words")
         if status == 0 or now - self.started > STEADY:
             self.pause, self.due = PAUSE, now
-        why = self.speech.last if status == 1 and sentence_of(self.speech.last) else None
-        text = f"{status_text(status)}, {with_sentence(why)}" if why else status_text(status)
-        say(self.words, f"ended {text}; the node is started again")
+        why = f", {self.why_refused()}" if status == 1 and sentence_of(self.speech.last) else ""
+        say(self.words, f"ended {status_text(status)}{why}; the node is started again")
+
+    def why_refused(self):
+        """The code with which the node has refused, its sentence, and of a record that cannot be
+        saved what the system says."""
+        text = with_sentence(self.speech.last)
+        fault = why_unsaved(self.words.record) if self.speech.last == "refused D2" else None
+        return f"{text} ({fault})" if fault else text
 
     def watch_moves(self, now):
         activity = activity_of(self.process.pid)

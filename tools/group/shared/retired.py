@@ -55,7 +55,9 @@ def put(path, data, like):
     """Puts a file with these bytes in its place as a whole: by a second file, a sync, a rename, and
     a sync of the folder. It gets the owner and the rights of the file `like`."""
     second = f"{path}.new"
-    file = os.open(second, os.O_WRONLY | os.O_CREAT | os.O_TRUNC | os.O_CLOEXEC, 0o600)
+    if os.path.lexists(second):
+        os.unlink(second)  # A call that was interrupted has left it.
+    file = os.open(second, os.O_WRONLY | os.O_CREAT | os.O_EXCL | os.O_CLOEXEC, 0o600)
     try:
         make_like(file, like)
         rest = memoryview(data)
@@ -162,7 +164,10 @@ class Target:
         if there is None or there == stone_of(old, self.path):
             return False
         if not there.startswith(self.data):
-            raise Refused(f"{self.path} is there already, and has other bytes than the new record")
+            raise Refused(
+                f"{self.path} is there already, and has other bytes than the new record; a call "
+                "that was interrupted goes on with the records that it was given"
+            )
         return True
 
     def write(self):

@@ -5,11 +5,11 @@ import sys
 
 
 class Speech:
-    """A pipe from a node. Its lines are handed on to this process's standard error as they come, and
-    the last one is kept: it says why the node has ended.
+    """A pipe from a node. Its lines are handed on to standard error as they come, and the last one
+    is kept: it says why the node has ended.
 
-    The pipe is never waited for at either end. Where it is full, since this process was stopped, the
-    node leaves a line out and goes on."""
+    The pipe is never waited for at either end. Where it is full, since this process was stopped,
+    the node leaves a line out and goes on."""
 
     def __init__(self):
         self.end, self.begin = os.pipe2(os.O_NONBLOCK | os.O_CLOEXEC)

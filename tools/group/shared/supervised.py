@@ -30,7 +30,7 @@ def add_words(add):
         help="how long no leader is heard before a node is asked (3)")
     add("--new", action="store_true", help="the node is new: there is no record yet")
     add("--program", metavar="FILE", default=program,
-        help="pgroup; if not said, $PGROUP, or the repository's run")
+        help="pgroup; if not said, $PGROUP, or that of this repository or package")
 
 
 def check_words(parser, words):

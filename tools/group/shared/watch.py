@@ -75,7 +75,7 @@ def has_keys_at(words, address):
 
 
 def record_word(words):
-    """The word RECORD of a node, the fifth that is neither an option nor an option's value, or None."""
+    """The word RECORD of a node, the fifth that is no option and no value of one, or None."""
     values = {at + 1 for at, word in enumerate(words) if word in ("--seen", "--keys")}
     plain = [it for at, it in enumerate(words) if at not in values and not it.startswith("--")]
     return plain[4] if len(plain) > 4 else None
