@@ -139,6 +139,8 @@ FUNCTION F(N: INTEGER): BOOLEAN; BEGIN WRITE(N); F := N > 0 END;""",
      "S := [3]; T := [3, 40]; WRITE(S = T, S <= T, T <= S, 40 IN S + T, 40 IN T - S); "
      "T := S; WRITE(T = S); I := 40; WRITE(T + [I] = [3, I])", "",
      "FALSETRUEFALSETRUETRUETRUETRUE", ""),
+    ("sets of brackets alone", "VAR I, J: INTEGER;", "I := 100; J := 255; "
+     "WRITE([I, J] >= [] - [], [I] + [J] = [J, I], [I] * [3] = [])", "", "TRUETRUETRUE", ""),
     ("IN of brackets", "VAR C: CHAR;", "C := 'D'; WRITE(C IN ['A'..'C', 'D'], C IN [], "
      "C IN ['E'..'Z'])", "", "TRUEFALSEFALSE", ""),
     # The heap
