@@ -90,7 +90,10 @@ def try_cases():
     text = "PROGRAM T; {$I part.inc}\nVAR N: 1..9; BEGIN N := 2 * FIVE; WRITE(N) END."
     check("10 is outside 1..9" in faults_of(text)[0], "a constant of an included file")
     prints("an included file", text.replace("N := 2 * ", "N := "), "", "5", "")
-    print(f"compile: {len(CASES) + 3} programs print what they have to")
+    text = ("PROGRAM T; TYPE A = ARRAY[1..3] OF CHAR; VAR P: ^A; BEGIN NEW(P); NEW(P); "
+            "WRITE(MEMAVAIL); NEW(P) END.")
+    prints("a small heap", text, "", "1", "execution error 1", Options(heap=7))
+    print(f"compile: {len(CASES) + 4} programs print what they have to")
 
 
 def try_programs():
@@ -173,6 +176,9 @@ def try_limits():
     for name, text, part in limits.refused():
         told = faults_of(text)
         check(len(told) > 0 and part in told[0], f"{name}: {told[:1]}")
+    write("circle.inc", "{$I circle.inc}")
+    told = faults_of("PROGRAM T; {$I circle.inc} BEGIN END.")
+    check("more than 20 files include one another" in told[0], f"a circle of files: {told}")
     print("compile: limits are met, and told")
 
 
