@@ -241,6 +241,12 @@ def try_command():
     found = tool("--where", said[1].decode(), said[2].decode(), "hello.pas")[1]
     check(found == "hello.pas:6: N := 1 DIV N\n", f"--where says {found}")
     check(tool("--where", "1", "9999", "hello.pas")[0] == 1, "--where 1 9999 is refused")
+    write("heap.pas", "PROGRAM H; VAR P: ^INTEGER; BEGIN WHILE TRUE DO NEW(P) END.")
+    check(tool("heap.pas")[0] == 0, "heap.pas is compiled")
+    done = subprocess.run([PROGRAM, "run", "heap.code"], check=False, capture_output=True)
+    said = re.fullmatch(rb"execution error 1 in procedure (\d+) at (\d+)\n", done.stderr)
+    found = tool("--where", said[1].decode(), said[2].decode(), "heap.pas")[1]
+    check(found.startswith("library/heap.pas:") and "the heap is full" in found, found)
     status, out, _ = tool("--help")
     check(status == 0 and "nothing of it is proved" in out and "--where" in out, "--help")
     for words in ((), ("--gone", "hello.pas"), ("--where", "1", "hello.pas"), ("hello.pas", "x"),
