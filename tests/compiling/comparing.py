@@ -7,7 +7,7 @@ import sys
 
 from compiler.program import Options, Refused, compile_text
 
-from . import free_pascal
+from . import free_pascal, limits
 from .cases import CASES
 from .random_programs import random_program
 
@@ -70,6 +70,8 @@ def told_programs(room, running, seed):
               "given": given, "output": output, "is_echoed": True,
               "ending": ending.replace("execution ", "") or "normal"}
              for name, declarations, statements, given, output, ending in CASES]
+    cases += [{"name": name, "text": text, "given": given, "output": output, "is_echoed": True,
+               "ending": "normal"} for name, text, given, output in limits.accepted()]
     some = [{"name": f"program {number}", "text": program.ucsd, "given": program.given,
              "output": wanted[0].decode("latin-1"), "ending": wanted[1], "is_echoed": False}
             for number, program, wanted, _ in results(room, running, range(seed, seed + TOLD))
