@@ -141,6 +141,9 @@ FUNCTION F(N: INTEGER): BOOLEAN; BEGIN WRITE(N); F := N > 0 END;""",
      "FALSETRUEFALSETRUETRUETRUETRUE", ""),
     ("sets of brackets alone", "VAR I, J: INTEGER;", "I := 100; J := 255; "
      "WRITE([I, J] >= [] - [], [I] + [J] = [J, I], [I] * [3] = [])", "", "TRUETRUETRUE", ""),
+    ("IN works out its left side first", """VAR N: INTEGER;
+FUNCTION F(K: INTEGER): INTEGER; BEGIN N := N + 10; F := K END;""",
+     "N := 5; WRITE(N IN [F(1)..F(9), F(20)], N)", "", "TRUE35", ""),
     ("IN of brackets", "VAR C: CHAR;", "C := 'D'; WRITE(C IN ['A'..'C', 'D'], C IN [], "
      "C IN ['E'..'Z'])", "", "TRUEFALSEFALSE", ""),
     # The heap
