@@ -139,6 +139,11 @@ FUNCTION F(N: INTEGER): BOOLEAN; BEGIN WRITE(N); F := N > 0 END;""",
      "S := [3]; T := [3, 40]; WRITE(S = T, S <= T, T <= S, 40 IN S + T, 40 IN T - S); "
      "T := S; WRITE(T = S); I := 40; WRITE(T + [I] = [3, I])", "",
      "FALSETRUEFALSETRUETRUETRUETRUE", ""),
+    ("sets of brackets alone", "VAR I, J: INTEGER;", "I := 100; J := 255; "
+     "WRITE([I, J] >= [] - [], [I] + [J] = [J, I], [I] * [3] = [])", "", "TRUETRUETRUE", ""),
+    ("IN works out its left side first", """VAR N: INTEGER;
+FUNCTION F(K: INTEGER): INTEGER; BEGIN N := N + 10; F := K END;""",
+     "N := 5; WRITE(N IN [F(1)..F(9), F(20)], N)", "", "TRUE35", ""),
     ("IN of brackets", "VAR C: CHAR;", "C := 'D'; WRITE(C IN ['A'..'C', 'D'], C IN [], "
      "C IN ['E'..'Z'])", "", "TRUEFALSEFALSE", ""),
     # The heap
@@ -175,7 +180,7 @@ VAR H, P: L; M: ^INTEGER; I: INTEGER;""", "H := NIL; FOR I := 1 TO 3 DO BEGIN NE
     ("a program that reads on waits", STRINGS, "READLN(S)", "ab", "ab", "waits"),
     # Units
     ("UNITREAD and UNITWRITE", "VAR A: PACKED ARRAY[0..3] OF CHAR; N: INTEGER;",
-     "UNITREAD(1, A, 2); UNITREAD(2, A[2], 2); UNITWRITE(1, A[1], 3); {$I-} UNITWRITE(6, A, 1); "
+     "UNITREAD(1, A, 2); UNITREAD(2, A[2], 2, , 0); UNITWRITE(1, A[1], 3); {$I-} UNITWRITE(6, A, 1); "
      "N := IORESULT; {$I+} WRITE(N); UNITWRITE(6, A, 1)", "abcd", "abbcd2", ERROR + " 10"),
     # Procedures
     ("variables of procedures around", """

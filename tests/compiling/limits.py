@@ -68,4 +68,3 @@ def refused():
     yield "many IFs", program("", "\nELSE ".join(["IF TRUE THEN"] * 5000)), "too many IFs"
     yield "one word too many", program("VAR A: ARRAY[1..16382] OF CHAR;", ""), "16383 words"
     yield "too much code", program("VAR N: INTEGER;", "N := N * 300 + 400;\n" * 9000), "65534 bytes"
-    yield "includes in a circle", "{$I t.pas}", "cannot be read"

@@ -90,7 +90,10 @@ def try_cases():
     text = "PROGRAM T; {$I part.inc}\nVAR N: 1..9; BEGIN N := 2 * FIVE; WRITE(N) END."
     check("10 is outside 1..9" in faults_of(text)[0], "a constant of an included file")
     prints("an included file", text.replace("N := 2 * ", "N := "), "", "5", "")
-    print(f"compile: {len(CASES) + 3} programs print what they have to")
+    text = ("PROGRAM T; TYPE A = ARRAY[1..3] OF CHAR; VAR P: ^A; BEGIN NEW(P); NEW(P); "
+            "WRITE(MEMAVAIL); NEW(P) END.")
+    prints("a small heap", text, "", "1", "execution error 1", Options(heap=7))
+    print(f"compile: {len(CASES) + 4} programs print what they have to")
 
 
 def try_programs():
@@ -173,6 +176,9 @@ def try_limits():
     for name, text, part in limits.refused():
         told = faults_of(text)
         check(len(told) > 0 and part in told[0], f"{name}: {told[:1]}")
+    write("circle.inc", "{$I circle.inc}")
+    told = faults_of("PROGRAM T; {$I circle.inc} BEGIN END.")
+    check("more than 20 files include one another" in told[0], f"a circle of files: {told}")
     print("compile: limits are met, and told")
 
 
@@ -235,6 +241,12 @@ def try_command():
     found = tool("--where", said[1].decode(), said[2].decode(), "hello.pas")[1]
     check(found == "hello.pas:6: N := 1 DIV N\n", f"--where says {found}")
     check(tool("--where", "1", "9999", "hello.pas")[0] == 1, "--where 1 9999 is refused")
+    write("heap.pas", "PROGRAM H; VAR P: ^INTEGER; BEGIN WHILE TRUE DO NEW(P) END.")
+    check(tool("heap.pas")[0] == 0, "heap.pas is compiled")
+    done = subprocess.run([PROGRAM, "run", "heap.code"], check=False, capture_output=True)
+    said = re.fullmatch(rb"execution error 1 in procedure (\d+) at (\d+)\n", done.stderr)
+    found = tool("--where", said[1].decode(), said[2].decode(), "heap.pas")[1]
+    check(found.startswith("library/heap.pas:") and "the heap is full" in found, found)
     status, out, _ = tool("--help")
     check(status == 0 and "nothing of it is proved" in out and "--where" in out, "--help")
     for words in ((), ("--gone", "hello.pas"), ("--where", "1", "hello.pas"), ("hello.pas", "x"),

@@ -128,4 +128,7 @@ def main(arguments):
     except OSError as fault:
         drop_output()
         print(f"standard output: {fault.strerror}", file=sys.stderr)
+    except Exception as fault:  # what no text should lead to
+        print(f"{words.file}:1:1: the compiler itself has a fault, and this text shows it: "
+              f"{type(fault).__name__}: {fault}", file=sys.stderr)
     return 1

@@ -63,10 +63,12 @@ def parse(text, file, faults):
 @lru_cache(maxsize=None)
 def library_blocks():
     """The syntax tree of the library, which is the same for all programs."""
-    blocks = []
+    blocks, faults = [], Faults()
     for name in LIBRARY_FILES:
         path = library_path(name)
-        blocks.append(parse(read_text(path), path, Faults())[0].library())
+        blocks.append(parse(read_text(path), path, faults)[0].library())
+    if faults.found:
+        raise Refused(faults.found)
     return blocks
 
 

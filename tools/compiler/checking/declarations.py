@@ -100,10 +100,9 @@ class Checker(Statements):
 
     def variables(self, node):
         kind = self.broken_at_a_fault(node.names, lambda: self.type_of(node.type))
+        is_late = self.is_library and self.routine is self.main  # its offset comes with its use
         for name in node.names:
-            offset = 0 if self.is_library and self.routine is self.main else None
-            if offset is None:
-                offset = self.routine.allocate(kind.size, name.place)
+            offset = 0 if is_late else self.routine.allocate(kind.size, name.place)
             self.scopes.declare(name, Variable(kind, self.routine, offset))
 
     # Procedures and functions

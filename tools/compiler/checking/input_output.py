@@ -12,8 +12,8 @@ class InputOutput(StandardProcedures):
     def write(self, name, node):
         """WRITE(VALUE, VALUE:WIDTH ..): texts that follow one another are written at once."""
         file, items = self.file_of(node.arguments)
-        if file and file == "INPUT":
-            self.refuse("INPUT is read, and not written", node.place)
+        if file in ("INPUT", "KEYBOARD"):
+            self.refuse(f"{file} is read, and not written", node.place)
         if name == "WRITE" and not items:
             self.refuse("WRITE has something to write", node.place)
         statements, text = [], ""

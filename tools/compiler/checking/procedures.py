@@ -39,7 +39,7 @@ class StandardProcedures(StandardFunctions):
     def insert(self, _name, node):
         part, text, at = self.take(node, 3)
         part = self.string(part)
-        if not isinstance(part, tree.TextValue):  # it may be the string into which it goes
+        if isinstance(part, tree.Load):  # it may be the string into which it goes
             part = tree.Concatenation(String(max(1, part.type.most)), [part])
         part = tree.StringAddress(part)
         location = self.string_variable(text)

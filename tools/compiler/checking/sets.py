@@ -76,11 +76,26 @@ def words_of(parts, host):
 
 
 def shared_words(left, right):
-    """The words in which two sets meet. One in brackets takes the other's, if what is known of it
-    fits."""
-    for one, other in ((left, right), (right, left)):
-        if isinstance(one, tree.SetValue) and not isinstance(other, tree.SetValue):
-            known = [part for part in one.parts if all(
-                value is None or isinstance(value, tree.Constant) for value in part)]
-            return max(other.type.size, words_of(known, one.type.base))
+    """The words in which two sets meet. Where one of them comes of a variable, all elements have to
+    lie in its words, but for those that are known."""
+    if is_declared(left) or is_declared(right):
+        return max(known_words(left), known_words(right))
     return max(left.type.size, right.type.size)
+
+
+def is_declared(value):
+    """Whether a set comes of a variable, and is not of brackets alone."""
+    if isinstance(value, tree.SetOperation):
+        return is_declared(value.left) or is_declared(value.right)
+    return not isinstance(value, tree.SetValue)
+
+
+def known_words(value):
+    """The words of a set, as far as its elements are known."""
+    if isinstance(value, tree.SetOperation):
+        return max(known_words(value.left), known_words(value.right))
+    if not isinstance(value, tree.SetValue):
+        return value.type.size
+    known = [part for part in value.parts if all(
+        it is None or isinstance(it, tree.Constant) for it in part)]
+    return words_of(known, value.type.base)

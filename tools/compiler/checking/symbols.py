@@ -100,7 +100,7 @@ class Routine:
     words: int = 0  # of the frame so far
     parameter_words: int = 0
     copies: List[Copy] = field(default_factory=list)
-    labels: Dict[int, str] = field(default_factory=dict)
+    labels: Dict[int, Any] = field(default_factory=dict)  # declared, set, or where it is used
     body: Any = None  # the checked tree
 
     def allocate(self, words, place) -> int:

@@ -164,11 +164,13 @@ class FieldAt:
 
 @dataclass(eq=False)
 class Opening:
-    """A record that a WITH opens, once for its whole statement."""
+    """A record that a WITH opens, once for its whole statement. The generator says where it is:
+    at a place of a frame, or where an address is kept."""
 
     type: Any
     base: Any
-    temporary: int = 0  # the offset of its address, which the generator gives it
+    temporary: Any = None
+    is_frame: bool = False
 
 
 @dataclass

@@ -17,21 +17,20 @@ TABLE = "TABLE"
 
 def spread(procedure):
     """The same procedure, with at most 60 targets in its table."""
-    chosen = []
+    chosen = []  # labels that are reached in two steps
     while True:
         made = rewritten(procedure, chosen) if chosen else procedure
         uses, names = far_targets(made)
         excess = len(uses) - MOST_FAR
         if excess <= 0:
             return made
-        kept = made.labels[TABLE].index if chosen else None
-        rare = [target for target, _ in uses.most_common()[::-1]]
-        before = len(chosen)
-        for target in rare[:excess + 1]:
-            fresh = [it for it in names[target] if it in procedure.labels and it not in chosen]
-            chosen += [it for it in fresh if made.labels[it].index != kept]
-        if len(chosen) == before:
+        # Two steps take more code, so that more jumps may become far: then more labels are chosen.
+        rarest = [target for target, _ in uses.most_common()[::-1]][:excess + 1]
+        labels = [label for target in rarest for label in names[target]]
+        fresh = [it for it in labels if it in procedure.labels and it not in chosen]
+        if not fresh:
             raise Fault(f"{procedure.name} has too many large CASEs: divide it", procedure.place)
+        chosen += fresh
 
 
 def far_targets(procedure):
@@ -39,7 +38,7 @@ def far_targets(procedure):
     encoder = Sizes(procedure, 0)
     encoder.offsets = dict.fromkeys(procedure.labels, 0)
     encoder.code()
-    ends = {label: procedure.lines[it.index].at for label, it in procedure.labels.items()}
+    places = {label: procedure.lines[it.index].at for label, it in procedure.labels.items()}
     uses, names = Counter(), {}
     for line in procedure.lines:
         if line.name not in JUMP and line.name != "XJP":
@@ -47,9 +46,9 @@ def far_targets(procedure):
         is_case = line.name == "XJP"
         label = line.operands[2 if is_case else 0]
         after = line.at + (7 + (line.at + 1) % 2 if is_case else 2)  # behind the UJP of an XJP
-        if not after <= ends[label] <= after + 127:
-            uses[ends[label]] += 1
-            names.setdefault(ends[label], set()).add(label)
+        if not after <= places[label] <= after + 127:
+            uses[places[label]] += 1
+            names.setdefault(places[label], set()).add(label)
     return uses, {target: sorted(some) for target, some in names.items()}
 
 

@@ -27,6 +27,7 @@ class Statements(Blocks):
             self.code.place = node.place
         with self.temporaries():
             makers[type(node)](node)
+        assert self.code.depth == 0, "a statement leaves words on the evaluation stack"
 
     @contextmanager
     def temporaries(self):

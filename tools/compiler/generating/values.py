@@ -66,7 +66,8 @@ class Values(Places):
         if not node.parts:
             self.code.number(0)
             return
-        again = self.repeated(node.value)
+        bounds = [bound for part in node.parts for bound in part if bound]
+        again = self.repeated(node.value, all(isinstance(it, tree.Constant) for it in bounds))
         for k, (low, high) in enumerate(node.parts):
             again()
             self.push(low)
@@ -81,9 +82,11 @@ class Values(Places):
             if k:
                 self.code.emit("LOR")
 
-    def repeated(self, value):
-        """What pushes a value again, which is worked out once."""
-        if isinstance(value, tree.Load) and isinstance(value.location, tree.VariableAt):
+    def repeated(self, value, is_calm):
+        """What pushes a value again, which is worked out once: a variable is pushed as it stands,
+        if nothing that comes between can change it."""
+        is_variable = isinstance(value, tree.Load) and isinstance(value.location, tree.VariableAt)
+        if is_variable and is_calm:
             return lambda: self.push(value)
         kept = self.temporary(1)
         self.push(value)

@@ -10,7 +10,7 @@ FUNCTION TAKEROOM(N: INTEGER): INTEGER;  { the address; an execution error if it
 VAR
   LEFT: 0..MAXINT;
 BEGIN
-  {$R+} LEFT := HEAPWORDS - USED - N; {$R-}
+  {$R+} LEFT := HEAPWORDS - USED - N; {$R-}  { error 1: the heap is full }
   TAKEROOM := ADDRESS(ROOM) + 2 * USED;
   USED := USED + N
 END;
@@ -19,7 +19,7 @@ PROCEDURE GIVEBACK(AT: INTEGER);
 VAR
   BACK: 0..HEAPWORDS;
 BEGIN
-  {$R+} BACK := (AT - ADDRESS(ROOM)) DIV 2; {$R-}
+  {$R+} BACK := (AT - ADDRESS(ROOM)) DIV 2; {$R-}  { error 1: MARK gave no such pointer }
   USED := BACK
 END;
 

@@ -50,7 +50,7 @@ VAR
 BEGIN
   IF A <= B THEN
     BEGIN
-      {$R+} LEFT := A; LEFT := LAST - B; {$R-}
+      {$R+} LEFT := A; LEFT := LAST - B; {$R-}   { error 1: the set has no such element }
       FOR I := A TO B DO S[I] := TRUE
     END
 END;

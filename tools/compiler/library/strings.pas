@@ -8,7 +8,7 @@ VAR
   LEFT: 0..255;
 BEGIN
   N := ORD(S[0]);
-  {$R+} LEFT := M - N; {$R-}
+  {$R+} LEFT := M - N; {$R-}             { error 1: the STRING has no room }
   FOR I := 0 TO N DO D[I] := S[I]
 END;
 
@@ -124,7 +124,7 @@ BEGIN
       I := I - 1;
       T[I] := '-'
     END;
-  {$R+} LEFT := M - 7 + I; {$R-}
+  {$R+} LEFT := M - 7 + I; {$R-}         { error 1: the STRING has no room }
   FOR K := I TO 6 DO S[K - I + 1] := T[K];
   S[0] := CHR(7 - I)
 END;

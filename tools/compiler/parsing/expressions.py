@@ -4,6 +4,7 @@ from . import syntax
 from .reader import Reader
 
 COMPARISONS = ("=", "<>", "<", "<=", ">", ">=", "IN")
+TRANSFERS = ("UNITREAD", "UNITWRIT")
 MOST_OPERATORS = 500  # in a row, so that the tree does not become too deep
 
 
@@ -101,7 +102,10 @@ class ExpressionParser(Reader):
         self.want("(")
         arguments = [self.argument()]
         while self.take(","):
-            arguments.append(self.argument())
+            if self.kind == "," and name.name in TRANSFERS:  # the block, which may be left out
+                arguments.append(syntax.Argument(self.place, syntax.Number(self.place, 0)))
+            else:
+                arguments.append(self.argument())
         self.want(")")
         return syntax.Call(name.place, name, arguments)
 

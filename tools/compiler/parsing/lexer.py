@@ -26,6 +26,7 @@ TOKEN = re.compile(r"""
 BRACKETS = {"(.": "[", ".)": "]"}
 DIGITS = 5  # of the greatest number
 MOST_INCLUDED = 20
+BYTE_ORDER_MARK = "\xef\xbb\xbf"  # which some editors put in front of a text
 MOST_TEXT = 255
 
 # Options that change nothing in what a program does here, so that a note is enough.
@@ -53,13 +54,15 @@ def fold(word: str) -> str:
 
 
 def read_text(file, place=None) -> str:
-    """The text of a file, a character for each byte."""
+    """The text of a file, a character for each byte, with \n at the end of each line."""
     try:
         with open(file, encoding="latin-1", newline="") as stream:
             text = stream.read()
     except OSError as fault:
         what = file if place else "it"
         raise Fault(f"{what} cannot be read: {fault.strerror}", place or file) from None
+    if text.startswith(BYTE_ORDER_MARK):
+        text = text[len(BYTE_ORDER_MARK):]
     return text.replace("\r\n", "\n").replace("\r", "\n")
 
 

@@ -24,7 +24,6 @@ class StatementParser(ExpressionParser):
         """STATEMENT; STATEMENT .. up to the word that closes them."""
         found = []
         while True:
-            begin = self.at
             try:
                 statement = self.statement()
                 if self.kind not in (";", closing):
@@ -33,7 +32,7 @@ class StatementParser(ExpressionParser):
                     found.append(statement)
             except Fault as fault:
                 self.faults.add(fault)
-                self.skip_statement(begin)
+                self.skip_statement()
             if not self.take(";"):
                 return found
 
@@ -44,10 +43,9 @@ class StatementParser(ExpressionParser):
             self.refuse("an assignment is written with :=")
         self.refuse(f"a ; or {closing} is wanted behind a statement, and not {self.now}")
 
-    def skip_statement(self, begin):
+    def skip_statement(self):
         """Leaves out the rest of a statement, with all that is opened and closed in it."""
         opened = 0
-        self.at = max(self.at, begin)
         while self.kind != END and (opened or self.kind not in SURE):
             if self.kind in ("BEGIN", "CASE", "REPEAT", "RECORD"):
                 opened += 1
