@@ -61,6 +61,9 @@ PROCEDURE P; BEGIN END; PROCEDURE Q; BEGIN EXIT(P) END;""", "Q; WRITE('X')", "",
      "ORD(ODD(5) AND NOT ODD(4)))", "", "8151", ""),
     ("a Boolean as an index", "VAR A: ARRAY[BOOLEAN] OF INTEGER; B: BOOLEAN;",
      "A[FALSE] := 1; A[TRUE] := 2; B := FALSE; WRITE(A[NOT B], A[B])", "", "21", ""),
+    ("ODD of what is known", "VAR A: ARRAY[BOOLEAN] OF CHAR;", "A[FALSE] := 'F'; A[TRUE] := 'T'; "
+     "CASE ODD(5) OF TRUE: WRITE(A[ODD(7)], A[ODD(4)]) END; WRITE(ORD(ODD(6)), ODD(6))", "",
+     "TF6FALSE", ""),
     ("AND looks at both sides", NUMBERS + """
 FUNCTION F(N: INTEGER): BOOLEAN; BEGIN WRITE(N); F := N > 0 END;""",
      "IF F(0) AND F(1) THEN; IF F(1) OR F(0) THEN", "", "0110", ""),
