@@ -116,6 +116,8 @@ FUNCTION F(N: INTEGER): BOOLEAN; BEGIN WRITE(N); F := N > 0 END;""",
      "ABCDE AABCDEBCDE <AABCDEBCDE>", ""),
     ("INSERT without room does nothing", STRINGS, "U := 'ABCD'; INSERT('XY', U, 1); WRITE(U)", "",
      "ABCD", ""),
+    ("CHR of what is known", STRINGS, "S := CONCAT(CHR(321), 'B', CHR(67)); WRITE(S, CHR(324))",
+     "", "ABCD", ""),
     ("POS", STRINGS, "S := 'ABCABD'; WRITE(POS('ABD', S), POS('X', S), POS('A', S), POS('', S))",
      "", "4010", ""),
     ("strings are compared", STRINGS, "S := 'ABC'; T := 'ABD'; WRITE(S < T, S = 'ABC', "

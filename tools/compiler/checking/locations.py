@@ -109,4 +109,5 @@ def is_text_literal(value):
 
 
 def literal_text(value):
-    return value.text if isinstance(value, tree.TextValue) else chr(value.value)
+    """The text that a text in quotes is; of CHR of a number that is known the lowest 8 bits."""
+    return value.text if isinstance(value, tree.TextValue) else chr(value.value & 255)
