@@ -1,4 +1,4 @@
-"""Tries the compiler, for tests/compile, whose words these are: how many garbled texts are tried."""
+"""Tries the compiler, for tests/compile. Its one word says how many garbled texts are tried."""
 
 import glob
 import os
