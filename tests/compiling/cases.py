@@ -61,6 +61,9 @@ PROCEDURE P; BEGIN END; PROCEDURE Q; BEGIN EXIT(P) END;""", "Q; WRITE('X')", "",
      "ORD(ODD(5) AND NOT ODD(4)))", "", "8151", ""),
     ("a Boolean as an index", "VAR A: ARRAY[BOOLEAN] OF INTEGER; B: BOOLEAN;",
      "A[FALSE] := 1; A[TRUE] := 2; B := FALSE; WRITE(A[NOT B], A[B])", "", "21", ""),
+    ("ODD of what is known", "VAR A: ARRAY[BOOLEAN] OF CHAR;", "A[FALSE] := 'F'; A[TRUE] := 'T'; "
+     "CASE ODD(5) OF TRUE: WRITE(A[ODD(7)], A[ODD(4)]) END; WRITE(ORD(ODD(6)), ODD(6))", "",
+     "TF6FALSE", ""),
     ("AND looks at both sides", NUMBERS + """
 FUNCTION F(N: INTEGER): BOOLEAN; BEGIN WRITE(N); F := N > 0 END;""",
      "IF F(0) AND F(1) THEN; IF F(1) OR F(0) THEN", "", "0110", ""),
@@ -113,6 +116,8 @@ FUNCTION F(N: INTEGER): BOOLEAN; BEGIN WRITE(N); F := N > 0 END;""",
      "ABCDE AABCDEBCDE <AABCDEBCDE>", ""),
     ("INSERT without room does nothing", STRINGS, "U := 'ABCD'; INSERT('XY', U, 1); WRITE(U)", "",
      "ABCD", ""),
+    ("CHR of what is known", STRINGS, "S := CONCAT(CHR(321), 'B', CHR(67)); WRITE(S, CHR(324))",
+     "", "ABCD", ""),
     ("POS", STRINGS, "S := 'ABCABD'; WRITE(POS('ABD', S), POS('X', S), POS('A', S), POS('', S))",
      "", "4010", ""),
     ("strings are compared", STRINGS, "S := 'ABC'; T := 'ABD'; WRITE(S < T, S = 'ABC', "
@@ -180,8 +185,8 @@ VAR H, P: L; M: ^INTEGER; I: INTEGER;""", "H := NIL; FOR I := 1 TO 3 DO BEGIN NE
     ("a program that reads on waits", STRINGS, "READLN(S)", "ab", "ab", "waits"),
     # Units
     ("UNITREAD and UNITWRITE", "VAR A: PACKED ARRAY[0..3] OF CHAR; N: INTEGER;",
-     "UNITREAD(1, A, 2); UNITREAD(2, A[2], 2, , 0); UNITWRITE(1, A[1], 3); {$I-} UNITWRITE(6, A, 1); "
-     "N := IORESULT; {$I+} WRITE(N); UNITWRITE(6, A, 1)", "abcd", "abbcd2", ERROR + " 10"),
+     "UNITREAD(1, A, 2); UNITREAD(2, A[2], 2, , 0); UNITWRITE(1, A[1], 3); "
+     "{$I-} UNITWRITE(6, A, 1); N := IORESULT; {$I+} WRITE(N); UNITWRITE(6, A, 1)", "abcd", "abbcd2", ERROR + " 10"),
     # Procedures
     ("variables of procedures around", """
 PROCEDURE A(P: INTEGER); VAR V: INTEGER;

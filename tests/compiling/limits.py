@@ -67,4 +67,6 @@ def refused():
     yield "a very long sum", program("", f"WRITE({' + '.join(['1'] * 5000)})"), "operators in a row"
     yield "many IFs", program("", "\nELSE ".join(["IF TRUE THEN"] * 5000)), "too many IFs"
     yield "one word too many", program("VAR A: ARRAY[1..16382] OF CHAR;", ""), "16383 words"
+    yield "no room for the heap", program("VAR A: ARRAY[1..13000] OF CHAR; P: ^CHAR;", "NEW(P)"), (
+        "leave no room for 4000 words of the library (for NEW it takes as many as --heap says)")
     yield "too much code", program("VAR N: INTEGER;", "N := N * 300 + 400;\n" * 9000), "65534 bytes"

@@ -5,6 +5,8 @@ CROWN = ("take lamp\nn\nw\ntake rope\ne\nlight\nn\ne\ntake key\nw\ns\ne\ntake bo
          "s\nw\ns\ninventory\ndrop crown\n")
 
 PROGRAMS = [
+    ("hello.pas", "Ann\n41\n", "Who are you? Ann\nHow old? 41\n"
+     "Hello, Ann. In ten years you are 51.\n", ""),
     ("echo.pas", "hi\nyou.x", "> hi\n> you.\nBYE\n", ""),
     ("towers.pas", "", ["1: A-B 3 1 0\n", "15: B-C 0 0 4\nDONE\n"], ""),
     ("sorter.pas", "5 -3 12\n5\n\n", "-3 2\n5 1\n5 4\n12 3\nNO PRINTER\n", ""),

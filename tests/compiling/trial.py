@@ -1,4 +1,4 @@
-"""Tries the compiler, for tests/compile, whose words these are: how many garbled texts are tried."""
+"""Tries the compiler, for tests/compile. Its one word says how many garbled texts are tried."""
 
 import glob
 import os
@@ -110,6 +110,26 @@ def try_programs():
             check(part in rest, f"{name}: {part!r} is not in {rest!r}")
             rest = rest.split(part, 1)[1]
     print(f"compile: the examples print what they have to on {len(PROGRAMS)} inputs")
+
+
+def try_group():
+    """At three nodes, of which two have keys in turn and the leader falls, a program shows at each
+    node that is up what it prints alone."""
+    name, given, output, _ = PROGRAMS[0]
+    write("g.code", compile_text(read_text(os.path.join(EXAMPLES, name)), name).data)
+    script = ["size 3 session 7", "start 1", "start 2", "start 3", "campaign 1", "settle"]
+    for number, key in enumerate(given.encode()):
+        if number == len(given) // 2:
+            script += ["crash 1", "campaign 2", "settle"]
+        node = 2 + number % 2
+        script += [f"type {node} {key:02X}", f"tick {node}", "settle"]
+    write("g.script", "\n".join(script + ["settle", "settle", "show", ""]))
+    done = subprocess.run([PROGRAM, "sim", "g.code", "g.script"], check=True, capture_output=True)
+    shown = [line.split(b" ")[-1].decode() for line in done.stdout.split(b"\n")[:3]]
+    whole = output.encode().hex().upper()
+    check(shown[1:] == [whole, whole] and whole.startswith(shown[0]) and shown[0] != whole,
+          f"the consoles of {name} at three nodes are {shown}")
+    print("compile: a program shows at three nodes what it prints alone")
 
 
 def try_sizes():
@@ -278,8 +298,8 @@ def main(words):
     count = int(words[0]) if words else GARBLED
     with tempfile.TemporaryDirectory() as room:
         os.chdir(room)
-        for part in (try_cases, try_programs, try_sizes, try_made, try_refusals, try_limits,
-                     try_command):
+        for part in (try_cases, try_programs, try_group, try_sizes, try_made, try_refusals,
+                     try_limits, try_command):
             part()
         try_garbled(count)
         os.chdir("/")

@@ -88,6 +88,8 @@ def number(value):
 
 def low_bit(value):
     """A Boolean as 0 or 1. The machine looks at its lowest bit alone, and NOT changes all 16."""
-    if not is_ordinal(value.type, BOOLEAN) or isinstance(value, tree.Constant):
+    if not is_ordinal(value.type, BOOLEAN):
         return value
+    if isinstance(value, tree.Constant):
+        return tree.Constant(value.type, value.value & 1)
     return tree.Operation(value.type, ("LAND",), [value, number(1)])

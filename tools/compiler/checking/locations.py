@@ -58,13 +58,13 @@ class Locations(TypeMaker):
 
     def in_range(self, value, wanted, node, is_checked):
         """A value that has to be in the range of a type: by the compiler, or by CHK."""
+        value = low_bit(value)
         if isinstance(value, tree.Constant):
             if not wanted.low <= value.value <= wanted.high:
                 shown = wanted.shown
                 self.refuse(f"{shown(value.value)} is outside {shown(wanted.low)}.."
                             f"{shown(wanted.high)}", node.place)
             return value
-        value = low_bit(value)
         if not is_checked:
             return value
         bounds = [number(wanted.low), number(wanted.high)]
@@ -109,4 +109,5 @@ def is_text_literal(value):
 
 
 def literal_text(value):
-    return value.text if isinstance(value, tree.TextValue) else chr(value.value)
+    """The text that a text in quotes is; of CHR of a number that is known the lowest 8 bits."""
+    return value.text if isinstance(value, tree.TextValue) else chr(value.value & 255)

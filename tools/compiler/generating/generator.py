@@ -111,5 +111,10 @@ class Generator:
     def offset_of(self, variable):
         """The offset of a variable. One of the library gets it where it is used first."""
         if not variable.offset:
-            variable.offset = self.main.allocate(variable.type.size, self.main.place)
+            size = variable.type.size
+            if self.main.words + size > MOST_WORDS:
+                raise Fault(f"the variables of {self.main.name} leave no room for {size} words of "
+                            "the library (for NEW it takes as many as --heap says)",
+                            self.main.place)
+            variable.offset = self.main.allocate(size, self.main.place)
         return variable.offset
