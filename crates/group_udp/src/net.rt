@@ -8,7 +8,7 @@ use crate::own_datagrams::OwnDatagrams;
 use crate::shown::ShownNode;
 use crate::udp::{UdpWire, Watch, bind};
 use group_node::{Config, NodeFault};
-use machine_run::{Counting, RunIo, load_file, read_whole};
+use machine_run::{RunIo, load_file, read_whole};
 use mio::net::UdpSocket;
 use paxos_msg::Group;
 use pcode_ops::Program;
@@ -189,6 +189,6 @@ pub fn net_file<H: Files + Net + Clock + AllocGlobal, R: Read, W: Write>(
 {
     let program = load_file(rt, file)?;
     Config::new(1, size, SESSION)?;
-    let input = read_whole(rt.alloc(), &mut Counting::new(reader))?;
+    let input = read_whole(rt.alloc(), reader, &mut 0)?;
     net(rt, &program, size, turns, input.as_slice(), writer)
 }

@@ -7,7 +7,7 @@ use crate::fault::{GroupFault, end_of};
 use crate::run::run_opened;
 use group_log::{Log, Note};
 use group_node::Config;
-use machine_run::{ByteWriter, Counting, MachineRefusal, load_file, read_whole};
+use machine_run::{ByteWriter, MachineRefusal, load_file, read_whole};
 use paxos_msg::Group;
 use pcode_ops::Program;
 use std::alloc::Global;
@@ -65,7 +65,7 @@ fn input_of<R: Read>(
         (IsRefusedInput plan.now (R.remaining reader.old) (R.remaining reader.new)) }
 {
     match plan.keys {
-        None => Ok(read_whole(alloc, &mut Counting::new(reader))?),
+        None => Ok(read_whole(alloc, reader, &mut 0)?),
         Some(_) => Ok(Vec::new(alloc)),
     }
 }

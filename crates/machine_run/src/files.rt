@@ -4,7 +4,7 @@ ghost use Rattle.machine_run.specs.Files.{HasReadAll, HasReadFront};
 ghost use Rattle.machine_run.specs.declared.run.RunIo.TheVariants.{Write};
 
 use crate::run::RunIo;
-use crate::streams::{Counting, ReadFault};
+use crate::streams::{ReadFault, read_some};
 use std::alloc::Global;
 use std::fs;
 use std::io::Read;
@@ -26,22 +26,24 @@ pub enum FileError {
 /// bytes read until then are gone from the reader, and no others. Fails with `Memory` only after it
 /// has read at least one byte, and never with `Write`.
 ///
-/// Fails with `Read` exactly if a read fails, which the reader counts, or if there are more than
-/// `LONGEST_FILE` bytes.
-pub fn read_whole<R: Read>(alloc: Global, reader: &mut Counting<R>) -> Result<Vec<u8>, RunIo>
+/// Fails with `Read` exactly if a read fails, which is counted in `faults`, or if there are more
+/// than `LONGEST_FILE` bytes.
+pub fn read_whole<R: Read>(
+    alloc: Global,
+    reader: &mut R,
+    faults: &mut u64,
+) -> Result<Vec<u8>, RunIo>
     ensures whole { IfOk result
-        (λ bytes. HasReadAll (R.remaining reader.old.inner) (R.remaining reader.new.inner)
-        bytes.items) }
+        (λ bytes. HasReadAll (R.remaining reader.old) (R.remaining reader.new) bytes.items) }
     ensures front { IfErr result
-        (HasReadFront (R.remaining reader.old.inner) (R.remaining reader.new.inner)
-        reader.old.faults reader.new.faults) }
-    ensures faultless { IfOk result (λ _. reader.new.faults ≡ reader.old.faults) }
+        (HasReadFront (R.remaining reader.old) (R.remaining reader.new) faults.old faults.new) }
+    ensures faultless { IfOk result (λ _. faults.new ≡ faults.old) }
     ensures reads { IfErr result (λ e. e ≢ Write) }
 {
     let mut bytes = Vec::new(alloc);
     let mut buffer = [0u8; 4096];
     for _ in 0..=LONGEST_FILE {
-        match reader.read_some(&mut buffer) {
+        match read_some(reader, faults, &mut buffer) {
             Ok(0) => return Ok(bytes),
             Ok(n) => {
                 if n > LONGEST_FILE - bytes.len() {
@@ -60,10 +62,10 @@ pub fn read_whole<R: Read>(alloc: Global, reader: &mut Counting<R>) -> Result<Ve
 
 /// Reads a file, as `read_whole` does. Fails with `Unreadable` also if it can't be opened.
 pub fn read_file<H: Files + AllocGlobal>(rt: &H, path: &str) -> Result<Vec<u8>, FileError> {
-    let Ok(file) = fs::open(rt, path) else {
+    let Ok(mut file) = fs::open(rt, path) else {
         return Err(FileError::Unreadable);
     };
-    match read_whole(rt.alloc(), &mut Counting::new(file)) {
+    match read_whole(rt.alloc(), &mut file, &mut 0) {
         Ok(bytes) => Ok(bytes),
         Err(RunIo::Memory) => Err(FileError::Memory),
         Err(RunIo::Read | RunIo::Write) => Err(FileError::Unreadable),

@@ -131,6 +131,29 @@ fn counted<T, E>(answer: Result<T, E>, faults: &mut u64) -> Result<T, E>
     answer
 }
 
+/// Reads some bytes into `buffer`, again if a signal interrupted a read, and returns how many: none
+/// only at the end, or if the buffer has no room. A call that fails takes no byte and counts one
+/// more fault. No other call counts one.
+pub(crate) fn read_some<R: Read>(
+    reader: &mut R,
+    faults: &mut u64,
+    buffer: &mut [u8],
+) -> Result<usize, ReadFault>
+    ensures room { length buffer.new ≡ length buffer.old }
+    ensures fits { IfOk result (λ n. n ≤ length buffer.old) }
+    ensures bytes { ReadConsumes (R.remaining reader.old) (R.remaining reader.new) result
+        buffer.new }
+    ensures faults { CountsFault faults.old faults.new result }
+{
+    for _ in 0..u64::MAX {
+        let answer = reader.read(buffer);
+        if let Some(read) = bytes_read(answer) {
+            return counted(read, faults);
+        }
+    }
+    counted(Err(ReadFault), faults)
+}
+
 /// Writes a byte, again if a signal interrupted a write.
 fn put_byte<W: Write>(writer: &mut W, faults: &mut u64, byte: u8) -> Result<(), WriteFault>
     ensures bytes { MatchResult result
@@ -147,27 +170,6 @@ fn put_byte<W: Write>(writer: &mut W, faults: &mut u64, byte: u8) -> Result<(), 
     counted(Err(WriteFault), faults)
 }
 
-impl<R: Read> Counting<R> {
-    /// Reads some bytes into `buffer`, again if a signal interrupted a read, and returns how many:
-    /// none only at the end, or if the buffer has no room. A call that fails takes no byte and
-    /// counts one more fault. No other call counts one.
-    pub fn read_some(&mut self, buffer: &mut [u8]) -> Result<usize, ReadFault>
-        ensures room { length buffer.new ≡ length buffer.old }
-        ensures fits { IfOk result (λ n. n ≤ length buffer.old) }
-        ensures bytes { ReadConsumes (R.remaining self.old.inner) (R.remaining self.new.inner)
-            result buffer.new }
-        ensures faults { CountsFault self.old.faults self.new.faults result }
-    {
-        for _ in 0..u64::MAX {
-            let answer = self.inner.read(buffer);
-            if let Some(read) = bytes_read(answer) {
-                return counted(read, &mut self.faults);
-            }
-        }
-        counted(Err(ReadFault), &mut self.faults)
-    }
-}
-
 impl<R: Read> ByteReader for Counting<R> {
     ghost remaining = { λ r. R.remaining r.inner };
 
@@ -175,7 +177,7 @@ impl<R: Read> ByteReader for Counting<R> {
 
     fn read_byte(&mut self) -> Result<Option<u8>, ReadFault> {
         let mut buffer = [0u8; 1];
-        let n = self.read_some(&mut buffer)?;
+        let n = read_some(&mut self.inner, &mut self.faults, &mut buffer)?;
         Ok(byte_found(n, buffer[0]))
     }
 }

@@ -5,8 +5,8 @@ use Rattle.machine_run.proofs.files.read_whole.Given as goal
 
 abbrev pub invariant-loop : goal.invariant-loop
 invariant-loop g l = record {
-  whole : Consumes (g.R.Read.remaining l.fn.reader.inner) (g.R.Read.remaining l.reader.inner) l.bytes.items;
-  faults : l.reader.faults ≡ l.fn.reader.faults;
+  whole : Consumes (g.R.Read.remaining l.fn.reader) (g.R.Read.remaining l.reader) l.bytes.items;
+  faults : l.faults ≡ l.fn.faults;
   short : length l.bytes.items ≤ LONGEST_FILE;
   grown : l.counter ≤ length l.bytes.items;
 }
