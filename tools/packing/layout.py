@@ -15,9 +15,12 @@ TOP = manual.TOP
 # scripts find each other and the program, which is its `run`.
 LIBRARY = "lib/pgroup"
 SCRIPTS = [*manual.SCRIPTS, "console"]
+# The compiler and the assembler: what is called, and the folders that they need.
+COMPILERS = ("assemble", "compile")
+COMPILER_FILES = ("assembler/**/*", "compiler/**/*", "pcode/**/*")
 # The examples that need nothing else of the repository.
 EXAMPLES = (
-    "*.code", "*.pas", "*.asm", "*.inc", "*.lst", "README.md", "terminal/*", "group/*.script",
+    "*.code", "*.pas", "*.lst", "README.md", "assembly/*", "terminal/*", "group/*.script",
 )
 
 
@@ -68,6 +71,16 @@ def put_scripts(tree):
         tree.link(f"bin/pgroup-{name}", f"{LIBRARY}/{where}")
 
 
+def put_compilers(tree):
+    for name in COMPILERS:
+        tree.copy(os.path.join(manual.TOOLS, name), f"{LIBRARY}/tools/{name}")
+        tree.link(f"bin/pgroup-{name}", f"{LIBRARY}/tools/{name}")
+    for pattern in COMPILER_FILES:
+        for path in sorted(glob.glob(os.path.join(manual.TOOLS, pattern), recursive=True)):
+            if os.path.splitext(path)[1] in (".py", ".pas", ".inc"):
+                tree.copy(path, f"{LIBRARY}/tools/{os.path.relpath(path, manual.TOOLS)}")
+
+
 def put_docs(tree):
     for path in sorted(glob.glob(os.path.join(TOP, "docs", "man", "*.1"))):
         with open(path, "rb") as file:
@@ -86,6 +99,7 @@ def put_all(folder, program):
     tree = Tree(folder)
     tree.copy(program, "bin/pgroup")
     put_scripts(tree)
+    put_compilers(tree)
     put_docs(tree)
     unit = os.path.join(manual.GROUP, "pgroup@.service")
     tree.copy(unit, "lib/systemd/system/pgroup@.service")

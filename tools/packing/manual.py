@@ -3,6 +3,7 @@ scripts from their own text and the words that they take. So a page says nothing
 docs/man has them, and docs/check refuses a page that is another one."""
 
 import argparse
+import importlib
 import importlib.machinery
 import importlib.util
 import os
@@ -11,7 +12,8 @@ import subprocess
 import sys
 
 TOP = os.path.join(os.path.dirname(os.path.realpath(__file__)), "..", "..")
-GROUP = os.path.join(TOP, "tools", "group")
+TOOLS = os.path.join(TOP, "tools")
+GROUP = os.path.join(TOOLS, "group")
 # The commands of the program that have a page, beside the one of all.
 COMMANDS = ("check", "list", "run", "show", "sim", "net", "node")
 SCRIPTS = ("attach", "lead", "renew", "status", "supervise")
@@ -95,7 +97,8 @@ def parser_of_script(path):
 
 def word_of(action):
     """How a word of a script is said."""
-    metavar = action.metavar or ""
+    choices = "{" + ",".join(action.choices) + "}" if action.choices else ""
+    metavar = action.metavar or choices
     value = " ".join(metavar) if isinstance(metavar, tuple) else metavar
     value += ".." if action.nargs == "+" else ""
     if not action.option_strings:
@@ -103,21 +106,40 @@ def word_of(action):
     return " ".join(filter(None, [action.option_strings[-1], value]))
 
 
-def script_page(name):
-    """The page of a script of tools/group."""
-    parser = parser_of_script(os.path.join(GROUP, name))
+def page_of_words(name, parser):
+    """The page of a script with this parser of words."""
     about, _, more = " ".join(parser.description.split()).partition(". ")
     # argparse has no other way to its list of words.
     actions = [it for it in parser._actions if it.dest != "help"]
     usage = [f"pgroup-{name} [OPTIONS] " + " ".join(
         word_of(it) for it in actions if not it.option_strings)]
     words = [line for it in actions for line in (word_of(it), f"    {it.help}")]
-    text = [more] if more else []
+    text = [more, ""] if more else []
     text += parser.epilog.strip("\n").split("\n")
     # The text names the script as it is called in the repository.
-    text = [re.sub(rf"^(    ){name}\b", rf"\1pgroup-{name}", it) for it in text]
+    text = [re.sub(rf"^( {{2,4}}){name}\b", rf"\1pgroup-{name}", it) for it in text]
     sections = [("Synopsis", usage), ("Words", words), ("Description", text)]
     return page(f"pgroup-{name}", about, sections)
+
+
+def script_page(name):
+    """The page of a script of tools/group."""
+    return page_of_words(name, parser_of_script(os.path.join(GROUP, name)))
+
+
+def module_of(name):
+    """A module below tools."""
+    if TOOLS not in sys.path:
+        sys.path.insert(0, TOOLS)
+    return importlib.import_module(name)
+
+
+def assembler_page():
+    """The page of the assembler."""
+    about, _, more = module_of("assembler.command").HELP.partition("\n\n")
+    first, _, rest = " ".join(about.split()).partition(". ")
+    lines = re.sub(r"^(    )assemble\b", r"\1pgroup-assemble", more, flags=re.M).split("\n")
+    return page("pgroup-assemble", first, [("Description", [rest, "", *lines])])
 
 
 def console_page():
@@ -134,7 +156,9 @@ def console_page():
 def script_pages():
     """The pages that need no program, by their names."""
     pages = {f"pgroup-{it}.1": script_page(it) for it in SCRIPTS}
-    return {**pages, "pgroup-console.1": console_page()}
+    compiler = module_of("compiler.command").words_parser()
+    pages["pgroup-compile.1"] = page_of_words("compile", compiler)
+    return {**pages, "pgroup-assemble.1": assembler_page(), "pgroup-console.1": console_page()}
 
 
 def program_pages(program):
