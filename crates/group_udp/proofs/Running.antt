@@ -12,7 +12,7 @@ use Rattle.group_wire.specs.Doings.{working}
 use Rattle.group_wire.specs.Starts.{HasStarted}
 use Rattle.group_udp.specs.declared.fault.GroupFault.{GroupFault}
 use Rattle.group_udp.specs.declared.node.NodePlan.{NodePlan}
-use Rattle.group_udp.specs.Ends.{EndsLoaded, IsTypedText, RunsOpened, RunsOverFile, keys_at_first, me_in}
+use Rattle.group_udp.specs.Ends.{EndsLoaded, IsRefusedInput, IsTypedText, RefusesUnwritten, RunsOpened, RunsOverFile, keys_at_first, me_in}
 use Rattle.group_udp.specs.Going.{Around, HasGone, planned}
 use Rattle.group_udp.specs.Output.{AppendsOutput}
 use Rattle.group_udp.specs.Prompts.{Remaining}
@@ -106,3 +106,10 @@ loaded_runs {config} {program} {plan} {from} {to} text {before} {after} {result}
       subst IsConfig is ranges,
       inr (text, typed, subst (λ (me : Me). RunsOpened me program plan text before after result) is runs),
     )
+
+-- the same node, whose input cannot be read
+pub loaded_refuses : {config : Me} {program : Parts} {plan : NodePlan} {from to : Option (List ℕ)}
+    {before after : Option (List ℕ)} {result : Result (Unit {0}) GroupFault} → config ≡ me_in plan → IsConfig config
+    → RefusesUnwritten (IsRefusedInput plan from to) before after result
+    → EndsLoaded program plan from to before after result
+loaded_refuses is ranges refused = inr (subst IsConfig is ranges, inl refused)

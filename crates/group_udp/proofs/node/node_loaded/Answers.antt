@@ -1,6 +1,14 @@
-use Rattle.std.proofs.Common.{◌≡◌, rules}
-use Rattle.group_udp.proofs.Running.{loaded_runs}
+use Rattle.std.proofs.Common.{◌≡◌, refl, rules}
+use Rattle.std.proofs.lemmas.Result.{err_from_is_err_and}
+use Rattle.group_udp.proofs.Running.{loaded_refuses, loaded_runs}
 use Rattle.group_udp.proofs.node.node_loaded.Goals as goal
+
+pub returns-in_err-text : goal.returns-in_err-text
+returns-in_err-text g c =
+    let p = err_from_is_err_and c.from_residual-in_err-text.result c.from_residual-in_err-text.ensures.1 in
+    record {
+      ends = loaded_refuses c.in_ok-config.ensures.ok c.me.ensures.ranges (p.0, rw p.2 c.in_err-text.ensures.err, refl, p.1);
+    }
 
 pub returns : goal.returns
 returns g c =
