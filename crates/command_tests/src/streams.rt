@@ -55,7 +55,7 @@ struct ReaderFailsOnce {
 
 impl Read for ReaderFailsOnce {
     fn read(&mut self, buffer: &mut [u8]) -> io::Result<usize> {
-        self.calls += 1;
+        self.calls = self.calls.saturating_add(1);
         let byte = match self.calls {
             1 => b'H',
             2 => return Err(io::Error::from(ErrorKind::Other)),
@@ -96,7 +96,7 @@ struct WriterFailsOnce {
 
 impl Write for WriterFailsOnce {
     fn write(&mut self, bytes: &[u8]) -> io::Result<usize> {
-        self.calls += 1;
+        self.calls = self.calls.saturating_add(1);
         match (self.calls, bytes.first()) {
             (2, _) => Err(io::Error::from(ErrorKind::Other)),
             (1, Some(byte)) => {
