@@ -97,14 +97,15 @@ struct WriterFailsOnce {
 impl Write for WriterFailsOnce {
     fn write(&mut self, bytes: &[u8]) -> io::Result<usize> {
         self.calls = self.calls.saturating_add(1);
-        match (self.calls, bytes.first()) {
-            (2, _) => Err(io::Error::from(ErrorKind::Other)),
-            (1, Some(byte)) => {
-                self.first = *byte;
-                Ok(1)
-            }
-            _ => Ok(1),
+        if self.calls == 2 {
+            return Err(io::Error::from(ErrorKind::Other));
         }
+        if let Some(byte) = bytes.first()
+            && self.calls == 1
+        {
+            self.first = *byte;
+        }
+        Ok(bytes.len().min(1))
     }
 
     fn flush(&mut self) -> io::Result<()> {
