@@ -1,5 +1,6 @@
 # shellcheck shell=bash
-# Functions of ./run and ./test: the crates that another depends on, what the program is made of, the kit, and the lines of a record.
+# Functions of ./run, ./test and tools/package: the crates that another depends on, what the program is made of, the kit, and the
+# lines of a record.
 
 # Prints the crate $1 and all crates of crates.txt that it depends on, lowest first, one a line. The tree is the current folder.
 crates_up_to() {
@@ -59,3 +60,18 @@ line_of_kit() {
 
 # value NAME FILE: the value of NAME in a record or a note.
 value() { sed -n "s/^$1 //p" "$2"; }
+
+# made_of PROGRAM TOP: prints two lines, `kit ..` and `sources ..`, of what a program was made with and of. They are those of the record
+# in the repository TOP where it is of this program, by its sum, and otherwise those of the note beside the program, if it is. Of any
+# other program they are not known.
+made_of() {
+  local file sum
+  sum=$(sha256 < "$1")
+  for file in "$2/program/record" "$1.sources"; do
+    if [ -f "$file" ] && [ "$(value program "$file")" = "$sum" ]; then
+      printf '%s\n' "kit $(value kit "$file")" "sources $(value sources "$file")"
+      return
+    fi
+  done
+  printf '%s\n' 'kit not known' 'sources not known'
+}

@@ -6,6 +6,7 @@ import importlib.util
 import itertools
 import os
 import random
+import shlex
 import shutil
 import signal
 import socket
@@ -37,6 +38,9 @@ ENDLESS = bytes.fromhex(
     "02a50300010000 9e05 01a50300010000 9e06 d7d7d7 b9f6 c100"
     "001a 0002 0004 0009 0022 0001 0002 0001 01"
 )
+# Divides by zero: SLDC 1, SLDC 0, and DVI at offset 2, which is error 6.
+DIVIDING = bytes.fromhex("01 00 86 c100 00 0200 0400 0700 0c00 0100 0200 0101")
+DIVIDED = "execution error 6 in procedure 1 at 2"
 
 
 class Broken(Exception):
@@ -63,12 +67,20 @@ def cases_module():
     return module
 
 
-def endless_in(folder):
-    """Writes the code file of ENDLESS into a folder. Returns its path."""
-    path = os.path.join(folder, "endless.code")
+def code_in(folder, name, segment):
+    """Writes the code file of a segment into a folder. Returns its path."""
+    path = os.path.join(folder, name)
     with open(path, "wb") as out:
-        out.write(cases_module().code_file(ENDLESS))
+        out.write(cases_module().code_file(segment))
     return path
+
+
+def endless_in(folder):
+    return code_in(folder, "endless.code", ENDLESS)
+
+
+def dividing_in(folder):
+    return code_in(folder, "dividing.code", DIVIDING)
 
 
 def await_that(is_so, what, seconds=60.0):
@@ -178,6 +190,7 @@ class Node:
         self.record = os.path.join(folder, f"record{number}")
         self.console = os.path.join(folder, f"console{number}")
         self.errors = os.path.join(folder, f"errors{number}")
+        self.trace = None  # the path of its trace, if it writes one
         self.process = None
         self.sent = bytearray()
         self.typed = {}
@@ -198,8 +211,15 @@ class Node:
         with open(self.console, "ab") as console, open(self.errors, "ab") as errors:
             self.process = subprocess.Popen(
                 self.command(file, *more), stdin=subprocess.DEVNULL, stdout=console,
-                stderr=errors, env=env,
+                stderr=errors, env=self.environment(env),
             )
+
+    def environment(self, env):
+        """Returns the environment of the process: this one or the test's own, with the node's trace
+        and no other."""
+        env = dict(os.environ if env is None else env)
+        env.pop("PGROUP_TRACE", None)
+        return env if self.trace is None else {**env, "PGROUP_TRACE": self.trace}
 
     def await_keys(self):
         """Waits until keys can be typed."""
@@ -243,12 +263,15 @@ class Node:
 class Group:
     """Nodes on one machine, a text that is typed at them, and what happened so far."""
 
-    def __init__(self, folder, seed, file, keys, lists):
-        """A node for each address of `keys`, with the list of addresses that it is given."""
+    def __init__(self, folder, seed, file, keys, lists, is_traced=False):
+        """A node for each address of `keys`, with the list of addresses that it is given, and a
+        trace if that is said."""
         self.random = random.Random(seed)
         self.file = file
         count = range(1, len(keys) + 1)
         self.nodes = [Node(it, folder, keys[it - 1], lists[it - 1]) for it in count]
+        for node in self.nodes if is_traced else ():
+            node.trace = os.path.join(folder, f"trace{node.number}")
         self.socket = socket.socket(socket.AF_INET, socket.SOCK_DGRAM)
         lines = (f"{it:04}" + ("\n" if it % 20 == 19 else " ") for it in range(10000))
         self.text = itertools.cycle("".join(lines).encode())
@@ -360,6 +383,19 @@ class Group:
     def places(self):
         return len(values_of([it.record for it in self.nodes]))
 
+    def check_replay(self):
+        """Kills all nodes, and raises Broken unless `replay` says that their traces come to the
+        same, and to their records and consoles."""
+        self.end()
+        words = [os.path.join(SCRIPTS, "replay"), self.file, *(it.trace for it in self.nodes)]
+        words += ["--records", *(it.record for it in self.nodes)]
+        words += ["--consoles", *(it.console for it in self.nodes), "--program", PROGRAM]
+        done = subprocess.run(words, check=False, capture_output=True, text=True)
+        if done.returncode != 0:
+            said = (done.stdout + done.stderr).strip()
+            raise Broken(f"by the traces: {said}\nthat is what this says: {shlex.join(words)}")
+        print(f"the traces: {done.stdout.strip()}")
+
     def end(self):
         for node in self.nodes:
             node.end()
@@ -379,7 +415,7 @@ def in_folder(test):
     try:
         test(folder)
     except Broken as broken:
-        print(f"failed: {broken}\nthe records and consoles are in {folder}")
+        print(f"failed: {broken}\nthe records, consoles and traces are in {folder}")
         return 1
     except BaseException:
         shutil.rmtree(folder, ignore_errors=True)

@@ -29,6 +29,7 @@ class Supervised:
         own. `around` are words that come before each command, such as those that lead it into a
         namespace."""
         self.number, self.folder, self.around = number, folder, list(around)
+        self.env = ASKED
         self.nodes, self.beats, self.keys = nodes, beats, keys
         self.record = os.path.join(folder, f"record{number}")
         self.console = os.path.join(folder, f"console{number}")
@@ -52,7 +53,7 @@ class Supervised:
         command = self.around + [path_of("supervise"), self.words, *more]
         with open(self.errors, "ab") as errors:
             self.process = subprocess.Popen(
-                command, stdin=subprocess.DEVNULL, stderr=errors, env=ASKED
+                command, stdin=subprocess.DEVNULL, stderr=errors, env=self.env
             )
 
     def start(self, *more):

@@ -14,31 +14,38 @@ from .tree import fault
 FOLDER = "docs/man"
 
 
-def recorded():
+def recorded(is_of_any_sources=False):
     """The bytes of the recorded program, or None where it is of other sources or for another machine."""
+    if not tree.is_file("program/record"):
+        return None
     values = dict(line.split(" ", 1) for line in tree.text_of("program/record").splitlines() if line[:1] not in ("#", ""))
     script = '. "$0/program/sources.bash"; sum_of_sources "$0"'
     sources = subprocess.run(["bash", "-c", script, tree.TOP], check=True, capture_output=True).stdout.decode().strip()
-    if values["sources"] != sources or values["machine"] != os.uname().machine:
+    if values["machine"] != os.uname().machine or not is_of_any_sources and values["sources"] != sources:
         return None
     with open(f"{tree.TOP}/program/pgroup.gz", "rb") as file:
         program = gzip.decompress(file.read())
     return program if hashlib.sha256(program).hexdigest() == values["program"] else None
 
 
+def put(program, room):
+    """Writes a program into a folder. Returns its path."""
+    path = os.path.join(room, "pgroup")
+    with open(path, "wb") as file:
+        file.write(program)
+    os.chmod(path, 0o755)
+    return path
+
+
 def pages_of_program(manual):
     """The pages of the program, or None where it is not at hand."""
     if os.environ.get("PGROUP"):
         return manual.program_pages(os.environ["PGROUP"])
-    program = recorded() if tree.is_file("program/record") else None
+    program = recorded()
     if program is None:
         return None
     with tempfile.TemporaryDirectory() as room:
-        path = os.path.join(room, "pgroup")
-        with open(path, "wb") as file:
-            file.write(program)
-        os.chmod(path, 0o755)
-        return manual.program_pages(path)
+        return manual.program_pages(put(program, room))
 
 
 def check(is_write):

@@ -38,16 +38,39 @@ def check_rust_shown():
         fault(f"docs/LIBRARY.md: shows Rust that no test compiles")
 
 
+CODES = "crates/command_line/src/codes.rt"
+PROGRAM = "crates/command_line/src/program.rt"
+
+
+def codes_of_program():
+    """The codes that `pgroup help codes` prints, and their sentences. A line that begins with ten blanks goes on with the sentence
+    before it."""
+    table = re.search(r'^pub const CODES: &str = "[^\n]*\n(.*?)^";$', text_of(CODES), re.M | re.S)
+    lines = re.sub(r"\n {10}", " ", table[1]).splitlines() if table else []
+    return [re.fullmatch(r"(?:  (\S+) +)?(.*)", it).groups() for it in lines]
+
+
 def check_sentences():
-    """The sentences of the codes in docs/FORMATS.md are those of the scripts."""
+    """The sentences of the codes in docs/FORMATS.md are those of the program and of the scripts."""
     sys.path.insert(0, f"{tree.TOP}/tools/group")
     sentences = importlib.import_module("shared.codes").SENTENCES
     table = text_of("docs/FORMATS.md").partition("| Code | Its sentence |\n|---|---|\n")[2].partition("\n\n")[0]
-    if [tree.cells_of(it) for it in table.split("\n")] != [[f"`{code}`", text] for code, text in sentences.items()]:
-        fault("docs/FORMATS.md: the sentences of the codes are not those of tools/group/shared/codes.py")
+    there = [tree.cells_of(it) for it in table.split("\n")]
+    for path, of_path in (("tools/group/shared/codes.py", list(sentences.items())), (CODES, codes_of_program())):
+        if there != [[f"`{code}`", text] for code, text in of_path]:
+            fault(f"docs/FORMATS.md: the sentences of the codes are not those of {path}")
     named = set(re.findall(r"(?<![\w.])[FOGEDV]\d+\b", text_of("docs/FORMATS.md"))) - sentences.keys()
     if named - {"G13"}:
         fault(f"docs/FORMATS.md: has codes without a sentence: {', '.join(sorted(named))}")
+
+
+def check_version():
+    """The program says the newest version of CHANGELOG.md."""
+    sys.path.insert(0, f"{tree.TOP}/tools")
+    newest = importlib.import_module("packing.layout").version_of(tree.TOP)[0]
+    said = re.findall(r'^const VERSION: &str = "(.*)";$', text_of(PROGRAM), re.M)
+    if said != [newest]:
+        fault(f"{PROGRAM}: says the version {', '.join(said)}, and the newest of CHANGELOG.md is {newest}")
 
 
 # The module that has names of another on purpose.

@@ -7,6 +7,7 @@ import os
 import re
 import shutil
 import stat
+import subprocess
 
 from . import manual
 
@@ -29,6 +30,13 @@ def version_of(top=TOP):
     with open(os.path.join(top, "CHANGELOG.md"), encoding="utf-8") as file:
         found = re.search(r"^## (\d+\.\d+\.\d+) \((\d{4}-\d\d-\d\d)\)$", file.read(), re.M)
     return found[1], found[2]
+
+
+def lines_of_version(program):
+    """What ./run --version prints of a program: its version, its kit and its sources."""
+    script = '. "$1/program/sources.bash"; "$0" --version && made_of "$0" "$1"'
+    command = ["bash", "-c", script, program, TOP]
+    return subprocess.run(command, check=True, stdout=subprocess.PIPE).stdout
 
 
 class Tree:
@@ -86,7 +94,7 @@ def put_docs(tree):
         with open(path, "rb") as file:
             packed = gzip.compress(file.read(), mtime=0)
         tree.write(f"share/man/man1/{os.path.basename(path)}.gz", packed)
-    for pattern in ("README.md", "CHANGELOG.md", "docs/*.md"):
+    for pattern in ("README.md", "CHANGELOG.md", "docs/*.md", "docs/pictures/*.svg"):
         for path in sorted(glob.glob(os.path.join(TOP, pattern))):
             tree.copy(path, f"share/doc/pgroup/{os.path.relpath(path, TOP)}")
     for pattern in EXAMPLES:
@@ -101,6 +109,7 @@ def put_all(folder, program):
     put_scripts(tree)
     put_compilers(tree)
     put_docs(tree)
+    tree.write("share/doc/pgroup/version", lines_of_version(program))
     unit = os.path.join(manual.GROUP, "pgroup@.service")
     tree.copy(unit, "lib/systemd/system/pgroup@.service")
 

@@ -27,7 +27,7 @@ Exit status:
   2  a fault of the command line
   3  an execution error of the program
   4  the steps are spent, and the program has not ended: `steps`
-docs/FORMATS.md explains the codes, and what is printed.";
+`pgroup help codes` explains the codes, docs/FORMATS.md what is printed.";
 
 /// A command by its name.
 #[derive(Clone, Copy, Debug, PartialEq, Eq)]
@@ -110,7 +110,7 @@ impl Name {
             Name::Run => run::perform(rt, matches, reader, writer),
             Name::Show => show::perform(rt.alloc(), matches, writer),
             Name::Sim => sim::perform(rt, matches, writer),
-            Name::Net => net::perform(rt, matches, reader, writer),
+            Name::Net => net::perform(rt, matches, reader, writer, errors),
             Name::Node => node::perform(rt, matches, reader, writer, errors),
         }
     }

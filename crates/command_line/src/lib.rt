@@ -11,7 +11,9 @@
 //! Each command is a module of `commands`. To add one, write its module and name it there.
 #![tactic(auto)]
 
+mod codes;
 mod commands;
+mod environment;
 mod outcome;
 mod program;
 mod reading;

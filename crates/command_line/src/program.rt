@@ -1,20 +1,48 @@
 //! What the program does with its words.
+use crate::codes::CODES;
 use crate::commands::run::DEFAULT_STEPS;
 use crate::outcome::{BAD_WORDS, DONE, Outcome, Refusal, conclude, refuse};
 use crate::reading::{NotAsked, command_in, no_command, read_words, refused};
 use machine_run::{MachineRefusal, RunIo, run_built_in};
-use std::io::{Read, Write};
+use std::io::{self, Read, Write};
 use std::net::Net;
 use std::rt::{Env, Files};
 use std::time::Clock;
 
+/// The version of the program, which is the newest of CHANGELOG.md.
+const VERSION: &str = "0.8.0";
+
+/// Returns the status once a text was written, or could not be.
+fn status_of<E: Write>(errors: &mut E, written: io::Result<()>) -> u8 {
+    match written {
+        Ok(()) => DONE,
+        Err(_) => refuse(errors, Refusal::Machine(MachineRefusal::Run(RunIo::Write))),
+    }
+}
+
+/// Writes the text that these words ask for beside the commands: the version, or the table of
+/// codes. Returns the status, or `None` where they ask for something else.
+fn tell<W: Write, E: Write>(writer: &mut W, errors: &mut E, words: &[String]) -> Option<u8> {
+    let (first, second) = match words {
+        [first] => (first.as_str(), ""),
+        [first, second] => (first.as_str(), second.as_str()),
+        _ => return None,
+    };
+    let written = match (first, second) {
+        ("--version", "") => writeln!(writer, "pgroup {VERSION}"),
+        ("help", "codes") => write!(writer, "{CODES}"),
+        _ => return None,
+    };
+    Some(status_of(errors, written))
+}
+
 /// Writes why the words ask for nothing that is done. Returns the status.
 pub fn explain<W: Write, E: Write>(writer: &mut W, errors: &mut E, reason: NotAsked) -> u8 {
     match reason {
-        NotAsked::Help(help) => match write!(writer, "{help}") {
-            Ok(()) => DONE,
-            Err(_) => refuse(errors, Refusal::Machine(MachineRefusal::Run(RunIo::Write))),
-        },
+        NotAsked::Help(help) => {
+            let written = write!(writer, "{help}");
+            status_of(errors, written)
+        }
         NotAsked::Fault(fault) => {
             let _ = write!(errors, "{fault}");
             BAD_WORDS
@@ -42,7 +70,8 @@ fn perform<H: Files + Net + Clock + Env + AllocGlobal + Copy + Drop, R: Read, W:
 }
 
 /// Does what the program does with these words, which are without its own name, on an input, an
-/// output and an error stream. Without words it runs the built-in program. Returns the status: 0; 1
+/// output and an error stream. Without words it runs the built-in program. Words that ask for help,
+/// for the table of codes or for the version do nothing else. Returns the status: 0; 1
 /// refused; 2 a fault of the command line; 3 an execution error; 4 the steps are spent. A fault of
 /// the error stream is ignored.
 pub fn command<
@@ -54,6 +83,9 @@ pub fn command<
     if words.is_empty() {
         let ran = run_built_in(rt.alloc(), DEFAULT_STEPS, writer);
         return conclude(errors, Outcome::of_run(ran));
+    }
+    if let Some(status) = tell(writer, errors, words) {
+        return status;
     }
     match perform(rt, words, reader, writer, errors) {
         Ok(outcome) => conclude(errors, outcome),

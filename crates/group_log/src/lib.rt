@@ -13,12 +13,16 @@
 
 mod drops;
 mod log;
+mod milestones;
 mod note;
 mod role;
 mod sends;
+mod trace;
 
 pub use drops::{DropReason, Drops, MOST_COUNTED, reason_of};
-pub use log::Log;
+pub use log::{Log, millis_now};
+pub use milestones::{end_to_note, marks_reached};
 pub use note::{End, Note, line_of};
 pub use role::Role;
 pub use sends::Sends;
+pub use trace::{Call, Traced, traced_line};

@@ -1,9 +1,10 @@
 //! The log of one node.
 use crate::drops::Drops;
+use crate::milestones::{end_to_note, marks_reached};
 use crate::note::{Note, line_of};
 use crate::role::Role;
 use crate::sends::Sends;
-use group_node::Node;
+use group_node::{Node, Ran};
 use paxos_acceptor::Store;
 use paxos_msg::{Ballot, Group};
 use std::alloc::Global;
@@ -12,6 +13,18 @@ use std::time::{Clock, Duration, Instant, SystemTime};
 
 /// The least time in seconds from one note of counted datagrams to the next.
 const COUNTS_APART: u64 = 1;
+
+/// Returns the time in milliseconds from the start of 1970 on, in UTC, or 0 if the clock cannot be
+/// read.
+pub fn millis_now<H: Clock>(clock: &H) -> u64 {
+    let Ok(now) = SystemTime::now(clock) else {
+        return 0;
+    };
+    match now.duration_since(SystemTime::UNIX_EPOCH) {
+        Ok(time) => u64::try_from(time.as_millis()).unwrap_or(0),
+        Err(_) => 0,
+    }
+}
 
 /// The log of one node. If it is on, it writes notes to `errors`, a line each. A line that cannot
 /// be made or written is left out.
@@ -24,6 +37,8 @@ pub struct Log<'a, H, E> {
     node: u8,
     role: Role,
     is_full: bool,
+    marks: u8,
+    has_ended: bool,
     counts_noted: Option<Instant>,
 }
 
@@ -44,6 +59,8 @@ impl<'a, H: Clock, E: Write> Log<'a, H, E> {
             node,
             role: Role::Follower,
             is_full: false,
+            marks: 0,
+            has_ended: false,
             counts_noted: None,
         }
     }
@@ -53,24 +70,12 @@ impl<'a, H: Clock, E: Write> Log<'a, H, E> {
         self.is_on
     }
 
-    /// Returns the time in milliseconds from the start of 1970 on, or 0 if the clock cannot be
-    /// read.
-    fn millis(&self) -> u64 {
-        let Ok(now) = SystemTime::now(self.clock) else {
-            return 0;
-        };
-        match now.duration_since(SystemTime::UNIX_EPOCH) {
-            Ok(time) => u64::try_from(time.as_millis()).unwrap_or(0),
-            Err(_) => 0,
-        }
-    }
-
     /// Writes a note, if the log is on.
     pub fn note(&mut self, note: &Note<'_>) {
         if !self.is_on {
             return;
         }
-        if let Ok(line) = line_of(self.alloc, self.millis(), self.node, note) {
+        if let Ok(line) = line_of(self.alloc, millis_now(self.clock), self.node, note) {
             let _ = self.errors.write_all(line.as_bytes());
         }
     }
@@ -89,7 +94,8 @@ impl<'a, H: Clock, E: Write> Log<'a, H, E> {
         });
     }
 
-    /// Notes what has changed of the node's ballot since the last look.
+    /// Notes what has changed since the last look: of the node's ballot, and how many places are
+    /// taken.
     pub fn look<S: Store>(&mut self, node: &Node<'_, S>) {
         if !self.is_on {
             return;
@@ -108,6 +114,24 @@ impl<'a, H: Clock, E: Write> Log<'a, H, E> {
             self.note(&Note::Leads(ballot));
         }
         self.role = next;
+        self.look_at_places(node.known_front());
+    }
+
+    /// Notes that a half, three quarters, nine tenths or all of the places are taken, once each.
+    fn look_at_places(&mut self, places: u32) {
+        let reached = marks_reached(places);
+        if reached > self.marks {
+            self.note(&Note::Places(places));
+        }
+        self.marks = reached;
+    }
+
+    /// Notes the end of the program, when a run comes to it for the first time in this process.
+    pub fn ran(&mut self, ran: Ran) {
+        if let Some(end) = end_to_note(self.has_ended, ran) {
+            self.note(&Note::Program(end));
+            self.has_ended = true;
+        }
     }
 
     /// Returns true if a second has passed since counted datagrams were last noted.

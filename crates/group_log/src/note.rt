@@ -4,7 +4,9 @@ ghost use Rattle.group_log.specs.Notes.{line_text};
 
 use crate::drops::Drops;
 use group_node::NodeFault;
+use paxos_msg::limits::PLACES;
 use paxos_msg::{Ballot, Group};
+use pcode_machine::End as ProgramEnd;
 use std::alloc::{AllocError, Global};
 use std::fmt;
 use std::net::SocketAddr;
@@ -27,6 +29,10 @@ pub enum Note<'a> {
     NoFile(&'a str),
     /// No socket can be made at this address.
     NoSocket(SocketAddr),
+    /// Its record, of this path, cannot be loaded, or a save of it has failed.
+    NoRecord(&'a str),
+    /// Its record, of this path, is none that this node of this group can have.
+    BadRecord(&'a str),
     /// It has started for the first time, over no record or an empty one.
     StartedNew(Group),
     /// It has started over a record, which counts this start.
@@ -54,6 +60,12 @@ pub enum Note<'a> {
     Unsent(u32),
     /// The keys that wait are this many, and typed bytes are left for which there is no room.
     Full(usize),
+    /// So many places are learned, from place 0 on.
+    Places(u32),
+    /// A line of its trace cannot be written, and none is from then on.
+    TraceLost,
+    /// Its program has ended. The node goes on, and reads no more keys.
+    Program(ProgramEnd),
     /// Its run has ended.
     Ended(End),
 }
@@ -109,6 +121,52 @@ impl fmt::Display for LastSource {
     }
 }
 
+/// How a program ended, as text.
+#[derive(Clone, Copy)]
+struct HowEnded(ProgramEnd);
+
+impl fmt::Display for HowEnded {
+    ghost use Rattle.std.specs.Prelude.{Some};
+    ghost use Rattle.group_log.specs.Notes.{program_text};
+
+    ghost output = { λ how. Some (program_text how.0) };
+
+    fn fmt<W: fmt::Write>(&self, f: &mut fmt::Formatter<W>) -> fmt::Result {
+        match self.0 {
+            ProgramEnd::Normal => write!(f, "program ended"),
+            ProgramEnd::Error {
+                number,
+                procedure,
+                at,
+            } => write!(
+                f,
+                "program ended execution error {number} in procedure {procedure} at {at}"
+            ),
+        }
+    }
+}
+
+/// Why a campaign is refused, in words, where a person can do something about it.
+#[derive(Clone, Copy)]
+struct Because(NodeFault);
+
+impl fmt::Display for Because {
+    ghost use Rattle.std.specs.Prelude.{Some};
+    ghost use Rattle.group_log.specs.Notes.{because_text};
+
+    ghost output = { λ because. Some (because_text because.0) };
+
+    fn fmt<W: fmt::Write>(&self, f: &mut fmt::Formatter<W>) -> fmt::Result {
+        match self.0 {
+            NodeFault::PlacesSpent => write!(
+                f,
+                ": all places are taken, so there is nothing to lead for"
+            ),
+            _ => Ok(()),
+        }
+    }
+}
+
 impl fmt::Display for Drops {
     ghost use Rattle.std.specs.Prelude.{Some};
     ghost use Rattle.group_log.specs.Notes.{drops_text};
@@ -139,6 +197,8 @@ impl fmt::Display for Note<'_> {
         match self {
             Note::NoFile(path) => write!(f, "file {path} cannot be read"),
             Note::NoSocket(address) => write!(f, "socket {address} cannot be made"),
+            Note::NoRecord(path) => write!(f, "record {path} cannot be loaded or saved"),
+            Note::BadRecord(path) => write!(f, "record {path} is damaged, or another node's"),
             Note::StartedNew(Group { size, session }) => {
                 write!(f, "started size {size} session {session} record new")
             }
@@ -153,7 +213,9 @@ impl fmt::Display for Note<'_> {
                 Shown(*promised)
             ),
             Note::Campaigns(ballot) => write!(f, "campaigns ballot {}", Shown(Some(*ballot))),
-            Note::CampaignRefused(fault) => write!(f, "campaign refused {fault}"),
+            Note::CampaignRefused(fault) => {
+                write!(f, "campaign refused {fault}{}", Because(*fault))
+            }
             Note::Leads(ballot) => write!(f, "leads ballot {}", Shown(Some(*ballot))),
             Note::BallotRefused { ballot, by } => write!(
                 f,
@@ -167,6 +229,9 @@ impl fmt::Display for Note<'_> {
                 f,
                 "no room for typed keys: {waiting} wait to be chosen, and more are held back"
             ),
+            Note::Places(places) => write!(f, "places {places} of {PLACES}"),
+            Note::TraceLost => write!(f, "trace lost: it cannot be written"),
+            Note::Program(end) => write!(f, "{}", HowEnded(*end)),
             Note::Ended(end) => write!(f, "{end}"),
         }
     }

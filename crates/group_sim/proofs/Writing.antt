@@ -1,5 +1,5 @@
 -- Texts that are written one after the other.
-use Rattle.std.proofs.Common.{◌≡◌, ℕ, zero, suc, ◌+◌, ◌-◌, ◌<◌, ◌==◌, false, add-suc, arith, length-drop, subst}
+use Rattle.std.proofs.Common.{◌≡◌, ◌∙◌, ℕ, zero, suc, ◌+◌, ◌-◌, ◌<◌, ◌≤◌, ◌==◌, false, add-suc, append-nil, arith, length-drop, subst, sym}
 use Rattle.std.proofs.Common.{List, [], ◌∷◌, ◌++◌, take, drop, get_or, length, Option, Result, IsErr}
 use Rattle.std.specs.Prelude.{codes}
 use Rattle.std.specs.List.{flat_map}
@@ -106,3 +106,20 @@ line-failed {E} line i n old mid new r less e p q =
 -- one that has shown something
 pub console_text-some : (bytes : List ℕ) → (length bytes == 0) ≡ false → console_text bytes ≡ codes " console " ++ hex_text bytes
 console_text-some bytes some = grind (arith, common_steps)
+
+-- ---- lines that are empty from a number on
+
+pub lines-end : (line : ℕ → List ℕ) (end k : ℕ) → ((s : ℕ) → end ≤ s → line s ≡ [])
+    → lines_below line (end + k) ≡ lines_below line end
+unfolding lines_below
+lines-end line end zero none = grind arith
+lines-end line end (suc k) none =
+    rw add-suc (rw (none (end + k) (omega arith)) (append-nil (lines_below line (end + k)) ∙ lines-end line end k none))
+
+-- where the lines from a number on are empty, those below it are all
+pub all-lines : (line : ℕ → List ℕ) (n end : ℕ) (old new : Option (List ℕ)) → end ≤ n → ((s : ℕ) → end ≤ s → line s ≡ [])
+    → Appends old new (lines_below line end) → Appends old new (lines_below line n)
+all-lines line n end old new few none h =
+    let whole : end + (n - end) ≡ n = omega (arith, few) in
+    subst (λ (m : ℕ). Appends old new (lines_below line m)) whole
+    (subst (λ (text : List ℕ). Appends old new text) (sym (lines-end line end (n - end) none)) h)

@@ -1,5 +1,6 @@
 //! A group as text.
-ghost use Rattle.std.specs.Prelude.{◌≡◌, Some};
+ghost use Rattle.std.specs.Prelude.{◌≡◌, ◌≤◌, ℕ, None, Some};
+ghost use Rattle.std.specs.FinMap.{get};
 ghost use Rattle.group_sim.specs.Groups.{ballot_text, console_at, console_text, group_text};
 ghost use Rattle.group_sim.specs.Groups.{keys_text, known_text, learned_at, learned_by, node_line};
 ghost use Rattle.group_sim.specs.Groups.{node_lines, place_line, place_lines, known_promise};
@@ -7,8 +8,10 @@ ghost use Rattle.group_sim.specs.Groups.{promised_text, value_text};
 ghost use Rattle.group_sim.specs.Texts.{node_at, WritesText};
 
 use crate::text::{put, put_decimal, put_hex, put_number};
+use group_node::Node;
 use group_world::World;
 use machine_run::WriteFault;
+use paxos_acceptor::MemoryStore;
 use paxos_msg::{Ballot, PLACES, Value};
 use std::io::Write;
 
@@ -181,12 +184,50 @@ fn write_place<W: Write>(
     }
 }
 
-/// Writes a line for each place at which some node that is up has learned a value, ascending.
+/// How far above its front a node learns nothing.
+const WINDOW: u32 = 1_024;
+
+/// Returns a place from which on a node has learned nothing.
+fn end_of(node: &Node<'_, MemoryStore>) -> u32
+    ensures few { result ≤ PLACES }
+    ensures none { (s : ℕ) → result ≤ s
+        → get node.now.protocol.known.learner.learned s ≡ None }
+{
+    // A node is in its ranges.
+    node.record();
+    node.known_front().saturating_add(WINDOW).min(PLACES)
+}
+
+/// Returns a place from which on a node has learned nothing, if it is up.
+fn learned_end(world: &World<'_>, node: u8) -> u32
+    ensures few { result ≤ PLACES }
+    ensures none { (s : ℕ) → result ≤ s → learned_by world.now node s ≡ None }
+{
+    match world.node(node) {
+        None => 0,
+        Some(running) => end_of(running),
+    }
+}
+
+/// Returns a place from which on no node that is up has learned a value.
+fn places_end(world: &World<'_>, size: u8) -> u32
+    ensures few { result ≤ PLACES }
+    ensures none { (s : ℕ) → result ≤ s → learned_at world.now size s ≡ None }
+{
+    let mut end = 0;
+    for before in 0..size {
+        end = end.max(learned_end(world, 1 + before));
+    }
+    end
+}
+
+/// Writes a line for each place at which some node that is up has learned a value, ascending. It
+/// looks at no place that is far above all fronts.
 fn write_places<W: Write>(writer: &mut W, world: &World<'_>, size: u8) -> Result<(), WriteFault>
     ensures { WritesText (W.contents writer.old) result (W.contents writer.new)
         (place_lines world.now size) }
 {
-    for place in 0..PLACES {
+    for place in 0..places_end(world, size) {
         write_place(writer, place, learned(world, size, place))?;
     }
     Ok(())

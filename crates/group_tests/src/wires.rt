@@ -3,7 +3,7 @@ ghost use Rattle.std.specs.Prelude.{◌≤◌, length};
 
 use crate::program::reading_program;
 use group_node::{Config, NodeFault};
-use group_wire::{Host, Wire};
+use group_wire::{Host, Told, Wire};
 use paxos_acceptor::MemoryStore;
 use paxos_msg::Record;
 use pcode_ops::Program;
@@ -106,6 +106,8 @@ impl Wire for Port<'_> {
         let bytes = self.network.take(self.node)?;
         Some(copied(buffer, bytes.as_slice()))
     }
+
+    fn tell(&mut self, _: &Told<'_>) {}
 }
 
 /// Starts node `node` of the group for the first time.

@@ -7,6 +7,7 @@ use crate::keyboard::{Keyboard, Pressed};
 use crate::node::NodePlan;
 use crate::own_datagrams::OwnDatagrams;
 use crate::sources::address_at;
+use crate::trace::Trace;
 use crate::typed::TypedDatagrams;
 use crate::udp::{UdpWire, Watch, bind};
 use group_log::{Log, Note};
@@ -16,6 +17,7 @@ use mio::net::UdpSocket;
 use paxos_acceptor::Store;
 use std::io::Write;
 use std::net::{Net, SocketAddr};
+use std::rt::Files;
 use std::time::Clock;
 
 /// Where the datagrams and the typed bytes of a node come from.
@@ -74,7 +76,7 @@ pub fn open_keyboard<'a, H: Net + Clock + AllocGlobal, E: Write>(
 
 /// Opens the wire of the plan's node, on the socket of its address. Typed bytes end its waiting
 /// too.
-pub fn open_wire<'a, H: Net + Clock + AllocGlobal, E: Write>(
+pub fn open_wire<'a, H: Net + Files + Clock + AllocGlobal, E: Write>(
     rt: &'a H,
     plan: &NodePlan<'a>,
     watch: Watch,
@@ -88,5 +90,9 @@ pub fn open_wire<'a, H: Net + Clock + AllocGlobal, E: Write>(
     let socket = bind_noted(rt, address, log)?;
     let counted = if log.is_on() { Some(plan.group) } else { None };
     let own = OwnDatagrams::new(rt.alloc())?;
-    UdpWire::new(rt, plan.node, socket, watch, plan.addresses, own, counted)
+    let mut wire = UdpWire::new(rt, plan.node, socket, watch, plan.addresses, own, counted)?;
+    if let Some(path) = plan.trace {
+        wire.set_trace(Trace::open(rt, path, address, plan));
+    }
+    Ok(wire)
 }

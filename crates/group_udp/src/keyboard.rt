@@ -12,7 +12,7 @@ use crate::fault::GroupFault;
 use group_node::limits::MOST_WAITING;
 use group_node::{Node, NodeFault};
 use group_wire::laws::deeds_go_on;
-use group_wire::{Host, Wire};
+use group_wire::{Host, Told, Wire};
 use paxos_acceptor::Store;
 
 /// What people do at a node: they type bytes, and ask it to campaign.
@@ -66,22 +66,36 @@ pub fn is_calling<K: Keyboard>(keyboard: &K, waiting: usize) -> bool {
     keyboard.has_request() || (waiting == 0 && keyboard.has_bytes())
 }
 
+/// Tells the wire of typed bytes.
+fn tell_typed<T: Wire>(wire: &mut T, bytes: &[u8])
+    ensures passed { T.traffic wire.new ≡ T.traffic wire.old }
+{
+    for byte in bytes {
+        wire.tell(&Told::Pressed(*byte));
+    }
+}
+
 /// Types what the keyboard gives now.
-fn type_given<K: Keyboard, S: Store>(
+fn type_given<T: Wire, K: Keyboard, S: Store>(
     host: &mut Host<'_, S>,
-    keyboard: &mut K,
+    endpoints: &mut Endpoints<T, K>,
 ) -> Result<(), GroupFault>
     requires works { host.old.protocol.is_stopped ≡ false }
     ensures works { host.new.protocol.is_stopped ≡ false }
-    ensures typed { HasTypedGiven host.old host.new (K.remaining keyboard.old)
-        (K.remaining keyboard.new) result }
+    ensures typed { HasTypedGiven host.old host.new (K.remaining endpoints.old.keyboard)
+        (K.remaining endpoints.new.keyboard) result }
+    ensures passed { T.traffic endpoints.new.wire ≡ T.traffic endpoints.old.wire }
     ensures stays { SameReleased host.old host.new }
     ensures progress { host.new.progress ≡ host.old.progress }
 {
     let mut buffer = [0u8; MOST_WAITING];
-    let count = keyboard.give(&mut buffer, host.node().waiting());
-    let mut bytes = &buffer[..count];
-    Ok(host.press(&mut bytes)?)
+    let count = endpoints.keyboard.give(&mut buffer, host.node().waiting());
+    let given = &buffer[..count];
+    let mut bytes = given;
+    let pressed = host.press(&mut bytes);
+    let typed = count.saturating_sub(bytes.len());
+    tell_typed(&mut endpoints.wire, &given[..typed]);
+    Ok(pressed?)
 }
 
 /// Returns true if the node leads and misses nothing: it has learned each place at which its record
@@ -137,6 +151,6 @@ pub fn press<T: Wire, K: Keyboard, S: Store>(
     if endpoints.keyboard.is_asked() {
         return campaign_when_asked(host, &mut endpoints.wire);
     }
-    type_given(host, &mut endpoints.keyboard)?;
+    type_given(host, endpoints)?;
     Ok(Pressed::Bytes)
 }

@@ -30,13 +30,14 @@ mod run;
 mod shown;
 mod sources;
 mod text;
+mod trace;
 mod typed;
 mod udp;
 
 pub use endpoints::Endpoints;
 pub use fault::GroupFault;
 pub use keyboard::Keyboard;
-pub use net::net_file;
+pub use net::{NetPlan, net_file};
 pub use node::{NodePlan, node_file};
 pub use resting::{RestingWire, Waited};
 pub use run::run_node;

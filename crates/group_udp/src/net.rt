@@ -7,6 +7,7 @@ use crate::fault::GroupFault;
 use crate::own_datagrams::OwnDatagrams;
 use crate::shown::ShownNode;
 use crate::udp::{UdpWire, Watch, bind};
+use group_log::{Log, Note};
 use group_node::{Config, NodeFault};
 use machine_run::{RunIo, load_file, read_whole};
 use mio::net::UdpSocket;
@@ -17,6 +18,17 @@ use std::io::{self, Read, Write};
 use std::net::{Ipv4Addr, Net, SocketAddr, SocketAddrV4};
 use std::rt::Files;
 use std::time::Clock;
+
+/// What a group in one process is to do.
+#[derive(Clone, Copy, Debug)]
+pub struct NetPlan {
+    /// How many nodes it has.
+    pub size: u8,
+    /// How many turns each node has.
+    pub turns: u32,
+    /// True if the end of the program at each node is written to standard error.
+    pub is_logged: bool,
+}
 
 /// The session of a group in one process.
 const SESSION: u32 = 1;
@@ -48,7 +60,7 @@ fn addresses(alloc: Global, sockets: &[UdpSocket]) -> Result<Vec<SocketAddr>, Gr
 }
 
 /// Makes wires of the sockets, for the nodes with these addresses, node 1 first.
-fn wires<'a, H: Net + Clock + AllocGlobal>(
+fn wires<'a, H: Net + Files + Clock + AllocGlobal>(
     rt: &'a H,
     sockets: Vec<UdpSocket>,
     addresses: &'a [SocketAddr],
@@ -68,7 +80,7 @@ fn wires<'a, H: Net + Clock + AllocGlobal>(
 }
 
 /// Starts the nodes of the group on these wires, node 1 first.
-fn nodes<'a, H: Clock>(
+fn nodes<'a, H: Clock + Files + AllocGlobal>(
     alloc: Global,
     program: &'a Program,
     group: Group,
@@ -87,7 +99,9 @@ fn nodes<'a, H: Clock>(
 }
 
 /// Has node 1 begin a ballot.
-fn campaign_first<H: Clock>(nodes: &mut [ShownNode<'_, H>]) -> Result<(), GroupFault>
+fn campaign_first<H: Clock + Files + AllocGlobal>(
+    nodes: &mut [ShownNode<'_, H>],
+) -> Result<(), GroupFault>
     ensures others { IfErr result (λ e. (e ≡ GroupFault.Node NodeFault.Stopped)
         ⊎ IsCampaignRefusal e) }
 {
@@ -98,7 +112,7 @@ fn campaign_first<H: Clock>(nodes: &mut [ShownNode<'_, H>]) -> Result<(), GroupF
 }
 
 /// Types as many of the bytes at node 1 as there is room for, and takes them off the front.
-fn press_first<H: Clock>(
+fn press_first<H: Clock + Files + AllocGlobal>(
     nodes: &mut [ShownNode<'_, H>],
     bytes: &mut &[u8],
 ) -> Result<(), GroupFault>
@@ -110,85 +124,100 @@ fn press_first<H: Clock>(
     }
 }
 
-/// Takes a turn of each node, in order.
-fn turn_all<H: Clock>(nodes: &mut [ShownNode<'_, H>]) -> Result<(), GroupFault>
+/// Takes a turn of each node, in order. Notes each end of the program, if `is_logged`.
+fn turn_all<H: Clock + Files + AllocGlobal, E: Write>(
+    rt: &H,
+    nodes: &mut [ShownNode<'_, H>],
+    errors: &mut E,
+    is_logged: bool,
+) -> Result<(), GroupFault>
     ensures others { IfErr result IsShownTurnRefusal }
 {
+    let mut number = 0u8;
     for node in nodes.iter_mut() {
-        node.turn()?;
+        number = number.saturating_add(1);
+        if let Some(end) = node.turn()? {
+            Log::new(rt.alloc(), rt, errors, number, is_logged).note(&Note::Program(end));
+        }
     }
     Ok(())
 }
 
 /// Takes the turns of the group. Bytes are typed at node 1 before each, as room allows.
-fn play<H: Clock>(
+fn play<H: Clock + Files + AllocGlobal, E: Write>(
+    rt: &H,
     nodes: &mut [ShownNode<'_, H>],
-    turns: u32,
+    plan: &NetPlan,
     input: &[u8],
+    errors: &mut E,
 ) -> Result<(), GroupFault>
     ensures others { IfErr result (λ e. IsPressRefusal e ⊎ (e ≡ no_memory)) }
 {
     let mut rest = input;
-    for _ in 0..turns {
+    for _ in 0..plan.turns {
         press_first(nodes, &mut rest)?;
-        turn_all(nodes)?;
+        turn_all(rt, nodes, errors, plan.is_logged)?;
     }
     Ok(())
 }
 
 /// Writes the line of each node.
-fn write_all<H: Clock, W: Write>(writer: &mut W, nodes: &[ShownNode<'_, H>]) -> io::Result<()> {
+fn write_all<H: Clock + Files + AllocGlobal, W: Write>(
+    writer: &mut W,
+    nodes: &[ShownNode<'_, H>],
+) -> io::Result<()> {
     for (index, node) in nodes.iter().enumerate() {
         node.write_line(writer, index.saturating_add(1))?;
     }
     Ok(())
 }
 
-/// Runs a group of `size` nodes in this process for `turns` turns, and writes a line for each node.
-/// Node 1 campaigns first, and the input is typed at it. It ends at a node's first refusal.
-fn net<H: Net + Clock + AllocGlobal, W: Write>(
+/// Runs a group in this process, as the plan says, and writes a line for each node. Node 1
+/// campaigns first, and the input is typed at it. It ends at a node's first refusal.
+fn net<H: Net + Files + Clock + AllocGlobal, W: Write, E: Write>(
     rt: &H,
     program: &Program,
-    size: u8,
-    turns: u32,
+    plan: &NetPlan,
     input: &[u8],
     writer: &mut W,
+    errors: &mut E,
 ) -> Result<(), GroupFault>
     ensures others { IfErr result IsNetRefusal }
 {
     let alloc = rt.alloc();
     let group = Group {
-        size,
+        size: plan.size,
         session: SESSION,
     };
-    let sockets = sockets(rt, alloc, size)?;
+    let sockets = sockets(rt, alloc, plan.size)?;
     let addresses = addresses(alloc, sockets.as_slice())?;
     let wires = wires(rt, sockets, addresses.as_slice())?;
     let mut nodes = nodes(alloc, program, group, wires)?;
     campaign_first(nodes.as_mut_slice())?;
-    play(nodes.as_mut_slice(), turns, input)?;
+    play(rt, nodes.as_mut_slice(), plan, input, errors)?;
     write_all(writer, nodes.as_slice()).or(Err(GroupFault::from(RunIo::Write)))
 }
 
-/// Runs the program of a code file in a group of `size` nodes in this process. Fails only with a
+/// Runs the program of a code file in a group in this process, as the plan says. Fails only with a
 /// size or number that no group has, if a socket or memory is missing, at a refused start,
 /// campaign, typed byte or turn, at a failed write, or with another `Machine` refusal, as for the
 /// file or the input.
 ///
 /// The input is typed at node 1. The code file is looked at first, then the size, then the input.
-pub fn net_file<H: Files + Net + Clock + AllocGlobal, R: Read, W: Write>(
+/// `errors` gets a note where a node's program ends, if the plan asks for it.
+pub fn net_file<H: Files + Net + Clock + AllocGlobal, R: Read, W: Write, E: Write>(
     rt: &H,
     file: &str,
-    size: u8,
-    turns: u32,
+    plan: &NetPlan,
     reader: &mut R,
     writer: &mut W,
+    errors: &mut E,
 ) -> Result<(), GroupFault>
     ensures others { IfErr result (λ e. IsNetRefusal e ⊎ ((refusal : MachineRefusal)
         × (e ≡ GroupFault.Machine refusal))) }
 {
     let program = load_file(rt, file)?;
-    Config::new(1, size, SESSION)?;
+    Config::new(1, plan.size, SESSION)?;
     let input = read_whole(rt.alloc(), reader, &mut 0)?;
-    net(rt, &program, size, turns, input.as_slice(), writer)
+    net(rt, &program, plan, input.as_slice(), writer, errors)
 }

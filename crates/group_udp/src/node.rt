@@ -6,7 +6,7 @@ ghost use Rattle.group_udp.specs.Ends.{EndsLoaded, EndsNode, IsTypedText, IsRefu
 use crate::fault::{GroupFault, end_of};
 use crate::run::run_opened;
 use group_log::{Log, Note};
-use group_node::Config;
+use group_node::{Config, NodeFault};
 use machine_run::{ByteWriter, MachineRefusal, load_file, read_whole};
 use paxos_msg::Group;
 use pcode_ops::Program;
@@ -32,6 +32,8 @@ pub struct NodePlan<'a> {
     pub campaigns: bool,
     /// Where datagrams of typed bytes come, if not from the standard input.
     pub keys: Option<SocketAddr>,
+    /// The path of the node's trace, if it writes one: a line for each of its calls.
+    pub trace: Option<&'a str>,
     /// True if the node writes what it does to standard error, a line for each note.
     pub is_logged: bool,
 }
@@ -94,6 +96,20 @@ fn node_loaded<
     run_opened(rt, program, config, plan, text.as_slice(), writer, log)
 }
 
+/// Notes how a run ended, and which record it is, if it ended by that.
+fn note_end<H: Clock, E: Write>(
+    record: &str,
+    done: &Result<(), GroupFault>,
+    log: &mut Log<'_, H, E>,
+) {
+    match done {
+        Err(GroupFault::Node(NodeFault::Store)) => log.note(&Note::NoRecord(record)),
+        Err(GroupFault::Node(NodeFault::BadRecord)) => log.note(&Note::BadRecord(record)),
+        _ => {}
+    }
+    log.note(&Note::Ended(end_of(done)));
+}
+
 /// Runs the program of a code file at one node, as `node_file` says.
 fn node_noted<H: Files + Net + Clock + AllocGlobal + Copy + Drop, R: Read, W: ByteWriter, E: Write>(
     rt: &H,
@@ -142,6 +158,6 @@ pub fn node_file<
 {
     let mut log = Log::new(rt.alloc(), rt, errors, plan.node, plan.is_logged);
     let done = node_noted(rt, file, plan, reader, writer, &mut log);
-    log.note(&Note::Ended(end_of(&done)));
+    note_end(plan.record, &done, &mut log);
     done
 }

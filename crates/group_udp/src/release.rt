@@ -7,8 +7,8 @@ ghost use Rattle.group_wire.specs.Traffic.{Traffic};
 ghost use Rattle.group_udp.specs.Releases.{HasReleased};
 
 use crate::fault::GroupFault;
-use group_wire::Host;
 use group_wire::laws::deeds_go_on;
+use group_wire::{Host, Told, Wire};
 use machine_run::{ByteWriter, RunIo, WriteFault};
 use paxos_acceptor::Store;
 
@@ -33,12 +33,14 @@ fn write_unseen<W: ByteWriter>(
     writer.write_byte(byte)
 }
 
-/// Releases all output that waits, and writes the bytes whose number is not below `seen`, in order.
+/// Releases all output that waits, tells the wire of each byte, and writes those whose number is
+/// not below `seen`, in order.
 /// Fails if a write fails; then the bytes before that one were written, and it and those before it
 /// were released.
-pub fn release_all<S: Store, W: ByteWriter>(
+pub fn release_all<T: Wire, S: Store, W: ByteWriter>(
     host: &mut Host<'_, S>,
     seen: u64,
+    wire: &mut T,
     writer: &mut W,
 ) -> Result<(), GroupFault>
     ensures released { HasReleased seen
@@ -46,9 +48,11 @@ pub fn release_all<S: Store, W: ByteWriter>(
         (record { node = host.new; written = W.contents writer.new }) result }
     ensures faults { CountsFault (W.write_faults writer.old) (W.write_faults writer.new) result }
     ensures acts { (passed : Option Traffic) → HasActed host.old host.new passed passed [] }
+    ensures passed { T.traffic wire.new ≡ T.traffic wire.old }
 {
     deeds_go_on::<S>();
     while let Some((number, byte)) = host.release() {
+        wire.tell(&Told::Released(number, byte));
         match write_unseen(writer, seen, number, byte) {
             Ok(()) => (),
             Err(WriteFault) => return Err(GroupFault::from(RunIo::Write)),

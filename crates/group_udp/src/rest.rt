@@ -135,7 +135,7 @@ pub fn rest_unless_busy<T: RestingWire, K: Keyboard, S: Store>(
 
 /// Returns true if a node is busy after such a run: its machine has not ended, and does not wait
 /// for a key.
-fn is_busy_after(ran: Ran) -> bool
+pub fn is_busy_after(ran: Ran) -> bool
     ensures { result ≡ is_busy_after ran }
 {
     match ran {
@@ -144,13 +144,13 @@ fn is_busy_after(ran: Ran) -> bool
     }
 }
 
-/// Takes a turn of the node on its wire. Returns true if the node is busy after it.
-pub fn own_turn<T: Wire, S: Store>(host: &mut Host<'_, S>, wire: &mut T) -> Result<bool, GroupFault>
+/// Takes a turn of the node on its wire. Returns why its run ended.
+pub fn own_turn<T: Wire, S: Store>(host: &mut Host<'_, S>, wire: &mut T) -> Result<Ran, GroupFault>
     requires works { host.old.protocol.is_stopped ≡ false }
     ensures works { OnOk result (host.new.protocol.is_stopped ≡ false) }
-    ensures turned { IfOk result (λ busy. (done : Turned)
+    ensures turned { IfOk result (λ ran. (done : Turned)
         × HasTurned S.honest S.state host.old host.new (T.traffic wire.old) (T.traffic wire.new)
-        (Ok done) × (busy ≡ is_busy_after done.ran)) }
+        (Ok done) × (ran ≡ done.ran)) }
     ensures acts { OnOk result (HasActed host.old host.new (T.traffic wire.old) (T.traffic wire.new)
         (Run TURN_STEPS ∷ [])) }
     ensures refused { IfErr result
@@ -159,7 +159,7 @@ pub fn own_turn<T: Wire, S: Store>(host: &mut Host<'_, S>, wire: &mut T) -> Resu
     ensures stays { SameReleased host.old host.new }
 {
     match host.turn(wire) {
-        Ok(turned) => Ok(is_busy_after(turned.ran)),
+        Ok(turned) => Ok(turned.ran),
         Err(fault) => Err(GroupFault::Node(fault)),
     }
 }

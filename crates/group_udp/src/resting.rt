@@ -39,6 +39,10 @@ pub trait RestingWire: Wire {
     /// Returns the number of datagrams that were sent to other nodes since then.
     fn sends(&self) -> Sends;
 
+    /// Returns true if the trace of the node cannot be written any more, the first time after that.
+    fn has_lost_trace(&mut self) -> bool
+        ensures passed { Self.traffic self.new ≡ Self.traffic self.old };
+
     /// Sets these counts to 0.
     fn clear_counts(&mut self)
         ensures passed { Self.traffic self.new ≡ Self.traffic self.old };

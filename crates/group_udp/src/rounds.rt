@@ -12,9 +12,9 @@ use crate::fault::GroupFault;
 use crate::keyboard::{Keyboard, press};
 use crate::node::NodePlan;
 use crate::release::release_all;
-use crate::rest::{own_turn, rest_unless_busy};
+use crate::rest::{is_busy_after, own_turn, rest_unless_busy};
 use crate::resting::RestingWire;
-use group_log::Log;
+use group_log::{Log, Note};
 use group_wire::laws::deeds_go_on;
 use group_wire::{Host, Wire};
 use machine_run::ByteWriter;
@@ -22,10 +22,14 @@ use paxos_acceptor::Store;
 use std::io::Write;
 use std::time::Clock;
 
-/// Notes what the wire has counted of datagrams, if it is time for that.
-fn note_counts<H: Clock, T: RestingWire, E: Write>(wire: &mut T, log: &mut Log<'_, H, E>)
+/// Notes that the wire's trace is lost, if it was not said before, and what the wire has counted of
+/// datagrams, if it is time for that.
+fn note_wire<H: Clock, T: RestingWire, E: Write>(wire: &mut T, log: &mut Log<'_, H, E>)
     ensures passed { T.traffic wire.new ≡ T.traffic wire.old }
 {
+    if wire.has_lost_trace() {
+        log.note(&Note::TraceLost);
+    }
     if log.counted(&wire.drops(), &wire.sends()) {
         wire.clear_counts();
     }
@@ -53,10 +57,11 @@ fn rest_and_turn<H: Clock, T: RestingWire, K: Keyboard, S: Store, E: Write>(
     log.look(host.node());
     let pressed = press(host, endpoints)?;
     note_pressed(host, &endpoints.keyboard, pressed, log);
-    let more = own_turn(host, &mut endpoints.wire)?;
+    let ran = own_turn(host, &mut endpoints.wire)?;
     log.look(host.node());
-    note_counts(&mut endpoints.wire, log);
-    Ok(more)
+    log.ran(ran);
+    note_wire(&mut endpoints.wire, log);
+    Ok(is_busy_after(ran))
 }
 
 /// Makes a round: a rest, typing, a turn, and then the release of all output. The bytes from number
@@ -85,7 +90,7 @@ fn round<H: Clock, T: RestingWire, K: Keyboard, S: Store, W: ByteWriter, E: Writ
     let more = rest_and_turn(host, endpoints, is_busy, log)?;
     // The machine is where a replay from the start is.
     host.unreleased();
-    release_all(host, seen, writer)?;
+    release_all(host, seen, &mut endpoints.wire, writer)?;
     Ok(more)
 }
 

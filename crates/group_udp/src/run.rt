@@ -1,5 +1,5 @@
 //! A whole run of one node: over any store, wire and keyboard, and over those of the system.
-ghost use Rattle.std.specs.Prelude.{◌⊎◌, IfErr};
+ghost use Rattle.std.specs.Prelude.{◌≡◌, ◌⊎◌, IfErr};
 ghost use Rattle.group_udp.specs.Ends.{RunsOpened, RunsOverFile};
 ghost use Rattle.group_udp.specs.Going.{around};
 ghost use Rattle.group_udp.specs.Refusals.{IsOpenRefusal, IsRunRefusal};
@@ -14,8 +14,8 @@ use crate::rounds::campaign_and_play;
 use crate::text::Text;
 use crate::udp::{UdpWire, Watch};
 use group_log::Log;
-use group_node::Config;
-use group_wire::{Host, Wire};
+use group_node::{Config, NodeFault};
+use group_wire::{Host, Told, Wire};
 use machine_run::ByteWriter;
 use paxos_acceptor::{FileStore, Store};
 use pcode_ops::Program;
@@ -24,6 +24,19 @@ use std::io::Write;
 use std::net::Net;
 use std::rt::Files;
 use std::time::Clock;
+
+/// Tells the wire how the run of its node ended: that a save failed, if one did, and the status of
+/// the process. Returns how it ended.
+fn tell_end<T: Wire>(wire: &mut T, done: Result<(), GroupFault>) -> Result<(), GroupFault>
+    ensures same { result ≡ done }
+    ensures passed { T.traffic wire.new ≡ T.traffic wire.old }
+{
+    if let Err(GroupFault::Node(NodeFault::Store)) = done {
+        wire.tell(&Told::Failed);
+    }
+    wire.tell(&Told::Ended(u8::from(done.is_err())));
+    done
+}
 
 /// Runs one node over a store, a wire and a keyboard, as `plan` says (`RunsOrRefuses`). It starts
 /// over the record that one load of the store gives, campaigns if it is to, and makes as many
@@ -52,12 +65,16 @@ pub fn run_node<H: Clock, T: RestingWire, K: Keyboard, S: Store + Drop, W: ByteW
         (W.contents writer.old) (W.contents writer.new) result }
     ensures others { IfErr result IsRunRefusal }
 {
-    let mut host = Host::start(alloc, program, config, store)?;
+    let mut host = match Host::start(alloc, program, config, store) {
+        Ok(host) => host,
+        Err(refused) => return tell_end(&mut endpoints.wire, Err(GroupFault::from(refused))),
+    };
+    endpoints.wire.tell(&Told::Started);
     log.started(host.node(), plan.group);
     let played = campaign_and_play(&mut host, plan, endpoints, writer, log);
     // The machine is where a replay from the start is.
     host.unreleased();
-    played
+    tell_end(&mut endpoints.wire, played)
 }
 
 /// Runs one node over the record in the file that the plan names.

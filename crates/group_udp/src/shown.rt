@@ -14,24 +14,28 @@ ghost use Rattle.group_udp.specs.Releases.{HasShownAll};
 use crate::fault::GroupFault;
 use crate::resting::RestingWire;
 use crate::udp::UdpWire;
+use group_log::end_to_note;
 use group_node::{Config, Console, NodeFault, Offer};
 use group_wire::Host;
 use group_wire::laws::deeds_go_on;
 use machine_run::{RunIo, write_bytes};
 use paxos_acceptor::{MemoryStore, Store};
 use paxos_msg::Record;
+use pcode_machine::End;
 use pcode_ops::Program;
 use std::alloc::Global;
 use std::io::{self, Write};
+use std::rt::Files;
 use std::time::Clock;
 
 /// A node over a store in memory, its wire, and its console, which shows what was released of the
 /// node's output.
 #[derive(Drop)]
-pub struct ShownNode<'a, H> {
+pub struct ShownNode<'a, H: Files> {
     host: Host<'a, MemoryStore>,
     wire: UdpWire<'a, H>,
     console: Console,
+    has_ended: bool,
     ghost shows: { console.bytes ≡ released_of (input host.protocol.known) host.progress },
 }
 
@@ -81,7 +85,7 @@ fn show_all<S: Store>(host: &mut Host<'_, S>, console: &mut Console) -> Result<(
     Ok(())
 }
 
-impl<'a, H: Clock> ShownNode<'a, H> {
+impl<'a, H: Clock + Files + AllocGlobal> ShownNode<'a, H> {
     /// Starts a node over an empty record, with an empty console.
     pub fn start(
         alloc: Global,
@@ -98,6 +102,7 @@ impl<'a, H: Clock> ShownNode<'a, H> {
             host,
             wire,
             console,
+            has_ended: false,
         })
     }
 
@@ -126,8 +131,9 @@ impl<'a, H: Clock> ShownNode<'a, H> {
     }
 
     /// Takes a turn of the node, once a datagram is there: its last tick has left it one. Then puts
-    /// all output that waits on the console.
-    pub fn turn(&mut self) -> Result<(), GroupFault>
+    /// all output that waits on the console. Returns the end of the program, if this is the first
+    /// turn that came to it.
+    pub fn turn(&mut self) -> Result<Option<End>, GroupFault>
         ensures acts { OnOk result
             (HasActed self.old.host self.new.host None None (Run TURN_STEPS ∷ [])) }
         ensures shown { OnOk result
@@ -137,8 +143,11 @@ impl<'a, H: Clock> ShownNode<'a, H> {
         deeds_go_on::<MemoryStore>();
         self.wire.begin_rest(self.host.node().known_front());
         self.wire.wait();
-        self.host.turn(&mut self.wire)?;
-        self.show_output()
+        let turned = self.host.turn(&mut self.wire)?;
+        self.show_output()?;
+        let end = end_to_note(self.has_ended, turned.ran);
+        self.has_ended = self.has_ended || end.is_some();
+        Ok(end)
     }
 
     /// Writes the line of the node, whose number is `number`.

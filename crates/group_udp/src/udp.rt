@@ -9,13 +9,15 @@ use crate::own_datagrams::OwnDatagrams;
 use crate::pace::Pace;
 use crate::resting::{RestingWire, Waited};
 use crate::sources::{address_at, is_from_sender, taken_of};
+use crate::trace::Trace;
 use group_log::{DropReason, Drops, Sends, reason_of};
-use group_wire::Wire;
+use group_wire::{Told, Wire};
 use mio::net::UdpSocket;
 use mio::{Events, Interest, Poll, Token};
 use paxos_msg::Group;
 use paxos_msg::limits::MOST_NODES;
 use std::net::{Net, SocketAddr};
+use std::rt::Files;
 use std::time::{Clock, Duration, Instant};
 
 /// The index in a datagram of its kind.
@@ -105,7 +107,7 @@ impl Watch {
 /// waits between its turns. What the node sends to itself does not pass the socket while there is
 /// room for it here.
 #[derive(Drop)]
-pub struct UdpWire<'a, H> {
+pub struct UdpWire<'a, H: Files> {
     clock: &'a H,
     /// The node's number.
     node: u8,
@@ -133,9 +135,11 @@ pub struct UdpWire<'a, H> {
     /// set to 0.
     drops: Drops,
     sends: Sends,
+    /// The trace of the node, if it has one.
+    trace: Option<Trace<'a, H>>,
 }
 
-impl<'a, H: Clock> UdpWire<'a, H> {
+impl<'a, H: Clock + Files + AllocGlobal> UdpWire<'a, H> {
     /// Makes the wire of node `node` with this socket. Typed bytes end its waiting too, if the
     /// watch has a socket for them. `own` keeps what the node sends to itself. The wire counts the
     /// datagrams that a node of the group `counted` drops.
@@ -168,7 +172,29 @@ impl<'a, H: Clock> UdpWire<'a, H> {
             counted,
             drops: Drops::default(),
             sends: Sends::default(),
+            trace: None,
         })
+    }
+
+    /// Writes this trace from now on.
+    pub fn set_trace(&mut self, trace: Trace<'a, H>) {
+        self.trace = Some(trace);
+    }
+
+    /// Notes where the datagram came from that was received last: from this source, or from the
+    /// node itself.
+    fn came_from(&mut self, source: Option<SocketAddr>) {
+        if let Some(trace) = &mut self.trace {
+            trace.came_from(source);
+        }
+    }
+
+    /// Receives the oldest datagram of the node's own, if one is there.
+    fn receive_own(&mut self, buffer: &mut [u8]) -> Option<usize>
+        ensures within { IfSome result (λ count. count ≤ length buffer.new) }
+    {
+        self.came_from(None);
+        self.own.pop_into(buffer)
     }
 
     /// Counts a datagram, if the node drops it and dropped datagrams are counted.
@@ -238,6 +264,7 @@ impl<'a, H: Clock> UdpWire<'a, H> {
         ensures within { IfSome result (λ count. count ≤ length buffer.new) }
     {
         let (count, source) = receive_from(&self.socket, buffer)?;
+        self.came_from(Some(source));
         let datagram = &buffer[..count];
         let is_from_sender = is_from_sender(self.addresses, source, datagram);
         self.count_drop(is_from_sender, source, datagram);
@@ -245,7 +272,7 @@ impl<'a, H: Clock> UdpWire<'a, H> {
     }
 }
 
-impl<H: Clock> Wire for UdpWire<'_, H> {
+impl<H: Clock + Files + AllocGlobal> Wire for UdpWire<'_, H> {
     ghost use Rattle.std.specs.Prelude.{None};
 
     // Nothing is known of what the system does with a datagram.
@@ -265,17 +292,23 @@ impl<H: Clock> Wire for UdpWire<'_, H> {
     fn receive(&mut self, buffer: &mut [u8]) -> Option<usize> {
         if self.is_own_next && !self.own.is_empty() {
             self.is_own_next = false;
-            return self.own.pop_into(buffer);
+            return self.receive_own(buffer);
         }
         self.is_own_next = true;
         match self.receive_in(buffer) {
-            None => self.own.pop_into(buffer),
+            None => self.receive_own(buffer),
             received => received,
+        }
+    }
+
+    fn tell(&mut self, told: &Told<'_>) {
+        if let Some(trace) = &mut self.trace {
+            trace.tell(told);
         }
     }
 }
 
-impl<H: Clock> RestingWire for UdpWire<'_, H> {
+impl<H: Clock + Files + AllocGlobal> RestingWire for UdpWire<'_, H> {
     /// Begins a rest, which is as long as the pace of the node says.
     fn begin_rest(&mut self, front: u32) {
         let has_learned = front > self.front;
@@ -319,6 +352,13 @@ impl<H: Clock> RestingWire for UdpWire<'_, H> {
 
     fn sends(&self) -> Sends {
         self.sends
+    }
+
+    fn has_lost_trace(&mut self) -> bool {
+        match &mut self.trace {
+            Some(trace) => trace.is_first_loss(),
+            None => false,
+        }
     }
 
     fn clear_counts(&mut self) {

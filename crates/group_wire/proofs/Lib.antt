@@ -3,3 +3,4 @@ pub mod Hearing
 pub mod Going
 mod Acting
 mod Typing
+mod Receiving

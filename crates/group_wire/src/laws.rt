@@ -1,8 +1,16 @@
 //! Laws of the deeds of a node on its wire, as facts about the definitions alone.
-ghost use Rattle.std.specs.Prelude.{◌++◌, [], List, Option};
-ghost use Rattle.group_node.specs.Deeds.{Deed};
-ghost use Rattle.group_node.specs.States.{NodeState};
-ghost use Rattle.group_wire.specs.Doings.{Fails, HasActed};
+ghost use Rattle.std.specs.Prelude.{◌≡◌, ◌≢◌, ◌++◌, [], ◌∷◌, ℕ, length, List, Option, Some};
+ghost use Rattle.pcode_file.specs.Parts.{Parts};
+ghost use Rattle.paxos_msg.specs.Batches.{Msg, Record};
+ghost use Rattle.paxos_acceptor.specs.declared.me.Me.{Me};
+ghost use Rattle.group_node.specs.Deeds.{Campaign, Crash, Deed, Hear, Idle, Press, Release, Run, Start, Tick};
+ghost use Rattle.group_node.specs.Known.{next_serial};
+ghost use Rattle.group_node.specs.Output.{unreleased_of};
+ghost use Rattle.group_node.specs.ProposerRows.{last_round};
+ghost use Rattle.group_node.specs.States.{input, NodeState};
+ghost use Rattle.group_wire.specs.Arrivals.{Spells};
+ghost use Rattle.group_wire.specs.Doings.{DoesAll, DoesOnWire, Doing, Fails, FailsDeed, HasActed, Working};
+ghost use Rattle.group_wire.specs.Process.{IsProcess, Process};
 ghost use Rattle.group_wire.specs.Traffic.{Traffic};
 
 use paxos_acceptor::Store;
@@ -16,4 +24,62 @@ pub fn deeds_go_on<S: Store>()
         → HasActed old new from to (p ++ q) }
     ensures fails { (old mid new : NodeState S) (from via to : Option Traffic) (p q : List Deed)
         → HasActed old mid from via p → Fails mid new via to q → Fails old new from to (p ++ q) }
+{}
+
+/// Deeds that no node does on its wire. It hears no message that the receive did not give, or that
+/// its bytes do not spell. Nothing is typed at a tick, and nothing received; an idle node sends
+/// nothing and stays as it was. A run or a release sends nothing.
+pub fn wrong_deeds()
+    ensures hears_what_none_gave { (me : Me) (w v : Working) (m : Msg) (d : Doing) → d.given ≡ []
+        → ¬ DoesOnWire me w (Hear m) d v }
+    ensures hears_what_is_not_spelled { (me : Me) (w v : Working) (m : Msg) (d : Doing)
+        (bytes : List ℕ) → d.given ≡ Some bytes ∷ [] → ¬ Spells me.group bytes m
+        → ¬ DoesOnWire me w (Hear m) d v }
+    ensures types_at_a_tick { (me : Me) (w v : Working) (d : Doing) → d.typed ≢ []
+        → ¬ DoesOnWire me w Tick d v }
+    ensures receives_at_a_tick { (me : Me) (w v : Working) (d : Doing) → d.given ≢ []
+        → ¬ DoesOnWire me w Tick d v }
+    ensures idle_sends { (me : Me) (w v : Working) (d : Doing) → d.sent ≢ []
+        → ¬ DoesOnWire me w Idle d v }
+    ensures idle_changes { (me : Me) (w v : Working) (d : Doing) → v ≢ w
+        → ¬ DoesOnWire me w Idle d v }
+    ensures run_sends { (me : Me) (w v : Working) (steps : ℕ) (d : Doing) → d.sent ≢ []
+        → ¬ DoesOnWire me w (Run steps) d v }
+    ensures run_learns { (me : Me) (w v : Working) (steps : ℕ) (d : Doing) → v.known ≢ w.known
+        → ¬ DoesOnWire me w (Run steps) d v }
+    ensures release_sends { (me : Me) (w v : Working) (d : Doing) → d.sent ≢ []
+        → ¬ DoesOnWire me w Release d v }
+{}
+
+/// Deeds that come too late or too early. No byte is typed where 256 keys wait or the serials are
+/// spent. No ballot begins after the last round. No byte is released where none waits. A node that
+/// runs neither starts nor crashes by a deed of its own.
+pub fn wrong_times()
+    ensures press_at_256 { (me : Me) (w v : Working) (byte : ℕ) (d : Doing)
+        → length w.known.waiting ≡ 256 → ¬ DoesOnWire me w (Press byte) d v }
+    ensures press_without_serial { (me : Me) (w v : Working) (byte : ℕ) (d : Doing)
+        → next_serial w.known ≡ 4294967296 → ¬ DoesOnWire me w (Press byte) d v }
+    ensures campaign_after_the_last { (me : Me) (w v : Working) (d : Doing)
+        → last_round w.known ≡ 4294967295 → ¬ DoesOnWire me w Campaign d v }
+    ensures release_of_nothing { (me : Me) (w v : Working) (d : Doing)
+        → unreleased_of (input w.known) w.progress ≡ [] → ¬ DoesOnWire me w Release d v }
+    ensures starts { (me : Me) (w v : Working) (r : Record) (d : Doing)
+        → ¬ DoesOnWire me w (Start r) d v }
+    ensures crashes { (me : Me) (w v : Working) (d : Doing) → ¬ DoesOnWire me w Crash d v }
+{}
+
+/// Ends that no process has. A save fails only at a message or a campaign, at which nothing is
+/// sent then; so a process does not end by a failed save at a tick. It does not start over a record
+/// whose starts are spent, and without a deed its node is the one that started.
+pub fn wrong_ends()
+    ensures fails_at_a_tick { (me : Me) (w : Working) (d : Doing) → ¬ FailsDeed me w Tick d }
+    ensures fails_at_a_press { (me : Me) (w : Working) (byte : ℕ) (d : Doing)
+        → ¬ FailsDeed me w (Press byte) d }
+    ensures sends_at_a_failed_message { (me : Me) (w : Working) (m : Msg) (d : Doing)
+        → d.sent ≢ [] → ¬ FailsDeed me w (Hear m) d }
+    ensures sends_at_a_failed_campaign { (me : Me) (w : Working) (d : Doing)
+        → d.sent ≢ [] → ¬ FailsDeed me w Campaign d }
+    ensures starts_are_spent { (p : Parts) (me : Me) (process : Process) (last : Working)
+        → process.loaded.starts ≡ 4294967295 → ¬ IsProcess p me process last }
+    ensures nothing_done { (me : Me) (w v : Working) → v ≢ w → ¬ DoesAll me w [] v }
 {}

@@ -19,9 +19,11 @@ pub mod laws;
 pub mod limits;
 mod press;
 mod sending;
+mod told;
 mod turns;
 mod wire;
 
 pub use answers::{Heard, Turned};
 pub use host::Host;
+pub use told::Told;
 pub use wire::Wire;

@@ -2,6 +2,7 @@
 ghost use Rattle.std.specs.Prelude.{◌≡◌, []};
 ghost use Rattle.group_wire.specs.Traffic.{grown, handed, letters_of, letters_to};
 
+use crate::told::Told;
 use crate::wire::Wire;
 use group_node::{Outbox, Packet, To};
 
@@ -15,12 +16,14 @@ fn send_to_all<T: Wire>(wire: &mut T, bytes: &[u8], size: u8)
     }
 }
 
-/// Sends a packet on the wire, once for each node that it goes to. A failed send is a loss.
+/// Tells of a packet, and sends it on the wire, once for each node that it goes to. A failed send
+/// is a loss.
 fn send_packet<T: Wire>(wire: &mut T, packet: &Packet, size: u8)
     ensures traffic { T.traffic wire.new
         ≡ grown (T.traffic wire.old) (handed (letters_to size packet.now.to packet.now.bytes)) }
 {
     let bytes = packet.bytes.as_slice();
+    wire.tell(&Told::Sends(packet.to, bytes));
     match packet.to {
         To::All => send_to_all(wire, bytes, size),
         To::One(node) => {

@@ -13,6 +13,7 @@ use crate::answers::{Heard, Turned};
 use crate::host::Host;
 use crate::limits::{MOST_RECEIVES, TURN_STEPS};
 use crate::sending::send_all;
+use crate::told::Told;
 use crate::wire::Wire;
 use group_node::laws::{calls_keep_what_is_learned, what_goes_out_fits};
 use group_node::{NodeFault, Ran};
@@ -56,10 +57,12 @@ impl<'a, S: Store> Host<'a, S> {
         // A node in its ranges stays who it is.
         what_goes_out_fits();
         self.node.record();
+        wire.tell(&Told::BeginsToHear(bytes));
         if let Err(fault) = self.node.on_message(&view, &mut self.outbox) {
             unless_memory(fault)?;
             return Ok(Heard::Lost);
         }
+        wire.tell(&Told::Heard(bytes));
         send_all(wire, &mut self.outbox, self.group.size);
         Ok(Heard::Message)
     }
@@ -122,6 +125,7 @@ impl<'a, S: Store> Host<'a, S> {
             unless_memory(fault)?;
             return Ok(false);
         }
+        wire.tell(&Told::Ticked);
         send_all(wire, &mut self.outbox, self.group.size);
         Ok(true)
     }
@@ -146,6 +150,7 @@ impl<'a, S: Store> Host<'a, S> {
         let lost = self.hear_all(wire)?;
         let ticked = self.tick(wire)?;
         let ran = self.run()?;
+        wire.tell(&Told::Ran(TURN_STEPS));
         Ok(Turned { ran, ticked, lost })
     }
 

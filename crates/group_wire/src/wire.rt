@@ -2,6 +2,8 @@
 ghost use Rattle.std.specs.Prelude.{◌≡◌, ◌≤◌, [], ◌∷◌, length, take, None, Option, Some, IfNone, IfSome};
 ghost use Rattle.group_wire.specs.Traffic.{Gives, Hands, Traffic, grown};
 
+use crate::told::Told;
+
 /// A node's connection to its group, itself included. Datagrams may be lost, repeated, delayed and
 /// reordered. Datagrams that are not the group's may come too.
 pub trait Wire {
@@ -28,4 +30,10 @@ pub trait Wire {
             ≡ grown (traffic self.old) (Gives (Some (take count buffer.new)) ∷ [])) }
         ensures idle { IfNone result
             (traffic self.new ≡ grown (traffic self.old) (Gives None ∷ [])) };
+
+    /// Is told what the node does: that a call begins which may save, before it saves; each call
+    /// once it is done, before anything is sent at it; and each datagram before it is sent. Nothing
+    /// passes.
+    fn tell(&mut self, told: &Told<'_>)
+        ensures passed { traffic self.new ≡ traffic self.old };
 }

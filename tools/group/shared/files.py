@@ -58,25 +58,6 @@ def open_console(path):
     return console
 
 
-def why_unsaved(record):
-    """What the system says where a record's second file is written, or None where that can be done.
-    The node does not run: its next save writes that file anew."""
-    second = os.path.realpath(record) + ".new"
-    was_there = os.path.lexists(second)
-    try:
-        file = os.open(second, os.O_WRONLY | os.O_CREAT | os.O_CLOEXEC, 0o600)
-        try:
-            os.write(file, bytes(4096))
-            os.fsync(file)
-        finally:
-            os.close(file)
-            if not was_there:
-                os.unlink(second)
-    except OSError as fault:
-        return text_of_fault(OSError(fault.errno, fault.strerror, second))
-    return None
-
-
 def check_folder(path, what):
     folder = os.path.dirname(os.path.abspath(path))
     if not os.path.isdir(folder):

@@ -11,12 +11,13 @@ import time
 
 from .beats import text_of_address_fault
 from .codes import sentence_of, with_sentence
+from .ends import end_of
 from .files import (
     Refused, check_session, open_console, promised_of, refuse_lasting, say, text_of_fault,
-    why_unsaved,
 )
 from .nodes import command_of
-from .speech import Speech
+from .speech import Speech, is_log_asked
+from .unsaved import why_unsaved
 from .words import text_of
 
 PR_SET_PDEATHSIG = 1
@@ -106,10 +107,10 @@ class Node:
         self.close_console()
         self.console = open_console(self.words.console)
         command = self.command(os.fstat(self.console).st_size)
-        speech = Speech()
+        speech = Speech(is_log_asked(), self.note)
         self.process = speech.leave_to(lambda begin: subprocess.Popen(
             command, stdin=subprocess.DEVNULL, stdout=self.console, stderr=begin,
-            preexec_fn=lambda: end_with(parent),
+            env={**os.environ, "PGROUP_LOG": "1"}, preexec_fn=lambda: end_with(parent),
         ))
         self.speech = speech
         self.started = self.moved = now
@@ -132,6 +133,14 @@ class Node:
         except OSError:
             pass  # The system cannot say it now.
 
+    def note(self, text):
+        """Says what a line of the node's log means for a person."""
+        end = end_of(text)
+        if end is not None:
+            how = f", by {end}" if end else ""
+            goes_on = "it goes on, and nobody reads what is typed"
+            say(self.words, f"says that the program has ended{how}; {goes_on}")
+
     def note_end(self, status, now):
         self.process = None
         self.speech.close()
@@ -144,10 +153,12 @@ class Node:
 
     def why_refused(self):
         """The code with which the node has refused, its sentence, and of a record that cannot be
-        saved what the system says."""
+        loaded or saved what is found out."""
         text = with_sentence(self.speech.last)
-        fault = why_unsaved(self.words.record) if self.speech.last == "refused D2" else None
-        return f"{text} ({fault})" if fault else text
+        if self.speech.last != "refused D2":
+            return text
+        why = why_unsaved(self.words.record)
+        return f"{text} ({why or 'a file could be written there just now'})"
 
     def watch_moves(self, now):
         activity = activity_of(self.process.pid)

@@ -3,26 +3,38 @@
 import curses
 import time
 
+from .ends import with_end
 from .watch import Group, line_of
 
 # How often the group is looked at, in milliseconds.
 LOOK = 500
 
 
+def lines_of_log(node):
+    """What the log of a node says of its program, in at most one line."""
+    if node.end is not None:
+        return ["    " + with_end("its program has ended", node.end)]
+    return [f"    ({node.log_fault})"] if node.log_fault else []
+
+
+def lines_of_node(node, leader, room):
+    """The lines of a node, with so many of its console and its log."""
+    said, shown = lines_of_log(node), node.end_of_console()
+    if shown is None:
+        shown = ["    (its console is in no file that is known here; say --consoles)"]
+    else:
+        shown = [f"    | {it}" for it in shown[-max(1, room - len(said)) :]]
+    return [line_of(node, leader), *said, *shown, ""]
+
+
 def lines_of(group, height):
-    """The lines of the screen: the heading, and for each node its line and the end of its console,
-    with as many lines as there is room for."""
+    """The lines of the screen: the heading, and for each node its line, whether its program has
+    ended, and the end of its console, with as many lines as there is room for."""
     room = max(1, (height - 3) // len(group.nodes) - 2)
     leader = group.leader()
     lines = [time.strftime("%H:%M:%S ") + group.heading(), ""]
     for node in group.nodes:
-        lines.append(line_of(node, leader))
-        shown = node.end_of_console()
-        if shown is None:
-            lines.append("    (its console is in no file that is known here; say --consoles)")
-        else:
-            lines += [f"    | {it}" for it in shown[-room:]]
-        lines.append("")
+        lines += lines_of_node(node, leader, room)
     return lines + ["q or Ctrl-C ends this; the nodes go on"]
 
 
@@ -52,10 +64,10 @@ def keep_up(window, group):
             return
 
 
-def follow(records, consoles):
+def follow(records, consoles, logs):
     """Keeps one screen up to date, until q or Ctrl-C. Returns why it cannot, or None."""
     try:
-        curses.wrapper(keep_up, Group(records, consoles))
+        curses.wrapper(keep_up, Group(records, consoles, logs))
     except KeyboardInterrupt:
         pass
     except curses.error as fault:

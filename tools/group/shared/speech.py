@@ -1,17 +1,28 @@
 """What a node says on standard error, as its supervisor hands it on."""
 
 import os
+import re
 import sys
+
+# A line of a node's log, and what it says there.
+NOTE = re.compile(r"\d+\.\d{3} node \d (.*)")
+
+
+def is_log_asked():
+    """Whether the environment asks for the lines of nodes' logs."""
+    return os.environ.get("PGROUP_LOG") == "1"
 
 
 class Speech:
-    """A pipe from a node. Its lines are handed on to standard error as they come, and the last one
-    is kept: it says why the node has ended.
+    """A pipe from a node. Its lines are handed on to standard error as they come, those of its log
+    only where `is_log_shown`. `note` is called with what each line of its log says, and the last
+    line is kept: it says why the node has ended.
 
     The pipe is never waited for at either end. Where it is full, since this process was stopped,
     the node leaves a line out and goes on."""
 
-    def __init__(self):
+    def __init__(self, is_log_shown, note):
+        self.is_log_shown, self.note = is_log_shown, note
         self.end, self.begin = os.pipe2(os.O_NONBLOCK | os.O_CLOEXEC)
         self.rest, self.last = b"", ""
 
@@ -37,13 +48,20 @@ class Speech:
                 return
             lines, _, self.rest = (self.rest + data).rpartition(b"\n")
             if lines:
-                self.last = lines.rpartition(b"\n")[2].decode("utf-8", "replace")
-                self.write(lines + b"\n")
+                self.take(lines.split(b"\n"))
+
+    def take(self, lines):
+        texts = [it.decode("utf-8", "replace") for it in lines]
+        notes = [NOTE.fullmatch(it) for it in texts]
+        self.write([it for it, note in zip(lines, notes) if self.is_log_shown or not note])
+        self.last = texts[-1]
+        for it in filter(None, notes):
+            self.note(it[1])
 
     def write(self, lines):
         """What cannot be written is left out."""
         try:
-            sys.stderr.buffer.write(lines)
+            sys.stderr.buffer.write(b"".join(it + b"\n" for it in lines))
             sys.stderr.buffer.flush()
         except (OSError, ValueError, AttributeError):
             pass
@@ -52,5 +70,5 @@ class Speech:
         """The node has ended."""
         self.hand_on()
         if self.rest:
-            self.write(self.rest + b"\n")
+            self.write([self.rest])
         os.close(self.end)

@@ -1,10 +1,11 @@
 """What is seen of a group on this machine without asking it: its nodes' records, their processes,
-and the ends of their consoles."""
+the ends of their consoles, and what their logs say of the end of the program."""
 
 import os
 import stat
 
 from .codes import with_sentence
+from .ends import Log
 from .record import PLACES, Damaged, Head, places_of, read_record, record_of, text_of
 from .words import text_of as text_of_address
 
@@ -104,11 +105,12 @@ def refusals_at(address):
 
 
 def state_of(pid):
+    """The state of a process, and the number of the one that has started it, or None."""
     try:
         with open(f"/proc/{pid}/stat", encoding="ascii", errors="replace") as file:
-            return file.read().rpartition(")")[2].split()[0]
+            return file.read().rpartition(")")[2].split()[:2]
     except OSError:
-        return None
+        return None, None
 
 
 def file_of(pid, descriptor):
@@ -127,11 +129,13 @@ def shown_as(character):
 class Watched:
     """A node: what was seen of it when `look` was called last."""
 
-    def __init__(self, path, console):
+    def __init__(self, path, console, log):
         self.path, self.given = path, console
         self.console = console
+        self.is_log_given, self.log = log is not None, log and Log(log)
         self.head = Whole(path)
         self.record, self.fault, self.pid, self.state = None, None, None, None
+        self.end, self.log_fault = None, None
 
     def look(self, processes):
         self.record, self.fault = None, None
@@ -146,9 +150,29 @@ class Watched:
             if any(is_at(self.path, pid, it) for it in words)
         ]
         self.pid = mine[0] if mine else None
-        self.state = state_of(self.pid) if mine else None
+        self.state, parent = state_of(self.pid) if mine else (None, None)
         if self.given is None and mine:
             self.console = file_of(self.pid, 1) or self.console
+        if not self.is_log_given and mine:
+            self.find_log(file_of(self.pid, 2) or file_of(parent, 2))
+        self.look_at_log()
+
+    def find_log(self, path):
+        """Takes the file to which the node, or its supervisor, writes its lines."""
+        if path and (self.log is None or self.log.path != path):
+            self.log = Log(path)
+
+    def look_at_log(self):
+        """Notes how the program has ended, where the log says that it has."""
+        self.end, self.log_fault = None, None
+        if self.log is None:
+            return
+        try:
+            self.log.look()
+        except OSError as fault:
+            self.log_fault = f"{self.log.path}: {fault.strerror}"
+        if self.record:
+            self.end = self.log.end(self.record.node, self.record.session)
 
     def is_up(self):
         return self.state not in (None, "T", "t", "Z", "X")
@@ -178,8 +202,9 @@ class Watched:
 class Group:
     """The nodes whose records are given."""
 
-    def __init__(self, records, consoles):
-        self.nodes = [Watched(*it) for it in zip(records, consoles or [None] * len(records))]
+    def __init__(self, records, consoles, logs):
+        none = [None] * len(records)
+        self.nodes = [Watched(*it) for it in zip(records, consoles or none, logs or none)]
 
     def look(self):
         processes = node_processes()

@@ -20,7 +20,7 @@ Exit status:
      procedures and reached offsets it has
   1  refused: `refused` and a code such as F3, O5 or E1, or `refused file`
   2  a fault of the command line
-docs/FORMATS.md explains the codes.";
+`pgroup help codes` explains the codes.";
 
 /// Returns the command's words, as clap reads them.
 pub fn words<'a>(alloc: Global) -> Result<Command<'a>, AllocError> {

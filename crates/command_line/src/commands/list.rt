@@ -19,7 +19,7 @@ Exit status:
   0  all is listed
   1  refused: `refused` and a code such as F3, O5 or E1, or `refused file`
   2  a fault of the command line
-docs/FORMATS.md explains the codes and the instructions.";
+`pgroup help codes` explains the codes, docs/FORMATS.md the instructions.";
 
 /// Returns the command's words, as clap reads them.
 pub fn words<'a>(alloc: Global) -> Result<Command<'a>, AllocError> {

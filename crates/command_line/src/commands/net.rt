@@ -1,13 +1,14 @@
 //! `net FILE SIZE TURNS`.
+use crate::environment::is_log_asked;
 use crate::outcome::Outcome;
 use crate::shared_words::{FILE, SIZE, TURNS, on_file, size_arg, value_arg};
 use crate::value::{WordFault, byte_of, count_of, text_of};
 use clap::{ArgMatches, Command};
-use group_udp::net_file;
+use group_udp::{NetPlan, net_file};
 use std::alloc::{AllocError, Global};
 use std::io::{Read, Write};
 use std::net::Net;
-use std::rt::Files;
+use std::rt::{Env, Files};
 use std::time::Clock;
 
 /// The word that names the command.
@@ -15,7 +16,8 @@ pub const WORD: &str = "net";
 
 /// The end of the command's help.
 const HELP: &str = "Standard input is read whole, and typed at node 1. At the end a line tells of
-each node how much it knows, and what its console shows.
+each node how much it knows, and what its console shows. With PGROUP_LOG=1 in
+the environment a line on standard error says when the program ends at a node.
 
 Example:
   printf 'hi.' | pgroup net examples/echo.code 3 40
@@ -25,7 +27,7 @@ Exit status:
   1  refused: `refused` and a code such as F3, O5, E1 or D7, or
      `refused file` or `refused socket`
   2  a fault of the command line
-docs/FORMATS.md explains the codes.";
+`pgroup help codes` explains the codes.";
 
 /// Returns the command's words, as clap reads them.
 pub fn words<'a>(alloc: Global) -> Result<Command<'a>, AllocError> {
@@ -36,15 +38,19 @@ pub fn words<'a>(alloc: Global) -> Result<Command<'a>, AllocError> {
 }
 
 /// Does what the words ask for. Returns how that ended, or what is wrong with the words.
-pub fn perform<'a, H: Files + Net + Clock + AllocGlobal, R: Read, W: Write>(
+pub fn perform<'a, H: Files + Net + Clock + Env + AllocGlobal, R: Read, W: Write, E: Write>(
     rt: &H,
     matches: &ArgMatches<'a>,
     reader: &mut R,
     writer: &mut W,
+    errors: &mut E,
 ) -> Result<Outcome, WordFault<'a>> {
     let file = text_of(matches, FILE)?;
-    let size = byte_of(matches, SIZE)?;
-    let turns = count_of(matches, TURNS)?;
-    let done = net_file(rt, file, size, turns, reader, writer);
+    let plan = NetPlan {
+        size: byte_of(matches, SIZE)?,
+        turns: count_of(matches, TURNS)?,
+        is_logged: is_log_asked(rt),
+    };
+    let done = net_file(rt, file, &plan, reader, writer, errors);
     Ok(Outcome::of_done(done))
 }

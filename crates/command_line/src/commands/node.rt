@@ -1,4 +1,5 @@
 //! `node FILE ID SIZE SESSION RECORD TURNS ADDR.. [--seen N] [--campaign] [--keys ADDR]`.
+use crate::environment::{if_said, is_log_asked, trace_asked};
 use crate::outcome::Outcome;
 use crate::shared_words::{
     FILE, SESSION, SIZE, TURNS, on_file, option_arg, size_arg, text_arg, value_arg,
@@ -12,7 +13,6 @@ use group_udp::{NodePlan, node_file};
 use machine_run::Counting;
 use paxos_msg::Group;
 use std::alloc::{AllocError, Global};
-use std::env;
 use std::io::{Read, Write};
 use std::net::{Net, SocketAddr};
 use std::rt::{Env, Files};
@@ -38,7 +38,8 @@ pub const WORD: &str = "node";
 /// The end of the command's help.
 const HELP: &str = "The output of the program is written to standard output. docs/GROUP.md tells
 how a group is run. With PGROUP_LOG=1 in the environment the node says what it
-does, line by line, on standard error.
+does, line by line, on standard error. With PGROUP_TRACE=FILE it appends each
+of its calls to FILE; docs/FORMATS.md has the lines.
 
 Example, node 1 of 3:
   pgroup node examples/echo.code 1 3 7 record1 4294967295 \\
@@ -60,10 +61,7 @@ Exit status:
      refused D5        the node has typed 4294967295 keys in this start
      refused D11, D12  --campaign, where no ballot or no place is left
   2  a fault of the command line
-docs/FORMATS.md explains the codes.";
-
-/// The variable of the environment that asks for a log, by the value 1.
-const LOG: &str = "PGROUP_LOG";
+`pgroup help codes` explains the codes.";
 
 /// Adds the options to the command.
 fn with_options<'a>(alloc: Global, node: Command<'a>) -> Result<Command<'a>, AllocError> {
@@ -167,12 +165,17 @@ fn read_group<'a>(matches: &ArgMatches<'a>) -> Result<(u8, Group), WordFault<'a>
     Ok((node, Group { size, session }))
 }
 
-/// Returns true if the environment asks for a log.
-fn is_log_asked<H: Env + AllocGlobal>(rt: &H) -> bool {
-    match env::var(rt, LOG) {
-        Ok(value) => value.as_str() == "1",
-        Err(_) => false,
-    }
+/// Runs the node of a plan. Returns how that ended.
+fn run_plan<H: Files + Net + Clock + Env + AllocGlobal + Copy + Drop, R: Read, W: Write, E: Write>(
+    rt: &H,
+    file: &str,
+    plan: &NodePlan<'_>,
+    reader: &mut R,
+    writer: &mut W,
+    errors: &mut E,
+) -> Outcome {
+    let mut writer = Counting::new(writer);
+    Outcome::of_done(node_file(rt, file, plan, reader, &mut writer, errors))
 }
 
 /// Does what the words ask for. Returns how that ended, or what is wrong with the words.
@@ -196,6 +199,8 @@ pub fn perform<
     let addresses = read_addresses(rt.alloc(), matches, group.size)?;
     let seen = read_seen(matches)?;
     let keys = read_keys(matches, addresses.as_slice())?;
+    let asked = trace_asked(rt);
+    let trace = if_said(asked.as_str());
     let plan = NodePlan {
         node,
         group,
@@ -205,9 +210,8 @@ pub fn perform<
         seen,
         campaigns: matches.get_flag("campaign"),
         keys,
+        trace,
         is_logged: is_log_asked(rt),
     };
-    let mut writer = Counting::new(writer);
-    let done = node_file(rt, file, &plan, reader, &mut writer, errors);
-    Ok(Outcome::of_done(done))
+    Ok(run_plan(rt, file, &plan, reader, writer, errors))
 }

@@ -26,7 +26,7 @@ Exit status:
   2  a fault of the command line
   3  an execution error: its number, its procedure and its offset
   4  N steps were made, and the program has not ended: `steps`
-docs/FORMATS.md explains the codes and the errors.";
+`pgroup help codes` explains the codes, docs/FORMATS.md the errors.";
 
 /// Returns the command's words, as clap reads them.
 pub fn words<'a>(alloc: Global) -> Result<Command<'a>, AllocError> {

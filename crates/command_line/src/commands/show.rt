@@ -21,7 +21,7 @@ Exit status:
   0  printed
   1  refused: `refused` and a code, G1 to G12, E1 or E3
   2  a fault of the command line, among them `bad hex`
-docs/FORMATS.md explains the codes, and what is printed.";
+`pgroup help codes` explains the codes, docs/FORMATS.md what is printed.";
 
 /// Returns the command's words, as clap reads them.
 pub fn words<'a>(alloc: Global) -> Result<Command<'a>, AllocError> {

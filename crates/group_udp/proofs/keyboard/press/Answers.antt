@@ -11,9 +11,12 @@ returns-then-is_asked-clause-pressed g c =
 pub returns-in_err-type_given-clause-pressed : goal.returns-in_err-type_given-clause-pressed
 returns-in_err-type_given-clause-pressed g c =
     let p = err_from_is_err_and c.from_residual.result c.from_residual.ensures.1 in
-    rw (p.1, p.2) (bytes_refused g.S.Store.honest g.S.Store.fails_at_will g.S.Store.state _ _ _ c.in_err-type_given.ensures.typed
+    rw (p.1, p.2, c.in_err-type_given.ensures.passed)
+    (bytes_refused g.S.Store.honest g.S.Store.fails_at_will g.S.Store.state _ _ _ c.in_err-type_given.ensures.typed
     (sym c.look.ensures.same ∙ rw c.if-is_asked.false at c.is_asked.ensures.asked))
 
 pub returns-clause-pressed : goal.returns-clause-pressed
-returns-clause-pressed g c = bytes_pressed g.S.Store.honest g.S.Store.fails_at_will g.S.Store.state _ _ _ c.in_ok-type_given.ensures.typed
-    (sym c.look.ensures.same ∙ rw c.if-is_asked.false at c.is_asked.ensures.asked)
+returns-clause-pressed g c =
+    rw c.in_ok-type_given.ensures.passed
+    (bytes_pressed g.S.Store.honest g.S.Store.fails_at_will g.S.Store.state _ _ _ c.in_ok-type_given.ensures.typed
+    (sym c.look.ensures.same ∙ rw c.if-is_asked.false at c.is_asked.ensures.asked))

@@ -3,7 +3,7 @@ use Rattle.group_udp.proofs.Releasing.{loses_next, writes_all, writes_more, writ
 use Rattle.group_udp.proofs.release.release_all.Goals as goal
 
 pub loop-number-init : goal.loop-number-init
-loop-number-init g c = record { writes = writes_none _ _; faults = refl; acts = c.deeds_go_on.ensures.none _ }
+loop-number-init g c = record { writes = writes_none _ _; faults = refl; acts = c.deeds_go_on.ensures.none _; passed = refl }
 
 pub loop-number-preserved : goal.loop-number-preserved
 loop-number-preserved g c = record {
@@ -11,6 +11,7 @@ loop-number-preserved g c = record {
       c.in-Some.ensures.some c.in-Some.ensures.protocol c.in-Ok.ensures.unseen (λ low. (c.in-Ok.ensures.seen low).1);
   faults = c.in-Ok.ensures.faults ∙ c.loop-number.invariant.faults;
   acts = λ passed. c.deeds_go_on.ensures.more _ _ _ _ _ _ _ _ (c.loop-number.invariant.acts passed) (c.in-Some.ensures.acts passed);
+  passed = c.tell.ensures.passed ∙ c.loop-number.invariant.passed;
 }
 
 pub returns-in-Err-clause-released : goal.returns-in-Err-clause-released

@@ -12,6 +12,7 @@ invariant-loop-number g l = record {
       (record { node = l.host; written = g.W.ByteWriter.contents l.writer });
   faults : g.W.ByteWriter.write_faults l.writer ≡ g.W.ByteWriter.write_faults l.fn.writer;
   acts : (passed : Option Traffic) → HasActed l.fn.host l.host passed passed [];
+  passed : g.T.Wire.traffic l.wire ≡ g.T.Wire.traffic l.fn.wire;
 }
 
 abbrev pub decreases-loop-number : goal.decreases-loop-number

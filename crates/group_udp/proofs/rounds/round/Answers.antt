@@ -29,9 +29,11 @@ returns-in_err-release_all-clause-goes g c =
     let p = err_from_is_err_and c.from_residual-in_err-release_all.result c.from_residual-in_err-release_all.ensures.1 in
     rw (p.1, p.2)
     (ended_after 1 (omega arith)
-    (gone_ended (gone_then c.deeds_go_on.ensures c.in_ok-more.ensures.goes (gone_unprompted (c.in_err-release_all.ensures.acts _) refl))
+    (gone_ended (gone_then c.deeds_go_on.ensures c.in_ok-more.ensures.goes
+    (gone_unprompted (rw c.in_err-release_all.ensures.passed (c.in_err-release_all.ensures.acts _)) refl))
     (λ is. absurd (cc (c.in_err-release_all.ensures.released.1, is))) (rw c.in_err-release_all.ensures.released.1 tt)))
 
 pub returns-clause-goes : goal.returns-clause-goes
 returns-clause-goes g c =
-    gone_then c.deeds_go_on.ensures c.in_ok-more.ensures.goes (gone_unprompted (c.in_ok-release_all.ensures.acts _) refl)
+    gone_then c.deeds_go_on.ensures c.in_ok-more.ensures.goes
+    (gone_unprompted (rw c.in_ok-release_all.ensures.passed (c.in_ok-release_all.ensures.acts _)) refl)

@@ -1,15 +1,15 @@
-use Rattle.std.proofs.Common.{inl, inr, refl}
-use Rattle.std.proofs.lemmas.Result.{err_from_is_err_and}
+use Rattle.std.proofs.Common.{inl, inr, refl, ap, Err}
 use Rattle.group_udp.proofs.Running.{runs_by}
 use Rattle.group_udp.proofs.run.run_node.Goals as goal
 
-pub returns-in_err-host-clause-ends : goal.returns-in_err-host-clause-ends
-returns-in_err-host-clause-ends g c =
-    let p = err_from_is_err_and c.from_residual.result c.from_residual.ensures.1 in
-    rw (p.1, p.2) (inl (c.in_err-host.field-0.0, c.in_err-host.ensures.starts, refl, refl, refl))
+pub returns-in-Err-clause-ends : goal.returns-in-Err-clause-ends
+returns-in-Err-clause-ends g c =
+    rw (c.tell_end.ensures.same, c.tell_end.ensures.passed)
+    (inl (c.in-Err.refused, c.in-Err.ensures.starts, refl, refl, ap Err c.from.ensures))
 
 pub returns-clause-ends : goal.returns-clause-ends
 returns-clause-ends g c =
-    inr (runs_by g.S.Store.loads _ _ _ c.args.plan.now c.in_ok-host.host c.campaign_and_play-played.new.host _ _ _ _
-    c.in_ok-host.ensures.starts c.unreleased.ensures.replay c.campaign_and_play-played.result c.campaign_and_play-played.ensures.goes
-    c.campaign_and_play-played.ensures.writes c.campaign_and_play-played.ensures.others)
+    rw (c.tell_end-2.ensures.same, c.tell_end-2.ensures.passed, ← c.tell.ensures.passed)
+    (inr (runs_by g.S.Store.loads _ _ _ c.args.plan.now c.in-Ok.host c.campaign_and_play-played.new.host _ _ _ _
+    c.in-Ok.ensures.starts c.unreleased.ensures.replay c.campaign_and_play-played.result c.campaign_and_play-played.ensures.goes
+    c.campaign_and_play-played.ensures.writes c.campaign_and_play-played.ensures.others))

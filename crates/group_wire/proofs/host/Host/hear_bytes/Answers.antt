@@ -1,4 +1,4 @@
-use Rattle.std.proofs.Common.{rules, ◌≡◌, refl, ap, arith, Err, Ok}
+use Rattle.std.proofs.Common.{rules, ◌≡◌, ◌∙◌, refl, ap, arith, Err, Ok}
 use Rattle.group_wire.specs.declared.answers.Heard.TheVariants.{Dropped, Lost, Message}
 use Rattle.group_wire.specs.Arrivals.{Loses, NoMessage, TooLong}
 use Rattle.group_wire.proofs.Hearing.{hears_none, hears_one, refuses_one, refused_as, refused_others}
@@ -18,7 +18,7 @@ pub returns-in_err-unless_memory-clause-hears : goal.returns-in_err-unless_memor
 returns-in_err-unless_memory-clause-hears g c from came =
     rw (← c.self.view_is)
     (refuses_one g.S.Store.state _ _ _ c.in-Ok.view c.in-Err.fault _ c.self.invariant.0 (search rules)
-    c.in-Err.ensures.does.err c.on_message.ensures.progress came (search rules)
+    c.in-Err.ensures.does.err c.on_message.ensures.progress (c.tell.ensures.passed ∙ came) (search rules)
     (λ honest is_store. c.in-Err.ensures.saves.device honest (ap Err is_store)))
 
 pub returns-in_err-unless_memory-clause-refused : goal.returns-in_err-unless_memory-clause-refused
@@ -34,7 +34,7 @@ returns-in-Err-clause-hears g c from came =
     rw (← c.self.view_is)
     (hears_none g.S.Store.state _ _ _ (Loses c.in-Ok.view) Lost c.self.invariant.0 (search rules) refl
     (_, refl, refl, refl) (λ stopped. absurd (cc (c.in-Err.ensures.let_in.stopped.1 stopped, c.in_ok-unless_memory.ensures.memory)))
-    c.in-Err.ensures.does.err c.on_message.ensures.progress came)
+    c.in-Err.ensures.does.err c.on_message.ensures.progress (c.tell.ensures.passed ∙ came))
 
 pub returns-in-Err-clause-refused : goal.returns-in-Err-clause-refused
 returns-in-Err-clause-refused g c =
@@ -51,7 +51,7 @@ returns-clause-hears g c from came =
     rw (← c.self.view_is)
     (hears_one g.S.Store.state _ _ _ _ c.in-Ok.view _ _ c.self.invariant.0 (search rules)
     (λ stopped. absurd (cc (done.let_in.stopped.1 stopped))) done.does.ok fit.same c.on_message.ensures.progress c.self.invariant.1
-    done.does.sends c.send_all.ensures.traffic came)
+    done.does.sends c.send_all.ensures.traffic (c.tell-2.ensures.passed ∙ c.tell.ensures.passed ∙ came))
 
 pub returns-clause-refused : goal.returns-clause-refused
 returns-clause-refused g c =

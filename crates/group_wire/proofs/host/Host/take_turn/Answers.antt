@@ -1,4 +1,4 @@
-use Rattle.std.proofs.Common.{rules}
+use Rattle.std.proofs.Common.{◌∙◌, rules}
 use Rattle.group_wire.proofs.Hearing.{turn_is}
 use Rattle.group_wire.proofs.host.Host.take_turn.Goals as goal
 
@@ -9,7 +9,7 @@ returns g c =
       came = hears.0;
       ending = hears.1;
       plays = turn_is {ticks = c.in_ok-ticked.ticked} {mid = c.hear_all.new.self} _ hears.2
-          (rw c.run.ensures.protocol c.in_ok-ticked.ensures.known) c.in_ok-ticked.ensures.traffic;
+          (rw c.run.ensures.protocol c.in_ok-ticked.ensures.known) (c.tell.ensures.passed ∙ c.in_ok-ticked.ensures.traffic);
       hears = record { few = hears.3.few; ended = hears.3.ended; fault = search rules };
       lost = hears.4;
       me = search rules;

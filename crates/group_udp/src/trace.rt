@@ -1,0 +1,130 @@
+//! The trace of a node: a file in which it writes down its calls, and what it sends at each.
+use crate::node::NodePlan;
+use group_log::{Call, Traced, millis_now, traced_line};
+use group_wire::Told;
+use std::fs::{self, OpenOptions};
+use std::io::Write;
+use std::net::SocketAddr;
+use std::rt::Files;
+use std::time::Clock;
+
+/// The index in a datagram of its kind.
+const KIND: usize = 3;
+
+/// The kinds of the messages at which a node may save: a Prepare and an Accept.
+const SAVING: [u8; 2] = [1, 3];
+
+/// The trace of one process of a node. Its lines are appended to a file, each whole and at once. If
+/// one cannot be written, none is from then on.
+pub struct Trace<'a, H: Files> {
+    rt: &'a H,
+    file: Option<H::File>,
+    /// The bytes of the record's file before the start.
+    record: Vec<u8>,
+    /// The call that may save and has begun last.
+    begun: Call,
+    /// The node's own address, and the source of the datagram that was received last.
+    own: SocketAddr,
+    source: SocketAddr,
+    is_loss_said: bool,
+}
+
+impl<'a, H: Files> Drop for Trace<'a, H> {
+    fn drop(self) {
+        let Trace {
+            rt: _rt,
+            file: _file,
+            record: _record,
+            begun: _begun,
+            own: _own,
+            source: _source,
+            is_loss_said: _is_loss_said,
+        } = self;
+    }
+}
+
+impl<'a, H: Files + Clock + AllocGlobal> Trace<'a, H> {
+    /// Opens the trace of a node with this address, which is made if there is none, and writes that
+    /// a process begins, and that its node begins to start. If that fails, the trace is lost.
+    pub fn open(rt: &'a H, path: &str, own: SocketAddr, plan: &NodePlan<'_>) -> Trace<'a, H> {
+        let file = OpenOptions::new().append(true).create(true).open(rt, path);
+        let mut trace = Trace {
+            rt,
+            file: file.ok(),
+            record: fs::read(rt, plan.record).unwrap_or(Vec::new(rt.alloc())),
+            begun: Call::Start,
+            own,
+            source: own,
+            is_loss_said: false,
+        };
+        let (node, group) = (plan.node, plan.group);
+        trace.write(&Traced::Process { node, group });
+        trace.write(&Traced::BeginsStart);
+        trace
+    }
+
+    /// Returns true if no line is written any more, the first time after that.
+    pub fn is_first_loss(&mut self) -> bool {
+        let is_first = self.file.is_none() && !self.is_loss_said;
+        self.is_loss_said = self.file.is_none();
+        is_first
+    }
+
+    /// Notes where the datagram came from that was received last: from this source, or from the
+    /// node itself.
+    pub fn came_from(&mut self, source: Option<SocketAddr>) {
+        self.source = source.unwrap_or(self.own);
+    }
+
+    /// Writes a line.
+    fn write(&mut self, traced: &Traced<'_>) {
+        let millis = millis_now(self.rt);
+        let Some(file) = &mut self.file else {
+            return;
+        };
+        let is_written = match traced_line(self.rt.alloc(), millis, traced) {
+            Ok(line) => file.write_all(line.as_slice()).is_ok(),
+            Err(_) => false,
+        };
+        if !is_written {
+            self.file = None;
+        }
+    }
+
+    /// Writes that the node has started, and frees what the file of its record had.
+    fn write_started(&mut self) {
+        let record = std::mem::replace(&mut self.record, Vec::new(self.rt.alloc()));
+        if record.is_empty() {
+            return self.write(&Traced::StartedNew);
+        }
+        self.write(&Traced::Started(record.as_slice()));
+    }
+
+    /// Writes what begins, where it may save.
+    fn begins(&mut self, call: Call, traced: &Traced<'_>) {
+        self.begun = call;
+        self.write(traced);
+    }
+
+    /// Writes what the node tells.
+    pub fn tell(&mut self, told: &Told<'_>) {
+        match *told {
+            Told::Started => self.write_started(),
+            Told::BeginsToHear(bytes) => {
+                if bytes.get(KIND).is_some_and(|kind| SAVING.contains(kind)) {
+                    self.begins(Call::Hear, &Traced::BeginsHear(bytes));
+                }
+            }
+            Told::Heard(bytes) => self.write(&Traced::Heard(self.source, bytes)),
+            Told::Pressed(byte) => self.write(&Traced::Pressed(byte)),
+            Told::BeginsToCampaign => self.begins(Call::Campaign, &Traced::BeginsCampaign),
+            Told::Campaigned => self.write(&Traced::Campaigned),
+            Told::Ticked => self.write(&Traced::Ticked),
+            Told::Ran(steps) => self.write(&Traced::Ran(steps)),
+            Told::Released(number, byte) => self.write(&Traced::Released(number, byte)),
+            Told::Sends(to, bytes) => self.write(&Traced::Sent(to, bytes)),
+            Told::Failed => self.write(&Traced::Failed(self.begun)),
+            Told::Ended(status) => self.write(&Traced::Ended(status)),
+        }
+    }
+}

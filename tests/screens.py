@@ -1,0 +1,47 @@
+"""A command in tmux, for tests/group_follow and tests/walk."""
+
+import os
+import re
+import shlex
+import subprocess
+
+from group_parts import Broken, await_that, bytes_of
+
+
+class Screen:
+    """A command in a tmux of its own, and what its screen shows."""
+
+    def __init__(self, folder, name, *command):
+        self.socket = os.path.join(folder, f"tmux.{name}")
+        self.status = os.path.join(folder, f"status.{name}")
+        words = " ".join(map(shlex.quote, command))
+        shell = f"{words}; echo $? > '{self.status}'"
+        self.tmux("-f", "/dev/null", "new-session", "-d", "-x", "100", "-y", "30", shell)
+
+    def tmux(self, *words):
+        command = ["tmux", "-S", self.socket, *words]
+        env = {**os.environ, "TERM": "xterm", "LC_ALL": "C.UTF-8"}
+        return subprocess.run(command, check=False, env=env, capture_output=True)
+
+    def shown(self):
+        return self.tmux("capture-pane", "-p").stdout.decode()
+
+    def await_shown(self, *patterns):
+        """Waits until all of these are on the screen at once."""
+        def is_shown():
+            return all(re.search(it, self.shown(), re.M) for it in patterns)
+
+        try:
+            await_that(is_shown, f"the screen shows {patterns}")
+        except Broken as broken:
+            raise Broken(f"{broken}, and has\n{self.shown()}")
+
+    def await_end(self):
+        def is_ended():
+            return os.path.exists(self.status) and os.path.getsize(self.status) > 0
+
+        await_that(is_ended, "the command has ended")
+        return bytes_of(self.status).decode().strip()
+
+    def end(self):
+        self.tmux("kill-server")

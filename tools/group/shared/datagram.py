@@ -1,0 +1,178 @@
+"""Reads a datagram, writes one, and prints it as `show` does, as docs/FORMATS.md describes it and
+apart from the program."""
+
+import collections
+
+from .record import LAST_SERIAL, MOST_KEYS, PLACES, Ballot, Batch
+
+# A datagram's fields, by their names, and its votes: a place, a ballot and a value each.
+Message = collections.namedtuple("Message", "kind sender fields")
+
+MOST_VOTES = 8
+KINDS = ("prepare", "promise", "accept", "accepted", "refused", "submit", "ask", "tell")
+
+
+class Refused(Exception):
+    """The code of the first check that fails, as the command prints it."""
+
+
+def must(holds, code):
+    if not holds:
+        raise Refused(code)
+
+
+class Reader:
+    """Takes fields off the front of a datagram of a group."""
+
+    def __init__(self, data, size):
+        self.data, self.at, self.size = data, 0, size
+        self.sender = None
+
+    def take(self, length):
+        taken = self.data[self.at : self.at + length]
+        must(len(taken) == length, "G1")
+        self.at += length
+        return taken
+
+    def number(self, length):
+        return int.from_bytes(self.take(length), "big")
+
+    def ballot(self, is_senders=False):
+        round_ = self.number(4)
+        must(round_, "G7")
+        node = self.number(1)
+        must(1 <= node <= self.size, "G7")
+        must(not is_senders or node == self.sender, "G7")
+        return Ballot(round_, node)
+
+    def place(self, most=PLACES - 1):
+        place = self.number(4)
+        must(place <= most, "G8")
+        return place
+
+    def value(self, is_submitted=False):
+        tag = self.number(1)
+        must(tag == 1 or tag == 0 and not is_submitted, "G9")
+        if tag == 0:
+            return None
+        node = self.number(1)
+        must(1 <= node <= self.size and (not is_submitted or node == self.sender), "G9")
+        start = self.number(4)
+        must(start, "G9")
+        first, count = self.number(4), self.number(1)
+        must(first and 1 <= count <= MOST_KEYS and first + count - 1 <= LAST_SERIAL, "G9")
+        return Batch(node, start, first, self.take(count))
+
+    def votes(self, count, ballot, first, upto):
+        votes, last = [], -1
+        for _ in range(count):
+            place = self.number(4)
+            must(place > last, "G10")
+            must(first <= place < upto, "G8")
+            under = self.ballot()
+            must(under <= ballot, "G7")
+            votes.append((place, under, self.value()))
+            last = place
+        return votes
+
+
+def promise_of(reader):
+    ballot = reader.ballot()
+    first = reader.place()
+    upto = reader.place(PLACES)
+    must(first < upto, "G8")
+    count = reader.number(1)
+    must(count <= MOST_VOTES, "G11")
+    votes = reader.votes(count, ballot, first, upto)
+    return {"ballot": ballot, "first": first, "upto": upto, "votes": votes}
+
+
+def refusal_of(reader):
+    ballot, promised = reader.ballot(), reader.ballot()
+    must(promised > ballot, "G7")
+    return {"ballot": ballot, "promised": promised}
+
+
+def fields_of(reader, kind):
+    """The fields behind the header."""
+    if kind == "promise":
+        return promise_of(reader)
+    if kind == "refused":
+        return refusal_of(reader)
+    fields = {}
+    if kind in ("prepare", "accept", "accepted"):
+        fields["ballot"] = reader.ballot(is_senders=kind != "accepted")
+    if kind != "submit":
+        fields["place"] = reader.place(PLACES if kind == "ask" else PLACES - 1)
+    if kind in ("accept", "accepted", "submit", "tell"):
+        fields["value"] = reader.value(is_submitted=kind == "submit")
+    return fields
+
+
+def message_of(data, size, session):
+    """The message of a datagram in a group, or Refused with G1 to G12."""
+    must(len(data) >= 10, "G1")
+    must(data[:2] == b"PG", "G2")
+    must(data[2] == 2, "G3")
+    must(1 <= data[3] <= len(KINDS), "G4")
+    must(data[5] == size and data[6:10] == session.to_bytes(4, "big"), "G5")
+    must(1 <= data[4] <= size, "G6")
+    reader = Reader(data, size)
+    reader.at, reader.sender = 10, data[4]
+    message = Message(KINDS[data[3] - 1], data[4], fields_of(reader, KINDS[data[3] - 1]))
+    must(reader.at == len(data), "G12")
+    return message
+
+
+def number(value, size):
+    return value.to_bytes(size, "big")
+
+
+def spelled(name, field):
+    """The bytes of a field."""
+    if name in ("ballot", "promised"):
+        return number(field[0], 4) + number(field[1], 1)
+    if name == "value":
+        if field is None:
+            return b"\0"
+        head = bytes([1, field.node]) + number(field.start, 4) + number(field.first, 4)
+        return head + bytes([len(field.characters)]) + field.characters
+    if name == "votes":
+        return bytes([len(field)]) + b"".join(vote_bytes(*it) for it in field)
+    return number(field, 4)
+
+
+def vote_bytes(place, ballot, value):
+    return spelled("place", place) + spelled("ballot", ballot) + spelled("value", value)
+
+
+def bytes_of(message, size, session):
+    """The datagram of a message."""
+    kind = KINDS.index(message.kind) + 1
+    head = b"PG" + bytes([2, kind, message.sender, size]) + number(session, 4)
+    return head + b"".join(spelled(name, field) for name, field in message.fields.items())
+
+
+def value_text(value):
+    """A value as `show` prints it."""
+    if value is None:
+        return "noop"
+    return f"key {value.node} {value.start} {value.first} {value.characters.hex().upper()}"
+
+
+def shown(name, field):
+    """A field as `show` prints it, behind its name where it has one there."""
+    if name in ("ballot", "promised"):
+        return f"{name} {field[0]}.{field[1]}"
+    if name == "value":
+        return value_text(field)
+    return f"votes {len(field)}" if name == "votes" else f"{name} {field}"
+
+
+def text_of(message):
+    """The lines that `show` prints for a message."""
+    fields = [shown(*it) for it in message.fields.items()]
+    lines = [" ".join([message.kind, f"from {message.sender}", *fields])]
+    for place, ballot, value in message.fields.get("votes", []):
+        lines.append(f"vote {place} {ballot[0]}.{ballot[1]} {value_text(value)}")
+    return "".join(line + "\n" for line in lines)
