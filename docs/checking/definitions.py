@@ -10,12 +10,16 @@ HEAD = """# Definitions
 
 The definitions that public contracts cite, by crate and file. `docs/check --write` writes this page from the comments in
 `crates/*/specs`, which also say what a definition allows and forbids. "Bent by" names the must-fail edits that change the
-definition; a law or a call refuses each. "Simple" is Lamport, "Paxos Made Simple" (2001); "manual" is the UCSD Pascal II.0
-manual.
+definition; a law or a call refuses each. A type has none, since it claims nothing. "Simple" is Lamport, "Paxos Made Simple"
+(2001); "manual" is the UCSD Pascal II.0 manual.
 """
+# Where the claims of the main theorem are defined.
+HEADLINE = "crates/group_world/specs/Headline.antt"
 WORDS = r"(?:(?:abbrev|unfoldable|opaque|pub|record|data|mixfix|infix[lr]?) +)+"
 BEGINS = re.compile(rf"^({WORDS})(?:\d+ +)?([^\s:(){{}}]+)")
 LABEL = re.compile(r"(?:^| )(?:Source|Allows|Forbids): ")
+# A type of values, or one for each type of them.
+TYPE = re.compile(rf"{WORDS}\S+ : (?:Type 0 → )*Type 0(?: where)?$")
 
 
 class Definition:
@@ -27,6 +31,13 @@ class Definition:
         text = LABEL.split(" ".join(self.comment))[0]
         it = re.match(r"(.*?[.?!])(?: (?=[A-Z`(])|$)", text)
         return it[1] if it else ""
+
+    def is_type(self):
+        return bool(TYPE.match(self.body.split("\n")[0]))
+
+    def is_based_on(self):
+        """Whether a promise rests on it: it has a source, or is a claim of the main theorem."""
+        return bool(self.source()) or self.path == HEADLINE
 
     def source(self):
         text = " ".join(self.comment)
@@ -118,11 +129,10 @@ def page(definitions):
     return "".join(parts)
 
 
-def not_bent(functions):
-    """The definitions on the page that have a source and that no edit bends."""
-    found = [it for it in listed(functions) if it.source()]
+def not_bent(definitions):
+    """Of these definitions those that a promise rests on, that are no types, and that no edit bends."""
     edits = {crate: bent_in(crate) for crate in tree.crates()}
-    return [it for it in found if it.name not in edits[it.crate]]
+    return [it for it in definitions if it.is_based_on() and not it.is_type() and it.name not in edits[it.crate]]
 
 
 def check(functions, is_write):
@@ -130,6 +140,8 @@ def check(functions, is_write):
     for it in definitions:
         if not it.sentence():
             fault(f"{it.path}: the comment of {it.name} has no first sentence that ends with a full stop")
+    for it in not_bent(definitions):
+        fault(f"{it.path}: no must-fail edit bends {it.name}")
     text = page(definitions)
     if is_write:
         with open(f"{tree.TOP}/{PATH}", "w", encoding="utf-8") as file:

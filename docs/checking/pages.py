@@ -38,6 +38,16 @@ def check_rust_shown():
         fault(f"docs/LIBRARY.md: shows Rust that no test compiles")
 
 
+def check_contracts_shown():
+    """Each contract of docs/READING.md stands so in the file that its first line names."""
+    shown = re.findall(r"^```rust\n// (\S+)\n(.*?)^```$", text_of("docs/READING.md"), re.M | re.S)
+    for path, contract in shown:
+        if contract not in text_of(path):
+            fault(f"docs/READING.md: a contract that it shows is not in {path}")
+    if not shown:
+        fault("docs/READING.md: it shows no contract")
+
+
 CODES = "crates/command_line/src/codes.rt"
 PROGRAM = "crates/command_line/src/program.rt"
 

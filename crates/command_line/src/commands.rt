@@ -7,7 +7,7 @@ pub mod run;
 mod show;
 mod sim;
 
-use crate::outcome::Outcome;
+use crate::conclusion::Conclusion;
 use crate::value::WordFault;
 use clap::{ArgMatches, Command};
 use std::alloc::{AllocError, Global};
@@ -103,7 +103,7 @@ impl Name {
         reader: &mut R,
         writer: &mut W,
         errors: &mut E,
-    ) -> Result<Outcome, WordFault<'a>> {
+    ) -> Result<Conclusion, WordFault<'a>> {
         match self {
             Name::Check => check::perform(rt, matches, writer),
             Name::List => list::perform(rt, matches, writer),

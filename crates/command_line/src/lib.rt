@@ -13,8 +13,8 @@
 
 mod codes;
 mod commands;
+mod conclusion;
 mod environment;
-mod outcome;
 mod program;
 mod reading;
 mod shared_words;

@@ -1,7 +1,7 @@
 //! What the program does with its words.
 use crate::codes::CODES;
 use crate::commands::run::DEFAULT_STEPS;
-use crate::outcome::{BAD_WORDS, DONE, Outcome, Refusal, conclude, refuse};
+use crate::conclusion::{BAD_WORDS, Conclusion, DONE, Refusal, conclude, refuse};
 use crate::reading::{NotAsked, command_in, no_command, read_words, refused};
 use machine_run::{MachineRefusal, RunIo, run_built_in};
 use std::io::{self, Read, Write};
@@ -58,13 +58,13 @@ fn perform<H: Files + Net + Clock + Env + AllocGlobal + Copy + Drop, R: Read, W:
     reader: &mut R,
     writer: &mut W,
     errors: &mut E,
-) -> Result<Outcome, NotAsked> {
+) -> Result<Conclusion, NotAsked> {
     let matches = read_words(rt.alloc(), words)?;
     let Some((name, own)) = command_in(&matches) else {
         return Err(no_command(rt.alloc())?);
     };
     match name.perform(rt, own, reader, writer, errors) {
-        Ok(outcome) => Ok(outcome),
+        Ok(conclusion) => Ok(conclusion),
         Err(fault) => Err(refused(rt.alloc(), name, fault)),
     }
 }
@@ -82,13 +82,13 @@ pub fn command<
 >(rt: &H, words: &[String], reader: &mut R, writer: &mut W, errors: &mut E) -> u8 {
     if words.is_empty() {
         let ran = run_built_in(rt.alloc(), DEFAULT_STEPS, writer);
-        return conclude(errors, Outcome::of_run(ran));
+        return conclude(errors, Conclusion::of_run(ran));
     }
     if let Some(status) = tell(writer, errors, words) {
         return status;
     }
     match perform(rt, words, reader, writer, errors) {
-        Ok(outcome) => conclude(errors, outcome),
+        Ok(conclusion) => conclude(errors, conclusion),
         Err(reason) => explain(writer, errors, reason),
     }
 }

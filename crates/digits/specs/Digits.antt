@@ -1,5 +1,7 @@
 -- Numbers in decimal digits, and bytes in hexadecimal ones.
-use Rattle.std.specs.Prelude.{ℕ, ◌^◌, List, length, Option, Some, None, ◌&&◌, nat_lt, if◌then◌else◌, ◌+◌, ◌*◌, [], ◌∷◌}
+use Rattle.std.specs.Prelude.{ℕ, ◌^◌, ◌+◌, ◌*◌, ◌/◌, ◌%◌, nat_lt, true, ◌&&◌, if◌then◌else◌}
+use Rattle.std.specs.Prelude.{List, [], ◌∷◌, flat_map, length, Option, Some, None}
+use Rattle.std.specs.Fmt.{digit_glyph}
 use Rattle.std.specs.Str.{all_ascii_digits}
 use Rattle.std.specs.Str.Parse.{digits_value}
 use Rattle.std.specs.Char.{digit_value}
@@ -34,3 +36,12 @@ abbrev pub hex_bytes_of : List ℕ → Option (List ℕ)
 hex_bytes_of [] = Some []
 hex_bytes_of (h ∷ []) = None
 hex_bytes_of (h ∷ l ∷ digits) = byte_before (hex_byte_of (h ∷ l ∷ [])) (hex_bytes_of digits)
+
+-- The two hexadecimal digits of a byte, in capitals, the high one first.
+-- Forbids: digits in small letters.
+abbrev pub hex_digits : ℕ → List ℕ
+hex_digits byte = digit_glyph true (byte / 16) ∷ digit_glyph true (byte % 16) ∷ []
+
+-- Bytes in two hexadecimal digits each.
+abbrev pub hex_text : List ℕ → List ℕ
+hex_text bytes = flat_map hex_digits bytes

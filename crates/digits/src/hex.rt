@@ -1,8 +1,9 @@
-//! Bytes in hexadecimal digits of either case.
-ghost use Rattle.std.specs.Prelude.{◌≡◌, ◌<◌, Err, IsSome, IfOk, None, Some, take};
+//! Bytes in hexadecimal digits: read in either case, written in capitals.
+ghost use Rattle.std.specs.Prelude.{◌≡◌, ◌<◌, true, Err, IsSome, IfOk, None, Some, take};
 ghost use Rattle.std.specs.Char.{digit_value};
+ghost use Rattle.std.specs.Fmt.{digit_glyph};
 ghost use Rattle.std.specs.Option.{SomeIff};
-ghost use Rattle.digits.specs.Digits.{hex_byte_of, hex_bytes_of};
+ghost use Rattle.digits.specs.Digits.{hex_byte_of, hex_bytes_of, hex_digits};
 ghost use Rattle.digits.specs.declared.hex.HexError.TheVariants.{Bad, Memory};
 
 use std::alloc::Global;
@@ -59,4 +60,23 @@ pub fn hex_bytes(alloc: Global, text: &str) -> Result<Vec<u8>, HexError>
         }
     }
     Ok(bytes)
+}
+
+/// Returns the hexadecimal digit of a number, in capitals.
+fn digit_of(number: u8) -> u8
+    requires { number < 16 }
+    ensures { result ≡ digit_glyph true number }
+{
+    if number < 10 {
+        b'0' + number
+    } else {
+        b'A' + (number - 10)
+    }
+}
+
+/// Returns the two hexadecimal digits of a byte, in capitals, the high one first.
+pub fn hex_digits(byte: u8) -> [u8; 2]
+    ensures { result ≡ hex_digits byte }
+{
+    [digit_of(byte / 16), digit_of(byte % 16)]
 }

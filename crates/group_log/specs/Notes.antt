@@ -4,15 +4,15 @@ use Rattle.std.specs.Net.Text.{socket_text}
 use Rattle.std.specs.declared.net.socket_addr.SocketAddr.{SocketAddr}
 use Rattle.paxos_msg.specs.declared.ballot.Ballot.{Ballot}
 use Rattle.paxos_msg.specs.declared.message.Group.{Group}
-use Rattle.pcode_machine.specs.declared.turn.End.{End as ProgramEnd}
+use Rattle.pcode_machine.specs.declared.turn.End.{End}
 use Rattle.pcode_machine.specs.declared.turn.End.TheVariants as program
 use Rattle.paxos_msg.specs.declared.limits.TheConstants.{PLACES}
 use Rattle.group_node.specs.declared.fault.NodeFault.{NodeFault}
 use Rattle.group_node.specs.declared.fault.NodeFault.TheVariants.{PlacesSpent}
 use Rattle.group_node.specs.Fault.{code_of}
 use Rattle.group_log.specs.declared.drops.Drops.{Drops}
-use Rattle.group_log.specs.declared.note.End.{End}
-use Rattle.group_log.specs.declared.note.End.TheVariants.{Turns, Node, Other}
+use Rattle.group_log.specs.declared.note.ProcessEnd.{ProcessEnd}
+use Rattle.group_log.specs.declared.note.ProcessEnd.TheVariants.{Turns, Node, Other}
 use Rattle.group_log.specs.declared.note.Note.{Note}
 use Rattle.group_log.specs.declared.note.Note.TheVariants.{NoFile, NoSocket, NoRecord, BadRecord, StartedNew, Started, Campaigns, CampaignRefused, Leads, BallotRefused, Dropped, Unsent, Full, Places, TraceLost, Program, Ended}
 
@@ -31,13 +31,13 @@ group_note g rest =
     numbered_note (codes "started size ") g.size (numbered_note (codes " session ") g.session rest)
 
 -- How a run ended.
-abbrev pub end_text : End → List ℕ
+abbrev pub end_text : ProcessEnd → List ℕ
 end_text Turns = codes "ended"
 end_text (Node fault) = codes "ended refused " ++ code_of fault
 end_text Other = codes "ended refused"
 
 -- How a program ended.
-abbrev pub program_text : ProgramEnd → List ℕ
+abbrev pub program_text : End → List ℕ
 program_text program.Normal = codes "program ended"
 program_text (program.Error number procedure at) =
     numbered_note (codes "program ended execution error ") number

@@ -1,7 +1,8 @@
 -- The lines of a trace: what the calls of a node were. Their parts are nested to the right, as they
 -- are printed.
-use Rattle.std.specs.Prelude.{ℕ, ◌+◌, ◌/◌, ◌%◌, List, [], ◌∷◌, ◌++◌, nat_lt, if◌then◌else◌, codes, decimal}
+use Rattle.std.specs.Prelude.{ℕ, List, [], ◌++◌, codes, decimal}
 use Rattle.std.specs.Net.Text.{socket_text}
+use Rattle.digits.specs.Digits.{hex_text}
 use Rattle.group_node.specs.declared.packet.To.{To}
 use Rattle.group_node.specs.declared.packet.To.TheVariants as whom
 use Rattle.group_log.specs.declared.trace.Call.{Call}
@@ -9,15 +10,6 @@ use Rattle.group_log.specs.declared.trace.Call.TheVariants as call
 use Rattle.group_log.specs.declared.trace.Traced.{Traced}
 use Rattle.group_log.specs.declared.trace.Traced.TheVariants.{Process, BeginsStart, BeginsHear, BeginsCampaign, StartedNew, Started, Heard, Pressed, Campaigned, Ticked, Ran, Released, Sent, Failed, Ended}
 use Rattle.group_log.specs.Notes.{numbered_note}
-
--- The hexadecimal digit of a number below 16, as a character, in capitals.
-abbrev pub hex_digit : ℕ → ℕ
-hex_digit n = if nat_lt n 10 then 48 + n else 55 + n
-
--- Bytes as text: two hexadecimal digits for each, in capitals.
-abbrev pub bytes_text : List ℕ → List ℕ
-bytes_text [] = []
-bytes_text (byte ∷ bytes) = hex_digit (byte / 16) ∷ hex_digit (byte % 16) ∷ bytes_text bytes
 
 -- Whom a datagram is for.
 abbrev pub receiver_text : To → List ℕ
@@ -59,8 +51,8 @@ bytes_traced (Heard source bytes) = bytes.now
 bytes_traced (Sent to bytes) = bytes.now
 bytes_traced _ = []
 
--- A line of a trace: the time in milliseconds, what it says, and its bytes.
+-- A line of a trace: the time in milliseconds, what it says, and its bytes in hexadecimal digits.
 abbrev pub traced_line : ℕ → Traced → List ℕ
 traced_line millis traced =
     (numbered_note (codes "@") millis (codes " " ++ traced_text traced))
-    ++ (bytes_text (bytes_traced traced) ++ codes "\n")
+    ++ (hex_text (bytes_traced traced) ++ codes "\n")

@@ -22,7 +22,7 @@ mod trace;
 pub use drops::{DropReason, Drops, MOST_COUNTED, reason_of};
 pub use log::{Log, millis_now};
 pub use milestones::{end_to_note, marks_reached};
-pub use note::{End, Note, line_of};
+pub use note::{Note, ProcessEnd, line_of};
 pub use role::Role;
 pub use sends::Sends;
 pub use trace::{Call, Traced, traced_line};

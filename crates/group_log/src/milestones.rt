@@ -1,6 +1,8 @@
 //! What a node says once, as its session goes on.
-ghost use Rattle.std.specs.Prelude.{◌≡◌};
-ghost use Rattle.group_log.specs.Milestones.{end_to_note, marks_reached};
+ghost use Rattle.std.specs.Prelude.{◌≡◌, ◌↔◌, false, length, Some};
+ghost use Rattle.pcode_machine.specs.declared.turn.End.{End};
+ghost use Rattle.group_node.specs.declared.player.Ran.TheVariants.{Ended};
+ghost use Rattle.group_log.specs.Milestones.{marks_of};
 
 use group_node::Ran;
 use paxos_msg::limits::PLACES;
@@ -9,7 +11,7 @@ use pcode_machine::End;
 /// Returns how many of the marks are reached with so many places: a half, three quarters, nine
 /// tenths, and all of the 65,536.
 pub fn marks_reached(places: u32) -> u8
-    ensures { result ≡ marks_reached places }
+    ensures { result ≡ length (marks_of places) }
 {
     if places < 32_768 {
         0
@@ -26,7 +28,7 @@ pub fn marks_reached(places: u32) -> u8
 
 /// Returns the end of the program that a run has come to, if it was not noted before.
 pub fn end_to_note(was_noted: bool, ran: Ran) -> Option<End>
-    ensures { result ≡ end_to_note was_noted ran }
+    ensures { (end : End) → (result ≡ Some end) ↔ ((was_noted ≡ false) × (ran ≡ Ended end)) }
 {
     match ran {
         Ran::Ended(end) if !was_noted => Some(end),

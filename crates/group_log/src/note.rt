@@ -6,14 +6,14 @@ use crate::drops::Drops;
 use group_node::NodeFault;
 use paxos_msg::limits::PLACES;
 use paxos_msg::{Ballot, Group};
-use pcode_machine::End as ProgramEnd;
+use pcode_machine::End;
 use std::alloc::{AllocError, Global};
 use std::fmt;
 use std::net::SocketAddr;
 
 /// How a node's run ended.
 #[derive(Clone, Copy, Debug, PartialEq, Eq)]
-pub enum End {
+pub enum ProcessEnd {
     /// All turns were made.
     Turns,
     /// The node refused to start, or to go on.
@@ -65,9 +65,9 @@ pub enum Note<'a> {
     /// A line of its trace cannot be written, and none is from then on.
     TraceLost,
     /// Its program has ended. The node goes on, and reads no more keys.
-    Program(ProgramEnd),
+    Program(End),
     /// Its run has ended.
-    Ended(End),
+    Ended(ProcessEnd),
 }
 
 /// A ballot as text: `ROUND.NODE`, or `-` for none.
@@ -88,7 +88,7 @@ impl fmt::Display for Shown {
     }
 }
 
-impl fmt::Display for End {
+impl fmt::Display for ProcessEnd {
     ghost use Rattle.std.specs.Prelude.{Some};
     ghost use Rattle.group_log.specs.Notes.{end_text};
 
@@ -96,9 +96,9 @@ impl fmt::Display for End {
 
     fn fmt<W: fmt::Write>(&self, f: &mut fmt::Formatter<W>) -> fmt::Result {
         match self {
-            End::Turns => write!(f, "ended"),
-            End::Node(fault) => write!(f, "ended refused {fault}"),
-            End::Other => write!(f, "ended refused"),
+            ProcessEnd::Turns => write!(f, "ended"),
+            ProcessEnd::Node(fault) => write!(f, "ended refused {fault}"),
+            ProcessEnd::Other => write!(f, "ended refused"),
         }
     }
 }
@@ -123,7 +123,7 @@ impl fmt::Display for LastSource {
 
 /// How a program ended, as text.
 #[derive(Clone, Copy)]
-struct HowEnded(ProgramEnd);
+struct HowEnded(End);
 
 impl fmt::Display for HowEnded {
     ghost use Rattle.std.specs.Prelude.{Some};
@@ -133,8 +133,8 @@ impl fmt::Display for HowEnded {
 
     fn fmt<W: fmt::Write>(&self, f: &mut fmt::Formatter<W>) -> fmt::Result {
         match self.0 {
-            ProgramEnd::Normal => write!(f, "program ended"),
-            ProgramEnd::Error {
+            End::Normal => write!(f, "program ended"),
+            End::Error {
                 number,
                 procedure,
                 at,

@@ -1,7 +1,9 @@
 //! The lines of a trace, which says what the calls of a node were.
 ghost use Rattle.std.specs.Prelude.{◌≡◌, ◌<◌, ◌++◌, IfOk};
-ghost use Rattle.group_log.specs.Traces.{bytes_traced, hex_digit, bytes_text, traced_line};
+ghost use Rattle.digits.specs.Digits.{hex_text};
+ghost use Rattle.group_log.specs.Traces.{bytes_traced, traced_line};
 
+use digits::hex_digits;
 use group_node::To;
 use paxos_msg::Group;
 use std::alloc::{AllocError, Global};
@@ -128,25 +130,12 @@ fn bytes_of<'a>(traced: &Traced<'a>) -> &'a [u8]
     }
 }
 
-/// Returns the hexadecimal digit of a number below 16.
-fn digit_of(number: u8) -> u8
-    requires small { number < 16 }
-    ensures { result ≡ hex_digit number }
-{
-    if number < 10 {
-        48 + number
-    } else {
-        55 + number
-    }
-}
-
 /// Puts two hexadecimal digits for each byte behind the text. Fails if memory runs out.
 fn push_hex(text: &mut Vec<u8>, bytes: &[u8]) -> Result<(), AllocError>
-    ensures { IfOk result (λ _. text.new.items ≡ text.old.items ++ bytes_text bytes.now) }
+    ensures { IfOk result (λ _. text.new.items ≡ text.old.items ++ hex_text bytes.now) }
 {
     for byte in bytes {
-        text.push(digit_of(*byte / 16))?;
-        text.push(digit_of(*byte % 16))?;
+        text.extend_from_slice(&hex_digits(*byte))?;
     }
     Ok(())
 }

@@ -1,14 +1,15 @@
 -- The state after a call of a node, by its response.
-use Rattle.std.specs.Prelude.{◌≡◌, ◌≢◌, ◌↔◌, ◌⊎◌, ◌<◌, true, false, List, [], ◌++◌, length, None, Result, Err, IfErr, OnOk, OnErr, IsErrOf}
-use Rattle.paxos_acceptor.specs.Stores.{StoreState, FailsAsPlanned, HasCause, IsOneOf}
+use Rattle.std.specs.Prelude.{◌≡◌, ◌≢◌, ◌↔◌, ◌⊎◌, ◌<◌, true, false, List, [], ◌∷◌, ◌++◌, length, None, Result, Err, OnOk, OnErr, IsErrOf}
+use Rattle.paxos_acceptor.specs.Calls.{FailsOnlyWith, Mut}
+use Rattle.paxos_acceptor.specs.Stores.{StoreKind, FailsAsPlanned, HasCause, IsOneOf}
 use Rattle.paxos_acceptor.specs.declared.fault.AcceptorFault.{AcceptorFault}
 use Rattle.paxos_acceptor.specs.declared.fault.AcceptorFault.TheVariants as acceptor
 use Rattle.group_node.specs.declared.fault.NodeFault.{NodeFault}
 use Rattle.group_node.specs.declared.fault.NodeFault.TheVariants.{Memory, Store, Stopped, OutboxFull, RoundsSpent, PlacesSpent}
 use Rattle.group_node.specs.declared.fault.NodeFault.TheVariants as fault
-use Rattle.group_node.specs.Packets.{Datagram, datagrams_of}
+use Rattle.group_node.specs.Packets.{Datagram, datagrams_of, Queue}
 use Rattle.group_node.specs.Known.{Known, Response, front}
-use Rattle.group_node.specs.States.{Protocol}
+use Rattle.group_node.specs.States.{NodeState, Protocol}
 use Rattle.group_node.specs.ProposerRows.{last_round}
 use Rattle.paxos_msg.specs.declared.limits.TheConstants.{LAST_ROUND, PLACES}
 
@@ -52,21 +53,23 @@ pub record Knows {S : Type 0} (old new : Protocol S) (n : Known) : Type 0 where
 -- Source: Simple 2.5.
 -- Allows: a save that failed and was made.
 -- Forbids: a fault of the device in a call that saves nothing.
-pub record Saves {S T : Type 0} (honest at_will : Type 0) (state : S → StoreState)
-    (old new : Protocol S) (done : Response) (result : Result T NodeFault) : Type 0 where
-  pub saved : honest → OnOk result ((state new.store).stored ≡ done.node.kept)
-  pub device : honest → IsErrOf result Store
-      → IsOneOf (state new.store).stored old.known.kept done.node.kept
-  pub unsaved : honest
-      → OnErr result (¬ IsErrOf result Store → (state new.store).stored ≡ (state old.store).stored)
+pub record Saves {S T : Type 0} (kind : StoreKind S) (old new : Protocol S) (done : Response)
+    (result : Result T NodeFault) : Type 0 where
+  pub saved : kind.honest → OnOk result ((kind.state new.store).stored ≡ done.node.kept)
+  pub device : kind.honest → IsErrOf result Store
+      → IsOneOf (kind.state new.store).stored old.known.kept done.node.kept
+  pub unsaved : kind.honest → OnErr result (¬ IsErrOf result Store
+      → (kind.state new.store).stored ≡ (kind.state old.store).stored)
   pub idle : done.saves ≡ None → new.store ≡ old.store
   pub never : done.saves ≡ None → ¬ IsErrOf result Store
-  pub unplanned : done.saves ≢ None → OnOk result ((state old.store).plan ≡ None)
-  pub used_up : IsErrOf result Store → (state new.store).plan ≡ None
-  pub plan : ¬ IsErrOf result Store → (state new.store).plan ≡ (state old.store).plan
-  pub planned : honest → at_will → IsErrOf result Store
-      → FailsAsPlanned (state old.store).plan old.known.kept done.node.kept (state new.store).stored
-  pub cause : HasCause (IsErrOf result Store) (state old.store).faults (state new.store).faults
+  pub unplanned : done.saves ≢ None → OnOk result ((kind.state old.store).plan ≡ None)
+  pub used_up : IsErrOf result Store → (kind.state new.store).plan ≡ None
+  pub plan : ¬ IsErrOf result Store → (kind.state new.store).plan ≡ (kind.state old.store).plan
+  pub planned : kind.honest → kind.fails_at_will → IsErrOf result Store
+      → FailsAsPlanned (kind.state old.store).plan old.known.kept done.node.kept
+      (kind.state new.store).stored
+  pub cause : HasCause (IsErrOf result Store) (kind.state old.store).faults
+      (kind.state new.store).faults
 
 -- The refusals of a call without an outbox: as stopped, exactly if a save has failed.
 abbrev pub RefusesIfStopped : {S T : Type 0} → Protocol S → Result T NodeFault → Type 0
@@ -92,7 +95,7 @@ MayLackMemory result = OnErr result (result ≡ Err Memory)
 
 -- The claim that a call fails only if memory runs out or its save fails.
 abbrev pub MayFailToSave : {T : Type 0} → Result T NodeFault → Type 0
-MayFailToSave result = IfErr result (λ e. (e ≡ Memory) ⊎ (e ≡ Store))
+MayFailToSave result = FailsOnlyWith (Memory ∷ Store ∷ []) result
 
 -- The refusals of a campaign that is taken: no round is left, or otherwise no place is.
 -- A campaign that saves has a round.
@@ -101,3 +104,43 @@ pub record IsCampaignRefused {T : Type 0} (n : Known) (result : Result T NodeFau
   pub places : IsErrOf result PlacesSpent ↔ ((last_round n < LAST_ROUND) × (front n ≡ PLACES))
   pub spare : OnOk result (last_round n < LAST_ROUND)
   pub spare_saved : IsErrOf result Store → last_round n < LAST_ROUND
+
+-- The node and the outbox after a call that gives the response of this row, if it is let in. The
+-- machine stays.
+pub record Sends {S T : Type 0} (row : Known → Response) (node : Mut (NodeState S))
+    (outbox : Mut Queue) (result : Result T NodeFault) : Type 0 where
+  pub let_in : IsLetIn node.entry.now.protocol outbox.entry.now.packets result
+  pub does : Does node.entry.now.protocol node.exit.now.protocol outbox.entry.now.packets
+      outbox.exit.now.packets (row node.entry.now.protocol.known) result
+  pub progress : node.exit.now.progress ≡ node.entry.now.progress
+
+-- The node, the outbox and the store after a call that gives the response of this row, if it is let
+-- in. The machine stays.
+pub record Responds {S T : Type 0} (kind : StoreKind S) (row : Known → Response)
+    (node : Mut (NodeState S)) (outbox : Mut Queue) (result : Result T NodeFault) : Type 0 where
+  pub sends : Sends row node outbox result
+  pub saves : Saves kind node.entry.now.protocol node.exit.now.protocol
+      (row node.entry.now.protocol.known) result
+
+-- The node's part in the protocol, the outbox and the store after a call with this response, which
+-- was let in.
+pub record DoesAndSaves {S T : Type 0} (kind : StoreKind S) (done : Response)
+    (part : Mut (Protocol S)) (outbox : Mut Queue) (result : Result T NodeFault) : Type 0 where
+  pub does : Does part.entry.now part.exit.now outbox.entry.now.packets outbox.exit.now.packets
+      done result
+  pub saves : Saves kind part.entry.now part.exit.now done result
+
+-- The refusals of a campaign that is let in: no round is left, or otherwise no place is.
+-- A campaign that saves has a round.
+pub record RefusesCampaign {S T : Type 0} (node : Mut (NodeState S)) (outbox : Mut Queue)
+    (result : Result T NodeFault) : Type 0 where
+  pub rounds : IsErrOf result RoundsSpent
+      ↔ (IsLet node.entry.now.protocol outbox.entry.now.packets
+      × (last_round node.entry.now.protocol.known ≡ LAST_ROUND))
+  pub places : IsErrOf result PlacesSpent
+      ↔ (IsLet node.entry.now.protocol outbox.entry.now.packets
+      × (last_round node.entry.now.protocol.known < LAST_ROUND)
+      × (front node.entry.now.protocol.known ≡ PLACES))
+  pub spare : OnOk result (last_round node.entry.now.protocol.known < LAST_ROUND)
+  pub spare_saved : IsErrOf result Store
+      → last_round node.entry.now.protocol.known < LAST_ROUND

@@ -4,7 +4,7 @@ use Rattle.paxos_learner.specs.declared.heard.Heard.TheVariants.{Passed}
 use Rattle.paxos_learner.specs.Learner.{heard_accepted, heard_tell}
 use Rattle.paxos_proposer.specs.Proposer.{Proposer, is_covered, next_of}
 use Rattle.paxos_msg.specs.declared.message.Body.TheVariants.{Prepare, Promise, Accept, Accepted, Refused, Submit, Ask, Tell}
-use Rattle.paxos_msg.specs.Batches.{Body}
+use Rattle.paxos_msg.specs.Batches.{Body, Msg}
 use Rattle.group_node.specs.AcceptorRows.{on_accept, on_prepare}
 use Rattle.group_node.specs.Known.{Response, Known, front}
 use Rattle.group_node.specs.LearnerRows.{on_accepted, on_ask, on_tell}
@@ -50,3 +50,7 @@ without_read_keys done = record done { node = without_read done.node }
 -- Allows: a message that was delivered before; a later key that is below the front and still waits.
 abbrev pub on_message : Known → ℕ → Body → Response
 on_message n j body = without_read_keys (row n j body)
+
+-- The response to this message.
+abbrev pub answer_to : Msg → Known → Response
+answer_to m n = on_message n m.sender m.body

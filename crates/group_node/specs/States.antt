@@ -2,7 +2,7 @@
 use Rattle.std.specs.Prelude.{◌≡◌, ℕ, ◌%◌, ◌≤◌, Bool, false, List, Option, option_map}
 use Rattle.paxos_msg.specs.Fits.{IsNode}
 use Rattle.paxos_acceptor.specs.declared.me.Me.{Me}
-use Rattle.paxos_acceptor.specs.Stores.{StoreState}
+use Rattle.paxos_acceptor.specs.Stores.{StoreKind}
 use Rattle.paxos_msg.specs.declared.ballot.Ballot.{Ballot}
 use Rattle.paxos_acceptor.specs.Follows.{AcceptorState}
 use Rattle.paxos_proposer.specs.States.{ProposerState}
@@ -68,8 +68,7 @@ pub record IsConfig (me : Me) : Type 0 where
 -- The invariant of a node's part in the protocol.
 -- Its size is one of a group's, and all that it knows is in its ranges. An honest store has its
 -- record, unless a save has failed.
-pub record IsInStep {S : Type 0} (honest : Type 0) (state : S → StoreState)
-    (p : Protocol S) : Type 0 where
+pub record IsInStep {S : Type 0} (kind : StoreKind S) (p : Protocol S) : Type 0 where
   pub size : IsSize p.known.me.group.size
   pub ranges : IsInRange p.known
-  pub in_step : honest → p.is_stopped ≡ false → (state p.store).stored ≡ p.known.kept
+  pub in_step : kind.honest → p.is_stopped ≡ false → (kind.state p.store).stored ≡ p.known.kept

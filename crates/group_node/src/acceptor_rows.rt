@@ -1,7 +1,7 @@
 //! What a node does at a Prepare and at an Accept: its acceptor answers.
 ghost use Rattle.std.specs.Prelude.{◌≡◌, [], false, option_map};
 ghost use Rattle.paxos_msg.specs.Fits.{IsPlace};
-ghost use Rattle.group_node.specs.Calls.{Does, MayFailToSave, Saves};
+ghost use Rattle.group_node.specs.Calls.{MayFailToSave, DoesAndSaves};
 ghost use Rattle.group_node.specs.AcceptorRows.{accept_answered_to, on_accept, on_prepare, unless_passed};
 ghost use Rattle.group_node.specs.Ranges.{IsGroupBallot, IsGroupValue};
 
@@ -49,10 +49,8 @@ impl<S: Store> Protocol<S> {
         requires from { IsPlace from }
         requires open { self.old.is_stopped ≡ false }
         requires empty { outbox.old.packets ≡ [] }
-        ensures does { Does self.old self.new outbox.old.packets outbox.new.packets
-            (on_prepare self.old.known ballot from) result }
-        ensures saves { Saves S.honest S.fails_at_will S.state self.old self.new
-            (on_prepare self.old.known ballot from) result }
+        ensures responds { DoesAndSaves S.kind (on_prepare self.old.known ballot from) self outbox
+            result }
         ensures others { MayFailToSave result }
     {
         promises_fit();
@@ -80,10 +78,8 @@ impl<S: Store> Protocol<S> {
         requires value { IsGroupValue self.old.known value }
         requires open { self.old.is_stopped ≡ false }
         requires empty { outbox.old.packets ≡ [] }
-        ensures does { Does self.old self.new outbox.old.packets outbox.new.packets
-            (on_accept self.old.known ballot place value) result }
-        ensures saves { Saves S.honest S.fails_at_will S.state self.old self.new
-            (on_accept self.old.known ballot place value) result }
+        ensures responds { DoesAndSaves S.kind (on_accept self.old.known ballot place value) self
+            outbox result }
         ensures others { MayFailToSave result }
     {
         votes_fit();

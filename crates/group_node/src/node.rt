@@ -1,25 +1,20 @@
 //! One node of a group.
-ghost use Rattle.std.specs.Prelude.{◌≡◌, ◌≢◌, ◌↔◌, ◌+◌, ◌⊎◌, ◌<◌, ◌≤◌, ℕ, List, [], false, true, length, option_map, slice_get, IsSome, None, Result, IfErr, IfNone, IfOk, IsErrOf, OnErr, OnOk, OnSome};
+ghost use Rattle.std.specs.Prelude.{◌≡◌, ◌↔◌, ◌+◌, ◌⊎◌, ◌<◌, ◌≤◌, ℕ, List, [], ◌∷◌, false, length, option_map, slice_get, IsSome, IfErr, IfNone, IfOk, IsErrOf, OnErr, OnSome};
 ghost use Rattle.std.specs.FinMap.{get};
-ghost use Rattle.paxos_msg.specs.declared.record.Change.TheVariants.{Start};
-ghost use Rattle.paxos_msg.specs.Batches.{Record as Kept};
 ghost use Rattle.paxos_msg.specs.Fits.{Fits};
-ghost use Rattle.paxos_msg.specs.Records.{changed};
-ghost use Rattle.paxos_acceptor.specs.Records.{IsRecord};
-ghost use Rattle.paxos_acceptor.specs.Stores.{FailsAsPlanned, HasCause, IsOneOf};
-ghost use Rattle.paxos_acceptor.specs.declared.store.StoreFault.{StoreFault};
+ghost use Rattle.paxos_acceptor.specs.Calls.{FailsOnlyWith, IsAmong};
 ghost use Rattle.paxos_learner.specs.Learner.{IsFront};
-ghost use Rattle.paxos_msg.specs.declared.limits.TheConstants.{LAST_ROUND, LAST_SERIAL, LAST_START, PLACES};
+ghost use Rattle.paxos_msg.specs.declared.limits.TheConstants.{LAST_SERIAL, PLACES};
 ghost use Rattle.group_node.specs.declared.limits.TheConstants.{MOST_WAITING, TICK_PACKETS};
-ghost use Rattle.group_node.specs.Calls.{Does, IsLet, IsLetIn, RefusesIfStopped, Saves};
-ghost use Rattle.group_node.specs.Protocol.{NeedsMemory, on_message};
-ghost use Rattle.group_node.specs.Known.{on_typed, front, new_key, next_serial, on_start};
-ghost use Rattle.group_node.specs.ProposerRows.{is_leading, last_round, own_ballot, on_campaign};
+ghost use Rattle.group_node.specs.Calls.{RefusesCampaign, RefusesIfStopped, Responds, Sends};
+ghost use Rattle.group_node.specs.Protocol.{answer_to, NeedsMemory};
+ghost use Rattle.group_node.specs.Known.{on_typed, front, new_key, next_serial};
+ghost use Rattle.group_node.specs.ProposerRows.{is_leading, own_ballot, on_campaign};
 ghost use Rattle.group_node.specs.Tick.{on_tick};
 ghost use Rattle.group_node.specs.Output.{IsReplay, no_progress, RunsOn, unreleased_of};
 ghost use Rattle.group_node.specs.Player.{IsPlayed, progress_of};
 ghost use Rattle.group_node.specs.Ranges.{IsInRange};
-ghost use Rattle.group_node.specs.Starting.{StartsAfter};
+ghost use Rattle.group_node.specs.Starting.{IsFresh, StartsByPlan, StartsFrom, StartsOnce};
 ghost use Rattle.group_node.specs.States.{input};
 
 use crate::config::Config;
@@ -107,53 +102,12 @@ impl<'a, S: Store> Node<'a, S> {
         config: Config,
         store: S,
     ) -> Result<Node<'a, S>, StartRefused<S>>
-        ensures loads { (answer : Result Kept StoreFault) × (left : S) × S.loads store answer left
-            × StartsAfter S.state config answer left result }
-        ensures begins { IfOk result
-            (λ n. (kept : Kept) × (n.protocol.known ≡ (on_start config kept).node)) }
-        ensures known { S.honest
-            → IfOk result (λ n. n.protocol.known ≡ (on_start config (S.state store).stored).node) }
-        ensures saved { S.honest
-            → IfOk result (λ n. (S.state n.protocol.store).stored
-            ≡ changed (S.state store).stored Start) }
-        ensures stops { IfOk result (λ n. n.protocol.is_stopped ≡ false) }
-        ensures progress { IfOk result (λ n. n.progress ≡ no_progress program.now) }
-        ensures ranges { IfOk result (λ n. IsInRange n.protocol.known) }
-        ensures bad { S.honest
-            → IfErr result (λ e. e.fault ≡ NodeFault.BadRecord
-            → ¬ IsRecord config.group.size (S.state store).stored) }
-        ensures spent { S.honest
-            → IfErr result (λ e. e.fault ≡ NodeFault.StartsSpent
-            → (S.state store).stored.starts ≡ LAST_START) }
-        ensures fit { S.honest
-            → IfOk result (λ _. IsRecord config.group.size (S.state store).stored
-            × ((S.state store).stored.starts < LAST_START)) }
-        ensures device { S.honest
-            → IfErr result (λ e. e.fault ≡ NodeFault.Store
-            → IsOneOf (S.state e.store).stored (S.state store).stored
-            (changed (S.state store).stored Start)) }
-        ensures planned { S.honest → S.fails_at_will
-            → IfErr result (λ e. e.fault ≡ NodeFault.Store
-            → FailsAsPlanned (S.state store).plan (S.state store).stored
-            (changed (S.state store).stored Start) (S.state e.store).stored) }
-        ensures spare { S.fails_at_will → S.honest
-            → IfErr result (λ e. e.fault ≡ NodeFault.Store
-            → (S.state store).stored.starts < LAST_START) }
-        ensures same { S.honest
-            → IfErr result (λ e. e.fault ≢ NodeFault.Store
-            → (S.state e.store).stored ≡ (S.state store).stored) }
-        ensures plan { IfErr result
-            (λ e. e.fault ≢ NodeFault.Store → (S.state e.store).plan ≡ (S.state store).plan) }
-        ensures unplanned { IfOk result
-            (λ n. ((S.state store).plan ≡ None) × ((S.state n.protocol.store).plan ≡ None)) }
-        ensures quiet { IfOk result
-            (λ n. (S.state n.protocol.store).faults ≡ (S.state store).faults) }
-        ensures cause { IfErr result
-            (λ e. HasCause (e.fault ≡ NodeFault.Store) (S.state store).faults
-            (S.state e.store).faults) }
-        ensures others { IfErr result
-            (λ e. (e.fault ≡ NodeFault.Memory) ⊎ (e.fault ≡ NodeFault.Store)
-            ⊎ (e.fault ≡ NodeFault.BadRecord) ⊎ (e.fault ≡ NodeFault.StartsSpent)) }
+        ensures once { StartsOnce S.kind config store result }
+        ensures fresh { IfOk result (IsFresh config program.now) }
+        ensures from { S.kind.honest → StartsFrom S.kind config store result }
+        ensures plan { StartsByPlan S.kind store result }
+        ensures others { IfErr result (λ e. IsAmong (NodeFault.Memory ∷ NodeFault.Store
+            ∷ NodeFault.BadRecord ∷ NodeFault.StartsSpent ∷ []) e.fault) }
     {
         what_goes_out_fits();
         let mut acceptor = match Acceptor::open(alloc, store, config.me()) {
@@ -217,8 +171,8 @@ impl<'a, S: Store> Node<'a, S> {
             ↔ ((self.old.protocol.is_stopped ≡ false)
             × (length self.old.protocol.known.waiting < MOST_WAITING)
             × (next_serial self.old.protocol.known ≡ LAST_SERIAL + 1)) }
-        ensures others { IfErr result
-            (λ e. (e ≡ NodeFault.Stopped) ⊎ (e ≡ NodeFault.Busy) ⊎ (e ≡ NodeFault.SerialSpent)) }
+        ensures others { FailsOnlyWith (NodeFault.Stopped ∷ NodeFault.Busy
+            ∷ NodeFault.SerialSpent ∷ []) result }
     {
         let protocol = &mut self.protocol;
         if protocol.is_stopped() {
@@ -242,18 +196,11 @@ impl<'a, S: Store> Node<'a, S> {
     /// the call the first waiting keys, up to one that is not below the known front, wait no more.
     pub fn on_message(&mut self, view: &View<'_>, outbox: &mut Outbox) -> Result<(), NodeFault>
         requires fits { Fits self.old.protocol.known.me.group view.now }
-        ensures does { Does self.old.protocol self.new.protocol outbox.old.packets
-            outbox.new.packets (on_message self.old.protocol.known view.now.sender view.now.body)
-            result }
-        ensures saves { Saves S.honest S.fails_at_will S.state self.old.protocol self.new.protocol
-            (on_message self.old.protocol.known view.now.sender view.now.body) result }
+        ensures responds { Responds S.kind (answer_to view.now) self outbox result }
         ensures needs { IsErrOf result NodeFault.Memory
             → NeedsMemory self.old.protocol.known view.now.sender view.now.body }
-        ensures progress { self.new.progress ≡ self.old.progress }
-        ensures let_in { IsLetIn self.old.protocol outbox.old.packets result }
-        ensures others { IfErr result
-            (λ e. (e ≡ NodeFault.Stopped) ⊎ (e ≡ NodeFault.OutboxFull) ⊎ (e ≡ NodeFault.Memory)
-            ⊎ (e ≡ NodeFault.Store)) }
+        ensures others { FailsOnlyWith (NodeFault.Stopped ∷ NodeFault.OutboxFull
+            ∷ NodeFault.Memory ∷ NodeFault.Store ∷ []) result }
     {
         learned_stays();
         input_grows();
@@ -273,26 +220,11 @@ impl<'a, S: Store> Node<'a, S> {
     /// has promised or that a Refused reported to it. The node promises the ballot, and asks all
     /// nodes for their promises from the known front on.
     pub fn campaign(&mut self, outbox: &mut Outbox) -> Result<(), NodeFault>
-        ensures does { Does self.old.protocol self.new.protocol outbox.old.packets
-            outbox.new.packets (on_campaign self.old.protocol.known) result }
-        ensures saves { Saves S.honest S.fails_at_will S.state self.old.protocol self.new.protocol
-            (on_campaign self.old.protocol.known) result }
-        ensures progress { self.new.progress ≡ self.old.progress }
-        ensures let_in { IsLetIn self.old.protocol outbox.old.packets result }
-        ensures rounds { IsErrOf result NodeFault.RoundsSpent
-            ↔ (IsLet self.old.protocol outbox.old.packets
-            × (last_round self.old.protocol.known ≡ LAST_ROUND)) }
-        ensures places { IsErrOf result NodeFault.PlacesSpent
-            ↔ (IsLet self.old.protocol outbox.old.packets
-            × (last_round self.old.protocol.known < LAST_ROUND)
-            × (front self.old.protocol.known ≡ PLACES)) }
-        ensures spare { OnOk result
-            (last_round self.old.protocol.known < LAST_ROUND) }
-        ensures spare_saved { IsErrOf result NodeFault.Store
-            → last_round self.old.protocol.known < LAST_ROUND }
-        ensures others { IfErr result
-            (λ e. (e ≡ NodeFault.Stopped) ⊎ (e ≡ NodeFault.OutboxFull) ⊎ (e ≡ NodeFault.RoundsSpent)
-            ⊎ (e ≡ NodeFault.PlacesSpent) ⊎ (e ≡ NodeFault.Memory) ⊎ (e ≡ NodeFault.Store)) }
+        ensures responds { Responds S.kind on_campaign self outbox result }
+        ensures refuses { RefusesCampaign self outbox result }
+        ensures others { FailsOnlyWith (NodeFault.Stopped ∷ NodeFault.OutboxFull
+            ∷ NodeFault.RoundsSpent ∷ NodeFault.PlacesSpent ∷ NodeFault.Memory
+            ∷ NodeFault.Store ∷ []) result }
     {
         self.protocol.let_in(outbox)?;
         self.protocol.on_campaign(outbox)
@@ -306,15 +238,12 @@ impl<'a, S: Store> Node<'a, S> {
     /// In this order the node asks acceptors for more promises, sends its open Accepts again,
     /// proposes, submits the first keys that wait, and asks for what was learned.
     pub fn tick(&mut self, outbox: &mut Outbox) -> Result<(), NodeFault>
-        ensures does { Does self.old.protocol self.new.protocol outbox.old.packets
-            outbox.new.packets (on_tick self.old.protocol.known) result }
+        ensures sends { Sends on_tick self outbox result }
         ensures needs { IsErrOf result NodeFault.Memory
             → (outbox.old.ready < TICK_PACKETS) ⊎ IsSome self.old.protocol.known.proposer }
         ensures store { self.new.protocol.store ≡ self.old.protocol.store }
-        ensures progress { self.new.progress ≡ self.old.progress }
-        ensures let_in { IsLetIn self.old.protocol outbox.old.packets result }
-        ensures others { IfErr result
-            (λ e. (e ≡ NodeFault.Stopped) ⊎ (e ≡ NodeFault.OutboxFull) ⊎ (e ≡ NodeFault.Memory)) }
+        ensures others { FailsOnlyWith (NodeFault.Stopped ∷ NodeFault.OutboxFull
+            ∷ NodeFault.Memory ∷ []) result }
     {
         self.protocol.let_in(outbox)?;
         self.protocol.on_tick(outbox)
@@ -334,7 +263,7 @@ impl<'a, S: Store> Node<'a, S> {
         ensures protocol { self.new.protocol ≡ self.old.protocol }
         ensures err { OnErr result (self.new ≡ self.old) }
         ensures stopped { RefusesIfStopped self.old.protocol result }
-        ensures others { IfErr result (λ e. e ≡ NodeFault.Stopped) }
+        ensures others { FailsOnlyWith (NodeFault.Stopped ∷ []) result }
     {
         if self.protocol.is_stopped() {
             return Err(NodeFault::Stopped);
@@ -394,8 +323,8 @@ impl<'a, S: Store> Node<'a, S> {
     pub fn record(&self) -> &Record
         ensures same { result.now ≡ self.now.protocol.known.kept }
         ensures ranges { IsInRange self.now.protocol.known }
-        ensures stored { S.honest → self.now.protocol.is_stopped ≡ false
-            → (S.state self.now.protocol.store).stored ≡ self.now.protocol.known.kept }
+        ensures stored { S.kind.honest → self.now.protocol.is_stopped ≡ false
+            → (S.kind.state self.now.protocol.store).stored ≡ self.now.protocol.known.kept }
     {
         self.protocol.record()
     }
@@ -452,11 +381,12 @@ impl<'a, S: Store> Node<'a, S> {
     /// will then has this plan. The record of an honest store, the count of faults and the node
     /// stay.
     pub fn fail_next(&mut self, plan: Option<bool>)
-        ensures same { S.honest
-            → (S.state self.new.protocol.store).stored ≡ (S.state self.old.protocol.store).stored }
-        ensures plan { S.fails_at_will → (S.state self.new.protocol.store).plan ≡ plan }
-        ensures faults { (S.state self.new.protocol.store).faults
-            ≡ (S.state self.old.protocol.store).faults }
+        ensures same { S.kind.honest
+            → (S.kind.state self.new.protocol.store).stored
+            ≡ (S.kind.state self.old.protocol.store).stored }
+        ensures plan { S.kind.fails_at_will → (S.kind.state self.new.protocol.store).plan ≡ plan }
+        ensures faults { (S.kind.state self.new.protocol.store).faults
+            ≡ (S.kind.state self.old.protocol.store).faults }
         ensures rest { (self.new.protocol.known ≡ self.old.protocol.known)
             × (self.new.protocol.is_stopped ≡ self.old.protocol.is_stopped)
             × (self.new.progress ≡ self.old.progress) }

@@ -1,18 +1,19 @@
 //! What a node does at a campaign, a Promise, a Refused and a Submit, with its proposer.
-ghost use Rattle.std.specs.Prelude.{◌≡◌, ℕ, ◌+◌, ◌<◌, ◌≤◌, ◌++◌, [], Err, OnErr, Some, length, option_map, ◌⊎◌, IfErr, IsErrOf, IfSome, OnOk, false};
+ghost use Rattle.std.specs.Prelude.{◌≡◌, ℕ, ◌+◌, ◌<◌, ◌≤◌, ◌++◌, [], ◌∷◌, Err, OnErr, Some, length, option_map, IfSome, OnOk, false};
 ghost use Rattle.paxos_msg.specs.declared.message.Body.TheVariants.{Submit};
 ghost use Rattle.paxos_msg.specs.declared.limits.TheConstants.{MOST_CHARACTERS, PLACES};
 ghost use Rattle.paxos_proposer.specs.declared.proposer.TheConstants.{MOST_PUMPED};
 ghost use Rattle.group_node.specs.Protocol.{NeedsMemory, row};
 ghost use Rattle.paxos_msg.specs.declared.value.Value.{Value};
 ghost use Rattle.paxos_msg.specs.Fits.{IsBallot, IsPlace, IsValue, Fits};
-ghost use Rattle.group_node.specs.Calls.{Does, IsCampaignRefused, Knows, MayFailToSave, MayLackMemory, Saves};
+ghost use Rattle.group_node.specs.Calls.{Does, IsCampaignRefused, Knows, MayFailToSave, MayLackMemory, DoesAndSaves};
 ghost use Rattle.group_node.specs.ProposerRows.{on_refused, greater_ballot, unless_refused, are_known, on_submit, is_known, is_known_key, offer_after, offered_with, prepare_from, on_campaign, beginning};
 ghost use Rattle.group_node.specs.Packets.{datagrams_of, GrowsBy, HasRoom};
 ghost use Rattle.paxos_proposer.specs.Proposer.{IsPromisePart, asks_after, heard_promise};
 ghost use Rattle.paxos_msg.specs.declared.record.Change.TheVariants.{Promise};
 ghost use Rattle.paxos_msg.specs.Ballots.{IsBelow};
 ghost use Rattle.paxos_msg.specs.Keys.{keys_from};
+ghost use Rattle.paxos_acceptor.specs.Calls.{FailsOnlyWith};
 ghost use Rattle.paxos_acceptor.specs.Follows.{Follows};
 ghost use Rattle.paxos_learner.specs.Entered.{key_of};
 ghost use Rattle.group_node.specs.Known.{front};
@@ -146,10 +147,9 @@ fn promise<S: Store>(
 ) -> Result<(), AcceptorFault>
     requires ballot { IsBallot acceptor.old.me.group.size ballot }
     requires above { IfSome acceptor.old.kept.promised (λ b. IsBelow b ballot) }
-    ensures follows { Follows S.honest S.fails_at_will S.state acceptor.old acceptor.new
-        (Some (Promise ballot)) result }
-    ensures others { ¬ IsErrOf result AcceptorFault.BadRecord
-        × ¬ IsErrOf result AcceptorFault.StartsSpent }
+    ensures follows { Follows S.kind (Some (Promise ballot)) acceptor.old acceptor.new result }
+    ensures others { FailsOnlyWith (AcceptorFault.Closed ∷ AcceptorFault.Memory
+        ∷ AcceptorFault.Store ∷ []) result }
 {
     greater_ballots_are_promised();
     if let Err(fault) = acceptor.prepare(ballot, from) {
@@ -186,14 +186,10 @@ impl<S: Store> Protocol<S> {
     pub(crate) fn on_campaign(&mut self, outbox: &mut Outbox) -> Result<(), NodeFault>
         requires open { self.old.is_stopped ≡ false }
         requires empty { outbox.old.packets ≡ [] }
-        ensures does { Does self.old self.new outbox.old.packets outbox.new.packets
-            (on_campaign self.old.known) result }
-        ensures saves { Saves S.honest S.fails_at_will S.state self.old self.new
-            (on_campaign self.old.known) result }
+        ensures responds { DoesAndSaves S.kind (on_campaign self.old.known) self outbox result }
         ensures spent { IsCampaignRefused self.old.known result }
-        ensures others { IfErr result
-            (λ e. (e ≡ NodeFault.Memory) ⊎ (e ≡ NodeFault.Store) ⊎ (e ≡ NodeFault.RoundsSpent)
-            ⊎ (e ≡ NodeFault.PlacesSpent)) }
+        ensures others { FailsOnlyWith (NodeFault.RoundsSpent ∷ NodeFault.PlacesSpent
+            ∷ NodeFault.Memory ∷ NodeFault.Store ∷ []) result }
     {
         let promised = self.acceptor.record().promised;
         let Ok(ballot) = next_ballot(promised, self.remembered, self.me.node) else {
@@ -215,10 +211,8 @@ impl<S: Store> Protocol<S> {
         requires open { self.old.is_stopped ≡ false }
         requires empty { outbox.old.packets ≡ [] }
         requires ready { 0 < outbox.old.ready }
-        ensures does { Does self.old self.new outbox.old.packets outbox.new.packets
-            (beginning self.old.known ballot) result }
-        ensures saves { Saves S.honest S.fails_at_will S.state self.old self.new
-            (beginning self.old.known ballot) result }
+        ensures responds { DoesAndSaves S.kind (beginning self.old.known ballot) self outbox
+            result }
         ensures others { MayFailToSave result }
     {
         accepts_fit();

@@ -1,11 +1,12 @@
 //! A node's part in the protocol: its parts, a start, a typed key, and the calls with an outbox.
-ghost use Rattle.std.specs.Prelude.{◌≡◌, ◌⊎◌, ◌<◌, ◌≤◌, [], false, true, length, IfErr, IsErrOf};
+ghost use Rattle.std.specs.Prelude.{◌≡◌, ◌<◌, ◌≤◌, [], ◌∷◌, false, true, length, IsErrOf};
 ghost use Rattle.paxos_msg.specs.declared.limits.TheConstants.{LAST_SERIAL};
 ghost use Rattle.group_node.specs.declared.limits.TheConstants.{MOST_WAITING};
+ghost use Rattle.paxos_acceptor.specs.Calls.{FailsOnlyWith};
 ghost use Rattle.group_node.specs.Ranges.{IsInRange};
 ghost use Rattle.group_node.specs.Known.{on_typed, new_key, next_serial, front};
 ghost use Rattle.paxos_msg.specs.Fits.{Fits};
-ghost use Rattle.group_node.specs.Calls.{Does, IsLetIn, Knows, MayFailToSave, Saves};
+ghost use Rattle.group_node.specs.Calls.{IsLetIn, Knows, MayFailToSave, DoesAndSaves};
 ghost use Rattle.group_node.specs.Protocol.{NeedsMemory, row};
 ghost use Rattle.group_node.specs.WaitingKeys.{without_read};
 
@@ -49,7 +50,7 @@ impl<S: Store> Model for Protocol<S> {
     ghost view = { λ p. protocol_of p.me p.acceptor p.learner p.proposer p.remembered
         p.offered p.waiting };
 
-    ghost invariant = { λ p. (p.acceptor.me ≡ p.me) × IsInStep S.honest S.state
+    ghost invariant = { λ p. (p.acceptor.me ≡ p.me) × IsInStep S.kind
         (protocol_of p.me p.acceptor p.learner p.proposer p.remembered
         p.offered p.waiting) };
 }
@@ -91,8 +92,8 @@ impl<S: Store> Protocol<S> {
     pub(crate) fn record(&self) -> &Record
         ensures same { result.now ≡ self.now.known.kept }
         ensures ranges { IsInRange self.now.known }
-        ensures stored { S.honest → self.now.is_stopped ≡ false
-            → (S.state self.now.store).stored ≡ self.now.known.kept }
+        ensures stored { S.kind.honest → self.now.is_stopped ≡ false
+            → (S.kind.state self.now.store).stored ≡ self.now.known.kept }
     {
         self.acceptor.record()
     }
@@ -120,7 +121,7 @@ impl<S: Store> Protocol<S> {
     /// failed, and with `OutboxFull` if the outbox has too little room.
     pub(crate) fn let_in(&self, outbox: &Outbox) -> Result<(), NodeFault>
         ensures let_in { IsLetIn self.now outbox.now.packets result }
-        ensures others { IfErr result (λ e. (e ≡ NodeFault.Stopped) ⊎ (e ≡ NodeFault.OutboxFull)) }
+        ensures others { FailsOnlyWith (NodeFault.Stopped ∷ NodeFault.OutboxFull ∷ []) result }
     {
         if self.is_stopped() {
             return Err(NodeFault::Stopped);
@@ -136,10 +137,8 @@ impl<S: Store> Protocol<S> {
         requires fits { Fits self.old.known.me.group view.now }
         requires open { self.old.is_stopped ≡ false }
         requires empty { outbox.old.packets ≡ [] }
-        ensures does { Does self.old self.new outbox.old.packets outbox.new.packets
-            (row self.old.known view.now.sender view.now.body) result }
-        ensures saves { Saves S.honest S.fails_at_will S.state self.old self.new
-            (row self.old.known view.now.sender view.now.body) result }
+        ensures responds { DoesAndSaves S.kind (row self.old.known view.now.sender view.now.body)
+            self outbox result }
         ensures needs { IsErrOf result NodeFault.Memory
             → NeedsMemory self.old.known view.now.sender view.now.body }
         ensures others { MayFailToSave result }

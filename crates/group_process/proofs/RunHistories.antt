@@ -10,7 +10,7 @@ use Rattle.group_node.specs.Output.{Progress, no_progress}
 use Rattle.group_node.specs.Protocol.{on_message}
 use Rattle.group_node.specs.ProposerRows.{last_round, on_campaign}
 use Rattle.group_node.specs.Tick.{on_tick}
-use Rattle.group_wire.specs.Doings.{DoesAll, Doing, FailsDeed, Responds, Working}
+use Rattle.group_wire.specs.Doings.{DoesAll, Doing, FailsDeed, RespondsOnWire, Working}
 use Rattle.group_wire.specs.Doings as wire
 use Rattle.group_world.specs.declared.event.Outcome.TheVariants.{Kept}
 use Rattle.group_world.specs.Event.{plan_of}
@@ -63,7 +63,7 @@ start_makes me r spare = grind (arith, nat_tests)
 module _ (p : Parts) (me : Me) where
   -- a response
   responds : {w v : Working} {m : Member} (d : Doing) (call : NodeCall) (made : Response) (keys : List Value) → IsAt w m
-      → call ≡ Makes made keys → Responds me w made keys d v
+      → call ≡ Makes made keys → RespondsOnWire me w made keys d v
       → (new : Member) × EndsCall me m w.progress call (entry_by me.node Kept d) new × IsAt v new
   responds {w} {v} {m} d call made keys at is (left, sends, types) = (
     member_after_call made m.console w.progress,

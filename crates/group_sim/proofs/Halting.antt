@@ -16,8 +16,8 @@ use Rattle.group_world.specs.declared.fault.WorldFault.TheVariants.{Memory}
 use Rattle.group_world.specs.Event.{Performs}
 use Rattle.group_world.specs.Group.{message_of, World}
 use Rattle.group_world.specs.Refusals.{refusal}
-use Rattle.group_sim.specs.declared.simulation.Halt.{Halt}
-use Rattle.group_sim.specs.declared.simulation.Halt.TheVariants as halt
+use Rattle.group_sim.specs.declared.simulation.ScriptHalt.{ScriptHalt}
+use Rattle.group_sim.specs.declared.simulation.ScriptHalt.TheVariants as halt
 use Rattle.group_sim.specs.Moments.{DeliversOne, HappensAt, Moment, Shows}
 
 -- no more items than there were
@@ -46,5 +46,5 @@ pub too_long : (number k i : ℕ) (to : To) (a b c : Moment) → DeliversOne num
     → ¬ DeliversOne number k to i a (Err halt.TooLong) c
 too_long number k i to a b c h q = grind (arith, common_steps)
 
-pub shown : (size : ℕ) (a b : Moment) (h : Halt) → Shows size a (Err h) b → h ≡ halt.Unwritten
+pub shown : (size : ℕ) (a b : Moment) (h : ScriptHalt) → Shows size a (Err h) b → h ≡ halt.Unwritten
 shown size a b h q = grind (arith, common_steps)

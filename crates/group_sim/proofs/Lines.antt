@@ -4,14 +4,14 @@ use Rattle.std.proofs.lemmas.Option.{slice_get-get_or}
 use Rattle.machine_run.specs.declared.run.RunIo.{RunIo}
 use Rattle.group_world.specs.declared.script.Line.{Line}
 use Rattle.group_world.specs.Group.{World}
-use Rattle.group_sim.specs.declared.simulation.Halt.{Halt}
-use Rattle.group_sim.specs.declared.simulation.Halt.TheVariants as halt
+use Rattle.group_sim.specs.declared.simulation.ScriptHalt.{ScriptHalt}
+use Rattle.group_sim.specs.declared.simulation.ScriptHalt.TheVariants as halt
 use Rattle.group_sim.specs.declared.simulation.Stopped.{Stopped}
 use Rattle.group_sim.specs.Moments.{AreDone, IsScriptDone, IsHalted, IsNoGroup, LineIsDone, Moment, Says, halt_answer, first_moment, halt_of}
 use Rattle.group_sim.proofs.Turns.{halts_at, one_more}
 
 -- the outcome of a script that halts at a line, by its answer
-answers : {w : World} {lines : List Line} {old new : Option (List ℕ)} (h : Halt) (number : ℕ) (r : Result (Option Stopped) RunIo)
+answers : {w : World} {lines : List Line} {old new : Option (List ℕ)} (h : ScriptHalt) (number : ℕ) (r : Result (Option Stopped) RunIo)
     → r ≡ halt_answer number h → IsHalted w lines number h old new
     → IfOk r (λ answer. IfSome answer
     (λ stopped. (IsNoGroup w.group.size stopped.line stopped.fault × (new ≡ old))
@@ -22,7 +22,7 @@ answers halt.TooLong number r e p = rw e (inr p, tt)
 answers halt.Unwritten number r e p = rw e (tt, (number, p))
 
 -- the line after `n` others, whose last one has this number
-line_there : (size : ℕ) {n number : ℕ} (lines : List Line) (default : Line) {mid b : Moment} {r : Result (Unit {0}) Halt}
+line_there : (size : ℕ) {n number : ℕ} (lines : List Line) (default : Line) {mid b : Moment} {r : Result (Unit {0}) ScriptHalt}
     → number ≡ n + 1 → n < length lines
     → Says size (number + 1) (get_or lines n default) mid r b → LineIsDone size lines (2 + n) mid r b
 line_there size {n} {number} lines default {mid} {b} {r} e less q =
@@ -45,7 +45,7 @@ all_done w lines n b old e p = record { end = b; done = rw e at p; written = ref
 
 -- the script halts at a line: its outcome where the world refused an event or the settle is too
 -- long, and where a write failed
-pub line_halts : (w : World) (lines : List Line) (n number : ℕ) (default : Line) (mid b : Moment) (h : Halt)
+pub line_halts : (w : World) (lines : List Line) (n number : ℕ) (default : Line) (mid b : Moment) (h : ScriptHalt)
     (old : Option (List ℕ)) (r : Result (Option Stopped) RunIo) → number ≡ n + 1 → n < length lines
     → AreDone (LineIsDone w.group.size lines) 2 n (first_moment w old) mid
     → Says w.group.size (number + 1) (get_or lines n default) mid (Err h) b → r ≡ halt_answer (number + 1) h

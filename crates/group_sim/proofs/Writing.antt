@@ -7,7 +7,8 @@ use Rattle.std.specs.Io.KnownBytes.{Appends, Keeps}
 use Rattle.std.proofs.KnownBytes.{Appends-trans, Appends-kept}
 use Rattle.std.proofs.lemmas.Grind.{common_steps, flat_map-append}
 use Rattle.std.proofs.lemmas.List.{take-append-drop, take_all, take_more}
-use Rattle.group_sim.specs.Groups.{console_text, hex_text, lines_below}
+use Rattle.digits.specs.Digits.{hex_text}
+use Rattle.group_sim.specs.Groups.{console_text, lines_below}
 use Rattle.group_sim.specs.Texts.{AppendsFront, WritesText}
 
 -- of a text all but this rest was appended

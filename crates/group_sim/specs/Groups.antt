@@ -1,10 +1,10 @@
 -- The text of a group, as `show` writes it.
-use Rattle.std.specs.Prelude.{ℕ, zero, suc, ◌+◌, ◌/◌, ◌%◌, true, codes, decimal}
-use Rattle.std.specs.Prelude.{List, [], ◌∷◌, ◌++◌, flat_map, length}
+use Rattle.std.specs.Prelude.{ℕ, zero, suc, ◌+◌, codes, decimal}
+use Rattle.std.specs.Prelude.{List, [], ◌∷◌, ◌++◌, length}
 use Rattle.std.specs.Prelude.{Option, Some, None, option_map, option_and_then, unwrap_or}
-use Rattle.std.specs.Fmt.{digit_glyph}
 use Rattle.std.specs.FinMap.{get}
 use Rattle.std.specs.Option.{option_or}
+use Rattle.digits.specs.Digits.{hex_text}
 use Rattle.paxos_msg.specs.declared.ballot.Ballot.{Ballot}
 use Rattle.paxos_msg.specs.declared.limits.TheConstants.{PLACES}
 use Rattle.paxos_msg.specs.declared.value.Value.{Value}
@@ -19,15 +19,6 @@ use Rattle.group_sim.specs.Texts.{node_at}
 -- A text, and then a number in decimal digits.
 abbrev pub numbered : List ℕ → ℕ → List ℕ
 numbered text n = text ++ decimal n
-
--- The two hexadecimal digits of a byte, in capitals.
--- Forbids: digits in small letters.
-abbrev pub hex_digits : ℕ → List ℕ
-hex_digits b = digit_glyph true (b / 16) ∷ digit_glyph true (b % 16) ∷ []
-
--- Bytes in two hexadecimal digits each.
-abbrev pub hex_text : List ℕ → List ℕ
-hex_text bytes = flat_map hex_digits bytes
 
 -- A ballot as `ROUND.NODE`.
 abbrev pub ballot_text : Ballot → List ℕ

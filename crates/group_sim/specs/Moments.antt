@@ -20,8 +20,8 @@ use Rattle.group_world.specs.Member.{Running}
 use Rattle.group_world.specs.Refusals.{IsRefused}
 use Rattle.machine_run.specs.declared.run.RunIo.{RunIo}
 use Rattle.machine_run.specs.declared.run.RunIo.TheVariants.{Write}
-use Rattle.group_sim.specs.declared.simulation.Halt.{Halt}
-use Rattle.group_sim.specs.declared.simulation.Halt.TheVariants as halt
+use Rattle.group_sim.specs.declared.simulation.ScriptHalt.{ScriptHalt}
+use Rattle.group_sim.specs.declared.simulation.ScriptHalt.TheVariants as halt
 use Rattle.group_sim.specs.declared.simulation.Simulation.{Simulation}
 use Rattle.group_sim.specs.declared.simulation.Stopped.{Stopped}
 use Rattle.group_sim.specs.Texts.{AppendsFront, node_at, event_text}
@@ -42,7 +42,7 @@ moment s written = record { world = s.world; passed = s.passed; left = s.left; w
 
 -- A relation of a moment, an answer (done, or the script halts) and the moment after it.
 abbrev pub Task : Type 1
-Task = Moment → Result (Unit {0}) Halt → Moment → Type 0
+Task = Moment → Result (Unit {0}) ScriptHalt → Moment → Type 0
 
 -- ---- one after the other
 
@@ -53,7 +53,7 @@ AreDone task first (suc n) a b =
     (mid : Moment) × AreDone task first n a mid × task (first + n) mid (Ok tt) b
 
 -- The task `number` is the first that halts, and halts with `h`.
-pub record HaltsAt (task : ℕ → Task) (first number : ℕ) (a : Moment) (h : Halt)
+pub record HaltsAt (task : ℕ → Task) (first number : ℕ) (a : Moment) (h : ScriptHalt)
     (b : Moment) : Type 0 where
   pub before : Moment
   pub done : AreDone task first (number - first) a before
@@ -209,7 +209,7 @@ pub record IsScriptDone (w : World) (lines : List Line) (old new : Option (List 
 
 -- A script that was done up to line `number`, which halts with `h`, and what the writer then holds.
 -- Allows: a settle that halts in the middle.
-pub record IsHalted (w : World) (lines : List Line) (number : ℕ) (h : Halt)
+pub record IsHalted (w : World) (lines : List Line) (number : ℕ) (h : ScriptHalt)
     (old new : Option (List ℕ)) : Type 0 where
   pub end : Moment
   pub halted : HaltsAt (LineIsDone w.group.size lines) 2 number (first_moment w old) h end
@@ -217,12 +217,12 @@ pub record IsHalted (w : World) (lines : List Line) (number : ℕ) (h : Halt)
   pub written : end.written ≡ new
 
 -- The cause of a halt as the answer has it: the world's refusal, or a settle that is too long.
-abbrev pub halt_of : Option WorldFault → Halt
+abbrev pub halt_of : Option WorldFault → ScriptHalt
 halt_of (Some f) = halt.Refused f
 halt_of None = halt.TooLong
 
 -- The answer of a script that halts at a line.
-abbrev pub halt_answer : ℕ → Halt → Result (Option Stopped) RunIo
+abbrev pub halt_answer : ℕ → ScriptHalt → Result (Option Stopped) RunIo
 halt_answer number (halt.Refused f) = Ok (Some (record { line = number; fault = Some f }))
 halt_answer number halt.TooLong = Ok (Some (record { line = number; fault = None }))
 halt_answer number halt.Unwritten = Err Write

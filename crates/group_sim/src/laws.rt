@@ -4,8 +4,8 @@ ghost use Rattle.group_node.specs.declared.packet.To.{To};
 ghost use Rattle.group_world.specs.declared.event.Event.{Event};
 ghost use Rattle.group_world.specs.declared.fault.WorldFault.{WorldFault};
 ghost use Rattle.group_world.specs.declared.fault.WorldFault.TheVariants.{Memory};
-ghost use Rattle.group_sim.specs.declared.simulation.Halt.{Halt};
-ghost use Rattle.group_sim.specs.declared.simulation.Halt.TheVariants as halt;
+ghost use Rattle.group_sim.specs.declared.simulation.ScriptHalt.{ScriptHalt};
+ghost use Rattle.group_sim.specs.declared.simulation.ScriptHalt.TheVariants as halt;
 ghost use Rattle.group_sim.specs.Moments.{DeliversOne, HappensAt, Moment, Shows};
 
 /// An event that can happen is refused only as `Memory`, a delivery that can be made is not one too
@@ -18,6 +18,6 @@ pub fn halts_have_a_cause()
         → f ≡ Memory }
     ensures too_long { (number k i : ℕ) (to : To) (a b c : Moment) →
         DeliversOne number k to i a (Ok tt) b → ¬ DeliversOne number k to i a (Err halt.TooLong) c }
-    ensures shown { (size : ℕ) (a b : Moment) (h : Halt) → Shows size a (Err h) b →
+    ensures shown { (size : ℕ) (a b : Moment) (h : ScriptHalt) → Shows size a (Err h) b →
         h ≡ halt.Unwritten }
 {}

@@ -33,7 +33,7 @@ pub struct Stopped {
 
 /// Why a script doesn't go on after a line.
 #[derive(Clone, Copy, Debug, PartialEq, Eq)]
-enum Halt {
+enum ScriptHalt {
     /// The world refused an event.
     Refused(WorldFault),
     /// The settle is too long.
@@ -94,17 +94,22 @@ struct Simulation<'a> {
 
 impl Simulation<'_> {
     /// Applies an event of the line. Writes a refusal of its node, after which the script goes on.
-    fn happen<W: Write>(&mut self, writer: &mut W, line: usize, event: &Event) -> Result<(), Halt>
+    fn happen<W: Write>(
+        &mut self,
+        writer: &mut W,
+        line: usize,
+        event: &Event,
+    ) -> Result<(), ScriptHalt>
         ensures size { self.new.size ≡ self.old.size }
         ensures happens { HappensAt line event.now (moment self.old (W.contents writer.old)) result
             (moment self.new (W.contents writer.new)) }
     {
-        let done = self.world.apply(event).map_err(Halt::Refused)?;
-        tell(writer, line, done).or(Err(Halt::Unwritten))
+        let done = self.world.apply(event).map_err(ScriptHalt::Refused)?;
+        tell(writer, line, done).or(Err(ScriptHalt::Unwritten))
     }
 
     /// Performs an act of a settle, whose save does not fail.
-    fn go_on<W: Write>(&mut self, writer: &mut W, line: usize, act: Act) -> Result<(), Halt>
+    fn go_on<W: Write>(&mut self, writer: &mut W, line: usize, act: Act) -> Result<(), ScriptHalt>
         ensures size { self.new.size ≡ self.old.size }
         ensures happens { HappensAt line (kept_event act)
             (moment self.old (W.contents writer.old)) result
@@ -129,7 +134,7 @@ impl Simulation<'_> {
         message: usize,
         to: To,
         node: u8,
-    ) -> Result<(), Halt>
+    ) -> Result<(), ScriptHalt>
         ensures size { self.new.size ≡ self.old.size }
         ensures delivers { DeliversOne line message to node
             (moment self.old (W.contents writer.old)) result
@@ -139,7 +144,7 @@ impl Simulation<'_> {
             return Ok(());
         }
         if self.left == 0 {
-            return Err(Halt::TooLong);
+            return Err(ScriptHalt::TooLong);
         }
         self.left -= 1;
         self.go_on(writer, line, Act::Deliver(message, node))
@@ -152,7 +157,7 @@ impl Simulation<'_> {
         line: usize,
         message: usize,
         to: To,
-    ) -> Result<(), Halt>
+    ) -> Result<(), ScriptHalt>
         ensures size { self.new.size ≡ self.old.size }
         ensures passes { InTurn (DeliversOne line message to) 1 self.old.size
             (moment self.old (W.contents writer.old)) result
@@ -167,7 +172,7 @@ impl Simulation<'_> {
 
     /// Delivers the messages that no settle has passed, and those that they cause, in the order in
     /// which they were sent.
-    fn deliver_all<W: Write>(&mut self, writer: &mut W, line: usize) -> Result<(), Halt>
+    fn deliver_all<W: Write>(&mut self, writer: &mut W, line: usize) -> Result<(), ScriptHalt>
         ensures size { self.new.size ≡ self.old.size }
         ensures delivers { DeliversAll line self.old.size
             (moment self.old (W.contents writer.old)) result
@@ -199,7 +204,12 @@ impl Simulation<'_> {
     }
 
     /// Releases all output that waits at a node.
-    fn release_all<W: Write>(&mut self, writer: &mut W, line: usize, node: u8) -> Result<(), Halt>
+    fn release_all<W: Write>(
+        &mut self,
+        writer: &mut W,
+        line: usize,
+        node: u8,
+    ) -> Result<(), ScriptHalt>
         ensures size { self.new.size ≡ self.old.size }
         ensures releases { ReleasesAll line node (moment self.old (W.contents writer.old)) result
             (moment self.new (W.contents writer.new)) }
@@ -212,7 +222,7 @@ impl Simulation<'_> {
     }
 
     /// Runs a node, if it is up, and releases all its output that waits.
-    fn play<W: Write>(&mut self, writer: &mut W, line: usize, node: u8) -> Result<(), Halt>
+    fn play<W: Write>(&mut self, writer: &mut W, line: usize, node: u8) -> Result<(), ScriptHalt>
         ensures size { self.new.size ≡ self.old.size }
         ensures plays { Plays line node (moment self.old (W.contents writer.old)) result
             (moment self.new (W.contents writer.new)) }
@@ -225,7 +235,7 @@ impl Simulation<'_> {
     }
 
     /// Runs each node that is up and releases all its output, in ascending order.
-    fn play_all<W: Write>(&mut self, writer: &mut W, line: usize) -> Result<(), Halt>
+    fn play_all<W: Write>(&mut self, writer: &mut W, line: usize) -> Result<(), ScriptHalt>
         ensures size { self.new.size ≡ self.old.size }
         ensures plays { InTurn (Plays line) 1 self.old.size
             (moment self.old (W.contents writer.old)) result
@@ -239,7 +249,7 @@ impl Simulation<'_> {
     }
 
     /// Delivers all messages, and then runs each node that is up and releases all its output.
-    fn settle<W: Write>(&mut self, writer: &mut W, line: usize) -> Result<(), Halt>
+    fn settle<W: Write>(&mut self, writer: &mut W, line: usize) -> Result<(), ScriptHalt>
         ensures size { self.new.size ≡ self.old.size }
         ensures settles { Settles line self.old.size
             (moment self.old (W.contents writer.old)) result
@@ -251,15 +261,20 @@ impl Simulation<'_> {
     }
 
     /// Writes the group.
-    fn show<W: Write>(&self, writer: &mut W) -> Result<(), Halt>
+    fn show<W: Write>(&self, writer: &mut W) -> Result<(), ScriptHalt>
         ensures { Shows self.now.size (moment self.now (W.contents writer.old)) result
             (moment self.now (W.contents writer.new)) }
     {
-        write_group(writer, &self.world, self.size).or(Err(Halt::Unwritten))
+        write_group(writer, &self.world, self.size).or(Err(ScriptHalt::Unwritten))
     }
 
     /// Performs a line.
-    fn perform<W: Write>(&mut self, writer: &mut W, number: usize, line: &Line) -> Result<(), Halt>
+    fn perform<W: Write>(
+        &mut self,
+        writer: &mut W,
+        number: usize,
+        line: &Line,
+    ) -> Result<(), ScriptHalt>
         ensures size { self.new.size ≡ self.old.size }
         ensures says { Says self.old.size number line.now
             (moment self.old (W.contents writer.old)) result
@@ -274,13 +289,13 @@ impl Simulation<'_> {
 }
 
 /// Returns the answer of a script that halts at a line.
-fn stopped_at(line: usize, halt: Halt) -> Result<Option<Stopped>, RunIo>
+fn stopped_at(line: usize, halt: ScriptHalt) -> Result<Option<Stopped>, RunIo>
     ensures { result ≡ halt_answer line halt }
 {
     let fault = match halt {
-        Halt::Refused(fault) => Some(fault),
-        Halt::TooLong => None,
-        Halt::Unwritten => return Err(RunIo::Write),
+        ScriptHalt::Refused(fault) => Some(fault),
+        ScriptHalt::TooLong => None,
+        ScriptHalt::Unwritten => return Err(RunIo::Write),
     };
     Ok(Some(Stopped { line, fault }))
 }
@@ -328,7 +343,7 @@ pub fn sim<W: Write>(
     ensures unwritten { OnErr result
         ((number : ℕ) × IsHalted
         (new_world program.now (record { size = script.now.size; session = script.now.session }))
-        script.now.lines.items number Halt.Unwritten (W.contents writer.old)
+        script.now.lines.items number ScriptHalt.Unwritten (W.contents writer.old)
         (W.contents writer.new)) }
     ensures size { result ≡ Ok (Some (record { line = 1; fault = Some WorldFault.Size }))
         ↔ ¬ IsSize script.now.size }
@@ -341,7 +356,7 @@ pub fn sim<W: Write>(
             passed: 0,
             left: 0,
         },
-        Err(fault) => return stopped_at(1, Halt::Refused(fault)),
+        Err(fault) => return stopped_at(1, ScriptHalt::Refused(fault)),
     };
     let mut number = 1;
     for line in script.lines.iter() {

@@ -1,9 +1,10 @@
 //! Texts that are written piece by piece, so that a failed write leaves a prefix of them.
-ghost use Rattle.std.specs.Prelude.{◌≡◌, ◌<◌, true, decimal};
-ghost use Rattle.std.specs.Fmt.{digit_glyph};
-ghost use Rattle.group_sim.specs.Groups.{hex_digits, hex_text, numbered};
+ghost use Rattle.std.specs.Prelude.{decimal};
+ghost use Rattle.digits.specs.Digits.{hex_digits, hex_text};
+ghost use Rattle.group_sim.specs.Groups.{numbered};
 ghost use Rattle.group_sim.specs.Texts.{WritesText};
 
+use digits::hex_digits;
 use machine_run::WriteFault;
 use std::io::{ErrorKind, Write};
 
@@ -48,23 +49,11 @@ pub fn put_number<W: Write>(writer: &mut W, text: &[u8], number: u64) -> Result<
     put_decimal(writer, number)
 }
 
-/// Returns the hexadecimal digit of a number, in capitals.
-fn hex_digit(value: u8) -> u8
-    requires { value < 16 }
-    ensures { result ≡ digit_glyph true value }
-{
-    if value < 10 {
-        b'0' + value
-    } else {
-        b'A' + (value - 10)
-    }
-}
-
 /// Writes a byte in two hexadecimal digits, in capitals.
 fn put_byte<W: Write>(writer: &mut W, byte: u8) -> Result<(), WriteFault>
     ensures { WritesText (W.contents writer.old) result (W.contents writer.new) (hex_digits byte) }
 {
-    put(writer, &[hex_digit(byte / 16), hex_digit(byte % 16)])
+    put(writer, &hex_digits(byte))
 }
 
 /// Writes bytes in two hexadecimal digits each, in capitals.

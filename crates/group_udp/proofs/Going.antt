@@ -222,7 +222,7 @@ pub ended_after : {S : Type 0} {old new : NodeState S} {from to : Around} {turns
     → HasEnded [] old new from to done e → HasGone {T = Unit {0}} [] old new from to turns (Err e)
 ended_after done few h = ([], inl refl, done, few, h)
 
--- a refusal of a round, after others
+-- a refusal of a cycle, after others
 pub played_ended : {S : Type 0} (laws : GoOn S) {old mid new : NodeState S} {from via to : Around} {made turns : ℕ} {e : GroupFault}
     → made < turns → HasGoneOn [] old mid from via made → HasGone {T = Unit {0}} [] mid new via to 1 (Err e)
     → HasGone {T = Unit {0}} [] old new from to turns (Err e)
@@ -279,7 +279,7 @@ module _ {S : Type 0} (laws : GoOn S) (old mid new : NodeState S) (t u : Option 
     due = h.due;
   }
 
-  -- the rounds after it, by their answer
+  -- the cycles after it, by their answer
   pub begun_by : {first : List Deed} (turns : ℕ) (result : Result (Unit {0}) GroupFault) → HasActed old mid t u first
       → HasGone [] mid new (around u keys) to turns result → HasGone first old new (around t keys) to turns result
   begun_by turns (Ok x) begun h = begun_on begun h

@@ -1,7 +1,7 @@
 -- What a keyboard gives, and what is typed of it.
 use Rattle.std.proofs.Common.{◌≡◌, ◌∙◌, inl, inr, ℕ, ◌+◌, ◌≤◌, false, List, [], ◌∷◌, ◌++◌, length, map, Option, Result, Ok, Err, refl, sym, ap, arith, append-nil}
 use Rattle.std.proofs.lemmas.List.{length-append}
-use Rattle.paxos_acceptor.specs.Stores.{StoreState}
+use Rattle.paxos_acceptor.specs.Stores.{StoreKind}
 use Rattle.group_node.specs.declared.fault.NodeFault.{NodeFault}
 use Rattle.group_node.specs.declared.fault.NodeFault.TheVariants.{SerialSpent}
 use Rattle.group_node.specs.Deeds.{Campaign, Press}
@@ -60,16 +60,16 @@ typed_some {after = after} to e h (typed, whole, acts) same works given =
 
 -- ---- what the node did with it
 
-pub pressed_on : {S : Type 0} (honest at_will : Type 0) (state : S → StoreState) {old new : NodeState S} {from to : Around}
+pub pressed_on : {S : Type 0} (kind : StoreKind S) {old new : NodeState S} {from to : Around}
     (pressed : Pressed)
-    → HasPressedKeyboard honest at_will state old new from to (Ok pressed) → HasGoneOn [] old new from to 0
-pressed_on honest at_will state Bytes (typed, given, acts) =
+    → HasPressedKeyboard kind old new from to (Ok pressed) → HasGoneOn [] old new from to 0
+pressed_on kind Bytes (typed, given, acts) =
     record { gift = map Press typed; prompts = map Press typed; given = given; acts = acts; prompted = prompted_typed typed }
-pressed_on honest at_will state Campaigned (given, asked) =
+pressed_on kind Campaigned (given, asked) =
     record { gift = Campaign ∷ []; prompts = Campaign ∷ []; given = given; acts = asked.1; prompted = prompted_campaign }
-pressed_on honest at_will state Ignored (given, asked) =
+pressed_on kind Ignored (given, asked) =
     record { gift = Campaign ∷ []; prompts = []; given = given; acts = asked.1; prompted = prompted_refused }
-pressed_on honest at_will state (CampaignRefused f) (given, refused) =
+pressed_on kind (CampaignRefused f) (given, refused) =
     record { gift = Campaign ∷ []; prompts = []; given = given; acts = refused.4; prompted = prompted_refused }
 
 -- typing that spent the serials
@@ -100,24 +100,24 @@ campaign_ended h given = record {
 }
 
 -- a campaign that was asked for, by its answer
-pub asked_pressed : (S honest at_will : Type 0) (state : S → StoreState) (old new : NodeState S) (from to : Option Traffic)
+pub asked_pressed : (S : Type 0) (kind : StoreKind S) (old new : NodeState S) (from to : Option Traffic)
     (keys left : Option Remaining) (result : Result Pressed GroupFault)
-    → HasCampaignedAsAsked honest at_will state old new from to result → keys ≡ with_gift (Campaign ∷ []) left
-    → HasPressedKeyboard honest at_will state old new (around from keys) (around to left) result
-asked_pressed S honest at_will state old new from to keys left (Ok Bytes) h given = absurd h
-asked_pressed S honest at_will state old new from to keys left (Ok Campaigned) h given = (given, h)
-asked_pressed S honest at_will state old new from to keys left (Ok Ignored) h given = (given, h)
-asked_pressed S honest at_will state old new from to keys left (Ok (CampaignRefused f)) h given = (given, h)
-asked_pressed S honest at_will state old new from to keys left (Err e) (missing, h) given = (inl h.store, campaign_ended h given)
+    → HasCampaignedAsAsked kind old new from to result → keys ≡ with_gift (Campaign ∷ []) left
+    → HasPressedKeyboard kind old new (around from keys) (around to left) result
+asked_pressed S kind old new from to keys left (Ok Bytes) h given = absurd h
+asked_pressed S kind old new from to keys left (Ok Campaigned) h given = (given, h)
+asked_pressed S kind old new from to keys left (Ok Ignored) h given = (given, h)
+asked_pressed S kind old new from to keys left (Ok (CampaignRefused f)) h given = (given, h)
+asked_pressed S kind old new from to keys left (Err e) (missing, h) given = (inl h.store, campaign_ended h given)
 
 -- typing, where no campaign was asked for
-pub bytes_pressed : {S : Type 0} (honest at_will : Type 0) (state : S → StoreState) {old new : NodeState S} (at : Option Traffic)
+pub bytes_pressed : {S : Type 0} (kind : StoreKind S) {old new : NodeState S} (at : Option Traffic)
     {keys : Option Remaining} (left via : Option Remaining) → HasTypedGiven old new via left (Ok tt) → keys ≡ with_gift [] via
-    → HasPressedKeyboard honest at_will state old new (around at keys) (around at left) (Ok Bytes)
-bytes_pressed honest at_will state at left via (typed, given, acts) none = (typed, gift_both [] (map Press typed) left none given, acts at)
+    → HasPressedKeyboard kind old new (around at keys) (around at left) (Ok Bytes)
+bytes_pressed kind at left via (typed, given, acts) none = (typed, gift_both [] (map Press typed) left none given, acts at)
 
-pub bytes_refused : {S : Type 0} (honest at_will : Type 0) (state : S → StoreState) {old new : NodeState S} (at : Option Traffic)
+pub bytes_refused : {S : Type 0} (kind : StoreKind S) {old new : NodeState S} (at : Option Traffic)
     {keys : Option Remaining} (left via : Option Remaining) {e : GroupFault} → HasTypedGiven old new via left (Err e)
-    → keys ≡ with_gift [] via → HasPressedKeyboard honest at_will state old new (around at keys) (around at left) (Err e)
-bytes_refused honest at_will state at left via (typed, lost, spent, given, due, acts) none =
+    → keys ≡ with_gift [] via → HasPressedKeyboard kind old new (around at keys) (around at left) (Err e)
+bytes_refused kind at left via (typed, lost, spent, given, due, acts) none =
     (inr spent, typing_ended at (typed, lost, spent, gift_both [] (map Press (typed ++ lost)) left none given, due, acts))

@@ -2,10 +2,8 @@
 use Rattle.std.proofs.Common.{◌≡◌, ◌⊎◌, inl, inr, ℕ, List, Option, Some, None, IfErr, IsErrOf, Result, Ok, Err, refl, sym, ap, subst, arith}
 use Rattle.std.specs.declared.net.socket_addr.SocketAddr.{SocketAddr}
 use Rattle.pcode_file.specs.Parts.{Parts}
-use Rattle.paxos_msg.specs.Batches.{Record}
 use Rattle.paxos_acceptor.specs.declared.me.Me.{Me}
-use Rattle.paxos_acceptor.specs.declared.store.StoreFault.{StoreFault}
-use Rattle.paxos_acceptor.specs.Stores.{StoreState}
+use Rattle.paxos_acceptor.specs.Stores.{StoreKind}
 use Rattle.group_node.specs.Output.{IsReplay}
 use Rattle.group_node.specs.States.{IsConfig, NodeState, input}
 use Rattle.group_wire.specs.Doings.{working}
@@ -22,18 +20,18 @@ use Rattle.group_udp.proofs.Going.{is_store}
 use Rattle.group_udp.proofs.Showing.{written_from}
 use Rattle.group_udp.proofs.Starting.{ran_on, ran_out}
 
-module _ {S honest : Type 0} {state : S → StoreState} (loads : S → Result Record StoreFault → S → Type 0) (me : Me) (program : Parts)
+module _ {S : Type 0} (kind : StoreKind S) (me : Me) (program : Parts)
     (store : S) (plan : NodePlan) (first last : NodeState S) (from to : Around) (before after : Option (List ℕ))
-    (starts : HasStarted honest state loads me program store (Ok first)) (replay : IsReplay (input last.protocol.known) last.progress) where
+    (starts : HasStarted kind me program store (Ok first)) (replay : IsReplay (input last.protocol.known) last.progress) where
   pub runs_by : (result : Result (Unit {0}) GroupFault) → HasGone (planned plan.campaigns) first last from to plan.turns result
       → AppendsOutput plan.seen first last (IsErrOf result write_failed) before after
       → IfErr result (λ e. IsWrittenRoundRefusal e ⊎ IsCampaignRefusal e)
-      → RunsNode loads me program store plan from to before after result
+      → RunsNode kind.loads me program store plan from to before after result
   runs_by (Ok x) h writes others = record {
     last = working last;
     first = planned plan.campaigns;
     prompts = h.prompts;
-    runs = ran_on loads me program store first last from.traffic to.traffic starts _ (λ is. absurd cc) h.acts;
+    runs = ran_on kind me program store first last from.traffic to.traffic starts _ (λ is. absurd cc) h.acts;
     begun = inl refl;
     gift = h.gift;
     given = h.given;
@@ -49,7 +47,7 @@ module _ {S honest : Type 0} {state : S → StoreState} (loads : S → Result Re
     all = refl;
     ends = tt;
     due = tt;
-    writes = written_from program plan.seen first last _ before after starts.progress replay writes;
+    writes = written_from program plan.seen first last _ before after starts.fresh.progress replay writes;
   }
   runs_by (Err e) (begun, is, done, few, h) writes others = record {
     last = working last;
@@ -57,9 +55,9 @@ module _ {S honest : Type 0} {state : S → StoreState} (loads : S → Result Re
     prompts = h.prompts;
     runs = elim (is_store e) [
       | inl store_failed ↦
-          ran_out loads me program store first last from.traffic to.traffic starts _ (ap Err store_failed) (h.fails store_failed)
+          ran_out kind me program store first last from.traffic to.traffic starts _ (ap Err store_failed) (h.fails store_failed)
       | inr other ↦
-          ran_on loads me program store first last from.traffic to.traffic starts _ (λ failed. other cc) (h.acts other)
+          ran_on kind me program store first last from.traffic to.traffic starts _ (λ failed. other cc) (h.acts other)
     ];
     begun = elim is [ inl same ↦ inl same | inr none ↦ inr (refl, none) ];
     gift = h.gift;
@@ -76,7 +74,7 @@ module _ {S honest : Type 0} {state : S → StoreState} (loads : S → Result Re
     all = tt;
     ends = others;
     due = h.due;
-    writes = written_from program plan.seen first last _ before after starts.progress replay writes;
+    writes = written_from program plan.seen first last _ before after starts.fresh.progress replay writes;
   }
 
 -- ---- over the files and sockets of the system

@@ -4,7 +4,7 @@ use Rattle.pcode_file.specs.Parts.{Parts}
 use Rattle.paxos_msg.specs.Batches.{Record}
 use Rattle.paxos_acceptor.specs.declared.me.Me.{Me}
 use Rattle.paxos_acceptor.specs.declared.store.StoreFault.{StoreFault}
-use Rattle.paxos_acceptor.specs.Stores.{StoreState}
+use Rattle.paxos_acceptor.specs.Stores.{StoreKind}
 use Rattle.group_node.specs.declared.fault.NodeFault.{NodeFault}
 use Rattle.group_node.specs.declared.fault.NodeFault.TheVariants.{Stopped, Store}
 use Rattle.group_node.specs.Starting.{StartsAfter}
@@ -26,21 +26,21 @@ record Starts {S : Type 0} (loads : S → Result Record StoreFault → S → Typ
   spare : kept.starts ≢ 4294967295
   begins : working first ≡ started program me kept
 
-starts_so : {S honest : Type 0} {state : S → StoreState} (loads : S → Result Record StoreFault → S → Type 0) (me : Me) (program : Parts)
-    (store : S) (first : NodeState S) → HasStarted honest state loads me program store (Ok first) → Starts loads me program store first
-starts_so {S} {honest} {state} loads me program store first h = elim h.loaded [
+starts_so : {S : Type 0} (kind : StoreKind S) (me : Me) (program : Parts) (store : S) (first : NodeState S)
+    → HasStarted kind me program store (Ok first) → Starts kind.loads me program store first
+starts_so {S} kind me program store first h = elim h.loaded [
   | inl lacks ↦ absurd cc
-  | inr found ↦ by found.0 found.1 found.2 found.3
+  | inr found ↦ by found.answer found.left found.loads found.starts
 ]
   where
-    by : (answer : Result Record StoreFault) (left : S) → loads store answer left → StartsAfter state me answer left (Ok first)
-        → Starts loads me program store first
+    by : (answer : Result Record StoreFault) (left : S) → kind.loads store answer left → StartsAfter kind me answer left (Ok first)
+        → Starts kind.loads me program store first
     by (Ok kept) left loaded after = record {
       kept = kept;
       left = left;
       loaded = loaded;
       spare = λ e. after.bad.1 (λ fits. after.spent.1 (fits, e));
-      begins = λ t. record { known = after.known t; progress = h.progress t };
+      begins = λ t. record { known = after.known t; progress = h.fresh.progress t };
     }
     by (Err f) left loaded after = absurd cc
 
@@ -50,14 +50,14 @@ me_of_start : {S : Type 0} {loads : S → Result Record StoreFault → S → Typ
 me_of_start s = ap (λ (w : Working). w.known.me) s.begins
 
 -- what a run did from its start on, where no save failed
-module _ {S honest : Type 0} {state : S → StoreState} (loads : S → Result Record StoreFault → S → Type 0) (me : Me) (program : Parts)
-    (store : S) (first new : NodeState S) (from to : Option Traffic) (h : HasStarted honest state loads me program store (Ok first))
+module _ {S : Type 0} (kind : StoreKind S) (me : Me) (program : Parts)
+    (store : S) (first new : NodeState S) (from to : Option Traffic) (h : HasStarted kind me program store (Ok first))
     (prompts : List Deed) where
-  s : Starts loads me program store first
-  s = starts_so loads me program store first h
+  s : Starts kind.loads me program store first
+  s = starts_so kind me program store first h
 
   pub ran_on : {fails : Type 0} → ¬ fails → HasActed first new from to prompts
-      → RunsAsProcess loads me program store (working new) from to prompts fails
+      → RunsAsProcess kind.loads me program store (working new) from to prompts fails
   ran_on none (doings, done, are) =
       let me_is = me_of_start s in record {
         process = record { loaded = s.kept; doings = doings; failed = None };
@@ -77,7 +77,7 @@ module _ {S honest : Type 0} {state : S → StoreState} (loads : S → Result Re
 
   -- where one did
   pub ran_out : {fails : Type 0} → fails → Fails first new from to prompts
-      → RunsAsProcess loads me program store (working new) from to prompts fails
+      → RunsAsProcess kind.loads me program store (working new) from to prompts fails
   ran_out f (doings, last, failed, are) =
       let me_is = me_of_start s in record {
         process = record { loaded = s.kept; doings = doings; failed = Some last };

@@ -1,4 +1,4 @@
--- What a round of a node writes, and several rounds.
+-- What a cycle of a node writes, and several cycles.
 use Rattle.std.proofs.Common.{◌≡◌, ◌↔◌, ◌∙◌, ℕ, ◌-◌, List, [], ◌∷◌, ◌++◌, drop, length, Option, refl, arith, append_assoc}
 use Rattle.std.proofs.Math.Seq.{drop-append-add}
 use Rattle.std.proofs.lemmas.Grind.{common_steps}
@@ -58,7 +58,7 @@ wrote_but_one old fails h same replay is = (
   h.appended,
 )
 
--- a round more, after rounds at which no write failed
+-- a cycle more, after cycles at which no write failed
 pub wrote_then : {S : Type 0} (seen : ℕ) (old mid new : NodeState S) (failed fails now : Type 0) (c d e : Option (List ℕ))
     → ¬ failed → now ↔ fails → AppendsOutput seen old mid failed c d → AppendsOutput seen mid new fails d e
     → AppendsOutput seen old new now c e

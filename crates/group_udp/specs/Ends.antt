@@ -3,11 +3,7 @@
 use Rattle.std.specs.Prelude.{◌≡◌, ◌≢◌, ◌⊎◌, ◌<◌, ℕ, List, [], Option, Some, None, Result, Err}
 use Rattle.std.specs.declared.net.socket_addr.SocketAddr.{SocketAddr}
 use Rattle.paxos_acceptor.specs.declared.me.Me.{Me}
-use Rattle.paxos_acceptor.specs.declared.store.StoreFault.{StoreFault}
-use Rattle.paxos_acceptor.specs.Files.{Filed, Finds}
-use Rattle.paxos_acceptor.specs.Stores.{StoreState}
-use Rattle.paxos_msg.specs.Batches.{Record}
-use Rattle.paxos_msg.specs.Records.{empty_record}
+use Rattle.paxos_acceptor.specs.Files.{file_kind}
 use Rattle.pcode_file.specs.Parts.{Parts}
 use Rattle.group_node.specs.declared.fault.NodeFault.TheVariants.{Id, Size}
 use Rattle.group_node.specs.States.{IsConfig, IsSize}
@@ -24,14 +20,6 @@ use Rattle.group_udp.specs.Prompts.{Remaining}
 use Rattle.group_udp.specs.Refusals.{IsOpenRefusal}
 use Rattle.group_udp.specs.Runs.{RunsOrRefuses}
 
--- What contracts see of a store in a file: how often it failed, and nothing of what it has.
-abbrev pub filed_state : Filed → StoreState
-filed_state s = record { stored = empty_record; plan = None; faults = s.faults }
-
--- What a load of a store in a file gives and leaves.
-abbrev pub filed_loads : Filed → Result Record StoreFault → Filed → Type 0
-filed_loads old answer new = Finds old new answer
-
 -- A refusal at which nothing was written.
 abbrev pub RefusesUnwritten : (GroupFault → Type 0) → Option (List ℕ) → Option (List ℕ)
     → Result (Unit {0}) GroupFault → Type 0
@@ -44,9 +32,8 @@ abbrev pub RunsOverFile : Me → Parts → NodePlan → Option Remaining → Opt
     → Option (List ℕ) → Option (List ℕ) → Result (Unit {0}) GroupFault → Type 0
 RunsOverFile me program plan from to before after result =
     RefusesUnwritten IsOpenRefusal before after result
-    ⊎ RunsOrRefuses ⊥ filed_state filed_loads me program
-    (record { me = me; found = None; faults = 0 }) plan (around None from) (around None to)
-    before after result
+    ⊎ RunsOrRefuses file_kind me program (record { me = me; found = None; faults = 0 }) plan
+    (around None from) (around None to) before after result
 
 -- What the keyboard of a plan has left at first: the text, or what datagrams will bring, which is
 -- unknown.

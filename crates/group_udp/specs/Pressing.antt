@@ -1,6 +1,6 @@
 -- What happens at a node's keyboard before a turn.
 use Rattle.std.specs.Prelude.{◌≡◌, ◌≢◌, ◌<◌, ℕ, true, All, List, [], ◌∷◌, ◌++◌, map, Option, Result, Ok, Err}
-use Rattle.paxos_acceptor.specs.Stores.{StoreState}
+use Rattle.paxos_acceptor.specs.Stores.{StoreKind}
 use Rattle.group_node.specs.declared.fault.NodeFault.TheVariants.{SerialSpent, Stopped, Store}
 use Rattle.group_node.specs.Deeds.{Campaign, Press}
 use Rattle.group_node.specs.Known.{Known, front}
@@ -38,36 +38,35 @@ HasTypedGiven old new from to (Err e) =
 -- Allows: a campaign that does not begin.
 -- Forbids: a node that ends since no ballot or no place is left; a leader with a gap that stays
 -- under its ballot.
-abbrev pub HasCampaignedAsAsked : {S : Type 0} → Type 0 → Type 0 → (S → StoreState) → NodeState S
-    → NodeState S → Option Traffic → Option Traffic → Result Pressed GroupFault → Type 0
-HasCampaignedAsAsked honest at_will state old new from to (Ok Bytes) = ⊥
-HasCampaignedAsAsked honest at_will state old new from to (Ok Ignored) =
+abbrev pub HasCampaignedAsAsked : {S : Type 0} → StoreKind S → NodeState S → NodeState S
+    → Option Traffic → Option Traffic → Result Pressed GroupFault → Type 0
+HasCampaignedAsAsked kind old new from to (Ok Bytes) = ⊥
+HasCampaignedAsAsked kind old new from to (Ok Ignored) =
     MissesNothing old.protocol.known × HasActed old new from to []
-HasCampaignedAsAsked honest at_will state old new from to (Ok Campaigned) =
+HasCampaignedAsAsked kind old new from to (Ok Campaigned) =
     (¬ MissesNothing old.protocol.known) × HasActed old new from to (Campaign ∷ [])
-HasCampaignedAsAsked honest at_will state old new from to (Ok (CampaignRefused f)) =
+HasCampaignedAsAsked kind old new from to (Ok (CampaignRefused f)) =
     (¬ MissesNothing old.protocol.known)
-    × HasCampaigned honest at_will state old new from to (Err f) × (f ≢ Stopped) × (f ≢ Store)
+    × HasCampaigned kind old new from to (Err f) × (f ≢ Stopped) × (f ≢ Store)
     × HasActed old new from to []
-HasCampaignedAsAsked honest at_will state old new from to (Err e) =
+HasCampaignedAsAsked kind old new from to (Err e) =
     (¬ MissesNothing old.protocol.known) × FailsAt old new from to (Campaign ∷ []) e
 
 -- What happens at a keyboard before a turn: typing of what it gave, or a campaign that it asked
 -- for, as the answer says.
-abbrev pub HasPressedKeyboard : {S : Type 0} → Type 0 → Type 0 → (S → StoreState) → NodeState S
-    → NodeState S → Around → Around → Result Pressed GroupFault → Type 0
-HasPressedKeyboard honest at_will state old new from to (Ok Bytes) =
+abbrev pub HasPressedKeyboard : {S : Type 0} → StoreKind S → NodeState S → NodeState S
+    → Around → Around → Result Pressed GroupFault → Type 0
+HasPressedKeyboard kind old new from to (Ok Bytes) =
     (typed : List ℕ) × (from.keys ≡ with_gift (map Press typed) to.keys)
     × HasActed old new from.traffic to.traffic (map Press typed)
-HasPressedKeyboard honest at_will state old new from to (Ok Ignored) =
+HasPressedKeyboard kind old new from to (Ok Ignored) =
     (from.keys ≡ with_gift (Campaign ∷ []) to.keys)
-    × HasCampaignedAsAsked honest at_will state old new from.traffic to.traffic (Ok Ignored)
-HasPressedKeyboard honest at_will state old new from to (Ok Campaigned) =
+    × HasCampaignedAsAsked kind old new from.traffic to.traffic (Ok Ignored)
+HasPressedKeyboard kind old new from to (Ok Campaigned) =
     (from.keys ≡ with_gift (Campaign ∷ []) to.keys)
-    × HasCampaignedAsAsked honest at_will state old new from.traffic to.traffic (Ok Campaigned)
-HasPressedKeyboard honest at_will state old new from to (Ok (CampaignRefused f)) =
+    × HasCampaignedAsAsked kind old new from.traffic to.traffic (Ok Campaigned)
+HasPressedKeyboard kind old new from to (Ok (CampaignRefused f)) =
     (from.keys ≡ with_gift (Campaign ∷ []) to.keys)
-    × HasCampaignedAsAsked honest at_will state old new from.traffic to.traffic
-    (Ok (CampaignRefused f))
-HasPressedKeyboard honest at_will state old new from to (Err e) =
+    × HasCampaignedAsAsked kind old new from.traffic to.traffic (Ok (CampaignRefused f))
+HasPressedKeyboard kind old new from to (Err e) =
     IsRoundRefusal e × HasEnded [] old new from to 0 e

@@ -29,12 +29,12 @@ IsShownTurnRefusal e = IsTurnRefusal e ⊎ (e ≡ no_memory)
 abbrev pub IsPressRefusal : GroupFault → Type 0
 IsPressRefusal e = IsTurnRefusal e ⊎ (e ≡ group.Node SerialSpent)
 
--- What a node may refuse in a round, in which no save has failed before: a save fails, or its
+-- What a node may refuse in a cycle, in which no save has failed before: a save fails, or its
 -- serials are spent.
 abbrev pub IsRoundRefusal : GroupFault → Type 0
 IsRoundRefusal e = (e ≡ group.Node Store) ⊎ (e ≡ group.Node SerialSpent)
 
--- What a round whose output is written may refuse: also a failed write.
+-- What a cycle whose output is written may refuse: also a failed write.
 abbrev pub IsWrittenRoundRefusal : GroupFault → Type 0
 IsWrittenRoundRefusal e = IsRoundRefusal e ⊎ (e ≡ write_failed)
 

@@ -4,7 +4,7 @@ use Rattle.std.specs.Prelude.{◌≡◌, ◌≤◌, ◌⊎◌, ℕ, List, [], �
 use Rattle.std.specs.Io.KnownBytes.{Appends}
 use Rattle.paxos_acceptor.specs.declared.me.Me.{Me}
 use Rattle.paxos_acceptor.specs.declared.store.StoreFault.{StoreFault}
-use Rattle.paxos_acceptor.specs.Stores.{StoreState}
+use Rattle.paxos_acceptor.specs.Stores.{StoreKind}
 use Rattle.paxos_msg.specs.Batches.{Record}
 use Rattle.pcode_file.specs.Parts.{Parts}
 use Rattle.group_node.specs.declared.fault.NodeFault.TheVariants.{SerialSpent, Store}
@@ -64,10 +64,9 @@ pub record RunsNode {S : Type 0} (loads : S → Result Record StoreFault → S �
 
 -- A run of a node over a store, a wire and a keyboard. Its start is refused; then nothing passes,
 -- nothing is typed, and nothing is written. Or it starts, and runs.
-abbrev pub RunsOrRefuses : {S : Type 0} → Type 0 → (S → StoreState)
-    → (S → Result Record StoreFault → S → Type 0) → Me → Parts → S → NodePlan → Around → Around
-    → Option (List ℕ) → Option (List ℕ) → Result (Unit {0}) GroupFault → Type 0
-RunsOrRefuses {S} honest state loads me program store plan from to before after result =
-    ((refused : StartRefused S) × HasStarted honest state loads me program store (Err refused)
+abbrev pub RunsOrRefuses : {S : Type 0} → StoreKind S → Me → Parts → S → NodePlan → Around
+    → Around → Option (List ℕ) → Option (List ℕ) → Result (Unit {0}) GroupFault → Type 0
+RunsOrRefuses {S} kind me program store plan from to before after result =
+    ((refused : StartRefused S) × HasStarted kind me program store (Err refused)
     × (to ≡ from) × (after ≡ before) × (result ≡ Err (group.Node refused.fault)))
-    ⊎ RunsNode loads me program store plan from to before after result
+    ⊎ RunsNode kind.loads me program store plan from to before after result

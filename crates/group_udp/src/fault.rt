@@ -1,5 +1,5 @@
 //! Why a group or a node on UDP ends early.
-use group_log::End;
+use group_log::ProcessEnd;
 use group_node::{NodeFault, StartRefused};
 use machine_run::{MachineRefusal, RunIo};
 use std::alloc::{AllocError, AllocFailed};
@@ -88,10 +88,10 @@ impl<T: Drop> From<AllocFailed<T>> for GroupFault {
 }
 
 /// Returns how a run ended, for the log.
-pub fn end_of(done: &Result<(), GroupFault>) -> End {
+pub fn end_of(done: &Result<(), GroupFault>) -> ProcessEnd {
     match done {
-        Ok(()) => End::Turns,
-        Err(GroupFault::Node(fault)) => End::Node(*fault),
-        Err(GroupFault::Socket | GroupFault::Machine(_)) => End::Other,
+        Ok(()) => ProcessEnd::Turns,
+        Err(GroupFault::Node(fault)) => ProcessEnd::Node(*fault),
+        Err(GroupFault::Socket | GroupFault::Machine(_)) => ProcessEnd::Other,
     }
 }

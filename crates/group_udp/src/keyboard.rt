@@ -117,7 +117,7 @@ fn campaign_when_asked<T: Wire, S: Store>(
 ) -> Result<Pressed, GroupFault>
     requires works { host.old.protocol.is_stopped ≡ false }
     ensures works { OnOk result (host.new.protocol.is_stopped ≡ false) }
-    ensures campaigned { HasCampaignedAsAsked S.honest S.fails_at_will S.state host.old host.new
+    ensures campaigned { HasCampaignedAsAsked S.kind host.old host.new
         (T.traffic wire.old) (T.traffic wire.new) result }
     ensures stays { SameReleased host.old host.new }
     ensures progress { host.new.progress ≡ host.old.progress }
@@ -141,7 +141,7 @@ pub fn press<T: Wire, K: Keyboard, S: Store>(
 ) -> Result<Pressed, GroupFault>
     requires works { host.old.protocol.is_stopped ≡ false }
     ensures works { OnOk result (host.new.protocol.is_stopped ≡ false) }
-    ensures pressed { HasPressedKeyboard S.honest S.fails_at_will S.state host.old host.new
+    ensures pressed { HasPressedKeyboard S.kind host.old host.new
         (around (T.traffic endpoints.old.wire) (K.remaining endpoints.old.keyboard))
         (around (T.traffic endpoints.new.wire) (K.remaining endpoints.new.keyboard)) result }
     ensures stays { SameReleased host.old host.new }

@@ -13,6 +13,7 @@
 //! A node waits for datagrams between its turns. A `GroupFault` says why a run ended early.
 #![tactic(auto)]
 
+mod cycles;
 mod endpoints;
 mod fault;
 mod keyboard;
@@ -25,7 +26,6 @@ mod pace;
 mod release;
 mod rest;
 mod resting;
-mod rounds;
 mod run;
 mod shown;
 mod sources;

@@ -127,7 +127,7 @@ fn node_noted<H: Files + Net + Clock + AllocGlobal + Copy + Drop, R: Read, W: By
 }
 
 /// Runs the plan's node over its record, up to the first refusal (`EndsNode`): it starts, campaigns
-/// if the plan says so, and makes as many rounds as `turns` says. It is a process of its group over
+/// if the plan says so, and makes as many cycles as `turns` says. It is a process of its group over
 /// a load of the store at the plan's path.
 ///
 /// What is typed is a front of what the reader had left, or comes as datagrams. `writer` gets each

@@ -15,7 +15,7 @@ use crate::limits::MOST_RESTING;
 use crate::resting::{RestingWire, Waited};
 use group_node::{NodeFault, Ran};
 use group_wire::laws::deeds_go_on;
-use group_wire::{Heard, Host, Wire};
+use group_wire::{Host, Received, Wire};
 use paxos_acceptor::Store;
 use paxos_msg::limits::MOST_CHARACTERS;
 
@@ -64,7 +64,7 @@ fn rest_once<T: RestingWire, K: Keyboard, S: Store>(
     ensures progress { host.new.progress ≡ host.old.progress }
 {
     match host.hear(&mut endpoints.wire) {
-        Ok(Heard::Nothing) => Ok(wait(endpoints, host.node().waiting())),
+        Ok(Received::Nothing) => Ok(wait(endpoints, host.node().waiting())),
         Ok(_) if host.node().known_front() > front => {
             Ok(ends_rest(&mut endpoints.wire, host.node().waiting()))
         }
@@ -149,7 +149,7 @@ pub fn own_turn<T: Wire, S: Store>(host: &mut Host<'_, S>, wire: &mut T) -> Resu
     requires works { host.old.protocol.is_stopped ≡ false }
     ensures works { OnOk result (host.new.protocol.is_stopped ≡ false) }
     ensures turned { IfOk result (λ ran. (done : Turned)
-        × HasTurned S.honest S.state host.old host.new (T.traffic wire.old) (T.traffic wire.new)
+        × HasTurned S.kind host.old host.new (T.traffic wire.old) (T.traffic wire.new)
         (Ok done) × (ran ≡ done.ran)) }
     ensures acts { OnOk result (HasActed host.old host.new (T.traffic wire.old) (T.traffic wire.new)
         (Run TURN_STEPS ∷ [])) }

@@ -5,12 +5,12 @@ ghost use Rattle.group_udp.specs.Going.{around};
 ghost use Rattle.group_udp.specs.Refusals.{IsOpenRefusal, IsRunRefusal};
 ghost use Rattle.group_udp.specs.Runs.{RunsOrRefuses};
 
+use crate::cycles::campaign_and_play;
 use crate::endpoints::{Endpoints, open_keyboard, open_wire};
 use crate::fault::GroupFault;
 use crate::keyboard::Keyboard;
 use crate::node::NodePlan;
 use crate::resting::RestingWire;
-use crate::rounds::campaign_and_play;
 use crate::text::Text;
 use crate::udp::{UdpWire, Watch};
 use group_log::Log;
@@ -40,7 +40,7 @@ fn tell_end<T: Wire>(wire: &mut T, done: Result<(), GroupFault>) -> Result<(), G
 
 /// Runs one node over a store, a wire and a keyboard, as `plan` says (`RunsOrRefuses`). It starts
 /// over the record that one load of the store gives, campaigns if it is to, and makes as many
-/// rounds as there are turns. It is a process of its group: exactly what its deeds send and receive
+/// cycles as there are turns. It is a process of its group: exactly what its deeds send and receive
 /// passes over the wire.
 ///
 /// What is typed is what the keyboard gave, each byte once and in order. `writer` gets each byte
@@ -59,7 +59,7 @@ pub fn run_node<H: Clock, T: RestingWire, K: Keyboard, S: Store + Drop, W: ByteW
     writer: &mut W,
     log: &mut Log<'_, H, E>,
 ) -> Result<(), GroupFault>
-    ensures ends { RunsOrRefuses S.honest S.state S.loads config program.now store plan.now
+    ensures ends { RunsOrRefuses S.kind config program.now store plan.now
         (around (T.traffic endpoints.old.wire) (K.remaining endpoints.old.keyboard))
         (around (T.traffic endpoints.new.wire) (K.remaining endpoints.new.keyboard))
         (W.contents writer.old) (W.contents writer.new) result }

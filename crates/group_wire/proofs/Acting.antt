@@ -5,7 +5,7 @@ use Rattle.std.proofs.lemmas.List.Elements.{All-head, All-tail}
 use Rattle.std.specs.List.{All}
 use Rattle.paxos_msg.specs.Batches.{Msg}
 use Rattle.paxos_acceptor.specs.declared.me.Me.{Me}
-use Rattle.paxos_acceptor.specs.Stores.{StoreState}
+use Rattle.paxos_acceptor.specs.Stores.{StoreKind}
 use Rattle.group_node.specs.declared.fault.NodeFault.{NodeFault}
 use Rattle.group_node.specs.declared.fault.NodeFault.TheVariants.{Stopped, Store}
 use Rattle.group_node.specs.Known.{Known, front}
@@ -14,8 +14,8 @@ use Rattle.group_node.specs.ProposerRows.{last_round, on_campaign}
 use Rattle.paxos_msg.specs.declared.limits.TheConstants.{LAST_ROUND, PLACES}
 use Rattle.group_node.specs.Output.{IsReplay, RunsOn, unreleased_of}
 use Rattle.group_node.specs.States.{NodeState, Protocol, input}
-use Rattle.group_wire.specs.declared.answers.Heard.{Heard}
-use Rattle.group_wire.specs.declared.answers.Heard.TheVariants as answer
+use Rattle.group_wire.specs.declared.answers.Received.{Received}
+use Rattle.group_wire.specs.declared.answers.Received.TheVariants as answer
 use Rattle.group_wire.specs.declared.answers.Turned.{Turned}
 use Rattle.group_wire.specs.declared.limits.TheConstants.{TURN_STEPS}
 use Rattle.group_wire.specs.Arrivals.{Arrival, Ending, EndsAt, Fate, GoesOn, Hears, IsFateOf, IsSpelledEnding, Loses, NoMessage, NoneCame, Refuses, TooLong, heard_of}
@@ -132,10 +132,10 @@ abbrev run_of : ℕ → Doing
 run_of steps = record { deed = Run steps; given = []; sent = []; typed = [] }
 
 -- the deeds of a turn that was not refused
-pub turn_acts : {S honest : Type 0} {state : S → StoreState} {old new : NodeState S} {from to : Option Traffic} (done : Turned)
-    → HasTurned honest state old new from to (Ok done) → IsReplay (input new.protocol.known) new.progress
+pub turn_acts : {S : Type 0} {kind : StoreKind S} {old new : NodeState S} {from to : Option Traffic} (done : Turned)
+    → HasTurned kind old new from to (Ok done) → IsReplay (input new.protocol.known) new.progress
     → HasActed old new from to (Run TURN_STEPS ∷ [])
-turn_acts {S} {honest} {state} {old} {new} {from} {to} done h replay =
+turn_acts {S} {kind} {old} {new} {from} {to} done h replay =
     let me : Me = old.protocol.known.me in
     let n : Known = old.protocol.known in
     let w : Working = working old in
@@ -168,12 +168,12 @@ turn_acts {S} {honest} {state} {old} {new} {from} {to} done h replay =
     )
 
 -- the deeds of a turn at which a save failed
-pub turn_fails : {S honest : Type 0} {state : S → StoreState} {old new : NodeState S} {from to : Option Traffic}
-    → HasTurned honest state old new from to (Err Store) → Fails old new from to []
-turn_fails {S} {honest} {state} {old} {new} {from} {to} h =
+pub turn_fails : {S : Type 0} {kind : StoreKind S} {old new : NodeState S} {from to : Option Traffic}
+    → HasTurned kind old new from to (Err Store) → Fails old new from to []
+turn_fails {S} {kind} {old} {new} {from} {to} h =
     by h.ending (h.hears.fault refl) h.plays.last h.plays.traffic
   where
-    by : (ending : Ending) → EndsAt ending (λ m. honest → IsAfterFault state new m) → IsSpelledEnding old.protocol.known.me.group ending
+    by : (ending : Ending) → EndsAt ending (λ m. kind.honest → IsAfterFault kind new m) → IsSpelledEnding old.protocol.known.me.group ending
         → to ≡ grown from (transfers_of old.protocol.known.me (hearing old.protocol.known.me old.protocol.known h.came ending
         ++ ticking old.protocol.known.me false (after_heard old.protocol.known (heard_of h.came))))
         → Fails old new from to []
@@ -196,8 +196,8 @@ turn_fails {S} {honest} {state} {old} {new} {from} {to} h =
         )
 
 -- the deeds of a turn, by its answer
-pub turn_acts_by : {S honest : Type 0} {state : S → StoreState} {old new : NodeState S} {from to : Option Traffic}
-    (result : Result Turned NodeFault) → HasTurned honest state old new from to result
+pub turn_acts_by : {S : Type 0} {kind : StoreKind S} {old new : NodeState S} {from to : Option Traffic}
+    (result : Result Turned NodeFault) → HasTurned kind old new from to result
     → IsReplay (input new.protocol.known) new.progress → ActsBy old new from to (Run TURN_STEPS ∷ []) [] result
 turn_acts_by (Ok done) h replay = turn_acts done h replay
 turn_acts_by (Err Store) h replay = turn_fails h
@@ -244,7 +244,7 @@ hears_fails {S} came bytes m {old} {new} h =
     )
 
 -- the end of a receive that was not refused
-receive_ends : (heard : Heard) (came : List Arrival) (ending : Ending) → TellsOfOne (Ok heard) came ending → (ending ≡ NoneCame) ⊎
+receive_ends : (heard : Received) (came : List Arrival) (ending : Ending) → TellsOfOne (Ok heard) came ending → (ending ≡ NoneCame) ⊎
     (ending ≡ GoesOn)
 receive_ends answer.Nothing came ending told = inl told.1
 receive_ends answer.Dropped came ending told = inr told.2
@@ -252,10 +252,10 @@ receive_ends answer.Lost came ending told = inr told.2
 receive_ends answer.Message came ending told = inr told.2
 
 -- the deeds of a receive, by its answer
-pub hear_acts_by : {S honest : Type 0} {state : S → StoreState} {old new : NodeState S} {from to : Option Traffic}
-    (result : Result Heard NodeFault) → HasHeard honest state old new from to result → ActsBy old new from to [] [] result
+pub hear_acts_by : {S : Type 0} {kind : StoreKind S} {old new : NodeState S} {from to : Option Traffic}
+    (result : Result Received NodeFault) → HasHeard kind old new from to result → ActsBy old new from to [] [] result
 hear_acts_by (Ok heard) h = hears_acts h.hears (receive_ends heard h.came h.ending h.tells)
-hear_acts_by {S} {honest} {state} {old} {new} {from} {to} (Err Store) h = by h.ending h.tells.1 h.hears
+hear_acts_by {S} {kind} {old} {new} {from} {to} (Err Store) h = by h.ending h.tells.1 h.hears
   where
     by : (ending : Ending) → EndsAt ending (λ m. Unit {0}) → HearsSome old.protocol.known.me.group h.came ending old new from to
         → Fails old new from to []
@@ -285,10 +285,10 @@ nothing_done {old = old} {new} {from} known progress traffic = (
   refl,
 )
 
-pub campaign_acts_by : {S honest at_will : Type 0} {state : S → StoreState} {old new : NodeState S} {from to : Option Traffic}
-    (result : Result (Unit {0}) NodeFault) → HasCampaigned honest at_will state old new from to result
+pub campaign_acts_by : {S : Type 0} {kind : StoreKind S} {old new : NodeState S} {from to : Option Traffic}
+    (result : Result (Unit {0}) NodeFault) → HasCampaigned kind old new from to result
     → ActsBy old new from to (Campaign ∷ []) (Campaign ∷ []) result
-campaign_acts_by {S} {honest} {at_will} {state} {old} {new} {from} {to} (Ok x) h =
+campaign_acts_by {S} {kind} {old} {new} {from} {to} (Ok x) h =
     let me : Me = old.protocol.known.me in
     let n : Known = old.protocol.known in
     let open_so = is_open old.protocol.is_stopped (λ stopped. absurd (cc (h.stopped.1 stopped))) in
@@ -304,7 +304,7 @@ campaign_acts_by {S} {honest} {at_will} {state} {old} {new} {from} {to} (Ok x) h
       },
       refl,
     )
-campaign_acts_by {S} {honest} {at_will} {state} {old} {new} {from} {to} (Err Store) h =
+campaign_acts_by {S} {kind} {old} {new} {from} {to} (Err Store) h =
     let me : Me = old.protocol.known.me in
     let n : Known = old.protocol.known in
     let open_so = is_open old.protocol.is_stopped (λ stopped. absurd (cc (h.stopped.1 stopped))) in

@@ -6,7 +6,7 @@ use Rattle.std.proofs.lemmas.List.Sums.{sum_by-append}
 use Rattle.std.proofs.lemmas.Grind.{common_steps}
 use Rattle.paxos_msg.specs.declared.message.Group.{Group}
 use Rattle.paxos_msg.specs.Batches.{Msg}
-use Rattle.paxos_acceptor.specs.Stores.{HasCause, IsOneOf, StoreState}
+use Rattle.paxos_acceptor.specs.Stores.{HasCause, IsOneOf, StoreKind}
 use Rattle.group_node.specs.declared.fault.NodeFault.{NodeFault}
 use Rattle.group_node.specs.declared.fault.NodeFault.TheVariants.{Memory, OutboxFull, Stopped, Store}
 use Rattle.group_node.specs.Protocol.{on_message}
@@ -14,8 +14,8 @@ use Rattle.group_node.specs.Known.{Known}
 use Rattle.group_node.specs.Packets.{Datagram, datagrams_of}
 use Rattle.group_node.specs.Calls.{IsLetIn}
 use Rattle.group_node.specs.States.{NodeState, Protocol}
-use Rattle.group_wire.specs.declared.answers.Heard.{Heard}
-use Rattle.group_wire.specs.declared.answers.Heard.TheVariants as answer
+use Rattle.group_wire.specs.declared.answers.Received.{Received}
+use Rattle.group_wire.specs.declared.answers.Received.TheVariants as answer
 use Rattle.group_wire.specs.Traffic.{Gives, Traffic, grown, handed, letters_of}
 use Rattle.group_wire.specs.Arrivals.{Arrival, Ending, Fate, Hears, Loses, NoMessage, TooLong, GoesOn, Refuses, IsFateOf, Spells, heard_of, loss_of, lost_of, heard_message, received}
 use Rattle.group_wire.specs.Turns.{FailsAtEnd, HearsSome, IsHearingRefused, IsOne, IsWireTurn, TellsOfOne, answer_of}
@@ -96,44 +96,44 @@ hears_then {S} {came} {later} {ending} {old} {mid} {new} {from} {via} {to} stays
 -- ---- one receive
 
 -- what it leaves, over the node's own group
-abbrev pub HearsThere : {S : Type 0} → Type 0 → (S → StoreState) → NodeState S → NodeState S
-    → Option Traffic → Option Traffic → Result Heard NodeFault → Type 0
-HearsThere honest state old new from to result = (came : List Arrival) × (ending : Ending)
+abbrev pub HearsThere : {S : Type 0} → StoreKind S → NodeState S → NodeState S
+    → Option Traffic → Option Traffic → Result Received NodeFault → Type 0
+HearsThere kind old new from to result = (came : List Arrival) × (ending : Ending)
     × HearsSome old.protocol.known.me.group came ending old new from to
-    × TellsOfOne result came ending × FailsAtEnd honest state ending new result
+    × TellsOfOne result came ending × FailsAtEnd kind ending new result
 
 -- a datagram comes, and no message is heard
-pub hears_none : {S : Type 0} {honest : Type 0} (state : S → StoreState) {g : Group} {old new : NodeState S} (from to : Option Traffic)
-    (bytes : List ℕ) (fate : Fate) (h : Heard)
+pub hears_none : {S : Type 0} (kind : StoreKind S) {g : Group} {old new : NodeState S} (from to : Option Traffic)
+    (bytes : List ℕ) (fate : Fate) (h : Received)
     → old.protocol.known.me.group ≡ g → IsFateOf g bytes fate → heard_message fate ≡ None
     → TellsOfOne (Ok h) (record { bytes = bytes; fate = fate } ∷ []) GoesOn → (old.protocol.is_stopped ≡ true → loss_of fate ≡ 0)
     → new.protocol.known ≡ old.protocol.known → new.progress ≡ old.progress → to ≡ grown from (Gives (Some bytes) ∷ [])
-    → HearsThere honest state old new from to (Ok h)
-hears_none state from to bytes fate h group is none tells without known progress traffic =
+    → HearsThere kind old new from to (Ok h)
+hears_none kind from to bytes fate h group is none tells without known progress traffic =
     (record { bytes = bytes; fate = fate } ∷ [], GoesOn, grind (arith, common_steps, All-cons, All-nil), tells, λ failed. absurd cc)
 
 -- the node takes the message of the datagram
-pub hears_one : {S : Type 0} {honest : Type 0} (state : S → StoreState) {g : Group} {old new : NodeState S} (from via to : Option Traffic)
+pub hears_one : {S : Type 0} (kind : StoreKind S) {g : Group} {old new : NodeState S} (from via to : Option Traffic)
     (bytes : List ℕ) (m : Msg) (before waits : List Datagram)
     → old.protocol.known.me.group ≡ g → Spells g bytes m → ¬ (old.protocol.is_stopped ≡ true)
     → new.protocol.known ≡ (on_message old.protocol.known m.sender m.body).node
     → (on_message old.protocol.known m.sender m.body).node.me ≡ old.protocol.known.me → new.progress ≡ old.progress → before ≡ []
     → waits ≡ before ++ datagrams_of old.protocol.known.me (on_message old.protocol.known m.sender m.body).sends
     → to ≡ grown via (handed (letters_of g.size waits)) → via ≡ grown from (Gives (Some bytes) ∷ [])
-    → HearsThere honest state old new from to (Ok answer.Message)
-hears_one state from via to bytes m before waits group spelled works known me progress empty sends traffic came =
+    → HearsThere kind old new from to (Ok answer.Message)
+hears_one kind from via to bytes m before waits group spelled works known me progress empty sends traffic came =
     let a : Arrival = record { bytes = bytes; fate = Hears m } in
     (a ∷ [], GoesOn, grind (arith, common_steps, All-cons, All-nil), (a, refl, refl, refl), λ failed. absurd cc)
 
 -- the node refuses the message of the datagram
-pub refuses_one : {S : Type 0} {honest : Type 0} (state : S → StoreState) {g : Group} {old new : NodeState S} (from to : Option Traffic)
-    (bytes : List ℕ) (m : Msg) (fault : NodeFault) (result : Result Heard NodeFault)
+pub refuses_one : {S : Type 0} (kind : StoreKind S) {g : Group} {old new : NodeState S} (from to : Option Traffic)
+    (bytes : List ℕ) (m : Msg) (fault : NodeFault) (result : Result Received NodeFault)
     → old.protocol.known.me.group ≡ g → Spells g bytes m → new.protocol.known ≡ old.protocol.known → new.progress ≡ old.progress
     → to ≡ grown from (Gives (Some bytes) ∷ []) → result ≡ Err fault
-    → (honest → fault ≡ Store → IsOneOf (state new.protocol.store).stored old.protocol.known.kept
+    → (kind.honest → fault ≡ Store → IsOneOf (kind.state new.protocol.store).stored old.protocol.known.kept
     (on_message old.protocol.known m.sender m.body).node.kept)
-    → HearsThere honest state old new from to result
-refuses_one state from to bytes m fault result group spelled known progress traffic told device =
+    → HearsThere kind old new from to result
+refuses_one kind from to bytes m fault result group spelled known progress traffic told device =
     ([], Refuses bytes m, grind (arith, common_steps, All-nil), rw told (refl, tt), λ failed is_honest. rw known (device is_honest (cc)))
 
 -- why a call of the node was refused, if memory did not run out: nothing waits to be sent
@@ -143,20 +143,20 @@ pub refused_others : {S : Type 0} {fault : NodeFault} {old : Protocol S} {before
 refused_others empty not others let_in = grind (arith, common_steps)
 
 -- an answer that is a refusal where the call of the node was refused
-pub refused_as : {S : Type 0} {state : S → StoreState} {old new : NodeState S} {before : List Datagram}
-    (done : Result (Unit {0}) NodeFault) (result : Result Heard NodeFault)
+pub refused_as : {S : Type 0} {kind : StoreKind S} {old new : NodeState S} {before : List Datagram}
+    (done : Result (Unit {0}) NodeFault) (result : Result Received NodeFault)
     → IsLetIn old.protocol before done
     → (new.protocol.is_stopped ≡ true) ↔ ((old.protocol.is_stopped ≡ true) ⊎ IsErrOf done Store)
-    → HasCause (IsErrOf done Store) (state old.protocol.store).faults (state new.protocol.store).faults
+    → HasCause (IsErrOf done Store) (kind.state old.protocol.store).faults (kind.state new.protocol.store).faults
     → (IsErrOf done Store → IsErrOf result Store) → (IsErrOf result Store → IsErrOf done Store)
     → (IsErrOf result Stopped → IsErrOf done Stopped) → IfErr result (λ e. (e ≡ Stopped) ⊎ (e ≡ Store))
-    → IsHearingRefused state old new result
+    → IsHearingRefused kind old new result
 refused_as done result let_in stops cause to from closed others = grind (arith, common_steps)
 
 -- ---- several receives
 
 -- how many messages an answer calls lost
-abbrev loss_in : Heard → ℕ
+abbrev loss_in : Received → ℕ
 loss_in answer.Lost = 1
 loss_in other = 0
 
@@ -164,12 +164,12 @@ loss_is : (f : Fate) → loss_in (answer_of f) ≡ loss_of f
 loss_is f = grind arith
 
 -- a datagram that came is one arrival, and hearing goes on
-one_came : (h : Heard) (came : List Arrival) (ending : Ending) → h ≢ answer.Nothing → TellsOfOne (Ok h) came ending → IsOne came ending h
+one_came : (h : Received) (came : List Arrival) (ending : Ending) → h ≢ answer.Nothing → TellsOfOne (Ok h) came ending → IsOne came ending h
 one_came h came ending some told = grind (arith, common_steps)
 
 -- a datagram came at each receive, and then one more
 pub hears_one_more : {S : Type 0} {F : List Arrival → Ending → Type 0} {count lost now : ℕ} {old mid new : NodeState S}
-    {from via to : Option Traffic} (h : Heard)
+    {from via to : Option Traffic} (h : Received)
     → (old.protocol.is_stopped ≡ true → mid.protocol.is_stopped ≡ true)
     → (came : List Arrival) × HearsSome old.protocol.known.me.group came GoesOn old mid from via
     × (length came ≡ count) × (lost_of came ≡ lost)

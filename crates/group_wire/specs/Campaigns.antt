@@ -1,7 +1,8 @@
 -- A campaign of a node on its wire.
-use Rattle.std.specs.Prelude.{◌≡◌, ◌⊎◌, ◌↔◌, ◌<◌, true, false, Option, Result, IfErr, IsErrOf, OnErr, OnOk}
+use Rattle.std.specs.Prelude.{◌≡◌, ◌⊎◌, ◌↔◌, ◌<◌, true, false, [], ◌∷◌, Option, Result, IsErrOf, OnErr, OnOk}
 use Rattle.paxos_msg.specs.declared.limits.TheConstants.{LAST_ROUND, PLACES}
-use Rattle.paxos_acceptor.specs.Stores.{StoreState}
+use Rattle.paxos_acceptor.specs.Calls.{FailsOnlyWith}
+use Rattle.paxos_acceptor.specs.Stores.{StoreKind}
 use Rattle.group_node.specs.declared.fault.NodeFault.{NodeFault}
 use Rattle.group_node.specs.declared.fault.NodeFault.TheVariants.{Memory, PlacesSpent, RoundsSpent, Stopped, Store}
 use Rattle.group_node.specs.Calls.{RefusesIfStopped, Saves}
@@ -14,9 +15,8 @@ use Rattle.group_wire.specs.Traffic.{Traffic, grown, handed, posted}
 -- At `Ok` the node is that of `on_campaign`, and all that it sends went to the wire. At a refusal
 -- nothing did, and the node knows what it knew. A refusal comes where `Node::campaign` says, but
 -- none for a full outbox.
-pub record HasCampaigned {S : Type 0} (honest at_will : Type 0) (state : S → StoreState)
-    (old new : NodeState S) (from to : Option Traffic) (result : Result (Unit {0}) NodeFault)
-    : Type 0 where
+pub record HasCampaigned {S : Type 0} (kind : StoreKind S) (old new : NodeState S)
+    (from to : Option Traffic) (result : Result (Unit {0}) NodeFault) : Type 0 where
   pub ok : OnOk result (new.protocol.known ≡ (on_campaign old.protocol.known).node)
   pub sends : OnOk result
       (to ≡ grown from (handed (posted old.protocol.known (on_campaign old.protocol.known).sends)))
@@ -24,8 +24,7 @@ pub record HasCampaigned {S : Type 0} (honest at_will : Type 0) (state : S → S
   pub unsent : OnErr result (to ≡ from)
   pub stops :
       (new.protocol.is_stopped ≡ true) ↔ ((old.protocol.is_stopped ≡ true) ⊎ IsErrOf result Store)
-  pub saves : Saves honest at_will state old.protocol new.protocol
-      (on_campaign old.protocol.known) result
+  pub saves : Saves kind old.protocol new.protocol (on_campaign old.protocol.known) result
   pub progress : new.progress ≡ old.progress
   pub stopped : RefusesIfStopped old.protocol result
   pub rounds : IsErrOf result RoundsSpent
@@ -35,5 +34,4 @@ pub record HasCampaigned {S : Type 0} (honest at_will : Type 0) (state : S → S
       × (front old.protocol.known ≡ PLACES))
   pub spare : OnOk result (last_round old.protocol.known < LAST_ROUND)
   pub spare_saved : IsErrOf result Store → last_round old.protocol.known < LAST_ROUND
-  pub others : IfErr result (λ e. (e ≡ Stopped) ⊎ (e ≡ RoundsSpent) ⊎ (e ≡ PlacesSpent)
-      ⊎ (e ≡ Memory) ⊎ (e ≡ Store))
+  pub others : FailsOnlyWith (Stopped ∷ RoundsSpent ∷ PlacesSpent ∷ Memory ∷ Store ∷ []) result

@@ -126,8 +126,8 @@ abbrev pub working : {S : Type 0} → NodeState S → Working
 working n = record { known = n.protocol.known; progress = n.progress }
 
 -- The deed is a response of the node, after which it is `v`, and at which these keys were typed.
-abbrev pub Responds : Me → Working → Response → List Value → Doing → Working → Type 0
-Responds me w done keys d v =
+abbrev pub RespondsOnWire : Me → Working → Response → List Value → Doing → Working → Type 0
+RespondsOnWire me w done keys d v =
     (v ≡ record w { known = done.node }) × (d.sent ≡ datagrams_of me done.sends) × (d.typed ≡ keys)
 
 -- A deed at which nothing is sent or typed.
@@ -142,15 +142,15 @@ DoesOnWire me w Idle d v = (v ≡ w) × SendsNothing d
 DoesOnWire me w (Start r) d v = ⊥
 DoesOnWire me w (Hear m) d v =
     (bytes : List ℕ) × Spells me.group bytes m × (d.given ≡ Some bytes ∷ [])
-    × Responds me w (on_message w.known m.sender m.body) [] d v
+    × RespondsOnWire me w (on_message w.known m.sender m.body) [] d v
 DoesOnWire me w (Press byte) d v =
     (byte < 256) × (length w.known.waiting ≢ MOST_WAITING)
     × (next_serial w.known ≢ LAST_SERIAL + 1) × (d.given ≡ [])
-    × Responds me w (on_typed w.known byte) (new_key w.known byte ∷ []) d v
+    × RespondsOnWire me w (on_typed w.known byte) (new_key w.known byte ∷ []) d v
 DoesOnWire me w Campaign d v =
     (last_round w.known < LAST_ROUND) × (front w.known ≢ PLACES) × (d.given ≡ [])
-    × Responds me w (on_campaign w.known) [] d v
-DoesOnWire me w Tick d v = (d.given ≡ []) × Responds me w (on_tick w.known) [] d v
+    × RespondsOnWire me w (on_campaign w.known) [] d v
+DoesOnWire me w Tick d v = (d.given ≡ []) × RespondsOnWire me w (on_tick w.known) [] d v
 DoesOnWire me w (Run steps) d v =
     (ran : Ran) × (v.known ≡ w.known) × RunsOn (input w.known) steps w.progress v.progress ran
     × IsReplay (input w.known) v.progress × (d.given ≡ []) × SendsNothing d

@@ -2,15 +2,15 @@
 use Rattle.std.specs.Prelude.{◌≡◌, ◌⊎◌, ◌↔◌, ◌≤◌, Bool, true, false, ⊤, List, [], ◌∷◌, ◌++◌, All, length, Option, Result, Ok, Err, IfErr, IfOk, IsErr, IsErrOf, OnErr, OnOk, ℕ, take}
 use Rattle.paxos_msg.specs.declared.message.Group.{Group}
 use Rattle.paxos_msg.specs.Batches.{Msg}
-use Rattle.paxos_acceptor.specs.Stores.{HasCause, IsOneOf, StoreState}
+use Rattle.paxos_acceptor.specs.Stores.{HasCause, IsOneOf, StoreKind}
 use Rattle.group_node.specs.declared.fault.NodeFault.{NodeFault}
 use Rattle.group_node.specs.declared.fault.NodeFault.TheVariants.{Stopped, Store}
 use Rattle.group_node.specs.Protocol.{on_message}
 use Rattle.group_node.specs.Calls.{RefusesIfStopped}
 use Rattle.group_node.specs.Output.{RunsOn, Progress}
 use Rattle.group_node.specs.States.{NodeState, input}
-use Rattle.group_wire.specs.declared.answers.Heard.{Heard}
-use Rattle.group_wire.specs.declared.answers.Heard.TheVariants as answer
+use Rattle.group_wire.specs.declared.answers.Received.{Received}
+use Rattle.group_wire.specs.declared.answers.Received.TheVariants as answer
 use Rattle.group_wire.specs.declared.answers.Turned.{Turned}
 use Rattle.group_wire.specs.declared.limits.TheConstants.{MOST_RECEIVES, TURN_STEPS}
 use Rattle.group_wire.specs.Arrivals.{Arrival, Ending, EndsAt, Fate, GoesOn, Hears, IsFateOf, IsSpelledEnding, IsUnheard, Loses, NoMessage, NoneCame, TooLong, heard_of, lost_of, received}
@@ -74,19 +74,19 @@ has_ticked (Ok done) = done.ticked
 has_ticked (Err e) = false
 
 -- The answer for a datagram with this fate.
-abbrev pub answer_of : Fate → Heard
+abbrev pub answer_of : Fate → Received
 answer_of (Hears m) = answer.Message
 answer_of (Loses m) = answer.Lost
 answer_of TooLong = answer.Dropped
 answer_of NoMessage = answer.Dropped
 
 -- The one datagram that came, and its answer.
-abbrev pub IsOne : List Arrival → Ending → Heard → Type 0
+abbrev pub IsOne : List Arrival → Ending → Received → Type 0
 IsOne came ending heard =
     (a : Arrival) × (came ≡ a ∷ []) × (ending ≡ GoesOn) × (heard ≡ answer_of a.fate)
 
 -- The answer of one receive: nothing came, the fate of a datagram, or a refusal of its message.
-abbrev pub TellsOfOne : Result Heard NodeFault → List Arrival → Ending → Type 0
+abbrev pub TellsOfOne : Result Received NodeFault → List Arrival → Ending → Type 0
 TellsOfOne (Ok answer.Nothing) came ending = (came ≡ []) × (ending ≡ NoneCame)
 TellsOfOne (Ok answer.Dropped) came ending = IsOne came ending answer.Dropped
 TellsOfOne (Ok answer.Lost) came ending = IsOne came ending answer.Lost
@@ -95,17 +95,17 @@ TellsOfOne (Err e) came ending = (came ≡ []) × EndsAt ending (λ _. ⊤)
 
 -- A store after a save failed at this message: it has the node's record, or that of the response.
 -- Forbids: a mixture of both.
-abbrev pub IsAfterFault : {S : Type 0} → (S → StoreState) → NodeState S → Msg → Type 0
-IsAfterFault state n m =
-    IsOneOf (state n.protocol.store).stored n.protocol.known.kept
+abbrev pub IsAfterFault : {S : Type 0} → StoreKind S → NodeState S → Msg → Type 0
+IsAfterFault kind n m =
+    IsOneOf (kind.state n.protocol.store).stored n.protocol.known.kept
     (on_message n.protocol.known m.sender m.body).node.kept
 
 -- A failed save comes only at the message at which hearing ended.
 -- Allows: the fault of another message.
-abbrev pub FailsAtEnd : {S T : Type 0} → Type 0 → (S → StoreState) → Ending → NodeState S
+abbrev pub FailsAtEnd : {S T : Type 0} → StoreKind S → Ending → NodeState S
     → Result T NodeFault → Type 0
-FailsAtEnd honest state ending new result =
-    IsErrOf result Store → EndsAt ending (λ m. honest → IsAfterFault state new m)
+FailsAtEnd kind ending new result =
+    IsErrOf result Store → EndsAt ending (λ m. kind.honest → IsAfterFault kind new m)
 
 -- The refusals of a tick or a run: as stopped alone, and exactly if a save has failed before.
 pub record IsRefusedIfStopped {S T : Type 0} (old : NodeState S)
@@ -116,16 +116,16 @@ pub record IsRefusedIfStopped {S T : Type 0} (old : NodeState S)
 -- The receives of a turn, at most 64.
 -- At `Ok` 64 datagrams came, or the last receive gave nothing. At `Store` the save failed at the
 -- message of the last datagram that came.
-pub record HearsOut {S T : Type 0} (honest : Type 0) (state : S → StoreState) (came : List Arrival)
+pub record HearsOut {S T : Type 0} (kind : StoreKind S) (came : List Arrival)
     (ending : Ending) (new : NodeState S) (result : Result T NodeFault) : Type 0 where
   pub few : length (received came ending) ≤ MOST_RECEIVES
   pub ended : OnOk result
       ((ending ≡ NoneCame) ⊎ ((ending ≡ GoesOn) × (length came ≡ MOST_RECEIVES)))
-  pub fault : FailsAtEnd honest state ending new result
+  pub fault : FailsAtEnd kind ending new result
 
 -- A refusal of hearing: as stopped, or since a save failed.
 -- A failed save stops the node and is counted.
-pub record IsHearingRefused {S T : Type 0} (state : S → StoreState) (old new : NodeState S)
+pub record IsHearingRefused {S T : Type 0} (kind : StoreKind S) (old new : NodeState S)
     (result : Result T NodeFault) : Type 0 where
   pub others : IfErr result IsTurnFault
   pub stopped : IsErrOf result Stopped → old.protocol.is_stopped ≡ true
@@ -133,22 +133,22 @@ pub record IsHearingRefused {S T : Type 0} (state : S → StoreState) (old new :
   pub stops :
       (new.protocol.is_stopped ≡ true) ↔ ((old.protocol.is_stopped ≡ true) ⊎ IsErrOf result Store)
   pub cause : HasCause (IsErrOf result Store)
-      (state old.protocol.store).faults (state new.protocol.store).faults
+      (kind.state old.protocol.store).faults (kind.state new.protocol.store).faults
 
 -- ---- the calls
 
 -- A node and its wire after one receive, with the answer.
 -- The answer says that nothing came, or that a datagram was dropped, lost or heard. The receive is
 -- refused only at a datagram that spells a message. Then the node knows what it knew.
-pub record HasHeard {S : Type 0} (honest : Type 0) (state : S → StoreState)
-    (old new : NodeState S) (from to : Option Traffic) (result : Result Heard NodeFault)
+pub record HasHeard {S : Type 0} (kind : StoreKind S)
+    (old new : NodeState S) (from to : Option Traffic) (result : Result Received NodeFault)
     : Type 0 where
   pub came : List Arrival
   pub ending : Ending
   pub hears : HearsSome old.protocol.known.me.group came ending old new from to
   pub tells : TellsOfOne result came ending
-  pub fault : FailsAtEnd honest state ending new result
-  pub refused : IsHearingRefused state old new result
+  pub fault : FailsAtEnd kind ending new result
+  pub refused : IsHearingRefused kind old new result
 
 -- A node and its wire after a turn, with the answer.
 -- At `Ok` the machine has run for at most 1,000 steps on the learned input after the tick, and the
@@ -156,13 +156,13 @@ pub record HasHeard {S : Type 0} (honest : Type 0) (state : S → StoreState)
 -- refusal there was no tick and no step. The turn is `Stopped` exactly if a save had failed before,
 -- and otherwise refused only as `Store`. After a refusal the node is stopped, after `Ok` it is not.
 -- One more fault is counted exactly at `Store`.
-pub record HasTurned {S : Type 0} (honest : Type 0) (state : S → StoreState)
+pub record HasTurned {S : Type 0} (kind : StoreKind S)
     (old new : NodeState S) (from to : Option Traffic) (result : Result Turned NodeFault)
     : Type 0 where
   pub came : List Arrival
   pub ending : Ending
   pub plays : IsWireTurn old.protocol.known.me.group came ending old new from to (has_ticked result)
-  pub hears : HearsOut honest state came ending new result
+  pub hears : HearsOut kind came ending new result
   pub lost : IfOk result (λ done. done.lost ≡ lost_of came)
   pub me : new.protocol.known.me ≡ old.protocol.known.me
   pub runs : IfOk result (λ done.
@@ -172,4 +172,4 @@ pub record HasTurned {S : Type 0} (honest : Type 0) (state : S → StoreState)
   pub stopped : RefusesIfStopped old.protocol result
   pub stops : (new.protocol.is_stopped ≡ true) ↔ IsErr result
   pub cause : HasCause (IsErrOf result Store)
-      (state old.protocol.store).faults (state new.protocol.store).faults
+      (kind.state old.protocol.store).faults (kind.state new.protocol.store).faults

@@ -3,7 +3,7 @@ use group_node::Ran;
 
 /// The result of one receive.
 #[derive(Clone, Copy, Debug, PartialEq, Eq)]
-pub enum Heard {
+pub enum Received {
     /// No datagram was there.
     Nothing,
     /// The datagram has more than 1,400 bytes, or spells no message of the group.

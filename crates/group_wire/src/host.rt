@@ -1,7 +1,6 @@
 //! A node with its outbox.
-ghost use Rattle.std.specs.Prelude.{◌≡◌, ◌⊎◌, ◌+◌, [], ◌∷◌, length, Option, option_map, slice_get, IfErr, IfNone, IfOk, OnSome};
+ghost use Rattle.std.specs.Prelude.{◌≡◌, ◌+◌, [], ◌∷◌, length, Option, option_map, slice_get, IfNone, OnSome};
 ghost use Rattle.group_node.specs.Deeds.{Campaign};
-ghost use Rattle.group_node.specs.Known.{on_start};
 ghost use Rattle.group_node.specs.Output.{IsReplay, unreleased_of};
 ghost use Rattle.group_node.specs.States.{input};
 ghost use Rattle.group_wire.specs.Campaigns.{HasCampaigned};
@@ -56,24 +55,16 @@ impl<'a, S: Store> Model for Host<'a, S> {
 }
 
 impl<'a, S: Store> Host<'a, S> {
-    /// Starts the node over the record that one load of `store` returns, as `Node::start` says, but
-    /// for plans and ranges (`HasStarted`). A refusal gives the store back, and exactly `Store`
-    /// counts one more fault. Fails with `Memory` too if memory runs out for the outbox; then
-    /// nothing was loaded.
-    ///
-    /// Nothing is said here of plans, of stores that fail at will, and of ranges.
+    /// Starts the node over the record that one load of `store` returns, as `Node::start` says
+    /// (`HasStarted`). A refusal gives the store back, and exactly `Store` counts one more fault.
+    /// Fails with `Memory` too if memory runs out for the outbox; then nothing was loaded.
     pub fn start(
         alloc: Global,
         program: &'a Program,
         config: Config,
         store: S,
     ) -> Result<Host<'a, S>, StartRefused<S>>
-        ensures starts { HasStarted S.honest S.state S.loads config program.now store result }
-        ensures known { S.honest
-            → IfOk result (λ h. h.protocol.known ≡ (on_start config (S.state store).stored).node) }
-        ensures others { IfErr result
-            (λ e. (e.fault ≡ NodeFault.Memory) ⊎ (e.fault ≡ NodeFault.Store)
-            ⊎ (e.fault ≡ NodeFault.BadRecord) ⊎ (e.fault ≡ NodeFault.StartsSpent)) }
+        ensures starts { HasStarted S.kind config program.now store result }
     {
         let group = config.me().group;
         let Ok(outbox) = Outbox::new(alloc) else {
@@ -99,7 +90,7 @@ impl<'a, S: Store> Host<'a, S> {
 
     /// Begins the node's next ballot, as `campaign` says.
     fn begin_campaign<T: Wire>(&mut self, wire: &mut T) -> Result<(), NodeFault>
-        ensures campaigned { HasCampaigned S.honest S.fails_at_will S.state self.old self.new
+        ensures campaigned { HasCampaigned S.kind self.old self.new
             (T.traffic wire.old) (T.traffic wire.new) result }
         ensures stays { SameReleased self.old self.new }
     {
@@ -114,7 +105,7 @@ impl<'a, S: Store> Host<'a, S> {
     /// at once (`HasCampaigned`). Its refusals come as those of `Node::campaign`, but none for a
     /// full outbox. After a refusal nothing was sent.
     pub fn campaign<T: Wire>(&mut self, wire: &mut T) -> Result<(), NodeFault>
-        ensures campaigned { HasCampaigned S.honest S.fails_at_will S.state self.old self.new
+        ensures campaigned { HasCampaigned S.kind self.old self.new
             (T.traffic wire.old) (T.traffic wire.new) result }
         ensures acts { ActsBy self.old self.new (T.traffic wire.old) (T.traffic wire.new)
             (Campaign ∷ []) (Campaign ∷ []) result }

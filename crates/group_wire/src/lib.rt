@@ -23,7 +23,7 @@ mod told;
 mod turns;
 mod wire;
 
-pub use answers::{Heard, Turned};
+pub use answers::{Received, Turned};
 pub use host::Host;
 pub use told::Told;
 pub use wire::Wire;

@@ -9,7 +9,7 @@ ghost use Rattle.group_wire.specs.Turns.{SameReleased, IsRefusedIfStopped, Fails
 ghost use Rattle.group_wire.specs.Doings.{ActsBy, ticked_if, ticking, transfers_of};
 ghost use Rattle.group_wire.specs.Traffic.{Gives, Traffic, grown};
 
-use crate::answers::{Heard, Turned};
+use crate::answers::{Received, Turned};
 use crate::host::Host;
 use crate::limits::{MOST_RECEIVES, TURN_STEPS};
 use crate::sending::send_all;
@@ -39,20 +39,20 @@ impl<'a, S: Store> Host<'a, S> {
     /// Takes the message that a datagram spells, and passes what the node sends at it to the wire.
     /// Drops a longer datagram than 1,400 bytes, and one that spells no message of the group. At
     /// `Err` the node has refused the message.
-    fn hear_bytes<T: Wire>(&mut self, wire: &mut T, bytes: &[u8]) -> Result<Heard, NodeFault>
+    fn hear_bytes<T: Wire>(&mut self, wire: &mut T, bytes: &[u8]) -> Result<Received, NodeFault>
         ensures hears { (from : Option Traffic)
             → T.traffic wire.old ≡ grown from (Gives (Some bytes.now) ∷ [])
             → (came : List Arrival) × (ending : Ending)
             × HearsSome self.old.protocol.known.me.group came ending self.old self.new from
             (T.traffic wire.new)
-            × TellsOfOne result came ending × FailsAtEnd S.honest S.state ending self.new result }
-        ensures refused { IsHearingRefused S.state self.old self.new result }
+            × TellsOfOne result came ending × FailsAtEnd S.kind ending self.new result }
+        ensures refused { IsHearingRefused S.kind self.old self.new result }
     {
         if bytes.len() > LONGEST_DATAGRAM {
-            return Ok(Heard::Dropped);
+            return Ok(Received::Dropped);
         }
         let Ok(view) = decode(bytes, self.group) else {
-            return Ok(Heard::Dropped);
+            return Ok(Received::Dropped);
         };
         // A node in its ranges stays who it is.
         what_goes_out_fits();
@@ -60,24 +60,24 @@ impl<'a, S: Store> Host<'a, S> {
         wire.tell(&Told::BeginsToHear(bytes));
         if let Err(fault) = self.node.on_message(&view, &mut self.outbox) {
             unless_memory(fault)?;
-            return Ok(Heard::Lost);
+            return Ok(Received::Lost);
         }
         wire.tell(&Told::Heard(bytes));
         send_all(wire, &mut self.outbox, self.group.size);
-        Ok(Heard::Message)
+        Ok(Received::Message)
     }
 
     /// Takes the next datagram, if one is there. Receives it into `buffer`.
-    fn hear_next<T: Wire>(&mut self, wire: &mut T, buffer: &mut [u8]) -> Result<Heard, NodeFault>
+    fn hear_next<T: Wire>(&mut self, wire: &mut T, buffer: &mut [u8]) -> Result<Received, NodeFault>
         ensures hears { (came : List Arrival) × (ending : Ending)
             × HearsSome self.old.protocol.known.me.group came ending self.old self.new
             (T.traffic wire.old) (T.traffic wire.new)
             × TellsOfOne result came ending
-            × FailsAtEnd S.honest S.state ending self.new result }
-        ensures refused { IsHearingRefused S.state self.old self.new result }
+            × FailsAtEnd S.kind ending self.new result }
+        ensures refused { IsHearingRefused S.kind self.old self.new result }
     {
         let Some(count) = wire.receive(buffer) else {
-            return Ok(Heard::Nothing);
+            return Ok(Received::Nothing);
         };
         self.hear_bytes(wire, &buffer[..count])
     }
@@ -88,17 +88,17 @@ impl<'a, S: Store> Host<'a, S> {
         ensures hears { (came : List Arrival) × (ending : Ending)
             × HearsSome self.old.protocol.known.me.group came ending self.old self.new
             (T.traffic wire.old) (T.traffic wire.new)
-            × HearsOut S.honest S.state came ending self.new result
+            × HearsOut S.kind came ending self.new result
             × IfOk result (λ lost. lost ≡ lost_of came) }
-        ensures refused { IsHearingRefused S.state self.old self.new result }
+        ensures refused { IsHearingRefused S.kind self.old self.new result }
     {
         let mut buffer = [0u8; LONGEST_DATAGRAM + 1];
         let mut lost = 0u32;
         for _ in 0..MOST_RECEIVES {
             match self.hear_next(wire, &mut buffer)? {
-                Heard::Nothing => return Ok(lost),
-                Heard::Lost => lost += 1,
-                Heard::Dropped | Heard::Message => {}
+                Received::Nothing => return Ok(lost),
+                Received::Lost => lost += 1,
+                Received::Dropped | Received::Message => {}
             }
         }
         Ok(lost)
@@ -144,7 +144,7 @@ impl<'a, S: Store> Host<'a, S> {
 
     /// Takes a turn, as `turn` says.
     fn take_turn<T: Wire>(&mut self, wire: &mut T) -> Result<Turned, NodeFault>
-        ensures { HasTurned S.honest S.state self.old self.new (T.traffic wire.old)
+        ensures { HasTurned S.kind self.old self.new (T.traffic wire.old)
             (T.traffic wire.new) result }
     {
         let lost = self.hear_all(wire)?;
@@ -162,8 +162,8 @@ impl<'a, S: Store> Host<'a, S> {
     /// What the node sends at a message goes to `wire` at once. After a refusal the node knows what
     /// it knew, and has sent nothing. At `Store` one more fault is counted, and an honest store has
     /// the node's record or that of the message's response.
-    pub fn hear<T: Wire>(&mut self, wire: &mut T) -> Result<Heard, NodeFault>
-        ensures heard { HasHeard S.honest S.state self.old self.new (T.traffic wire.old)
+    pub fn hear<T: Wire>(&mut self, wire: &mut T) -> Result<Received, NodeFault>
+        ensures heard { HasHeard S.kind self.old self.new (T.traffic wire.old)
             (T.traffic wire.new) result }
         ensures acts { ActsBy self.old self.new (T.traffic wire.old) (T.traffic wire.new) [] []
             result }
@@ -194,7 +194,7 @@ impl<'a, S: Store> Host<'a, S> {
     /// store has that node's record or that of the message's response. After a refusal there is no
     /// tick and no step, and the node is stopped; after `Ok` it is not.
     pub fn turn<T: Wire>(&mut self, wire: &mut T) -> Result<Turned, NodeFault>
-        ensures turned { HasTurned S.honest S.state self.old self.new (T.traffic wire.old)
+        ensures turned { HasTurned S.kind self.old self.new (T.traffic wire.old)
             (T.traffic wire.new) result }
         ensures acts { ActsBy self.old self.new (T.traffic wire.old) (T.traffic wire.new)
             (Run TURN_STEPS ∷ []) [] result }

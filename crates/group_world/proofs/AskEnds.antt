@@ -5,6 +5,7 @@ use Rattle.std.proofs.lemmas.Bool.Decides.{nat_tests}
 use Rattle.std.proofs.lemmas.Bool.{both_ways, false_from_ne_true}
 use Rattle.paxos_msg.specs.Batches.{Change, Msg, Record}
 use Rattle.paxos_msg.specs.Fits.{Fits}
+use Rattle.paxos_acceptor.specs.Memories.{memory_kind}
 use Rattle.paxos_acceptor.specs.Stores.{FailsAsPlanned, StoreState}
 use Rattle.paxos_proposer.specs.Proposer.{Proposer}
 use Rattle.group_node.specs.declared.fault.NodeFault.{NodeFault}
@@ -19,8 +20,8 @@ use Rattle.group_node.specs.States.{NodeState}
 use Rattle.group_world.specs.declared.event.Done.{Done}
 use Rattle.group_world.specs.declared.member.Ask.{Ask}
 use Rattle.group_world.specs.declared.member.Ask.TheVariants.{Campaign, Hear, Tick}
-use Rattle.group_world.specs.declared.member.Place.{Place}
-use Rattle.group_world.specs.declared.member.Place.TheVariants as place
+use Rattle.group_world.specs.declared.member.UpOrDown.{UpOrDown}
+use Rattle.group_world.specs.declared.member.UpOrDown.TheVariants as member
 use Rattle.group_world.specs.Member.{NodeCall, CallEnds, IsDone, IsOfMember, IsOpen, IsSettled, Makes, Member, Refuses, Running, call_of_ask, call_outcome, call_of_campaign, failing, member_after_fall, member_of, running, store_of}
 
 abbrev pub Answer : Type 0
@@ -50,7 +51,7 @@ as_planned (Some c) (Some is_kept) old next left some h = (is_kept, refl, h)
 
 -- a node of the group, with this console
 abbrev pub node_at : NodeState StoreState → List ℕ → Member
-node_at n console = member_of (place.Up n) console
+node_at n console = member_of (member.Up n) console
 
 -- The node `n` of the code is the node `m` of the group. It is open, and its store has this plan
 -- for its next save.
@@ -143,7 +144,7 @@ record Said (old new : NodeState StoreState) (made : Response) (now : List Datag
 -- the same by the records of the contract
 said : {old new : NodeState StoreState} {made : Response} {before now : List Datagram} {answer : Answer} → before ≡ []
     → Does old.protocol new.protocol before now made answer
-    → Saves (Unit {0}) (Unit {0}) (λ s. s) old.protocol new.protocol made answer → Said old new made now answer
+    → Saves memory_kind old.protocol new.protocol made answer → Said old new made now answer
 said {old} {new} {made} {now = now} {answer = answer} empty does saves = record {
   does = subst (λ b. Does old.protocol new.protocol b now made answer) empty does;
   saved = saves.saved tt;
@@ -171,16 +172,16 @@ tick_rests n = by n.proposer where
 
 -- ---- a call that the node has answered
 
--- What holds after a call with the plan of the node `m` of the group, which is at the place `new`
--- now. It is open unless its save failed; the call ends as it should, however its place is settled;
+-- What holds after a call with the plan of the node `m` of the group, which is `new`
+-- now. It is open unless its save failed; the call ends as it should, however it is settled;
 -- and nothing has changed if memory ran out.
-pub record IsAnswered (plan : Option Bool) (new : Place) (console : List ℕ) (m : Member) (ask : Ask)
+pub record IsAnswered (plan : Option Bool) (new : UpOrDown) (console : List ℕ) (m : Member) (ask : Ask)
     (now : List Datagram) (answer : Answer) : Type 0 where
   pub works : ¬ IsErrOf answer fault.Store → IsSettled new
-  pub ends : (s : Place) (d : Done) → (IsErrOf answer fault.Store → s ≡ place.Down (store_of new))
+  pub ends : (s : UpOrDown) (d : Done) → (IsErrOf answer fault.Store → s ≡ member.Down (store_of new))
       → (¬ IsErrOf answer fault.Store → s ≡ new) → IsDone answer d → (q : Running) → m.node ≡ Some q
       → CallEnds q.known.me m q.progress (call_outcome plan m.kept (call_of_ask q.known ask)) d (member_of s console) now []
-  pub same : (s : Place) → (¬ IsErrOf answer fault.Store → s ≡ new) → answer ≡ Err fault.Memory
+  pub same : (s : UpOrDown) → (¬ IsErrOf answer fault.Store → s ≡ new) → answer ≡ Err fault.Memory
       → (member_of s console ≡ m) × (now ≡ [])
 
 -- a call of an open node with an empty outbox is not refused as `Stopped` or `OutboxFull`
@@ -210,9 +211,9 @@ module _ {plan : Option Bool} {old new : NodeState StoreState} {console : List �
     same_node said = rw (said.does.err, progress) refl
 
     -- the call ends as it should
-    call_ends : {call : NodeCall} {s : Place} {d : Done} (answer : Answer) → Said old new made now answer → IsCall call made answer
-        → (IsErrOf answer fault.Store → s ≡ place.Down (store_of (place.Up new)))
-        → (¬ IsErrOf answer fault.Store → s ≡ place.Up new) → IsDone answer d
+    call_ends : {call : NodeCall} {s : UpOrDown} {d : Done} (answer : Answer) → Said old new made now answer → IsCall call made answer
+        → (IsErrOf answer fault.Store → s ≡ member.Down (store_of (member.Up new)))
+        → (¬ IsErrOf answer fault.Store → s ≡ member.Up new) → IsDone answer d
         → CallEnds old.protocol.known.me (node_at old console) old.progress
         (call_outcome plan old.protocol.known.kept call) d (member_of s console) now []
     call_ends (Ok x) said is fell stays done =
@@ -240,7 +241,7 @@ module _ {plan : Option Bool} {old new : NodeState StoreState} {console : List �
         })
 
     -- nothing has changed if memory ran out
-    ran_out : {s : Place} (answer : Answer) → Said old new made now answer → (¬ IsErrOf answer fault.Store → s ≡ place.Up new)
+    ran_out : {s : UpOrDown} (answer : Answer) → Said old new made now answer → (¬ IsErrOf answer fault.Store → s ≡ member.Up new)
         → answer ≡ Err fault.Memory → (member_of s console ≡ m) × (now ≡ [])
     ran_out (Ok x) said stays memory = absurd cc
     ran_out (Err f) said stays memory =
@@ -248,7 +249,7 @@ module _ {plan : Option Bool} {old new : NodeState StoreState} {console : List �
 
   module _ {answer : Answer} (let_in : IsLetIn old.protocol before answer) where
     answered : (ask : Ask) (made : Response) → Said old new made now answer → IsCall (call_of_ask old.protocol.known ask) made answer
-        → IsAnswered plan (place.Up new) console m ask now answer
+        → IsAnswered plan (member.Up new) console m ask now answer
     answered ask made said is = record {
       works = stays_open answer said;
       ends = λ s d fell stays done q up.
@@ -260,21 +261,21 @@ module _ {plan : Option Bool} {old new : NodeState StoreState} {console : List �
     -- a message
     pub heard : (message : Msg)
         → Does old.protocol new.protocol before now (on_message old.protocol.known message.sender message.body) answer
-        → Saves (Unit {0}) (Unit {0}) (λ (s : StoreState). s) old.protocol new.protocol
+        → Saves memory_kind old.protocol new.protocol
         (on_message old.protocol.known message.sender message.body) answer
         → IfErr answer (λ f. (f ≡ fault.Stopped) ⊎ (f ≡ fault.OutboxFull) ⊎ (f ≡ fault.Memory) ⊎ (f ≡ fault.Store))
-        → IsAnswered plan (place.Up new) console m (Hear message) now answer
+        → IsAnswered plan (member.Up new) console m (Hear message) now answer
     heard message does saves others =
         answered (Hear message) _ (said empty does saves)
         (never_refused answer _ (λ f either store memory. neither either memory store) (taken answer h.opens empty let_in _ others))
 
     -- a campaign
     pub campaign_answered : Does old.protocol new.protocol before now (on_campaign old.protocol.known) answer
-        → Saves (Unit {0}) (Unit {0}) (λ (s : StoreState). s) old.protocol new.protocol (on_campaign old.protocol.known) answer
+        → Saves memory_kind old.protocol new.protocol (on_campaign old.protocol.known) answer
         → (IsOpen old → IsCampaignRefused old.protocol.known answer)
         → IfErr answer (λ f. (f ≡ fault.Stopped) ⊎ (f ≡ fault.OutboxFull) ⊎ (f ≡ fault.RoundsSpent) ⊎ (f ≡ fault.PlacesSpent)
         ⊎ (f ≡ fault.Memory) ⊎ (f ≡ fault.Store))
-        → IsAnswered plan (place.Up new) console m Campaign now answer
+        → IsAnswered plan (member.Up new) console m Campaign now answer
     campaign_answered does saves campaigns others =
         answered Campaign _ (said empty does saves) (is_campaign answer (campaigns h.opens) (taken answer h.opens empty let_in _ others))
 
@@ -282,7 +283,7 @@ module _ {plan : Option Bool} {old new : NodeState StoreState} {console : List �
     pub tick_answered : Does old.protocol new.protocol before now (on_tick old.protocol.known) answer
         → new.protocol.store ≡ old.protocol.store
         → IfErr answer (λ f. (f ≡ fault.Stopped) ⊎ (f ≡ fault.OutboxFull) ⊎ (f ≡ fault.Memory))
-        → IsAnswered plan (place.Up new) console m Tick now answer
+        → IsAnswered plan (member.Up new) console m Tick now answer
     tick_answered does store others =
         let memory = taken answer h.opens empty let_in (λ f. f ≡ fault.Memory) others in
         let never = no_device answer memory in

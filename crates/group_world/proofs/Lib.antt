@@ -10,7 +10,7 @@ mod OrderPossible
 mod HoldsAfterEvents
 mod ConsolesMayShow
 mod AskEnds
-mod PlaceCalls
+mod MemberCalls
 mod GroupCalls
 mod ProcessEvents
 mod EventProcesses

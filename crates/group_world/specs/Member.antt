@@ -1,4 +1,4 @@
--- One node of a group: its place, its calls, and how a call ends.
+-- One node of a group: up or down, its calls, and how a call ends.
 use Rattle.std.specs.Prelude.{◌≡◌, ◌≢◌, ◌⊎◌, ℕ, ◌+◌, ◌==◌, nat_lt, Bool, if◌then◌else◌, false, List, [], ◌∷◌, length, Option, Some, None, Result, Ok, Err, IfErr}
 use Rattle.paxos_msg.specs.declared.limits.TheConstants.{LAST_ROUND, LAST_SERIAL, LAST_START, PLACES}
 use Rattle.paxos_msg.specs.declared.value.Value.{Value}
@@ -24,8 +24,8 @@ use Rattle.group_world.specs.declared.fault.WorldFault.{WorldFault}
 use Rattle.group_world.specs.declared.fault.WorldFault.TheVariants.{Memory}
 use Rattle.group_world.specs.declared.member.Ask.{Ask}
 use Rattle.group_world.specs.declared.member.Ask.TheVariants.{Campaign, Hear, Tick}
-use Rattle.group_world.specs.declared.member.Place.{Place}
-use Rattle.group_world.specs.declared.member.Place.TheVariants as place
+use Rattle.group_world.specs.declared.member.UpOrDown.{UpOrDown}
+use Rattle.group_world.specs.declared.member.UpOrDown.TheVariants as member
 
 -- ---- a node as contracts see it
 
@@ -49,7 +49,7 @@ IsMemberUp m = (q : Running) × (m.node ≡ Some q)
 abbrev pub FailsByMemory : {T : Type 0} → Result T WorldFault → Type 0
 FailsByMemory result = IfErr result (λ e. e ≡ Memory)
 
--- ---- its place, as the code keeps it
+-- ---- up or down, as the code keeps it
 
 -- A node of the code as a node that is up.
 abbrev pub running : NodeState StoreState → Running
@@ -60,28 +60,28 @@ pub record IsOpen (n : NodeState StoreState) : Type 0 where
   pub works : n.protocol.is_stopped ≡ false
   pub stored : n.protocol.store.stored ≡ n.protocol.known.kept
 
--- The store of a place.
-abbrev pub store_of : Place → StoreState
-store_of (place.Down store) = store
-store_of (place.Up n) = n.protocol.store
+-- Its store.
+abbrev pub store_of : UpOrDown → StoreState
+store_of (member.Down store) = store
+store_of (member.Up n) = n.protocol.store
 
--- The record that a start at this place finds.
-abbrev pub kept_of : Place → Record
-kept_of (place.Down store) = store.stored
-kept_of (place.Up n) = n.protocol.known.kept
+-- The record that a start finds.
+abbrev pub kept_of : UpOrDown → Record
+kept_of (member.Down store) = store.stored
+kept_of (member.Up n) = n.protocol.known.kept
 
--- The node of a place, if it is up.
-abbrev pub running_of : Place → Option Running
-running_of (place.Down store) = None
-running_of (place.Up n) = Some (running n)
+-- The node, if it is up.
+abbrev pub running_of : UpOrDown → Option Running
+running_of (member.Down store) = None
+running_of (member.Up n) = Some (running n)
 
--- A place that is down, or whose node is open.
-abbrev pub IsSettled : Place → Type 0
-IsSettled (place.Down store) = Unit {0}
-IsSettled (place.Up n) = IsOpen n
+-- It is down, or its node is open.
+abbrev pub IsSettled : UpOrDown → Type 0
+IsSettled (member.Down store) = Unit {0}
+IsSettled (member.Up n) = IsOpen n
 
--- The node at a place, with this console.
-abbrev pub member_of : Place → List ℕ → Member
+-- The node of the group, with this console.
+abbrev pub member_of : UpOrDown → List ℕ → Member
 member_of s console = record { kept = kept_of s; console = console; node = running_of s }
 
 -- ---- calls

@@ -98,7 +98,7 @@ fn members<'a>(alloc: Global, size: u8) -> Result<Vec<Member<'a>>, AllocError>
 }
 
 /// Returns the index of a node in the list of nodes.
-fn place(node: u8) -> usize
+fn index_of(node: u8) -> usize
     requires { 0 < node }
     ensures { result ≡ node - 1 }
 {
@@ -132,7 +132,7 @@ impl<'a> GroupState<'a> {
         if node == 0 {
             return None;
         }
-        self.members.get(place(node))
+        self.members.get(index_of(node))
     }
 
     /// Returns why the event is refused, if it is: there is no such node, or else no such message,
@@ -174,7 +174,7 @@ impl<'a> GroupState<'a> {
         if self.typed.reserve(1).is_err() {
             return Err(WorldFault::Memory);
         }
-        match self.members[place(node)].press(byte) {
+        match self.members[index_of(node)].press(byte) {
             Ok(key) => {
                 keep(&mut self.typed, key);
                 Ok(Done::Applied)
@@ -196,7 +196,7 @@ impl<'a> GroupState<'a> {
         if self.sent.reserve(MOST_PACKETS).is_err() {
             return Err(WorldFault::Memory);
         }
-        let done = self.members[place(node)].ask(self.alloc, ask, plan, &mut self.outbox);
+        let done = self.members[index_of(node)].ask(self.alloc, ask, plan, &mut self.outbox);
         collect(&mut self.outbox, &mut self.sent);
         done
     }
@@ -217,7 +217,7 @@ impl<'a> GroupState<'a> {
         let Ok(view) = decode(self.sent[message].bytes.as_slice(), self.group) else {
             unreachable!()
         };
-        let done = self.members[place(node)].ask(
+        let done = self.members[index_of(node)].ask(
             self.alloc,
             &Ask::Hear(view),
             plan,
@@ -233,7 +233,7 @@ impl<'a> GroupState<'a> {
         ensures acts { (plan : Option Bool)
             → Performs self.old plan (Act.Run node steps) Applied self.new }
     {
-        self.members[place(node)].run(steps);
+        self.members[index_of(node)].run(steps);
     }
 
     /// Releases a byte of the node, which is up, to its console, if one waits.
@@ -244,7 +244,7 @@ impl<'a> GroupState<'a> {
         ensures err { OnErr result (self.new ≡ self.old) }
         ensures memory { FailsByMemory result }
     {
-        self.members[place(node)].release()
+        self.members[index_of(node)].release()
     }
 
     /// Takes the node down, which is up. Its record and its console stay.
@@ -253,7 +253,7 @@ impl<'a> GroupState<'a> {
         ensures acts { (plan : Option Bool)
             → Performs self.old plan (Act.Crash node) Applied self.new }
     {
-        self.members[place(node)].crash(self.alloc);
+        self.members[index_of(node)].crash(self.alloc);
     }
 
     /// Starts the node, which is down. `plan` says whether its save fails, and what the store then
@@ -268,7 +268,7 @@ impl<'a> GroupState<'a> {
         let Ok(config) = Config::new(node, self.group.size, self.group.session) else {
             unreachable!()
         };
-        self.members[place(node)].start(self.alloc, self.program, config, plan)
+        self.members[index_of(node)].start(self.alloc, self.program, config, plan)
     }
 
     /// Performs the act, which is not refused. `plan` says whether its save fails, and what the

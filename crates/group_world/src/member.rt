@@ -1,11 +1,11 @@
-//! A node of the group: its place, up or down, and its console.
+//! A node of the group, up or down, and its console.
 ghost use Rattle.std.specs.Prelude.{◌≡◌, [], ◌∷◌, Bool, None, Option, Some, IfOk, IsErrOf, MatchResult, OnOk, OnErr, option_map, slice_get, Err};
 ghost use Rattle.paxos_msg.specs.Records.{empty_record};
 ghost use Rattle.paxos_acceptor.specs.Records.{IsRecord};
 ghost use Rattle.group_node.specs.Output.{no_progress, unreleased_of};
 ghost use Rattle.group_node.specs.States.{input};
 ghost use Rattle.group_world.specs.declared.event.Done.TheVariants.{Applied, Refused};
-ghost use Rattle.group_world.specs.declared.member.Place.TheVariants.{Down};
+ghost use Rattle.group_world.specs.declared.member.UpOrDown.TheVariants.{Down};
 ghost use Rattle.group_world.specs.Member.{call_of_ask, call_outcome, CallEnds, FailsByMemory, IsDone, IsMemberUp, IsOfMember, IsSettled, kept_of, call_of_press, member_after_release, Running, running, running_of, RunsMember, call_of_start, store_of};
 
 use crate::event::Done;
@@ -31,19 +31,19 @@ pub(crate) enum Ask<'a> {
 
 /// The store of a node that is down, or the node.
 #[derive(Drop)]
-pub(crate) enum Place<'a> {
+pub(crate) enum UpOrDown<'a> {
     Down(MemoryStore),
     Up(Node<'a, MemoryStore>),
 }
 
-impl<'a> Place<'a> {
+impl<'a> UpOrDown<'a> {
     /// Returns the node, if it is up.
     fn node(&self) -> Option<&Node<'a, MemoryStore>>
         ensures { option_map (λ n. running n.now) result ≡ running_of self.now }
     {
         match self {
-            Place::Up(node) => Some(node),
-            Place::Down(_) => None,
+            UpOrDown::Up(node) => Some(node),
+            UpOrDown::Down(_) => None,
         }
     }
 
@@ -52,33 +52,33 @@ impl<'a> Place<'a> {
         ensures { result.now ≡ kept_of self.now }
     {
         match self {
-            Place::Up(node) => node.record(),
-            Place::Down(store) => store.stored(),
+            UpOrDown::Up(node) => node.record(),
+            UpOrDown::Down(store) => store.stored(),
         }
     }
 
     /// Takes what is here, and leaves an empty store for a moment. It takes no memory.
-    fn taken(&mut self, alloc: Global) -> Place<'a>
+    fn taken(&mut self, alloc: Global) -> UpOrDown<'a>
         ensures { result ≡ self.old }
     {
-        mem::replace(self, Place::Down(MemoryStore::new(Record::new(alloc))))
+        mem::replace(self, UpOrDown::Down(MemoryStore::new(Record::new(alloc))))
     }
 
-    /// Returns the store of the place.
+    /// Returns the store.
     fn into_store(self) -> MemoryStore
         ensures { result ≡ store_of self.entry }
     {
         match self {
-            Place::Up(node) => node.into_store(),
-            Place::Down(store) => store,
+            UpOrDown::Up(node) => node.into_store(),
+            UpOrDown::Down(store) => store,
         }
     }
 
-    /// Puts `place` here.
-    fn put(&mut self, place: Place<'a>)
-        ensures { self.new ≡ place.entry }
+    /// Puts `next` here.
+    fn put(&mut self, next: UpOrDown<'a>)
+        ensures { self.new ≡ next.entry }
     {
-        *self = place;
+        *self = next;
     }
 
     /// Takes the node down. Its store stays.
@@ -86,7 +86,7 @@ impl<'a> Place<'a> {
         ensures { self.new ≡ Down (store_of self.old) }
     {
         let store = self.taken(alloc).into_store();
-        self.put(Place::Down(store));
+        self.put(UpOrDown::Down(store));
     }
 
     /// Ends a call that the node answered with `answer`: after a failed save it takes the node
@@ -117,7 +117,7 @@ impl<'a> Place<'a> {
 /// A node of the group, up or down, and its console, which outlives it.
 #[derive(Drop)]
 pub(crate) struct Member<'a> {
-    place: Place<'a>,
+    up_or_down: UpOrDown<'a>,
     console: Console,
 }
 
@@ -130,9 +130,9 @@ impl<'a> Model for Member<'a> {
 
     ghost coded = { Prim.hlevel (codes, learner_code) };
 
-    ghost view = { λ m. state.member_of m.place m.console.bytes };
+    ghost view = { λ m. state.member_of m.up_or_down m.console.bytes };
 
-    ghost invariant = { λ m. state.IsSettled m.place };
+    ghost invariant = { λ m. state.IsSettled m.up_or_down };
 }
 
 impl<'a> Member<'a> {
@@ -142,7 +142,7 @@ impl<'a> Member<'a> {
         ensures { result ≡ record { kept = empty_record; console = []; node = None } }
     {
         Member {
-            place: Place::Down(MemoryStore::new(Record::new(alloc))),
+            up_or_down: UpOrDown::Down(MemoryStore::new(Record::new(alloc))),
             console: Console::new(alloc),
         }
     }
@@ -151,14 +151,14 @@ impl<'a> Member<'a> {
     pub(crate) fn node(&self) -> Option<&Node<'a, MemoryStore>>
         ensures { option_map (λ n. running n.now) result ≡ self.now.node }
     {
-        self.place.node()
+        self.up_or_down.node()
     }
 
     /// Returns the record that the next start finds.
     pub(crate) fn record(&self) -> &Record
         ensures { result.now ≡ self.now.kept }
     {
-        self.place.record()
+        self.up_or_down.record()
     }
 
     /// Returns what its console has shown.
@@ -186,16 +186,16 @@ impl<'a> Member<'a> {
         ensures err { OnErr result (self.new ≡ self.old) }
         ensures memory { FailsByMemory result }
     {
-        let mut store = self.place.taken(alloc).into_store();
+        let mut store = self.up_or_down.taken(alloc).into_store();
         store.fail_next(plan);
         match Node::start(alloc, program, config, store) {
             Ok(node) => {
-                self.place.put(Place::Up(node));
+                self.up_or_down.put(UpOrDown::Up(node));
                 Ok(Done::Applied)
             }
             Err(StartRefused { fault, store }) => {
-                self.place.put(Place::Down(store));
-                self.place.settle(alloc, Err(fault))
+                self.up_or_down.put(UpOrDown::Down(store));
+                self.up_or_down.settle(alloc, Err(fault))
             }
         }
     }
@@ -205,7 +205,7 @@ impl<'a> Member<'a> {
     pub(crate) fn crash(&mut self, alloc: Global)
         ensures { self.new ≡ record self.old { node = None } }
     {
-        self.place.crash(alloc);
+        self.up_or_down.crash(alloc);
     }
 
     /// Types `byte` at the node, which is up, and returns the key. Fails with `Busy` or
@@ -222,13 +222,13 @@ impl<'a> Member<'a> {
             (call_outcome plan self.old.kept (call_of_press q.known byte))
             (Refused f) self.new [] []) }
     {
-        match &mut self.place {
-            Place::Up(node) => {
+        match &mut self.up_or_down {
+            UpOrDown::Up(node) => {
                 // At most 256 keys wait.
                 let _waiting = node.waiting();
                 node.typed(byte)
             }
-            Place::Down(_) => unreachable!(),
+            UpOrDown::Down(_) => unreachable!(),
         }
     }
 
@@ -252,17 +252,17 @@ impl<'a> Member<'a> {
         ensures err { OnErr result ((self.new ≡ self.old) × (outbox.new.packets ≡ [])) }
         ensures memory { FailsByMemory result }
     {
-        match &mut self.place {
-            Place::Up(node) => {
+        match &mut self.up_or_down {
+            UpOrDown::Up(node) => {
                 node.fail_next(plan);
                 let answer = match ask {
                     Ask::Hear(view) => node.on_message(view, outbox),
                     Ask::Campaign => node.campaign(outbox),
                     Ask::Tick => node.tick(outbox),
                 };
-                self.place.settle(alloc, answer)
+                self.up_or_down.settle(alloc, answer)
             }
-            Place::Down(_) => unreachable!(),
+            UpOrDown::Down(_) => unreachable!(),
         }
     }
 
@@ -273,12 +273,12 @@ impl<'a> Member<'a> {
         ensures runs { (q : Running) → self.old.node ≡ Some q
             → RunsMember self.old q steps self.new }
     {
-        match &mut self.place {
-            Place::Up(node) => {
+        match &mut self.up_or_down {
+            UpOrDown::Up(node) => {
                 let _ran = node.run(steps);
                 let _waits = node.unreleased();
             }
-            Place::Down(_) => unreachable!(),
+            UpOrDown::Down(_) => unreachable!(),
         }
     }
 
@@ -298,9 +298,9 @@ impl<'a> Member<'a> {
         if self.console.reserve().is_err() {
             return Err(WorldFault::Memory);
         }
-        let next = match &mut self.place {
-            Place::Up(node) => node.release(),
-            Place::Down(_) => unreachable!(),
+        let next = match &mut self.up_or_down {
+            UpOrDown::Up(node) => node.release(),
+            UpOrDown::Down(_) => unreachable!(),
         };
         if let Some((number, byte)) = next {
             let _shown = self.console.offer(number, byte);

@@ -14,7 +14,7 @@ use Rattle.paxos_acceptor.specs.Entries.{entry_bytes}
 use Rattle.paxos_acceptor.specs.Log.{IsUncut, LogFound, LogIn, log_header}
 use Rattle.paxos_acceptor.specs.Padding.{IsAppended}
 use Rattle.paxos_acceptor.specs.Records.{IsRecord, Rec, record_bytes}
-use Rattle.paxos_acceptor.specs.Stores.{HasCause}
+use Rattle.paxos_acceptor.specs.Stores.{HasCause, StoreKind}
 use Rattle.paxos_acceptor.specs.Version1.{Rec1}
 
 -- The bytes of a file whose next save writes a whole record: its spelling in version 2 or 1, or a
@@ -113,6 +113,16 @@ pub record Finds (old new : Filed) (answer : Result Record StoreFault) : Type 0 
   pub found : IfOk answer (λ r. new.found ≡ Some r)
   pub lost : OnErr answer (new.found ≡ None)
   pub cause : HasCause (IsErrOf answer fault.Device) old.faults new.faults
+
+-- The kind of the stores in files. Contracts know how often such a store failed and what a load of
+-- it gave, and nothing of the record that it has.
+abbrev pub file_kind : StoreKind Filed
+file_kind = record {
+  honest = ⊥;
+  fails_at_will = ⊥;
+  state = λ s. record { stored = empty_record; plan = None; faults = s.faults };
+  loads = λ old answer new. Finds old new answer;
+}
 
 -- The store after a save. Its node is the same. The save is built on the known record, and its
 -- record is known after it. After a fault of the device, which is counted, nothing is known. If

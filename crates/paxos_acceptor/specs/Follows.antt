@@ -1,8 +1,11 @@
 -- The state of an acceptor, and the state after a call.
-use Rattle.std.specs.Prelude.{◌≡◌, ◌≢◌, ◌↔◌, ◌⊎◌, Bool, false, true, Option, None, Result, OnOk, OnErr, IsErrOf}
-use Rattle.paxos_msg.specs.Batches.{Change, Record}
-use Rattle.paxos_acceptor.specs.Answers.{after}
-use Rattle.paxos_acceptor.specs.Stores.{StoreState, FailsAsPlanned, HasCause, IsOneOf}
+use Rattle.std.specs.Prelude.{◌≡◌, ◌≢◌, ◌↔◌, ◌⊎◌, ℕ, Bool, false, true, Option, None, Some, Result, IfOk, OnOk, OnErr, IsErrOf}
+use Rattle.paxos_msg.specs.Batches.{Body, Change, Record}
+use Rattle.paxos_msg.specs.declared.limits.TheConstants.{LAST_START}
+use Rattle.paxos_msg.specs.declared.record.Change.TheVariants.{Start}
+use Rattle.paxos_acceptor.specs.Answers.{Answer, after}
+use Rattle.paxos_acceptor.specs.Calls.{Mut}
+use Rattle.paxos_acceptor.specs.Stores.{StoreKind, FailsAsPlanned, HasCause, IsOneOf}
 use Rattle.paxos_acceptor.specs.declared.fault.AcceptorFault.{AcceptorFault}
 use Rattle.paxos_acceptor.specs.declared.fault.AcceptorFault.TheVariants.{Store, Closed, StartsSpent}
 use Rattle.paxos_acceptor.specs.declared.me.Me.{Me}
@@ -17,18 +20,17 @@ pub record AcceptorState (S : Type 0) : Type 0 where
 
 -- An acceptor whose record is in its ranges, and is that of its store, if the store is honest and
 -- the acceptor is not closed.
-pub record IsAcceptorInStep {S : Type 0} (honest : Type 0) (state : S → StoreState)
-    (a : AcceptorState S) : Type 0 where
+pub record IsAcceptorInStep {S : Type 0} (kind : StoreKind S) (a : AcceptorState S)
+    : Type 0 where
   pub ranges : IsRecord a.me.group.size a.kept
-  pub in_step : honest → a.is_closed ≡ false → (state a.store).stored ≡ a.kept
+  pub in_step : kind.honest → a.is_closed ≡ false → (kind.state a.store).stored ≡ a.kept
 
 -- The acceptor and its store after a call that makes this change, if any, whatever it answers.
 -- Source: Simple 2.5, stable storage.
 -- Allows: A failed save that is found after all.
 -- Forbids: An answer before its save.
-pub record Follows {S T : Type 0} (honest at_will : Type 0) (state : S → StoreState)
-    (old new : AcceptorState S) (change : Option Change)
-    (result : Result T AcceptorFault) : Type 0 where
+pub record Follows {S T : Type 0} (kind : StoreKind S) (change : Option Change)
+    (old new : AcceptorState S) (result : Result T AcceptorFault) : Type 0 where
   -- Its node stays. `Ok` makes the change in its record; an error leaves the record as it was.
   pub me : new.me ≡ old.me
   pub ok : OnOk result (new.kept ≡ after old.kept change)
@@ -43,18 +45,36 @@ pub record Follows {S T : Type 0} (honest at_will : Type 0) (state : S → Store
   pub refused : IsErrOf result Closed ⊎ IsErrOf result StartsSpent → new ≡ old
   -- An honest store has the new record after `Ok`, the old or the new one after `Store`, and after
   -- any other error the same one as before.
-  pub saved : honest → OnOk result ((state new.store).stored ≡ after old.kept change)
-  pub device : honest → IsErrOf result Store
-      → IsOneOf (state new.store).stored old.kept (after old.kept change)
-  pub unsaved : honest
-      → OnErr result (¬ IsErrOf result Store → (state new.store).stored ≡ (state old.store).stored)
+  pub saved : kind.honest → OnOk result ((kind.state new.store).stored ≡ after old.kept change)
+  pub device : kind.honest → IsErrOf result Store
+      → IsOneOf (kind.state new.store).stored old.kept (after old.kept change)
+  pub unsaved : kind.honest → OnErr result (¬ IsErrOf result Store
+      → (kind.state new.store).stored ≡ (kind.state old.store).stored)
   -- No save succeeds under a plan. `Store` uses the plan up, and nothing else changes it. An honest
   -- store that fails at will fails only under a plan, and then has the record that the plan says.
-  pub unplanned : change ≢ None → OnOk result ((state old.store).plan ≡ None)
-  pub used_up : IsErrOf result Store → (state new.store).plan ≡ None
-  pub plan : ¬ IsErrOf result Store → (state new.store).plan ≡ (state old.store).plan
-  pub planned : honest → at_will → IsErrOf result Store
-      → FailsAsPlanned (state old.store).plan old.kept (after old.kept change)
-      (state new.store).stored
+  pub unplanned : change ≢ None → OnOk result ((kind.state old.store).plan ≡ None)
+  pub used_up : IsErrOf result Store → (kind.state new.store).plan ≡ None
+  pub plan : ¬ IsErrOf result Store → (kind.state new.store).plan ≡ (kind.state old.store).plan
+  pub planned : kind.honest → kind.fails_at_will → IsErrOf result Store
+      → FailsAsPlanned (kind.state old.store).plan old.kept (after old.kept change)
+      (kind.state new.store).stored
   -- `Store` counts one more fault, and no other answer counts one.
-  pub cause : HasCause (IsErrOf result Store) (state old.store).faults (state new.store).faults
+  pub cause : HasCause (IsErrOf result Store) (kind.state old.store).faults
+      (kind.state new.store).faults
+
+-- The acceptor after a call that gives this answer: `Ok` says it, after its change is saved.
+-- Forbids: An answer before its save.
+pub record Answers {S : Type 0} (kind : StoreKind S) (answer : Answer)
+    (acceptor : Mut (AcceptorState S)) (result : Result Body AcceptorFault) : Type 0 where
+  pub says : IfOk result (λ body. body ≡ answer.says)
+  pub follows : Follows kind answer.saves acceptor.entry.now acceptor.exit.now result
+
+-- The acceptor after a call that counts one more start: `Ok` says how many there are then. It is
+-- `StartsSpent` exactly if the acceptor was open and had counted as many as can be.
+-- Forbids: A start whose number was given before.
+pub record CountsStart {S : Type 0} (kind : StoreKind S) (acceptor : Mut (AcceptorState S))
+    (result : Result ℕ AcceptorFault) : Type 0 where
+  pub says : IfOk result (λ starts. starts ≡ acceptor.exit.now.kept.starts)
+  pub follows : Follows kind (Some Start) acceptor.entry.now acceptor.exit.now result
+  pub spent : IsErrOf result StartsSpent
+      ↔ ((acceptor.entry.now.is_closed ≡ false) × (acceptor.entry.now.kept.starts ≡ LAST_START))

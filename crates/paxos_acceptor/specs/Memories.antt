@@ -2,7 +2,7 @@
 use Rattle.std.specs.Prelude.{◌≡◌, ◌+◌, min, if◌then◌else◌, None, IsSomeAnd, Result, IfErr, IfOk, OnOk, IsErrOf}
 use Rattle.paxos_msg.specs.Batches.{Change, Record}
 use Rattle.paxos_msg.specs.Records.{changed}
-use Rattle.paxos_acceptor.specs.Stores.{HasCause, StoreState}
+use Rattle.paxos_acceptor.specs.Stores.{HasCause, StoreKind, StoreState}
 use Rattle.paxos_acceptor.specs.declared.store.StoreFault.{StoreFault}
 use Rattle.paxos_acceptor.specs.declared.store.StoreFault.TheVariants as fault
 
@@ -12,6 +12,15 @@ pub record Loads (old new : StoreState) (answer : Result Record StoreFault) : Ty
   pub found : IfOk answer (λ found. found ≡ old.stored)
   pub memory : IfErr answer (λ e. e ≡ fault.Memory)
   pub same : new ≡ old
+
+-- The kind of the stores in memory: honest ones that fail as planned.
+abbrev pub memory_kind : StoreKind StoreState
+memory_kind = record {
+  honest = Unit {0};
+  fails_at_will = Unit {0};
+  state = λ s. s;
+  loads = λ old answer new. Loads old new answer;
+}
 
 -- A save of a store in memory. Without a plan it makes the change. With one the device fails, which
 -- leaves the changed record or the old one, uses up the plan and is counted. If memory runs out,

@@ -1,14 +1,11 @@
 //! An acceptor.
-ghost use Rattle.std.specs.Prelude.{◌≡◌, ◌≢◌, ◌↔◌, false, None, Some, IfOk, IfErr, IsErrOf, MatchResult, Result};
-ghost use Rattle.paxos_msg.specs.declared.record.Change.TheVariants.{Start};
-ghost use Rattle.paxos_msg.specs.Batches.{Record as Kept};
+ghost use Rattle.std.specs.Prelude.{◌≡◌, ◌≢◌, [], ◌∷◌, false, None, IfOk, IfErr, IsErrOf};
 ghost use Rattle.paxos_msg.specs.Fits.{IsBallot, IsPlace, IsValue};
 ghost use Rattle.paxos_acceptor.specs.Answers.{accept_of, prepare_of, greater_promise};
-ghost use Rattle.paxos_acceptor.specs.Follows.{Follows};
-ghost use Rattle.paxos_acceptor.specs.Opening.{Opens, fault_of_load};
+ghost use Rattle.paxos_acceptor.specs.Calls.{FailsOnlyWith, IsAmong};
+ghost use Rattle.paxos_acceptor.specs.Follows.{Answers, CountsStart};
+ghost use Rattle.paxos_acceptor.specs.Opening.{IsOpened, OpensByPlan, OpensFrom, OpensOnce, fault_of_load};
 ghost use Rattle.paxos_acceptor.specs.Records.{IsRecord};
-ghost use Rattle.paxos_acceptor.specs.Stores.{HasCause};
-ghost use Rattle.paxos_msg.specs.declared.limits.TheConstants.{LAST_START};
 
 use crate::answers::{accepted, greater_promise, is_promised, part_from, value_under};
 use crate::codec::record_fits;
@@ -56,7 +53,7 @@ impl<S: Store> Model for Acceptor<S> {
     } };
 
     ghost invariant = { λ a.
-        IsAcceptorInStep S.honest S.state
+        IsAcceptorInStep S.kind
         (record { me = a.me; kept = a.record; is_closed = a.is_closed; store = a.store }) };
 }
 
@@ -86,7 +83,7 @@ fn over<S: Store>(
     kept: Record,
     me: Me,
 ) -> Result<Acceptor<S>, OpenRefused<S>>
-    requires { S.honest → (S.state store).stored ≡ kept }
+    requires { S.kind.honest → (S.kind.state store).stored ≡ kept }
     ensures ok { IfOk result
         (λ a. a ≡ record { me = me; kept = kept; is_closed = false; store = store }) }
     ensures ranges { IfOk result (λ _. IsRecord me.group.size kept) }
@@ -121,27 +118,12 @@ impl<S: Store> Acceptor<S> {
     /// Call `new_start` before the first answer. What was loaded may come from a save whose sync
     /// has failed in an earlier process, and is on the disk for sure only after the next save.
     pub fn open(alloc: Global, store: S, me: Me) -> Result<Acceptor<S>, OpenRefused<S>>
-        ensures loads { (answer : Result Kept StoreFault) × (left : S) × S.loads store answer left
-            × Opens me answer left result }
-        ensures loaded { S.honest
-            → IfOk result (λ a. (a.kept ≡ (S.state store).stored)
-            × ((S.state a.store).stored ≡ (S.state store).stored)) }
-        ensures open { IfOk result (λ a. (a.is_closed ≡ false) × (a.me ≡ me)) }
-        ensures ranges { IfOk result (λ a. IsRecord me.group.size a.kept) }
-        ensures same { S.honest
-            → IfErr result (λ e. (S.state e.store).stored ≡ (S.state store).stored) }
-        ensures bad { S.honest
-            → IfErr result (λ e. e.fault ≡ AcceptorFault.BadRecord
-            → ¬ IsRecord me.group.size (S.state store).stored) }
-        ensures plan { MatchResult result (λ a. (S.state a.store).plan ≡ (S.state store).plan)
-            (λ e. (S.state e.store).plan ≡ (S.state store).plan) }
-        ensures sure { S.fails_at_will → IfErr result (λ e. e.fault ≢ AcceptorFault.Store) }
-        ensures quiet { IfOk result (λ a. (S.state a.store).faults ≡ (S.state store).faults) }
-        ensures cause { IfErr result
-            (λ e. HasCause (e.fault ≡ AcceptorFault.Store) (S.state store).faults
-            (S.state e.store).faults) }
-        ensures others { IfErr result
-            (λ e. (e.fault ≢ AcceptorFault.Closed) × (e.fault ≢ AcceptorFault.StartsSpent)) }
+        ensures once { OpensOnce S.kind me store result }
+        ensures opened { IfOk result (IsOpened me) }
+        ensures from { S.kind.honest → OpensFrom S.kind me store result }
+        ensures plan { OpensByPlan S.kind store result }
+        ensures others { IfErr result (λ e. IsAmong (AcceptorFault.Memory ∷ AcceptorFault.Store
+            ∷ AcceptorFault.BadRecord ∷ []) e.fault) }
     {
         let mut store = store;
         match store.load() {
@@ -158,8 +140,8 @@ impl<S: Store> Acceptor<S> {
     pub fn record(&self) -> &Record
         ensures same { result.now ≡ self.now.kept }
         ensures ranges { IsRecord self.now.me.group.size self.now.kept }
-        ensures stored { S.honest → self.now.is_closed ≡ false
-            → (S.state self.now.store).stored ≡ self.now.kept }
+        ensures stored { S.kind.honest → self.now.is_closed ≡ false
+            → (S.kind.state self.now.store).stored ≡ self.now.kept }
     {
         &self.record
     }
@@ -180,12 +162,9 @@ impl<S: Store> Acceptor<S> {
     ///
     /// `Follows` says what each answer leaves in the acceptor and its store.
     pub fn new_start(&mut self) -> Result<u32, AcceptorFault>
-        ensures answer { IfOk result (λ starts. starts ≡ self.new.kept.starts) }
-        ensures follows { Follows S.honest S.fails_at_will S.state self.old self.new
-            (Some Start) result }
-        ensures spent { IsErrOf result AcceptorFault.StartsSpent
-            ↔ ((self.old.is_closed ≡ false) × (self.old.kept.starts ≡ LAST_START)) }
-        ensures others { ¬ IsErrOf result AcceptorFault.BadRecord }
+        ensures counts { CountsStart S.kind self result }
+        ensures others { FailsOnlyWith (AcceptorFault.Closed ∷ AcceptorFault.StartsSpent
+            ∷ AcceptorFault.Memory ∷ AcceptorFault.Store ∷ []) result }
     {
         if self.is_closed {
             return Err(AcceptorFault::Closed);
@@ -206,13 +185,11 @@ impl<S: Store> Acceptor<S> {
     /// `Follows` says what each answer leaves in the acceptor and its store.
     pub fn prepare(&mut self, ballot: Ballot, from: u32) -> Result<Body, AcceptorFault>
         requires ballot { IsBallot self.old.me.group.size ballot }
-        ensures answer { IfOk result (λ body. body ≡ (prepare_of self.old.kept ballot from).says) }
-        ensures follows { Follows S.honest S.fails_at_will S.state self.old self.new
-            (prepare_of self.old.kept ballot from).saves result }
+        ensures answers { Answers S.kind (prepare_of self.old.kept ballot from) self result }
         ensures memory { IsErrOf result AcceptorFault.Memory
             → greater_promise self.old.kept.promised ballot ≡ None }
-        ensures others { ¬ IsErrOf result AcceptorFault.BadRecord
-            × ¬ IsErrOf result AcceptorFault.StartsSpent }
+        ensures others { FailsOnlyWith (AcceptorFault.Closed ∷ AcceptorFault.Memory
+            ∷ AcceptorFault.Store ∷ []) result }
     {
         if self.is_closed {
             return Err(AcceptorFault::Closed);
@@ -248,14 +225,11 @@ impl<S: Store> Acceptor<S> {
         requires ballot { IsBallot self.old.me.group.size ballot }
         requires place { IsPlace place }
         requires value { IsValue self.old.me.group.size value }
-        ensures answer { IfOk result
-            (λ body. body ≡ (accept_of self.old.kept ballot place value).says) }
-        ensures follows { Follows S.honest S.fails_at_will S.state self.old self.new
-            (accept_of self.old.kept ballot place value).saves result }
+        ensures answers { Answers S.kind (accept_of self.old.kept ballot place value) self result }
         ensures memory { IsErrOf result AcceptorFault.Memory
             → (accept_of self.old.kept ballot place value).saves ≢ None }
-        ensures others { ¬ IsErrOf result AcceptorFault.BadRecord
-            × ¬ IsErrOf result AcceptorFault.StartsSpent }
+        ensures others { FailsOnlyWith (AcceptorFault.Closed ∷ AcceptorFault.Memory
+            ∷ AcceptorFault.Store ∷ []) result }
     {
         if self.is_closed {
             return Err(AcceptorFault::Closed);
@@ -303,10 +277,11 @@ impl<S: Store> Acceptor<S> {
     /// will then has it. The acceptor's node and record, whether it is closed, the record of an
     /// honest store, and the count of faults stay.
     pub fn fail_next(&mut self, plan: Option<bool>)
-        ensures same { S.honest
-            → (S.state self.new.store).stored ≡ (S.state self.old.store).stored }
-        ensures plan { S.fails_at_will → (S.state self.new.store).plan ≡ plan }
-        ensures faults { (S.state self.new.store).faults ≡ (S.state self.old.store).faults }
+        ensures same { S.kind.honest
+            → (S.kind.state self.new.store).stored ≡ (S.kind.state self.old.store).stored }
+        ensures plan { S.kind.fails_at_will → (S.kind.state self.new.store).plan ≡ plan }
+        ensures faults { (S.kind.state self.new.store).faults
+            ≡ (S.kind.state self.old.store).faults }
         ensures rest { (self.new.me ≡ self.old.me) × (self.new.kept ≡ self.old.kept)
             × (self.new.is_closed ≡ self.old.is_closed) }
     {

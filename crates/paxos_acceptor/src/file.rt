@@ -1,7 +1,6 @@
 //! A store in a file.
 ghost use Rattle.std.specs.Prelude.{◌≡◌, None, IfOk, IsErrOf};
-ghost use Rattle.paxos_msg.specs.Records.{empty_record};
-ghost use Rattle.paxos_acceptor.specs.Files.{Finds, Notes};
+ghost use Rattle.paxos_acceptor.specs.Files.{Finds, Notes, file_kind};
 
 use crate::file_disk::FileDisk;
 use crate::log_store::LogStore;
@@ -50,13 +49,7 @@ impl<R: Files + AllocGlobal + Drop> FileStore<R> {
 }
 
 impl<R: Files + AllocGlobal + Drop> Store for FileStore<R> {
-    ghost state = { λ s. record { stored = empty_record; plan = None; faults = s.faults } };
-
-    ghost honest = { ⊥ };
-
-    ghost fails_at_will = { ⊥ };
-
-    ghost loads = { λ old answer new. Finds old new answer };
+    ghost kind = { file_kind };
 
     /// Returns a record, which the store knows from then on. After an error it knows none. `Device`
     /// counts one more fault, and nothing else counts one.

@@ -147,17 +147,16 @@ impl<D: Disk> LogStore<D> {
 }
 
 impl<D: Disk> Store for LogStore<D> {
-    ghost state = { λ s. record {
-      stored = record_in s.filed.me (seen_in (D.folder s.disk));
-      plan = None;
-      faults = s.filed.faults;
+    ghost kind = { record {
+      honest = D.honest;
+      fails_at_will = ⊥;
+      state = λ s. record {
+        stored = record_in s.filed.me (seen_in (D.folder s.disk));
+        plan = None;
+        faults = s.filed.faults;
+      };
+      loads = λ old answer new. Finds old.filed new.filed answer;
     } };
-
-    ghost honest = { D.honest };
-
-    ghost fails_at_will = { ⊥ };
-
-    ghost loads = { λ old answer new. Finds old.filed new.filed answer };
 
     /// Returns the record of the file, which the store knows from then on. After an error it knows
     /// none. `Device` counts one more fault, and nothing else counts one. It comes only where a

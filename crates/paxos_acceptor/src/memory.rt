@@ -2,7 +2,7 @@
 ghost use Rattle.std.specs.Prelude.{◌≡◌, ◌<◌, Err, IsErrOf, None};
 ghost use Rattle.paxos_msg.specs.declared.record.Change.TheVariants.{Start};
 ghost use Rattle.paxos_msg.specs.Messages.{IsAscending};
-ghost use Rattle.paxos_acceptor.specs.Memories.{Loads, SavesByPlan};
+ghost use Rattle.paxos_acceptor.specs.Memories.{Loads, SavesByPlan, memory_kind};
 ghost use Rattle.paxos_msg.specs.declared.limits.TheConstants.{LAST_START};
 
 use crate::store::{Store, StoreFault};
@@ -47,13 +47,7 @@ impl MemoryStore {
 }
 
 impl Store for MemoryStore {
-    ghost state = { λ s. s };
-
-    ghost honest = { Unit {0} };
-
-    ghost fails_at_will = { Unit {0} };
-
-    ghost loads = { λ old answer new. Loads old new answer };
+    ghost kind = { memory_kind };
 
     /// Returns the record, and changes nothing. Fails only with `Memory`.
     fn load(&mut self) -> Result<Record, StoreFault>

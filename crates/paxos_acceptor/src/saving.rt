@@ -2,8 +2,8 @@
 ghost use Rattle.std.specs.Prelude.{◌≡◌, ◌<◌, false, OnErr, OnOk};
 ghost use Rattle.paxos_msg.specs.declared.record.Change.TheVariants.{Ballotted, Start};
 ghost use Rattle.paxos_msg.specs.Messages.{IsAscending};
-ghost use Rattle.paxos_msg.specs.Records.{changed, with_vote};
-ghost use Rattle.paxos_acceptor.specs.Saves.{SavesRecord};
+ghost use Rattle.paxos_msg.specs.Records.{with_vote};
+ghost use Rattle.paxos_acceptor.specs.Saves.{SavesChange};
 ghost use Rattle.paxos_msg.specs.declared.limits.TheConstants.{LAST_START};
 
 use crate::fault::AcceptorFault;
@@ -17,10 +17,10 @@ pub(crate) fn save_to<S: Store>(
     change: Change,
 ) -> Result<(), AcceptorFault>
     requires open { is_closed.old ≡ false }
-    requires starts { S.honest → change ≡ Start → (S.state store.old).stored.starts < LAST_START }
-    requires ascending { S.honest → IsAscending (S.state store.old).stored.votes }
-    ensures { SavesRecord S.honest S.fails_at_will (S.state store.old)
-        (S.state store.new) is_closed.new result (changed (S.state store.old).stored change) }
+    requires starts { S.kind.honest → change ≡ Start
+        → (S.kind.state store.old).stored.starts < LAST_START }
+    requires ascending { S.kind.honest → IsAscending (S.kind.state store.old).stored.votes }
+    ensures { SavesChange S.kind change store is_closed.new result }
 {
     match store.save(&change) {
         Ok(()) => Ok(()),
@@ -43,11 +43,9 @@ pub(crate) fn save_vote<S: Store>(
 ) -> Result<(), AcceptorFault>
     requires open { is_closed.old ≡ false }
     requires in_order { IsAscending votes.old.items }
-    requires ascending { S.honest → IsAscending (S.state store.old).stored.votes }
-    ensures saves { SavesRecord S.honest S.fails_at_will (S.state store.old)
-        (S.state store.new) is_closed.new result
-        (changed (S.state store.old).stored
-        (Ballotted vote.now.place vote.now.ballot vote.now.value)) }
+    requires ascending { S.kind.honest → IsAscending (S.kind.state store.old).stored.votes }
+    ensures saves { SavesChange S.kind (Ballotted vote.now.place vote.now.ballot vote.now.value)
+        store is_closed.new result }
     ensures ok { OnOk result (votes.new.items ≡ with_vote votes.old.items vote.now) }
     ensures err { OnErr result (votes.new.items ≡ votes.old.items) }
 {

@@ -23,3 +23,4 @@ mod Ascending
 pub mod Rules
 pub mod Exact
 pub mod Retold
+mod RecordsTell

@@ -17,3 +17,4 @@ pub mod Growth
 pub mod Batches
 pub mod Migration
 pub mod Codes
+pub mod ReadRecords

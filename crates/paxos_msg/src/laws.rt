@@ -1,7 +1,7 @@
 //! The laws of the protocol, over its definitions alone. A function without a result is empty: its
 //! contract is the law.
 
-ghost use Rattle.std.specs.Prelude.{◌≡◌, ◌≢◌, ◌↔◌, ◌⊎◌, ◌<◌, ◌≤◌, ◌+◌, ◌*◌, ◌++◌, ◌∷◌, [], ℕ, Bool, true, false, IsTrue, IsSomeAnd, List, Option, Some, Contains};
+ghost use Rattle.std.specs.Prelude.{◌≡◌, ◌≢◌, ◌↔◌, ◌⊎◌, ◌<◌, ◌≤◌, ◌+◌, ◌*◌, ◌++◌, ◌∷◌, [], ℕ, Bool, true, false, IsTrue, IsSomeAnd, List, Option, Some, Contains, slice_get};
 ghost use Rattle.paxos_msg.specs.declared.ballot.Ballot.{Ballot};
 ghost use Rattle.paxos_msg.specs.declared.message.Body.TheVariants.{Accept, Ask, Prepare, Refused, Submit, Tell};
 ghost use Rattle.paxos_msg.specs.Batches.{Body, Change, Grew, IsFree, MaySend, MaySendAll, Record, Sent, Vote};
@@ -18,6 +18,7 @@ ghost use Rattle.paxos_msg.specs.Messages as v1;
 ghost use Rattle.paxos_msg.specs.Version1.{IsSingle};
 ghost use Rattle.paxos_msg.specs.Migration.{as_batch, record_with, sent_with, single_keys};
 ghost use Rattle.paxos_msg.specs.Messages.{IsAscending, IsPromised, IsSaid, IsSent, messages_of, kept_vote_at};
+ghost use Rattle.paxos_msg.specs.ReadRecords.{AreRead, IsRead};
 ghost use Rattle.paxos_msg.specs.Records.{changed, empty_record, IsSaved, MaySave, Stored, with_vote};
 ghost use Rattle.paxos_msg.specs.Sending.{IsNoNewProposal, KnowsMore};
 ghost use Rattle.paxos_msg.specs.Tests.{ballot_lt, is_majority, same_ballot, same_value};
@@ -188,6 +189,23 @@ pub fn agreement()
         → IsAtMost b c → w ≡ v }
     ensures submitted { (size s : ℕ) (sent : Sent) (records : ℕ → Record) (v : Value) →
         Grew size sent records → IsChosen size sent s v → IsFree sent v }
+{}
+
+/// What the records of a majority say was chosen. Where a value is chosen at a place, it is the one
+/// for which these nodes have voted there under the greatest ballot. So the values that are read
+/// from place 0 on, up to the first place with none, begin with all that was chosen from place 0
+/// on. Each of them is a no-op or was submitted.
+pub fn records_tell_what_is_chosen()
+    ensures chosen { (size s : ℕ) (sent : Sent) (records : ℕ → Record) (members : ℕ → Bool)
+        (v : Value) (o : Option Value) → Grew size sent records → IsMajority size members
+        → IsChosen size sent s v → IsRead members records s o → o ≡ Some v }
+    ensures begins { (size : ℕ) (sent : Sent) (records : ℕ → Record) (members : ℕ → Bool)
+        (chosen values : List Value) → Grew size sent records → IsMajority size members
+        → ((s : ℕ) (v : Value) → slice_get chosen s ≡ Some v → IsChosen size sent s v)
+        → AreRead members records values → (rest : List Value) × (values ≡ chosen ++ rest) }
+    ensures submitted { (size s : ℕ) (sent : Sent) (records : ℕ → Record) (members : ℕ → Bool)
+        (v : Value) → Grew size sent records → IsRead members records s (Some v)
+        → IsFree sent v }
 {}
 
 /// The messages of one call, one after another, extend the growth. They may be sent in two halves,

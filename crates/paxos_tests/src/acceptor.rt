@@ -74,8 +74,8 @@ fn is_accepted(answer: &Result<Body, AcceptorFault>) -> bool {
     }
 }
 
-/// Shows Acceptor::open (loaded, open), Acceptor::prepare (answer, follows), Acceptor::accept
-/// (answer, follows), MemoryStore::new, Votes::new, Votes::as_slice: a promise for 65 votes from
+/// Shows Acceptor::open (from, opened), Acceptor::prepare (answers), Acceptor::accept
+/// (answers), MemoryStore::new, Votes::new, Votes::as_slice: a promise for 65 votes from
 /// place 0 on has nine parts; three of them are asked for.
 #[test]
 fn promise_bytes_and_parts(rt: HostRuntime) -> Result<(), Fail> {
@@ -96,11 +96,10 @@ fn promise_bytes_and_parts(rt: HostRuntime) -> Result<(), Fail> {
     Ok(())
 }
 
-/// Shows Acceptor::fail_next (same, plan, faults), Acceptor::prepare (follows), Acceptor::accept
-/// (follows), Acceptor::new_start (answer, follows), Acceptor::open (loads, loaded, same, bad),
-/// Acceptor::record (same), Acceptor::is_closed, Acceptor::into_store, MemoryStore::save
-/// (by_plan), MemoryStore::load, MemoryStore::stored, MemoryStore::faults, MemoryStore::fail_next,
-/// Store::load (loads, found, same), Store::save (saved, device, planned, unplanned, used_up),
+/// Shows Acceptor::fail_next (same, plan, faults), Acceptor::prepare (answers), Acceptor::accept
+/// (answers), Acceptor::new_start (counts), Acceptor::open (once, from), Acceptor::record (same),
+/// Acceptor::is_closed, Acceptor::into_store, MemoryStore::save (by_plan), MemoryStore::load,
+/// MemoryStore::stored, MemoryStore::faults, MemoryStore::fail_next, Store::load, Store::save,
 /// Store::faults, Store::fail_next (plan), Record::new: a save that fails closes the acceptor, and
 /// a restart finds the old record or the changed one.
 #[test]

@@ -26,7 +26,7 @@ fn file_of_version_1(rt: HostRuntime) -> Result<(), Fail> {
     Ok(())
 }
 
-/// Shows Acceptor::new_start (follows), FileStore::faults: without a folder for it a file counts as
+/// Shows Acceptor::new_start (counts), FileStore::faults: without a folder for it a file counts as
 /// missing, and no save succeeds.
 #[test]
 fn no_folder_for_a_file(rt: HostRuntime) -> Result<(), Fail> {
@@ -129,7 +129,7 @@ fn refusal(rt: HostRuntime, path: &str) -> Result<Option<(AcceptorFault, u64)>, 
     }
 }
 
-/// Shows Acceptor::open (loads, cause), FileStore::faults: a folder in the file's place, a path
+/// Shows Acceptor::open (once, plan), FileStore::faults: a folder in the file's place, a path
 /// through a file, and a file without an end are faults of the device, not missing files. An empty
 /// file is a bad record.
 #[test]

@@ -45,8 +45,8 @@ fn has_voted(record: &Record, starts: u32) -> bool {
         && record.votes.as_slice() == [vote].as_slice()
 }
 
-/// Shows Acceptor::open (loaded), Acceptor::new_start (follows), Acceptor::prepare (follows),
-/// Acceptor::accept (follows), Acceptor::into_store: the store has what was answered. Another start
+/// Shows Acceptor::open (from), Acceptor::new_start (counts), Acceptor::prepare (answers),
+/// Acceptor::accept (answers), Acceptor::into_store: the store has what was answered. Another start
 /// changes nothing else, and a save that fails is reported.
 #[test]
 fn votes_alone(rt: HostRuntime) -> Result<(), Fail> {

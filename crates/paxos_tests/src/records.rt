@@ -46,7 +46,7 @@ fn are_none(alloc: Global, bytes: &[u8]) -> bool {
     record_decode(alloc, bytes, ME).err() == Some(StoreFault::Bad)
 }
 
-/// Shows record_decode (found, only, bad), record_encode (ok), Acceptor::new_start (spent): a
+/// Shows record_decode (found, only, bad), record_encode (ok), Acceptor::new_start (counts): a
 /// record has one spelling. Other bytes are none, and after 4,294,967,295 starts there is no other.
 #[test]
 fn record_bytes(rt: HostRuntime) -> Result<(), Fail> {

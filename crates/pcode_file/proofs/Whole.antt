@@ -53,3 +53,7 @@ read_found bytes p h = let s = bind_ok (segment_of bytes) _ p h in (s.0.0, entry
 pub read_again : (bytes : List ℕ) (p : Parts) → InFile bytes p → read_from bytes ≡ Ok p
 unfolding read_from segment_of
 read_again bytes p f = grind (arith, nat_tests, only_entry, tables_read, procs_again p.segment p.procs f.1.procs)
+
+-- bytes are read in one way
+pub one_reading : (bytes : List ℕ) (p q : Parts) → InFile bytes p → InFile bytes q → p ≡ q
+one_reading bytes p q f g = let one = read_again bytes p f in let other = read_again bytes q g in cc

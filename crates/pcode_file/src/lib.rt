@@ -7,12 +7,14 @@
 //!
 //! `file.procedure(i)` returns one procedure, from 1 to `file.count()`; `file.name()` and
 //! `file.number()` are the segment's. Files that are not linked or have several segments are
-//! refused. The instructions in the bytes are read by the crate pcode_ops.
+//! refused. The instructions in the bytes are read by the crate pcode_ops. The module `laws` says
+//! that the order of the checks does not decide what a code file is.
 #![tactic(auto)]
 
 mod checks;
 mod fault;
 mod file;
+pub mod laws;
 mod layout;
 
 pub use fault::FileFault;

@@ -1,2 +1,4 @@
 pub mod Links
 pub mod Moves
+pub mod Calling
+pub mod Bytes

@@ -1,5 +1,5 @@
 -- Static links, followed one by one.
-use Rattle.std.proofs.Common.{◌≡◌, ℕ, suc, ◌+◌, ◌-◌, ◌<◌, List, [], ◌∷◌, length, Some, None, refl, arith}
+use Rattle.std.proofs.Common.{◌≡◌, ℕ, zero, suc, ◌+◌, ◌-◌, ◌<◌, List, [], ◌∷◌, length, Some, None, slice_get, refl, arith}
 use Rattle.pcode_frames.specs.declared.frame.Frame.{Frame}
 use Rattle.pcode_frames.specs.Frames.{link_at, up_from, link_up_of}
 
@@ -22,3 +22,17 @@ up_from_last [] n i e = absurd (omega arith)
 up_from_last (main ∷ frames) n i e =
     let last : i ≡ length frames = omega arith in
     rw last refl
+
+-- One link more is that of the frame to which the others lead.
+pub one_link_more : (frames : List Frame) (n i j : ℕ) → up_from frames n j ≡ Some i → up_from frames (suc n) j ≡ link_at frames i
+one_link_more frames zero i j e = grind arith
+one_link_more frames (suc n) i j e = grind (arith, one_link_more frames n)
+
+pub next_up : (frames : List Frame) (n i : ℕ) (f : Frame) → link_up_of frames n ≡ Some (suc i) → slice_get frames (suc i) ≡ Some f
+    → link_up_of frames (suc n) ≡ Some f.link
+next_up [] n i f e at = absurd cc
+next_up (main ∷ frames) n i f e at = let more = one_link_more (main ∷ frames) n (suc i) (length frames) e in grind (arith, more)
+
+pub none_up : (frames : List Frame) (n : ℕ) → link_up_of frames n ≡ Some 0 → link_up_of frames (suc n) ≡ None
+none_up [] n e = absurd cc
+none_up (main ∷ frames) n e = one_link_more (main ∷ frames) n 0 (length frames) e

@@ -13,13 +13,15 @@
 //! `memory.get(frame.base + k)`. `memory.is_live(word, n)` says if the n words from `word` on are
 //! live. If they are, `memory.push_block(&mut stack, word, n)` pushes them, `memory.pop_block` pops
 //! n words to their places, and `memory.copy(to, word, n)` copies them to the n live words from
-//! `to` on. A refusal is a `Halt` and changes nothing.
+//! `to` on. A refusal is a `Halt` and changes nothing. The module `laws` has what holds of the
+//! definitions: which words, bytes and frames stay where others change.
 #![tactic(auto)]
 
 mod blocks;
 mod frame;
 mod frames;
 mod halt;
+pub mod laws;
 mod limits;
 mod memory;
 mod stack;

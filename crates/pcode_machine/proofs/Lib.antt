@@ -13,8 +13,16 @@ pub mod Outputs
 pub mod Steps
 pub mod Alone
 pub mod Numbered
+pub mod ErrorNumbers
 pub mod Pausing
 pub mod Quiet
 pub mod QuietStaysInCode
 pub mod Fusing
 pub mod BlockWords
+pub mod Packed
+pub mod PutBytes
+pub mod Returns
+pub mod Cases
+pub mod Transferring
+pub mod UnitCalls
+pub mod NeverStuck

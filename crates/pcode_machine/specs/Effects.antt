@@ -13,9 +13,8 @@ use Rattle.pcode_machine.specs.declared.turn.Direction.{Direction}
 use Rattle.pcode_machine.specs.declared.turn.Direction.TheVariants.{Reading, Writing}
 use Rattle.pcode_machine.specs.declared.operations.Change.{Change}
 use Rattle.pcode_machine.specs.declared.operations.Change.TheVariants.{Absolute, Negation, Square, Complement, Past}
-use Rattle.pcode_machine.specs.declared.operations.Operation.{Operation}
-use Rattle.pcode_machine.specs.declared.operations.Operation.TheVariants.{Sum, Difference, Product, Quotient, Remainder, Both, Either, Compare, CompareBits, Element}
-use Rattle.pcode_machine.specs.declared.comparisons.Comparison.TheVariants.{Equal, NotEqual, LessOrEqual, Less, GreaterOrEqual, Greater}
+use Rattle.pcode_ops.specs.declared.operation.Operation.{Operation}
+use Rattle.pcode_ops.specs.declared.operation.Operation.TheVariants.{Sum, Difference, Product, Quotient, Remainder, Both, Either, Equal, NotEqual, LessOrEqual, Less, GreaterOrEqual, Greater, EqualBits, NotEqualBits, LessOrEqualBits, LessBits, GreaterOrEqualBits, GreaterBits, Element}
 use Rattle.pcode_machine.specs.Configuration.{State}
 use Rattle.pcode_machine.specs.Loads.{address_of}
 use Rattle.pcode_machine.specs.Calls.{frame_up, link_outward}
@@ -138,18 +137,18 @@ effect_of p f Chk j s = Check
 effect_of p f Land j s = Combine Both
 effect_of p f Lor j s = Combine Either
 effect_of p f Lnot j s = Replace Complement
-effect_of p f Equi j s = Combine (Compare Equal)
-effect_of p f Neqi j s = Combine (Compare NotEqual)
-effect_of p f Leqi j s = Combine (Compare LessOrEqual)
-effect_of p f Lesi j s = Combine (Compare Less)
-effect_of p f Geqi j s = Combine (Compare GreaterOrEqual)
-effect_of p f Grti j s = Combine (Compare Greater)
-effect_of p f Equ j s = Combine (CompareBits Equal)
-effect_of p f Neq j s = Combine (CompareBits NotEqual)
-effect_of p f Leq j s = Combine (CompareBits LessOrEqual)
-effect_of p f Les j s = Combine (CompareBits Less)
-effect_of p f Geq j s = Combine (CompareBits GreaterOrEqual)
-effect_of p f Grt j s = Combine (CompareBits Greater)
+effect_of p f Equi j s = Combine Equal
+effect_of p f Neqi j s = Combine NotEqual
+effect_of p f Leqi j s = Combine LessOrEqual
+effect_of p f Lesi j s = Combine Less
+effect_of p f Geqi j s = Combine GreaterOrEqual
+effect_of p f Grti j s = Combine Greater
+effect_of p f Equ j s = Combine EqualBits
+effect_of p f Neq j s = Combine NotEqualBits
+effect_of p f Leq j s = Combine LessOrEqualBits
+effect_of p f Les j s = Combine LessBits
+effect_of p f Geq j s = Combine GreaterOrEqualBits
+effect_of p f Grt j s = Combine GreaterBits
 effect_of p f (Ujp sb) j s = given (jump_in p f.procedure sb j) (λ target. Go target)
 effect_of p f (Fjp sb) j s =
     given (jump_in p f.procedure sb j) (λ target. Branch (λ v. if v % 2 == 0 then target else j))

@@ -20,3 +20,7 @@ pub mod Loaded
 pub mod Ready
 pub mod Fused
 pub mod Fields
+pub mod Elements
+pub mod WholeTransfers
+pub mod Returning
+pub mod Doing

@@ -2,8 +2,9 @@
 use Rattle.std.specs.Prelude.{ℕ, List, [], ◌∷◌, Result, Ok, Err}
 use Rattle.pcode_machine.specs.declared.operations.Change.{Change}
 use Rattle.pcode_machine.specs.declared.operations.Change.TheVariants.{Absolute, Negation, Square, Complement, Past}
-use Rattle.pcode_machine.specs.declared.operations.Operation.{Operation}
-use Rattle.pcode_machine.specs.declared.operations.Operation.TheVariants.{Sum, Difference, Product, Quotient, Remainder, Both, Either, Compare, CompareBits, Element}
+use Rattle.pcode_machine.specs.declared.comparisons.Comparison.TheVariants as comparison
+use Rattle.pcode_ops.specs.declared.operation.Operation.{Operation}
+use Rattle.pcode_ops.specs.declared.operation.Operation.TheVariants.{Sum, Difference, Product, Quotient, Remainder, Both, Either, Equal, NotEqual, LessOrEqual, Less, GreaterOrEqual, Greater, EqualBits, NotEqualBits, LessOrEqualBits, LessBits, GreaterOrEqualBits, GreaterBits, Element}
 use Rattle.pcode_machine.specs.declared.turn.Stop.{Stop}
 use Rattle.pcode_machine.specs.declared.turn.Stop.TheVariants.{Error}
 use Rattle.pcode_machine.specs.Configuration.{State}
@@ -32,8 +33,18 @@ value_of Quotient a b = quotient_of a b
 value_of Remainder a b = remainder_of a b
 value_of Both a b = Ok (both_of a b)
 value_of Either a b = Ok (either_of a b)
-value_of (Compare c) a b = Ok (compared c a b)
-value_of (CompareBits c) a b = Ok (compared_bits c a b)
+value_of Equal a b = Ok (compared comparison.Equal a b)
+value_of NotEqual a b = Ok (compared comparison.NotEqual a b)
+value_of LessOrEqual a b = Ok (compared comparison.LessOrEqual a b)
+value_of Less a b = Ok (compared comparison.Less a b)
+value_of GreaterOrEqual a b = Ok (compared comparison.GreaterOrEqual a b)
+value_of Greater a b = Ok (compared comparison.Greater a b)
+value_of EqualBits a b = Ok (compared_bits comparison.Equal a b)
+value_of NotEqualBits a b = Ok (compared_bits comparison.NotEqual a b)
+value_of LessOrEqualBits a b = Ok (compared_bits comparison.LessOrEqual a b)
+value_of LessBits a b = Ok (compared_bits comparison.Less a b)
+value_of GreaterOrEqualBits a b = Ok (compared_bits comparison.GreaterOrEqual a b)
+value_of GreaterBits a b = Ok (compared_bits comparison.Greater a b)
 value_of (Element words) a b = Ok (element_of a b words)
 
 -- The state after the word on top of this stack was changed, or error 0.

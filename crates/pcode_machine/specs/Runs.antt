@@ -42,3 +42,8 @@ IsOutput p x y = (n : ℕ) × IsPrefix y (out p x n)
 unfoldable pub LeadsIn : Parts → List ℕ → ℕ → Configuration → Type 0
 LeadsIn p x zero c = c ≡ begin p
 LeadsIn p x (suc n) c = (b : Configuration) × LeadsIn p x n b × (outcome p x b ≡ Goes c)
+
+-- The configurations `c` and `d` before and after `n` steps on the input `x`.
+unfoldable pub GoesIn : Parts → List ℕ → ℕ → Configuration → Configuration → Type 0
+GoesIn p x zero c d = d ≡ c
+GoesIn p x (suc n) c d = (b : Configuration) × (outcome p x c ≡ Goes b) × GoesIn p x n b d

@@ -6,14 +6,13 @@ ghost use Rattle.pcode_machine.specs.Effects.{standard, effect_of, HasCaseTable,
 ghost use Rattle.pcode_ops.specs.At.{HasElements};
 ghost use Rattle.pcode_machine.specs.Ready.{state_of, state_if_ok};
 
-use crate::comparisons::Comparison;
 use crate::errors::ExecutionError;
 use crate::loads::{address_from, address_of};
-use crate::operations::{Change, Operation};
+use crate::operations::Change;
 use crate::parts::MachineParts;
 use crate::turn::{Direction, Stop};
 use pcode_frames::Frame;
-use pcode_ops::{Instr, Program, StandardProcedure};
+use pcode_ops::{Instr, Operation, Program, StandardProcedure};
 
 impl MachineParts {
     /// Calls a standard procedure, and goes on at `next`.
@@ -76,7 +75,7 @@ impl MachineParts {
             Instr::Sind(words) => self.fetch(u16::from(words), next),
             Instr::Ind(words) => self.fetch(words, next),
             Instr::Inc(words) => self.replace(Change::Past(words), next),
-            Instr::Ixa(words) => self.combine(Operation::Element(words), next),
+            Instr::Ixa(words) => self.index_element(words, next),
             Instr::Mov(words) => self.move_block(words, next),
             Instr::Ldm(words) => self.load_block(u16::from(words), next),
             Instr::Stm(words) => self.store_block(u16::from(words), next),
@@ -97,18 +96,18 @@ impl MachineParts {
             Instr::Land => self.combine(Operation::Both, next),
             Instr::Lor => self.combine(Operation::Either, next),
             Instr::Lnot => self.replace(Change::Complement, next),
-            Instr::Equi => self.combine(Operation::Compare(Comparison::Equal), next),
-            Instr::Neqi => self.combine(Operation::Compare(Comparison::NotEqual), next),
-            Instr::Leqi => self.combine(Operation::Compare(Comparison::LessOrEqual), next),
-            Instr::Lesi => self.combine(Operation::Compare(Comparison::Less), next),
-            Instr::Geqi => self.combine(Operation::Compare(Comparison::GreaterOrEqual), next),
-            Instr::Grti => self.combine(Operation::Compare(Comparison::Greater), next),
-            Instr::Equ => self.combine(Operation::CompareBits(Comparison::Equal), next),
-            Instr::Neq => self.combine(Operation::CompareBits(Comparison::NotEqual), next),
-            Instr::Leq => self.combine(Operation::CompareBits(Comparison::LessOrEqual), next),
-            Instr::Les => self.combine(Operation::CompareBits(Comparison::Less), next),
-            Instr::Geq => self.combine(Operation::CompareBits(Comparison::GreaterOrEqual), next),
-            Instr::Grt => self.combine(Operation::CompareBits(Comparison::Greater), next),
+            Instr::Equi => self.combine(Operation::Equal, next),
+            Instr::Neqi => self.combine(Operation::NotEqual, next),
+            Instr::Leqi => self.combine(Operation::LessOrEqual, next),
+            Instr::Lesi => self.combine(Operation::Less, next),
+            Instr::Geqi => self.combine(Operation::GreaterOrEqual, next),
+            Instr::Grti => self.combine(Operation::Greater, next),
+            Instr::Equ => self.combine(Operation::EqualBits, next),
+            Instr::Neq => self.combine(Operation::NotEqualBits, next),
+            Instr::Leq => self.combine(Operation::LessOrEqualBits, next),
+            Instr::Les => self.combine(Operation::LessBits, next),
+            Instr::Geq => self.combine(Operation::GreaterOrEqualBits, next),
+            Instr::Grt => self.combine(Operation::GreaterBits, next),
             Instr::Ujp(sb) => self.go(program.jump(frame.procedure, sb, next)),
             Instr::Fjp(sb) => self.jump_unless(program.jump(frame.procedure, sb, next), next),
             Instr::Efj(sb) => self.jump_by_equal(next, program.jump(frame.procedure, sb, next)),

@@ -22,6 +22,7 @@ mod errors;
 mod execute;
 mod fields;
 mod fused;
+pub mod instruction_laws;
 pub mod laws;
 mod loads;
 mod machine;

@@ -1,5 +1,6 @@
 //! Instructions that compute words: arithmetic, logic, comparisons, pointers that move, and CHK.
 ghost use Rattle.std.specs.Prelude.{◌≡◌};
+ghost use Rattle.pcode_ops.specs.declared.operation.Operation.TheVariants.{Element};
 ghost use Rattle.pcode_machine.specs.Operations.{changed_of, checked, combined, replaced, value_of};
 ghost use Rattle.pcode_machine.specs.Ready.{ChangesTo, state_of};
 
@@ -9,6 +10,7 @@ use crate::errors::ExecutionError;
 use crate::parts::MachineParts;
 use crate::pointers::pointer_past;
 use crate::turn::Stop;
+use pcode_ops::Operation;
 
 /// A change of one word.
 #[derive(Clone, Copy, Debug, PartialEq, Eq)]
@@ -19,24 +21,6 @@ pub enum Change {
     Complement,
     /// A pointer, moved on by this number of words.
     Past(u16),
-}
-
-/// A combination of two words.
-#[derive(Clone, Copy, Debug, PartialEq, Eq)]
-pub enum Operation {
-    Sum,
-    Difference,
-    Product,
-    Quotient,
-    Remainder,
-    Both,
-    Either,
-    /// A comparison of signed words.
-    Compare(Comparison),
-    /// A comparison of low bits.
-    CompareBits(Comparison),
-    /// The pointer to an element. Each element has this number of words.
-    Element(u16),
 }
 
 /// Returns the result of a change.
@@ -55,7 +39,7 @@ fn changed(change: Change, a: u16) -> u16
 
 /// Returns the result of an operation, or its error.
 #[inline(always)]
-fn value(operation: Operation, a: u16, b: u16) -> Result<u16, ExecutionError>
+pub fn value(operation: Operation, a: u16, b: u16) -> Result<u16, ExecutionError>
     ensures { result ≡ value_of operation a b }
 {
     match operation {
@@ -66,9 +50,19 @@ fn value(operation: Operation, a: u16, b: u16) -> Result<u16, ExecutionError>
         Operation::Remainder => words::remainder(a, b),
         Operation::Both => Ok(words::both(a, b)),
         Operation::Either => Ok(words::either(a, b)),
-        Operation::Compare(comparison) => Ok(compared(comparison, a, b)),
-        Operation::CompareBits(comparison) => Ok(compared_bits(comparison, a, b)),
-        Operation::Element(words) => Ok(words::element(a, b, words)),
+        Operation::Equal => Ok(compared(Comparison::Equal, a, b)),
+        Operation::NotEqual => Ok(compared(Comparison::NotEqual, a, b)),
+        Operation::LessOrEqual => Ok(compared(Comparison::LessOrEqual, a, b)),
+        Operation::Less => Ok(compared(Comparison::Less, a, b)),
+        Operation::GreaterOrEqual => Ok(compared(Comparison::GreaterOrEqual, a, b)),
+        Operation::Greater => Ok(compared(Comparison::Greater, a, b)),
+        Operation::EqualBits => Ok(compared_bits(Comparison::Equal, a, b)),
+        Operation::NotEqualBits => Ok(compared_bits(Comparison::NotEqual, a, b)),
+        Operation::LessOrEqualBits => Ok(compared_bits(Comparison::LessOrEqual, a, b)),
+        Operation::LessBits => Ok(compared_bits(Comparison::Less, a, b)),
+        Operation::GreaterOrEqualBits => Ok(compared_bits(Comparison::GreaterOrEqual, a, b)),
+        Operation::GreaterBits => Ok(compared_bits(Comparison::Greater, a, b)),
+        Operation::Element(words) => Ok(words::element(a, b, u16::from(words))),
     }
 }
 
@@ -110,6 +104,23 @@ impl MachineParts {
                 Err(Stop::Error(error))
             }
         }
+    }
+
+    /// Replaces an index and the pointer below it by the pointer to the element, of `words` words
+    /// each, and goes on at `next`.
+    #[inline(always)]
+    pub fn index_element(&mut self, words: u16, next: u32) -> Result<(), Stop>
+        ensures { ChangesTo (combined (Element words) next (state_of self.old) self.old.stack)
+            self.old self.new result }
+    {
+        if self.stack.len() < 2 {
+            return Err(Stop::Error(ExecutionError::StackUnderflow));
+        }
+        let index = self.stack.pop()?;
+        let pointer = self.stack.top();
+        self.stack.set_top(words::element(pointer, index, words));
+        self.next = next;
+        Ok(())
     }
 
     /// Leaves the lowest of the three words on top if it lies from the next one to the top, and

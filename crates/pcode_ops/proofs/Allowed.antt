@@ -6,7 +6,7 @@ use Rattle.pcode_file.specs.Parts.{Parts, procedure_of}
 use Rattle.pcode_ops.specs.declared.instr.Instr.{Instr}
 use Rattle.pcode_ops.specs.Decoding.{instr_at}
 use Rattle.pcode_ops.specs.Loading.{owner, flow_of, IsFine, HasNext}
-use Rattle.pcode_ops.specs.Reach.{Reach, entered, followed, MayStand}
+use Rattle.pcode_ops.specs.Reach.{Reach, entered, exited, followed, MayStand}
 use Rattle.pcode_ops.proofs.Apart.{lies_in, owned}
 use Rattle.pcode_ops.proofs.Leading.{looked_inside}
 use Rattle.pcode_ops.proofs.Looking.{Looked, owner_is, fine_looked}
@@ -43,6 +43,14 @@ enter_owned p zero q h at = absurd cc
 enter_owned p (suc k) q h at =
     let enter = (h.each k q at).enter in
     (entered k q at, owned p (suc k) q.enter q h at ((lies_in q q.enter).1 (enter.above, enter.below)))
+
+-- EXIT of a procedure is reached and owned by it
+pub exit_owned : (p : Parts) (n : ℕ) (q : Proc) → AreProcs p.segment p.procs → procedure_of p.procs n ≡ Some q
+    → Reach p q.exit × (owner p.procs q.exit ≡ Ok q)
+exit_owned p zero q h at = absurd cc
+exit_owned p (suc k) q h at =
+    let exit = (h.each k q at).exit in
+    (exited k q at, owned p (suc k) q.exit q h at ((lies_in q q.exit).1 (exit.above, exit.below)))
 
 -- the offset after an instruction that goes on is reached, and owned by its procedure
 pub next_owned : (p : Parts) (q : Proc) (instr : Instr) (next : ℕ) → MayStand p q instr next → HasNext instr

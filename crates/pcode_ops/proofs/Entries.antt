@@ -7,7 +7,7 @@ use Rattle.pcode_ops.specs.Loading.{leads_in, entries_in}
 use Rattle.pcode_ops.specs.Rules.{PointsTo}
 
 -- the test of a self-relative pointer as a fact
-pointing : (segment : List ℕ) (q : Proc) (place : ℕ) → (leads_in segment q place ≡ true) ↔ ((t : ℕ) × PointsTo segment q place t)
+pub pointing : (segment : List ℕ) (q : Proc) (place : ℕ) → (leads_in segment q place ≡ true) ↔ ((t : ℕ) × PointsTo segment q place t)
 pointing segment q place = grind (arith, nat_tests)
 
 -- the test of all entries as a fact of each

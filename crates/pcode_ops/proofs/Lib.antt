@@ -14,3 +14,6 @@ pub mod Landing
 pub mod Ruling
 pub mod Keeping
 pub mod Covering
+pub mod CaseJumps
+pub mod Unread
+pub mod FirstFaults

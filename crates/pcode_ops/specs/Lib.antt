@@ -9,3 +9,4 @@ pub mod Reach
 pub mod Walks
 pub mod Staying
 pub mod Jumps
+pub mod Faults

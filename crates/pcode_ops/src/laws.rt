@@ -1,15 +1,18 @@
 //! Laws of decoding and loading: contracts of functions that do nothing.
-ghost use Rattle.std.specs.Prelude.{◌≡◌, ℕ, ◌↔◌, IsTrue, List, ℤ, take, Ok, Some};
+ghost use Rattle.std.specs.Prelude.{◌≡◌, ℕ, ◌↔◌, ◌⊎◌, ◌+◌, ◌-◌, ◌*◌, ◌<◌, ◌≤◌, ◌+ℤ◌, ◌≤ℤ◌, pos, IsTrue, List, ℤ, take, Ok, Err, Some};
 ghost use Rattle.pcode_file.specs.declared.file.Proc.{Proc};
 ghost use Rattle.pcode_file.specs.InFile.{AreProcs};
 ghost use Rattle.pcode_file.specs.Parts.{Parts, procedure_of};
 ghost use Rattle.pcode_ops.specs.declared.instr.Instr.{Instr};
-ghost use Rattle.pcode_ops.specs.declared.instr.Instr.TheVariants.{Xjp};
+ghost use Rattle.pcode_ops.specs.declared.instr.Instr.TheVariants.{Efj, Fjp, Nfj, Rbp, Rnp, Ujp, Xjp};
+ghost use Rattle.pcode_ops.specs.declared.fault.OpFault.{OpFault};
+ghost use Rattle.pcode_ops.specs.declared.fault.OpFault.TheVariants.{Cut};
 ghost use Rattle.pcode_ops.specs.declared.loading.Onward.{Onward};
-ghost use Rattle.pcode_ops.specs.At.{At, HasElements};
+ghost use Rattle.pcode_ops.specs.At.{At, HasElements, cases};
 ghost use Rattle.pcode_ops.specs.Decoding.{instr_at};
+ghost use Rattle.pcode_ops.specs.Faults.{HasFirstFault, IsOutside, IsUnread, MayNotFlow, MayNotHold, Owns, StandsAt};
 ghost use Rattle.pcode_ops.specs.Jumps.{StaysWith, case_of, IsCaseTable};
-ghost use Rattle.pcode_ops.specs.Loading.{is_in, owner, legal, jump_to, flow_of, onward, LeadsTo, HasNext, JumpsBy};
+ghost use Rattle.pcode_ops.specs.Loading.{is_in, owner, legal, jump_to, flow_of, onward, look, IsFaulty, IsFine, LeadsTo, HasNext, JumpsBy};
 ghost use Rattle.pcode_ops.specs.Reach.{Reach, IsLoadable, MayStand};
 ghost use Rattle.pcode_ops.specs.Rules.{MayHold, JumpsTo, Leads, MayFlow};
 ghost use Rattle.pcode_ops.specs.Staying.{StaysInPart};
@@ -74,6 +77,26 @@ pub fn enter_is_owned()
         procedure_of p.procs n ≡ Some q → Reach p q.enter × (owner p.procs q.enter ≡ Ok q) }
 {}
 
+/// EXIT of a procedure is reached, and the procedure is its owner.
+pub fn exit_is_owned()
+    ensures { (p : Parts) (n : ℕ) (q : Proc) → AreProcs p.segment p.procs →
+        procedure_of p.procs n ≡ Some q → Reach p q.exit × (owner p.procs q.exit ≡ Ok q) }
+{}
+
+/// UJP, XJP, RNP and RBP have no next offset, and each other instruction has one. UJP, FJP, EFJ and
+/// NFJ are the jumps by an operand.
+pub fn flows_go_on()
+    ensures ends { (low high sb : ℤ) (table n : ℕ) → (¬ (HasNext (Ujp sb)))
+        × (¬ (HasNext (Xjp low high sb table))) × (¬ (HasNext (Rnp n))) × (¬ (HasNext (Rbp n))) }
+    ensures others { (instr : Instr) → HasNext instr ⊎ ((sb : ℤ) × (instr ≡ Ujp sb))
+        ⊎ ((low : ℤ) × (high : ℤ) × (sb : ℤ) × (table : ℕ) × (instr ≡ Xjp low high sb table))
+        ⊎ ((n : ℕ) × (instr ≡ Rnp n)) ⊎ ((n : ℕ) × (instr ≡ Rbp n)) }
+    ensures jumps { (sb : ℤ) → JumpsBy (Ujp sb) sb × JumpsBy (Fjp sb) sb × JumpsBy (Efj sb) sb
+        × JumpsBy (Nfj sb) sb }
+    ensures by { (instr : Instr) (sb : ℤ) → JumpsBy instr sb →
+        (instr ≡ Ujp sb) ⊎ (instr ≡ Fjp sb) ⊎ (instr ≡ Efj sb) ⊎ (instr ≡ Nfj sb) }
+{}
+
 /// What is decoded at a reached offset of a loadable file is legal in the procedure that owns the
 /// offset.
 pub fn reached_may_stand()
@@ -104,4 +127,52 @@ pub fn case_is_led_to()
     ensures table { (p : Parts) (i : ℕ) (q : Proc) (low high sb : ℤ) (table next : ℕ) →
         instr_at p.segment i ≡ Ok (Xjp low high sb table, next) →
         MayStand p q (Xjp low high sb table) next → IsCaseTable p.segment q low high table }
+{}
+
+/// The UJP of a case jump stands right before its table, which ends where the case jump ends. The
+/// table has a word for each number from W1 to W2.
+pub fn case_jump_has_its_jump()
+    ensures jump { (code : List ℕ) (i : ℕ) (low high sb : ℤ) (table j : ℕ) →
+        At code i (Xjp low high sb table) j → At code (table - 2) (Ujp sb) table }
+    ensures after { (code : List ℕ) (i : ℕ) (low high sb : ℤ) (table j : ℕ) →
+        At code i (Xjp low high sb table) j → (i < table - 2) × (table ≤ j) }
+    ensures table { (code : List ℕ) (i : ℕ) (low high sb : ℤ) (table j k : ℕ) →
+        At code i (Xjp low high sb table) j → (k < cases low high) ↔ (table + 2 * k + 2 ≤ j) }
+    ensures numbers { (code : List ℕ) (i : ℕ) (low high sb : ℤ) (table j k : ℕ) →
+        At code i (Xjp low high sb table) j → (k < cases low high) ↔ ((low +ℤ pos k) ≤ℤ high) }
+{}
+
+/// The owner of an offset is the one procedure of a file in whose part the offset lies. An offset
+/// without an owner lies in no part, and is faulty as cut off.
+pub fn owner_has_the_offset()
+    ensures found { (p : Parts) (i : ℕ) (q : Proc) → AreProcs p.segment p.procs →
+        (owner p.procs i ≡ Ok q) ↔ Owns p.procs i q }
+    ensures none { (procs : List Proc) (i : ℕ) (f : OpFault) →
+        (owner procs i ≡ Err f) ↔ ((f ≡ Cut) × IsOutside procs i) }
+{}
+
+/// An offset is without fault exactly where an instruction stands within a procedure's part, may be
+/// held by that procedure, and leads nowhere out of the part. It leads where the rules say.
+pub fn fine_is_to_stand()
+    ensures fine { (p : Parts) (i : ℕ) → AreProcs p.segment p.procs →
+        IsFine p i ↔ ((q : Proc) × (instr : Instr) × (j : ℕ) × StandsAt p i q instr j) }
+    ensures leads { (p : Parts) (i : ℕ) (q : Proc) (instr : Instr) (j : ℕ) (o : Onward) →
+        AreProcs p.segment p.procs → StandsAt p i q instr j → look p i ≡ Ok o →
+        (t : ℕ) → LeadsTo p.segment o t ↔ Leads p.segment q (flow_of instr) j t }
+{}
+
+/// A fault is told exactly where its check fails and each earlier one passes: first the procedure's
+/// part, then the bytes, then what the procedure may hold, then where the instruction leads. No
+/// offset has two first faults.
+pub fn first_fault_is_of_its_check()
+    ensures bytes { (code : List ℕ) (i : ℕ) (f : OpFault) →
+        (instr_at code i ≡ Err f) ↔ IsUnread code i f }
+    ensures held { (procs : List Proc) (q : Proc) (instr : Instr) (f : OpFault) →
+        (legal procs q instr ≡ Err f) ↔ MayNotHold procs q instr f }
+    ensures flows { (segment : List ℕ) (q : Proc) (instr : Instr) (j : ℕ) (f : OpFault) →
+        (onward segment q instr j ≡ Err f) ↔ MayNotFlow segment q (flow_of instr) j f }
+    ensures fault { (p : Parts) (i : ℕ) (f : OpFault) → AreProcs p.segment p.procs →
+        IsFaulty p i f ↔ HasFirstFault p i f }
+    ensures one { (p : Parts) (i : ℕ) (f g : OpFault) → AreProcs p.segment p.procs →
+        HasFirstFault p i f → HasFirstFault p i g → f ≡ g }
 {}

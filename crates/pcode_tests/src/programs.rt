@@ -1,7 +1,7 @@
 //! A code file, its program, and the turns of a machine on it.
 use pcode_file::CodeFile;
 use pcode_machine::{End, Machine, Pause, Turn};
-use pcode_ops::Program;
+use pcode_ops::{Operation, Program, Pushed, Sink, Source, Superinstruction};
 use std::alloc::Global;
 use std::test::Fail;
 use test_programs::{PRINTS_A, code_file};
@@ -43,6 +43,65 @@ fn looks_at_a_program(rt: HostRuntime) -> Result<(), Fail> {
     for (at, reached) in [(0, true), (2, false), (12, true), (13, false), (28, false)] {
         assert_eq!(rt; program.is_start(at), reached, "at {at}");
     }
+    Ok(())
+}
+
+/// SLDL 1, SLDC 5, ADI, STL 1; SLDL 1, SLDC 10, LESI, FJP to 12; UJP to 12; SLDL 1; SLDC 0, SLDC 9,
+/// CHK, SRO 2; RBP. By hand.
+const FUSES: [u8; 34] = [
+    0xd8, 0x05, 0x82, 0xcc, 0x01, 0xd8, 0x0a, 0xc9, 0xa1, 0x02, 0xb9, 0x00, 0xd8, 0x00, 0x09, 0x88,
+    0xab, 0x02, 0xc1, 0x00, 0x04, 0x00, 0x00, 0x00, 0x06, 0x00, 0x1a, 0x00, 0x01, 0x00, 0x02, 0x00,
+    0x01, 0x01,
+];
+
+/// Returns the superinstruction at an offset, if it is reached and one begins there.
+fn fused(program: &Program, at: u32) -> Option<Superinstruction> {
+    if !program.is_start(at) {
+        return None;
+    }
+    match program.superinstruction(at) {
+        Some(found) => Some(*found),
+        None => None,
+    }
+}
+
+/// Shows Program::superinstruction: which instructions are fused, with a store, with a branch,
+/// after a jump, and with bounds. RBP is fused with nothing.
+#[test]
+fn fuses_instructions(rt: HostRuntime) -> Result<(), Fail> {
+    let program = program(rt.alloc(), b"FUSES   ", &FUSES)?;
+    let stores = Superinstruction {
+        steps: 4,
+        operation: Some(Operation::Sum),
+        pushed: Pushed::Two(Source::Own(1), Source::Constant(5)),
+        sink: Sink::Own(1),
+        next: 5,
+    };
+    let branches = Superinstruction {
+        steps: 4,
+        operation: Some(Operation::Less),
+        pushed: Pushed::Two(Source::Own(1), Source::Constant(10)),
+        sink: Sink::Unless(12),
+        next: 10,
+    };
+    let jumps = Superinstruction {
+        steps: 3,
+        operation: None,
+        pushed: Pushed::Two(Source::Own(1), Source::Constant(0)),
+        sink: Sink::Push,
+        next: 14,
+    };
+    let checks = Superinstruction {
+        steps: 4,
+        operation: None,
+        pushed: Pushed::Bounds(0, 9),
+        sink: Sink::Main(2),
+        next: 18,
+    };
+    for (at, wanted) in [(0, stores), (5, branches), (10, jumps), (13, checks)] {
+        assert_eq!(rt; fused(&program, at), Some(wanted), "at {at}");
+    }
+    assert!(rt; fused(&program, 18).is_none());
     Ok(())
 }
 

@@ -1,5 +1,5 @@
 //! `check FILE`.
-use crate::outcome::Outcome;
+use crate::conclusion::Conclusion;
 use crate::shared_words::{FILE, on_file};
 use crate::value::{WordFault, text_of};
 use clap::{ArgMatches, Command};
@@ -33,8 +33,8 @@ pub fn perform<'a, H: Files + AllocGlobal, W: Write>(
     rt: &H,
     matches: &ArgMatches<'a>,
     writer: &mut W,
-) -> Result<Outcome, WordFault<'a>> {
+) -> Result<Conclusion, WordFault<'a>> {
     let file = text_of(matches, FILE)?;
     let done = check_file(rt, file, writer);
-    Ok(Outcome::of_done(done))
+    Ok(Conclusion::of_done(done))
 }

@@ -1,6 +1,6 @@
 //! `net FILE SIZE TURNS`.
+use crate::conclusion::Conclusion;
 use crate::environment::is_log_asked;
-use crate::outcome::Outcome;
 use crate::shared_words::{FILE, SIZE, TURNS, on_file, size_arg, value_arg};
 use crate::value::{WordFault, byte_of, count_of, text_of};
 use clap::{ArgMatches, Command};
@@ -44,7 +44,7 @@ pub fn perform<'a, H: Files + Net + Clock + Env + AllocGlobal, R: Read, W: Write
     reader: &mut R,
     writer: &mut W,
     errors: &mut E,
-) -> Result<Outcome, WordFault<'a>> {
+) -> Result<Conclusion, WordFault<'a>> {
     let file = text_of(matches, FILE)?;
     let plan = NetPlan {
         size: byte_of(matches, SIZE)?,
@@ -52,5 +52,5 @@ pub fn perform<'a, H: Files + Net + Clock + Env + AllocGlobal, R: Read, W: Write
         is_logged: is_log_asked(rt),
     };
     let done = net_file(rt, file, &plan, reader, writer, errors);
-    Ok(Outcome::of_done(done))
+    Ok(Conclusion::of_done(done))
 }

@@ -1,6 +1,6 @@
 //! `node FILE ID SIZE SESSION RECORD TURNS ADDR.. [--seen N] [--campaign] [--keys ADDR]`.
+use crate::conclusion::Conclusion;
 use crate::environment::{if_said, is_log_asked, trace_asked};
-use crate::outcome::Outcome;
 use crate::shared_words::{
     FILE, SESSION, SIZE, TURNS, on_file, option_arg, size_arg, text_arg, value_arg,
 };
@@ -173,9 +173,9 @@ fn run_plan<H: Files + Net + Clock + Env + AllocGlobal + Copy + Drop, R: Read, W
     reader: &mut R,
     writer: &mut W,
     errors: &mut E,
-) -> Outcome {
+) -> Conclusion {
     let mut writer = Counting::new(writer);
-    Outcome::of_done(node_file(rt, file, plan, reader, &mut writer, errors))
+    Conclusion::of_done(node_file(rt, file, plan, reader, &mut writer, errors))
 }
 
 /// Does what the words ask for. Returns how that ended, or what is wrong with the words.
@@ -191,7 +191,7 @@ pub fn perform<
     reader: &mut R,
     writer: &mut W,
     errors: &mut E,
-) -> Result<Outcome, WordFault<'a>> {
+) -> Result<Conclusion, WordFault<'a>> {
     let file = text_of(matches, FILE)?;
     let (node, group) = read_group(matches)?;
     let record = path_of(matches, RECORD)?;

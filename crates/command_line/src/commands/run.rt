@@ -1,5 +1,5 @@
 //! `run FILE [--steps N]`.
-use crate::outcome::Outcome;
+use crate::conclusion::Conclusion;
 use crate::shared_words::{FILE, on_file, option_arg};
 use crate::value::{Word, WordFault, count_in, text_of};
 use clap::{ArgMatches, Command};
@@ -41,12 +41,12 @@ pub fn perform<'a, H: Files + AllocGlobal, R: Read, W: Write>(
     matches: &ArgMatches<'a>,
     reader: &mut R,
     writer: &mut W,
-) -> Result<Outcome, WordFault<'a>> {
+) -> Result<Conclusion, WordFault<'a>> {
     let file = text_of(matches, FILE)?;
     let steps = match matches.get_str(STEPS.name()) {
         None => DEFAULT_STEPS,
         Some(text) => count_in(STEPS, text)?,
     };
     let ran = run_file(rt, file, steps, reader, writer);
-    Ok(Outcome::of_run(ran))
+    Ok(Conclusion::of_run(ran))
 }

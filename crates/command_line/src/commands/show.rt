@@ -1,5 +1,5 @@
 //! `show SIZE SESSION HEX`.
-use crate::outcome::Outcome;
+use crate::conclusion::Conclusion;
 use crate::shared_words::{SESSION, SIZE, value_arg};
 use crate::value::{Word, WordFault, byte_of, count_of, text_of};
 use clap::{ArgMatches, Command};
@@ -41,10 +41,10 @@ pub fn perform<'a, W: Write>(
     alloc: Global,
     matches: &ArgMatches<'a>,
     writer: &mut W,
-) -> Result<Outcome, WordFault<'a>> {
+) -> Result<Conclusion, WordFault<'a>> {
     let size = byte_of(matches, SIZE)?;
     let session = count_of(matches, SESSION)?;
     let digits = text_of(matches, HEX)?;
     let shown = show(alloc, Group { size, session }, digits, writer);
-    Ok(Outcome::of_show(shown))
+    Ok(Conclusion::of_show(shown))
 }

@@ -1,5 +1,5 @@
 //! `sim FILE SCRIPT`.
-use crate::outcome::{Outcome, Refusal};
+use crate::conclusion::{Conclusion, Refusal};
 use crate::shared_words::{FILE, on_file, text_arg};
 use crate::value::{Word, WordFault, text_of};
 use clap::{ArgMatches, Command};
@@ -56,11 +56,11 @@ pub fn perform<'a, H: Files + AllocGlobal, W: Write>(
     rt: &H,
     matches: &ArgMatches<'a>,
     writer: &mut W,
-) -> Result<Outcome, WordFault<'a>> {
+) -> Result<Conclusion, WordFault<'a>> {
     let file = text_of(matches, FILE)?;
     let script = text_of(matches, SCRIPT)?;
     Ok(match sim_buffered(rt, file, script, writer) {
-        Ok(()) => Outcome::Done,
-        Err(refusal) => Outcome::Refused(refusal),
+        Ok(()) => Conclusion::Done,
+        Err(refusal) => Conclusion::Refused(refusal),
     })
 }

@@ -86,9 +86,9 @@ fn by_hand(alloc: Global, program: &Program) -> Result<(usize, usize), Fail> {
     Ok((outbox.free(), console.bytes().len()))
 }
 
-/// Shows Node::typed (ok, known), Node::campaign (does), Node::on_message (does), Node::tick
-/// (does), Outbox::free (free): the example of docs/LIBRARY.md. In the end the Submit and the
-/// Ask of the tick are in the outbox, and no key is learned yet.
+/// Shows Node::typed (ok, known), Node::campaign (responds), Node::on_message (responds),
+/// Node::tick (sends), Outbox::free (free): the example of docs/LIBRARY.md. In the end the Submit
+/// and the Ask of the tick are in the outbox, and no key is learned yet.
 #[test]
 fn node_by_hand(rt: HostRuntime) -> Result<(), Fail> {
     let program = reading_program(rt.alloc())?;

@@ -49,7 +49,7 @@ pub fn assert_answers<H: Abort + AllocGlobal>(
 
 const FULL: Option<NodeFault> = Some(NodeFault::OutboxFull);
 
-/// Shows Node::on_message (let_in, does), Node::campaign (let_in), Node::tick (let_in, does),
+/// Shows Node::on_message (responds), Node::campaign (responds), Node::tick (sends),
 /// Node::run (runs), Outbox::free (free), Outbox::pop (value, packets): with fewer than 64 free
 /// places each call that may send is `OutboxFull`, and nothing has changed.
 #[test]
@@ -68,7 +68,7 @@ fn outbox_is_full(rt: HostRuntime) -> Result<(), Fail> {
     assert_answers(&rt, &READS, &lines)
 }
 
-/// Shows Node::tick (let_in, does), Outbox::pop (value, packets): once the outbox is empty a tick
+/// Shows Node::tick (sends), Outbox::pop (value, packets): once the outbox is empty a tick
 /// is taken again.
 #[test]
 fn outbox_is_ready_after_a_pop(rt: HostRuntime) -> Result<(), Fail> {
@@ -95,8 +95,8 @@ fn most_keys_wait(rt: HostRuntime) -> Result<(), Fail> {
     assert_answers(&rt, &READS, &lines)
 }
 
-/// Shows Node::campaign (places), Node::known_front (front): once all places are learned a campaign
-/// is `PlacesSpent`.
+/// Shows Node::campaign (refuses), Node::known_front (front): once all places are learned a
+/// campaign is `PlacesSpent`.
 #[test]
 fn places_are_spent(rt: HostRuntime) -> Result<(), Fail> {
     let lines = [
@@ -131,7 +131,7 @@ fn campaigns_above(
     Ok(unlike.is_none())
 }
 
-/// Shows Node::campaign (rounds): after the greatest round a campaign is `RoundsSpent`.
+/// Shows Node::campaign (refuses): after the greatest round a campaign is `RoundsSpent`.
 #[test]
 fn rounds_are_spent(rt: HostRuntime) -> Result<(), Fail> {
     let program = reading_program(rt.alloc())?;
@@ -201,7 +201,7 @@ fn refusal(alloc: Global, program: &Program, store: MemoryStore) -> Option<(Node
     }
 }
 
-/// Shows Node::start (loads, bad, spent, device, planned, same): starts over a bad record, over the
+/// Shows Node::start (once, from, plan): starts over a bad record, over the
 /// last start, and over a save that fails, with what the store then has.
 #[test]
 fn refused_starts(rt: HostRuntime) -> Result<(), Fail> {
@@ -272,10 +272,10 @@ fn kept_after(
     }
 }
 
-/// Shows Node::fail_next (plan), Node::on_message (does, saves, let_in), Node::campaign (does,
-/// saves, let_in), Node::tick (let_in), Node::typed (stopped), Node::run (stopped),
-/// Node::is_stopped, Node::into_store: after a save that failed nothing was sent, each call is
-/// `Stopped`, and the store has the old record or the changed one.
+/// Shows Node::fail_next (plan), Node::on_message (responds), Node::campaign (responds),
+/// Node::tick (sends), Node::typed (stopped), Node::run (stopped), Node::is_stopped,
+/// Node::into_store: after a save that failed nothing was sent, each call is `Stopped`, and the
+/// store has the old record or the changed one.
 #[test]
 fn saves_that_fail(rt: HostRuntime) -> Result<(), Fail> {
     let program = reading_program(rt.alloc())?;

@@ -144,8 +144,8 @@ const KEY: [Line; 45] = [
     (3, HasSentAll),
 ];
 
-/// Shows Node::start (known), Node::typed (ok, known), Node::campaign (does, saves),
-/// Node::on_message (does, saves), Node::tick (does, store), Node::run (runs), Node::release
+/// Shows Node::start (from), Node::typed (ok, known), Node::campaign (responds),
+/// Node::on_message (responds), Node::tick (sends, store), Node::run (runs), Node::release
 /// (value, some), Outbox::new, Outbox::pop (value, packets), Node::known_front (front),
 /// Node::waiting (count): a typed key is learned at all three nodes, and each prints it. No clause
 /// says that it is.
@@ -214,7 +214,7 @@ const BATCHES: [Line; 53] = [
     (3, HasSentAll),
 ];
 
-/// Shows Node::on_message (does), Node::typed (known), Node::tick (does), Node::known_front
+/// Shows Node::on_message (responds), Node::typed (known), Node::tick (sends), Node::known_front
 /// (front): a batch with one learned key, and later both, byte by byte.
 #[test]
 fn batch_with_a_learned_key(rt: HostRuntime) -> Result<(), Fail> {

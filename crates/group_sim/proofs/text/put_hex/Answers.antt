@@ -1,5 +1,5 @@
 use Rattle.std.proofs.Common.{rules}
-use Rattle.group_sim.specs.Groups.{hex_digits}
+use Rattle.digits.specs.Digits.{hex_digits}
 use Rattle.group_sim.proofs.Writing.{item-failed}
 use Rattle.group_sim.proofs.text.put_hex.Goals as goal
 

@@ -1,6 +1,6 @@
 use Rattle.std.proofs.Common.{take}
 use Rattle.std.specs.Io.KnownBytes.{Appends}
-use Rattle.group_sim.specs.Groups.{hex_text}
+use Rattle.digits.specs.Digits.{hex_text}
 use Rattle.group_sim.proofs.text.put_hex.Given as goal
 
 abbrev pub invariant-loop-byte : goal.invariant-loop-byte

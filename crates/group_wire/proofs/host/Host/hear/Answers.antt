@@ -17,7 +17,7 @@ returns-clause-stays g c =
 pub returns-clause-acts : goal.returns-clause-acts
 returns-clause-acts g c =
     let hears = c.hear_next.ensures.hears in
-    hear_acts_by {honest = g.S.Store.honest} {state = g.S.Store.state} c.hear_next.result (record {
+    hear_acts_by {kind = g.S.Store.kind} c.hear_next.result (record {
       came = hears.0;
       ending = hears.1;
       hears = hears.2;

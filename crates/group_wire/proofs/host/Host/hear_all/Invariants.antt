@@ -12,5 +12,5 @@ invariant-loop g l = record {
       × (length came ≡ l.counter) × (lost_of came ≡ l.lost);
   few : l.lost ≤ l.counter;
   stops : (l.self.protocol.is_stopped ≡ true) ↔ (l.initial.self.protocol.is_stopped ≡ true);
-  faults : (g.S.Store.state l.self.protocol.store).faults ≡ (g.S.Store.state l.initial.self.protocol.store).faults;
+  faults : (g.S.Store.kind.state l.self.protocol.store).faults ≡ (g.S.Store.kind.state l.initial.self.protocol.store).faults;
 }

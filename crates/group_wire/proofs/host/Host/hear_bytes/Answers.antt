@@ -1,61 +1,66 @@
 use Rattle.std.proofs.Common.{rules, ◌≡◌, ◌∙◌, refl, ap, arith, Err, Ok}
-use Rattle.group_wire.specs.declared.answers.Heard.TheVariants.{Dropped, Lost, Message}
+use Rattle.group_wire.specs.declared.answers.Received.TheVariants.{Dropped, Lost, Message}
 use Rattle.group_wire.specs.Arrivals.{Loses, NoMessage, TooLong}
 use Rattle.group_wire.proofs.Hearing.{hears_none, hears_one, refuses_one, refused_as, refused_others}
 use Rattle.group_wire.proofs.host.Host.hear_bytes.Goals as goal
 
 pub returns-then-bytes-gt-LONGEST_DATAGRAM-clause-hears : goal.returns-then-bytes-gt-LONGEST_DATAGRAM-clause-hears
 returns-then-bytes-gt-LONGEST_DATAGRAM-clause-hears g c from came =
-    hears_none g.S.Store.state _ _ _ TooLong Dropped refl (omega arith) refl (_, refl, refl, refl) (λ _. refl) refl refl came
+    hears_none g.S.Store.kind _ _ _ TooLong Dropped refl (omega arith) refl (_, refl, refl, refl) (λ _. refl) refl refl came
 
 pub returns-in_default-clause-hears : goal.returns-in_default-clause-hears
 returns-in_default-clause-hears g c from came =
     rw (← c.self.view_is)
-    (hears_none g.S.Store.state _ _ _ NoMessage Dropped c.self.invariant.0 (λ m spelled. absurd (cc (c.in_default.ensures.only m spelled)))
+    (hears_none g.S.Store.kind _ _ _ NoMessage Dropped c.self.invariant.0 (λ m spelled. absurd (cc (c.in_default.ensures.only m spelled)))
     refl (_, refl, refl, refl) (λ _. refl) refl refl came)
 
 pub returns-in_err-unless_memory-clause-hears : goal.returns-in_err-unless_memory-clause-hears
 returns-in_err-unless_memory-clause-hears g c from came =
+    let done = c.in-Err.ensures.responds in
     rw (← c.self.view_is)
-    (refuses_one g.S.Store.state _ _ _ c.in-Ok.view c.in-Err.fault _ c.self.invariant.0 (search rules)
-    c.in-Err.ensures.does.err c.on_message.ensures.progress (c.tell.ensures.passed ∙ came) (search rules)
-    (λ honest is_store. c.in-Err.ensures.saves.device honest (ap Err is_store)))
+    (refuses_one g.S.Store.kind _ _ _ c.in-Ok.view c.in-Err.fault _ c.self.invariant.0 (search rules)
+    done.sends.does.err c.on_message.ensures.responds.sends.progress (c.tell.ensures.passed ∙ came) (search rules)
+    (λ honest is_store. done.saves.device honest (ap Err is_store)))
 
 pub returns-in_err-unless_memory-clause-refused : goal.returns-in_err-unless_memory-clause-refused
 returns-in_err-unless_memory-clause-refused g c =
     let told : c.from_residual.result ≡ Err c.in-Err.fault = search rules in
+    let done = c.in-Err.ensures.responds in
     rw (← c.self.view_is)
-    (refused_as (Err c.in-Err.fault) _ c.in-Err.ensures.let_in c.in-Err.ensures.does.stops c.in-Err.ensures.saves.cause
+    (refused_as (Err c.in-Err.fault) _ done.sends.let_in done.sends.does.stops done.saves.cause
     (λ is. cc) (λ is. cc) (λ is. cc)
-    (rw told (refused_others c.self.invariant.1 (search rules) c.in-Err.ensures.others c.in-Err.ensures.let_in)))
+    (rw told (refused_others c.self.invariant.1 (search rules) c.in-Err.ensures.others done.sends.let_in)))
 
 pub returns-in-Err-clause-hears : goal.returns-in-Err-clause-hears
 returns-in-Err-clause-hears g c from came =
+    let done = c.in-Err.ensures.responds in
     rw (← c.self.view_is)
-    (hears_none g.S.Store.state _ _ _ (Loses c.in-Ok.view) Lost c.self.invariant.0 (search rules) refl
-    (_, refl, refl, refl) (λ stopped. absurd (cc (c.in-Err.ensures.let_in.stopped.1 stopped, c.in_ok-unless_memory.ensures.memory)))
-    c.in-Err.ensures.does.err c.on_message.ensures.progress (c.tell.ensures.passed ∙ came))
+    (hears_none g.S.Store.kind _ _ _ (Loses c.in-Ok.view) Lost c.self.invariant.0 (search rules) refl
+    (_, refl, refl, refl) (λ stopped. absurd (cc (done.sends.let_in.stopped.1 stopped, c.in_ok-unless_memory.ensures.memory)))
+    done.sends.does.err c.on_message.ensures.responds.sends.progress (c.tell.ensures.passed ∙ came))
 
 pub returns-in-Err-clause-refused : goal.returns-in-Err-clause-refused
 returns-in-Err-clause-refused g c =
     let memory = c.in_ok-unless_memory.ensures.memory in
+    let done = c.in-Err.ensures.responds in
     rw (← c.self.view_is)
-    (refused_as (Err c.in-Err.fault) (Ok Lost) c.in-Err.ensures.let_in c.in-Err.ensures.does.stops c.in-Err.ensures.saves.cause
+    (refused_as (Err c.in-Err.fault) (Ok Lost) done.sends.let_in done.sends.does.stops done.saves.cause
     (λ is. absurd cc) (λ is. absurd cc) (λ is. absurd cc) tt)
 
 pub returns-clause-hears : goal.returns-clause-hears
 returns-clause-hears g c from came =
-    let done = c.in_default-on_message.ensures in
+    let done = c.in_default-on_message.ensures.responds in
     let fit = c.what_goes_out_fits.ensures.message _ c.in-Ok.view.sender c.in-Ok.view.body c.record.ensures.ranges
     (rw c.self.invariant.0 c.in-Ok.ensures.found.fits) in
     rw (← c.self.view_is)
-    (hears_one g.S.Store.state _ _ _ _ c.in-Ok.view _ _ c.self.invariant.0 (search rules)
-    (λ stopped. absurd (cc (done.let_in.stopped.1 stopped))) done.does.ok fit.same c.on_message.ensures.progress c.self.invariant.1
-    done.does.sends c.send_all.ensures.traffic (c.tell-2.ensures.passed ∙ c.tell.ensures.passed ∙ came))
+    (hears_one g.S.Store.kind _ _ _ _ c.in-Ok.view _ _ c.self.invariant.0 (search rules)
+    (λ stopped. absurd (cc (done.sends.let_in.stopped.1 stopped))) done.sends.does.ok fit.same
+    c.on_message.ensures.responds.sends.progress c.self.invariant.1
+    done.sends.does.sends c.send_all.ensures.traffic (c.tell-2.ensures.passed ∙ c.tell.ensures.passed ∙ came))
 
 pub returns-clause-refused : goal.returns-clause-refused
 returns-clause-refused g c =
-    let done = c.in_default-on_message.ensures in
+    let done = c.in_default-on_message.ensures.responds in
     rw (← c.self.view_is)
-    (refused_as (Ok c.in_default-on_message.field-0) (Ok Message) done.let_in done.does.stops done.saves.cause
+    (refused_as (Ok c.in_default-on_message.field-0) (Ok Message) done.sends.let_in done.sends.does.stops done.saves.cause
     (λ is. absurd cc) (λ is. absurd cc) (λ is. absurd cc) tt)

@@ -6,8 +6,8 @@ use Rattle.group_world.proofs.GroupCalls.{above, asks_so, delivered, lent_up, un
 use Rattle.group_world.proofs.WorldAsGroup.{running}
 use Rattle.group_world.proofs.group.GroupState.deliver.Goals as goal
 
-pub place-requires : goal.place-requires
-place-requires c = above c.requires.up
+pub index_of-requires : goal.index_of-requires
+index_of-requires c = above c.requires.up
 
 pub ask-done-requires-clause-up : goal.ask-done-requires-clause-up
 ask-done-requires-clause-up c =
@@ -15,7 +15,7 @@ ask-done-requires-clause-up c =
     delivered c.self.view_is c.requires.sound c.requires.sent (rw c.reserve.ensures.items at c.index.ensures)
     (c.as_slice.ensures.value ∙ ap (λ (datagram : Datagram). datagram.bytes) c.behind-self.view_is) c.in-Ok.ensures.only in (
       c.requires.up.1,
-      lent_up c.self.view_is c.args.node c.place.ensures c.index_mut.ensures.value c.requires.up,
+      lent_up c.self.view_is c.args.node c.index_of.ensures c.index_mut.ensures.value c.requires.up,
       rw (running c.requires.sound c.requires.up.2).me_is read.0,
     )
 
@@ -25,10 +25,10 @@ returns-clause-acts c =
     delivered c.self.view_is c.requires.sound c.requires.sent (rw c.reserve.ensures.items at c.index.ensures)
     (c.as_slice.ensures.value ∙ ap (λ (datagram : Datagram). datagram.bytes) c.behind-self.view_is) c.in-Ok.ensures.only in
     IfOk-weaker c.ask-done.result _ _ (λ d asked. (asked.0, asked.1, c.in-Ok.view, asked.2, read.1, asked.3))
-    (asks_so c.self.view_is c.args.node c.place.ensures c.index_mut.ensures.value c.requires.up _ _ c.requires.sound c.args.plan
+    (asks_so c.self.view_is c.args.node c.index_of.ensures c.index_mut.ensures.value c.requires.up _ _ c.requires.sound c.args.plan
     (Hear c.in-Ok.view) c.ask-done.result (rw c.reserve.ensures.items at c.collect.ensures.sent) c.ask-done.ensures.ends)
 
 pub returns-clause-err : goal.returns-clause-err
 returns-clause-err c =
-    unchanged_on_err c.self.view_is c.args.node c.place.ensures c.index_mut.ensures.value c.requires.up _ _ c.ask-done.result
+    unchanged_on_err c.self.view_is c.args.node c.index_of.ensures c.index_mut.ensures.value c.requires.up _ _ c.ask-done.result
     (rw c.reserve.ensures.items at c.collect.ensures.sent) refl c.ask-done.ensures.err

@@ -7,7 +7,7 @@ use Rattle.group_world.proofs.group.GroupState.start.Goals as goal
 
 pub start-requires-clause-ranges : goal.start-requires-clause-ranges
 start-requires-clause-ranges c =
-    rw (c.in-Ok.ensures.ok, lent_is c.self.view_is c.args.node c.place.ensures c.index_mut.ensures.value c.requires.down.1.there)
+    rw (c.in-Ok.ensures.ok, lent_is c.self.view_is c.args.node c.index_of.ensures c.index_mut.ensures.value c.requires.down.1.there)
     (rw (← c.self.view_is) at (c.requires.sound.members c.args.node c.requires.down.0 c.requires.down.1.there).ranges)
 
 pub returns-clause-acts : goal.returns-clause-acts
@@ -17,7 +17,7 @@ returns-clause-acts c =
     (λ d ends. (
       c.requires.down.0,
       c.requires.down.1,
-      leaves c.self.view_is c.args.node c.place.ensures c.index_mut.ensures.value c.requires.down.1.there c.args.plan
+      leaves c.self.view_is c.args.node c.index_of.ensures c.index_mut.ensures.value c.requires.down.1.there c.args.plan
           call_of_start me (none_more _) (none_more _) ends,
     ))
     (rw (ap (λ (w : World). w.program) c.self.view_is) at c.start.ensures.ends)

@@ -1,7 +1,7 @@
 use Rattle.std.proofs.lemmas.Result.{IfOk-weaker, on_err_weaker}
 use Rattle.group_node.specs.Calls.{IsLet}
 use Rattle.group_world.proofs.AskEnds.{IsAnswered, asked_fits, campaign_answered, heard, ready, tick_answered}
-use Rattle.group_world.proofs.PlaceCalls.{up_not_down}
+use Rattle.group_world.proofs.MemberCalls.{up_not_down}
 use Rattle.group_world.proofs.member.Member.ask.Goals as goal
 use Rattle.group_world.proofs.member.Member.ask.Goals.{in-Hear, in-Campaign, in-Tick}
 
@@ -20,7 +20,7 @@ unreachable-unreachable c = absurd c.unreachable.result
 
 -- the call that the node has answered, by which it is
 answered : (c : goal.After-settle)
-    → IsAnswered c.args.plan c.match-ask.self-inside.place c.match-ask.self-inside.console.bytes c.args.self.now c.args.ask.now
+    → IsAnswered c.args.plan c.match-ask.self-inside.up_or_down c.match-ask.self-inside.console.bytes c.args.self.now c.args.ask.now
     c.match-ask.outbox.packets c.match-ask.answer
 answered c =
     let f = c.fail_next.ensures in
@@ -29,25 +29,29 @@ answered c =
     elim c.match-ask.branch [
       | in-Hear w ↦
           let h = w.on_message-answer.ensures in
+          let s = h.responds.sends in
           rw (w.self-inside-is, w.outbox-is, w.answer-is, w.in-Hear.is)
-          (heard is_ready c.requires.empty h.progress h.let_in _ h.does h.saves h.others)
+          (heard is_ready c.requires.empty s.progress s.let_in _ s.does h.responds.saves h.others)
       | in-Campaign w ↦
           let h = w.campaign-answer.ensures in
+          let s = h.responds.sends in
+          let r = h.refuses in
           rw (w.self-inside-is, w.outbox-is, w.answer-is, w.in-Campaign.is)
-          (campaign_answered is_ready c.requires.empty h.progress h.let_in h.does h.saves
+          (campaign_answered is_ready c.requires.empty s.progress s.let_in s.does h.responds.saves
           (λ opens.
           let free : IsLet c.fail_next.new.self.protocol c.args.outbox.now.packets =
           record { is_open = opens.works; is_free = c.requires.empty } in
           record {
-            rounds = ((λ e. (h.rounds.0 e).1), (λ e. h.rounds.1 (free, e)));
-            places = ((λ e. ((h.places.0 e).1, (h.places.0 e).2)), (λ e. h.places.1 (free, e.0, e.1)));
-            spare = h.spare;
-            spare_saved = h.spare_saved;
+            rounds = ((λ e. (r.rounds.0 e).1), (λ e. r.rounds.1 (free, e)));
+            places = ((λ e. ((r.places.0 e).1, (r.places.0 e).2)), (λ e. r.places.1 (free, e.0, e.1)));
+            spare = r.spare;
+            spare_saved = r.spare_saved;
           }) h.others)
       | in-Tick w ↦
           let h = w.tick-answer.ensures in
+          let s = h.sends in
           rw (w.self-inside-is, w.outbox-is, w.answer-is, w.in-Tick.is)
-          (tick_answered is_ready c.requires.empty h.progress h.let_in h.does h.store h.others)
+          (tick_answered is_ready c.requires.empty s.progress s.let_in s.does h.store h.others)
     ]
 
 pub invariant_of-self : goal.invariant_of-self

@@ -1,7 +1,7 @@
 use Rattle.std.proofs.Common.{◌≤◌, length}
-use Rattle.group_world.specs.declared.member.Place.TheVariants as place
+use Rattle.group_world.specs.declared.member.UpOrDown.TheVariants as member
 use Rattle.group_world.specs.Member.{member_of}
-use Rattle.group_world.proofs.PlaceCalls.{Presses, Types, presses, typed_open, up_not_down}
+use Rattle.group_world.proofs.MemberCalls.{Presses, Types, presses, typed_open, up_not_down}
 use Rattle.group_world.proofs.AskEnds.{as_member}
 use Rattle.group_world.proofs.member.Member.press.Goals as goal
 
@@ -22,7 +22,7 @@ invariant_of-self c = typed_open (rw c.in-Up.is at c.self.invariant) (types c)
 pub returns : goal.returns
 returns c =
     let console = c.self.inside.console.bytes in
-    let new = member_of (place.Up c.typed.new.self) console in
+    let new = member_of (member.Up c.typed.new.self) console in
     record {
       ends = λ q up plan.
           as_member (λ q m. Presses q m plan c.args.byte new c.typed.result) c.in-Up.node console (rw c.in-Up.is at c.self.view_is) up

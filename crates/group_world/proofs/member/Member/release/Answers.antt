@@ -1,16 +1,16 @@
 use Rattle.std.proofs.Common.{◌≡◌, ◌∙◌, ap, refl, rules}
-use Rattle.group_world.specs.declared.member.Place.TheVariants as place
+use Rattle.group_world.specs.declared.member.UpOrDown.TheVariants as member
 use Rattle.group_world.specs.Member.{member_after_release, member_of}
 use Rattle.group_world.proofs.AskEnds.{as_member}
 use Rattle.group_world.proofs.SoundWorldsAgree.{next_of}
-use Rattle.group_world.proofs.PlaceCalls.{releases, releases_none, run_open, up_not_down}
+use Rattle.group_world.proofs.MemberCalls.{releases, releases_none, run_open, up_not_down}
 use Rattle.group_world.proofs.member.Member.release.Goals as goal
 
 pub invariant_of-self : goal.invariant_of-self
 invariant_of-self c = c.self.invariant
 
 pub returns-then-is_err-clause-err : goal.returns-then-is_err-clause-err
-returns-then-is_err-clause-err c = ap (λ bytes. member_of c.self.inside.place bytes) c.reserve.ensures.bytes ∙ c.self.view_is
+returns-then-is_err-clause-err c = ap (λ bytes. member_of c.self.inside.up_or_down bytes) c.reserve.ensures.bytes ∙ c.self.view_is
 
 pub returns-then-is_err-clause-memory : goal.returns-then-is_err-clause-memory
 returns-then-is_err-clause-memory c = refl
@@ -31,7 +31,7 @@ pub returns-in-Some-clause-ok : goal.returns-in-Some-clause-ok
 returns-in-Some-clause-ok c =
     let h = c.in-Some.ensures in
     let console = c.self.inside.console.bytes in
-    let new = member_of (place.Up c.release-next.new.self) c.offer-shown.new.self.bytes in
+    let new = member_of (member.Up c.release-next.new.self) c.offer-shown.new.self.bytes in
     λ q up. as_member (λ q m. new ≡ member_after_release m q (next_of q)) c.in-Up.node console (rw c.in-Up.is at c.self.view_is) up
     (releases c.in-Up.node _ console c.offer-shown.new.self.bytes _ _
     h.value h.some h.protocol
@@ -47,6 +47,6 @@ pub returns-in_default-clause-ok : goal.returns-in_default-clause-ok
 returns-in_default-clause-ok c =
     let h = c.in_default.ensures in
     let console = c.self.inside.console.bytes in
-    let new = member_of (place.Up c.release-next.new.self) c.reserve.new.self.bytes in
+    let new = member_of (member.Up c.release-next.new.self) c.reserve.new.self.bytes in
     λ q up. as_member (λ q m. new ≡ member_after_release m q (next_of q)) c.in-Up.node console (rw c.in-Up.is at c.self.view_is) up
     (rw c.reserve.ensures.bytes (releases_none c.in-Up.node c.release-next.new.self console h.value h.none))

@@ -1,6 +1,6 @@
-use Rattle.group_world.specs.declared.member.Place.TheVariants as place
+use Rattle.group_world.specs.declared.member.UpOrDown.TheVariants as member
 use Rattle.group_world.specs.Member.{member_of, RunsMember}
-use Rattle.group_world.proofs.PlaceCalls.{run_open, runs, up_not_down}
+use Rattle.group_world.proofs.MemberCalls.{run_open, runs, up_not_down}
 use Rattle.group_world.proofs.AskEnds.{as_member}
 use Rattle.group_world.proofs.member.Member.run.Goals as goal
 
@@ -17,7 +17,7 @@ pub returns : goal.returns
 returns c =
     let h = c.run-ran.ensures in
     let console = c.self.inside.console.bytes in
-    let new = member_of (place.Up c.run-ran.new.self) console in
+    let new = member_of (member.Up c.run-ran.new.self) console in
     record {
       runs = λ q up.
           as_member (λ q m. RunsMember m q c.args.steps new) c.in-Up.node console (rw c.in-Up.is at c.self.view_is) up

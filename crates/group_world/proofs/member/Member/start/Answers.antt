@@ -2,44 +2,51 @@ use Rattle.std.proofs.Common.{◌≡◌, ◌∙◌, None, ap, subst, sym}
 use Rattle.paxos_acceptor.specs.Records.{IsRecord}
 use Rattle.group_node.specs.Known.{Known}
 use Rattle.group_world.specs.Member.{running_of, store_of}
-use Rattle.group_world.proofs.PlaceCalls.{down_kept, FailsToStart, start_changes_nothing, start_fails, start_happens}
+use Rattle.group_world.proofs.MemberCalls.{down_kept, FailsToStart, start_changes_nothing, start_fails, start_happens}
 use Rattle.group_world.proofs.member.Member.start.Goals as goal
 
 pub invariant_of-self : goal.invariant_of-self
 invariant_of-self c =
     let h = c.in-Ok.ensures in
-    rw c.put.ensures (record { works = h.stops; stored = h.saved tt ∙ ap (λ (n : Known). n.kept) (sym (h.known tt)) })
+    rw c.put.ensures (record { works = h.fresh.stops; stored = (h.from tt).saved ∙ ap (λ (n : Known). n.kept) (sym (h.from tt).known) })
 
 pub returns-in-Ok-clause-ends : goal.returns-in-Ok-clause-ends
 returns-in-Ok-clause-ends c =
     let is_down = rw (← c.self.view_is) at c.requires.down in
     let h = rw (c.fail_next.ensures, c.into_store-store.ensures, c.taken.ensures) at c.in-Ok.ensures in
-    start_happens c.args.plan _ _ c.self.inside.place c.self.inside.console.bytes _ is_down c.self.view_is c.in-Ok.node _ c.put.ensures
-    (h.known tt) h.unplanned.0 h.progress (h.fit tt).1
+    start_happens c.args.plan _ _ c.self.inside.up_or_down c.self.inside.console.bytes _ is_down c.self.view_is c.in-Ok.node _ c.put.ensures
+    (h.from tt).known h.plan.ok.0 h.fresh.progress (h.from tt).fit.1
 
 pub invariant_of-self-in-Err : goal.invariant_of-self-in-Err
 invariant_of-self-in-Err c = c.settle.ensures.settled (λ _. rw c.put-in-Err.ensures tt)
 
-is_down : (c : goal.After-settle) → running_of c.self.inside.place ≡ None
+is_down : (c : goal.After-settle) → running_of c.self.inside.up_or_down ≡ None
 is_down c = rw (← c.self.view_is) at c.requires.down
 
 -- why the node did not start, and its store then
-fails : (c : goal.After-settle) → FailsToStart c.args.plan c.args.config (store_of c.self.inside.place).stored
+fails : (c : goal.After-settle) → FailsToStart c.args.plan c.args.config (store_of c.self.inside.up_or_down).stored
     c.in-Err.field-0.store.stored c.in-Err.field-0.fault
 fails c =
     let h = rw (c.fail_next.ensures, c.into_store-store.ensures, c.taken.ensures) at c.in-Err.ensures in
-    record { bad = h.bad tt; spent = h.spent tt; spare = h.spare tt tt; planned = h.planned tt tt; same = h.same tt; others = h.others }
+    record {
+      bad = (h.from tt).bad;
+      spent = (h.from tt).spent;
+      spare = λ e. (h.plan.planned tt tt e).spare;
+      planned = λ e. (h.plan.planned tt tt e).planned;
+      same = (h.from tt).same;
+      others = h.others;
+    }
 
 pub returns-in-Err-clause-ends : goal.returns-in-Err-clause-ends
 returns-in-Err-clause-ends c =
     let ranges = rw (← c.self.view_is) at c.requires.ranges in
-    start_fails c.args.plan _ _ c.self.inside.place c.self.inside.console.bytes _ (is_down c) c.self.view_is _ _ _ _ c.settle.result
+    start_fails c.args.plan _ _ c.self.inside.up_or_down c.self.inside.console.bytes _ (is_down c) c.self.view_is _ _ _ _ c.settle.result
     c.put-in-Err.ensures (fails c) c.settle.ensures.fell c.settle.ensures.stays
-    (subst (IsRecord c.args.config.group.size) (down_kept c.self.inside.place (is_down c)) ranges) c.settle.ensures.done
+    (subst (IsRecord c.args.config.group.size) (down_kept c.self.inside.up_or_down (is_down c)) ranges) c.settle.ensures.done
 
 pub returns-in-Err-clause-err : goal.returns-in-Err-clause-err
 returns-in-Err-clause-err c =
-    start_changes_nothing c.args.plan _ c.args.program.now c.self.inside.place c.self.inside.console.bytes _ (is_down c) c.self.view_is
+    start_changes_nothing c.args.plan _ c.args.program.now c.self.inside.up_or_down c.self.inside.console.bytes _ (is_down c) c.self.view_is
     _ _ _ _ c.settle.result c.put-in-Err.ensures (fails c) c.settle.ensures.fell c.settle.ensures.stays c.settle.ensures.memory
 
 pub returns-in-Err-clause-memory : goal.returns-in-Err-clause-memory
