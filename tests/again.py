@@ -11,7 +11,8 @@ import sys
 import tempfile
 
 sys.dont_write_bytecode = True  # no files of the tool's own in the repository
-from group_parts import PROGRAM, TESTS, Broken, end_on_signals, has_no_words, provide
+from parts.checks import main_of_checks
+from parts.program import PROGRAM, TESTS, Broken, end_on_signals
 
 # The descriptors of tests/again.c.
 RUNS, ANSWERS = 198, 199
@@ -24,18 +25,16 @@ NEVER = 1 << 60
 Ran = collections.namedtuple("Ran", "status stdout stderr has_refused")
 
 
-def named_bytes(cases):
-    """Returns the bytes that tests/cases/named_bytes names, by their names."""
-    return cases.read_cases(os.path.join(TESTS, "cases", "named_bytes"), {})[2]
+def place_of_folders():
+    """Returns the folder in which folders of tests stand, or None for the system's own. It is in
+    memory if possible: files are written there many times, and each save of a record is synced."""
+    return "/dev/shm" if os.access("/dev/shm", os.W_OK) else None
 
 
 def folder():
-    """Returns a folder that goes away with the script, also if a signal ends it. It is in memory if possible: files are written there many
-    times, and each save of a record is synced."""
+    """Returns a folder that goes away with the script, also if a signal ends it."""
     end_on_signals()
-    shared = "/dev/shm"
-    place = shared if os.access(shared, os.W_OK) else None
-    return tempfile.TemporaryDirectory(prefix="pgroup-", dir=place)
+    return tempfile.TemporaryDirectory(prefix="pgroup-", dir=place_of_folders())
 
 
 def compiled(room, name="again"):
@@ -142,15 +141,6 @@ class Again:
         self.servers = {}
 
 
-def main_of(name, test):
-    """Runs `test` of the script `name` with a folder, and prints the line that it returns, or what does not hold. Returns the status."""
-    if not has_no_words(name):
-        return 2
-    provide(name)
-    with folder() as room:
-        try:
-            print(f"{name}: {test(room)}")
-        except Broken as broken:
-            print(f"failed: {broken}")
-            return 1
-    return 0
+def main_of(name, *checks):
+    """Runs the checks of the script `name`. Returns the status."""
+    return main_of_checks(name, *checks, place=place_of_folders())

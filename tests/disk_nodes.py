@@ -10,10 +10,12 @@ import time
 
 sys.dont_write_bytecode = True  # no files of the tool's own in the repository
 import disk_trace
-import readers
 from disk_trace import replay
-from group_parts import PROGRAM, Broken, await_that, bytes_of
-from readers import Message
+from parts import readers
+from parts.files import bytes_of
+from parts.group import await_that
+from parts.program import PROGRAM, Broken
+from parts.readers import Message
 from shared.nodes import TURNS, command_of
 from shared.record import Ballot, Batch, Record, record_of
 from shared.words import text_of

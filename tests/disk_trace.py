@@ -11,8 +11,8 @@ import os
 import sys
 
 sys.dont_write_bytecode = True  # no files of the tool's own in the repository
-import readers
-from group_parts import Broken
+from parts import readers
+from parts.program import Broken
 from shared.record import Damaged, record_of
 
 # A line of the trace. `number` is None for what is sent or shown, `done` is None where the call was not made.

@@ -6,7 +6,8 @@ prints on the keys that a node has learned."""
 import collections
 import random
 
-from group_parts import ECHO, output_of
+from parts.echo_code import ECHO
+from parts.group import output_of
 from shared.group import Group, GroupRefused
 from shared.protocol import ALL, keys_in
 from shared.script import Event, text_of_script

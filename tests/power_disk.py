@@ -20,7 +20,7 @@ import tempfile
 import time
 
 sys.dont_write_bytecode = True  # no files of the tool's own in the repository
-from group_parts import Broken
+from parts.program import Broken
 
 SECTOR = 512
 BLOCK = 4096

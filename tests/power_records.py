@@ -8,7 +8,9 @@ import sys
 from itertools import zip_longest
 
 sys.dont_write_bytecode = True  # no files of the tool's own in the repository
-from group_parts import PROGRAM, SESSION, Broken, bytes_of
+from parts.files import bytes_of
+from parts.group import SESSION
+from parts.program import PROGRAM, Broken
 from shared.nodes import command_of, free_addresses
 from shared.record import LOG_HEADER, PROMISE, START, VOTE, Damaged, record_of
 

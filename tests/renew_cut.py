@@ -9,7 +9,7 @@ import sys
 import tempfile
 import traceback
 
-from script_checks import path_of
+from parts.scripts import path_of
 
 
 class Cut:

@@ -6,16 +6,19 @@ import os
 import random
 import time
 
-from group_parts import (
-    ECHO, Broken, Group, await_that, bytes_of, endless_in, free_addresses, keys_of,
-    output_of, read_head, read_record, text_of, values_of,
-)
+from parts.checks import expect
+from parts.echo_code import ECHO, endless_in
+from parts.files import bytes_of
+from parts.group import Group, await_that, keys_of, output_of, values_of
+from parts.program import Broken
+from parts.scripts import expect_end, path_of
+from parts.terminals import Terminal
 from renew_cut import renew_cut
 from renew_records import by_number, keys, log, records_in, renew, vote
-from script_checks import expect, expect_end, path_of
-from shared.record import PLACES
+from shared.nodes import free_addresses
+from shared.record import PLACES, read_head, read_record
 from shared.watch import Whole
-from terminals import Terminal
+from shared.words import text_of
 
 # The most keys of a datagram.
 MOST = 64

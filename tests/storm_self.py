@@ -1,9 +1,10 @@
 """Tries tests/storm itself: each finding is named where what is shown was changed by hand, and
 scripts are made small for a condition that was made up."""
 
+import functools
 import random
 
-from script_checks import expect
+from parts.checks import expect
 from shared.script import SETTLE, Event
 from shared.shown import NodeLine, Shown
 from storm_checks import Case, finding_of
@@ -78,7 +79,7 @@ def changed_cases():
     yield "differs", case_of()._replace(wanted=[])
 
 
-def check_kinds():
+def check_kinds(_folder):
     found = finding_of(case_of())
     expect("a case in which all holds has no finding", found is None, found)
     for kind, case in changed_cases():
@@ -86,7 +87,7 @@ def check_kinds():
         expect(f"found: {kind}", found and found.kind == kind, found)
 
 
-def check_least():
+def check_least(_folder):
     """The items of a list that are needed, wherever they are."""
     def least(is_kept, rest_of=list):
         def kept(some):
@@ -102,7 +103,7 @@ def check_least():
     expect("nothing is left where nothing is needed", least(lambda some: True) == [])
 
 
-def check_renumbered():
+def check_renumbered(_folder):
     """Where a line is left out, the messages behind it have other numbers."""
     play = Play(3, 7)
     lines = [Event("start", 1), Event("start", 2), Event("tick", 1), Event("tick", 2), SETTLE,
@@ -125,7 +126,7 @@ def crashes_late(play):
     ) or None
 
 
-def check_small(finding_in):
+def check_small(_folder, finding_in):
     """A script with the made-up finding, made small: no line of it can be left out, and it is one
     of `sim`."""
     storms = (Storm(random.Random(seed), 2000).make() for seed in range(1000))
@@ -145,7 +146,7 @@ def check_small(finding_in):
     expect("it ends after as many tries as there may be", is_so, tries)
 
 
-def check_same():
+def check_same(_folder):
     """A seed is always the same script, also where nothing of it is left out."""
     storms = [Storm(random.Random(seed), 200).make() for seed in (1, 1, 2)]
     texts = [it.play.text() for it in storms]
@@ -155,9 +156,7 @@ def check_same():
         expect("with all its lines a script is the same", again.text() == it.play.text())
 
 
-def check_self(finding_in):
-    check_kinds()
-    check_least()
-    check_renumbered()
-    check_small(finding_in)
-    check_same()
+def self_checks(finding_in):
+    """The checks of this file, each a function of a folder; `finding_in` is that of tests/storm."""
+    small = functools.partial(check_small, finding_in=finding_in)
+    return check_kinds, check_least, check_renumbered, small, check_same

@@ -4,10 +4,12 @@ where its node has ended by D2."""
 import os
 import subprocess
 
-from group_parts import Broken, await_that
-from script_checks import expect, file_with
+from parts.checks import expect
+from parts.files import file_with
+from parts.group import await_that
+from parts.program import Broken
+from parts.supervised import group_of
 from shared.unsaved import why_unsaved
-from supervised_parts import group_of
 
 # Runs a command in a namespace of mounts, with a small disk at a folder, and other words after it.
 SMALL = ["unshare", "--mount", "bash", "-c"]

@@ -1,4 +1,4 @@
-"""Tries the compiler, for tests/compile. Its one word says how many garbled texts are tried."""
+"""What tests/compile tries: each function is a test."""
 
 import glob
 import os
@@ -6,16 +6,14 @@ import random
 import re
 import subprocess
 import sys
-import tempfile
 
-sys.dont_write_bytecode = True  # no files of the tool's own in the repository
-TESTS = os.path.dirname(os.path.dirname(os.path.abspath(__file__)))
-TOP = os.path.dirname(TESTS)
+from parts.checks import passed
+from parts.program import PROGRAM, TOP, Broken
+
 TOOLS, EXAMPLES = os.path.join(TOP, "tools"), os.path.join(TOP, "examples")
 TOOL = os.path.join(TOOLS, "compile")
-sys.path[:0] = [TOOLS, TESTS]
+sys.path.insert(0, TOOLS)
 from assembler import command as assembler
-from compiler.command import RECURSION
 from compiler.parsing.lexer import read_text
 from compiler.program import Options, Refused, compile_text
 from compiling import limits
@@ -24,10 +22,7 @@ from compiling.programs import BY_HAND, PROGRAMS
 from compiling.refusals import (DECLARATIONS, DECLARED, LINE, SEVERAL, SEVERAL_PLACES, STATEMENTS,
                                 TEXTS, TYPED, TYPED_PLACES)
 
-BUILT = os.path.join(TOP, "crates", "pgroup", "out", "pgroup")
-PROGRAM = os.path.realpath(os.environ.get("PGROUP") or BUILT)
 STEPS = "4000000000"
-GARBLED = 2000
 # What is put into a text in a wrong place.
 BITS = ("STRING SET ^ NIL 0 32768 - [ ] VAR FORWARD; RECORD '' 1.5 WITH IN EXIT(PROGRAM) BEGIN "
         "END CASE ; : := . .. ( ) PACKED ARRAY OF FUNCTION USES LABEL GOTO 1: { (* $R- {$R-} \" \0"
@@ -36,7 +31,7 @@ BITS = ("STRING SET ^ NIL 0 32768 - [ ] VAR FORWARD; RECORD '' 1.5 WITH IN EXIT(
 
 def check(holds, what):
     if not holds:
-        sys.exit(f"tests/compile: {what}")
+        raise Broken(what)
 
 
 def write(name, data):
@@ -93,7 +88,7 @@ def try_cases():
     text = ("PROGRAM T; TYPE A = ARRAY[1..3] OF CHAR; VAR P: ^A; BEGIN NEW(P); NEW(P); "
             "WRITE(MEMAVAIL); NEW(P) END.")
     prints("a small heap", text, "", "1", "execution error 1", Options(heap=7))
-    print(f"compile: {len(CASES) + 4} programs print what they have to")
+    passed(f"{len(CASES) + 4} programs print what they have to")
 
 
 def try_programs():
@@ -109,7 +104,7 @@ def try_programs():
         for part in output:
             check(part in rest, f"{name}: {part!r} is not in {rest!r}")
             rest = rest.split(part, 1)[1]
-    print(f"compile: the examples print what they have to on {len(PROGRAMS)} inputs")
+    passed(f"the examples print what they have to on {len(PROGRAMS)} inputs")
 
 
 def try_group():
@@ -129,7 +124,7 @@ def try_group():
     whole = output.encode().hex().upper()
     check(shown[1:] == [whole, whole] and whole.startswith(shown[0]) and shown[0] != whole,
           f"the consoles of {name} at three nodes are {shown}")
-    print("compile: a program shows at three nodes what it prints alone")
+    passed("a program shows at three nodes what it prints alone")
 
 
 def try_sizes():
@@ -142,7 +137,7 @@ def try_sizes():
         check(length <= 1.1 * size, f"{name} has {length} bytes, and {size} by hand")
         ending = run(data, given, "--steps", str(int(1.1 * steps) + 1))[1]
         check(ending == "", f"{name} ends with {ending!r} within a tenth more than {steps} steps")
-    print(f"compile: {len(BY_HAND)} programs are as small and as fast as by hand, to a tenth")
+    passed(f"{len(BY_HAND)} programs are as small and as fast as by hand, to a tenth")
 
 
 def try_made():
@@ -163,7 +158,7 @@ def try_made():
         plain = subprocess.run([PROGRAM, "list", code], check=True, capture_output=True).stdout
         lines = [line for line in listed.splitlines(True) if not line.startswith(";")]
         check("".join(lines).encode() == plain, f"the listing of {path}")
-    print(f"compile: {len(found)} code files are those of their texts, also by their assembly")
+    passed(f"{len(found)} code files are those of their texts, also by their assembly")
 
 
 def try_refusals():
@@ -187,7 +182,7 @@ def try_refusals():
         check([it.split(": ")[0][6:] for it in told] == places, f"all faults are told: {told}")
     told = faults_of(DECLARED + "I := 'A';\n" * 20 + "END.")
     check(len(told) == 10, "ten faults are told")
-    print(f"compile: {count + len(TEXTS) + 2} texts are refused at their places")
+    passed(f"{count + len(TEXTS) + 2} texts are refused at their places")
 
 
 def try_limits():
@@ -199,7 +194,7 @@ def try_limits():
     write("circle.inc", "{$I circle.inc}")
     told = faults_of("PROGRAM T; {$I circle.inc} BEGIN END.")
     check("more than 20 files include one another" in told[0], f"a circle of files: {told}")
-    print("compile: limits are met, and told")
+    passed("limits are met, and told")
 
 
 def garbled(random_source, texts):
@@ -237,7 +232,7 @@ def try_garbled(count):
         write("t.code", data)
         done = subprocess.run([PROGRAM, "check", "t.code"], check=False, capture_output=True)
         check(done.returncode == 0, f"the loader says {done.stderr!r} of what is made of {text}")
-    print(f"compile: of {count} garbled texts {taken} make files that `check` takes, and "
+    passed(f"of {count} garbled texts {taken} make files that `check` takes, and "
           f"{count - taken} are refused at a place")
 
 
@@ -285,26 +280,4 @@ def try_command():
     done = subprocess.run([sys.executable, "-c", f"{old}exec(open({TOOL!r}).read())"], check=False,
                           capture_output=True)
     check(done.returncode == 2 and b"Python 3.8 or newer is wanted" in done.stderr, "an old Python")
-    print("compile: words, statuses and files are as help says")
-
-
-def main(words):
-    if len(words) > 1 or not all(word.isdigit() for word in words):
-        print("usage: tests/compile [GARBLED]", file=sys.stderr)
-        return 2
-    if not os.environ.get("PGROUP"):
-        subprocess.run([os.path.join(TOP, "run"), "--help"], check=True, stdout=subprocess.DEVNULL)
-    sys.setrecursionlimit(RECURSION)
-    count = int(words[0]) if words else GARBLED
-    with tempfile.TemporaryDirectory() as room:
-        os.chdir(room)
-        for part in (try_cases, try_programs, try_group, try_sizes, try_made, try_refusals,
-                     try_limits, try_command):
-            part()
-        try_garbled(count)
-        os.chdir("/")
-    return 0
-
-
-if __name__ == "__main__":
-    sys.exit(main(sys.argv[1:]))
+    passed("words, statuses and files are as help says")

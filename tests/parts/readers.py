@@ -3,10 +3,7 @@ that are written by hand. Datagrams and records are read by tools/group/shared, 
 datagram's names are here too."""
 
 import collections
-import os
-import sys
 
-sys.path.insert(0, os.path.join(os.path.dirname(os.path.realpath(__file__)), "../tools/group"))
 from shared.datagram import Message, Refused, bytes_of, must, text_of
 from shared.datagram import message_of as datagram
 from shared.record import PLACES

@@ -1,86 +1,25 @@
-"""What the tests and benches of groups share: nodes as processes with records and consoles in
-files, keys that are typed at them, and what has to hold of the records and consoles."""
+"""Nodes as processes with records and consoles in files, groups of them, keys that are typed at
+them, and what has to hold of the records and consoles."""
 
-import importlib.machinery
-import importlib.util
 import itertools
 import os
 import random
 import shlex
-import shutil
-import signal
 import socket
 import subprocess
-import sys
-import tempfile
 import time
 
-sys.dont_write_bytecode = True  # no files of the tool's own in the repository
-TESTS = os.path.dirname(os.path.realpath(__file__))
-TOP = os.path.dirname(TESTS)
-SCRIPTS = os.path.join(TOP, "tools", "group")
-sys.path.insert(0, SCRIPTS)
-from shared.nodes import TURNS, command_of, dropped_at, free_addresses
+from shared.nodes import TURNS, command_of, dropped_at
 from shared.record import NOOP, Damaged, read_head, read_record
-from shared.words import ask, parser_of, text_of
+from shared.words import ask, text_of
 
-BUILT = os.path.join(TOP, "crates", "pgroup", "out", "pgroup")
-PROGRAM = os.path.realpath(os.environ.get("PGROUP") or BUILT)
-ECHO = os.path.join(TOP, "examples", "echo.code")
+from .files import bytes_of
+from .program import PROGRAM, SCRIPTS, Broken
+
 SESSION = 7
 # The mean pause between two datagrams of keys in seconds, and how many keys may be on the way.
 PAUSE = 0.08
 AHEAD = 300
-
-# Reads bytes from unit 2 and writes each to unit 1, without end: procedure 1 is UNITREAD,
-# UNITWRITE, three NOP, and a jump back.
-ENDLESS = bytes.fromhex(
-    "02a50300010000 9e05 01a50300010000 9e06 d7d7d7 b9f6 c100"
-    "001a 0002 0004 0009 0022 0001 0002 0001 01"
-)
-# Divides by zero: SLDC 1, SLDC 0, and DVI at offset 2, which is error 6.
-DIVIDING = bytes.fromhex("01 00 86 c100 00 0200 0400 0700 0c00 0100 0200 0101")
-DIVIDED = "execution error 6 in procedure 1 at 2"
-
-
-class Broken(Exception):
-    """Something does not hold."""
-
-
-def provide(name):
-    """Ends the script `name` with status 2 if the program is missing. It is the one that PGROUP
-    names, or else the one that ./run provides."""
-    if not os.environ.get("PGROUP"):
-        words = [os.path.join(TOP, "run"), "--help"]
-        if subprocess.run(words, check=False, stdout=subprocess.DEVNULL).returncode != 0:
-            sys.exit(2)
-    if not os.access(PROGRAM, os.X_OK):
-        print(f"{name}: there is no program {PROGRAM}", file=sys.stderr)
-        sys.exit(2)
-
-
-def cases_module():
-    """Returns tests/cases/run as a module: it makes code files and reads the files of cases."""
-    loader = importlib.machinery.SourceFileLoader("cases", os.path.join(TESTS, "cases", "run"))
-    module = importlib.util.module_from_spec(importlib.util.spec_from_loader("cases", loader))
-    loader.exec_module(module)
-    return module
-
-
-def code_in(folder, name, segment):
-    """Writes the code file of a segment into a folder. Returns its path."""
-    path = os.path.join(folder, name)
-    with open(path, "wb") as out:
-        out.write(cases_module().code_file(segment))
-    return path
-
-
-def endless_in(folder):
-    return code_in(folder, "endless.code", ENDLESS)
-
-
-def dividing_in(folder):
-    return code_in(folder, "dividing.code", DIVIDING)
 
 
 def await_that(is_so, what, seconds=60.0):
@@ -92,9 +31,9 @@ def await_that(is_so, what, seconds=60.0):
         time.sleep(0.002)
 
 
-def bytes_of(path):
-    with open(path, "rb") as file:
-        return file.read()
+def type_at(address, data):
+    with socket.socket(socket.AF_INET, socket.SOCK_DGRAM) as sender:
+        sender.sendto(data, address)
 
 
 def output_of(file, keys):
@@ -399,64 +338,3 @@ class Group:
     def end(self):
         for node in self.nodes:
             node.end()
-
-
-def end_on_signals():
-    """Lets SIGTERM and SIGHUP end the script as an exception does, so that no process is left."""
-    for number in (signal.SIGTERM, signal.SIGHUP):
-        signal.signal(number, lambda *_: sys.exit(1))
-
-
-def in_folder(test):
-    """Runs a test in a folder of its own, which stays if something does not hold. Returns the
-    status."""
-    end_on_signals()
-    folder = tempfile.mkdtemp()
-    try:
-        test(folder)
-    except Broken as broken:
-        print(f"failed: {broken}\nthe records, consoles and traces are in {folder}")
-        return 1
-    except BaseException:
-        shutil.rmtree(folder, ignore_errors=True)
-        raise
-    shutil.rmtree(folder, ignore_errors=True)
-    return 0
-
-
-def has_no_words(name):
-    """Returns true if the script `name` was called without words, and else says how to call it."""
-    if len(sys.argv) > 1:
-        print(f"usage: {name} (PGROUP=FILE names the program)", file=sys.stderr)
-    return len(sys.argv) == 1
-
-
-def main_of_checks(name, *checks):
-    """Runs the checks of the script `name`, each in a folder of its own. Returns the status."""
-    if not has_no_words(name):
-        return 2
-    provide(name)
-    for check in checks:
-        status = in_folder(check)
-        if status:
-            return status
-    print(f"{name}: all checks passed")
-    return 0
-
-
-def seed_of(given):
-    """Returns the seed that was given, or a random one, and prints it."""
-    seed = random.SystemRandom().randrange(1 << 32) if given is None else given
-    print(f"seed {seed}", flush=True)
-    return seed
-
-
-def main_with_seed(name, parser, test, check=lambda words: None):
-    """Runs the test of the script `name` with the words that `parser` reads, and that `check` does
-    not refuse, and a seed. Returns the status."""
-    parser.add_argument("--seed", metavar="N", type=int)
-    words = parser.parse_args()
-    check(words)
-    words.seed = seed_of(words.seed)
-    provide(name)
-    return in_folder(lambda folder: test(folder, words))

@@ -8,7 +8,7 @@ import subprocess
 import termios
 import time
 
-from group_parts import Broken
+from .program import Broken
 
 
 def take_terminal():

@@ -5,7 +5,9 @@ import re
 import shlex
 import subprocess
 
-from group_parts import Broken, await_that, bytes_of
+from .files import bytes_of
+from .group import await_that
+from .program import Broken
 
 
 class Screen:

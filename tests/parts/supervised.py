@@ -4,11 +4,14 @@ import os
 import re
 import subprocess
 
-from group_parts import (
-    ECHO, PROGRAM, Broken, await_that, bytes_of, dropped_at, free_addresses, text_of,
-)
-from script_checks import file_with, path_of, run, session_of
-from shared.nodes import children_of
+from shared.nodes import children_of, dropped_at, free_addresses
+from shared.words import text_of
+
+from .echo_code import ECHO
+from .files import bytes_of, file_with
+from .group import await_that
+from .program import PROGRAM, Broken
+from .scripts import path_of, run, session_of
 
 ASKED = {**os.environ, "PGROUP_LOG": "1"}
 

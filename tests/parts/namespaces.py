@@ -7,8 +7,10 @@ import signal
 import subprocess
 import sys
 
-from group_parts import Broken, main_of_checks
 from shared.nodes import children_of
+
+from .checks import main_of_checks
+from .program import Broken
 
 
 def ip(*words, check=True):
