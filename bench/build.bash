@@ -2,8 +2,8 @@
 # What the benches of crates share. A bench sets `here` to its folder, sources this file, and has
 # `proved.rattle`, a Rattle program.
 top=$here/../..
-# shellcheck source=program/sources.bash
-. "$top/program/sources.bash"
+# shellcheck source=tools/bash/sources.bash
+. "$top/tools/bash/sources.bash"
 work=$(mktemp -d)
 trap 'rm -rf "$work"' EXIT
 

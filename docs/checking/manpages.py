@@ -19,7 +19,7 @@ def recorded(is_of_any_sources=False):
     if not tree.is_file("program/record"):
         return None
     values = dict(line.split(" ", 1) for line in tree.text_of("program/record").splitlines() if line[:1] not in ("#", ""))
-    script = '. "$0/program/sources.bash"; sum_of_sources "$0"'
+    script = '. "$0/tools/bash/sources.bash"; sum_of_sources "$0"'
     sources = subprocess.run(["bash", "-c", script, tree.TOP], check=True, capture_output=True).stdout.decode().strip()
     if values["machine"] != os.uname().machine or not is_of_any_sources and values["sources"] != sources:
         return None

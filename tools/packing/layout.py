@@ -34,7 +34,7 @@ def version_of(top=TOP):
 
 def lines_of_version(program):
     """What ./run --version prints of a program: its version, its kit and its sources."""
-    script = '. "$1/program/sources.bash"; "$0" --version && made_of "$0" "$1"'
+    script = '. "$1/tools/bash/sources.bash"; "$0" --version && made_of "$0" "$1"'
     command = ["bash", "-c", script, program, TOP]
     return subprocess.run(command, check=True, stdout=subprocess.PIPE).stdout
 
@@ -72,7 +72,8 @@ def put_scripts(tree):
         tree.copy(os.path.join(manual.GROUP, name), f"{LIBRARY}/tools/group/{name}")
     for path in sorted(glob.glob(os.path.join(manual.GROUP, "shared", "*.py"))):
         tree.copy(path, f"{LIBRARY}/tools/group/shared/{os.path.basename(path)}")
-    tree.copy(os.path.join(TOP, "console"), f"{LIBRARY}/console")
+    for name in ("console", "tools/bash/provide.bash"):
+        tree.copy(os.path.join(TOP, name), f"{LIBRARY}/{name}")
     tree.link(f"{LIBRARY}/run", "bin/pgroup")
     for name in SCRIPTS:
         where = "console" if name == "console" else f"tools/group/{name}"

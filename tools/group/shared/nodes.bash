@@ -1,6 +1,6 @@
 # shellcheck shell=bash
-# What the bash scripts that run nodes share: free ports, waiting, keys, and the processes that they
-# have started. Each of them sets `program` to the path of pgroup.
+# What examples/group/run does with nodes: free ports, waiting, keys, and the processes that it has
+# started. It sets `program` to the path of pgroup.
 
 # The greatest number of turns: a node that is to run until it is ended.
 # shellcheck disable=SC2034

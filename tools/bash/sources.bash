@@ -1,8 +1,9 @@
 # shellcheck shell=bash
-# Functions of ./run, ./test and tools/package: the crates that another depends on, what the program is made of, the kit, and the
-# lines of a record.
+# Functions of ./run, ./test and tools/package: the crates that another depends on, what the program
+# is made of, the kit, and the recorded program.
 
-# Prints the crate $1 and all crates of crates.txt that it depends on, lowest first, one a line. The tree is the current folder.
+# Prints the crate $1 and all crates of crates.txt that it depends on, lowest first, one a line. The
+# tree is the current folder.
 crates_up_to() {
   awk -v top="$1" '
     function visit(name,   words, i, n) {
@@ -22,8 +23,9 @@ crates_up_to() {
   ' crates.txt
 }
 
-# Prints one sum over the sources of pgroup in the tree $1: of pgroup and each crate that it depends on, the line of crates.txt, and the
-# path and the sum of each file in src/, specs/ and proofs/. Crates that only test do not count.
+# Prints one sum over the sources of pgroup in the tree $1: of pgroup and each crate that it depends
+# on, the line of crates.txt, and the path and the sum of each file in src/, specs/ and proofs/.
+# Crates that only test do not count.
 sum_of_sources() (
   local name names folders=() part
   export LC_ALL=C
@@ -46,7 +48,8 @@ sum_of_sources() (
 # Prints the sha256 sum of standard input.
 sha256() { sha256sum | cut -c1-64; }
 
-# Prints the kit's line as `rt version` does, but without the sixth of a second that it takes; nothing where `rt` is not on PATH.
+# Prints the kit's line as `rt version` does, but without the sixth of a second that it takes;
+# nothing where `rt` is not on PATH.
 line_of_kit() {
   local rt file
   rt=$(command -v rt) || return 0
@@ -61,9 +64,18 @@ line_of_kit() {
 # value NAME FILE: the value of NAME in a record or a note.
 value() { sed -n "s/^$1 //p" "$2"; }
 
-# made_of PROGRAM TOP: prints two lines, `kit ..` and `sources ..`, of what a program was made with and of. They are those of the record
-# in the repository TOP where it is of this program, by its sum, and otherwise those of the note beside the program, if it is. Of any
-# other program they are not known.
+# unpack TOP FILE: unpacks the recorded program of the repository TOP to a file. It fails where the
+# packed program, or what comes out of it, has another sum than the record says.
+unpack() {
+  local record=$1/program/record packed=$1/program/pgroup.gz
+  [ -f "$packed" ] && [ "$(sha256 < "$packed")" = "$(value packed "$record")" ] \
+    && gzip -dc < "$packed" > "$2" && [ "$(sha256 < "$2")" = "$(value program "$record")" ]
+}
+
+# made_of PROGRAM TOP: prints two lines, `kit ..` and `sources ..`, of what a program was made with
+# and of. They are those of the record in the repository TOP where it is of this program, by its
+# sum, and otherwise those of the note beside the program, if it is. Of any other program they are
+# not known.
 made_of() {
   local file sum
   sum=$(sha256 < "$1")
