@@ -7,6 +7,7 @@ import collections
 import random
 
 from parts.echo_code import ECHO
+from parts.files import number
 from parts.group import output_of
 from shared.group import Group, GroupRefused
 from shared.protocol import ALL, keys_in
@@ -35,10 +36,6 @@ class Trace:
         if clock is not None:
             lines = [f"@{clock + at} {it}" for at, it in enumerate(lines)]
         return "".join(line + "\n" for line in lines)
-
-
-def number(value, size):
-    return value.to_bytes(size, "big")
 
 
 def value_bytes(value):

@@ -4,7 +4,7 @@ is spelled here apart from the scripts, as docs/FORMATS.md describes it."""
 import os
 
 from parts.echo_code import ECHO
-from parts.files import file_with
+from parts.files import file_with, number
 from renew_cut import renew_cut
 
 OLD, NEW = 7, 8
@@ -13,10 +13,6 @@ OLD, NEW = 7, 8
 # node 1.
 HI = "504C 02 {0:02x} 03 00000008  01  02 00000001 01  03 00000000 00000001 01"
 HI += "01 01 00000001 00000001 02 4849"
-
-
-def number(value, size):
-    return value.to_bytes(size, "big")
 
 
 def ballot(text):

@@ -8,6 +8,7 @@ import subprocess
 import sys
 
 from parts.checks import passed
+from parts.files import bytes_of
 from parts.program import PROGRAM, TOP, Broken
 
 TOOLS, EXAMPLES = os.path.join(TOP, "tools"), os.path.join(TOP, "examples")
@@ -37,11 +38,6 @@ def check(holds, what):
 def write(name, data):
     with open(name, "wb") as file:
         file.write(data if isinstance(data, bytes) else data.encode("latin-1"))
-
-
-def read(name):
-    with open(name, "rb") as file:
-        return file.read()
 
 
 def faults_of(text, file="t.pas", options=None):
@@ -147,14 +143,15 @@ def try_made():
     for path in found:
         text, code, listing = path, path[:-4] + ".code", path[:-4] + ".lst"
         check(tool("-o", "made.code", text)[0] == 0, f"{path} is refused")
-        check(read("made.code") == read(code), f"{code} is not that of its text")
+        check(bytes_of("made.code") == bytes_of(code), f"{code} is not that of its text")
         status, assembly, _ = tool("--asm", text)
         write("again.asm", assembly)
         check(status == 0 and assembler.main(["again.asm"]) == 0, f"the assembly of {path}")
-        check(read("again.code") == read(code), f"the assembly of {path} makes another file")
+        is_same = bytes_of("again.code") == bytes_of(code)
+        check(is_same, f"the assembly of {path} makes another file")
         status, listed, _ = tool("--list", os.path.basename(path), folder=os.path.dirname(path))
         if os.path.exists(listing):
-            check(listed.encode() == read(listing), f"{listing} is not the listing of {path}")
+            check(listed.encode() == bytes_of(listing), f"{listing} is not the listing of {path}")
         plain = subprocess.run([PROGRAM, "list", code], check=True, capture_output=True).stdout
         lines = [line for line in listed.splitlines(True) if not line.startswith(";")]
         check("".join(lines).encode() == plain, f"the listing of {path}")
@@ -274,7 +271,8 @@ def try_command():
     check(tool("bad.pas") == (1, "", "bad.pas:1:18: X is not declared\n"), "bad.pas is refused")
     check(tool("gone.pas")[0] == 1 and tool("--check", "hello.pas")[0] == 0, "gone.pas, --check")
     check(tool("-o", "hello.pas", "hello.pas")[0] == 1, "the text is not written over")
-    check(sorted(os.listdir(".")) == before and read("bad.code") == b"old", "nothing is written")
+    is_left = sorted(os.listdir(".")) == before and bytes_of("bad.code") == b"old"
+    check(is_left, "nothing is written")
     check(tool("-o", "gone/x.code", "hello.pas")[0] == 1, "a folder that is not there")
     old = "import sys; sys.version_info = (3, 6, 15); sys.argv = ['compile']; "
     done = subprocess.run([sys.executable, "-c", f"{old}exec(open({TOOL!r}).read())"], check=False,

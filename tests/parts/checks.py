@@ -162,16 +162,16 @@ def run_checks(name, *checks, place=None):
     return 1 if result.failed() else 0
 
 
-def has_no_words(name):
+def has_no_words(name, more=""):
     """Returns true if the script `name` was called without words, and else says how to call it."""
     if len(sys.argv) > 1:
-        print(f"usage: {name} (PGROUP=FILE names the program)", file=sys.stderr)
+        print(f"usage: {name}{more}", file=sys.stderr)
     return len(sys.argv) == 1
 
 
 def main_of_checks(name, *checks, place=None):
     """Runs the checks of the script `name` with the program. Returns the status."""
-    if not has_no_words(name):
+    if not has_no_words(name, " (PGROUP=FILE names the program)"):
         return 2
     provide(name)
     return run_checks(name, *checks, place=place)

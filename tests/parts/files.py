@@ -1,4 +1,4 @@
-"""Files that are read and written whole."""
+"""Files that are read and written whole, and the numbers in them."""
 
 import os
 
@@ -14,3 +14,8 @@ def file_with(folder, name, data):
     with open(path, "wb") as out:
         out.write(data)
     return path
+
+
+def number(value, size=4):
+    """A number as records and datagrams have it: with its high byte first."""
+    return value.to_bytes(size, "big")
