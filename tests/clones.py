@@ -23,7 +23,7 @@ COMMANDS = """
 """.split()
 UNAME = "#!/usr/bin/env bash\necho aarch64\n"
 # It logs its folder and words; `ci`, `lib` and `run` build what BUILT names, FAIL makes them fail,
-# and HOLD makes `ci` wait for a file.
+# HOLD makes `ci` wait for a file, and REFUSED has the edits that it refuses.
 RT = r"""#!/usr/bin/env bash
 set -euo pipefail
 echo "${PWD##*/} $*" >> "$LOG"
@@ -37,6 +37,9 @@ case $1 in
       until [ -e "$HOLD" ]; do sleep 0.01; done
     fi
     sed -n 's/^\([a-z_0-9]*\)[ :].*/== \1\nrt: \1 proved/p' crates.txt
+    for edit in ${REFUSED:-}; do
+      [ ! -e "crates/${edit/\//\/must-fail\/}" ] || echo "rt: must-fail $edit: refused, as it must be"
+    done
     build crates/pgroup
     ;;
   lib) mkdir -p out/rlib ;;
