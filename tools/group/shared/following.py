@@ -205,12 +205,11 @@ class Following:
         if change is None:
             return None
         after, stored = self.record_after(follower), self.group.stored[follower.number]
-        if after is None or stored.equals(after):
+        # Starts that were only begun come before that record too, and each may have been counted.
+        more = follower.starts_begun()
+        if after is None or stored.equals_started(after, 0, 0 if call.kind == "start" else more):
             return "failold"
-        if stored.equals_changed(change, after):
-            return "failnew"
-        more = follower.starts_begun() if call.kind == "start" else 0
-        if stored.equals_started(after, 2, 1 + more):
+        if stored.equals_changed(change, after, more):
             return "failnew"
         raise Differs(
             f"{follower.where(call)}: node {follower.number} began a {call.kind}, and its next "

@@ -46,13 +46,16 @@ class Stored:
         more = record.starts - self.starts
         return least <= more <= most and (self.promised, self.votes) == record[5:]
 
-    def equals_changed(self, change, record):
-        """Whether a record that was read is this one with the change."""
-        vote = record.votes.get(change.place) if isinstance(change, Vote) else None
-        if isinstance(change, Start):
-            return (self.starts + 1, self.promised, self.votes) == record[4:]
-        if (self.starts, change.ballot) != (record.starts, record.promised):
+    def equals_changed(self, change, record, more):
+        """Whether a record that was read is this one with the change and up to `more` starts."""
+        least = self.starts + isinstance(change, Start)
+        if not least <= record.starts <= least + more:
             return False
+        if isinstance(change, Start):
+            return (self.promised, self.votes) == record[5:]
+        if change.ballot != record.promised:
+            return False
+        vote = record.votes.get(change.place) if isinstance(change, Vote) else None
         if not isinstance(change, Vote):
             return self.votes == record.votes
         mine = {**self.votes, change.place: (change.ballot, change.value)}
