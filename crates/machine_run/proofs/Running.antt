@@ -5,7 +5,7 @@ use Rattle.std.proofs.KnownBytes.{Appends-nil, Consumes-nil, Appends-trans, Cons
 use Rattle.base.specs.Faults.{HasRisen}
 use Rattle.pcode_file.specs.Parts.{Parts}
 use Rattle.pcode_machine.specs.Configuration.{State, Configuration, configuration_of, start}
-use Rattle.pcode_machine.specs.Outcome.{outcome, Goes}
+use Rattle.pcode_machine.specs.Transition.{transition, Goes}
 use Rattle.pcode_machine.specs.Runs.{after_steps, out, LeadsIn}
 use Rattle.pcode_machine.specs.Turns.{AreQuiet, Makes, WaitsOn}
 use Rattle.machine_run.specs.declared.run.RunIo.{RunIo}
@@ -13,7 +13,7 @@ use Rattle.machine_run.specs.declared.run.RunIo.TheVariants as io
 use Rattle.machine_run.specs.declared.run.Finish.{Finish}
 use Rattle.machine_run.specs.declared.run.Finish.TheVariants as finish
 use Rattle.machine_run.specs.Streams.{Streams, HasMoved, HasNoFault, HasReadFault, HasWriteFault}
-use Rattle.machine_run.specs.Run.{LosesByte, HaltsFor, HasRunOn, IsRunOver, Rests, RunsProgram, Turns, Reached}
+use Rattle.machine_run.specs.Run.{LosesByte, HaltsFor, HasRunOn, IsRunOver, Rests, RunsFrom, Turns, Reached}
 
 -- the laws of runs that a run rests on
 abbrev pub IsOnLonger : Type 0
@@ -120,12 +120,12 @@ moved_of {p} {from} {to} {n} {s} laws r =
 
 done : {p : Parts} {from to : Streams} {n steps : ℕ} {s : State} (f : Finish) → Laws → (r : Reached p from to n s)
     → IsRunOver p to.reader r.input n steps f
-    → RunsProgram p from to steps (Ok f)
+    → RunsFrom p from to steps (Ok f)
 done {p} {from} {to} {n} {steps} {s} f laws r h =
     record { input = r.input; n = n; run = run_of laws r; moved = moved_of laws r; faultless = r.faultless; over = h }
 
 pub spent : {p : Parts} {from to : Streams} {n steps : ℕ} {s : State} → Laws → Reached p from to n s → n ≡ steps
-    → RunsProgram p from to steps (Ok finish.Steps)
+    → RunsFrom p from to steps (Ok finish.Steps)
 spent laws r e = done finish.Steps laws r e
 
 halted : {p : Parts} {from to : Streams} {n steps : ℕ} {s : State} (f : Finish) → Laws → (r : Reached p from to n s)
@@ -139,11 +139,11 @@ halted finish.Steps laws r h less = absurd h
 
 -- a byte was lost in the step after n of them
 lost : {p : Parts} {from mid to : Streams} {n steps : ℕ} {old new : State} → Laws → Reached p from mid n old
-    → LosesByte p old new mid to → n < steps → RunsProgram p from to steps (Err io.Write)
+    → LosesByte p old new mid to → n < steps → RunsFrom p from to steps (Err io.Write)
 unfolding out
 lost {p} {from} {mid} {to} {n} {steps} {old} {new} laws r t less =
     let there = laws.there p r.input n _ r.made in
-    let P : Configuration → Type 0 = λ c. outcome p (r.input ++ option_to_list t.took) c
+    let P : Configuration → Type 0 = λ c. transition p (r.input ++ option_to_list t.took) c
     ≡ Goes (configuration_of new (length r.input + length (option_to_list t.took)) (c.output ++ t.byte ∷ [])) in
     record {
       input = r.input;
@@ -161,7 +161,7 @@ lost {p} {from} {mid} {to} {n} {steps} {old} {new} laws r t less =
 -- a read failed after n steps
 unread : {p : Parts} {from mid to : Streams} {n steps : ℕ} {old : State} → Laws → Reached p from mid n old
     → WaitsOn p old → HasMoved mid to [] [] → HasReadFault mid to → n < steps
-    → RunsProgram p from to steps (Err io.Read)
+    → RunsFrom p from to steps (Err io.Read)
 unread {p} {from} {mid} {to} {n} {steps} {old} laws r w h f less =
     record {
       input = r.input;
@@ -195,7 +195,7 @@ next_turn {p} {q} {from} {mid} {to} {n} {old} {new} m most laws e r (k, u, took,
 
 rests : {p : Parts} {from to : Streams} {steps : ℕ} {s : State} (n m most : ℕ) (f : Finish) → Laws
     → (r : Reached p from to (n + m) s) → Rests p most m s to.reader f
-    → n + most ≡ steps → RunsProgram p from to steps (Ok f)
+    → n + most ≡ steps → RunsFrom p from to steps (Ok f)
 rests n m most finish.Steps laws r h all = spent laws r (omega arith)
 rests n m most finish.Normal laws r h all = done finish.Normal laws r (halted finish.Normal laws r h.1 (omega arith))
 rests n m most (finish.Error e) laws r h all = done (finish.Error e) laws r (halted (finish.Error e) laws r h.1 (omega arith))
@@ -203,14 +203,14 @@ rests n m most finish.Waits laws r h all = done finish.Waits laws r (halted fini
 
 pub last_turn : {p q : Parts} {from mid to : Streams} {n steps : ℕ} {old : State} (m most : ℕ) (new : State)
     (f : Finish) → Laws → q ≡ p → Reached p from mid n old
-    → Turns q most old new mid to (Ok (m, Some f)) → n + most ≡ steps → RunsProgram p from to steps (Ok f)
+    → Turns q most old new mid to (Ok (m, Some f)) → n + most ≡ steps → RunsFrom p from to steps (Ok f)
 last_turn {p} {q} {from} {mid} {to} {n} {steps} {old} m most new f laws e r (quiet, over, moved, faultless) all =
     let P : Parts → Type 0 = λ k. Rests k most m new to.reader f in
     rests n m most f laws (idle (reached_on m laws e r quiet) moved faultless) (subst P e over) all
 
 failed : {p q : Parts} {from mid : Streams} {n : ℕ} {old : State} (to : Streams) (new : State) (most steps : ℕ)
     (e : RunIo) → Laws → q ≡ p → Reached p from mid n old
-    → Turns q most old new mid to (Err e) → n + most ≡ steps → RunsProgram p from to steps (Err e)
+    → Turns q most old new mid to (Err e) → n + most ≡ steps → RunsFrom p from to steps (Err e)
 failed to new most steps io.Memory laws same r t all = absurd t
 failed {p} {q} {from} {mid} {n} {old} to new most steps io.Read laws same r (k, few, quiet, waits, moved, fault) all =
     let P : Parts → Type 0 = λ k. WaitsOn k new in
@@ -221,7 +221,7 @@ failed {p} {q} {from} {mid} {n} {old} to new most steps io.Write laws same r (k,
 
 pub failed_turn : {p q : Parts} {from mid : Streams} {n : ℕ} {old : State} (to : Streams) (new : State) (most steps : ℕ)
     (e f : RunIo) → Laws → q ≡ p → Reached p from mid n old
-    → Turns q most old new mid to (Err e) → n + most ≡ steps → f ≡ e → RunsProgram p from to steps (Err f)
+    → Turns q most old new mid to (Err e) → n + most ≡ steps → f ≡ e → RunsFrom p from to steps (Err f)
 failed_turn {p} {q} {from} {mid} {n} {old} to new most steps e f laws same r t all is =
-    let P : RunIo → Type 0 = λ k. RunsProgram p from to steps (Err k) in
+    let P : RunIo → Type 0 = λ k. RunsFrom p from to steps (Err k) in
     subst P (sym is) (failed to new most steps e laws same r t all)

@@ -6,14 +6,14 @@ use Rattle.pcode_file.specs.Parts.{Parts}
 use Rattle.pcode_machine.specs.declared.turn.End.{End}
 use Rattle.pcode_machine.specs.declared.turn.End.TheVariants as ends
 use Rattle.pcode_machine.specs.Configuration.{State, configuration_of}
-use Rattle.pcode_machine.specs.Outcome.{outcome, Goes, Stops, Waiting}
+use Rattle.pcode_machine.specs.Transition.{transition, Goes, Stops, Waiting}
 use Rattle.pcode_machine.specs.Runs.{after_steps, out, LeadsIn}
 use Rattle.pcode_machine.specs.Turns.{AreQuiet, EndsBy, Makes, WaitsOn}
 use Rattle.machine_run.specs.declared.run.Finish.{Finish}
 use Rattle.machine_run.specs.declared.run.Finish.TheVariants as finish
 use Rattle.machine_run.specs.declared.run.RunIo.{RunIo}
 use Rattle.machine_run.specs.declared.run.RunIo.TheVariants as io
-use Rattle.machine_run.specs.Streams.{Streams, HasMoved, HasNoFault, HasReadFault, HasWriteFault}
+use Rattle.machine_run.specs.Streams.{Borrowed, Streams, HasMoved, HasNoFault, HasReadFault, HasWriteFault}
 
 -- A run of n steps on an input, which exist and have taken all of it.
 pub record HasRunOn (p : Parts) (input : List ℕ) (n : ℕ) : Type 0 where
@@ -24,11 +24,11 @@ pub record HasRunOn (p : Parts) (input : List ℕ) (n : ℕ) : Type 0 where
 abbrev pub IsRunOver : Parts → Option (List ℕ) → List ℕ → ℕ → ℕ → Finish → Type 0
 IsRunOver p r input n steps finish.Steps = n ≡ steps
 IsRunOver p r input n steps finish.Normal =
-    (n < steps) × (outcome p input (after_steps p input n) ≡ Stops ends.Normal)
+    (n < steps) × (transition p input (after_steps p input n) ≡ Stops ends.Normal)
 IsRunOver p r input n steps (finish.Error e) =
-    (n < steps) × (e ≢ ends.Normal) × (outcome p input (after_steps p input n) ≡ Stops e)
+    (n < steps) × (e ≢ ends.Normal) × (transition p input (after_steps p input n) ≡ Stops e)
 IsRunOver p r input n steps finish.Waits =
-    (n < steps) × (outcome p input (after_steps p input n) ≡ Waiting) × IsAtEnd r
+    (n < steps) × (transition p input (after_steps p input n) ≡ Waiting) × IsAtEnd r
 
 -- A run that is over and met no fault.
 -- Its `n` steps took exactly the bytes that were read, and exactly their output was written. No
@@ -51,7 +51,7 @@ pub record FailsToRead (p : Parts) (from to : Streams) (steps : ℕ) : Type 0 wh
   pub few : n < steps
   pub run : HasRunOn p input n
   pub moved : HasMoved from to input (out p input n)
-  pub waits : outcome p input (after_steps p input n) ≡ Waiting
+  pub waits : transition p input (after_steps p input n) ≡ Waiting
   pub fault : HasReadFault from to
 
 -- A run that ended at a failed write, of the byte that the next step writes.
@@ -66,20 +66,28 @@ pub record FailsToWrite (p : Parts) (from to : Streams) (steps : ℕ) : Type 0 w
   pub took : Option ℕ
   pub byte : ℕ
   pub state : State
-  pub next : outcome p (input ++ option_to_list took) (after_steps p input n)
+  pub next : transition p (input ++ option_to_list took) (after_steps p input n)
       ≡ Goes (configuration_of state (length input + length (option_to_list took))
       (out p input n ++ byte ∷ []))
   pub moved : HasMoved from to (input ++ option_to_list took) (out p input n)
   pub fault : HasWriteFault from to
 
--- What a run of at most `steps` steps does to a reader and a writer, for each answer.
+-- A run of at most `steps` steps from one moment of a reader and a writer to another, for each
+-- answer.
 -- Allows: that memory runs out; then nothing has happened.
 -- Forbids: output that is not of the steps, and a finish that the machine has not reached.
-abbrev pub RunsProgram : Parts → Streams → Streams → ℕ → Result Finish RunIo → Type 0
-RunsProgram p from to steps (Ok f) = Finishes p from to steps f
-RunsProgram p from to steps (Err io.Memory) = to ≡ from
-RunsProgram p from to steps (Err io.Read) = FailsToRead p from to steps
-RunsProgram p from to steps (Err io.Write) = FailsToWrite p from to steps
+abbrev pub RunsFrom : Parts → Streams → Streams → ℕ → Result Finish RunIo → Type 0
+RunsFrom p from to steps (Ok f) = Finishes p from to steps f
+RunsFrom p from to steps (Err io.Memory) = to ≡ from
+RunsFrom p from to steps (Err io.Read) = FailsToRead p from to steps
+RunsFrom p from to steps (Err io.Write) = FailsToWrite p from to steps
+
+-- What a run of at most `steps` steps does to a reader and a writer, by what is `known` of them.
+abbrev pub RunsProgram : {R W : Type 0} → (R → W → Streams) → Parts → Borrowed R → Borrowed W → ℕ
+    → Result Finish RunIo → Type 0
+RunsProgram known p reader writer steps result =
+    RunsFrom p (known reader.entry.now writer.entry.now) (known reader.exit.now writer.exit.now)
+    steps result
 
 -- ---- one turn of the run, as the machine's state sees it
 

@@ -1,11 +1,13 @@
 -- What is known of a reader and a writer, what moved, and which faults of theirs were counted.
-use Rattle.std.specs.Prelude.{◌≡◌, ℕ, zero, suc, ◌==◌, Bool, true, false, if◌then◌else◌, List, Option, Some, None, Result, Ok, Err}
+use Rattle.std.specs.Prelude.{◌≡◌, ℕ, ◌==◌, Bool, true, false, if◌then◌else◌, List, Option, Some, None, Result, Ok, Err}
+use Rattle.std.specs.Borrow.{MutBor}
 use Rattle.std.specs.Io.KnownBytes.{Appends, Consumes}
 use Rattle.std.specs.IoError.{error_kind}
 use Rattle.std.specs.declared.io.Error.{Error}
 use Rattle.std.specs.declared.io.ErrorKind.{ErrorKind}
 use Rattle.std.specs.declared.io.ErrorKind.TheVariants.{Interrupted}
 use Rattle.base.specs.Faults.{HasRisen}
+use denote.Triple.Both.{Both}
 use Rattle.machine_run.specs.declared.streams.ReadFault.{ReadFault}
 use Rattle.machine_run.specs.declared.streams.WriteFault.{WriteFault}
 
@@ -45,14 +47,20 @@ pub record Streams : Type 0 where
   pub read_faults : ℕ
   pub write_faults : ℕ
 
--- What is known of a reader and a writer, put together.
-abbrev pub streams : Option (List ℕ) → Option (List ℕ) → ℕ → ℕ → Streams
-streams reader writer read_faults write_faults = record {
-  reader = reader;
-  writer = writer;
-  read_faults = read_faults;
-  write_faults = write_faults;
+-- What is known of a reader and a writer of these types, by what is known of each: its bytes, and
+-- how often it has failed.
+abbrev pub streams : {R W : Type 0} → (R → Option (List ℕ)) → (R → ℕ) → (W → Option (List ℕ))
+    → (W → ℕ) → R → W → Streams
+streams remaining read_faults contents write_faults reader writer = record {
+  reader = remaining reader;
+  writer = contents writer;
+  read_faults = read_faults reader;
+  write_faults = write_faults writer;
 }
+
+-- What a call borrows to change: its value before the call (`entry.now`) and after it (`exit.now`).
+abbrev pub Borrowed : Type 0 → Type 0
+Borrowed A = Both (MutBor A) (MutBor A)
 
 -- The bytes that were read, and those that were written.
 pub record HasMoved (from to : Streams) (took wrote : List ℕ) : Type 0 where

@@ -83,10 +83,9 @@ fn turn<R: ByteReader, W: ByteWriter>(
 ) -> Result<(u32, Option<Finish>), RunIo>
     ensures program { machine.new.program ≡ machine.old.program }
     ensures turn { Turns machine.old.program most machine.old.state machine.new.state
-        (streams (R.remaining reader.old) (W.contents writer.old)
-        (R.read_faults reader.old) (W.write_faults writer.old))
-        (streams (R.remaining reader.new) (W.contents writer.new)
-        (R.read_faults reader.new) (W.write_faults writer.new)) result }
+        (streams R.remaining R.read_faults W.contents W.write_faults reader.old writer.old)
+        (streams R.remaining R.read_faults W.contents W.write_faults reader.new writer.new)
+        result }
     ensures most { IfOk result (λ r. r.0 ≤ most) }
 {
     let (made, pause) = machine.run(most);
@@ -123,11 +122,8 @@ pub fn run_program<R: ByteReader, W: ByteWriter>(
     program: &Program,
     steps: u32,
 ) -> Result<Finish, RunIo>
-    ensures { RunsProgram program.now
-        (streams (R.remaining reader.old) (W.contents writer.old)
-        (R.read_faults reader.old) (W.write_faults writer.old))
-        (streams (R.remaining reader.new) (W.contents writer.new)
-        (R.read_faults reader.new) (W.write_faults writer.new)) steps result }
+    ensures { RunsProgram (streams R.remaining R.read_faults W.contents W.write_faults)
+        program.now reader writer steps result }
 {
     // These laws say that steps on an input are steps on each longer input, that they lead to the
     // state after as many steps, and that quiet steps go on from there.

@@ -21,7 +21,7 @@ use Rattle.pcode_machine.specs.Configuration.{State, Configuration}
 use Rattle.pcode_machine.specs.Effects.{effect_of}
 use Rattle.pcode_machine.specs.Errors.{error_number}
 use Rattle.pcode_machine.specs.Execute.{execute}
-use Rattle.pcode_machine.specs.Outcome.{Goes, Stops, Waiting, outcome, pending, moved, decoded, after_effect, end_by}
+use Rattle.pcode_machine.specs.Transition.{Goes, Stops, Waiting, transition, pending, moved, decoded, after_effect, end_by}
 use Rattle.pcode_machine.specs.Step.{Moves, Acts, Step, StopsBy, StopsIn, Ends, Awaits}
 use Rattle.pcode_machine.proofs.Ways.{Went, Executed, Moved, went}
 use Rattle.pcode_machine.proofs.Related.{holds, goes, fails}
@@ -64,7 +64,7 @@ module _ (p : Parts) (known : Decodes p.segment) (x : List ℕ) (c : Configurati
       rw ((known c.state.next i j).1 at, goes (effect_of p f i j c.state) j c.state s h, is) refl
   acts_is f (Some t) d h = (moved_goes t.direction x c f t d).1 h
 
-  pub step_is : (d : Configuration) → Step p x c d → outcome p x c ≡ Goes d
+  pub step_is : (d : Configuration) → Step p x c d → transition p x c ≡ Goes d
   step_is d h = rw h.1 (acts_is h.0 c.state.transfer d h.2)
 
   in_transfer : (f : Frame) (d : Configuration) {k o : Option Transfer} → k ≡ o → Acts p x c f o d → Acts p x c f k d
@@ -76,7 +76,7 @@ module _ (p : Parts) (known : Decodes p.segment) (x : List ℕ) (c : Configurati
       (f, at.current, in_transfer f d at.idle (i, j, d.state, (known c.state.next i j).0 at.decoded, h, is))
   step_by d (Moved f t current at e) = (f, current, in_transfer f d at ((moved_goes t.direction x c f t d).0 e))
 
-  pub is_step : (d : Configuration) → outcome p x c ≡ Goes d → Step p x c d
+  pub is_step : (d : Configuration) → transition p x c ≡ Goes d → Step p x c d
   is_step d e = step_by d (went p x c d e)
 
   -- ---- ends
@@ -85,7 +85,7 @@ module _ (p : Parts) (known : Decodes p.segment) (x : List ℕ) (c : Configurati
   pending_stops f None e (i, j, at, h) = rw ((known c.state.next i j).1 at) (instruction_stops p c f i j e h)
   pending_stops f (Some t) e h = (moved_stops t.direction x c f t e).1 h
 
-  pub end_is : (e : End) → Ends p c e → outcome p x c ≡ Stops e
+  pub end_is : (e : End) → Ends p c e → transition p x c ≡ Stops e
   end_is e h = grind (arith, nat_tests, pending_stops)
 
   decoded_ends : (f : Frame) (r : Result (Instr × ℕ) OpFault) (e : End) → instr_at p.segment c.state.next ≡ r
@@ -95,13 +95,13 @@ module _ (p : Parts) (known : Decodes p.segment) (x : List ℕ) (c : Configurati
       let s = after_stops c f (execute p f i j c.state) e h in
       (i, j, (known c.state.next i j).0 at, rw s.2 (stops_by p c f i j s.0 s.1))
 
-  pub is_end : (e : End) → outcome p x c ≡ Stops e → Ends p c e
+  pub is_end : (e : End) → transition p x c ≡ Stops e → Ends p c e
   is_end e h = grind (arith, nat_tests, decoded_ends, moved_stops)
 
 -- ---- waits
 
-pub wait_is : (p : Parts) (x : List ℕ) (c : Configuration) → Awaits x c → outcome p x c ≡ Waiting
+pub wait_is : (p : Parts) (x : List ℕ) (c : Configuration) → Awaits x c → transition p x c ≡ Waiting
 wait_is p x c h = grind (arith, nat_tests, slice_get_past)
 
-pub is_wait : (p : Parts) (x : List ℕ) (c : Configuration) → outcome p x c ≡ Waiting → Awaits x c
+pub is_wait : (p : Parts) (x : List ℕ) (c : Configuration) → transition p x c ≡ Waiting → Awaits x c
 is_wait p x c e = grind (arith, nat_tests, get_none)

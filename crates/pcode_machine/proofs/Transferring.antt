@@ -11,7 +11,7 @@ use Rattle.pcode_frames.specs.Words.{live_byte_at, with_byte}
 use Rattle.pcode_machine.specs.declared.turn.Direction.TheVariants.{Reading, Writing}
 use Rattle.pcode_machine.specs.declared.turn.Transfer.{Transfer}
 use Rattle.pcode_machine.specs.Configuration.{State, Configuration, configuration_of, current_of}
-use Rattle.pcode_machine.specs.Outcome.{Goes, outcome, written, taken}
+use Rattle.pcode_machine.specs.Transition.{Goes, transition, written, taken}
 use Rattle.pcode_machine.specs.Runs.{GoesIn}
 use Rattle.pcode_machine.specs.Transfers.{rest_of}
 use Rattle.pcode_machine.specs.WholeTransfers.{HoldsBytes, HasBytes, TakesBytes}
@@ -60,7 +60,7 @@ held_here live a b bytes h = rw address_here at (h.each 0 b refl)
 
 module _ (p : Parts) (x : List ℕ) where
   out_step : (c : Configuration) (f : Frame) (t : Transfer) (b : ℕ) → current_of c.state.frames ≡ Some f → c.state.transfer ≡ Some t
-      → t.direction ≡ Writing → live_byte_at c.state.words t.address ≡ Some b → outcome p x c ≡ Goes (written c t b)
+      → t.direction ≡ Writing → live_byte_at c.state.words t.address ≡ Some b → transition p x c ≡ Goes (written c t b)
   out_step c f t b current pending way there = rw (current, pending, way, there) refl
 
   -- the configuration after bytes went out
@@ -175,7 +175,7 @@ next_byte x n b rest e = (at_next x n b rest e, sym (drop_next n x b rest e))
 module _ (p : Parts) (x : List ℕ) where
   in_step : (c : Configuration) (f : Frame) (t : Transfer) (old b : ℕ) → current_of c.state.frames ≡ Some f → c.state.transfer ≡ Some t
       → t.direction ≡ Reading → live_byte_at c.state.words t.address ≡ Some old → slice_get x c.read ≡ Some b
-      → outcome p x c ≡ Goes (taken c t b)
+      → transition p x c ≡ Goes (taken c t b)
   in_step c f t old b current pending way there next = rw (current, pending, way, there, next) refl
 
   -- the configuration after bytes came in

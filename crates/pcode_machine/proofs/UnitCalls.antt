@@ -12,7 +12,7 @@ use Rattle.pcode_machine.specs.declared.turn.Direction.TheVariants.{Reading, Wri
 use Rattle.pcode_machine.specs.declared.turn.Transfer.{Transfer}
 use Rattle.pcode_machine.specs.Bytes.{byte_address}
 use Rattle.pcode_machine.specs.Configuration.{Configuration, current_of}
-use Rattle.pcode_machine.specs.Outcome.{Goes, outcome}
+use Rattle.pcode_machine.specs.Transition.{Goes, transition}
 use Rattle.pcode_machine.specs.Runs.{GoesIn}
 use Rattle.pcode_machine.specs.Step.{Awaits, WaitsIn}
 use Rattle.pcode_machine.specs.Transfers.{is_console, begun_transfer}
@@ -43,12 +43,12 @@ module _ (p : Parts) (known : Decodes p.segment) (x : List ℕ) (c : Configurati
     };
   }
 
-  pub begins_out : called ≡ UnitWrite → outcome p x c ≡ Goes (begun Writing)
+  pub begins_out : called ≡ UnitWrite → transition p x c ≡ Goes (begun Writing)
   begins_out is =
       let f = some_frame (current_of c.state.frames) h.current in
       rw (f.1, h.idle, (known c.state.next (Csp called) j).1 h.there, is, h.operands) refl
 
-  pub begins_in : called ≡ UnitRead → outcome p x c ≡ Goes (begun Reading)
+  pub begins_in : called ≡ UnitRead → transition p x c ≡ Goes (begun Reading)
   begins_in is =
       let f = some_frame (current_of c.state.frames) h.current in
       rw (f.1, h.idle, (known c.state.next (Csp called) j).1 h.there, is, h.operands) refl
@@ -77,7 +77,7 @@ placed_is : (c : Configuration) (j : ℕ) (rest live : List ℕ) (unit : ℕ) (o
 placed_is c j rest live unit o console over idle = rw (console, over, idle) refl
 
 -- one step more, before others
-one_before : (p : Parts) (x : List ℕ) (n : ℕ) (c b d e : Configuration) → outcome p x c ≡ Goes b → GoesIn p x n b d → d ≡ e
+one_before : (p : Parts) (x : List ℕ) (n : ℕ) (c b d e : Configuration) → transition p x c ≡ Goes b → GoesIn p x n b d → d ≡ e
     → GoesIn p x (n + 1) c e
 unfolding GoesIn
 one_before p x n c b d e step rest same = rw add-one (b, step, subst (λ y. GoesIn p x n b y) same rest)

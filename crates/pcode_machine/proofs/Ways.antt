@@ -1,4 +1,4 @@
--- How a configuration comes to its outcome: by an instruction, or by a byte of a transfer.
+-- How a configuration makes its transition: by an instruction, or by a byte of a transfer.
 use Rattle.std.proofs.Common.{◌≡◌, ℕ, List, Option, Some, None, Result, Ok, Err, refl, sym, ◌∙◌, arith}
 use Rattle.std.proofs.lemmas.Bool.Decides.{nat_tests}
 use Rattle.pcode_file.specs.Parts.{Parts}
@@ -10,7 +10,7 @@ use Rattle.pcode_machine.specs.declared.turn.Transfer.{Transfer}
 use Rattle.pcode_machine.specs.declared.turn.Stop.{Stop}
 use Rattle.pcode_machine.specs.Configuration.{State, Configuration, current_of}
 use Rattle.pcode_machine.specs.Execute.{execute}
-use Rattle.pcode_machine.specs.Outcome.{Goes, outcome, in_frame, pending, moved, decoded, after_effect}
+use Rattle.pcode_machine.specs.Transition.{Goes, transition, in_frame, pending, moved, decoded, after_effect}
 
 -- an instruction is next, in the current frame
 pub record IsAt (p : Parts) (c : Configuration) (f : Frame) (i : Instr) (j : ℕ) : Type 0 where
@@ -55,7 +55,7 @@ module _ (p : Parts) (x : List ℕ) (c d : Configuration) where
   frame_went (Some f) current e = pending_went f current _ refl e
 
   -- a step has come about in one of its ways
-  pub went : outcome p x c ≡ Goes d → Went p x c d
+  pub went : transition p x c ≡ Goes d → Went p x c d
   went e = frame_went _ refl e
 
 -- an instruction that is next is the one that was executed
@@ -70,7 +70,7 @@ by_went p x c d i j idle at (Executed f k l here made is) =
 by_went p x c d i j idle at (Moved f t current there e) = absurd (cc)
 
 pub executed : (p : Parts) (x : List ℕ) (c d : Configuration) (i : Instr) (j : ℕ) → c.state.transfer ≡ None
-    → instr_at p.segment c.state.next ≡ Ok (i, j) → outcome p x c ≡ Goes d
+    → instr_at p.segment c.state.next ≡ Ok (i, j) → transition p x c ≡ Goes d
     → (f : Frame) × (current_of c.state.frames ≡ Some f) × (execute p f i j c.state ≡ Some (Ok d.state))
     × (d ≡ record c { state = d.state })
 executed p x c d i j idle at e = by_went p x c d i j idle at (went p x c d e)

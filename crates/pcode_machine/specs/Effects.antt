@@ -11,8 +11,8 @@ use Rattle.pcode_frames.specs.declared.frame.Frame.{Frame}
 use Rattle.pcode_frames.specs.Frames.{link_up_of}
 use Rattle.pcode_machine.specs.declared.turn.Direction.{Direction}
 use Rattle.pcode_machine.specs.declared.turn.Direction.TheVariants.{Reading, Writing}
-use Rattle.pcode_machine.specs.declared.operations.Change.{Change}
-use Rattle.pcode_machine.specs.declared.operations.Change.TheVariants.{Absolute, Negation, Square, Complement, Past}
+use Rattle.pcode_machine.specs.declared.operations.UnaryOperation.{UnaryOperation}
+use Rattle.pcode_machine.specs.declared.operations.UnaryOperation.TheVariants.{Absolute, Negation, Square, Complement, Past}
 use Rattle.pcode_ops.specs.declared.operation.Operation.{Operation}
 use Rattle.pcode_ops.specs.declared.operation.Operation.TheVariants.{Sum, Difference, Product, Quotient, Remainder, Both, Either, Equal, NotEqual, LessOrEqual, Less, GreaterOrEqual, Greater, EqualBits, NotEqualBits, LessOrEqualBits, LessBits, GreaterOrEqualBits, GreaterBits, Element}
 use Rattle.pcode_machine.specs.Configuration.{State}
@@ -51,7 +51,7 @@ pub data Effect : Type 0 where
   -- A word's low bits are popped to the field that the three words below it name.
   StoreField : Effect
   -- A word is replaced by another.
-  Replace : (change : Change) → Effect
+  Replace : (operation : UnaryOperation) → Effect
   -- Two words are replaced by one.
   Combine : (operation : Operation) → Effect
   -- A word stays that lies between two others, which are popped.

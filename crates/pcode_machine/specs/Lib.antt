@@ -11,7 +11,7 @@ pub mod Calls
 pub mod Transfers
 pub mod Effects
 pub mod Execute
-pub mod Outcome
+pub mod Transition
 pub mod Step
 pub mod Runs
 pub mod Turns

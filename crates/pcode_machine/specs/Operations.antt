@@ -1,7 +1,7 @@
 -- Instructions that compute words: arithmetic, logic, comparisons, pointers that move, and CHK.
 use Rattle.std.specs.Prelude.{ℕ, List, [], ◌∷◌, Result, Ok, Err}
-use Rattle.pcode_machine.specs.declared.operations.Change.{Change}
-use Rattle.pcode_machine.specs.declared.operations.Change.TheVariants.{Absolute, Negation, Square, Complement, Past}
+use Rattle.pcode_machine.specs.declared.operations.UnaryOperation.{UnaryOperation}
+use Rattle.pcode_machine.specs.declared.operations.UnaryOperation.TheVariants.{Absolute, Negation, Square, Complement, Past}
 use Rattle.pcode_machine.specs.declared.comparisons.Comparison.TheVariants as comparison
 use Rattle.pcode_ops.specs.declared.operation.Operation.{Operation}
 use Rattle.pcode_ops.specs.declared.operation.Operation.TheVariants.{Sum, Difference, Product, Quotient, Remainder, Both, Either, Equal, NotEqual, LessOrEqual, Less, GreaterOrEqual, Greater, EqualBits, NotEqualBits, LessOrEqualBits, LessBits, GreaterOrEqualBits, GreaterBits, Element}
@@ -14,14 +14,14 @@ use Rattle.pcode_machine.specs.Pointers.{pointer_past}
 use Rattle.pcode_machine.specs.declared.errors.ExecutionError.{ExecutionError}
 use Rattle.pcode_machine.specs.declared.errors.ExecutionError.TheVariants.{StackUnderflow}
 
--- The result of a change of one word.
+-- The result of an operation on one word.
 -- Source: Manual, p-machine arithmetic.
-abbrev pub changed_of : Change → ℕ → ℕ
-changed_of Absolute a = absolute_of a
-changed_of Negation a = negation_of a
-changed_of Square a = square_of a
-changed_of Complement a = complement_of a
-changed_of (Past words) a = pointer_past a words
+abbrev pub unary_value_of : UnaryOperation → ℕ → ℕ
+unary_value_of Absolute a = absolute_of a
+unary_value_of Negation a = negation_of a
+unary_value_of Square a = square_of a
+unary_value_of Complement a = complement_of a
+unary_value_of (Past words) a = pointer_past a words
 
 -- The result of an operation on two words, or its error.
 -- Source: Manual, p-machine arithmetic.
@@ -47,10 +47,11 @@ value_of GreaterOrEqualBits a b = Ok (compared_bits comparison.GreaterOrEqual a 
 value_of GreaterBits a b = Ok (compared_bits comparison.Greater a b)
 value_of (Element words) a b = Ok (element_of a b words)
 
--- The state after the word on top of this stack was changed, or error 0.
-abbrev pub replaced : Change → ℕ → State → List ℕ → Result State Stop
-replaced change j s [] = Err (Error StackUnderflow)
-replaced change j s (a ∷ rest) = Ok (record s { stack = changed_of change a ∷ rest; next = j })
+-- The state after the word on top of this stack was replaced, or error 0.
+abbrev pub replaced : UnaryOperation → ℕ → State → List ℕ → Result State Stop
+replaced operation j s [] = Err (Error StackUnderflow)
+replaced operation j s (a ∷ rest) =
+    Ok (record s { stack = unary_value_of operation a ∷ rest; next = j })
 
 -- The state with a word above these, or the error.
 abbrev pub put_above : Result ℕ ExecutionError → ℕ → State → List ℕ → Result State Stop

@@ -2,7 +2,7 @@
 use Rattle.std.specs.Prelude.{◌≡◌, ℕ, zero, suc, List, [], ◌++◌, ◌⊎◌}
 use Rattle.pcode_file.specs.Parts.{Parts}
 use Rattle.pcode_machine.specs.Configuration.{Configuration, configuration_of, start}
-use Rattle.pcode_machine.specs.Outcome.{Outcome, Goes, Stops, Waiting, Stuck, outcome}
+use Rattle.pcode_machine.specs.Transition.{Transition, Goes, Stops, Waiting, Stuck, transition}
 
 -- The relation of a list and one that begins with it.
 pub record IsPrefix {X : Type 0} (a b : List X) : Type 0 where
@@ -18,7 +18,7 @@ abbrev pub begin : Parts → Configuration
 begin p = configuration_of (start p) 0 []
 
 -- The configuration to which a step leads, or the same one if there is no step.
-abbrev pub led : Configuration → Outcome → Configuration
+abbrev pub led : Configuration → Transition → Configuration
 led c (Goes d) = d
 led c (Stops e) = c
 led c Waiting = c
@@ -27,7 +27,7 @@ led c Stuck = c
 -- The configuration after `n` steps on the input `x`, or after fewer if no further step exists.
 unfoldable pub after_steps : Parts → List ℕ → ℕ → Configuration
 after_steps p x zero = begin p
-after_steps p x (suc n) = led (after_steps p x n) (outcome p x (after_steps p x n))
+after_steps p x (suc n) = led (after_steps p x n) (transition p x (after_steps p x n))
 
 -- The output after `n` steps on the input `x`.
 unfoldable pub out : Parts → List ℕ → ℕ → List ℕ
@@ -41,9 +41,9 @@ IsOutput p x y = (n : ℕ) × IsPrefix y (out p x n)
 -- Each of these steps exists.
 unfoldable pub LeadsIn : Parts → List ℕ → ℕ → Configuration → Type 0
 LeadsIn p x zero c = c ≡ begin p
-LeadsIn p x (suc n) c = (b : Configuration) × LeadsIn p x n b × (outcome p x b ≡ Goes c)
+LeadsIn p x (suc n) c = (b : Configuration) × LeadsIn p x n b × (transition p x b ≡ Goes c)
 
 -- The configurations `c` and `d` before and after `n` steps on the input `x`.
 unfoldable pub GoesIn : Parts → List ℕ → ℕ → Configuration → Configuration → Type 0
 GoesIn p x zero c d = d ≡ c
-GoesIn p x (suc n) c d = (b : Configuration) × (outcome p x c ≡ Goes b) × GoesIn p x n b d
+GoesIn p x (suc n) c d = (b : Configuration) × (transition p x c ≡ Goes b) × GoesIn p x n b d

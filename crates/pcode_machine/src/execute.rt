@@ -8,7 +8,7 @@ ghost use Rattle.pcode_machine.specs.Ready.{state_of, state_if_ok};
 
 use crate::errors::ExecutionError;
 use crate::loads::{address_from, address_of};
-use crate::operations::Change;
+use crate::operations::UnaryOperation;
 use crate::parts::MachineParts;
 use crate::turn::{Direction, Stop};
 use pcode_frames::Frame;
@@ -74,7 +74,7 @@ impl MachineParts {
             Instr::Sto => self.store_at(next),
             Instr::Sind(words) => self.fetch(u16::from(words), next),
             Instr::Ind(words) => self.fetch(words, next),
-            Instr::Inc(words) => self.replace(Change::Past(words), next),
+            Instr::Inc(words) => self.replace(UnaryOperation::Past(words), next),
             Instr::Ixa(words) => self.index_element(words, next),
             Instr::Mov(words) => self.move_block(words, next),
             Instr::Ldm(words) => self.load_block(u16::from(words), next),
@@ -89,13 +89,13 @@ impl MachineParts {
             Instr::Mpi => self.combine(Operation::Product, next),
             Instr::Dvi => self.combine(Operation::Quotient, next),
             Instr::Modi => self.combine(Operation::Remainder, next),
-            Instr::Abi => self.replace(Change::Absolute, next),
-            Instr::Ngi => self.replace(Change::Negation, next),
-            Instr::Sqi => self.replace(Change::Square, next),
+            Instr::Abi => self.replace(UnaryOperation::Absolute, next),
+            Instr::Ngi => self.replace(UnaryOperation::Negation, next),
+            Instr::Sqi => self.replace(UnaryOperation::Square, next),
             Instr::Chk => self.check(next),
             Instr::Land => self.combine(Operation::Both, next),
             Instr::Lor => self.combine(Operation::Either, next),
-            Instr::Lnot => self.replace(Change::Complement, next),
+            Instr::Lnot => self.replace(UnaryOperation::Complement, next),
             Instr::Equi => self.combine(Operation::Equal, next),
             Instr::Neqi => self.combine(Operation::NotEqual, next),
             Instr::Leqi => self.combine(Operation::LessOrEqual, next),

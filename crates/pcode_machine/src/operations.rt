@@ -1,7 +1,7 @@
 //! Instructions that compute words: arithmetic, logic, comparisons, pointers that move, and CHK.
 ghost use Rattle.std.specs.Prelude.{◌≡◌};
 ghost use Rattle.pcode_ops.specs.declared.operation.Operation.TheVariants.{Element};
-ghost use Rattle.pcode_machine.specs.Operations.{changed_of, checked, combined, replaced, value_of};
+ghost use Rattle.pcode_machine.specs.Operations.{unary_value_of, checked, combined, replaced, value_of};
 ghost use Rattle.pcode_machine.specs.Ready.{ChangesTo, state_of};
 
 use crate::arithmetic as words;
@@ -12,9 +12,9 @@ use crate::pointers::pointer_past;
 use crate::turn::Stop;
 use pcode_ops::Operation;
 
-/// A change of one word.
+/// An operation on one word.
 #[derive(Clone, Copy, Debug, PartialEq, Eq)]
-pub enum Change {
+pub enum UnaryOperation {
     Absolute,
     Negation,
     Square,
@@ -23,17 +23,17 @@ pub enum Change {
     Past(u16),
 }
 
-/// Returns the result of a change.
+/// Returns the result of an operation on one word.
 #[inline(always)]
-fn changed(change: Change, a: u16) -> u16
-    ensures { result ≡ changed_of change a }
+fn unary_value(operation: UnaryOperation, a: u16) -> u16
+    ensures { result ≡ unary_value_of operation a }
 {
-    match change {
-        Change::Absolute => words::absolute(a),
-        Change::Negation => words::negation(a),
-        Change::Square => words::square(a),
-        Change::Complement => words::complement(a),
-        Change::Past(words) => pointer_past(a, words),
+    match operation {
+        UnaryOperation::Absolute => words::absolute(a),
+        UnaryOperation::Negation => words::negation(a),
+        UnaryOperation::Square => words::square(a),
+        UnaryOperation::Complement => words::complement(a),
+        UnaryOperation::Past(words) => pointer_past(a, words),
     }
 }
 
@@ -69,15 +69,15 @@ pub fn value(operation: Operation, a: u16, b: u16) -> Result<u16, ExecutionError
 impl MachineParts {
     /// Changes the word on top, and goes on at `next`.
     #[inline(always)]
-    pub fn replace(&mut self, change: Change, next: u32) -> Result<(), Stop>
-        ensures { ChangesTo (replaced change next (state_of self.old) self.old.stack)
+    pub fn replace(&mut self, operation: UnaryOperation, next: u32) -> Result<(), Stop>
+        ensures { ChangesTo (replaced operation next (state_of self.old) self.old.stack)
             self.old self.new result }
     {
         if self.stack.len() == 0 {
             return Err(Stop::Error(ExecutionError::StackUnderflow));
         }
         let word = self.stack.top();
-        self.stack.set_top(changed(change, word));
+        self.stack.set_top(unary_value(operation, word));
         self.next = next;
         Ok(())
     }

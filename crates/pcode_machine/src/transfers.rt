@@ -9,7 +9,7 @@ ghost use Rattle.pcode_machine.specs.Errors.{error_number};
 ghost use Rattle.pcode_frames.specs.Words.{live_byte_at, with_byte};
 ghost use Rattle.pcode_machine.specs.Configuration.{configuration_of};
 ghost use Rattle.pcode_machine.specs.Transfers.{begun_transfer, unit_call, is_console, HoldsNextByte, rest_of};
-ghost use Rattle.pcode_machine.specs.Outcome.{moved};
+ghost use Rattle.pcode_machine.specs.Transition.{moved};
 ghost use Rattle.pcode_machine.specs.Turns.{Passes, sent};
 ghost use Rattle.pcode_machine.specs.Ready.{ChangesTo, state_of};
 

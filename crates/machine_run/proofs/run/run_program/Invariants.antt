@@ -7,10 +7,10 @@ abbrev pub invariant-loop-left : goal.invariant-loop-left
 invariant-loop-left g l = record {
   program : l.machine.program ≡ l.program;
   run : Reached l.program
-      (streams (g.R.ByteReader.remaining l.fn.reader) (g.W.ByteWriter.contents l.fn.writer)
-      (g.R.ByteReader.read_faults l.fn.reader) (g.W.ByteWriter.write_faults l.fn.writer))
-      (streams (g.R.ByteReader.remaining l.reader) (g.W.ByteWriter.contents l.writer)
-      (g.R.ByteReader.read_faults l.reader) (g.W.ByteWriter.write_faults l.writer))
+      (streams g.R.ByteReader.remaining g.R.ByteReader.read_faults g.W.ByteWriter.contents g.W.ByteWriter.write_faults
+      l.fn.reader l.fn.writer)
+      (streams g.R.ByteReader.remaining g.R.ByteReader.read_faults g.W.ByteWriter.contents g.W.ByteWriter.write_faults
+      l.reader l.writer)
       (l.steps - l.left) l.machine.state;
   few : l.left ≤ l.steps;
 }

@@ -1,4 +1,4 @@
--- The outcome of a configuration on a whole input, as a function.
+-- The transition of a configuration on a whole input, as a function.
 use Rattle.std.specs.Prelude.{ℕ, ◌+◌, ◌==◌, if◌then◌else◌, List, [], ◌∷◌, ◌++◌, slice_get, Option, Some, None, Result, Ok, Err}
 use Rattle.pcode_file.specs.Parts.{Parts}
 use Rattle.pcode_ops.specs.declared.instr.Instr.{Instr}
@@ -19,18 +19,18 @@ use Rattle.pcode_machine.specs.Execute.{execute}
 use Rattle.pcode_machine.specs.declared.errors.ExecutionError.TheVariants.{NoRoom, BadAddress}
 use Rattle.pcode_machine.specs.Errors.{error_number}
 
--- The outcome of a configuration: another one, an end, a wait for input, or nothing that is
+-- A transition of a configuration: to another one, an end, a wait for input, or nothing that is
 -- defined.
 -- Allows: `Stuck`, if no instruction is at the offset or what it names does not exist. No machine
 -- over a program meets it.
-pub data Outcome : Type 0 where
-  Goes : Configuration → Outcome
-  Stops : End → Outcome
-  Waiting : Outcome
-  Stuck : Outcome
+pub data Transition : Type 0 where
+  Goes : Configuration → Transition
+  Stops : End → Transition
+  Waiting : Transition
+  Stuck : Transition
 
--- The outcome by a value, if there is one, and `d` otherwise.
-abbrev pub on_some : {A : Type 0} → Option A → Outcome → (A → Outcome) → Outcome
+-- The transition by a value, if there is one, and `d` otherwise.
+abbrev pub on_some : {A : Type 0} → Option A → Transition → (A → Transition) → Transition
 on_some None d f = d
 on_some (Some x) d f = f x
 
@@ -54,10 +54,10 @@ taken c t b = record {
   output = if t.unit == 1 then c.output ++ b ∷ [] else c.output;
 }
 
--- The outcome of a pending transfer.
+-- The transition of a pending transfer.
 -- The byte's address is checked before it moves, and before the machine waits.
 -- Source: Manual, UNITREAD and UNITWRITE.
-abbrev pub moved : Direction → List ℕ → Configuration → Frame → Transfer → Outcome
+abbrev pub moved : Direction → List ℕ → Configuration → Frame → Transfer → Transition
 moved Writing x c f t =
     on_some (live_byte_at c.state.words t.address)
     (Stops (ends.Error (error_number BadAddress) f.procedure t.at)) (λ b. Goes (written c t b))
@@ -73,34 +73,34 @@ abbrev pub end_by : Stop → Frame → ℕ → End
 end_by Normal f at = ends.Normal
 end_by (Error error) f at = ends.Error (error_number error) f.procedure at
 
--- The outcome of an instruction, by the state after it or its stop.
-abbrev pub after_effect : Configuration → Frame → Option (Result State Stop) → Outcome
+-- The transition of an instruction, by the state after it or its stop.
+abbrev pub after_effect : Configuration → Frame → Option (Result State Stop) → Transition
 after_effect c f (Some (Ok s)) = Goes (record c { state = s })
 after_effect c f (Some (Err stop)) = Stops (end_by stop f c.state.next)
 after_effect c f None = Stuck
 
--- The outcome of what is decoded at the next offset.
-abbrev pub decoded : Parts → Configuration → Frame → Result (Instr × ℕ) OpFault → Outcome
+-- The transition of what is decoded at the next offset.
+abbrev pub decoded : Parts → Configuration → Frame → Result (Instr × ℕ) OpFault → Transition
 decoded p c f (Ok found) = after_effect c f (execute p f found.0 found.1 c.state)
 decoded p c f (Err fault) = Stuck
 
--- The outcome of the instruction at the next offset.
-abbrev pub instructed : Parts → Configuration → Frame → Outcome
+-- The transition of the instruction at the next offset.
+abbrev pub instructed : Parts → Configuration → Frame → Transition
 instructed p c f = decoded p c f (instr_at p.segment c.state.next)
 
 -- ---- A step on a whole input x.
 
--- The outcome of a pending transfer, or of the next instruction.
-abbrev pub pending : Parts → List ℕ → Configuration → Frame → Option Transfer → Outcome
+-- The transition of a pending transfer, or of the next instruction.
+abbrev pub pending : Parts → List ℕ → Configuration → Frame → Option Transfer → Transition
 pending p x c f None = instructed p c f
 pending p x c f (Some t) = moved t.direction x c f t
 
--- The outcome in the current frame; error 4 if there is none.
-abbrev pub in_frame : Parts → List ℕ → Configuration → Option Frame → Outcome
+-- The transition in the current frame; error 4 if there is none.
+abbrev pub in_frame : Parts → List ℕ → Configuration → Option Frame → Transition
 in_frame p x c None = Stops (ends.Error (error_number NoRoom) 1 c.state.next)
 in_frame p x c (Some f) = pending p x c f c.state.transfer
 
--- The outcome of a configuration on the whole input `x`.
+-- The transition of a configuration on the whole input `x`.
 -- Source: Manual, p-machine instructions.
-abbrev pub outcome : Parts → List ℕ → Configuration → Outcome
-outcome p x c = in_frame p x c (current_of c.state.frames)
+abbrev pub transition : Parts → List ℕ → Configuration → Transition
+transition p x c = in_frame p x c (current_of c.state.frames)
