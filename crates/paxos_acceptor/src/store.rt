@@ -38,7 +38,8 @@ impl From<DiskFault> for StoreFault {
     }
 }
 
-/// A keeper of a record, over restarts too. Contracts know the record of an honest store.
+/// A keeper of a record, over restarts too. Contracts know the record of an honest store. One that
+/// fails at will is for tests: its device fails exactly as its plan says.
 pub trait Store {
     ghost use Rattle.paxos_acceptor.specs.Stores.{StoreKind};
 
@@ -57,7 +58,7 @@ pub trait Store {
     ///
     /// The votes of an honest store's record must ascend by place, and for a start it must have
     /// fewer than 4,294,967,295 starts. No save is `Ok` under a plan. `Device` uses the plan up,
-    /// and nothing else changes it. A store that fails at will fails with `Device` only under a
+    /// and no other answer changes it. A store that fails at will fails with `Device` only under a
     /// plan, and then has the record that the plan says.
     fn save(&mut self, change: &Change) -> Result<(), StoreFault>
         requires starts { kind.honest → change.now ≡ Start

@@ -10,7 +10,7 @@ ghost use Rattle.paxos_msg.specs.Keys.{Key};
 ghost use Rattle.paxos_msg.specs.Messages.{IsSaid, IsSent};
 ghost use Rattle.paxos_proposer.specs.Backed.{IsProposerBacked, IsQuietUnder};
 ghost use Rattle.paxos_proposer.specs.States.{IsProposerInRange};
-ghost use Rattle.paxos_proposer.specs.Proposer.{Proposer, proposer_after_part, new_proposer, next_of, next_value, heard_promise, proposed_at, proposing};
+ghost use Rattle.paxos_proposer.specs.Proposer.{Proposer, proposer_after_part, new_proposer, next_of, next_value, heard_promise, proposal, proposed_at, proposing};
 ghost use Rattle.paxos_msg.specs.declared.limits.TheConstants.{MOST_NODES, PLACES};
 
 use paxos_msg::laws::votes_are_by_place;
@@ -40,7 +40,7 @@ pub fn proposals_may_be_sent()
     ensures sends { (typed : List Key) (learned : ℕ → Option Value) (sent : Sent) (me : ℕ)
         (r : Record) (p : Proposer) (offered : Option Value) (v : Value)
         → IsProposerBacked sent me p → IfSome offered (IsFree sent) → next_value p offered ≡ Some v
-        → MaySend p.size typed learned sent me r (Accept p.ballot (next_of p) v) }
+        → MaySend p.size typed learned sent me r (Accept p.ballot (proposal p v).place v) }
     ensures backed { (sent : Sent) (me : ℕ) (p : Proposer) (v : Value) → IsProposerBacked sent me p
         → IsProposerBacked (sent ++ record { sender = me; body = Accept p.ballot (next_of p) v }
         ∷ []) me (proposing p (Some v)) }
