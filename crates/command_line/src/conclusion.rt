@@ -1,7 +1,9 @@
 //! How a command ends, with its refusals, its texts and its status.
+use crate::datagram::ShowFault;
 use group_sim::{LineFault, ScriptRefusal};
 use group_udp::GroupFault;
-use machine_run::{Finish, MachineRefusal, ShowFault};
+use machine_run::{Finish, MachineRefusal};
+use paxos_msg::WireFault;
 use pcode_machine::End;
 use std::io::Write;
 use thiserror::Error;
@@ -28,6 +30,9 @@ pub enum Refusal {
     Machine(#[from] MachineRefusal),
     #[error(transparent)]
     Group(#[from] GroupFault),
+    /// The bytes of a datagram are none of the group.
+    #[error(transparent)]
+    Datagram(WireFault),
     /// A line of a script: its number comes before the word `refused`.
     #[error("{fault}")]
     Line { line: usize, fault: LineFault },
@@ -76,7 +81,10 @@ impl Conclusion {
         match shown {
             Ok(()) => Conclusion::Done,
             Err(ShowFault::BadHex) => Conclusion::BadHex,
-            Err(ShowFault::Refused(refusal)) => Conclusion::Refused(Refusal::Machine(refusal)),
+            Err(ShowFault::Datagram(fault)) => Conclusion::Refused(Refusal::Datagram(fault)),
+            Err(ShowFault::Run(fault)) => {
+                Conclusion::Refused(Refusal::Machine(MachineRefusal::Run(fault)))
+            }
         }
     }
 }
@@ -98,7 +106,9 @@ pub fn conclude<E: Write>(errors: &mut E, conclusion: Conclusion) -> u8 {
 pub fn refuse<E: Write>(errors: &mut E, refusal: Refusal) -> u8 {
     let _ = match refusal {
         Refusal::Line { line, fault } => writeln!(errors, "line {line} refused {fault}"),
-        Refusal::Machine(_) | Refusal::Group(_) => writeln!(errors, "refused {refusal}"),
+        Refusal::Machine(_) | Refusal::Group(_) | Refusal::Datagram(_) => {
+            writeln!(errors, "refused {refusal}")
+        }
     };
     REFUSED
 }

@@ -14,6 +14,7 @@
 mod codes;
 mod commands;
 mod conclusion;
+mod datagram;
 mod environment;
 mod program;
 mod reading;

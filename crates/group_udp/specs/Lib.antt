@@ -9,3 +9,9 @@ pub mod Ends
 pub mod Sources
 pub mod OwnDatagrams
 pub mod Pace
+pub mod Drops
+pub mod Milestones
+pub mod Notes
+pub mod Roles
+pub mod Sends
+pub mod Traces

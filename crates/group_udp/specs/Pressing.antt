@@ -17,9 +17,9 @@ use Rattle.group_udp.specs.Going.{Around, FailsAt, HasEnded, HasReason}
 use Rattle.group_udp.specs.Prompts.{Remaining, with_gift}
 use Rattle.group_udp.specs.Refusals.{IsRoundRefusal}
 
--- A node that leads and misses nothing: it has learned each place at which its record has a vote.
-abbrev pub MissesNothing : Known → Type 0
-MissesNothing n = (is_leading n.proposer ≡ true) × All (λ v. v.place < front n) n.kept.votes
+-- A node that leads without a gap: each vote of its record is at a place below its known front.
+abbrev pub LeadsWithoutGap : Known → Type 0
+LeadsWithoutGap n = (is_leading n.proposer ≡ true) × All (λ v. v.place < front n) n.kept.votes
 
 -- Typing of the bytes that a keyboard gave. If the serials are spent, the last of them are lost.
 -- Forbids: a byte that is typed twice, or that the keyboard did not give.
@@ -33,7 +33,8 @@ HasTypedGiven old new from to (Err e) =
     × (from ≡ with_gift (map Press (typed ++ lost)) to) × HasReason e new.protocol.known
     × ((passed : Option Traffic) → HasActed old new passed passed (map Press typed))
 
--- A campaign that was asked for, and its answer. Exactly a node that misses nothing ignores it.
+-- A campaign that was asked for, and its answer. Exactly a node that leads without a gap
+-- ignores it.
 -- Only a save that fails ends the node.
 -- Allows: a campaign that does not begin.
 -- Forbids: a node that ends since no ballot or no place is left; a leader with a gap that stays
@@ -42,15 +43,15 @@ abbrev pub HasCampaignedAsAsked : {S : Type 0} → StoreKind S → NodeState S �
     → Option Traffic → Option Traffic → Result Pressed GroupFault → Type 0
 HasCampaignedAsAsked kind old new from to (Ok Bytes) = ⊥
 HasCampaignedAsAsked kind old new from to (Ok Ignored) =
-    MissesNothing old.protocol.known × HasActed old new from to []
+    LeadsWithoutGap old.protocol.known × HasActed old new from to []
 HasCampaignedAsAsked kind old new from to (Ok Campaigned) =
-    (¬ MissesNothing old.protocol.known) × HasActed old new from to (Campaign ∷ [])
+    (¬ LeadsWithoutGap old.protocol.known) × HasActed old new from to (Campaign ∷ [])
 HasCampaignedAsAsked kind old new from to (Ok (CampaignRefused f)) =
-    (¬ MissesNothing old.protocol.known)
+    (¬ LeadsWithoutGap old.protocol.known)
     × HasCampaigned kind old new from to (Err f) × (f ≢ Stopped) × (f ≢ Store)
     × HasActed old new from to []
 HasCampaignedAsAsked kind old new from to (Err e) =
-    (¬ MissesNothing old.protocol.known) × FailsAt old new from to (Campaign ∷ []) e
+    (¬ LeadsWithoutGap old.protocol.known) × FailsAt old new from to (Campaign ∷ []) e
 
 -- What happens at a keyboard before a turn: typing of what it gave, or a campaign that it asked
 -- for, as the answer says.

@@ -10,11 +10,11 @@ ghost use Rattle.group_udp.specs.Refusals.{IsCampaignRefusal, IsRoundRefusal, Is
 use crate::endpoints::{Endpoints, note_pressed};
 use crate::fault::GroupFault;
 use crate::keyboard::{Keyboard, press};
+use crate::log::{Log, Note};
 use crate::node::NodePlan;
 use crate::release::release_all;
 use crate::rest::{is_busy_after, own_turn, rest_unless_busy};
 use crate::resting::RestingWire;
-use group_log::{Log, Note};
 use group_wire::laws::deeds_go_on;
 use group_wire::{Host, Wire};
 use machine_run::ByteWriter;

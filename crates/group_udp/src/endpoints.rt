@@ -4,13 +4,13 @@ ghost use Rattle.group_udp.specs.Refusals.{IsOpenRefusal, IsSocketRefusal};
 
 use crate::fault::GroupFault;
 use crate::keyboard::{Keyboard, Pressed};
+use crate::log::{Log, Note};
 use crate::node::NodePlan;
 use crate::own_datagrams::OwnDatagrams;
 use crate::sources::address_at;
 use crate::trace::Trace;
 use crate::typed::TypedDatagrams;
 use crate::udp::{UdpWire, Watch, bind};
-use group_log::{Log, Note};
 use group_node::limits::MOST_WAITING;
 use group_wire::Host;
 use mio::net::UdpSocket;

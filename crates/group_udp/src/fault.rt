@@ -1,5 +1,5 @@
 //! Why a group or a node on UDP ends early.
-use group_log::ProcessEnd;
+use crate::log::ProcessEnd;
 use group_node::{NodeFault, StartRefused};
 use machine_run::{MachineRefusal, RunIo};
 use std::alloc::{AllocError, AllocFailed};

@@ -4,7 +4,7 @@ ghost use Rattle.group_node.specs.declared.limits.TheConstants.{MOST_WAITING};
 ghost use Rattle.group_node.specs.Deeds.{Campaign, Press};
 ghost use Rattle.group_wire.specs.Turns.{SameReleased};
 ghost use Rattle.group_udp.specs.Going.{around};
-ghost use Rattle.group_udp.specs.Pressing.{HasCampaignedAsAsked, HasPressedKeyboard, HasTypedGiven, MissesNothing};
+ghost use Rattle.group_udp.specs.Pressing.{HasCampaignedAsAsked, HasPressedKeyboard, HasTypedGiven, LeadsWithoutGap};
 ghost use Rattle.group_udp.specs.Prompts.{Remaining, with_gift};
 
 use crate::endpoints::Endpoints;
@@ -98,17 +98,17 @@ fn type_given<T: Wire, K: Keyboard, S: Store>(
     Ok(pressed?)
 }
 
-/// Returns true if the node leads and misses nothing: it has learned each place at which its record
-/// has a vote.
-fn misses_nothing<S: Store>(node: &Node<'_, S>) -> bool
-    ensures { IsTrue result ↔ MissesNothing node.now.protocol.known }
+/// Returns true if the node leads without a gap: each vote of its record is at a place below its
+/// known front.
+fn leads_without_gap<S: Store>(node: &Node<'_, S>) -> bool
+    ensures { IsTrue result ↔ LeadsWithoutGap node.now.protocol.known }
 {
     let front = node.known_front();
     let votes = node.record().votes.as_slice();
     node.is_leading() && votes.iter().all(|vote| vote.place < front)
 }
 
-/// Campaigns, as the node was asked to, unless it leads and misses nothing: a new ballot would only
+/// Campaigns, as the node was asked to, unless it leads without a gap: a new ballot would only
 /// cost time. Returns `CampaignRefused` if no ballot or no place is left or memory ran out: that
 /// ends nothing, and the node goes on as it was.
 fn campaign_when_asked<T: Wire, S: Store>(
@@ -123,7 +123,7 @@ fn campaign_when_asked<T: Wire, S: Store>(
     ensures progress { host.new.progress ≡ host.old.progress }
 {
     deeds_go_on::<S>();
-    if misses_nothing(host.node()) {
+    if leads_without_gap(host.node()) {
         return Ok(Pressed::Ignored);
     }
     match host.campaign(wire) {

@@ -8,6 +8,7 @@
 //!   process of a group, what passes over the wire, what is typed and what is written;
 //! - `net_file`, which does the work of the command `net`: it runs all nodes of a group on
 //!   loopback;
+//! - `log`, the module of what a node says of itself, on standard error and in its trace;
 //! - `laws::consoles_go_on`, a law: the output of a node continues over its starts.
 //!
 //! A node waits for datagrams between its turns. A `GroupFault` says why a run ended early.
@@ -19,6 +20,7 @@ mod fault;
 mod keyboard;
 pub mod laws;
 pub mod limits;
+pub mod log;
 mod net;
 mod node;
 mod own_datagrams;

@@ -4,10 +4,10 @@ ghost use Rattle.group_udp.specs.Refusals.{IsCampaignRefusal, IsNetRefusal, IsOp
 ghost use Rattle.machine_run.specs.declared.refusal.MachineRefusal.{MachineRefusal};
 
 use crate::fault::GroupFault;
+use crate::log::{Log, Note};
 use crate::own_datagrams::OwnDatagrams;
 use crate::shown::ShownNode;
 use crate::udp::{UdpWire, Watch, bind};
-use group_log::{Log, Note};
 use group_node::{Config, NodeFault};
 use machine_run::{RunIo, load_file, read_whole};
 use mio::net::UdpSocket;

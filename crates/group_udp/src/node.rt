@@ -4,8 +4,8 @@ ghost use Rattle.machine_run.specs.Files.{IsFileRefusal, IsLoadedProgram};
 ghost use Rattle.group_udp.specs.Ends.{EndsLoaded, EndsNode, IsTypedText, IsRefusedInput};
 
 use crate::fault::{GroupFault, end_of};
+use crate::log::{Log, Note};
 use crate::run::run_opened;
-use group_log::{Log, Note};
 use group_node::{Config, NodeFault};
 use machine_run::{ByteWriter, MachineRefusal, load_file, read_whole};
 use paxos_msg::Group;

@@ -12,13 +12,13 @@ ghost use Rattle.group_udp.specs.Refusals.{IsCampaignRefusal, IsPressRefusal, Is
 ghost use Rattle.group_udp.specs.Releases.{HasShownAll};
 
 use crate::fault::GroupFault;
+use crate::log::end_to_note;
 use crate::resting::RestingWire;
 use crate::udp::UdpWire;
-use group_log::end_to_note;
 use group_node::{Config, Console, NodeFault, Offer};
 use group_wire::Host;
 use group_wire::laws::deeds_go_on;
-use machine_run::{RunIo, write_bytes};
+use machine_run::RunIo;
 use paxos_acceptor::{MemoryStore, Store};
 use paxos_msg::Record;
 use pcode_machine::End;
@@ -81,6 +81,17 @@ fn show_all<S: Store>(host: &mut Host<'_, S>, console: &mut Console) -> Result<(
     deeds_go_on::<S>();
     for _ in 0..host.unreleased() {
         show_next(host, console)?;
+    }
+    Ok(())
+}
+
+/// Writes the bytes of a console in hexadecimal digits, or `-` for none.
+fn write_bytes<W: Write>(writer: &mut W, bytes: &[u8]) -> io::Result<()> {
+    if bytes.is_empty() {
+        return write!(writer, "-");
+    }
+    for byte in bytes {
+        write!(writer, "{byte:02X}")?;
     }
     Ok(())
 }

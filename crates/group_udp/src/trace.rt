@@ -1,6 +1,6 @@
 //! The trace of a node: a file in which it writes down its calls, and what it sends at each.
+use crate::log::{Call, Traced, millis_now, traced_line};
 use crate::node::NodePlan;
-use group_log::{Call, Traced, millis_now, traced_line};
 use group_wire::Told;
 use std::fs::{self, OpenOptions};
 use std::io::Write;

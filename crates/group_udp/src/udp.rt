@@ -5,12 +5,12 @@ ghost use Rattle.group_udp.specs.Sources.{drop_of};
 
 use crate::fault::GroupFault;
 use crate::limits::LONG_PAUSE;
+use crate::log::{DropReason, Drops, Sends, reason_of};
 use crate::own_datagrams::OwnDatagrams;
 use crate::pace::Pace;
 use crate::resting::{RestingWire, Waited};
 use crate::sources::{address_at, is_from_sender, taken_of};
 use crate::trace::Trace;
-use group_log::{DropReason, Drops, Sends, reason_of};
 use group_wire::{Told, Wire};
 use mio::net::UdpSocket;
 use mio::{Events, Interest, Poll, Token};

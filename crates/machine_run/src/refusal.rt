@@ -1,7 +1,6 @@
 //! The refusals of the commands of one machine.
 use crate::files::FileError;
 use crate::run::RunIo;
-use paxos_msg::WireFault;
 use pcode_file::FileFault;
 use pcode_ops::LoadFault;
 use thiserror::Error;
@@ -21,9 +20,6 @@ pub enum MachineRefusal {
     /// Memory ran out, or a read or a write failed.
     #[error(transparent)]
     Run(RunIo),
-    /// The bytes are no datagram of the group.
-    #[error(transparent)]
-    Datagram(WireFault),
 }
 
 impl From<FileError> for MachineRefusal {
@@ -41,12 +37,4 @@ impl From<FileError> for MachineRefusal {
             FileError::Memory => MachineRefusal::Run(RunIo::Memory),
         }
     }
-}
-
-/// Why a datagram is not printed.
-#[derive(Clone, Copy, Debug)]
-pub enum ShowFault {
-    /// The digits are no bytes.
-    BadHex,
-    Refused(MachineRefusal),
 }

@@ -1,9 +1,9 @@
 //! `show SIZE SESSION HEX`.
 use crate::conclusion::Conclusion;
+use crate::datagram::show;
 use crate::shared_words::{SESSION, SIZE, value_arg};
 use crate::value::{Word, WordFault, byte_of, count_of, text_of};
 use clap::{ArgMatches, Command};
-use machine_run::show;
 use paxos_msg::Group;
 use std::alloc::{AllocError, Global};
 use std::io::Write;

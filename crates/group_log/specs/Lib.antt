@@ -1,6 +1,0 @@
-pub mod Drops
-pub mod Milestones
-pub mod Notes
-pub mod Roles
-pub mod Sends
-pub mod Traces
