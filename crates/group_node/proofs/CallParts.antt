@@ -1,12 +1,12 @@
 -- What a call leaves and causes, and lemmas that many wrong steps need.
 use Rattle.std.proofs.lemmas.Bool.Decides.{nat_tests}
 use Rattle.std.proofs.lemmas.Option.{same_Some}
-use Rattle.std.proofs.Common.{◌≡◌, ◌≢◌, ◌∙◌, ℕ, List, [], slice_get, Some, None, Option, inl, inr, sym, ap, subst, arith}
+use Rattle.std.proofs.Common.{◌≡◌, ◌≢◌, ◌∙◌, ℕ, List, [], Some, None, Option, inl, inr, sym, ap, subst, arith}
 use Rattle.paxos_msg.specs.declared.ballot.Ballot.{Ballot}
-use Rattle.paxos_msg.specs.Batches.{Sent, Msg, Change, Record}
+use Rattle.paxos_msg.specs.Batches.{Sent, Change, Record}
 use Rattle.paxos_msg.specs.Keys.{Key}
 use Rattle.paxos_acceptor.specs.Answers.{after}
-use Rattle.group_node.specs.World.{CallOrFall, Delivers, LearnsOnly, MakesCall, MayCause, Seat, Up, WorldState}
+use Rattle.group_node.specs.World.{CallOrFall, LearnsOnly, MakesCall, Seat, Up, WorldState}
 use Rattle.group_node.specs.WrongSteps.{ballot_by, kept_by, nine}
 
 -- ---- calls
@@ -35,13 +35,6 @@ module _ (w v : WorldState) (i : ℕ) where
   pub hearing_keeps : (c : Option Change) (now : Up) → (v.seats i).up ≡ Some now → CallOrFall w v i c
       → (v.seats i).kept ≡ after (w.seats i).kept c
   hearing_keeps c now up h = call_keeps c [] (no_fall c now up h)
-
--- what is found at a place of messages caused it
-pub heard : (w v : WorldState) (m i : ℕ) (message : Msg) → slice_get w.sent m ≡ Some message → (h : Delivers w v m i)
-    → MayCause message.body h.saved
-heard w v m i message there h =
-    let same : message ≡ h.message = same_Some message h.message (sym there ∙ h.is_sent) in
-    subst (λ (x : Msg). MayCause x.body h.saved) (sym same) h.cause
 
 -- the other nodes stay where node 9 changes
 pub only_ninth : (seat left : Seat) (sent newer : Sent) (typed later : List Key) (j : ℕ) → j ≢ 9

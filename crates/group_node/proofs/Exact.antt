@@ -8,7 +8,7 @@ use Rattle.circular_buffer.specs.Buffer.{buffer, Buffer}
 use Rattle.pcode_file.specs.Parts.{Parts}
 use Rattle.pcode_machine.specs.declared.turn.End.{End}
 use Rattle.pcode_machine.specs.Configuration.{State, Configuration, configuration_of, start}
-use Rattle.pcode_machine.specs.Outcome.{outcome, Goes, Stops, Waiting}
+use Rattle.pcode_machine.specs.Transition.{transition, Goes, Stops, Waiting}
 use Rattle.pcode_machine.specs.Runs.{after_steps, LeadsIn, out}
 use Rattle.pcode_machine.specs.Turns.{AreQuiet, IsLast, Makes, WaitsOn, Writes}
 use Rattle.group_node.specs.declared.player.Player.{Player}
@@ -22,7 +22,7 @@ There = (p : Parts) (x : List ℕ) (n : ℕ) (c : Configuration) → LeadsIn p x
 -- the laws of runs that a step rests on
 pub record Laws : Type 0 where
   pub there : There
-  pub longer : (p : Parts) (x y : List ℕ) (c d : Configuration) → outcome p x c ≡ Goes d → outcome p (x ++ y) c ≡ Goes d
+  pub longer : (p : Parts) (x y : List ℕ) (c d : Configuration) → transition p x c ≡ Goes d → transition p (x ++ y) c ≡ Goes d
 
 -- ---- steps that write or take a byte
 
@@ -106,15 +106,15 @@ all_read (y ∷ ys) (suc n) e le = let r = all_read ys n e (omega arith) in (ap 
 -- the machine waits, and all of the input is read
 pub halts_waiting : {x : List ℕ} {q : Player} {p : Parts} → Laws → IsPlayed x q → q.machine.program ≡ p
     → WaitsOn p q.machine.state → slice_get x q.read ≡ None
-    → outcome q.machine.program x (after_steps q.machine.program x q.steps) ≡ Waiting
+    → transition q.machine.program x (after_steps q.machine.program x q.steps) ≡ Waiting
 halts_waiting {x} {q} {p} laws h same w e =
     let r = all_read x q.read e h.read in
-    let Q : ℕ → Type 0 = λ k. outcome p x (configuration_of q.machine.state k h.output) ≡ Waiting in
+    let Q : ℕ → Type 0 = λ k. transition p x (configuration_of q.machine.state k h.output) ≡ Waiting in
     rw (replayed laws.there h, same) (subst Q (sym r.0) (w.waits x h.output))
 
 -- the program has ended
 pub halts_ended : {x : List ℕ} {q : Player} {p : Parts} {e : End} → Laws → IsPlayed x q → q.machine.program ≡ p → IsLast p q.machine.state e
-    → outcome q.machine.program x (after_steps q.machine.program x q.steps) ≡ Stops e
+    → transition q.machine.program x (after_steps q.machine.program x q.steps) ≡ Stops e
 halts_ended h1 h2 h3 h4 = grind (arith, nat_tests)
 
 -- ---- turns

@@ -13,9 +13,9 @@ use Rattle.paxos_msg.specs.Records.{MaySave}
 use Rattle.paxos_acceptor.specs.Answers.{after}
 use Rattle.paxos_learner.proofs.OnePlace.{get_here}
 use Rattle.paxos_learner.specs.Input.{front_values, keys_in_order}
-use Rattle.group_node.specs.World as group
+use Rattle.group_node.specs.Deeds as deed
 use Rattle.group_node.specs.World.{ChangesOnly, MakesCall, Seat, Up, WorldStep}
-use Rattle.group_node.specs.WrongSteps.{ballot_by, fortieth, kept_by, kept_third, kept_voted, nine, nine_fell, nine_hear, nine_keep, nine_show, nine_type, nine_up, ninth_key, seat_down, seat_up, up_as, up_learned, up_waiting, up_written}
+use Rattle.group_node.specs.WrongSteps.{ballot_by, fortieth, kept_by, kept_third, kept_voted, nine, HearingLeaves, nine_fell, nine_keep, nine_show, nine_type, nine_up, ninth_key, seat_down, seat_up, up_as, up_learned, up_waiting, up_written}
 use Rattle.group_node.proofs.CallParts.{only_ninth}
 use Rattle.group_node.proofs.Elements.{entries_one}
 
@@ -57,7 +57,7 @@ ninth_calls kept console was sent typed c keys gone stay saves parts read = reco
 none_gone : (learned : FinMap nat_cmp Value) → All (λ k. Contains (keys_in_order (front_values learned)) k) []
 none_gone learned = All-from_recursion (λ k. Contains (keys_in_order (front_values learned)) k) [] tt
 
-pub ticks : (up : Up) → WorldStep (nine_up up) (group.Tick 9) (nine_up up)
+pub ticks : (up : Up) → WorldStep (nine_up up) 9 deed.Tick (nine_up up)
 ticks up = ninth_calls kept_third [] up [] [] None [] [] up.waiting tt refl_append (none_gone up.learned)
   where
     refl_append : up.waiting ++ [] ≡ [] ++ up.waiting
@@ -67,7 +67,7 @@ ticks up = ninth_calls kept_third [] up [] [] None [] [] up.waiting tt refl_appe
 read_40 : keys_in_order (front_values (insert empty 0 (fortieth 65))) ≡ ninth_key 40 65 ∷ []
 read_40 = rw (entries_one 0 (fortieth 65), get_here empty 0 (fortieth 65)) refl
 
-pub key_leaves : WorldStep (nine_up (up_as (insert empty 0 (fortieth 65)) [] 0 (ninth_key 40 65 ∷ ninth_key 41 66 ∷ []))) (group.Tick 9)
+pub key_leaves : WorldStep (nine_up (up_as (insert empty 0 (fortieth 65)) [] 0 (ninth_key 40 65 ∷ ninth_key 41 66 ∷ []))) 9 deed.Tick
     (nine_up (up_as (insert empty 0 (fortieth 65)) [] 0 (ninth_key 41 66 ∷ [])))
 key_leaves =
     ninth_calls kept_third [] (up_as (insert empty 0 (fortieth 65)) [] 0 (ninth_key 40 65 ∷ ninth_key 41 66 ∷ [])) [] [] None []
@@ -76,7 +76,7 @@ key_leaves =
     (All-from_recursion (λ k. Contains (keys_in_order (front_values (insert empty 0 (fortieth 65)))) k) (ninth_key 40 65 ∷ [])
     (subst (λ (ks : List Key). Contains ks (ninth_key 40 65)) (sym read_40) (0, lit< tt, refl), tt))
 
-pub types : WorldStep (nine_type (ninth_key 39 64 ∷ []) (ninth_key 39 64 ∷ [])) (group.Press 9 65)
+pub types : WorldStep (nine_type (ninth_key 39 64 ∷ []) (ninth_key 39 64 ∷ [])) 9 (deed.Press 65)
     (nine_type (ninth_key 39 64 ∷ ninth_key 40 65 ∷ []) (ninth_key 39 64 ∷ ninth_key 40 65 ∷ []))
 types = record {
   key = ninth_key 40 65;
@@ -87,29 +87,25 @@ types = record {
       (ninth_key 39 64 ∷ ninth_key 40 65 ∷ []) tt refl (none_gone empty);
 }
 
-pub promises : WorldStep (nine_hear (Prepare (ballot_by 5 41) 700) kept_third) (group.Deliver 1 9)
-    (nine_hear (Prepare (ballot_by 5 41) 700) (kept_by 3 (ballot_by 5 41)))
+pub promises : HearingLeaves (Prepare (ballot_by 5 41) 700) (kept_by 3 (ballot_by 5 41))
 promises = record {
-  message = record { sender = 5; body = Prepare (ballot_by 5 41) 700 };
-  is_sent = refl;
+  is_sent = (1, lit< tt, refl);
   saved = Some (change.Promise (ballot_by 5 41));
   cause = inr refl;
   call = inl (ninth_calls kept_third [] (up_learned empty) _ [] (Some (change.Promise (ballot_by 5 41))) [] [] [] (inl (omega arith)) refl
       (none_gone empty));
 }
 
-pub votes : WorldStep (nine_hear (Accept (ballot_by 7 41) 700 (fortieth 65)) kept_third) (group.Deliver 1 9)
-    (nine_hear (Accept (ballot_by 7 41) 700 (fortieth 65)) (kept_voted (fortieth 65)))
+pub votes : HearingLeaves (Accept (ballot_by 7 41) 700 (fortieth 65)) (kept_voted (fortieth 65))
 votes = record {
-  message = record { sender = 5; body = Accept (ballot_by 7 41) 700 (fortieth 65) };
-  is_sent = refl;
+  is_sent = (1, lit< tt, refl);
   saved = Some (change.Ballotted 700 (ballot_by 7 41) (fortieth 65));
   cause = inr refl;
   call = inl (ninth_calls kept_third [] (up_learned empty) _ [] (Some (change.Ballotted 700 (ballot_by 7 41) (fortieth 65))) [] [] []
       ((7, (0, lit< tt, refl)), inl (omega arith)) refl (none_gone empty));
 }
 
-pub campaigns : WorldStep (nine_keep kept_third) (group.Campaign 9) (nine_keep (kept_by 3 (ballot_by 9 41)))
+pub campaigns : WorldStep (nine_keep kept_third) 9 deed.Campaign (nine_keep (kept_by 3 (ballot_by 9 41)))
 campaigns = record {
   round = 41;
   call = inl (ninth_calls kept_third [] (up_learned empty) [] [] (Some (change.Promise (ballot_by 9 41))) [] [] [] (inl (omega arith)) refl
@@ -118,7 +114,7 @@ campaigns = record {
 
 -- a campaign whose save fails leaves the changed record, or the old one
 campaign_may_fall : (kept : Record) → (kept ≡ kept_third) ⊎ (kept ≡ kept_by 3 (ballot_by 9 41))
-    → WorldStep (nine_keep kept_third) (group.Campaign 9) (nine_fell kept)
+    → WorldStep (nine_keep kept_third) 9 deed.Campaign (nine_fell kept)
 campaign_may_fall kept is = record {
   round = 41;
   call = inr (
@@ -133,14 +129,15 @@ campaign_may_fall kept is = record {
   );
 }
 
-pub falls_old : WorldStep (nine_keep kept_third) (group.Campaign 9) (nine_fell kept_third)
+pub falls_old : WorldStep (nine_keep kept_third) 9 deed.Campaign (nine_fell kept_third)
 falls_old = campaign_may_fall kept_third (inl refl)
 
-pub falls_new : WorldStep (nine_keep kept_third) (group.Campaign 9) (nine_fell (kept_by 3 (ballot_by 9 41)))
+pub falls_new : WorldStep (nine_keep kept_third) 9 deed.Campaign (nine_fell (kept_by 3 (ballot_by 9 41)))
 falls_new = campaign_may_fall (kept_by 3 (ballot_by 9 41)) (inr refl)
 
-pub starts : WorldStep (nine_fell kept_third) (group.Start 9) (nine_keep (kept_by 4 (ballot_by 7 40)))
+pub starts : WorldStep (nine_fell kept_third) 9 (deed.Start kept_third) (nine_keep (kept_by 4 (ballot_by 7 40)))
 starts = (
+  refl,
   refl,
   inl (record {
     left = refl;
@@ -148,7 +145,7 @@ starts = (
   }),
 )
 
-pub releases : WorldStep (nine_show (65 ∷ []) (up_written (65 ∷ 66 ∷ 67 ∷ []) 1)) (group.Release 9)
+pub releases : WorldStep (nine_show (65 ∷ []) (up_written (65 ∷ 66 ∷ 67 ∷ []) 1)) 9 deed.Release
     (nine_show (65 ∷ 66 ∷ []) (up_written (65 ∷ 66 ∷ 67 ∷ []) 2))
 releases = record {
   was = up_written (65 ∷ 66 ∷ 67 ∷ []) 1;
@@ -158,8 +155,11 @@ releases = record {
       (seat_up kept_third (65 ∷ 66 ∷ []) (up_written (65 ∷ 66 ∷ 67 ∷ []) 2)) [] [] [] [];
 }
 
-pub crashes : WorldStep (nine_show (65 ∷ []) (up_written (65 ∷ []) 1)) (group.Crash 9) (nine (seat_down kept_third (65 ∷ [])) [] [])
+pub crashes : WorldStep (nine_show (65 ∷ []) (up_written (65 ∷ []) 1)) 9 deed.Crash (nine (seat_down kept_third (65 ∷ [])) [] [])
 crashes = record {
   left = refl;
   rest = ninth_changes (seat_up kept_third (65 ∷ []) (up_written (65 ∷ []) 1)) (seat_down kept_third (65 ∷ [])) [] [] [] [];
 }
+
+pub idles : (up : Up) → WorldStep (nine_up up) 9 deed.Idle (nine_up up)
+idles up = refl

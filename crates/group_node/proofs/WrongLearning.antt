@@ -13,7 +13,7 @@ use Rattle.paxos_msg.specs.Keys.{Key}
 use Rattle.paxos_msg.specs.Messages.{IsSent, IsSaid}
 use Rattle.paxos_learner.proofs.OnePlace.{get_here}
 use Rattle.paxos_learner.specs.Input.{front_values, keys_in_order}
-use Rattle.group_node.specs.World as group
+use Rattle.group_node.specs.Deeds as deed
 use Rattle.group_node.specs.World.{LearnsOnly, Seat, Up, WorldState, WorldStep}
 use Rattle.group_node.specs.WrongSteps.{ballot_by, kept_by, nine_fell, nine_keep, nine_show, up_as, fortieth, four_accepted, kept_third, nine, nine_type, nine_up, ninth_key, seat_up, up_learned, up_waiting, up_written}
 use Rattle.group_node.proofs.CallParts.{call_keeps, call_learns, other_round}
@@ -21,23 +21,23 @@ use Rattle.group_node.proofs.Elements.{each_of, entries_none, entries_one, minor
 
 -- ---- what a node learns
 
-tick_learns : (was now : Up) → WorldStep (nine_up was) (group.Tick 9) (nine_up now) → LearnsOnly (nine_up was) [] was now
+tick_learns : (was now : Up) → WorldStep (nine_up was) 9 deed.Tick (nine_up now) → LearnsOnly (nine_up was) [] was now
 tick_learns was now h = call_learns (nine_up was) (nine_up now) 9 None [] was now h refl refl
 
-pub forgets : ¬ WorldStep (nine_up (up_learned (insert empty 700 (fortieth 65)))) (group.Tick 9) (nine_up (up_learned empty))
+pub forgets : ¬ WorldStep (nine_up (up_learned (insert empty 700 (fortieth 65)))) 9 deed.Tick (nine_up (up_learned empty))
 forgets h =
     let learns = tick_learns _ _ h in
     let still = learns.keeps.stays 700 (fortieth 65) (get_here empty 700 (fortieth 65)) in
     let none : get (empty {X = Value} {R = nat_cmp}) 700 ≡ None = get-empty nat_cmp 700 in
     cc
 
-pub writes : ¬ WorldStep (nine_up (up_written [] 0)) (group.Tick 9) (nine_up (up_written (65 ∷ []) 0))
+pub writes : ¬ WorldStep (nine_up (up_written [] 0)) 9 deed.Tick (nine_up (up_written (65 ∷ []) 0))
 writes h = let same = ap (λ (c : Configuration). c.output) (tick_learns _ _ h).configuration in cc
 
-pub counts_on : ¬ WorldStep (nine_up (up_written (65 ∷ 66 ∷ []) 1)) (group.Tick 9) (nine_up (up_written (65 ∷ 66 ∷ []) 2))
+pub counts_on : ¬ WorldStep (nine_up (up_written (65 ∷ 66 ∷ []) 1)) 9 deed.Tick (nine_up (up_written (65 ∷ 66 ∷ []) 2))
 counts_on h = let same = (tick_learns _ _ h).released in omega arith
 
-pub counts_back : ¬ WorldStep (nine_up (up_written (65 ∷ 66 ∷ []) 1)) (group.Tick 9) (nine_up (up_written (65 ∷ 66 ∷ []) 0))
+pub counts_back : ¬ WorldStep (nine_up (up_written (65 ∷ 66 ∷ []) 1)) 9 deed.Tick (nine_up (up_written (65 ∷ 66 ∷ []) 0))
 counts_back h = let same = (tick_learns _ _ h).released in omega arith
 
 -- ---- keys that wait
@@ -62,15 +62,15 @@ hole_read : (v : Value) → keys_in_order (front_values (insert empty 700 v)) �
 hole_read v = rw (entries_one 700 v) refl
 
 tick_stays : (learned : FinMap nat_cmp Value) → keys_in_order (front_values learned) ≡ [] → (keys stay : List Key)
-    → WorldStep (nine_up (up_as learned [] 0 keys)) (group.Tick 9) (nine_up (up_as learned [] 0 stay)) → stay ≡ keys ++ []
+    → WorldStep (nine_up (up_as learned [] 0 keys)) 9 deed.Tick (nine_up (up_as learned [] 0 stay)) → stay ≡ keys ++ []
 tick_stays learned none keys stay h =
     let waits = (tick_learns _ _ h).waiting in
     all_stay learned none waits.gone (keys ++ []) stay waits.below waits.parts
 
-pub leaves_unread : ¬ WorldStep (nine_up (up_waiting (ninth_key 40 65 ∷ []))) (group.Tick 9) (nine_up (up_waiting []))
+pub leaves_unread : ¬ WorldStep (nine_up (up_waiting (ninth_key 40 65 ∷ []))) 9 deed.Tick (nine_up (up_waiting []))
 leaves_unread h = let same = tick_stays empty none_read _ _ h in cc
 
-pub leaves_above_a_hole : ¬ WorldStep (nine_up (up_as (insert empty 700 (fortieth 65)) [] 0 (ninth_key 40 65 ∷ []))) (group.Tick 9)
+pub leaves_above_a_hole : ¬ WorldStep (nine_up (up_as (insert empty 700 (fortieth 65)) [] 0 (ninth_key 40 65 ∷ []))) 9 deed.Tick
     (nine_up (up_as (insert empty 700 (fortieth 65)) [] 0 []))
 leaves_above_a_hole h = let same = tick_stays (insert empty 700 (fortieth 65)) (hole_read (fortieth 65)) _ _ h in cc
 
@@ -82,30 +82,30 @@ not_the_first a b (x ∷ y ∷ []) e = absurd cc
 not_the_first a b (x ∷ y ∷ z ∷ gone) e = absurd cc
 
 pub leaves_the_end : ¬ WorldStep
-    (nine_up (up_as (insert empty 0 (Keys 9 3 41 (66 ∷ []))) [] 0 (ninth_key 40 65 ∷ ninth_key 41 66 ∷ []))) (group.Tick 9)
+    (nine_up (up_as (insert empty 0 (Keys 9 3 41 (66 ∷ []))) [] 0 (ninth_key 40 65 ∷ ninth_key 41 66 ∷ []))) 9 deed.Tick
     (nine_up (up_as (insert empty 0 (Keys 9 3 41 (66 ∷ []))) [] 0 (ninth_key 40 65 ∷ [])))
 leaves_the_end h =
     let waits = (tick_learns _ _ h).waiting in
     let same = ap (λ (k : Key). k.serial) (not_the_first (ninth_key 40 65) (ninth_key 41 66) waits.gone waits.parts) in
     omega arith
 
-pub appears : ¬ WorldStep (nine_up (up_waiting [])) (group.Tick 9) (nine_up (up_waiting (ninth_key 40 65 ∷ [])))
+pub appears : ¬ WorldStep (nine_up (up_waiting [])) 9 deed.Tick (nine_up (up_waiting (ninth_key 40 65 ∷ [])))
 appears h = let same = tick_stays empty none_read _ _ h in cc
 
 -- ---- ticks that do more
 
-pub tick_saves : ¬ WorldStep (nine_keep kept_third) (group.Tick 9) (nine_keep (kept_by 3 (ballot_by 9 41)))
+pub tick_saves : ¬ WorldStep (nine_keep kept_third) 9 deed.Tick (nine_keep (kept_by 3 (ballot_by 9 41)))
 tick_saves h =
     other_round 3 41 (ballot_by 9 41) (ballot_by 7 40) (λ same. omega arith)
     (call_keeps (nine_keep kept_third) (nine_keep (kept_by 3 (ballot_by 9 41))) 9 None [] h)
 
-pub tick_shows : ¬ WorldStep (nine_show [] (up_written (65 ∷ []) 0)) (group.Tick 9) (nine_show (65 ∷ []) (up_written (65 ∷ []) 0))
+pub tick_shows : ¬ WorldStep (nine_show [] (up_written (65 ∷ []) 0)) 9 deed.Tick (nine_show (65 ∷ []) (up_written (65 ∷ []) 0))
 tick_shows h = let same = ap (λ (s : Seat). s.console) h.left in cc
 
-pub tick_falls : ¬ WorldStep (nine_keep kept_third) (group.Tick 9) (nine_fell kept_third)
+pub tick_falls : ¬ WorldStep (nine_keep kept_third) 9 deed.Tick (nine_fell kept_third)
 tick_falls h = let some : None ≡ Some h.now = ap (λ (s : Seat). s.up) h.left in cc
 
-pub tick_types : ¬ WorldStep (nine_type [] []) (group.Tick 9) (nine_type (ninth_key 40 65 ∷ []) (ninth_key 40 65 ∷ []))
+pub tick_types : ¬ WorldStep (nine_type [] []) 9 deed.Tick (nine_type (ninth_key 40 65 ∷ []) (ninth_key 40 65 ∷ []))
 tick_types h = let same = h.rest.typed in cc
 
 -- ---- no majority of nine
@@ -132,7 +132,7 @@ no_tell v s u said =
 abbrev four_sent : FinMap nat_cmp Value → WorldState
 four_sent learned = nine (seat_up kept_third [] (up_learned learned)) (four_accepted (fortieth 65)) []
 
-pub learns_by_four : ¬ WorldStep (four_sent empty) (group.Tick 9) (four_sent (insert empty 700 (fortieth 65)))
+pub learns_by_four : ¬ WorldStep (four_sent empty) 9 deed.Tick (four_sent (insert empty 700 (fortieth 65)))
 learns_by_four h =
     let learns = call_learns (four_sent empty) (four_sent (insert empty 700 (fortieth 65))) 9 None [] _ _ h refl refl in
     elim (learns.gains 700 (fortieth 65) (get_here empty 700 (fortieth 65))) [
@@ -143,7 +143,7 @@ learns_by_four h =
 
 -- ---- keys that are typed
 
-press_adds : (waiting typed later newer : List Key) → WorldStep (nine_type waiting typed) (group.Press 9 65) (nine_type later newer)
+press_adds : (waiting typed later newer : List Key) → WorldStep (nine_type waiting typed) 9 (deed.Press 65) (nine_type later newer)
     → (key : Key) × (key.node ≡ 9) × (key.start ≡ 3) × (key.byte ≡ 65) × (later ≡ waiting ++ key ∷ []) × (newer ≡ typed ++ key ∷ [])
 press_adds waiting typed later newer h =
     let learns = call_learns (nine_type waiting typed) (nine_type later newer) 9 None (h.key ∷ []) (up_waiting waiting) (up_waiting later)
@@ -166,7 +166,7 @@ second_key k key keys e = cc
 first_key : (k key : Key) (ks keys : List Key) → k ∷ ks ≡ key ∷ keys → k ≡ key
 first_key k key ks keys e = cc
 
-pub types_at_another : ¬ WorldStep (nine_type (older ∷ []) (older ∷ [])) (group.Press 9 65)
+pub types_at_another : ¬ WorldStep (nine_type (older ∷ []) (older ∷ [])) 9 (deed.Press 65)
     (nine_type (older ∷ (record { node = 7; start = 3; serial = 40; byte = 65 }) ∷ [])
     (older ∷ (record { node = 7; start = 3; serial = 40; byte = 65 }) ∷ []))
 types_at_another h =
@@ -174,7 +174,7 @@ types_at_another h =
     let same = ap (λ (k : Key). k.node) (second_key _ key [] typed) in
     omega arith
 
-pub types_in_another : ¬ WorldStep (nine_type (older ∷ []) (older ∷ [])) (group.Press 9 65)
+pub types_in_another : ¬ WorldStep (nine_type (older ∷ []) (older ∷ [])) 9 (deed.Press 65)
     (nine_type (older ∷ (record { node = 9; start = 2; serial = 40; byte = 65 }) ∷ [])
     (older ∷ (record { node = 9; start = 2; serial = 40; byte = 65 }) ∷ []))
 types_in_another h =
@@ -182,35 +182,35 @@ types_in_another h =
     let same = ap (λ (k : Key). k.start) (second_key _ key [] typed) in
     omega arith
 
-pub types_another : ¬ WorldStep (nine_type (older ∷ []) (older ∷ [])) (group.Press 9 65)
+pub types_another : ¬ WorldStep (nine_type (older ∷ []) (older ∷ [])) 9 (deed.Press 65)
     (nine_type (older ∷ ninth_key 40 66 ∷ []) (older ∷ ninth_key 40 66 ∷ []))
 types_another h =
     let (key, node, start, byte, waits, typed) = press_adds _ _ _ _ h in
     let same = ap (λ (k : Key). k.byte) (second_key _ key [] typed) in
     omega arith
 
-pub not_in_typed : ¬ WorldStep (nine_type (older ∷ []) (older ∷ [])) (group.Press 9 65)
+pub not_in_typed : ¬ WorldStep (nine_type (older ∷ []) (older ∷ [])) 9 (deed.Press 65)
     (nine_type (older ∷ ninth_key 40 65 ∷ []) (older ∷ []))
 not_in_typed h = let (key, node, start, byte, waits, typed) = press_adds _ _ _ _ h in cc
 
-pub typed_twice : ¬ WorldStep (nine_type (older ∷ []) (older ∷ [])) (group.Press 9 65)
+pub typed_twice : ¬ WorldStep (nine_type (older ∷ []) (older ∷ [])) 9 (deed.Press 65)
     (nine_type (older ∷ ninth_key 40 65 ∷ []) (older ∷ ninth_key 40 65 ∷ ninth_key 40 65 ∷ []))
 typed_twice h = let (key, node, start, byte, waits, typed) = press_adds _ _ _ _ h in cc
 
-pub typed_first : ¬ WorldStep (nine_type (older ∷ []) (older ∷ [])) (group.Press 9 65)
+pub typed_first : ¬ WorldStep (nine_type (older ∷ []) (older ∷ [])) 9 (deed.Press 65)
     (nine_type (older ∷ ninth_key 40 65 ∷ []) (ninth_key 40 65 ∷ older ∷ []))
 typed_first h =
     let (key, node, start, byte, waits, typed) = press_adds _ _ _ _ h in
     let same = ap (λ (k : Key). k.serial) (first_key _ older (older ∷ []) (key ∷ []) typed) in
     omega arith
 
-pub waits_first : ¬ WorldStep (nine_type (older ∷ []) (older ∷ [])) (group.Press 9 65)
+pub waits_first : ¬ WorldStep (nine_type (older ∷ []) (older ∷ [])) 9 (deed.Press 65)
     (nine_type (ninth_key 40 65 ∷ older ∷ []) (older ∷ ninth_key 40 65 ∷ []))
 waits_first h =
     let (key, node, start, byte, waits, typed) = press_adds _ _ _ _ h in
     let same = ap (λ (k : Key). k.serial) (first_key _ older (older ∷ []) (key ∷ []) waits) in
     omega arith
 
-pub dropped : ¬ WorldStep (nine_type (older ∷ []) (older ∷ [])) (group.Press 9 65)
+pub dropped : ¬ WorldStep (nine_type (older ∷ []) (older ∷ [])) 9 (deed.Press 65)
     (nine_type (older ∷ []) (older ∷ ninth_key 40 65 ∷ []))
 dropped h = let (key, node, start, byte, waits, typed) = press_adds _ _ _ _ h in cc

@@ -1,7 +1,7 @@
 -- The output of a node: what its machine has written, and what of it was released.
 use Rattle.std.specs.Prelude.{◌≡◌, ℕ, ◌+◌, ◌<◌, ◌≤◌, min, List, length, drop}
 use Rattle.pcode_file.specs.Parts.{Parts}
-use Rattle.pcode_machine.specs.Outcome.{outcome, Stops, Waiting}
+use Rattle.pcode_machine.specs.Transition.{transition, Stops, Waiting}
 use Rattle.pcode_machine.specs.Runs.{after_steps, out, LeadsIn}
 use Rattle.group_node.specs.declared.player.Ran.{Ran}
 use Rattle.group_node.specs.declared.player.Ran.TheVariants as ran
@@ -53,9 +53,9 @@ abbrev pub IsOver : List ℕ → ℕ → Progress → Ran → Type 0
 IsOver x most q ran.More = q.steps ≡ most
 IsOver x most q ran.Full = (q.steps < most) × (length (unreleased_of x q) ≡ RING_BYTES)
 IsOver x most q ran.Waits =
-    IsIdle x most q × (outcome q.program x (after_steps q.program x q.steps) ≡ Waiting)
+    IsIdle x most q × (transition q.program x (after_steps q.program x q.steps) ≡ Waiting)
 IsOver x most q (ran.Ended e) =
-    IsIdle x most q × (outcome q.program x (after_steps q.program x q.steps) ≡ Stops e)
+    IsIdle x most q × (transition q.program x (after_steps q.program x q.steps) ≡ Stops e)
 
 -- The facts of a run of at most `steps` steps on the input `x`.
 -- Before each step that it made fewer than 256 bytes waited. Only the count of steps has changed.

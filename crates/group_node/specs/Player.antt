@@ -2,7 +2,7 @@
 use Rattle.std.specs.Prelude.{◌≡◌, ℕ, ◌+◌, ◌<◌, ◌≤◌, List, ◌++◌, drop, length, Option, Some, None}
 use Rattle.circular_buffer.specs.Buffer.{buffer}
 use Rattle.pcode_machine.specs.Configuration.{configuration_of}
-use Rattle.pcode_machine.specs.Outcome.{outcome, Stops, Waiting}
+use Rattle.pcode_machine.specs.Transition.{transition, Stops, Waiting}
 use Rattle.pcode_machine.specs.Runs.{after_steps, LeadsIn}
 use Rattle.pcode_machine.specs.Turns.{Makes}
 use Rattle.paxos_learner.specs.Input.{learned_input}
@@ -57,9 +57,9 @@ abbrev pub MakesNoStep : List ℕ → Player → Ran → Type 0
 MakesNoStep x q ran.More = ⊥
 MakesNoStep x q ran.Full = ⊥
 MakesNoStep x q ran.Waits =
-    outcome q.machine.program x (after_steps q.machine.program x q.steps) ≡ Waiting
+    transition q.machine.program x (after_steps q.machine.program x q.steps) ≡ Waiting
 MakesNoStep x q (ran.Ended e) =
-    outcome q.machine.program x (after_steps q.machine.program x q.steps) ≡ Stops e
+    transition q.machine.program x (after_steps q.machine.program x q.steps) ≡ Stops e
 
 -- The machine before and after `k` steps that read and wrote nothing.
 pub record Advances (x : List ℕ) (k : ℕ) (old new : Player) : Type 0 where

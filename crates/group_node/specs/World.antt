@@ -1,4 +1,4 @@
--- A group, and one event of it.
+-- A group, and one deed of a node of it.
 use Rattle.std.specs.Prelude.{◌≡◌, ◌≢◌, ℕ, zero, suc, ◌+◌, ◌≤◌, ◌==◌, ◌⊎◌, if◌then◌else◌, All, Contains, List, [], ◌∷◌, ◌++◌, Option, Some, None, IfSome, IsSome, slice_get}
 use Rattle.std.specs.Ordering.{nat_cmp}
 use Rattle.std.specs.FinMap.{FinMap, empty, get}
@@ -19,6 +19,7 @@ use Rattle.paxos_learner.specs.Backed.{MayLearn}
 use Rattle.paxos_learner.specs.Learner.{HasLearnedMore}
 use Rattle.paxos_learner.specs.Input.{front_values, keys_in_order, learned_input}
 use Rattle.group_node.specs.Console.{offered}
+use Rattle.group_node.specs.Deeds.{Deed, Idle, Start, Hear, Press, Campaign, Tick, Run, Release, Crash}
 use Rattle.group_node.specs.Known.{Response, Known}
 use Rattle.group_node.specs.WaitingKeys.{waiting_keys}
 use Rattle.group_node.specs.Steps.{messages_handed_out}
@@ -50,20 +51,6 @@ pub record WorldState : Type 0 where
   pub seats : ℕ → Seat
   pub sent : Sent
   pub typed : List Key
-
--- What happens at a node.
--- A byte is typed, the message of that number is delivered, it campaigns, it ticks, it runs for at
--- most `steps` steps, it releases a byte, it crashes, it starts.
--- Source: Simple 2.1.
-pub data Event : Type 0 where
-  Press : (i byte : ℕ) → Event
-  Deliver : (m i : ℕ) → Event
-  Campaign : (i : ℕ) → Event
-  Tick : (i : ℕ) → Event
-  Run : (i steps : ℕ) → Event
-  Release : (i : ℕ) → Event
-  Crash : (i : ℕ) → Event
-  Start : (i : ℕ) → Event
 
 -- A node that has just started.
 abbrev pub fresh : Parts → Up
@@ -152,11 +139,10 @@ MayCause (Submit v) o = o ≡ None
 MayCause (Ask from) o = o ≡ None
 MayCause (Tell s v) o = o ≡ None
 
--- The delivery of message number `m`, which may be any, at any time.
+-- The delivery of a message that was sent, at any time.
 -- Allows: a message to a node that it was not meant for.
-pub record Delivers (w v : WorldState) (m i : ℕ) : Type 0 where
-  pub message : Msg
-  pub is_sent : slice_get w.sent m ≡ Some message
+pub record Delivers (w v : WorldState) (message : Msg) (i : ℕ) : Type 0 where
+  pub is_sent : Contains w.sent message
   pub saved : Option Change
   pub cause : MayCause message.body saved
   pub call : CallOrFall w v i saved
@@ -234,28 +220,30 @@ pub record Crashes (w v : WorldState) (i : ℕ) : Type 0 where
   pub left : v.seats i ≡ record (w.seats i) { up = None }
   pub rest : ChangesOnly w v i [] []
 
--- ---- events
+-- ---- deeds
 
--- The groups before and after an event.
+-- The groups before and after a deed of node `i`.
 -- Only its node changes. That node saves at most one change, which it may, and sends what it may.
 -- It learns only what a Tell said, or a majority accepted under one ballot. Its machine makes steps
 -- on the learned input.
 -- Source: Simple 2.1 to 2.3, 2.5 and 3.
--- Allows: a message delivered to any node, at any time, any number of times, or never; a crash at
--- any time.
--- Forbids: a start saved except at a `Start`; a promise saved except at a Prepare under its ballot
--- or an own campaign; a change of another node.
-abbrev pub WorldStep : WorldState → Event → WorldState → Type 0
-WorldStep w (Press i byte) v = Presses w v i byte
-WorldStep w (Deliver m i) v = Delivers w v m i
-WorldStep w (Campaign i) v = Campaigns w v i
-WorldStep w (Tick i) v = MakesCall w v i None []
-WorldStep w (Run i steps) v = MakesRun w v i steps
-WorldStep w (Release i) v = Releases w v i
-WorldStep w (Crash i) v = Crashes w v i
-WorldStep w (Start i) v = ((w.seats i).up ≡ None) × (StartsUp w v i ⊎ Falls w v i change.Start)
+-- Allows: a message heard by any node, at any time, any number of times, or never; a crash at any
+-- time.
+-- Forbids: a start saved except at a `Start`, or over another record than the node has; a promise
+-- saved except at a Prepare under its ballot or an own campaign; a change of another node.
+abbrev pub WorldStep : WorldState → ℕ → Deed → WorldState → Type 0
+WorldStep w i Idle v = v ≡ w
+WorldStep w i (Press byte) v = Presses w v i byte
+WorldStep w i (Hear message) v = Delivers w v message i
+WorldStep w i Campaign v = Campaigns w v i
+WorldStep w i Tick v = MakesCall w v i None []
+WorldStep w i (Run steps) v = MakesRun w v i steps
+WorldStep w i Release v = Releases w v i
+WorldStep w i Crash v = Crashes w v i
+WorldStep w i (Start loaded) v = ((w.seats i).up ≡ None) × (loaded ≡ (w.seats i).kept)
+    × (StartsUp w v i ⊎ Falls w v i change.Start)
 
--- ---- a node's calls as events
+-- ---- a node's calls as deeds
 
 -- The seat of a node that is up, whose machine has come to `c` and has released `k` bytes.
 abbrev pub seat_of : Known → Configuration → ℕ → List ℕ → Seat

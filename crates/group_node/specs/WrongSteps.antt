@@ -14,7 +14,8 @@ use Rattle.paxos_msg.specs.declared.value.Value.TheVariants.{Keys}
 use Rattle.paxos_msg.specs.Batches.{Body, Msg, Record, Sent}
 use Rattle.paxos_msg.specs.Keys.{Key}
 use Rattle.paxos_msg.specs.Records.{empty_record}
-use Rattle.group_node.specs.World.{Seat, Up, WorldState}
+use Rattle.group_node.specs.Deeds as deed
+use Rattle.group_node.specs.World.{Seat, Up, WorldState, WorldStep}
 
 -- ---- ballots, keys and records
 
@@ -138,6 +139,10 @@ ask_by node = record { sender = node; body = Ask 700 }
 abbrev pub sent_by_ninth : Body → Msg
 sent_by_ninth body = record { sender = 9; body = body }
 
+-- The message of node 5 with this body.
+abbrev pub sent_by_fifth : Body → Msg
+sent_by_fifth body = record { sender = 5; body = body }
+
 -- The one message of node 7 that proposes a value at place 700, under its ballot of round 40.
 abbrev pub seventh_proposes : Sent
 seventh_proposes =
@@ -181,7 +186,7 @@ abbrev pub nine_hear : Body → Record → WorldState
 nine_hear body kept =
     nine (seat_up kept [] (up_learned empty))
     ((record { sender = 7; body = Accept (ballot_by 7 41) 700 (fortieth 65) })
-    ∷ (record { sender = 5; body = body }) ∷ []) []
+    ∷ sent_by_fifth body ∷ []) []
 
 -- Nine nodes without messages and keys; node 9 is up with this record.
 abbrev pub nine_keep : Record → WorldState
@@ -211,3 +216,10 @@ accepted_by node v = record { sender = node; body = Accepted (ballot_by 7 41) 70
 -- Messages by which four of nine nodes have accepted a value under one ballot.
 abbrev pub four_accepted : Value → Sent
 four_accepted v = accepted_by 2 v ∷ accepted_by 3 v ∷ accepted_by 4 v ∷ accepted_by 6 v ∷ []
+
+-- ---- claims
+
+-- The claim that node 9, which hears the body from node 5, may then have this record.
+abbrev pub HearingLeaves : Body → Record → Type 0
+HearingLeaves body kept =
+    WorldStep (nine_hear body kept_third) 9 (deed.Hear (sent_by_fifth body)) (nine_hear body kept)

@@ -193,7 +193,7 @@ impl<'a, S: Store> Node<'a, S> {
     /// at a Refused, nor at a message that `NeedsMemory` lists as ignored.
     ///
     /// `view` has a spelling in the node's group, as each message has that `decode` returns. After
-    /// the call the first waiting keys, up to one that is not below the known front, wait no more.
+    /// `Ok` the first waiting keys, up to one that is not below the known front, wait no more.
     pub fn on_message(&mut self, view: &View<'_>, outbox: &mut Outbox) -> Result<(), NodeFault>
         requires fits { Fits self.old.protocol.known.me.group view.now }
         ensures responds { Responds S.kind (answer_to view.now) self outbox result }
@@ -217,8 +217,9 @@ impl<'a, S: Store> Node<'a, S> {
     /// with `Memory` or `Store`.
     ///
     /// The ballot's round is one above `last_round`, the greatest round of a ballot that the node
-    /// has promised or that a Refused reported to it. The node promises the ballot, and asks all
-    /// nodes for their promises from the known front on.
+    /// has promised or that a Refused reported to it in this start. The node promises the ballot,
+    /// and asks all nodes for their promises from the known front on. A proposer that it had is
+    /// dropped.
     pub fn campaign(&mut self, outbox: &mut Outbox) -> Result<(), NodeFault>
         ensures responds { Responds S.kind on_campaign self outbox result }
         ensures refuses { RefusesCampaign self outbox result }

@@ -256,8 +256,8 @@ impl<S: Store> Protocol<S> {
         take_part(proposer, view, self.me, outbox)
     }
 
-    /// Remembers the ballot that a Refused reports, and drops the proposer if its ballot was
-    /// refused.
+    /// Remembers the promised ballot that a Refused reports, if it is greater than the remembered
+    /// one, and drops the proposer if its ballot was refused.
     pub(crate) fn on_refused(&mut self, ballot: Ballot, promised: Ballot)
         ensures { Knows self.old self.new (on_refused self.old.known ballot promised).node }
     {

@@ -3,7 +3,7 @@
 use Rattle.std.proofs.lemmas.Bool.{cases_eq, eq-eqb, ne_eqb}
 use Rattle.std.proofs.lemmas.List.{append-nil, length-append}
 use Rattle.std.proofs.lemmas.Option.{same_Some}
-use Rattle.std.proofs.Common.{◌≡◌, ◌∙◌, ℕ, ◌+◌, ◌≤◌, ◌⊎◌, List, [], ◌∷◌, ◌++◌, flat_map, length, map, slice_get, Option, Some, None, inl, inr, refl, sym, ap, subst, arith}
+use Rattle.std.proofs.Common.{◌≡◌, ◌∙◌, Bool, ℕ, ◌+◌, ◌≤◌, ◌⊎◌, List, [], ◌∷◌, ◌++◌, flat_map, length, map, slice_get, Option, Some, None, inl, inr, refl, sym, ap, subst, arith}
 use Rattle.std.specs.List.{Contains}
 use Rattle.pcode_file.specs.Parts.{Parts}
 use Rattle.pcode_machine.specs.Runs.{IsPrefix}
@@ -19,10 +19,13 @@ use Rattle.group_wire.specs.Doings.{DoesAll, Doing, Working}
 use Rattle.group_wire.specs.Doings as wire
 use Rattle.group_wire.specs.Process.{IsProcess, started}
 use Rattle.group_world.specs.declared.event.Done.{Done}
+use Rattle.group_world.specs.declared.event.Done.TheVariants.{Applied}
 use Rattle.group_world.specs.declared.event.Outcome.TheVariants.{Kept}
 use Rattle.group_world.specs.Group.{World, new_world}
 use Rattle.group_world.specs.Member.{CallEnds, CallOutcome, Fell, Happened, Member, Refused, Running, member_after, member_after_release}
-use Rattle.group_world.specs.Processes.{DoesDeed, Entry, IsHistory, entries_of}
+use Rattle.group_world.specs.Processes.{DoesEntry, Entry, IsHistory, entries_of, left_by}
+use Rattle.group_world.specs.Deeds.{DoesDeed, Left}
+use Rattle.group_world.specs.Event.{plan_of}
 use Rattle.group_process.specs.Runs.{AreRuns, Attempt, ConsolesAreReleased, FailsToStart, GoesOn, IsAfterRuns, IsAttempt, IsOver, NodeRun, Stand, StandsWith, Starts, ends_by, entries_of_attempt, entry_by, node_by, node_left, record_left, run_output, node_at_work, silent_entry}
 use Rattle.group_process.proofs.GroupLogs.{first, first_at}
 use Rattle.group_process.proofs.RunFronts.{ends_few}
@@ -56,17 +59,21 @@ release_grows m new q (Some byte) is = subst (GrowsBy m) (sym is) (elim (cases_e
     longer same =
         rw (eq-eqb q.progress.released (length m.console) same) (omega (arith, length-append m.console (byte ∷ []), same))
 
-entry_grows : (p : Parts) (me : Me) (m : Member) (deed : Deed) (e : Entry) (new : Member) → DoesDeed p me m deed e new → GrowsBy m new
-entry_grows p me m Idle e new (same, silent) = inl (ap (λ (x : Member). x.console) same)
-entry_grows p me m (Start r) e new (down, read, ends) = call_grows ends
-entry_grows p me m (Hear x) e new (q, up, ends) = call_grows ends
-entry_grows p me m (Press byte) e new (q, up, low, ends) = call_grows ends
-entry_grows p me m Campaign e new (q, up, ends) = call_grows ends
-entry_grows p me m Tick e new (q, up, ends) = call_grows ends
-entry_grows p me m (Run steps) e new (q, up, runs, silent) = inl (ap (λ (x : Member). x.console) runs.new_is)
-entry_grows p me m Release e new (q, up, left, silent) =
-    release_grows m new q (slice_get (unreleased_of (input q.known) q.progress) 0) left
-entry_grows p me m Crash e new (q, up, left, silent) = inl (ap (λ (x : Member). x.console) left)
+deed_grows : (p : Parts) (me : Me) (m : Member) (plan : Option Bool) (deed : Deed) (left : Left) → DoesDeed p me m plan deed left
+    → GrowsBy m left.member
+deed_grows p me m plan Idle left is = inl (ap (λ (x : Left). x.member.console) is)
+deed_grows p me m plan (Start r) left (down, read, ends) = call_grows ends
+deed_grows p me m plan (Hear x) left (q, up, ends) = call_grows ends
+deed_grows p me m plan (Press byte) left (q, up, low, ends) = call_grows ends
+deed_grows p me m plan Campaign left (q, up, ends) = call_grows ends
+deed_grows p me m plan Tick left (q, up, ends) = call_grows ends
+deed_grows p me m plan (Run steps) left (q, up, runs, is) = inl (ap (λ (x : Member). x.console) runs.new_is)
+deed_grows p me m plan Release left (q, up, is) =
+    release_grows m left.member q (slice_get (unreleased_of (input q.known) q.progress) 0) (ap (λ (x : Left). x.member) is)
+deed_grows p me m plan Crash left (q, up, is) = inl (ap (λ (x : Left). x.member.console) is)
+
+entry_grows : (p : Parts) (me : Me) (m : Member) (e : Entry) (new : Member) → DoesEntry p me m e new → GrowsBy m new
+entry_grows p me m e new (d, does) = deed_grows p me m (plan_of e.save) e.deed (left_by e d new) does
 
 -- an end leaves the console
 end_keeps : (p : Parts) (me : Me) (m : Member) (es : List Entry) (after : Member) → length es ≤ 1 → IsHistory p me m es after
@@ -74,7 +81,7 @@ end_keeps : (p : Parts) (me : Me) (m : Member) (es : List Entry) (after : Member
 end_keeps p me m [] after few same down = ap (λ (x : Member). x.console) same
 end_keeps p me m (e ∷ []) after few (new, does, same) down =
     let last = ap (λ (x : Member). x.console) same in
-    elim (entry_grows p me m e.deed e new does) [
+    elim (entry_grows p me m e new does) [
       | inl kept ↦ last ∙ kept
       | inr (q, up, shown) ↦ absurd (never q (sym down ∙ ap (λ (x : Member). x.node) same ∙ up))
     ]
@@ -123,10 +130,10 @@ module _ (p : Parts) (me : Me) where
   doings_show console w v m [] at shows same = (m, refl, rw same at, rw same shows)
   doings_show console w v m (d ∷ doings) at shows (mid, does, rest) =
       let (new, first, then) = deed_is_entry p me {w = w} {v = mid} {m = m} d d.deed at does in
-      let one = of_working mid m new then (entry_grows p me m d.deed (entry_by me.node Kept d) new first) in
+      let one = of_working mid m new then (entry_grows p me m (entry_by me.node Kept d) new (Applied, first)) in
       let so = then_shows console w mid m new shows (one_releases w mid d d.deed does) one in
       let (last, more, ends, all) = doings_show console mid v new doings then so rest in
-      (last, (new, first, more), ends, all)
+      (last, (new, (Applied, first), more), ends, all)
 
   -- the console was so before a start, or is no longer than what its run has released
   abbrev ShowsOf : List ℕ → Attempt → Member → Type 0
@@ -150,13 +157,13 @@ module _ (p : Parts) (me : Me) where
       let up = started p me run.process.loaded in
       let (new, starts, at) = start_is_entry p me m run.process.loaded h.spare down read in
       let start = silent_entry me.node (Start run.process.loaded) in
-      let so = of_working up m new at (entry_grows p me m start.deed start new starts) in
+      let so = of_working up m new at (entry_grows p me m start new (Applied, starts)) in
       let (mid, does, still, shows) = doings_show m.console up run.last new run.process.doings at so h.does in
       let (after, ends, stands) = stand_is_entry p me run mid run.stand still h.fails in
       let kept = stand_keeps run run.stand mid after ends stands.node_is in
       let long = ap length kept in (
         after,
-        (new, starts, history_then p me new _ _ mid after does ends),
+        (new, (Applied, starts), history_then p me new _ _ mid after does ends),
         stands,
         elim shows [ inl same ↦ inl (kept ∙ same) | inr few ↦ inr (run, refl, omega (arith, long, few)) ],
       )

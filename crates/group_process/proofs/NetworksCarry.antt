@@ -16,7 +16,8 @@ use Rattle.group_wire.specs.Doings.{DoesAll, DoesOnWire, Doing, FailsDeed, Worki
 use Rattle.group_wire.specs.Process.{IsProcess, started}
 use Rattle.group_wire.specs.Traffic.{letters_of}
 use Rattle.group_world.specs.declared.event.Outcome.TheVariants.{Kept}
-use Rattle.group_world.specs.Processes.{Entry, HearsOf, IsCarried, entries_of}
+use Rattle.group_world.specs.Processes.{Entry, IsCarried, entries_of}
+use Rattle.group_world.specs.Event.{HearsOf}
 use Rattle.group_process.specs.Network.{AreDelivered, AreLetters, IsNetworkLog, Received, entries_alone, given_for, received_at, received_by, received_in, received_in_run, with_given}
 use Rattle.group_process.specs.Runs.{AreRuns, Attempt, FailsToStart, GoesOn, IsAttempt, IsGroupLog, IsOver, NodeRun, Stand, Starts, end_after, run_end, ends_by, entries_of_attempt, entry_by, fall_of, record_left, silent_entry, unsaved}
 use Rattle.group_process.proofs.GivenWasSent.{ReadLaw, letter_sent, message_sent}

@@ -14,9 +14,12 @@ use Rattle.group_wire.specs.Doings.{DoesAll, Doing, FailsDeed, RespondsOnWire, W
 use Rattle.group_wire.specs.Doings as wire
 use Rattle.group_world.specs.declared.event.Outcome.TheVariants.{Kept}
 use Rattle.group_world.specs.Event.{plan_of}
-use Rattle.group_world.specs.Member.{CallEnds, Fell, Happened, Makes, Member, NodeCall, Running, at_progress, call_of_campaign, call_of_press, call_of_start, call_outcome, done_of, failing, member_after_call, member_after_fall, member_after_release, save_outcome}
+use Rattle.group_world.specs.Member as member
+use Rattle.group_world.specs.Member.{CallEnds, Happened, Makes, Member, NodeCall, Running, at_progress, call_of_campaign, call_of_press, call_of_start, call_outcome, failing, member_after_call, member_after_fall, member_after_release, save_outcome}
 use Rattle.group_node.specs.Deeds.{Campaign, Crash, Deed, Hear, Idle, Press, Release, Run, Start, Tick}
-use Rattle.group_world.specs.Processes.{DoesDeed, EndsCall, Entry, IsHistory}
+use Rattle.group_world.specs.declared.event.Done.TheVariants.{Applied, Fell}
+use Rattle.group_world.specs.Deeds.{DoesDeed, EndsCall, Left, quietly}
+use Rattle.group_world.specs.Processes.{Entry, IsHistory, left_by}
 use Rattle.group_process.specs.Runs.{AreHistory, AreRuns, Attempt, FailsToStart, GoesOn, IsAttempt, IsLastIfOn, IsOver, NodeRun, Stand, StandsWith, Starts, end_after, run_end, ends_by, entries_of_attempt, entries_of_run, entry_by, failed_as, fall_of, fallen_record, kept_after, node_after, node_by, node_left, record_after, record_by, record_left, record_of, node_at_work, silent_entry, unsaved}
 use Rattle.group_wire.specs.Process.{IsProcess, started}
 
@@ -32,22 +35,26 @@ none_fails : (c : Option Change) → failing c None ≡ None
 none_fails None = refl
 none_fails (Some c) = refl
 
+-- what an entry leaves at which nothing is sent or typed
+silent_left : (e : Entry) (new : Member) → (e.sent ≡ []) × (e.typed ≡ []) → left_by e Applied new ≡ quietly new
+silent_left e new (sends, types) = λ t. record { answer = Applied; member = new; sent = sends t; typed = types t }
+
 -- a call that happens
 call_ends : {me : Me} {m : Member} {progress : Progress} {call : NodeCall} (e : Entry) (made : Response) (keys : List Value)
-    → e.save ≡ Kept → call ≡ Makes made keys → CallEnds me m progress (Happened made keys) (done_of (Happened made keys))
-    (member_after_call made m.console progress) e.sent e.typed
-    → EndsCall me m progress call e (member_after_call made m.console progress)
+    → e.save ≡ Kept → call ≡ Makes made keys
+    → CallEnds me m progress (Happened made keys) Applied (member_after_call made m.console progress) e.sent e.typed
+    → EndsCall me m progress (plan_of e.save) call (left_by e Applied (member_after_call made m.console progress))
 call_ends {me} {m} {progress} {call} e made keys kept is ends =
     let o : call_outcome (plan_of e.save) m.kept call ≡ Happened made keys = rw (kept, is)
     (ap (save_outcome m.kept made keys) (none_fails made.saves)) in
-    subst (λ x. CallEnds me m progress x (done_of x) (member_after_call made m.console progress) e.sent e.typed) (sym o) ends
+    subst (λ x. CallEnds me m progress x Applied (member_after_call made m.console progress) e.sent e.typed) (sym o) ends
 
 -- a call whose save fails, which leaves this record
 call_falls_to : (me : Me) (m : Member) (progress : Progress) (call : NodeCall) (e : Entry) (kept : Record)
-    → call_outcome (plan_of e.save) m.kept call ≡ Fell kept → e.sent ≡ [] → e.typed ≡ []
-    → EndsCall me m progress call e (member_after_fall m kept)
+    → call_outcome (plan_of e.save) m.kept call ≡ member.Fell kept → e.sent ≡ [] → e.typed ≡ []
+    → EndsCall me m progress (plan_of e.save) call (left_by e Fell (member_after_fall m kept))
 call_falls_to me m progress call e kept falls sends types =
-    subst (λ x. CallEnds me m progress x (done_of x) (member_after_fall m kept) e.sent e.typed) (sym falls)
+    subst (λ x. CallEnds me m progress x Fell (member_after_fall m kept) e.sent e.typed) (sym falls)
     (record { answer = refl; left = refl; sends = sends; types = types })
 
 press_makes : (n : Known) (byte : ℕ) → length n.waiting ≢ 256 → next_serial n ≢ 4294967296
@@ -64,7 +71,7 @@ module _ (p : Parts) (me : Me) where
   -- a response
   responds : {w v : Working} {m : Member} (d : Doing) (call : NodeCall) (made : Response) (keys : List Value) → IsAt w m
       → call ≡ Makes made keys → RespondsOnWire me w made keys d v
-      → (new : Member) × EndsCall me m w.progress call (entry_by me.node Kept d) new × IsAt v new
+      → (new : Member) × EndsCall me m w.progress None call (left_by (entry_by me.node Kept d) Applied new) × IsAt v new
   responds {w} {v} {m} d call made keys at is (left, sends, types) = (
     member_after_call made m.console w.progress,
     call_ends (entry_by me.node Kept d) made keys refl is (record { answer = refl; left = refl; sends = sends; types = types }),
@@ -73,10 +80,10 @@ module _ (p : Parts) (me : Me) where
 
   -- one deed
   pub deed_is_entry : {w v : Working} {m : Member} (d : Doing) (deed : Deed) → IsAt w m → wire.DoesOnWire me w deed d v
-      → (new : Member) × DoesDeed p me m deed (entry_by me.node Kept d) new × IsAt v new
+      → (new : Member) × DoesDeed p me m None deed (left_by (entry_by me.node Kept d) Applied new) × IsAt v new
   deed_is_entry d (Start r) at none = absurd none
   deed_is_entry d Crash at none = absurd none
-  deed_is_entry {w} {v} {m} d Idle at (left, silent) = (m, (refl, silent), rw left at)
+  deed_is_entry {w} {v} {m} d Idle at (left, silent) = (m, silent_left (entry_by me.node Kept d) m silent, rw left at)
   deed_is_entry {w} d (Hear x) at (bytes, spelled, given, made) =
       let r = responds d _ (on_message w.known x.sender x.body) [] at refl made in (r.0, (node_at_work w, at.up, r.1), r.2)
   deed_is_entry {w} d (Press byte) at (low, room, serial, given, made) =
@@ -92,7 +99,7 @@ module _ (p : Parts) (me : Me) where
       node_at_work w,
       at.up,
       record { progress = v.progress; ran = ran; runs = runs; replay = replay; new_is = refl },
-      silent,
+      silent_left (entry_by me.node Kept d) (at_progress m (node_at_work w) v.progress) silent,
     ),
     record {
       up = ap (λ (n : Known). Some (record { known = n; progress = v.progress })) (sym same);
@@ -102,7 +109,12 @@ module _ (p : Parts) (me : Me) where
   )
   deed_is_entry {w} {v} {m} d Release at (byte, waits, left, given, silent) = (
     member_after_release m (node_at_work w) (Some byte),
-    (node_at_work w, at.up, ap (member_after_release m (node_at_work w)) (sym waits), silent),
+    (
+      node_at_work w,
+      at.up,
+      silent_left (entry_by me.node Kept d) (member_after_release m (node_at_work w) (Some byte)) silent
+          ∙ ap (λ o. quietly (member_after_release m (node_at_work w) o)) (sym waits),
+    ),
     rw left (record { up = refl; kept = at.kept }),
   )
 
@@ -113,7 +125,7 @@ module _ (p : Parts) (me : Me) where
   doings_are_entries w v m (d ∷ doings) at (mid, does, rest) =
       let (new, first, then) = deed_is_entry {w = w} {v = mid} {m = m} d d.deed at does in
       let (last, more, ends) = doings_are_entries mid v new doings then rest in
-      (last, (new, first, more), ends)
+      (last, (new, (Applied, first), more), ends)
 
   -- ---- the ends
 
@@ -125,7 +137,8 @@ module _ (p : Parts) (me : Me) where
 
   -- a start
   pub start_is_entry : (m : Member) (loaded : Record) → loaded.starts ≢ 4294967295 → m.node ≡ None → loaded ≡ m.kept
-      → (new : Member) × DoesDeed p me m (Start loaded) (silent_entry me.node (Start loaded)) new × IsAt (started p me loaded) new
+      → (new : Member) × DoesDeed p me m None (Start loaded) (left_by (silent_entry me.node (Start loaded)) Applied new)
+      × IsAt (started p me loaded) new
   start_is_entry m loaded spare down read = (
     member_after_call (on_start me loaded) m.console (no_progress p),
     (
@@ -143,14 +156,15 @@ module _ (p : Parts) (me : Me) where
   crash_ends w m at =
       let fallen = member_after_fall m m.kept in (
         fallen,
-        (fallen, (node_at_work w, at.up, refl, (refl, refl)), refl),
+        (fallen, (Applied, (node_at_work w, at.up, refl)), refl),
         record { record_is = at.kept; node_is = refl },
       )
 
   -- a call whose save fails
   call_falls : (w : Working) (m : Member) (call : NodeCall) (made : Response) (is_kept : Bool) (c : Change) (d : Doing) → IsAt w m
       → call ≡ Makes made [] → made.saves ≡ Some c → wire.SendsNothing d
-      → (new : Member) × EndsCall me m w.progress call (entry_by me.node (failed_as is_kept) d) new
+      → (new : Member)
+      × EndsCall me m w.progress (plan_of (failed_as is_kept)) call (left_by (entry_by me.node (failed_as is_kept) d) Fell new)
       × StandsWith new (fallen_record is_kept w.known made (Some c)) None
   call_falls w m call made true c d at is saves silent = (
     member_after_fall m made.node.kept,
@@ -174,9 +188,9 @@ module _ (p : Parts) (me : Me) where
   hear_falls w m d is_kept x None at is saves silent = crash_ends w m at
   hear_falls w m d is_kept x (Some c) at is saves silent =
       let r = call_falls w m _ (on_message w.known x.sender x.body) is_kept c d at refl saves silent in
-      let does : DoesDeed p me m d.deed (entry_by me.node (failed_as is_kept) d) r.0 =
-      subst (λ deed. DoesDeed p me m deed (entry_by me.node (failed_as is_kept) d) r.0) (sym is) (node_at_work w, at.up, r.1) in
-      (r.0, (r.0, does, refl), r.2)
+      let left : Left = left_by (entry_by me.node (failed_as is_kept) d) Fell r.0 in
+      let does = subst (λ deed. DoesDeed p me m (plan_of (failed_as is_kept)) deed left) (sym is) (node_at_work w, at.up, r.1) in
+      (r.0, (r.0, (Fell, does), refl), r.2)
 
   campaign_falls : (w : Working) (m : Member) (d : Doing) (is_kept : Bool) (c : Option Change) → IsAt w m
       → d.deed ≡ Campaign → (on_campaign w.known).saves ≡ c → last_round w.known < 4294967295 → front w.known ≢ 65536
@@ -184,9 +198,9 @@ module _ (p : Parts) (me : Me) where
   campaign_falls w m d is_kept None at is saves round place silent = crash_ends w m at
   campaign_falls w m d is_kept (Some c) at is saves round place silent =
       let r = call_falls w m _ (on_campaign w.known) is_kept c d at (campaign_makes w.known round place) saves silent in
-      let does : DoesDeed p me m d.deed (entry_by me.node (failed_as is_kept) d) r.0 =
-      subst (λ deed. DoesDeed p me m deed (entry_by me.node (failed_as is_kept) d) r.0) (sym is) (node_at_work w, at.up, r.1) in
-      (r.0, (r.0, does, refl), r.2)
+      let left : Left = left_by (entry_by me.node (failed_as is_kept) d) Fell r.0 in
+      let does = subst (λ deed. DoesDeed p me m (plan_of (failed_as is_kept)) deed left) (sym is) (node_at_work w, at.up, r.1) in
+      (r.0, (r.0, (Fell, does), refl), r.2)
 
   -- a deed whose save fails
   fail_ends : (w : Working) (m : Member) (d : Doing) (is_kept : Bool) (deed : Deed) → IsAt w m → d.deed ≡ deed → FailsDeed me w deed d
@@ -219,18 +233,22 @@ module _ (p : Parts) (me : Me) where
       let (new, starts, at) = start_is_entry m run.process.loaded h.spare down read in
       let (mid, does, still) = doings_are_entries (started p me run.process.loaded) run.last new run.process.doings at h.does in
       let (after, ends, stands) = stand_is_entry run mid run.stand still h.fails in
-      (after, (new, starts, history_then new _ _ mid after does ends), stands)
+      (after, (new, (Applied, starts), history_then new _ _ mid after does ends), stands)
 
   -- a start whose save fails
   start_falls : (m : Member) (loaded : Record) (is_kept : Bool) (kept : Record) → m.node ≡ None → loaded ≡ m.kept
-      → call_outcome (plan_of (failed_as is_kept)) m.kept (call_of_start me loaded) ≡ Fell kept
+      → call_outcome (plan_of (failed_as is_kept)) m.kept (call_of_start me loaded) ≡ member.Fell kept
       → kept ≡ record_left (FailsToStart loaded is_kept)
       → (after : Member) × IsHistory p me m (entries_of_attempt me (FailsToStart loaded is_kept)) after
       × StandsWith after (record_left (FailsToStart loaded is_kept)) None
   start_falls m loaded is_kept kept down read falls is =
       let e : Entry = record { node = me.node; deed = Start loaded; save = failed_as is_kept; sent = []; typed = [] } in (
         member_after_fall m kept,
-        (member_after_fall m kept, (down, read, call_falls_to me m (no_progress p) (call_of_start me loaded) e kept falls refl refl), refl),
+        (
+          member_after_fall m kept,
+          (Fell, (down, read, call_falls_to me m (no_progress p) (call_of_start me loaded) e kept falls refl refl)),
+          refl,
+        ),
         record { record_is = is; node_is = refl },
       )
 
@@ -239,10 +257,11 @@ module _ (p : Parts) (me : Me) where
       × StandsWith after (record_left (FailsToStart loaded is_kept)) None
   fall_is_history m loaded true down read spare =
       let made = on_start me loaded in
-      let o : call_outcome (Some true) m.kept (call_of_start me loaded) ≡ Fell made.node.kept = rw (start_makes me loaded spare) refl in
+      let o : call_outcome (Some true) m.kept (call_of_start me loaded) ≡ member.Fell made.node.kept =
+      rw (start_makes me loaded spare) refl in
       start_falls m loaded true made.node.kept down read o refl
   fall_is_history m loaded false down read spare =
-      let o : call_outcome (Some false) m.kept (call_of_start me loaded) ≡ Fell m.kept = rw (start_makes me loaded spare) refl in
+      let o : call_outcome (Some false) m.kept (call_of_start me loaded) ≡ member.Fell m.kept = rw (start_makes me loaded spare) refl in
       start_falls m loaded false m.kept down read o (sym read)
 
   pub attempt_is_history : (m : Member) (a : Attempt) (rest : List Attempt) → m.node ≡ None → IsAttempt p me m.kept a rest

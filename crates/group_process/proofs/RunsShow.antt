@@ -13,6 +13,7 @@ use Rattle.paxos_acceptor.specs.declared.me.Me.{Me}
 use Rattle.group_node.specs.Deeds.{Start}
 use Rattle.group_node.specs.States.{IsSize}
 use Rattle.group_wire.specs.Process.{started}
+use Rattle.group_world.specs.declared.event.Done.TheVariants.{Applied}
 use Rattle.group_world.specs.declared.event.Outcome.TheVariants.{Kept}
 use Rattle.group_world.specs.Group.{World, member_at, new_world, seat_of_member, up_of}
 use Rattle.group_world.specs.Headline.{ConsolesGrow}
@@ -48,7 +49,7 @@ module _ (p : Parts) (me : Me) where
         rest = ends_by me run run.stand ++ flat_map (entries_of_attempt me) runs;
         mid = does.0;
         whole = ap (λ l. start ∷ l) (sym (append_assoc deeds (ends_by me run run.stand) (flat_map (entries_of_attempt me) runs)));
-        history = (new, starts, does.1);
+        history = (new, (Applied, starts), does.1);
         is_at = does.2;
       }
 

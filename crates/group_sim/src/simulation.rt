@@ -248,7 +248,10 @@ impl Simulation<'_> {
         Ok(())
     }
 
-    /// Delivers all messages, and then runs each node that is up and releases all its output.
+    /// Delivers each message that no settle has passed, and each that these cause, in the order in
+    /// which they were sent, to those of its addressees that are up. Then lets each node that is up
+    /// run for at most 1,000 steps and release all its output, node 1 first. Halts with `TooLong`
+    /// before the 10,001st delivery. Where it halts, what was done before has happened.
     fn settle<W: Write>(&mut self, writer: &mut W, line: usize) -> Result<(), ScriptHalt>
         ensures size { self.new.size ≡ self.old.size }
         ensures settles { Settles line self.old.size

@@ -101,7 +101,6 @@ IsAfterFault kind n m =
     (on_message n.protocol.known m.sender m.body).node.kept
 
 -- A failed save comes only at the message at which hearing ended.
--- Allows: the fault of another message.
 abbrev pub FailsAtEnd : {S T : Type 0} → StoreKind S → Ending → NodeState S
     → Result T NodeFault → Type 0
 FailsAtEnd kind ending new result =

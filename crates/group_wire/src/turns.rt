@@ -184,10 +184,11 @@ impl<'a, S: Store> Host<'a, S> {
     /// were lost.
     ///
     /// Fails with `Stopped` exactly if a save had failed before, or with `Store` if one fails now.
-    /// The node hears each message of the group that a datagram spells, in order. A datagram is
-    /// dropped only if it has more than 1,400 bytes or spells no message of the group. If memory
-    /// runs out at a message, the message is lost and counted; at the tick, the node does not tick.
-    /// What a call sends goes out in that call, each datagram once for each node that it is for.
+    /// The node hears each message of the group that a datagram spells, in order, but for those
+    /// that are lost and counted, as memory ran out. A datagram is dropped only if it has more than
+    /// 1,400 bytes or spells no message of the group. Memory may run out at the tick too: then
+    /// there is none. What a call sends is handed to the wire in that call, each datagram once for
+    /// each node that it is for.
     ///
     /// At `Stopped` the node hears and loses nothing. At `Store` the save failed at the message of
     /// the last datagram that came; the node is what the messages before it left, and an honest

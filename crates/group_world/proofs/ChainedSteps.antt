@@ -1,11 +1,11 @@
 -- Steps of groups that are written down by hand, one after the other.
 use Rattle.std.proofs.lemmas.Bool.Decides.{nat_tests}
 use Rattle.std.proofs.lemmas.Bool.{and_parts, eq-eqb, ne_eqb}
-use Rattle.std.proofs.Common.{IsTrue, ◌==◌, false, true, ◌≡◌, ◌≢◌, ◌∙◌, ◌↔◌, ℕ, zero, suc, Bool, if◌then◌else◌, List, [], ◌∷◌, ◌++◌, slice_get, Some, None, Option, IfSome, inl, inr, ◌⊎◌, refl, sym, ap, subst, arith, append-nil}
+use Rattle.std.proofs.Common.{Contains, IsTrue, ◌==◌, false, true, ◌≡◌, ◌≢◌, ◌∙◌, ◌↔◌, ℕ, zero, suc, Bool, if◌then◌else◌, List, [], ◌∷◌, ◌++◌, slice_get, Some, None, Option, IfSome, inl, inr, ◌⊎◌, refl, sym, ap, subst, arith, append-nil}
 use Rattle.std.specs.FinMap.{insert, get}
 use Rattle.pcode_file.specs.Parts.{Parts}
 use Rattle.pcode_machine.specs.Configuration.{Configuration}
-use Rattle.pcode_machine.specs.Outcome.{Goes, outcome}
+use Rattle.pcode_machine.specs.Transition.{Goes, transition}
 use Rattle.pcode_machine.specs.Runs.{after_steps, begin}
 use Rattle.pcode_machine.specs.Step.{Step}
 use Rattle.paxos_msg.specs.declared.ballot.Ballot.{Ballot}
@@ -22,8 +22,12 @@ use Rattle.paxos_acceptor.specs.Answers.{after}
 use Rattle.paxos_learner.proofs.OnePlace.{each_put, get_put}
 use Rattle.paxos_learner.specs.Backed.{MayLearn}
 use Rattle.paxos_learner.specs.Input.{learned_input}
-use Rattle.group_node.specs.World as group
-use Rattle.group_node.specs.World.{ChangesOnly, Event, LearnsOnly, MakesCall, MakesSteps, Seat, Up, WorldState, WorldStep, after_release, fresh, with_seat}
+use Rattle.group_node.specs.Deeds as deed
+use Rattle.group_world.specs.declared.event.Act.{Act}
+use Rattle.group_world.specs.declared.event.Act.TheVariants as act
+use Rattle.group_world.specs.Event.{StepsBy}
+use Rattle.group_world.proofs.OrderLists.{in_from_place}
+use Rattle.group_node.specs.World.{ChangesOnly, Delivers, LearnsOnly, MakesCall, MakesSteps, Seat, Up, WorldState, WorldStep, after_release, fresh, with_seat}
 use Rattle.group_node.specs.WrongSteps.{ballot_by}
 use Rattle.group_node.proofs.Elements.{each_of, none_in}
 use Rattle.group_world.specs.RightGroups.{LeadsInSteps, first_batch, with_call, with_start}
@@ -80,13 +84,23 @@ learns_nothing w keys was = record {
   waiting = record { gone = []; parts = refl; below = λ i d below. absurd (omega arith) };
 }
 
-pub starts : (w : WorldState) (i : ℕ) → (w.seats i).up ≡ None → WorldStep w (group.Start i) (with_start w i)
+-- the delivery of the message with a number
+pub by_number : {w v : WorldState} (k i : ℕ) (m : Msg) → slice_get w.sent k ≡ Some m → (Contains w.sent m → Delivers w v m i)
+    → StepsBy w (act.Deliver k i) v
+by_number {w} k i m at step = (deed.Hear m, (m, at, refl), step (in_from_place w.sent k m at))
+
+pub starts : (w : WorldState) (i : ℕ) → (w.seats i).up ≡ None → StepsBy w (act.Start i) (with_start w i)
 starts w i down = (
-  down,
-  inl (record {
-    left = left_by w i (Some change.Start) [] (fresh w.program) [];
-    rest = record (rest_by w i (Some change.Start) [] (fresh w.program) []) { typed = refl };
-  }),
+  deed.Start (w.seats i).kept,
+  ((w.seats i).kept, refl),
+  (
+    down,
+    refl,
+    inl (record {
+      left = left_by w i (Some change.Start) [] (fresh w.program) [];
+      rest = record (rest_by w i (Some change.Start) [] (fresh w.program) []) { typed = refl };
+    }),
+  ),
 )
 
 -- ---- a change of a seat
@@ -107,13 +121,13 @@ module _ (w : WorldState) (i : ℕ) (seat : Seat) where
 -- ---- runs, releases and crashes
 
 pub record StepLaw : Type 0 where
-  pub step : (p : Parts) (x : List ℕ) (c d : Configuration) → Step p x c d ↔ (outcome p x c ≡ Goes d)
+  pub step : (p : Parts) (x : List ℕ) (c d : Configuration) → Step p x c d ↔ (transition p x c ≡ Goes d)
 
 makes_steps : StepLaw → (p : Parts) (x : List ℕ) (n : ℕ) → all_go p x n ≡ true → MakesSteps p x n (begin p) (after_steps p x n)
 unfolding all_go MakesSteps after_steps
 makes_steps law p x zero h = refl
 makes_steps law p x (suc n) h =
-    let parts = and_parts (all_go p x n) (is_step (outcome p x (after_steps p x n))) h in
+    let parts = and_parts (all_go p x n) (is_step (transition p x (after_steps p x n))) h in
     (after_steps p x n, makes_steps law p x n parts.0, (law.step p x _ _).1 (goes_by p x _ _ parts.1 refl))
 
 -- a machine that has come to a configuration
@@ -123,46 +137,59 @@ at_configuration w i was c = with_seat w i (record (w.seats i) { up = Some (reco
 -- a node that runs from its start
 pub runs : StepLaw → (w : WorldState) (i : ℕ) (was : Up) (p : Parts) (n : ℕ) → w.program ≡ p → (w.seats i).up ≡ Some was
     → was.configuration ≡ begin p → all_go p (learned_input was.learned) n ≡ true
-    → WorldStep w (group.Run i n) (at_configuration w i was (after_steps p (learned_input was.learned) n))
-runs law w i was p n is up begins go = record {
-  was = was;
-  configuration = after_steps p (learned_input was.learned) n;
-  made = n;
-  from = up;
-  few = omega arith;
-  moves =
-      subst (λ (q : Parts). MakesSteps q (learned_input was.learned) n was.configuration (after_steps p (learned_input was.learned) n))
-      (sym is)
-      (subst (λ (c : Configuration). MakesSteps p (learned_input was.learned) n c (after_steps p (learned_input was.learned) n))
-      (sym begins) (makes_steps law p (learned_input was.learned) n go));
-  left = seat_by w i (record (w.seats i) { up = Some (record was { configuration = after_steps p (learned_input was.learned) n }) });
-  rest = rest_seat w i (record (w.seats i) { up = Some (record was { configuration = after_steps p (learned_input was.learned) n }) });
-}
+    → StepsBy w (act.Run i n) (at_configuration w i was (after_steps p (learned_input was.learned) n))
+runs law w i was p n is up begins go = (
+  deed.Run n,
+  refl,
+  record {
+    was = was;
+    configuration = after_steps p (learned_input was.learned) n;
+    made = n;
+    from = up;
+    few = omega arith;
+    moves =
+        subst (λ (q : Parts). MakesSteps q (learned_input was.learned) n was.configuration (after_steps p (learned_input was.learned) n))
+        (sym is)
+        (subst (λ (c : Configuration). MakesSteps p (learned_input was.learned) n c (after_steps p (learned_input was.learned) n))
+        (sym begins) (makes_steps law p (learned_input was.learned) n go));
+    left = seat_by w i (record (w.seats i) { up = Some (record was { configuration = after_steps p (learned_input was.learned) n }) });
+    rest = rest_seat w i (record (w.seats i) { up = Some (record was { configuration = after_steps p (learned_input was.learned) n }) });
+  },
+)
 
-pub releases : (w : WorldState) (i : ℕ) (was : Up) (byte : ℕ) → (w.seats i).up ≡ Some was
+pub released : (w : WorldState) (i : ℕ) (was : Up) (byte : ℕ) → (w.seats i).up ≡ Some was
     → slice_get was.configuration.output was.released ≡ Some byte
-    → WorldStep w (group.Release i) (with_seat w i (after_release (w.seats i) was (Some byte)))
-releases w i was byte up next = record {
+    → WorldStep w i deed.Release (with_seat w i (after_release (w.seats i) was (Some byte)))
+released w i was byte up next = record {
   was = was;
   from = up;
   left = seat_by w i (after_release (w.seats i) was (Some byte)) ∙ ap (after_release (w.seats i) was) (sym next);
   rest = rest_seat w i (after_release (w.seats i) was (Some byte));
 }
 
+pub releases : (w : WorldState) (i : ℕ) (was : Up) (byte : ℕ) → (w.seats i).up ≡ Some was
+    → slice_get was.configuration.output was.released ≡ Some byte
+    → StepsBy w (act.Release i) (with_seat w i (after_release (w.seats i) was (Some byte)))
+releases w i was byte up next = (deed.Release, refl, released w i was byte up next)
+
 abbrev pub crashed : WorldState → ℕ → WorldState
 crashed w i = with_seat w i (record (w.seats i) { up = None })
 
-pub crashes : (w : WorldState) (i : ℕ) → WorldStep w (group.Crash i) (crashed w i)
-crashes w i = record {
-  left = seat_by w i (record (w.seats i) { up = None });
-  rest = rest_seat w i (record (w.seats i) { up = None });
-}
+pub crashes : (w : WorldState) (i : ℕ) → StepsBy w (act.Crash i) (crashed w i)
+crashes w i = (
+  deed.Crash,
+  refl,
+  record {
+    left = seat_by w i (record (w.seats i) { up = None });
+    rest = rest_seat w i (record (w.seats i) { up = None });
+  },
+)
 
 -- steps after steps
-pub leads_then : (w v u : WorldState) (events more : List Event) → LeadsInSteps w events v → LeadsInSteps v more u
-    → LeadsInSteps w (events ++ more) u
+pub leads_then : (w v u : WorldState) (acts more : List Act) → LeadsInSteps w acts v → LeadsInSteps v more u
+    → LeadsInSteps w (acts ++ more) u
 leads_then w v u [] more same later = subst (λ (x : WorldState). LeadsInSteps x more u) same later
-leads_then w v u (e ∷ events) more (mid, step, rest) later = (mid, step, leads_then mid v u events more rest later)
+leads_then w v u (a ∷ acts) more (mid, step, rest) later = (mid, step, leads_then mid v u acts more rest later)
 
 -- ---- lists and sets
 

@@ -1,11 +1,11 @@
 -- Events lead to a world in which two consoles show a byte, for the law `consoles_may_show`.
 use Rattle.group_world.proofs.HoldsAfterEvents.{happens_then}
-use Rattle.std.proofs.Common.{◌≡◌, ℕ, zero, suc, ◌&&◌, ◌-◌, ◌≤◌, Bool, true, false, List, [], ◌∷◌, ◌++◌, drop, length, slice_get, slice_set, Some, refl, ap, arith, length-append}
+use Rattle.std.proofs.Common.{◌≡◌, ℕ, zero, suc, ◌&&◌, ◌-◌, ◌≤◌, Bool, true, false, List, [], ◌∷◌, ◌++◌, drop, length, slice_get, slice_set, None, Some, refl, ap, arith, length-append}
 use Rattle.std.proofs.lemmas.Bool.{and_parts}
 use Rattle.pcode_file.specs.Parts.{Parts}
 use Rattle.pcode_ops.specs.Decoding.{instr_of}
 use Rattle.pcode_machine.specs.Configuration.{Configuration}
-use Rattle.pcode_machine.specs.Outcome.{Goes as Leads_to, Outcome, outcome}
+use Rattle.pcode_machine.specs.Transition.{Goes as Leads_to, Transition, transition}
 use Rattle.pcode_machine.specs.Runs.{IsPrefix, LeadsIn, after_steps, led, out}
 use Rattle.paxos_msg.specs.declared.message.Group.{Group}
 use Rattle.paxos_msg.specs.Records.{empty_record}
@@ -19,24 +19,26 @@ use Rattle.group_world.specs.declared.event.Done.TheVariants.{Applied}
 use Rattle.group_world.specs.declared.event.Event.{Event}
 use Rattle.group_world.specs.declared.event.Outcome.TheVariants.{Kept}
 use Rattle.group_world.specs.Event.{LeadsBy}
+use Rattle.group_world.proofs.CallLeaves.{ends_so, left_of, quiet_at}
+use Rattle.group_node.specs.Deeds as deed
 use Rattle.group_world.specs.Group.{member_at, new_world, World, world_state}
-use Rattle.group_world.specs.Member.{at_progress, Member, member_after_call, member_after_release, Running}
+use Rattle.group_world.specs.Member.{Happened, at_progress, call_of_start, Member, member_after_call, member_after_release, Running}
 use Rattle.group_world.proofs.WorldAsGroup.{changed_here, stopped}
 use Rattle.group_world.specs.Witness.{letter_program}
 
 -- ---- steps that exist
 
-unfoldable pub is_step : Outcome → Bool
+unfoldable pub is_step : Transition → Bool
 is_step (Leads_to d) = true
 is_step other = false
 
 -- n steps exist
 unfoldable pub all_go : Parts → List ℕ → ℕ → Bool
 all_go p x zero = true
-all_go p x (suc n) = all_go p x n && is_step (outcome p x (after_steps p x n))
+all_go p x (suc n) = all_go p x n && is_step (transition p x (after_steps p x n))
 
-pub goes_by : (p : Parts) (x : List ℕ) (c : Configuration) (o : Outcome) → is_step o ≡ true → outcome p x c ≡ o
-    → outcome p x c ≡ Leads_to (led c o)
+pub goes_by : (p : Parts) (x : List ℕ) (c : Configuration) (o : Transition) → is_step o ≡ true → transition p x c ≡ o
+    → transition p x c ≡ Leads_to (led c o)
 unfolding is_step
 goes_by p x c (Leads_to d) h e = e
 goes_by p x c other h e = absurd cc
@@ -45,7 +47,7 @@ leads_by : (p : Parts) (x : List ℕ) (n : ℕ) → all_go p x n ≡ true → Le
 unfolding all_go LeadsIn after_steps
 leads_by p x zero h = refl
 leads_by p x (suc n) h =
-    let both = and_parts (all_go p x n) (is_step (outcome p x (after_steps p x n))) h in
+    let both = and_parts (all_go p x n) (is_step (transition p x (after_steps p x n))) h in
     (after_steps p x n, leads_by p x n both.0, goes_by p x _ _ both.1 refl)
 
 -- ---- its runs
@@ -131,22 +133,54 @@ module _ (group : Group) (i : ℕ) where
       let twice = changed_here _ i up ran once in (
         world group (slice_set members (i - 1) up),
         Applied,
-        (first, record { there = there; down = refl }, (refl, refl)),
+        record {
+          deed = deed.Start empty_record;
+          is_deed = (empty_record, refl);
+          does = record {
+            node = first;
+            there = there;
+            left = left_of (record { node = i; group = group }) first (no_progress letter_program)
+                (Happened (on_start (record { node = i; group = group }) empty_record) []);
+            does = (
+              refl,
+              refl,
+              ends_so (record { node = i; group = group }) first (no_progress letter_program) None
+                  (call_of_start (record { node = i; group = group }) empty_record),
+            );
+            answers = refl;
+            leads = refl;
+          };
+        },
         (
           world group (slice_set (slice_set members (i - 1) up) (i - 1) ran),
           Applied,
+          record {
+            deed = deed.Run 10;
+            is_deed = refl;
+            does = quiet_at (world group (slice_set members (i - 1) up)) i up once None (deed.Run 10) _ (
+              running (no_progress letter_program),
+              refl,
+              record {
+                progress = ten;
+                ran = more.More;
+                runs = runs (writes_letter (input (running ten).known)) laws;
+                replay = replays (writes_letter _);
+                new_is = refl;
+              },
+              refl,
+            ) refl;
+          },
           (
-            up,
-            running _,
-            ten,
-            more.More,
-            record { there = once; up = refl },
-            runs (writes_letter (input (running ten).known)) laws,
-            replays (writes_letter _),
-            refl,
+            world group (after_it members),
+            Applied,
+            record {
+              deed = deed.Release;
+              is_deed = refl;
+              does = quiet_at (world group (slice_set (slice_set members (i - 1) up) (i - 1) ran)) i ran twice None deed.Release _
+                  (running ten, refl, refl) refl;
+            },
             refl,
           ),
-          (world group (after_it members), Applied, (ran, running ten, record { there = twice; up = refl }, refl, refl), refl),
         ),
       )
 

@@ -1,7 +1,7 @@
 -- A group after each event, by its node after it.
 use Rattle.std.proofs.lemmas.Option.{none-some, get_or_from_slice_get}
-use Rattle.std.proofs.lemmas.List.{set-get_or, append-nil}
-use Rattle.std.proofs.Common.{set, ◌≡◌, ◌∙◌, ℕ, zero, suc, ◌-◌, ◌<◌, nat_lt, All, Bool, true, false, if◌then◌else◌, List, [], ◌∷◌, ◌++◌, get_or, length, slice_get, slice_set, is_some, Option, None, Some, Result, Ok, Err, IfOk, OnErr, OnOk, refl, sym, ap, subst, arith}
+use Rattle.std.proofs.lemmas.List.{append-nil}
+use Rattle.std.proofs.Common.{◌≡◌, ◌∙◌, ℕ, zero, suc, ◌-◌, ◌<◌, nat_lt, All, Bool, true, false, if◌then◌else◌, List, [], ◌∷◌, ◌++◌, get_or, length, slice_get, slice_set, is_some, Option, None, Some, Result, Ok, Err, IfOk, OnErr, OnOk, refl, sym, ap, subst, arith}
 use Rattle.std.specs.List.{cons_option}
 use Rattle.std.proofs.lemmas.Bool.{ltb-true}
 use Rattle.std.proofs.lemmas.Result.{IfOk-weaker, on_err_weaker}
@@ -13,6 +13,8 @@ use Rattle.paxos_msg.specs.Batches.{Msg, Record}
 use Rattle.paxos_msg.specs.Fits.{Fits}
 use Rattle.paxos_msg.specs.Spelling.{Msgs}
 use Rattle.paxos_acceptor.specs.declared.me.Me.{Me}
+use Rattle.group_node.specs.Deeds as deed
+use Rattle.group_node.specs.Deeds.{Deed}
 use Rattle.group_node.specs.Output.{Progress}
 use Rattle.group_node.specs.Packets.{Datagram}
 use Rattle.group_world.specs.declared.event.Act.{Act}
@@ -22,24 +24,16 @@ use Rattle.group_world.specs.declared.event.Done.TheVariants.{Applied}
 use Rattle.group_world.specs.declared.fault.WorldFault.{WorldFault}
 use Rattle.group_world.specs.declared.fault.WorldFault.TheVariants.{NoMessage, NoNode, NodeDown}
 use Rattle.group_world.specs.declared.member.Ask.{Ask}
-use Rattle.group_world.specs.Event.{Leaves, LeavesAsked, Performs, node_of}
-use Rattle.group_world.specs.Group.{HasUp, group_after, me_of, member_at, message_of, messages_in, World}
-use Rattle.group_world.specs.Member.{NodeCall, call_of_ask, call_of_press, call_outcome, CallOutcome, CallEnds, Fell, Happened, Member, Refused, Running, RunsMember, member_after, member_after_release, sent_by, typed_by}
+use Rattle.group_world.specs.declared.member.Ask.TheVariants.{Campaign, Hear, Tick}
+use Rattle.group_world.specs.Deeds.{DoesDeed, EndsCall, Left, quietly}
+use Rattle.group_world.specs.Event.{DoesAt, node_of}
+use Rattle.group_world.specs.Group.{HasUp, me_of, member_at, message_of, messages_in, World}
+use Rattle.group_world.specs.Member.{NodeCall, call_of_ask, call_of_press, call_outcome, CallEnds, Member, Running, RunsMember, deed_of_ask, member_after_release}
 use Rattle.group_world.specs.Refusals.{refusal, refusal_at, refusal_of, unless_up}
 use Rattle.group_world.specs.Sound.{IsSound, IsSpelling}
+use Rattle.group_world.proofs.CallLeaves.{is_at, set_same}
 use Rattle.group_world.proofs.SoundWorldsAgree.{next_of}
 use Rattle.group_world.proofs.WorldAsGroup.{running}
-
--- a node of the list has a number, and lies at the index before it
-pub is_at : (members : List Member) (i : ℕ) (m : Member) → member_at members i ≡ Some m → (0 < i) × (slice_get members (i - 1) ≡ Some m)
-is_at members zero m e = absurd cc
-is_at members (suc k) m e =
-    let same : k ≡ suc k - 1 = omega arith in
-    (omega arith, subst (λ j. slice_get members j ≡ Some m) same e)
-
--- an element that is put where it was
-pub set_same : {X : Type 0} (xs : List X) (k : ℕ) (x : X) → slice_get xs k ≡ Some x → slice_set xs k x ≡ xs
-set_same xs k x e = ap (set xs k) (sym (get_or_from_slice_get xs k x x e)) ∙ set-get_or xs k x
 
 -- ---- a node of the code's group `w`, which contracts see as `was` and which a call lends out
 
@@ -74,21 +68,33 @@ module _ {w was : World} (is : w ≡ was) (i : ℕ) {place : ℕ} {lent : Member
     same_world : parts was (i - 1) m (was.sent ++ []) (was.typed ++ []) ≡ was
     same_world = rw (set_same was.members (i - 1) m (is_at was.members i m there).1, append-nil was.sent, append-nil was.typed) refl
 
-    pub leaves : {new : Member} {me : Me} {progress : Progress} {d : Done} {packets sent : List Datagram} {keys typed : List Value}
-        (plan : Option Bool) (call : Me → Record → NodeCall) → me ≡ me_of was i → sent ≡ w.sent ++ packets → typed ≡ w.typed ++ keys
+    -- what a call of the lent node leaves
+    pub call_so : {new : Member} {me : Me} {progress : Progress} {d : Done} {packets : List Datagram} {keys : List Value}
+        (plan : Option Bool) (call : Me → Record → NodeCall) → me ≡ me_of was i
         → CallEnds me lent progress (call_outcome plan lent.kept (call me lent.kept)) d new packets keys
-        → Leaves was i m progress plan (call (me_of was i) m.kept) d (parts w place new sent typed)
-    leaves {new} {me} {progress} {d} {packets} {keys = keys} plan call me_is sends types ends =
-        let o = call_outcome plan m.kept (call (me_of was i) m.kept) in
-        let ends_so = subst (λ x. CallEnds x m progress (call_outcome plan m.kept (call x m.kept)) d new packets keys) me_is
-        (subst (λ (x : Member). CallEnds me x progress (call_outcome plan x.kept (call me x.kept)) d new packets keys) lent_is ends) in
-        (ends_so.answer, left_so packets keys new sends types ∙ by o ends_so.left ends_so.sends ends_so.types)
-      where
-        by : (o : CallOutcome) → new ≡ member_after m progress o → packets ≡ sent_by (me_of was i) o → keys ≡ typed_by o
-            → parts was (i - 1) new (was.sent ++ packets) (was.typed ++ keys) ≡ group_after was i m progress o
-        by (Refused f) left sends types = rw (left, sends, types) same_world
-        by (Fell kept) left sends types = rw (left, sends, types, append-nil was.sent, append-nil was.typed) refl
-        by (Happened made typed) left sends types = rw (left, sends, types) refl
+        → CallEnds (me_of was i) m progress (call_outcome plan m.kept (call (me_of was i) m.kept)) d new packets keys
+    call_so {new} {me} {progress} {d} {packets} {keys} plan call me_is ends =
+        subst (λ x. CallEnds x m progress (call_outcome plan m.kept (call x m.kept)) d new packets keys) me_is
+        (subst (λ (x : Member). CallEnds me x progress (call_outcome plan x.kept (call me x.kept)) d new packets keys) lent_is ends)
+
+    -- a deed of the lent node
+    pub does_so : {sent : List Datagram} {typed : List Value} (plan : Option Bool) (deed : Deed) (d : Done) (new : Member)
+        (packets : List Datagram) (keys : List Value) → sent ≡ w.sent ++ packets → typed ≡ w.typed ++ keys
+        → DoesDeed was.program (me_of was i) m plan deed (record { answer = d; member = new; sent = packets; typed = keys })
+        → DoesAt was i plan deed d (parts w place new sent typed)
+    does_so plan deed d new packets keys sends types does = record {
+      node = m;
+      there = there;
+      left = record { answer = d; member = new; sent = packets; typed = keys };
+      does = does;
+      answers = refl;
+      leads = left_so packets keys new sends types;
+    }
+
+    -- one that sends and types nothing
+    pub quiet_so : (plan : Option Bool) (deed : Deed) (new : Member)
+        → DoesDeed was.program (me_of was i) m plan deed (quietly new) → DoesAt was i plan deed Applied (parts w place new w.sent w.typed)
+    quiet_so plan deed new does = does_so plan deed Applied new [] [] (none_more _) (none_more _) does
 
   -- ---- it is up
 
@@ -109,51 +115,60 @@ module _ {w was : World} (is : w ≡ was) (i : ℕ) {place : ℕ} {lent : Member
         → typed ≡ w.typed ++ keys
         → ((q : Running) → lent.node ≡ Some q
         → CallEnds q.known.me lent q.progress (call_outcome plan lent.kept (call_of_press q.known byte)) d new [] keys)
-        → Performs was plan (act.Press i byte) d (parts w place new w.sent typed)
-    presses_so {byte = byte} sound plan low types ends =
-        let (m, q, up) = has in (
-          m,
+        → DoesAt was i plan (deed.Press byte) d (parts w place new w.sent typed)
+    presses_so {new} {byte} {d} {keys} sound plan low types ends =
+        let (m, q, up) = has in
+        does_so up.there plan (deed.Press byte) d new [] keys (none_more _) types (
           q,
-          up,
+          up.up,
           low,
-          leaves up.there plan (λ _ _. call_of_press q.known byte) (running sound up).me_is (none_more _) types (ends q lent_up),
+          call_so up.there plan (λ _ _. call_of_press q.known byte) (running sound up).me_is (ends q lent_up),
         )
 
     -- a delivery, a campaign and a tick
+    asked_so : {q : Running} (plan : Option Bool) (ask : Ask) {left : Left} → has.0.node ≡ Some q
+        → EndsCall (me_of was i) has.0 q.progress plan (call_of_ask q.known ask) left
+        → DoesDeed was.program (me_of was i) has.0 plan (deed_of_ask ask) left
+    asked_so {q} plan (Hear message) up ends = (q, up, ends)
+    asked_so {q} plan Campaign up ends = (q, up, ends)
+    asked_so {q} plan Tick up ends = (q, up, ends)
+
     pub asks_so : {sent : List Datagram} (new : Member) (packets : List Datagram) → IsSound was → (plan : Option Bool) (ask : Ask)
         (r : Result Done WorldFault) → sent ≡ w.sent ++ packets
         → ((q : Running) → lent.node ≡ Some q → IfOk r (λ d.
         CallEnds q.known.me lent q.progress (call_outcome plan lent.kept (call_of_ask q.known ask)) d new packets []))
-        → IfOk r (λ d. LeavesAsked was i plan ask d (parts w place new sent w.typed))
+        → IfOk r (λ d. DoesAt was i plan (deed_of_ask ask) d (parts w place new sent w.typed))
     asks_so new packets sound plan ask r sends ends =
         let (m, q, up) = has in
         IfOk-weaker r _ _
-        (λ d ends. (
-          m,
-          q,
-          up,
-          leaves up.there plan (λ _ _. call_of_ask q.known ask) (running sound up).me_is sends (none_more _) ends,
-        )) (ends q lent_up)
+        (λ d ends.
+        does_so up.there plan (deed_of_ask ask) d new packets [] sends (none_more _)
+        (asked_so plan ask up.up (call_so up.there plan (λ _ _. call_of_ask q.known ask) (running sound up).me_is ends)))
+        (ends q lent_up)
 
     -- a run, a release and a crash
-    runs_by : {new : Member} {steps : ℕ} (plan : Option Bool) → RunsMember has.0 has.1 steps new
-        → Performs was plan (act.Run i steps) Applied (parts w place new w.sent w.typed)
-    runs_by plan k = (has.0, has.1, k.progress, k.ran, has.2, k.runs, k.replay, refl, rw (at, is, k.new_is) refl)
-
     pub runs_so : {new : Member} {steps : ℕ} (plan : Option Bool) → ((q : Running) → lent.node ≡ Some q → RunsMember lent q steps new)
-        → Performs was plan (act.Run i steps) Applied (parts w place new w.sent w.typed)
-    runs_so plan runs = runs_by plan (rw (lent_is has.2.there) at (runs has.1 lent_up))
+        → DoesAt was i plan (deed.Run steps) Applied (parts w place new w.sent w.typed)
+    runs_so {new} {steps} plan runs =
+        quiet_so has.2.there plan (deed.Run steps) new
+        (has.1, has.2.up, rw (lent_is has.2.there) at (runs has.1 lent_up), refl)
 
     pub releases_so : (new : Member) (r : Result Done WorldFault) (plan : Option Bool)
         → ((q : Running) → lent.node ≡ Some q → OnOk r (new ≡ member_after_release lent q (next_of q))) → IfOk r (λ d. d ≡ Applied)
-        → IfOk r (λ d. Performs was plan (act.Release i) d (parts w place new w.sent w.typed))
+        → IfOk r (λ d. DoesAt was i plan deed.Release d (parts w place new w.sent w.typed))
     releases_so new (Ok d) plan ok done =
-        let (m, q, up) = has in (m, q, up, done, rw (at, is, ok q lent_up, lent_is up.there) refl)
+        let (m, q, up) = has in
+        subst (λ (x : Done). DoesAt was i plan deed.Release x (parts w place new w.sent w.typed)) (sym done)
+        (quiet_so up.there plan deed.Release new
+        (q, up.up, ap quietly (ok q lent_up ∙ ap (λ (x : Member). member_after_release x q (next_of q)) (lent_is up.there))))
     releases_so new (Err e) plan ok done = tt
 
     pub crashes_so : {new : Member} (plan : Option Bool) → new ≡ record lent { node = None }
-        → Performs was plan (act.Crash i) Applied (parts w place new w.sent w.typed)
-    crashes_so plan new_is = let (m, q, up) = has in (m, q, up, refl, rw (at, is, new_is, lent_is up.there) refl)
+        → DoesAt was i plan deed.Crash Applied (parts w place new w.sent w.typed)
+    crashes_so {new} plan new_is =
+        let (m, q, up) = has in
+        quiet_so up.there plan deed.Crash new
+        (q, up.up, ap quietly (new_is ∙ ap (λ (x : Member). record x { node = None }) (lent_is up.there)))
 
 -- ---- a delivery
 

@@ -9,11 +9,13 @@ use Rattle.paxos_msg.specs.declared.message.Group.{Group}
 use Rattle.paxos_msg.specs.Fits.{IsGroup}
 use Rattle.group_node.specs.States.{IsSize}
 use Rattle.group_world.specs.declared.event.Act.{Act}
+use Rattle.group_world.specs.declared.event.Act.TheVariants as act
 use Rattle.group_world.specs.declared.event.Done.{Done}
 use Rattle.group_world.specs.declared.event.Event.{Event}
 use Rattle.group_world.specs.declared.fault.WorldFault.{WorldFault}
-use Rattle.group_world.specs.Event.{Goes, LeadsBy, Performs, IsStep}
-use Rattle.group_world.specs.Group.{new_world, World, world_state}
+use Rattle.group_world.specs.Event.{DoesAt, Goes, HearsOf, IsDeedOf, IsStep, IsStepAt, LeadsBy}
+use Rattle.group_world.specs.Group.{messages_in, new_world, World, world_state}
+use Rattle.group_world.proofs.OrderLists.{in_from_place}
 use Rattle.group_world.specs.Ordered.{Holds, IsOrdered}
 use Rattle.group_world.specs.Refusals.{IsFirstRefused, IsRefused}
 use Rattle.group_world.specs.Sound.{IsSound}
@@ -27,23 +29,39 @@ use Rattle.paxos_msg.specs.declared.record.Change.TheVariants as change
 use Rattle.paxos_msg.specs.Keys.{Key}
 use Rattle.paxos_msg.specs.Messages.{messages_of}
 use Rattle.group_node.specs.Console.{offered}
+use Rattle.group_node.specs.Deeds as deed
+use Rattle.group_node.specs.Deeds.{Deed}
+use Rattle.group_node.specs.Packets.{Datagram}
 use Rattle.group_node.specs.World.{CallOrFall, ChangesOnly, Falls, MakesCall, Seat, Up, WorldState, WorldStep, after_release}
-use Rattle.group_node.specs.World as group
 use Rattle.group_world.specs.declared.event.Done.TheVariants.{Applied, Fell, Refused}
 
 -- the laws of one event
 pub record EventLaws : Type 0 where
   pub sound_first : (p : Parts) (group : Group) → IsSize group.size → IsGroup group → IsSound (new_world p group)
-  pub sound : (w v : World) (plan : Option Bool) (act : Act) (d : Done) → IsSound w → Performs w plan act d v → IsSound v
+  pub sound : (w v : World) (i : ℕ) (plan : Option Bool) (deed : Deed) (d : Done) → IsSound w → HearsOf w.group w.sent deed
+      → DoesAt w i plan deed d v → IsSound v
   pub ordered_first : (p : Parts) (group : Group) → IsOrdered (new_world p group)
-  pub ordered : (w v : World) (plan : Option Bool) (act : Act) (d : Done) → IsSound w → IsSound v → IsOrdered w
-      → Performs w plan act d v → IsOrdered v
+  pub ordered : (w v : World) (i : ℕ) (plan : Option Bool) (deed : Deed) (d : Done) → IsSound w → IsSound v → IsOrdered w
+      → DoesAt w i plan deed d v → IsOrdered v
+
+-- the deed of an act hears what was sent
+pub heard_by : (group : Group) (sent : List Datagram) (act : Act) (deed : Deed) → IsDeedOf (messages_in group sent) act deed
+    → HearsOf group sent deed
+heard_by group sent (act.Press i byte) deed e = subst (HearsOf group sent) (sym e) tt
+heard_by group sent (act.Deliver k i) deed (m, at, e) =
+    subst (HearsOf group sent) (sym e) (in_from_place (messages_in group sent) k m at)
+heard_by group sent (act.Campaign i) deed e = subst (HearsOf group sent) (sym e) tt
+heard_by group sent (act.Tick i) deed e = subst (HearsOf group sent) (sym e) tt
+heard_by group sent (act.Run i steps) deed e = subst (HearsOf group sent) (sym e) tt
+heard_by group sent (act.Release i) deed e = subst (HearsOf group sent) (sym e) tt
+heard_by group sent (act.Crash i) deed e = subst (HearsOf group sent) (sym e) tt
+heard_by group sent (act.Start i) deed (r, e) = subst (HearsOf group sent) (sym e) tt
 
 -- an event keeps what holds
 pub one_holds : EventLaws → {w v : World} (e : Event) (d : Done) → Holds w → Goes w e d v → Holds v
 one_holds laws {w} {v} e d h goes =
-    let sound = laws.sound w v _ e.act d h.sound goes in
-    record { sound = sound; ordered = laws.ordered w v _ e.act d h.sound sound h.ordered goes }
+    let sound = laws.sound w v _ _ goes.deed d h.sound (heard_by w.group w.sent e.act goes.deed goes.is_deed) goes.does in
+    record { sound = sound; ordered = laws.ordered w v _ _ goes.deed d h.sound sound h.ordered goes.does }
 
 -- and so does one that happens, or else changes nothing
 pub event_holds : EventLaws → {w v : World} (e : Event) (answer : Result Done WorldFault) → Holds w
@@ -167,26 +185,27 @@ module _ (w v : WorldState) where
   release_begins seat was None = prefix_refl seat.console
   release_begins seat was (Some b) = offered_begins seat.console was.released b
 
-  -- each event of a group
-  step_grows : (e : group.Event) → WorldStep w e v → Grows w v
-  step_grows (group.Press i byte) h = call_grows i None _ h.call
-  step_grows (group.Deliver m i) h = call_or_fall_grows i h.saved h.call
-  step_grows (group.Campaign i) h = call_or_fall_grows i (Some (change.Promise (record { round = h.round; node = i }))) h.call
-  step_grows (group.Tick i) h = call_grows i None [] h
-  step_grows (group.Run i steps) h = grows_silent i [] [] h.rest (ap (λ (s : Seat). s.console) h.left)
-  step_grows (group.Release i) h =
+  -- each deed in a group
+  step_grows : (i : ℕ) (e : Deed) → WorldStep w i e v → Grows w v
+  step_grows i deed.Idle h = grows_none w v h
+  step_grows i (deed.Press byte) h = call_grows i None _ h.call
+  step_grows i (deed.Hear message) h = call_or_fall_grows i h.saved h.call
+  step_grows i deed.Campaign h = call_or_fall_grows i (Some (change.Promise (record { round = h.round; node = i }))) h.call
+  step_grows i deed.Tick h = call_grows i None [] h
+  step_grows i (deed.Run steps) h = grows_silent i [] [] h.rest (ap (λ (s : Seat). s.console) h.left)
+  step_grows i deed.Release h =
       grows_at i [] [] h.rest
       (subst (λ (s : Seat). IsPrefix (w.seats i).console s.console) (sym h.left)
       (release_begins (w.seats i) h.was _))
-  step_grows (group.Crash i) h = grows_silent i [] [] h.rest (ap (λ (s : Seat). s.console) h.left)
-  step_grows (group.Start i) (down, inl h) = grows_silent i [] [] h.rest (ap (λ (s : Seat). s.console) h.left)
-  step_grows (group.Start i) (down, inr h) = fall_grows i change.Start h
+  step_grows i deed.Crash h = grows_silent i [] [] h.rest (ap (λ (s : Seat). s.console) h.left)
+  step_grows i (deed.Start r) (down, over, inl h) = grows_silent i [] [] h.rest (ap (λ (s : Seat). s.console) h.left)
+  step_grows i (deed.Start r) (down, over, inr h) = fall_grows i change.Start h
 
-  -- each event of a world
-  event_grows : (act : Act) (d : Done) → IsStep w act d v → Grows w v
-  event_grows act Applied h = step_grows _ h
-  event_grows act Fell h = step_grows _ h
-  event_grows act (Refused f) h = grows_none w v h
+  -- and each one that a node answers
+  answered_grows : (i : ℕ) (e : Deed) (d : Done) → IsStepAt w i e d v → Grows w v
+  answered_grows i e Applied h = step_grows i e h
+  answered_grows i e Fell h = step_grows i e h
+  answered_grows i e (Refused f) h = grows_none w v h
 
 -- ---- worlds
 
@@ -201,15 +220,15 @@ pub record ChosenLaws : Type 0 where
 -- the laws of one event too
 pub record LaterWorldLaws : Type 0 where
   pub events : EventLaws
-  pub step : (w v : World) (plan : Option Bool) (act : Act) (d : Done) → IsSound w
-      → Performs w plan act d v → IsStep (world_state w) act d (world_state v)
+  pub step : (w v : World) (i : ℕ) (plan : Option Bool) (deed : Deed) (d : Done) → IsSound w → HearsOf w.group w.sent deed
+      → DoesAt w i plan deed d v → IsStepAt (world_state w) i deed d (world_state v)
   pub chosen : ChosenLaws
 
 -- a world grows by an event, whether that is refused or not
 pub answer_grows : (w v : World) (act : Act) (answer : Result Done WorldFault)
     → IfOk answer (λ d. IsStep (world_state w) act d (world_state v)) → OnErr answer (v ≡ w)
     → Grows (world_state w) (world_state v)
-answer_grows w v act (Ok d) step same = event_grows _ _ act d step
+answer_grows w v act (Ok d) (deed, of_act, step) same = answered_grows _ _ _ deed d step
 answer_grows w v act (Err e) step same = grows_none _ _ (ap world_state same)
 
 -- what is chosen at the first moment is chosen at the second, and so is the same
@@ -226,7 +245,8 @@ module _ (laws : LaterWorldLaws) where
       → Grows (world_state w) (world_state v)
   happens_grows w [] v h e = subst (λ u. Grows (world_state w) (world_state u)) (sym e) (grows_none _ _ refl)
   happens_grows w (e ∷ events) v h (mid, d, goes, rest) =
-      let first = event_grows _ _ e.act d (laws.step w mid _ e.act d h.sound goes) in
+      let heard = heard_by w.group w.sent e.act goes.deed goes.is_deed in
+      let first = answered_grows _ _ _ goes.deed d (laws.step w mid _ _ goes.deed d h.sound heard goes.does) in
       let held = one_holds laws.events e d h goes in
       grows_through _ _ _ first (happens_grows mid events v held rest)
 

@@ -7,7 +7,6 @@ use Rattle.std.specs.List.{cons_option}
 use Rattle.std.specs.Cmp.{nat_cmp_total}
 use Rattle.std.specs.Ordering.{nat_cmp}
 use Rattle.paxos_msg.specs.declared.message.Body.TheVariants.{Accept, Accepted, Ask, Prepare, Promise, Submit}
-use Rattle.paxos_msg.specs.declared.message.Group.{Group}
 use Rattle.paxos_msg.specs.declared.record.Change.TheVariants as change
 use Rattle.paxos_msg.specs.declared.value.Value.{Value}
 use Rattle.paxos_msg.specs.Batches.{Msg}
@@ -20,8 +19,6 @@ use Rattle.paxos_learner.specs.Input.{learned_input}
 use Rattle.paxos_learner.specs.Tallies.{Tally, begun_tally}
 use Rattle.paxos_learner.proofs.OnePlace.{get_here}
 use Rattle.group_node.specs.declared.player.Ran.TheVariants as more
-use Rattle.group_node.specs.Deeds as deed
-use Rattle.group_node.specs.Deeds.{Deed}
 use Rattle.group_node.specs.Known.{Known, Response}
 use Rattle.group_node.specs.Output.{IsReplay, Progress, RunsOn, no_progress, unreleased_of}
 use Rattle.group_node.specs.Packets.{Datagram, Packet, datagram_of, to_all, to_one}
@@ -30,21 +27,25 @@ use Rattle.group_node.specs.Pump.{pump}
 use Rattle.group_node.specs.States.{input}
 use Rattle.group_node.specs.Tick.{on_tick}
 use Rattle.group_world.specs.declared.event.Event.{Event}
-use Rattle.group_world.specs.Event.{LeadsBy}
+use Rattle.group_world.specs.declared.event.Done.TheVariants.{Applied}
+use Rattle.group_world.specs.Deeds.{quietly}
+use Rattle.group_world.specs.Event.{IsDeedOf, LeadsBy, node_of}
 use Rattle.group_world.specs.Group.{World, me_of, member_at, messages_in, message_of, new_world, up_of, world_state}
 use Rattle.group_world.specs.Headline.{HasLearned}
 use Rattle.group_world.specs.KeyLog.{ballot, key_after, key_events, key_log, typed_letter, letter_value, node_1, node_2, node_3, promised_record, voted_record}
 use Rattle.group_world.specs.Member.{Makes, Member, member_after_release}
-use Rattle.group_world.specs.Processes.{AreEventsOf, AreEventsOfDeed, DoesDeed, Entry, HearsOf, IsLog}
+use Rattle.group_world.specs.Processes.{AreEventsOf, DoesEntry, Entry, IsLog}
 use Rattle.group_world.specs.Witness.{echoes}
 use Rattle.group_world.specs.WrittenLogs.{node_in, started_times, three_nodes}
 use Rattle.group_world.proofs.ConsolesMayShow.{StepsLaw, replays, runs, waits}
-use Rattle.group_world.proofs.EventProcesses.{log_before, no_log, there_is}
+use Rattle.group_world.proofs.CallLeaves.{kept_call}
+use Rattle.group_world.proofs.EventProcesses.{log_before, no_log}
+use Rattle.group_world.proofs.HoldsAfterEvents.{heard_by}
 use Rattle.group_world.proofs.KeysMayShow.{line, ten, writes_letter}
 use Rattle.group_world.proofs.OrderPossible.{are_bytes}
 use Rattle.group_world.proofs.ProcessEvents.{events_lead, moved}
 use Rattle.group_world.proofs.WorldAsGroup.{ReadLaw, packet_read, stopped}
-use Rattle.group_world.proofs.WrittenLogs.{asking, campaign_does, fresh, hear_does, kept_call, press_does, promise_does, start_does, up}
+use Rattle.group_world.proofs.WrittenLogs.{asking, campaign_does, fresh, hear_does, press_does, promise_does, start_does, up}
 use Rattle.group_node.proofs.Elements.{each_of, entries_none}
 
 -- ---- the nodes
@@ -261,19 +262,16 @@ last = on offers ∷ voted ∷ shown ∷ []
 abbrev Rest : World → ℕ → Type 0
 Rest w k = IsLog w (drop k key_log) last × AreEventsOf w.group w.sent (drop k key_log) (drop k key_events)
 
--- what an entry hears was sent, if its event has the number of the message
-heard_of : (group : Group) (sent : List Datagram) (e : Entry) (deed : Deed) (events : List Event) → AreEventsOfDeed group sent e deed events
-    → HearsOf group sent deed
-heard_of group sent e (deed.Hear m) events (k, number, is) = there_is (messages_in group sent) k m number
-heard_of group sent e _ events is = tt
-
 -- an entry and its event, before others
 before : (w : World) (e : Entry) (log : List Entry) (x : Event) (events : List Event) (m new : Member) → member_at w.members e.node ≡ Some m
-    → DoesDeed w.program (me_of w e.node) m e.deed e new → AreEventsOfDeed w.group w.sent e e.deed (x ∷ [])
+    → DoesEntry w.program (me_of w e.node) m e new → IsDeedOf (messages_in w.group w.sent) x.act e.deed
+    → (node_of x.act ≡ e.node) × (x.save ≡ e.save)
     → IsLog (moved w e new) log last × AreEventsOf w.group (w.sent ++ e.sent) log events
     → IsLog w (e ∷ log) last × AreEventsOf w.group w.sent (e ∷ log) (x ∷ events)
-before w e log x events m new there does one (h, are) =
-    (log_before w e log last m new there does (heard_of w.group w.sent e e.deed (x ∷ []) one) h, (x ∷ [], events, one, are, refl))
+before w e log x events m new there does of_act (at, saved) (h, are) = (
+  log_before w e log last m new there does (heard_by w.group w.sent x.act e.deed of_act) h,
+  (x ∷ [], events, (of_act, at, saved, refl), are, refl),
+)
 
 module _ (steps : StepsLaw) (read : ReadLaw) where
   -- each datagram is read as its message
@@ -300,36 +298,40 @@ module _ (steps : StepsLaw) (read : ReadLaw) where
   r_16 : Rest (at (on offers) voted ran 8 keys) 16
   r_16 =
       before (at (on offers) voted ran 8 keys) _ _ _ _ ran shown refl
-      (_, refl, ap (member_after_release ran (record { known = knows; progress = ten })) (sym next_byte), (refl, refl)) refl r_17
+      (Applied, (_, refl, ap (λ o. quietly (member_after_release ran (record { known = knows; progress = ten }) o)) (sym next_byte)))
+      refl (refl, refl) r_17
 
   -- the machine runs
   r_15 : Rest (at (on offers) voted (on knows) 8 keys) 15
   r_15 =
       before (at (on offers) voted (on knows) 8 keys) _ _ _ _ (on knows) ran refl (
-        record { known = knows; progress = start },
-        refl,
-        record {
-          progress = ten;
-          ran = more.More;
-          runs = subst (λ x. RunsOn x 10 start ten more.More) (sym input_is) (runs writes_letter steps);
-          replay = subst (λ x. IsReplay x ten) (sym input_is) (replays writes_letter);
-          new_is = refl;
-        },
-        (refl, refl),
-      ) refl r_16
+        Applied,
+        (
+          record { known = knows; progress = start },
+          refl,
+          record {
+            progress = ten;
+            ran = more.More;
+            runs = subst (λ x. RunsOn x 10 start ten more.More) (sym input_is) (runs writes_letter steps);
+            replay = subst (λ x. IsReplay x ten) (sym input_is) (replays writes_letter);
+            new_is = refl;
+          },
+          refl,
+        ),
+      ) refl (refl, refl) r_16
 
   -- node 3 hears of both votes
   r_14 : Rest (at (on offers) voted (on counts) 8 keys) 14
   r_14 =
       before (at (on offers) voted (on counts) 8 keys) _ _ _ _ (on counts) (on knows) refl
       (hear_does echoes node_3 counts start [] 3 (Accepted ballot 0 letter_value) (made_quiet knows) second_vote)
-      (7, number 8 7 (record { sender = 3; body = Accepted ballot 0 letter_value }) refl, refl) r_15
+      (_, number 8 7 (record { sender = 3; body = Accepted ballot 0 letter_value }) refl, refl) (refl, refl) r_15
 
   r_13 : Rest (at (on offers) voted (on voter) 8 keys) 13
   r_13 =
       before (at (on offers) voted (on voter) 8 keys) _ _ _ _ (on voter) (on counts) refl
       (hear_does echoes node_3 voter start [] 2 (Accepted ballot 0 letter_value) (made_quiet counts) first_vote)
-      (6, number 8 6 (record { sender = 2; body = Accepted ballot 0 letter_value }) refl, refl) r_14
+      (_, number 8 6 (record { sender = 2; body = Accepted ballot 0 letter_value }) refl, refl) (refl, refl) r_14
 
   -- nodes 3 and 2 vote
   r_12 : Rest (at (on offers) voted (promising node_3) 7 keys) 12
@@ -337,74 +339,76 @@ module _ (steps : StepsLaw) (read : ReadLaw) where
       before (at (on offers) voted (promising node_3) 7 keys) _ _ _ _ (promising node_3) (on voter) refl
       (hear_does echoes node_3 (fresh node_3 promised_record) start [] 1 (Accept ballot 0 letter_value)
       (voting (fresh node_3 promised_record)) third_votes)
-      (5, number 7 5 (record { sender = 1; body = Accept ballot 0 letter_value }) refl, refl) r_13
+      (_, number 7 5 (record { sender = 1; body = Accept ballot 0 letter_value }) refl, refl) (refl, refl) r_13
 
   r_11 : Rest (at (on offers) (on holds) (promising node_3) 6 keys) 11
   r_11 =
       before (at (on offers) (on holds) (promising node_3) 6 keys) _ _ _ _ (on holds) voted refl
       (hear_does echoes node_2 holds start [] 1 (Accept ballot 0 letter_value) (voting holds) second_votes)
-      (5, number 6 5 (record { sender = 1; body = Accept ballot 0 letter_value }) refl, refl) r_12
+      (_, number 6 5 (record { sender = 1; body = Accept ballot 0 letter_value }) refl, refl) (refl, refl) r_12
 
   -- node 1 proposes the letter, which node 2 submits
   r_10 : Rest (at (on (leading whole)) (on holds) (promising node_3) 5 keys) 10
   r_10 =
       before (at (on (leading whole)) (on holds) (promising node_3) 5 keys) _ _ _ _ (on (leading whole)) (on offers) refl
       (hear_does echoes node_1 (leading whole) start [] 2 (Submit letter_value) offering submitted)
-      (3, number 5 3 (record { sender = 2; body = Submit letter_value }) refl, refl) r_11
+      (_, number 5 3 (record { sender = 2; body = Submit letter_value }) refl, refl) (refl, refl) r_11
 
   r_9 : Rest (at (on (leading whole)) (on holds) (promising node_3) 3 keys) 9
   r_9 =
       before (at (on (leading whole)) (on holds) (promising node_3) 3 keys) _ _ _ _ (on holds) (on holds) refl
-      (_, refl, kept_call node_2 (on holds) start deed.Tick _ submitting [] (ap (λ made. Makes made []) ticks)) refl r_10
+      (Applied, (_, refl, kept_call node_2 (on holds) start _ submitting [] (ap (λ made. Makes made []) ticks))) refl (refl, refl) r_10
 
   r_8 : Rest (at (on (leading whole)) (promising node_2) (promising node_3) 3 []) 8
   r_8 =
       before (at (on (leading whole)) (promising node_2) (promising node_3) 3 []) _ _ _ _ (promising node_2) (on holds) refl
-      (press_does echoes node_2 promised_record start [] 65 (omega arith)) refl r_9
+      (press_does echoes node_2 promised_record start [] 65 (omega arith)) refl (refl, refl) r_9
 
   -- node 1 hears of both promises
   r_7 : Rest (at (on (leading half)) (promising node_2) (promising node_3) 3 []) 7
   r_7 =
       before (at (on (leading half)) (promising node_2) (promising node_3) 3 []) _ _ _ _ (on (leading half)) (on (leading whole)) refl
       (hear_does echoes node_1 (leading half) start [] 3 (Promise ballot 0 65536 []) (made_quiet (leading whole)) second_promise)
-      (2, number 3 2 (record { sender = 3; body = Promise ballot 0 65536 [] }) refl, refl) r_8
+      (_, number 3 2 (record { sender = 3; body = Promise ballot 0 65536 [] }) refl, refl) (refl, refl) r_8
 
   r_6 : Rest (at (on (asking node_1 1)) (promising node_2) (promising node_3) 3 []) 6
   r_6 =
       before (at (on (asking node_1 1)) (promising node_2) (promising node_3) 3 []) _ _ _ _ (on (asking node_1 1)) (on (leading half)) refl
       (hear_does echoes node_1 (asking node_1 1) start [] 2 (Promise ballot 0 65536 []) (made_quiet (leading half)) first_promise)
-      (1, number 3 1 (record { sender = 2; body = Promise ballot 0 65536 [] }) refl, refl) r_7
+      (_, number 3 1 (record { sender = 2; body = Promise ballot 0 65536 [] }) refl, refl) (refl, refl) r_7
 
   -- nodes 3 and 2 promise
   r_5 : Rest (at (on (asking node_1 1)) (promising node_2) (fresh_of node_3) 2 []) 5
   r_5 =
       before (at (on (asking node_1 1)) (promising node_2) (fresh_of node_3) 2 []) _ _ _ _ (fresh_of node_3) (promising node_3) refl
       (promise_does echoes node_3 1 start [] 1)
-      (0, number 2 0 (record { sender = 1; body = Prepare ballot 0 }) refl, refl) r_6
+      (_, number 2 0 (record { sender = 1; body = Prepare ballot 0 }) refl, refl) (refl, refl) r_6
 
   r_4 : Rest (at (on (asking node_1 1)) (fresh_of node_2) (fresh_of node_3) 1 []) 4
   r_4 =
       before (at (on (asking node_1 1)) (fresh_of node_2) (fresh_of node_3) 1 []) _ _ _ _ (fresh_of node_2) (promising node_2) refl
       (promise_does echoes node_2 1 start [] 1)
-      (0, number 1 0 (record { sender = 1; body = Prepare ballot 0 }) refl, refl) r_5
+      (_, number 1 0 (record { sender = 1; body = Prepare ballot 0 }) refl, refl) (refl, refl) r_5
 
   -- node 1 campaigns
   r_3 : Rest (at (fresh_of node_1) (fresh_of node_2) (fresh_of node_3) 0 []) 3
   r_3 =
       before (at (fresh_of node_1) (fresh_of node_2) (fresh_of node_3) 0 []) _ _ _ _ (fresh_of node_1) (on (asking node_1 1)) refl
-      (campaign_does echoes node_1 1 start []) refl r_4
+      (campaign_does echoes node_1 1 start []) refl (refl, refl) r_4
 
   -- all start
   r_2 : Rest (at (fresh_of node_1) (fresh_of node_2) off 0 []) 2
   r_2 =
       before (at (fresh_of node_1) (fresh_of node_2) off 0 []) _ _ _ _ off (fresh_of node_3) refl
-      (start_does echoes node_3 0 refl) refl r_3
+      (start_does echoes node_3 0 refl) (_, refl) (refl, refl) r_3
 
   r_1 : Rest (at (fresh_of node_1) off off 0 []) 1
-  r_1 = before (at (fresh_of node_1) off off 0 []) _ _ _ _ off (fresh_of node_2) refl (start_does echoes node_2 0 refl) refl r_2
+  r_1 = before (at (fresh_of node_1) off off 0 []) _ _ _ _ off (fresh_of node_2) refl
+      (start_does echoes node_2 0 refl) (_, refl) (refl, refl) r_2
 
   r_0 : IsLog (new_world echoes three_nodes) key_log last × AreEventsOf three_nodes [] key_log key_events
-  r_0 = before (new_world echoes three_nodes) _ _ _ _ off (fresh_of node_1) refl (start_does echoes node_1 0 refl) refl r_1
+  r_0 = before (new_world echoes three_nodes) _ _ _ _ off (fresh_of node_1) refl
+      (start_does echoes node_1 0 refl) (_, refl) (refl, refl) r_1
 
   is_learned : HasLearned (world_state (key_after last)) 3 0 letter_value
   is_learned = record {

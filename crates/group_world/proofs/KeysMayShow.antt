@@ -3,7 +3,7 @@
 use Rattle.group_world.specs.declared.event.Act.{Act}
 use Rattle.std.proofs.lemmas.List.Elements.{All-from_recursion, All-take}
 use Rattle.group_node.specs.Ranges.{AllFit}
-use Rattle.std.proofs.Common.{take, ◌≡◌, ◌∙◌, ℕ, false, List, [], ◌∷◌, ◌++◌, drop, slice_get, Option, None, Some, refl, sym, ap, subst, arith, replicate, slice_set}
+use Rattle.std.proofs.Common.{take, ◌≡◌, ◌∙◌, ℕ, Bool, false, List, [], ◌∷◌, ◌++◌, drop, slice_get, Option, None, Some, refl, sym, ap, subst, arith, replicate, slice_set}
 use Rattle.std.proofs.lemmas.List.{map-append}
 use Rattle.pcode_ops.specs.Decoding.{instr_of}
 use Rattle.pcode_machine.specs.Runs.{after_steps, out}
@@ -24,12 +24,15 @@ use Rattle.group_node.specs.States.{input}
 use Rattle.group_node.specs.Steps.{messages_handed_out}
 use Rattle.group_world.specs.declared.event.Act.TheVariants as act
 use Rattle.group_world.specs.declared.event.Done.TheVariants.{Applied, Fell}
-use Rattle.group_world.specs.Event.{LeadsBy, Leaves, LeavesBy, Performs}
-use Rattle.group_world.specs.Group.{IsUp, new_world, up_of, with_member, World, world_state}
-use Rattle.group_world.specs.Member.{NodeCall, Makes, Member, member_after_release, Running, save_outcome, call_of_campaign, call_of_press}
+use Rattle.group_world.specs.Event.{DoesAt, LeadsBy, Performs, world_after}
+use Rattle.group_world.specs.Deeds.{DoesDeed, EndsCall, Left}
+use Rattle.group_world.proofs.CallLeaves.{ends_so, kept_call, left_of, quiet_at}
+use Rattle.group_node.specs.Deeds as deed
+use Rattle.group_node.specs.Deeds.{Deed}
+use Rattle.group_world.specs.Group.{new_world, up_of, with_member, World, world_state}
+use Rattle.group_world.specs.Member.{Happened, NodeCall, Makes, Member, member_after_release, Running, call_outcome, call_of_campaign, call_of_press, call_of_start}
 use Rattle.group_world.specs.Headline.{HasLearned}
 use Rattle.group_world.specs.Witness.{echoes, letter_batch, one, shown_events}
-use Rattle.group_world.proofs.WrittenLogs.{not_failing}
 use Rattle.group_world.proofs.ConsolesMayShow.{StepsLaw, WritesLetter, all_go, is_step, replays, runs, ten_of, waits}
 use Rattle.group_world.proofs.WorldAsGroup.{ReadLaw, stopped}
 use Rattle.group_world.proofs.OrderPossible.{FitsHere, fit_read, own_keys, ballot, message, are_bytes, ballot_fits, me, node_fits}
@@ -187,19 +190,23 @@ module _ (n : Known) (made : Response) (packets : List Packet) (typed keys : Lis
   abbrev next : World
   next = world (member made.node start []) (packets ++ made.sends) (typed ++ keys)
 
-  leaves : (call : NodeCall) → call ≡ Makes made keys
-      → Leaves before 1 (member n start []) start None call Applied next
-  leaves call e =
-      let sent = map-append _ packets made.sends in
-      subst (λ c. Leaves before 1 (member n start []) start None c Applied next) (sym e)
-      (subst (λ o.
-      LeavesBy before 1 (member n start []) start (save_outcome (member n start []).kept made keys o) Applied next)
-      (sym (not_failing made.saves))
-      (refl, ap (λ all. record next { sent = all }) sent))
+  -- what it leaves
+  abbrev left : Left
+  left = left_of me (member n start []) start (Happened made keys)
 
-up_here : (n : Known) (progress : Progress) (packets : List Packet) (typed : List Value)
-    → IsUp (world (member n progress []) packets typed) 1 (member n progress []) (running n progress)
-up_here n progress packets typed = record { there = refl; up = refl }
+  leaves : (call : NodeCall) → call ≡ Makes made keys → EndsCall me (member n start []) start None call left
+  leaves call e = kept_call me (member n start []) start call made keys e
+
+  -- a deed that is that call leads there
+  goes : (deed : Deed) → DoesDeed echoes me (member n start []) None deed left → DoesAt before 1 None deed Applied next
+  goes deed does = record {
+    node = member n start [];
+    there = refl;
+    left = left;
+    does = does;
+    answers = refl;
+    leads = ap (λ all. record next { sent = all }) (map-append _ packets made.sends);
+  }
 
 -- ---- what it sends is read again
 
@@ -280,6 +287,13 @@ all_fit = All-from_recursion FitsHere all (
   ),
 )
 
+-- responses that save nothing, and one that saves a promise
+abbrev unsaved : Known → List Packet → Response
+unsaved n packets = record { node = n; saves = None; sends = packets }
+
+abbrev begun : Response
+begun = record { node = asking; saves = Some (change.Promise ballot); sends = prepare ∷ [] }
+
 module _ (steps : StepsLaw) (read : ReadLaw) where
   -- an event whose save, if it makes one, is kept
   abbrev Step : World → Act → World → Type 0
@@ -291,41 +305,48 @@ module _ (steps : StepsLaw) (read : ReadLaw) where
   delivers : (n : Known) (made : Response) (sent : ℕ) (typed : List Value) (k : ℕ)
       (body : Body) → slice_get (messages_handed_out 1 (part sent)) k ≡ Some (message body) → on_message n 1 body ≡ made
       → Performs (at n sent typed) None (act.Deliver k 1) Applied (next n made (part sent) typed [])
-  delivers n made sent typed k body there e = (
-    member n start [],
-    running n start,
-    message body,
-    up_here n start (part sent) typed,
-    ap (λ sent. slice_get sent k) (fit_read read (part sent) (All-take FitsHere sent all all_fit)).1 ∙ there,
-    leaves n made (part sent) typed [] (Makes _ []) (ap (λ x. Makes x []) e),
-  )
+  delivers n made sent typed k body there e = record {
+    deed = deed.Hear (message body);
+    is_deed = (
+      message body,
+      ap (λ sent. slice_get sent k) (fit_read read (part sent) (All-take FitsHere sent all all_fit)).1 ∙ there,
+      refl,
+    );
+    does = goes n made (part sent) typed [] (deed.Hear (message body))
+        (running n start, refl, leaves n made (part sent) typed [] _ (ap (λ x. Makes x []) e));
+  }
 
   -- the byte is released
   e14 : Step (world (member knowing ten []) all keys) (act.Release 1) last
-  e14 = (
-    member knowing ten [],
-    running knowing ten,
-    up_here knowing ten all keys,
-    refl,
-    ap (λ o.
+  e14 = record {
+    deed = deed.Release;
+    is_deed = refl;
+    does = quiet_at (world (member knowing ten []) all keys) 1 (member knowing ten []) refl None deed.Release _
+        (running knowing ten, refl, refl)
+        (ap (λ o.
         with_member (world (member knowing ten []) all keys) 1
-        (member_after_release (member knowing ten []) (running knowing ten) o)) (sym next_byte),
-  )
+        (member_after_release (member knowing ten []) (running knowing ten) o)) (sym next_byte));
+  }
 
   -- the machine runs
   e13 : Step (at knowing 6 keys) (act.Run 1 10)
       (world (member knowing ten []) all keys)
-  e13 = (
-    member knowing start [],
-    running knowing start,
-    ten,
-    more.More,
-    up_here knowing start all keys,
-    subst (λ x. RunsOn x 10 start ten more.More) (sym input_is) (runs writes_letter steps),
-    subst (λ x. IsReplay x ten) (sym input_is) (replays writes_letter),
-    refl,
-    refl,
-  )
+  e13 = record {
+    deed = deed.Run 10;
+    is_deed = refl;
+    does = quiet_at (at knowing 6 keys) 1 (member knowing start []) refl None (deed.Run 10) _ (
+      running knowing start,
+      refl,
+      record {
+        progress = ten;
+        ran = more.More;
+        runs = subst (λ x. RunsOn x 10 start ten more.More) (sym input_is) (runs writes_letter steps);
+        replay = subst (λ x. IsReplay x ten) (sym input_is) (replays writes_letter);
+        new_is = refl;
+      },
+      refl,
+    ) refl;
+  }
 
   -- the key is learned, voted for, proposed and submitted
   e12 : Step (at voting 6 keys) (act.Deliver 5 1) (at knowing 6 keys)
@@ -338,22 +359,21 @@ module _ (steps : StepsLaw) (read : ReadLaw) where
   e10 = delivers holding _ 4 keys 2 _ refl hears_submit
 
   e9 : Step (at holding 2 keys) (act.Tick 1) (at holding 4 keys)
-  e9 = (
-    member holding start [],
-    running holding start,
-    up_here holding start (part 2) keys,
-    leaves holding _ (part 2) keys [] (Makes _ []) (ap (λ x. Makes x []) ticks),
-  )
+  e9 = record {
+    deed = deed.Tick;
+    is_deed = refl;
+    does = goes holding (unsaved holding (submit ∷ ask ∷ [])) (part 2) keys [] deed.Tick
+        (running holding start, refl, leaves holding (unsaved holding (submit ∷ ask ∷ [])) (part 2) keys [] _ (ap (λ x. Makes x []) ticks));
+  }
 
   -- the key is typed
   e8 : Step (at leading 2 []) (act.Press 1 65) (at holding 2 keys)
-  e8 = (
-    member leading start [],
-    running leading start,
-    up_here leading start (part 2) [],
-    omega arith,
-    leaves leading _ (part 2) [] keys _ presses,
-  )
+  e8 = record {
+    deed = deed.Press 65;
+    is_deed = refl;
+    does = goes leading (unsaved holding []) (part 2) [] keys (deed.Press 65)
+        (running leading start, refl, omega arith, leaves leading (unsaved holding []) (part 2) [] keys _ presses);
+  }
 
   -- the node leads
   e7 : Step (at asking 2 []) (act.Deliver 1 1) (at leading 2 [])
@@ -363,20 +383,43 @@ module _ (steps : StepsLaw) (read : ReadLaw) where
   e6 = delivers asking _ 1 [] 0 _ refl hears_prepare
 
   e5 : Step (at up 0 []) (act.Campaign 1) (at asking 1 [])
-  e5 = (member up start [], running up start, up_here up start [] [], leaves up _ [] [] [] _ campaigns)
+  e5 = record {
+    deed = deed.Campaign;
+    is_deed = refl;
+    does = goes up begun [] [] [] deed.Campaign (running up start, refl, leaves up begun [] [] [] _ campaigns);
+  }
 
   -- the node starts, after a failed save and a crash
+  abbrev start_left : Record → Option Bool → Left
+  start_left r plan = left_of me (stopped r) (no_progress echoes) (call_outcome plan r (call_of_start me r))
+
+  starts : (r : Record) (plan : Option Bool)
+      → DoesAt (world (stopped r) [] []) 1 plan (deed.Start r) (start_left r plan).answer
+      (world_after (world (stopped r) [] []) 1 (start_left r plan))
+  starts r plan = record {
+    node = stopped r;
+    there = refl;
+    left = start_left r plan;
+    does = (refl, refl, ends_so me (stopped r) (no_progress echoes) plan (call_of_start me r));
+    answers = refl;
+    leads = refl;
+  }
+
   e4 : Step (world (stopped once) [] []) (act.Start 1) (at up 0 [])
-  e4 = (stopped once, record { there = refl; down = refl }, (refl, refl))
+  e4 = record { deed = deed.Start once; is_deed = (once, refl); does = starts once None }
 
   e3 : Step (at first_up 0 []) (act.Crash 1) (world (stopped once) [] [])
-  e3 = (member first_up start [], running first_up start, up_here first_up start [] [], refl, refl)
+  e3 = record {
+    deed = deed.Crash;
+    is_deed = refl;
+    does = quiet_at (at first_up 0 []) 1 (member first_up start []) refl None deed.Crash _ (running first_up start, refl, refl) refl;
+  }
 
   e2 : Step (new_world echoes one) (act.Start 1) (at first_up 0 [])
-  e2 = (stopped empty_record, record { there = refl; down = refl }, (refl, refl))
+  e2 = record { deed = deed.Start empty_record; is_deed = (empty_record, refl); does = starts empty_record None }
 
   e1 : Performs (new_world echoes one) (Some false) (act.Start 1) Fell (new_world echoes one)
-  e1 = (stopped empty_record, record { there = refl; down = refl }, (refl, refl))
+  e1 = record { deed = deed.Start empty_record; is_deed = (empty_record, refl); does = starts empty_record (Some false) }
 
   pub happens : LeadsBy (new_world echoes one) shown_events last
   happens =

@@ -1,3 +1,4 @@
+mod CallLeaves
 mod WorldAsGroup
 mod CallCases
 mod SoundWorldsAgree

@@ -1,10 +1,10 @@
 -- A log leaves one list of nodes: each entry leaves one node of the node before it.
 use Rattle.std.proofs.lemmas.Option.{same_Some}
-use Rattle.std.proofs.Common.{◌≡◌, ◌∙◌, ℕ, zero, suc, ◌<◌, ◌≤◌, List, [], ◌∷◌, length, inl, inr, sym, ap, subst, arith}
+use Rattle.std.proofs.Common.{◌≡◌, ◌∙◌, Bool, Option, ℕ, zero, suc, ◌<◌, ◌≤◌, List, [], ◌∷◌, length, inl, inr, sym, ap, subst, arith}
 use Rattle.std.proofs.lemmas.Bool.{cases_eq, cases_order}
 use Rattle.pcode_file.specs.Parts.{Parts}
 use Rattle.pcode_machine.specs.Configuration.{Configuration}
-use Rattle.pcode_machine.specs.Outcome.{Goes, outcome}
+use Rattle.pcode_machine.specs.Transition.{Goes, transition}
 use Rattle.pcode_machine.specs.Runs.{LeadsIn, after_steps}
 use Rattle.paxos_acceptor.specs.declared.me.Me.{Me}
 use Rattle.group_node.specs.declared.limits.TheConstants.{RING_BYTES}
@@ -15,7 +15,9 @@ use Rattle.group_node.specs.Output.{IsOver, IsReplay, Progress, RunsOn, most_of,
 use Rattle.group_node.specs.States.{input}
 use Rattle.group_world.specs.Group.{World, me_of}
 use Rattle.group_world.specs.Member.{Member, Running, RunsMember, at_progress}
-use Rattle.group_world.specs.Processes.{DoesDeed, Entry, IsHistory, IsLog, entries_of}
+use Rattle.group_world.specs.Deeds.{DoesDeed, Left}
+use Rattle.group_world.specs.Event.{plan_of}
+use Rattle.group_world.specs.Processes.{Entry, IsHistory, IsLog, entries_of, left_by}
 use Rattle.group_world.proofs.ProcessEvents.{member_there, same_items}
 
 -- steps that exist lead to what is after them
@@ -24,11 +26,11 @@ After = (p : Parts) (x : List ℕ) (n : ℕ) (c : Configuration) → LeadsIn p x
 
 -- before the last of some steps there is a next one
 steps_on : After → (p : Parts) (x : List ℕ) (n k : ℕ) (c : Configuration) → LeadsIn p x k c → n < k
-    → (d : Configuration) × (outcome p x (after_steps p x n) ≡ Goes d)
+    → (d : Configuration) × (transition p x (after_steps p x n) ≡ Goes d)
 unfolding LeadsIn
 steps_on after p x n zero c h less = absurd (omega (arith, less))
 steps_on after p x n (suc k) c h less = elim (cases_eq n k) [
-  | inl same ↦ (c, ap (λ (j : ℕ). outcome p x (after_steps p x j)) same ∙ ap (outcome p x) (after p x k h.0 h.1) ∙ h.2)
+  | inl same ↦ (c, ap (λ (j : ℕ). transition p x (after_steps p x j)) same ∙ ap (transition p x) (after p x k h.0 h.1) ∙ h.2)
   | inr ne ↦ steps_on after p x n k h.0 h.1 (omega (arith, less, ne))
 ]
 
@@ -41,7 +43,8 @@ within_most x most q (ran.Ended e) h = omega (arith, h.0.0)
 
 -- a run that is over makes no more steps
 none_after : (x : List ℕ) (most : ℕ) (a : Progress) (answer : Ran) (s : ℕ) → IsOver x most a answer → a.steps < s → s ≤ most
-    → length (unreleased_of x a) < RING_BYTES → (d : Configuration) × (outcome a.program x (after_steps a.program x a.steps) ≡ Goes d) → ⊥
+    → length (unreleased_of x a) < RING_BYTES
+    → (d : Configuration) × (transition a.program x (after_steps a.program x a.steps) ≡ Goes d) → ⊥
 none_after x most a ran.More s h less few room (d, goes) = omega (arith, h, less, few)
 none_after x most a ran.Full s h less few room (d, goes) = omega (arith, h.1, room)
 none_after x most a ran.Waits s h less few room (d, goes) = absurd cc
@@ -55,7 +58,7 @@ module _ (after : After) where
       let program : b.program ≡ a.program =
       ap (λ (q : Progress). q.program) second.rest ∙ sym (ap (λ (q : Progress). q.program) first.rest) in
       let more = steps_on after b.program x a.steps b.steps _ replay.made less in
-      let more_so = subst (λ (p : Parts). (d : Configuration) × (outcome p x (after_steps p x a.steps) ≡ Goes d)) program more in
+      let more_so = subst (λ (p : Parts). (d : Configuration) × (transition p x (after_steps p x a.steps) ≡ Goes d)) program more in
       let room = second.room a.steps first.more less in
       let room_so = subst (λ (q : Progress). length (unreleased_of x q) < RING_BYTES) (sym first.rest) room in
       none_after x (most_of old.steps steps) a ra b.steps first.over less (within_most x _ b rb second.over) room_so more_so
@@ -73,40 +76,40 @@ module _ (after : After) where
       ] in
       second.rest ∙ ap (λ (n : ℕ). record old { steps = n }) same ∙ sym first.rest
 
-  -- an entry leaves one node
-  deed_alike : (p : Parts) (me : Me) (m : Member) (deed : Deed) (e : Entry) (a b : Member) → DoesDeed p me m deed e a
-      → DoesDeed p me m deed e b → b ≡ a
-  deed_alike p me m Idle e a b first second = second.0 ∙ sym first.0
-  deed_alike p me m (Start r) e a b (down, read, ends) (_, _, others) = others.left ∙ sym ends.left
-  deed_alike p me m (Hear x) e a b (q, up, ends) (r, other, others) =
+  -- a deed leaves one node
+  deed_alike : (p : Parts) (me : Me) (m : Member) (plan : Option Bool) (deed : Deed) (a b : Left) → DoesDeed p me m plan deed a
+      → DoesDeed p me m plan deed b → b.member ≡ a.member
+  deed_alike p me m plan Idle a b first second = ap (λ (x : Left). x.member) (second ∙ sym first)
+  deed_alike p me m plan (Start r) a b (down, read, ends) (_, _, others) = others.left ∙ sym ends.left
+  deed_alike p me m plan (Hear x) a b (q, up, ends) (r, other, others) =
       let same : r ≡ q = same_Some r q (sym other ∙ up) in
       (rw same at others).left ∙ sym ends.left
-  deed_alike p me m (Press byte) e a b (q, up, low, ends) (r, other, _, others) =
+  deed_alike p me m plan (Press byte) a b (q, up, low, ends) (r, other, _, others) =
       let same : r ≡ q = same_Some r q (sym other ∙ up) in
       (rw same at others).left ∙ sym ends.left
-  deed_alike p me m Campaign e a b (q, up, ends) (r, other, others) =
+  deed_alike p me m plan Campaign a b (q, up, ends) (r, other, others) =
       let same : r ≡ q = same_Some r q (sym other ∙ up) in
       (rw same at others).left ∙ sym ends.left
-  deed_alike p me m Tick e a b (q, up, ends) (r, other, others) =
+  deed_alike p me m plan Tick a b (q, up, ends) (r, other, others) =
       let same : r ≡ q = same_Some r q (sym other ∙ up) in
       (rw same at others).left ∙ sym ends.left
-  deed_alike p me m (Run steps) e a b (q, up, runs, silent) (r, other, again, _) =
+  deed_alike p me m plan (Run steps) a b (q, up, runs, silent) (r, other, again, _) =
       let same : r ≡ q = same_Some r q (sym other ∙ up) in
-      let again_so : RunsMember m q steps b = subst (λ (y : Running). RunsMember m y steps b) same again in
+      let again_so : RunsMember m q steps b.member = subst (λ (y : Running). RunsMember m y steps b.member) same again in
       let one = runs_alike (input q.known) steps q.progress runs.progress again_so.progress runs.ran again_so.ran
       runs.runs again_so.runs runs.replay again_so.replay in
       again_so.new_is ∙ ap (at_progress m q) one ∙ sym runs.new_is
-  deed_alike p me m Release e a b (q, up, left, silent) (r, other, again, _) =
+  deed_alike p me m plan Release a b (q, up, is) (r, other, again) =
       let same : r ≡ q = same_Some r q (sym other ∙ up) in
-      (rw same at again) ∙ sym left
-  deed_alike p me m Crash e a b (q, up, left, silent) (r, other, again, _) = again ∙ sym left
+      ap (λ (x : Left). x.member) ((rw same at again) ∙ sym is)
+  deed_alike p me m plan Crash a b (q, up, is) (r, other, again) = ap (λ (x : Left). x.member) (again ∙ sym is)
 
   -- and so do several
   pub history_alike : (p : Parts) (me : Me) (m : Member) (es : List Entry) (a b : Member) → IsHistory p me m es a
       → IsHistory p me m es b → b ≡ a
   history_alike p me m [] a b first second = second ∙ sym first
-  history_alike p me m (e ∷ es) a b (mid, does, rest) (other, also, again) =
-      let same : other ≡ mid = deed_alike p me m e.deed e mid other does also in
+  history_alike p me m (e ∷ es) a b (mid, (d, does), rest) (other, (f, also), again) =
+      let same : other ≡ mid = deed_alike p me m (plan_of e.save) e.deed (left_by e d mid) (left_by e f other) does also in
       history_alike p me mid es a b rest (subst (λ x. IsHistory p me x es b) same again)
 
   pub log_end : (w : World) (log : List Entry) (now other : List Member) → IsLog w log now → IsLog w log other → other ≡ now

@@ -2,23 +2,21 @@
 -- says.
 use Rattle.std.proofs.lemmas.Option.{same_Some, slice_get-get_or, slice_get_within}
 use Rattle.std.proofs.lemmas.List.{append-nil, length-set}
-use Rattle.std.proofs.Common.{◌≡◌, ◌≢◌, ◌∙◌, ℕ, zero, suc, ◌-◌, List, [], ◌∷◌, ◌++◌, append_assoc, length, slice_get, slice_set, get_or, Some, refl, sym, ap, subst, arith}
+use Rattle.std.proofs.Common.{◌≡◌, ◌≢◌, ◌∙◌, ◌⊎◌, inl, inr, ℕ, zero, suc, ◌-◌, List, [], ◌∷◌, ◌++◌, append_assoc, length, slice_get, slice_set, get_or, Some, refl, sym, ap, subst, arith}
 use Rattle.std.proofs.lemmas.Bool.{eq-eqb, ne_eqb}
 use Rattle.paxos_msg.specs.declared.message.Group.{Group}
 use Rattle.group_node.specs.Packets.{Datagram}
-use Rattle.group_node.specs.Output.{Progress}
+use Rattle.group_node.specs.Deeds.{Campaign, Crash, Deed, Hear, Idle, Press, Release, Run, Start, Tick}
 use Rattle.group_world.specs.declared.event.Act.{Act}
 use Rattle.group_world.specs.declared.event.Act.TheVariants as act
-use Rattle.group_world.specs.declared.event.Done.{Done}
-use Rattle.group_world.specs.declared.event.Done.TheVariants.{Applied}
 use Rattle.group_world.specs.declared.event.Event.{Event}
-use Rattle.group_world.specs.Event.{LeadsBy, Performs, plan_of}
-use Rattle.group_world.specs.Group.{IsUp, World, group_after, me_of, member_at, messages_in, with_member}
-use Rattle.group_world.specs.Member.{CallEnds, CallOutcome, Fell, Happened, Member, Refused, member_after, sent_by, typed_by}
-use Rattle.group_node.specs.Deeds.{Campaign, Crash, Deed, Hear, Idle, Press, Release, Run, Start, Tick}
-use Rattle.group_world.specs.Processes.{AreEvents, AreEventsOf, AreEventsOfDeed, DoesDeed, Entry, HearsOf, IsCarried, IsHistory, IsLog, IsSilent, after_log, entries_of, event_with, sent_in, typed_in}
+use Rattle.group_world.specs.Deeds.{DoesDeed}
+use Rattle.group_world.specs.Event.{DoesAt, HearsOf, IsDeedOf, LeadsBy, node_of, plan_of}
+use Rattle.group_world.specs.Group.{World, me_of, member_at, messages_in}
+use Rattle.group_world.specs.Member.{Member}
+use Rattle.group_world.specs.Processes.{AreEvents, AreEventsOf, AreEventsOfEntry, DoesEntry, Entry, IsCarried, IsHistory, IsLog, after_log, entries_of, left_by, sent_in, typed_in}
+use Rattle.group_world.proofs.CallLeaves.{idle_leads}
 use Rattle.group_world.proofs.WorldAsGroup.{each_changed}
-use Rattle.group_world.proofs.GroupCalls.{is_at, set_same}
 use Rattle.group_world.proofs.HoldsAfterEvents.{happens_then}
 
 -- ---- one entry
@@ -29,86 +27,52 @@ moved w e new =
     record w { members = slice_set w.members (e.node - 1) new; sent = w.sent ++ e.sent; typed = w.typed ++ e.typed }
 
 module _ (w : World) (e : Entry) (m : Member) (there : member_at w.members e.node ≡ Some m) where
-  -- a call that ends so
-  pub call_moves : {new : Member} {d : Done} (progress : Progress) (o : CallOutcome)
-      → CallEnds (me_of w e.node) m progress o d new e.sent e.typed → moved w e new ≡ group_after w e.node m progress o
-  call_moves {new} progress o ends = by o ends.left ends.sends ends.types
-    where
-      by : (o : CallOutcome) → new ≡ member_after m progress o → e.sent ≡ sent_by (me_of w e.node) o → e.typed ≡ typed_by o
-          → moved w e new ≡ group_after w e.node m progress o
-      by (Refused f) left sends types =
-          rw (
-            left,
-            sends,
-            types,
-            set_same w.members (e.node - 1) m (is_at w.members e.node m there).1,
-            append-nil w.sent,
-            append-nil
-                w.typed,
-          ) refl
-      by (Fell kept) left sends types = rw (left, sends, types, append-nil w.sent, append-nil w.typed) refl
-      by (Happened made typed) left sends types = rw (left, sends, types) refl
-
-  -- nothing is sent or typed
-  pub silent_moves : {new : Member} (left : Member) → new ≡ left → IsSilent e → moved w e new ≡ with_member w e.node left
-  silent_moves left is (sends, types) = rw (is, sends, types, append-nil w.sent, append-nil w.typed) refl
-
-  -- the same node
-  idle_moves : {new : Member} → new ≡ m → IsSilent e → moved w e new ≡ w
-  idle_moves is silent =
-      silent_moves m is silent
-      ∙ ap (λ members. record w { members = members }) (set_same w.members (e.node - 1) m (is_at w.members e.node m there).1)
-
-  -- an event
-  leads : (new : Member) (a : Act) (d : Done) (events : List Event) → events ≡ event_with e a
-      → Performs w (plan_of e.save) a d (moved w e new)
-      → LeadsBy w events (moved w e new)
-  leads new a d events is performs = subst (λ es. LeadsBy w es (moved w e new)) (sym is) (moved w e new, d, performs, refl)
+  -- its deed leads there
+  entry_does : (new : Member) (done : DoesEntry w.program (me_of w e.node) m e new)
+      → DoesAt w e.node (plan_of e.save) e.deed done.0 (moved w e new)
+  entry_does new (d, does) =
+      record { node = m; there = there; left = left_by e d new; does = does; answers = refl; leads = refl }
 
   -- the events of the entry, one or none, lead to the world after it
-  entry_leads : (new : Member) (deed : Deed) (events : List Event) → DoesDeed w.program (me_of w e.node) m deed e new
-      → AreEventsOfDeed w.group w.sent e deed events → LeadsBy w events (moved w e new)
-  entry_leads new Idle events (same, silent) is = subst (λ es. LeadsBy w es (moved w e new)) (sym is) (idle_moves same silent)
-  entry_leads new (Start r) events (down, read, ends) is =
-      let ends_so = rw read at ends in
-      leads new (act.Start e.node) _ events is (m, record { there = there; down = down }, (refl, call_moves _ _ ends_so))
-  entry_leads new (Hear message) events (q, up, ends) (k, number, is) =
-      leads new (act.Deliver k e.node) _ events is (m, q, message, record { there = there; up = up }, number, (refl, call_moves _ _ ends))
-  entry_leads new (Press byte) events (q, up, low, ends) is =
-      leads new (act.Press e.node byte) _ events is (m, q, record { there = there; up = up }, low, (refl, call_moves _ _ ends))
-  entry_leads new Campaign events (q, up, ends) is =
-      leads new (act.Campaign e.node) _ events is (m, q, record { there = there; up = up }, (refl, call_moves _ _ ends))
-  entry_leads new Tick events (q, up, ends) is =
-      leads new (act.Tick e.node) _ events is (m, q, record { there = there; up = up }, (refl, call_moves _ _ ends))
-  entry_leads new (Run steps) events (q, up, runs, silent) is =
-      let up_so : IsUp w e.node m q = record { there = there; up = up } in
-      leads new (act.Run e.node steps) Applied events is
-      (m, q, runs.progress, runs.ran, up_so, runs.runs, runs.replay, refl, silent_moves _ runs.new_is silent)
-  entry_leads new Release events (q, up, left, silent) is =
-      leads new (act.Release e.node) Applied events is (m, q, record { there = there; up = up }, refl, silent_moves _ left silent)
-  entry_leads new Crash events (q, up, left, silent) is =
-      leads new (act.Crash e.node) Applied events is (m, q, record { there = there; up = up }, refl, silent_moves _ left silent)
+  entry_leads : (new : Member) (events : List Event) → DoesEntry w.program (me_of w e.node) m e new
+      → AreEventsOfEntry w.group w.sent e events → LeadsBy w events (moved w e new)
+  entry_leads new [] (d, does) idle =
+      idle_leads w e.node m there {left = left_by e d new}
+      (subst (λ x. DoesDeed w.program (me_of w e.node) m (plan_of e.save) x (left_by e d new)) idle does)
+  entry_leads new (one ∷ events) done (of_act, at, saved, none) =
+      let v = moved w e new in
+      let there_so = subst (λ i. DoesAt w i (plan_of e.save) e.deed done.0 v) (sym at) (entry_does new done) in
+      let saved_so = subst (λ save. DoesAt w (node_of one.act) (plan_of save) e.deed done.0 v) (sym saved) there_so in
+      (v, done.0, record { deed = e.deed; is_deed = of_act; does = saved_so }, subst (λ es. LeadsBy v es v) (sym none) refl)
 
--- each entry that hears what was sent before has its events
-deed_has_events : (group : Group) (sent : List Datagram) (e : Entry) (deed : Deed) → HearsOf group sent deed
-    → (events : List Event) × AreEventsOfDeed group sent e deed events
-deed_has_events group sent e Idle heard = (_, refl)
-deed_has_events group sent e (Start r) heard = (_, refl)
-deed_has_events group sent e (Hear message) heard =
-    let number = slice_get-get_or (messages_in group sent) heard.0 message heard.1 ∙ ap (λ x. Some x) heard.2 in
-    (event_with e (act.Deliver heard.0 e.node), (heard.0, number, refl))
-deed_has_events group sent e (Press byte) heard = (_, refl)
-deed_has_events group sent e Campaign heard = (_, refl)
-deed_has_events group sent e Tick heard = (_, refl)
-deed_has_events group sent e (Run steps) heard = (_, refl)
-deed_has_events group sent e Release heard = (_, refl)
-deed_has_events group sent e Crash heard = (_, refl)
+-- a deed is idle, or that of an act at its node
+deed_has_act : (group : Group) (sent : List Datagram) (i : ℕ) (deed : Deed) → HearsOf group sent deed
+    → (deed ≡ Idle) ⊎ ((a : Act) × IsDeedOf (messages_in group sent) a deed × (node_of a ≡ i))
+deed_has_act group sent i Idle heard = inl refl
+deed_has_act group sent i (Start r) heard = inr (act.Start i, (r, refl), refl)
+deed_has_act group sent i (Hear message) (k, below, at) =
+    let number = slice_get-get_or (messages_in group sent) k message below ∙ ap (λ x. Some x) at in
+    inr (act.Deliver k i, (message, number, refl), refl)
+deed_has_act group sent i (Press byte) heard = inr (act.Press i byte, refl, refl)
+deed_has_act group sent i Campaign heard = inr (act.Campaign i, refl, refl)
+deed_has_act group sent i Tick heard = inr (act.Tick i, refl, refl)
+deed_has_act group sent i (Run steps) heard = inr (act.Run i steps, refl, refl)
+deed_has_act group sent i Release heard = inr (act.Release i, refl, refl)
+deed_has_act group sent i Crash heard = inr (act.Crash i, refl, refl)
+
+-- so each entry that hears what was sent before has its events
+entry_has_events : (group : Group) (sent : List Datagram) (e : Entry) → HearsOf group sent e.deed
+    → (events : List Event) × AreEventsOfEntry group sent e events
+entry_has_events group sent e heard = elim (deed_has_act group sent e.node e.deed heard) [
+  | inl idle ↦ ([], idle)
+  | inr (a, of_act, at) ↦ ((record { act = a; save = e.save }) ∷ [], (of_act, at, refl, refl))
+]
 
 log_has_events : (group : Group) (sent : List Datagram) (log : List Entry) → IsCarried group sent log
     → (events : List Event) × AreEventsOf group sent log events
 log_has_events group sent [] carried = ([], refl)
 log_has_events group sent (e ∷ log) (heard, carried) =
-    let (first, one) = deed_has_events group sent e e.deed heard in
+    let (first, one) = entry_has_events group sent e heard in
     let (rest, more) = log_has_events group (sent ++ e.sent) log carried in
     (first ++ rest, (first, rest, one, more, refl))
 
@@ -175,7 +139,7 @@ after_both w e log now mid = rw (append_assoc w.sent e.sent (sent_in log), appen
 
 -- what the first entry did, and the rest of the log
 pub log_first : (w : World) (e : Entry) (log : List Entry) (now : List Member) (m : Member) → member_at w.members e.node ≡ Some m
-    → IsLog w (e ∷ log) now → (new : Member) × DoesDeed w.program (me_of w e.node) m e.deed e new × IsLog (moved w e new) log now
+    → IsLog w (e ∷ log) now → (new : Member) × DoesEntry w.program (me_of w e.node) m e new × IsLog (moved w e new) log now
 log_first w e log now m there h =
     let (last, at) = h.among.0 in
     let history = subst (λ es. IsHistory w.program (me_of w e.node) m es last) (own_entries e log) (h.nodes e.node m last there at) in
@@ -192,7 +156,7 @@ events_lead (e ∷ log) w now events h (first, rest, one, more, is) =
     let (mid, does, others) = log_first w e log now m there h in
     let then = events_lead log (moved w e mid) now rest others more in
     subst (λ es. LeadsBy w es (after_log w (e ∷ log) now)) (sym is)
-    (happens_then w first rest (moved w e mid) (after_log w (e ∷ log) now) (entry_leads w e m there mid e.deed first does one)
+    (happens_then w first rest (moved w e mid) (after_log w (e ∷ log) now) (entry_leads w e m there mid first does one)
     (subst (LeadsBy (moved w e mid) rest) (after_both w e log now mid) then))
 
 -- a log is what some events do

@@ -6,11 +6,13 @@ use Rattle.pcode_machine.specs.Runs.{after_steps, out}
 use Rattle.paxos_learner.specs.Input.{learned_input}
 use Rattle.group_node.specs.declared.console.Offer.TheVariants.{Repeat}
 use Rattle.group_node.specs.Console.{offer_answer}
-use Rattle.group_node.specs.World as group
+use Rattle.group_node.specs.Deeds as deed
+use Rattle.group_world.specs.declared.event.Act.TheVariants as act
+use Rattle.group_world.specs.Event.{StepsBy}
 use Rattle.group_node.specs.World.{Up, WorldState, WorldStep, after_release, fresh, with_seat}
-use Rattle.group_world.specs.RightGroups.{LeadsInSteps, restart_events, three_new, with_start}
+use Rattle.group_world.specs.RightGroups.{LeadsInSteps, restart_acts, three_new, with_start}
 use Rattle.group_world.specs.Witness.{letter_program}
-use Rattle.group_world.proofs.ChainedSteps.{StepLaw, at_configuration, crashed, crashes, releases, runs, starts}
+use Rattle.group_world.proofs.ChainedSteps.{StepLaw, at_configuration, crashed, crashes, released, releases, runs, starts}
 use Rattle.group_world.proofs.ConsolesMayShow.{writes_letter}
 
 abbrev ten : Configuration
@@ -51,23 +53,23 @@ c_6 = at_configuration c_5 1 (fresh letter_program) ten
 module _ (law : StepLaw) where
   -- a node that has started runs
   once : (w : WorldState) → w.program ≡ letter_program → (w.seats 1).up ≡ Some (fresh letter_program)
-      → WorldStep w (group.Run 1 10) (at_configuration w 1 (fresh letter_program) ten)
+      → StepsBy w (act.Run 1 10) (at_configuration w 1 (fresh letter_program) ten)
   once w is up = runs law w 1 (fresh letter_program) letter_program 10 is up refl (writes_letter (learned_input empty)).goes
 
-  restart_leads : LeadsInSteps (three_new letter_program) restart_events c_6
+  restart_leads : LeadsInSteps (three_new letter_program) restart_acts c_6
   restart_leads =
-      let from_3 : LeadsInSteps c_3 (group.Crash 1 ∷ group.Start 1 ∷ group.Run 1 10 ∷ []) c_6 =
+      let from_3 : LeadsInSteps c_3 (act.Crash 1 ∷ act.Start 1 ∷ act.Run 1 10 ∷ []) c_6 =
       (c_4, crashes c_3 1, (c_5, starts c_4 1 refl, (c_6, once c_5 refl refl, refl))) in
       (c_1, starts (three_new letter_program) 1 refl, (c_2, once c_1 refl refl, (c_3, releases c_2 1 up_ten 65 refl first_byte, from_3)))
 
-pub releases_again : StepLaw → (w v : WorldState) × LeadsInSteps (three_new letter_program) restart_events w
-    × WorldStep w (group.Release 1) v × (offer_answer (w.seats 1).console 0 ≡ Repeat)
+pub releases_again : StepLaw → (w v : WorldState) × LeadsInSteps (three_new letter_program) restart_acts w
+    × WorldStep w 1 deed.Release v × (offer_answer (w.seats 1).console 0 ≡ Repeat)
     × ((v.seats 1).console ≡ 65 ∷ [])
 releases_again law = (
   c_6,
   with_seat c_6 1 (after_release (c_6.seats 1) up_ten (Some 65)),
   restart_leads law,
-  releases c_6 1 up_ten 65 refl first_byte,
+  released c_6 1 up_ten 65 refl first_byte,
   refl,
   refl,
 )

@@ -13,13 +13,17 @@ use Rattle.paxos_msg.specs.Chosen.{is_listed, IsChosenBy}
 use Rattle.paxos_msg.specs.Messages.{IsSent, IsPromised, kept_vote_at}
 use Rattle.paxos_msg.specs.Sending.{IsReport, IsUnproposed}
 use Rattle.paxos_learner.proofs.OnePlace.{get_here}
-use Rattle.group_node.specs.World as group
-use Rattle.group_node.specs.World.{Campaign, Deliver, Event, Start, Tick, Up, WorldState, WorldStep}
+use Rattle.group_node.specs.Deeds as deed
+use Rattle.group_world.specs.declared.event.Act.{Act}
+use Rattle.group_world.specs.declared.event.Act.TheVariants as act
+use Rattle.group_world.specs.declared.event.Act.TheVariants.{Campaign, Deliver, Start, Tick}
+use Rattle.group_world.specs.Event.{StepsBy}
+use Rattle.group_node.specs.World.{Up, WorldState}
 use Rattle.group_node.specs.WrongSteps.{ballot_by}
 use Rattle.group_node.proofs.Elements.{each_of}
 use Rattle.group_world.specs.Headline.{HasLearned}
-use Rattle.group_world.specs.RightGroups.{LeadsInSteps, first_batch, three_new, takeover_events, with_call, with_start}
-use Rattle.group_world.proofs.ChainedSteps.{ballot_1, both, learns_at, learns_nothing, makes_call, no_report, starts}
+use Rattle.group_world.specs.RightGroups.{LeadsInSteps, first_batch, three_new, takeover_acts, with_call, with_start}
+use Rattle.group_world.proofs.ChainedSteps.{by_number, ballot_1, both, learns_at, learns_nothing, makes_call, no_report, starts}
 use Rattle.group_world.proofs.TwoLearn.{knows_2, s_3, s_4, s_5, s_6, s_7, s_8, up_0, w_1, w_2, w_3, w_4, w_5, w_6, w_7, w_8}
 
 abbrev ballot_2 : Ballot
@@ -46,18 +50,18 @@ ProposesNot_2 m = (s : ℕ) (v : Value) → m.body ≢ Accept ballot_2 s v
 other_proposal : (s : ℕ) (u : Value) → Accept ballot_1 700 first_batch ≢ Accept ballot_2 s u
 other_proposal s u e = let same : ballot_1 ≡ ballot_2 = cc in let rounds = ap (λ (b : Ballot). b.round) same in omega arith
 
--- the last events, four fewer each time
-abbrev events_16 : List Event
-events_16 = Deliver 11 3 ∷ []
+-- the last acts, four fewer each time
+abbrev acts_16 : List Act
+acts_16 = Deliver 11 3 ∷ []
 
-abbrev events_12 : List Event
-events_12 = Deliver 6 2 ∷ Deliver 8 3 ∷ Deliver 9 3 ∷ Deliver 9 2 ∷ events_16
+abbrev acts_12 : List Act
+acts_12 = Deliver 6 2 ∷ Deliver 8 3 ∷ Deliver 9 3 ∷ Deliver 9 2 ∷ acts_16
 
-abbrev events_8 : List Event
-events_8 = Deliver 4 2 ∷ Start 3 ∷ Campaign 3 ∷ Deliver 6 3 ∷ events_12
+abbrev acts_8 : List Act
+acts_8 = Deliver 4 2 ∷ Start 3 ∷ Campaign 3 ∷ Deliver 6 3 ∷ acts_12
 
-abbrev events_4 : List Event
-events_4 = Deliver 0 1 ∷ Deliver 0 2 ∷ Tick 1 ∷ Deliver 3 1 ∷ events_8
+abbrev acts_4 : List Act
+acts_4 = Deliver 0 1 ∷ Deliver 0 2 ∷ Tick 1 ∷ Deliver 3 1 ∷ acts_8
 
 module _ (p : Parts) where
   abbrev up : Up
@@ -96,43 +100,44 @@ module _ (p : Parts) where
   abbrev t_17 : WorldState
   t_17 = with_call t_16 3 None [] (knows_2 p 700) []
 
-  r_9 : WorldStep before (group.Deliver 4 2) t_9
-  r_9 = record {
-    message = record { sender = 1; body = Accept ballot_1 700 first_batch };
-    is_sent = refl;
+  r_9 : StepsBy before (act.Deliver 4 2) t_9
+  r_9 = by_number 4 2 (record { sender = 1; body = Accept ballot_1 700 first_batch }) refl (λ sent. record {
+    is_sent = sent;
     saved = Some (change.Ballotted 700 ballot_1 first_batch);
     cause = inr refl;
     call = inl (makes_call before 2 (Some (change.Ballotted 700 ballot_1 first_batch)) (Accepted ballot_1 700 first_batch ∷ []) up []
         up refl ((1, (4, lit< tt, refl)), inr (refl, omega arith)) (((1, (4, lit< tt, refl)), refl, refl), tt)
         (learns_nothing before [] up));
-  }
+  })
 
-  r_11 : WorldStep t_10 (group.Campaign 3) t_11
-  r_11 = record {
-    round = 2;
-    call = inl (makes_call t_10 3 (Some (change.Promise ballot_2)) (Prepare ballot_2 700 ∷ []) up [] up refl tt
-        ((refl, inr (refl, omega arith)), tt) (learns_nothing t_10 [] up));
-  }
+  r_11 : StepsBy t_10 (act.Campaign 3) t_11
+  r_11 = (
+    deed.Campaign,
+    refl,
+    record {
+      round = 2;
+      call = inl (makes_call t_10 3 (Some (change.Promise ballot_2)) (Prepare ballot_2 700 ∷ []) up [] up refl tt
+          ((refl, inr (refl, omega arith)), tt) (learns_nothing t_10 [] up));
+    },
+  )
 
-  r_12 : WorldStep t_11 (group.Deliver 6 3) t_12
-  r_12 = record {
-    message = record { sender = 3; body = Prepare ballot_2 700 };
-    is_sent = refl;
+  r_12 : StepsBy t_11 (act.Deliver 6 3) t_12
+  r_12 = by_number 6 3 (record { sender = 3; body = Prepare ballot_2 700 }) refl (λ sent. record {
+    is_sent = sent;
     saved = None;
     cause = inl refl;
     call = makes_call t_11 3 None (Promise ballot_2 700 701 [] ∷ []) up [] up refl tt ((refl, no_report 700 _ refl), tt)
         (learns_nothing t_11 [] up);
-  }
+  })
 
-  r_13 : WorldStep t_12 (group.Deliver 6 2) t_13
-  r_13 = record {
-    message = record { sender = 3; body = Prepare ballot_2 700 };
-    is_sent = refl;
+  r_13 : StepsBy t_12 (act.Deliver 6 2) t_13
+  r_13 = by_number 6 2 (record { sender = 3; body = Prepare ballot_2 700 }) refl (λ sent. record {
+    is_sent = sent;
     saved = Some (change.Promise ballot_2);
     cause = inr refl;
     call = inl (makes_call t_12 2 (Some (change.Promise ballot_2)) (Promise ballot_2 700 701 (vote_1 ∷ []) ∷ []) up [] up refl
         (inl (omega arith)) ((refl, one_report _ refl), tt) (learns_nothing t_12 [] up));
-  }
+  })
 
   unproposed_2 : IsUnproposed t_13.sent ballot_2 700
   unproposed_2 v said =
@@ -180,37 +185,34 @@ module _ (p : Parts) where
     value = refl;
   }
 
-  r_14 : WorldStep t_13 (group.Deliver 8 3) t_14
-  r_14 = record {
-    message = record { sender = 2; body = Promise ballot_2 700 701 (vote_1 ∷ []) };
-    is_sent = refl;
+  r_14 : StepsBy t_13 (act.Deliver 8 3) t_14
+  r_14 = by_number 8 3 (record { sender = 2; body = Promise ballot_2 700 701 (vote_1 ∷ []) }) refl (λ sent. record {
+    is_sent = sent;
     saved = None;
     cause = refl;
     call = makes_call t_13 3 None (Accept ballot_2 700 first_batch ∷ []) up [] up refl tt
         ((refl, inr (unproposed_2, safe_2)), tt) (learns_nothing t_13 [] up);
-  }
+  })
 
-  r_15 : WorldStep t_14 (group.Deliver 9 3) t_15
-  r_15 = record {
-    message = record { sender = 3; body = Accept ballot_2 700 first_batch };
-    is_sent = refl;
+  r_15 : StepsBy t_14 (act.Deliver 9 3) t_15
+  r_15 = by_number 9 3 (record { sender = 3; body = Accept ballot_2 700 first_batch }) refl (λ sent. record {
+    is_sent = sent;
     saved = Some (change.Ballotted 700 ballot_2 first_batch);
     cause = inr refl;
     call = inl (makes_call t_14 3 (Some (change.Ballotted 700 ballot_2 first_batch)) (Accepted ballot_2 700 first_batch ∷ []) up []
         up refl ((3, (9, lit< tt, refl)), inr (refl, omega arith)) (((3, (9, lit< tt, refl)), refl, refl), tt)
         (learns_nothing t_14 [] up));
-  }
+  })
 
-  r_16 : WorldStep t_15 (group.Deliver 9 2) t_16
-  r_16 = record {
-    message = record { sender = 3; body = Accept ballot_2 700 first_batch };
-    is_sent = refl;
+  r_16 : StepsBy t_15 (act.Deliver 9 2) t_16
+  r_16 = by_number 9 2 (record { sender = 3; body = Accept ballot_2 700 first_batch }) refl (λ sent. record {
+    is_sent = sent;
     saved = Some (change.Ballotted 700 ballot_2 first_batch);
     cause = inr refl;
     call = inl (makes_call t_15 2 (Some (change.Ballotted 700 ballot_2 first_batch)) (Accepted ballot_2 700 first_batch ∷ []) up []
         up refl ((3, (9, lit< tt, refl)), inr (refl, omega arith)) (((3, (9, lit< tt, refl)), refl, refl), tt)
         (learns_nothing t_15 [] up));
-  }
+  })
 
   chosen_2 : IsChosenBy 3 t_16.sent ballot_2 700 first_batch
   chosen_2 = (
@@ -219,33 +221,32 @@ module _ (p : Parts) where
     both (λ k. IsSent t_16.sent k (Accepted ballot_2 700 first_batch)) 2 3 (11, lit< tt, refl) (10, lit< tt, refl),
   )
 
-  r_17 : WorldStep t_16 (group.Deliver 11 3) t_17
-  r_17 = record {
-    message = record { sender = 2; body = Accepted ballot_2 700 first_batch };
-    is_sent = refl;
+  r_17 : StepsBy t_16 (act.Deliver 11 3) t_17
+  r_17 = by_number 11 3 (record { sender = 2; body = Accepted ballot_2 700 first_batch }) refl (λ sent. record {
+    is_sent = sent;
     saved = None;
     cause = refl;
     call = makes_call t_16 3 None [] (knows_2 p 700) [] up refl tt tt
         (learns_at t_16 up 700 first_batch (get-empty nat_cmp 700) (ballot_2, chosen_2));
-  }
+  })
 
-  from_16 : LeadsInSteps t_16 events_16 t_17
+  from_16 : LeadsInSteps t_16 acts_16 t_17
   from_16 = (t_17, r_17, refl)
 
-  from_12 : LeadsInSteps t_12 events_12 t_17
+  from_12 : LeadsInSteps t_12 acts_12 t_17
   from_12 = (t_13, r_13, (t_14, r_14, (t_15, r_15, (t_16, r_16, from_16))))
 
-  from_8 : LeadsInSteps (w_8 p 700) events_8 t_17
+  from_8 : LeadsInSteps (w_8 p 700) acts_8 t_17
   from_8 = (t_9, r_9, (t_10, starts t_9 3 refl, (t_11, r_11, (t_12, r_12, from_12))))
 
-  from_4 : LeadsInSteps (w_4 p 700) events_4 t_17
+  from_4 : LeadsInSteps (w_4 p 700) acts_4 t_17
   from_4 = ((w_5 p 700), s_5 p 700, ((w_6 p 700), s_6 p 700, ((w_7 p 700), s_7 p 700, ((w_8 p 700), s_8 p 700, from_8))))
 
-  takeover_leads : LeadsInSteps (three_new p) takeover_events t_17
+  takeover_leads : LeadsInSteps (three_new p) takeover_acts t_17
   takeover_leads =
       (w_1 p 700, starts new 1 refl, (w_2 p 700, starts (w_1 p 700) 2 refl, (w_3 p 700, s_3 p 700, (w_4 p 700, s_4 p 700, from_4))))
 
-pub takeover : (p : Parts) → (w : WorldState) × LeadsInSteps (three_new p) takeover_events w
+pub takeover : (p : Parts) → (w : WorldState) × LeadsInSteps (three_new p) takeover_acts w
     × IsSent w.sent 2 (Accepted (ballot_by 1 1) 700 first_batch) × IsChosenBy 3 w.sent (ballot_by 3 2) 700 first_batch
     × HasLearned w 3 700 first_batch
 takeover p = (

@@ -9,7 +9,8 @@ use Rattle.paxos_msg.specs.Batches.{Msg}
 use Rattle.group_node.specs.Packets.{Datagram}
 use Rattle.group_world.specs.Group.{message_of, messages_in}
 use Rattle.group_node.specs.Deeds.{Deed, Hear}
-use Rattle.group_world.specs.Processes.{HearsOf, IsCarried, sent_in}
+use Rattle.group_world.specs.Processes.{IsCarried, sent_in}
+use Rattle.group_world.specs.Event.{HearsOf}
 use Rattle.group_world.specs.Timed.{AllHearEarlier, HearsEarlier, IsByTime, Timed, untimed}
 use Rattle.group_node.proofs.Elements.{in_cases, none_in}
 

@@ -5,11 +5,11 @@ use Rattle.pcode_machine.specs.Configuration.{Configuration}
 use Rattle.pcode_machine.specs.Runs.{after_steps, out}
 use Rattle.paxos_learner.proofs.OnePlace.{get_here}
 use Rattle.paxos_learner.specs.Input.{learned_input}
-use Rattle.group_node.specs.World as group
+use Rattle.group_world.specs.declared.event.Act.TheVariants as act
 use Rattle.group_node.specs.World.{Up, WorldState, after_release, with_seat}
 use Rattle.group_node.proofs.Elements.{entries_one}
 use Rattle.group_world.specs.Headline.{HasLearned}
-use Rattle.group_world.specs.RightGroups.{LeadsInSteps, first_batch, three_new, two_learn_events, two_show_events}
+use Rattle.group_world.specs.RightGroups.{LeadsInSteps, first_batch, three_new, two_learn_acts, two_show_acts}
 use Rattle.group_world.specs.Witness.{echoes}
 use Rattle.group_world.proofs.ChainedSteps.{StepLaw, at_configuration, leads_then, releases, runs}
 use Rattle.group_world.proofs.ConsolesMayShow.{all_go}
@@ -56,9 +56,9 @@ v_3 = at_configuration v_2 2 (knows_2 echoes 0) ten
 abbrev v_4 : WorldState
 v_4 = with_seat v_3 2 (after_release (v_3.seats 2) ran_2 (Some 65))
 
-two_show_leads : StepLaw → LeadsInSteps (w_12 echoes 0) two_show_events v_4
+two_show_leads : StepLaw → LeadsInSteps (w_12 echoes 0) two_show_acts v_4
 two_show_leads law =
-    let from_2 : LeadsInSteps v_2 (group.Run 2 10 ∷ group.Release 2 ∷ []) v_4 =
+    let from_2 : LeadsInSteps v_2 (act.Run 2 10 ∷ act.Release 2 ∷ []) v_4 =
     (v_3, runs law v_2 2 (knows_2 echoes 0) echoes 10 refl refl refl ten_go, (v_4, releases v_3 2 ran_2 65 refl first_byte, refl)) in (
       v_1,
       runs law (w_12 echoes 0) 1 (knows_1 echoes 0) echoes 10 refl refl refl ten_go,
@@ -66,12 +66,12 @@ two_show_leads law =
     )
 
 pub two_show : StepLaw → (w : WorldState)
-    × LeadsInSteps (three_new echoes) (two_learn_events ++ two_show_events) w
+    × LeadsInSteps (three_new echoes) (two_learn_acts ++ two_show_acts) w
     × HasLearned w 1 0 first_batch × HasLearned w 2 0 first_batch
     × ((w.seats 1).console ≡ 65 ∷ []) × ((w.seats 2).console ≡ 65 ∷ [])
 two_show law = (
   v_4,
-  leads_then (three_new echoes) (w_12 echoes 0) v_4 two_learn_events two_show_events
+  leads_then (three_new echoes) (w_12 echoes 0) v_4 two_learn_acts two_show_acts
       (two_learn_leads echoes 0) (two_show_leads law),
   record { node = record ran_1 { released = 1 }; up = refl; learned = get_here empty 0 first_batch },
   record { node = record ran_2 { released = 1 }; up = refl; learned = get_here empty 0 first_batch },

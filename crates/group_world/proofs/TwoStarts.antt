@@ -18,14 +18,18 @@ use Rattle.paxos_msg.specs.Sending.{IsReport, IsUnproposed}
 use Rattle.paxos_learner.proofs.OnePlace.{get_here, get_put}
 use Rattle.paxos_learner.specs.Input.{keys_in_order}
 use Rattle.group_node.specs.Inputs.{AreChosen}
-use Rattle.group_node.specs.World as group
-use Rattle.group_node.specs.World.{Campaign, Crash, Deliver, Event, Press, Start, Tick, Up, WorldState, WorldStep, fresh}
+use Rattle.group_node.specs.Deeds as deed
+use Rattle.group_world.specs.declared.event.Act.{Act}
+use Rattle.group_world.specs.declared.event.Act.TheVariants as act
+use Rattle.group_world.specs.declared.event.Act.TheVariants.{Campaign, Crash, Deliver, Press, Start, Tick}
+use Rattle.group_world.specs.Event.{StepsBy}
+use Rattle.group_node.specs.World.{Up, WorldState, fresh}
 use Rattle.group_node.specs.WrongSteps.{ballot_by}
 use Rattle.group_node.proofs.Elements.{each_of, rest_in}
 use Rattle.group_world.specs.Headline.{HasLearned}
 use Rattle.group_world.specs.Order.{AreInOrder, serials_of}
-use Rattle.group_world.specs.RightGroups.{LeadsInSteps, first_batch, one_new, second_batch, two_starts_events, with_call, with_start}
-use Rattle.group_world.proofs.ChainedSteps.{ProposesNot, ballot_1, crashed, crashes, key_1, learns_at, learns_nothing, makes_call, no_report, starts, typed_1}
+use Rattle.group_world.specs.RightGroups.{LeadsInSteps, first_batch, one_new, second_batch, two_starts_acts, with_call, with_start}
+use Rattle.group_world.proofs.ChainedSteps.{by_number, ProposesNot, ballot_1, crashed, crashes, key_1, learns_at, learns_nothing, makes_call, no_report, starts, typed_1}
 
 -- ---- what the node says in its second start
 
@@ -90,18 +94,18 @@ safe_alone sent b s v promised submitted = record {
 
 -- ---- the node, and its group
 
--- the last events, four fewer each time
-abbrev events_16 : List Event
-events_16 = Deliver 9 1 ∷ []
+-- the last acts, four fewer each time
+abbrev acts_16 : List Act
+acts_16 = Deliver 9 1 ∷ []
 
-abbrev events_12 : List Event
-events_12 = Tick 1 ∷ Deliver 7 1 ∷ Deliver 8 1 ∷ Deliver 4 1 ∷ events_16
+abbrev acts_12 : List Act
+acts_12 = Tick 1 ∷ Deliver 7 1 ∷ Deliver 8 1 ∷ Deliver 4 1 ∷ acts_16
 
-abbrev events_8 : List Event
-events_8 = Start 1 ∷ Press 1 66 ∷ Campaign 1 ∷ Deliver 5 1 ∷ events_12
+abbrev acts_8 : List Act
+acts_8 = Start 1 ∷ Press 1 66 ∷ Campaign 1 ∷ Deliver 5 1 ∷ acts_12
 
-abbrev events_4 : List Event
-events_4 = Tick 1 ∷ Deliver 2 1 ∷ Deliver 3 1 ∷ Crash 1 ∷ events_8
+abbrev acts_4 : List Act
+acts_4 = Tick 1 ∷ Deliver 2 1 ∷ Deliver 3 1 ∷ Crash 1 ∷ acts_8
 
 module _ (p : Parts) where
   abbrev up_0 : Up
@@ -172,34 +176,41 @@ module _ (p : Parts) where
   abbrev o_17 : WorldState
   o_17 = with_call o_16 1 None [] knows_2 []
 
-  q_2 : WorldStep o_1 (group.Press 1 65) o_2
-  q_2 = record {
-    key = key_1;
-    node = refl;
-    start = refl;
-    character = refl;
-    call = makes_call o_1 1 None [] up_1 (key_1 ∷ []) up_0 refl tt tt (learns_nothing o_1 (key_1 ∷ []) up_0);
-  }
+  q_2 : StepsBy o_1 (act.Press 1 65) o_2
+  q_2 = (
+    deed.Press 65,
+    refl,
+    record {
+      key = key_1;
+      node = refl;
+      start = refl;
+      character = refl;
+      call = makes_call o_1 1 None [] up_1 (key_1 ∷ []) up_0 refl tt tt (learns_nothing o_1 (key_1 ∷ []) up_0);
+    },
+  )
 
-  q_3 : WorldStep o_2 (group.Campaign 1) o_3
-  q_3 = record {
-    round = 1;
-    call = inl (makes_call o_2 1 (Some (change.Promise ballot_1)) (Prepare ballot_1 0 ∷ []) up_1 [] up_1 refl tt
-        ((refl, inr (refl, omega arith)), tt) (learns_nothing o_2 [] up_1));
-  }
+  q_3 : StepsBy o_2 (act.Campaign 1) o_3
+  q_3 = (
+    deed.Campaign,
+    refl,
+    record {
+      round = 1;
+      call = inl (makes_call o_2 1 (Some (change.Promise ballot_1)) (Prepare ballot_1 0 ∷ []) up_1 [] up_1 refl tt
+          ((refl, inr (refl, omega arith)), tt) (learns_nothing o_2 [] up_1));
+    },
+  )
 
-  q_4 : WorldStep o_3 (group.Deliver 0 1) o_4
-  q_4 = record {
-    message = record { sender = 1; body = Prepare ballot_1 0 };
-    is_sent = refl;
+  q_4 : StepsBy o_3 (act.Deliver 0 1) o_4
+  q_4 = by_number 0 1 (record { sender = 1; body = Prepare ballot_1 0 }) refl (λ sent. record {
+    is_sent = sent;
     saved = None;
     cause = inl refl;
     call = makes_call o_3 1 None (Promise ballot_1 0 1 [] ∷ []) up_1 [] up_1 refl tt ((refl, no_report 0 _ refl), tt)
         (learns_nothing o_3 [] up_1);
-  }
+  })
 
-  q_5 : WorldStep o_4 (group.Tick 1) o_5
-  q_5 = makes_call o_4 1 None (Submit first_batch ∷ []) up_1 [] up_1 refl tt (typed_1, tt) (learns_nothing o_4 [] up_1)
+  q_5 : StepsBy o_4 (act.Tick 1) o_5
+  q_5 = (deed.Tick, refl, makes_call o_4 1 None (Submit first_batch ∷ []) up_1 [] up_1 refl tt (typed_1, tt) (learns_nothing o_4 [] up_1))
 
   unproposed_1 : IsUnproposed o_5.sent ballot_1 0
   unproposed_1 v said =
@@ -217,57 +228,66 @@ module _ (p : Parts) where
     reports = refl;
   }
 
-  q_6 : WorldStep o_5 (group.Deliver 2 1) o_6
-  q_6 = record {
-    message = record { sender = 1; body = Submit first_batch };
-    is_sent = refl;
+  q_6 : StepsBy o_5 (act.Deliver 2 1) o_6
+  q_6 = by_number 2 1 (record { sender = 1; body = Submit first_batch }) refl (λ sent. record {
+    is_sent = sent;
     saved = None;
     cause = refl;
     call = makes_call o_5 1 None (Accept ballot_1 0 first_batch ∷ []) up_1 [] up_1 refl tt
         ((refl, inr (unproposed_1, safe_alone o_5.sent ballot_1 0 first_batch promised_1 (2, lit< tt, refl))), tt)
         (learns_nothing o_5 [] up_1);
-  }
+  })
 
-  q_7 : WorldStep o_6 (group.Deliver 3 1) o_7
-  q_7 = record {
-    message = record { sender = 1; body = Accept ballot_1 0 first_batch };
-    is_sent = refl;
+  q_7 : StepsBy o_6 (act.Deliver 3 1) o_7
+  q_7 = by_number 3 1 (record { sender = 1; body = Accept ballot_1 0 first_batch }) refl (λ sent. record {
+    is_sent = sent;
     saved = Some (change.Ballotted 0 ballot_1 first_batch);
     cause = inr refl;
     call = inl (makes_call o_6 1 (Some (change.Ballotted 0 ballot_1 first_batch))
         (Accepted ballot_1 0 first_batch ∷ []) up_1 [] up_1 refl
         ((1, (3, lit< tt, refl)), inr (refl, omega arith)) (((1, (3, lit< tt, refl)), refl, refl), tt)
         (learns_nothing o_6 [] up_1));
-  }
+  })
 
-  q_10 : WorldStep o_9 (group.Press 1 66) o_10
-  q_10 = record {
-    key = key_2;
-    node = refl;
-    start = refl;
-    character = refl;
-    call = makes_call o_9 1 None [] up_2 (key_2 ∷ []) up_0 refl tt tt (learns_nothing o_9 (key_2 ∷ []) up_0);
-  }
+  q_10 : StepsBy o_9 (act.Press 1 66) o_10
+  q_10 = (
+    deed.Press 66,
+    refl,
+    record {
+      key = key_2;
+      node = refl;
+      start = refl;
+      character = refl;
+      call = makes_call o_9 1 None [] up_2 (key_2 ∷ []) up_0 refl tt tt (learns_nothing o_9 (key_2 ∷ []) up_0);
+    },
+  )
 
-  q_11 : WorldStep o_10 (group.Campaign 1) o_11
-  q_11 = record {
-    round = 2;
-    call = inl (makes_call o_10 1 (Some (change.Promise ballot_2)) (Prepare ballot_2 0 ∷ []) up_2 [] up_2 refl (inl (omega arith))
-        ((refl, inr (refl, omega arith)), tt) (learns_nothing o_10 [] up_2));
-  }
+  q_11 : StepsBy o_10 (act.Campaign 1) o_11
+  q_11 = (
+    deed.Campaign,
+    refl,
+    record {
+      round = 2;
+      call = inl (makes_call o_10 1 (Some (change.Promise ballot_2)) (Prepare ballot_2 0 ∷ []) up_2 [] up_2 refl (inl (omega arith))
+          ((refl, inr (refl, omega arith)), tt) (learns_nothing o_10 [] up_2));
+    },
+  )
 
-  q_12 : WorldStep o_11 (group.Deliver 5 1) o_12
-  q_12 = record {
-    message = record { sender = 1; body = Prepare ballot_2 0 };
-    is_sent = refl;
+  q_12 : StepsBy o_11 (act.Deliver 5 1) o_12
+  q_12 = by_number 5 1 (record { sender = 1; body = Prepare ballot_2 0 }) refl (λ sent. record {
+    is_sent = sent;
     saved = None;
     cause = inl refl;
     call = makes_call o_11 1 None (Promise ballot_2 0 2 (vote_1 ∷ []) ∷ []) up_2 [] up_2 refl tt ((refl, vote_report _ refl), tt)
         (learns_nothing o_11 [] up_2);
-  }
+  })
 
-  q_13 : WorldStep o_12 (group.Tick 1) o_13
-  q_13 = makes_call o_12 1 None (Submit second_batch ∷ []) up_2 [] up_2 refl tt (typed_2, tt) (learns_nothing o_12 [] up_2)
+  q_13 : StepsBy o_12 (act.Tick 1) o_13
+  q_13 = (
+    deed.Tick,
+    refl,
+    makes_call o_12 1 None (Submit second_batch ∷ []) up_2 [] up_2 refl tt (typed_2, tt) (learns_nothing o_12 [] up_2),
+  )
 
   unproposed_2 : IsUnproposed o_13.sent ballot_2 1
   unproposed_2 v said =
@@ -294,65 +314,61 @@ module _ (p : Parts) where
     reports = refl;
   }
 
-  q_14 : WorldStep o_13 (group.Deliver 7 1) o_14
-  q_14 = record {
-    message = record { sender = 1; body = Submit second_batch };
-    is_sent = refl;
+  q_14 : StepsBy o_13 (act.Deliver 7 1) o_14
+  q_14 = by_number 7 1 (record { sender = 1; body = Submit second_batch }) refl (λ sent. record {
+    is_sent = sent;
     saved = None;
     cause = refl;
     call = makes_call o_13 1 None (Accept ballot_2 1 second_batch ∷ []) up_2 [] up_2 refl tt
         ((refl, inr (unproposed_2, safe_alone o_13.sent ballot_2 1 second_batch promised_2 (7, lit< tt, refl))), tt)
         (learns_nothing o_13 [] up_2);
-  }
+  })
 
-  q_15 : WorldStep o_14 (group.Deliver 8 1) o_15
-  q_15 = record {
-    message = record { sender = 1; body = Accept ballot_2 1 second_batch };
-    is_sent = refl;
+  q_15 : StepsBy o_14 (act.Deliver 8 1) o_15
+  q_15 = by_number 8 1 (record { sender = 1; body = Accept ballot_2 1 second_batch }) refl (λ sent. record {
+    is_sent = sent;
     saved = Some (change.Ballotted 1 ballot_2 second_batch);
     cause = inr refl;
     call = inl (makes_call o_14 1 (Some (change.Ballotted 1 ballot_2 second_batch))
         (Accepted ballot_2 1 second_batch ∷ []) up_2 [] up_2 refl
         ((1, (8, lit< tt, refl)), inr (refl, omega arith)) (((1, (8, lit< tt, refl)), refl, refl), tt)
         (learns_nothing o_14 [] up_2));
-  }
+  })
 
-  q_16 : WorldStep o_15 (group.Deliver 4 1) o_16
-  q_16 = record {
-    message = record { sender = 1; body = Accepted ballot_1 0 first_batch };
-    is_sent = refl;
+  q_16 : StepsBy o_15 (act.Deliver 4 1) o_16
+  q_16 = by_number 4 1 (record { sender = 1; body = Accepted ballot_1 0 first_batch }) refl (λ sent. record {
+    is_sent = sent;
     saved = None;
     cause = refl;
     call = makes_call o_15 1 None [] knows_1 [] up_2 refl tt tt
         (learns_at o_15 up_2 0 first_batch (get-empty nat_cmp 0) (chosen_alone o_15.sent ballot_1 0 first_batch (4, lit< tt, refl)));
-  }
+  })
 
   none_at_1 : get (insert (empty {K = ℕ} {R = nat_cmp}) 0 first_batch) 1 ≡ None
   none_at_1 = get_put empty 0 first_batch 1 ∙ get-empty nat_cmp 1
 
-  q_17 : WorldStep o_16 (group.Deliver 9 1) o_17
-  q_17 = record {
-    message = record { sender = 1; body = Accepted ballot_2 1 second_batch };
-    is_sent = refl;
+  q_17 : StepsBy o_16 (act.Deliver 9 1) o_17
+  q_17 = by_number 9 1 (record { sender = 1; body = Accepted ballot_2 1 second_batch }) refl (λ sent. record {
+    is_sent = sent;
     saved = None;
     cause = refl;
     call = makes_call o_16 1 None [] knows_2 [] knows_1 refl tt tt
         (learns_at o_16 knows_1 1 second_batch none_at_1 (chosen_alone o_16.sent ballot_2 1 second_batch (9, lit< tt, refl)));
-  }
+  })
 
-  from_16 : LeadsInSteps o_16 events_16 o_17
+  from_16 : LeadsInSteps o_16 acts_16 o_17
   from_16 = (o_17, q_17, refl)
 
-  from_12 : LeadsInSteps o_12 events_12 o_17
+  from_12 : LeadsInSteps o_12 acts_12 o_17
   from_12 = (o_13, q_13, (o_14, q_14, (o_15, q_15, (o_16, q_16, from_16))))
 
-  from_8 : LeadsInSteps o_8 events_8 o_17
+  from_8 : LeadsInSteps o_8 acts_8 o_17
   from_8 = (o_9, starts o_8 1 refl, (o_10, q_10, (o_11, q_11, (o_12, q_12, from_12))))
 
-  from_4 : LeadsInSteps o_4 events_4 o_17
+  from_4 : LeadsInSteps o_4 acts_4 o_17
   from_4 = (o_5, q_5, (o_6, q_6, (o_7, q_7, (o_8, crashes o_7 1, from_8))))
 
-  two_starts_leads : LeadsInSteps (one_new p) two_starts_events o_17
+  two_starts_leads : LeadsInSteps (one_new p) two_starts_acts o_17
   two_starts_leads = (o_1, starts (one_new p) 1 refl, (o_2, q_2, (o_3, q_3, (o_4, q_4, from_4))))
 
   chosen : AreChosen 1 o_17.sent (first_batch ∷ second_batch ∷ [])
@@ -397,7 +413,7 @@ in_order node start = elim (cases_eq 1 node) [
   | inr other ↦ (0, no_node node start other)
 ]
 
-pub two_starts : (p : Parts) → (w : WorldState) × LeadsInSteps (one_new p) two_starts_events w
+pub two_starts : (p : Parts) → (w : WorldState) × LeadsInSteps (one_new p) two_starts_acts w
     × HasLearned w 1 0 first_batch × HasLearned w 1 1 second_batch
     × AreChosen w.size w.sent (first_batch ∷ second_batch ∷ [])
     × AreInOrder (keys_in_order (first_batch ∷ second_batch ∷ []))

@@ -1,19 +1,18 @@
 -- Logs that are written down by hand, entry by entry: what each entry leaves, and what it says
 -- where it is one of a log.
-use Rattle.std.proofs.Common.{◌≡◌, ℕ, ◌+◌, ◌<◌, List, [], ◌∷◌, Option, None, Some, refl, sym, ap, subst}
+use Rattle.std.proofs.Common.{◌≡◌, ℕ, ◌+◌, ◌<◌, List, [], ◌∷◌, None, Some, refl, ap, subst}
 use Rattle.std.proofs.lemmas.List.Elements.{All-from_recursion}
 use Rattle.std.specs.List.{AllByRecursion}
 use Rattle.pcode_file.specs.Parts.{Parts}
 use Rattle.paxos_msg.specs.declared.message.Body.TheVariants.{Ask, Prepare, Promise}
 use Rattle.paxos_msg.specs.declared.record.Change.TheVariants as change
-use Rattle.paxos_msg.specs.declared.value.Value.{Value}
 use Rattle.paxos_msg.specs.declared.value.Value.TheVariants.{Keys}
-use Rattle.paxos_msg.specs.Batches.{Body, Change, Record}
+use Rattle.paxos_msg.specs.Batches.{Body, Record}
 use Rattle.paxos_msg.specs.Fits.{IsBody, IsGroup, IsNode}
 use Rattle.paxos_acceptor.specs.declared.me.Me.{Me}
 use Rattle.paxos_proposer.specs.Proposer.{new_proposer}
 use Rattle.paxos_learner.specs.Learner.{new_learner}
-use Rattle.group_node.specs.Deeds.{Campaign, Crash, Deed, Hear, Press, Start, Tick}
+use Rattle.group_node.specs.Deeds.{Campaign, Crash, Tick}
 use Rattle.group_node.specs.Known.{Known, Response, on_start}
 use Rattle.group_node.specs.Output.{Progress, no_progress}
 use Rattle.group_node.specs.Packets.{Packet, datagrams_of, to_all, to_one}
@@ -21,8 +20,11 @@ use Rattle.group_node.specs.Protocol.{on_message}
 use Rattle.group_node.specs.Steps.{messages_handed_out}
 use Rattle.group_node.specs.Tick.{on_tick}
 use Rattle.group_world.specs.Group.{World, me_of, member_at, messages_in}
-use Rattle.group_world.specs.Member.{CallEnds, Makes, Member, NodeCall, call_of_campaign, call_of_start, done_of, failing, member_after_call, save_outcome}
-use Rattle.group_world.specs.Processes.{DoesDeed, EndsCall, Entry, HearsOf, IsLog}
+use Rattle.group_world.specs.Member.{Makes, Member, call_of_campaign, call_of_start, member_after_call}
+use Rattle.group_world.specs.Processes.{DoesEntry, Entry, IsLog}
+use Rattle.group_world.specs.declared.event.Done.TheVariants.{Applied}
+use Rattle.group_world.specs.Event.{HearsOf}
+use Rattle.group_world.proofs.CallLeaves.{kept_call}
 use Rattle.group_world.specs.WrittenLogs.{entry_with, first_ballot, hear_entry, press_entry, quiet_entry, start_after, started_times}
 use Rattle.group_world.proofs.ProcessEvents.{log_first, moved}
 use Rattle.group_world.proofs.EventProcesses.{log_before, no_log}
@@ -39,25 +41,10 @@ pub logs_none : (w : World) → Logs w []
 logs_none w = (w.members, (no_log w w refl).0)
 
 pub logs_before : (w : World) (e : Entry) (log : List Entry) (m new : Member) → member_at w.members e.node ≡ Some m
-    → DoesDeed w.program (me_of w e.node) m e.deed e new → HearsOf w.group w.sent e.deed → Logs (moved w e new) log → Logs w (e ∷ log)
+    → DoesEntry w.program (me_of w e.node) m e new → HearsOf w.group w.sent e.deed → Logs (moved w e new) log → Logs w (e ∷ log)
 logs_before w e log m new there does heard (now, h) = (now, log_before w e log now m new there does heard h)
 
 -- ---- what an entry leaves
-
-pub not_failing : (saves : Option Change) → failing saves None ≡ None
-not_failing None = refl
-not_failing (Some c) = refl
-
--- a call whose save, if it makes one, is kept
-pub kept_call : (me : Me) (m : Member) (progress : Progress) (deed : Deed) (call : NodeCall) (made : Response) (keys : List Value)
-    → call ≡ Makes made keys
-    → EndsCall me m progress call (record (entry_with me deed made.sends) { typed = keys }) (member_after_call made m.console progress)
-kept_call me m progress deed call made keys e =
-    let new : Member = member_after_call made m.console progress in
-    let entry : Entry = record (entry_with me deed made.sends) { typed = keys } in
-    subst (λ c. EndsCall me m progress c entry new) (sym e)
-    (subst (λ o. CallEnds me m progress (save_outcome m.kept made keys o) (done_of (save_outcome m.kept made keys o)) new entry.sent keys)
-    (sym (not_failing made.saves)) (record { answer = refl; left = refl; sends = refl; types = refl }))
 
 -- a node that is up
 abbrev pub up : Known → Progress → List ℕ → Member
@@ -79,36 +66,32 @@ fresh me kept = record {
 -- a node hears a message
 pub hear_does : (p : Parts) (me : Me) (n : Known) (progress : Progress) (console : List ℕ) (sender : ℕ) (body : Body) (made : Response)
     → on_message n sender body ≡ made
-    → DoesDeed p me (up n progress console) (Hear (record { sender = sender; body = body })) (hear_entry me sender body made.sends)
-    (member_after_call made console progress)
-hear_does p me n progress console sender body made e = (
-  _,
-  refl,
-  kept_call me (up n progress console) progress (Hear (record { sender = sender; body = body })) _ made [] (ap (λ x. Makes x []) e),
-)
+    → DoesEntry p me (up n progress console) (hear_entry me sender body made.sends) (member_after_call made console progress)
+hear_does p me n progress console sender body made e =
+    (Applied, (_, refl, kept_call me (up n progress console) progress _ made [] (ap (λ x. Makes x []) e)))
 
 -- it starts
 abbrev pub Spare : Me → ℕ → Type 0
 Spare me n = call_of_start me (started_times n) ≡ Makes (on_start me (started_times n)) []
 
 pub start_does : (p : Parts) (me : Me) (n : ℕ) → Spare me n
-    → DoesDeed p me (stopped (started_times n)) (Start (started_times n)) (start_after me n)
+    → DoesEntry p me (stopped (started_times n)) (start_after me n)
     (up (fresh me (started_times (n + 1))) (no_progress p) [])
-start_does p me n spare = (
-  refl,
-  refl,
-  kept_call me (stopped (started_times n)) (no_progress p) (Start (started_times n)) _ (on_start me (started_times n)) [] spare,
-)
+start_does p me n spare =
+    (Applied, (refl, refl, kept_call me (stopped (started_times n)) (no_progress p) _ (on_start me (started_times n)) [] spare))
 
 module _ (p : Parts) (me : Me) (kept : Record) (progress : Progress) (console : List ℕ) where
   -- a node that has heard nothing ticks
-  pub tick_does : DoesDeed p me (up (fresh me kept) progress console) Tick (entry_with me Tick (to_all (Ask 0) ∷ []))
+  pub tick_does : DoesEntry p me (up (fresh me kept) progress console) (entry_with me Tick (to_all (Ask 0) ∷ []))
       (up (fresh me kept) progress console)
   tick_does = (
-    _,
-    refl,
-    kept_call me (up (fresh me kept) progress console) progress Tick _
-        (record { node = fresh me kept; saves = None; sends = to_all (Ask 0) ∷ [] }) [] (ap (λ made. Makes made []) ticks),
+    Applied,
+    (
+      _,
+      refl,
+      kept_call me (up (fresh me kept) progress console) progress _
+          (record { node = fresh me kept; saves = None; sends = to_all (Ask 0) ∷ [] }) [] (ap (λ made. Makes made []) ticks),
+    ),
   )
     where
       ticks : on_tick (fresh me kept) ≡ record { node = fresh me kept; saves = None; sends = to_all (Ask 0) ∷ [] }
@@ -116,19 +99,22 @@ module _ (p : Parts) (me : Me) (kept : Record) (progress : Progress) (console : 
 
   -- it takes a byte
   pub press_does : (byte : ℕ) → byte < 256
-      → DoesDeed p me (up (fresh me kept) progress console) (Press byte) (press_entry me byte (Keys me.node kept.starts 1 (byte ∷ [])))
+      → DoesEntry p me (up (fresh me kept) progress console) (press_entry me byte (Keys me.node kept.starts 1 (byte ∷ [])))
       (up (record (fresh me kept) { waiting = byte ∷ [] }) progress console)
   press_does byte low = (
-    _,
-    refl,
-    low,
-    kept_call me (up (fresh me kept) progress console) progress (Press byte) _
-        (record { node = record (fresh me kept) { waiting = byte ∷ [] }; saves = None; sends = [] })
-        (Keys me.node kept.starts 1 (byte ∷ []) ∷ []) refl,
+    Applied,
+    (
+      _,
+      refl,
+      low,
+      kept_call me (up (fresh me kept) progress console) progress _
+          (record { node = record (fresh me kept) { waiting = byte ∷ [] }; saves = None; sends = [] })
+          (Keys me.node kept.starts 1 (byte ∷ []) ∷ []) refl,
+    ),
   )
 
   -- it hears another ask, and tells nothing
-  pub ask_does : (other : ℕ) → DoesDeed p me (up (fresh me kept) progress console) (Hear (record { sender = other; body = Ask 0 }))
+  pub ask_does : (other : ℕ) → DoesEntry p me (up (fresh me kept) progress console)
       (hear_entry me other (Ask 0) []) (up (fresh me kept) progress console)
   ask_does other =
       hear_does p me (fresh me kept) progress console other (Ask 0) (record { node = fresh me kept; saves = None; sends = [] }) tells
@@ -137,9 +123,9 @@ module _ (p : Parts) (me : Me) (kept : Record) (progress : Progress) (console : 
       tells = rw entries_none refl
 
   -- it crashes
-  pub crash_does : (n : Known) → DoesDeed p me (up n progress console) Crash (quiet_entry me Crash)
+  pub crash_does : (n : Known) → DoesEntry p me (up n progress console) (quiet_entry me Crash)
       (record { kept = n.kept; console = console; node = None })
-  crash_does n = (_, refl, refl, (refl, refl))
+  crash_does n = (Applied, (_, refl, refl))
 
 -- a node that has promised a ballot, and one that has begun its own
 abbrev pub promised : ℕ → ℕ → Record
@@ -158,17 +144,16 @@ module _ (p : Parts) (me : Me) (starts : ℕ) (progress : Progress) (console : L
   }
 
   -- a node that has heard nothing campaigns
-  pub campaign_does : DoesDeed p me (up (fresh me (started_times starts)) progress console) Campaign
+  pub campaign_does : DoesEntry p me (up (fresh me (started_times starts)) progress console)
       (entry_with me Campaign (to_all (Prepare (first_ballot me.node) 0) ∷ [])) (up (asking me starts) progress console)
   campaign_does =
-      (_, refl, kept_call me (up (fresh me (started_times starts)) progress console) progress Campaign _ prepares [] campaigns)
+      (Applied, (_, refl, kept_call me (up (fresh me (started_times starts)) progress console) progress _ prepares [] campaigns))
     where
       campaigns : call_of_campaign (fresh me (started_times starts)) ≡ Makes prepares []
       campaigns = rw entries_none refl
 
   -- it hears a Prepare, and promises
-  pub promise_does : (other : ℕ) → DoesDeed p me (up (fresh me (started_times starts)) progress console)
-      (Hear (record { sender = other; body = Prepare (first_ballot other) 0 }))
+  pub promise_does : (other : ℕ) → DoesEntry p me (up (fresh me (started_times starts)) progress console)
       (hear_entry me other (Prepare (first_ballot other) 0) (to_one other (Promise (first_ballot other) 0 65536 []) ∷ []))
       (up (fresh me (promised starts other)) progress console)
   promise_does other =
@@ -198,4 +183,4 @@ pub after_start : (w : World) (i : ℕ) (log : List Entry) (now : List Member) �
     → IsLog w (start_after (me_of w i) 0 ∷ log) now → IsLog (started w i) log now
 after_start w i log now there h =
     let (new, does, rest) = log_first w (start_after (me_of w i) 0) log now (stopped (started_times 0)) there h in
-    subst (λ m. IsLog (moved w (start_after (me_of w i) 0) m) log now) does.2.left rest
+    subst (λ m. IsLog (moved w (start_after (me_of w i) 0) m) log now) does.1.2.left rest

@@ -9,7 +9,7 @@ use Rattle.pcode_file.specs.Parts.{Parts}
 use Rattle.pcode_ops.specs.Decoding.{instr_of}
 use Rattle.pcode_machine.specs.declared.turn.End.TheVariants as ends
 use Rattle.pcode_machine.specs.Configuration.{Configuration}
-use Rattle.pcode_machine.specs.Outcome.{Stops, outcome}
+use Rattle.pcode_machine.specs.Transition.{Stops, transition}
 use Rattle.pcode_machine.specs.Runs.{IsOutput, IsPrefix, after_steps, led, out}
 use Rattle.paxos_msg.specs.declared.ballot.Ballot.{Ballot}
 use Rattle.paxos_msg.specs.declared.message.Body.TheVariants.{Accepted}
@@ -137,13 +137,13 @@ ten_steps : (x : List ℕ) → out letter_program x 10 ≡ 65 ∷ []
 ten_steps x = (writes_letter x).writes
 
 -- then it ends
-ended : (x : List ℕ) → outcome letter_program x (after_steps letter_program x 10) ≡ Stops ends.Normal
+ended : (x : List ℕ) → transition letter_program x (after_steps letter_program x 10) ≡ Stops ends.Normal
 unfolding after_steps instr_of
 ended x = refl
 
 -- a step more, and what is written so far
 one_more : (x : List ℕ) (n : ℕ) → after_steps letter_program x (suc n)
-    ≡ led (after_steps letter_program x n) (outcome letter_program x (after_steps letter_program x n))
+    ≡ led (after_steps letter_program x n) (transition letter_program x (after_steps letter_program x n))
 unfolding after_steps
 one_more x n = refl
 
@@ -155,7 +155,7 @@ written_by x n = refl
 still : (x : List ℕ) (n : ℕ) → after_steps letter_program x n ≡ after_steps letter_program x 10
     → after_steps letter_program x (suc n) ≡ after_steps letter_program x 10
 still x n same =
-    one_more x n ∙ ap (λ (c : Configuration). led c (outcome letter_program x c)) same
+    one_more x n ∙ ap (λ (c : Configuration). led c (transition letter_program x c)) same
     ∙ ap (led (after_steps letter_program x 10)) (ended x)
 
 stays : (x : List ℕ) (n : ℕ) → 10 ≤ n → after_steps letter_program x n ≡ after_steps letter_program x 10

@@ -6,15 +6,16 @@ use Rattle.pcode_file.specs.Parts.{Parts}
 use Rattle.paxos_msg.specs.declared.message.Body.TheVariants.{Ask, Prepare}
 use Rattle.paxos_msg.specs.declared.message.Group.{Group}
 use Rattle.paxos_msg.specs.declared.value.Value.TheVariants.{Keys}
-use Rattle.group_world.specs.declared.event.Act.TheVariants as act
+use Rattle.group_world.specs.declared.event.Done.TheVariants.{Applied, Fell}
 use Rattle.group_world.specs.declared.event.Event.{Event}
 use Rattle.group_world.specs.declared.event.Outcome.{Outcome}
 use Rattle.group_world.specs.declared.event.Outcome.TheVariants.{FailedNew, FailedOld, Kept}
-use Rattle.group_world.specs.Event.{kept_event}
+use Rattle.group_world.specs.Deeds.{Left}
+use Rattle.group_world.specs.Event.{HearsOf}
 use Rattle.std.proofs.lemmas.List.{append-nil}
 use Rattle.paxos_msg.specs.Batches.{Msg, Record}
 use Rattle.paxos_acceptor.specs.declared.me.Me.{Me}
-use Rattle.group_node.specs.Deeds.{Idle, Crash, Tick}
+use Rattle.group_node.specs.Deeds.{Idle, Crash, Press, Tick}
 use Rattle.group_node.specs.declared.player.Ran.TheVariants as ran
 use Rattle.group_node.specs.Known.{Known}
 use Rattle.group_node.specs.Output.{IsReplay, no_progress}
@@ -23,7 +24,7 @@ use Rattle.group_node.specs.Packets.{Datagram, Packet, datagram_of, datagrams_of
 use Rattle.group_node.specs.Tick.{on_tick}
 use Rattle.group_world.specs.Group.{World, me_of, member_at, messages_in, new_world}
 use Rattle.group_world.specs.Member.{IsMemberUp, Makes, Member, Running, RunsMember, call_outcome, call_of_press, sent_by, typed_by}
-use Rattle.group_world.specs.Processes.{AreEventsOf, AreEventsOfDeed, DoesDeed, Entry, HearsOf, IsLog}
+use Rattle.group_world.specs.Processes.{AreEventsOf, AreEventsOfEntry, DoesEntry, Entry, IsLog}
 use Rattle.group_world.specs.Timed.{AllHearEarlier, IsByTime, Timed}
 use Rattle.group_world.specs.WrittenLogs.{IsNoLog, IsSomeLog, entry_with, first_ballot, five_nodes, hear_entry, nine_nodes, node_in, quiet_entry, start_after, started_times, three_nodes}
 use Rattle.group_world.specs.WrongLogs.{IsOnlyOfUp, answers, campaigning, asks_all, crashes, deliver_event, failed_and_starts_over, heard_at, hears_ask_from, idle_sends, idle_types, nodes_down, only_start, press_event, press_types, presses, releasing, run_sends, starts_again_over, starts_twice, tick_sends, ticks, two_start}
@@ -48,12 +49,12 @@ start_first p w i log is there rest =
 
 -- an entry of a node that has to be up
 module _ (group : Group) (e : Entry) (there : (p : Parts) → member_at (new_world p group).members e.node ≡ Some (stopped (started_times 0)))
-    (needs : (p : Parts) (m new : Member) → DoesDeed p (node_in group e.node) m e.deed e new → IsMemberUp m) where
+    (needs : (p : Parts) (m new : Member) → DoesEntry p (node_in group e.node) m e new → IsMemberUp m) where
   not_when_down : (p : Parts) (w : World) (now : List Member) (m : Member) → w.program ≡ p → w.group ≡ group
       → member_at w.members e.node ≡ Some m → m.node ≡ None → ¬ IsLog w (e ∷ []) now
   not_when_down p w now m program same at down h =
       let (new, does, rest) = log_first w e [] now m at h in
-      let does_so = subst (λ g. DoesDeed w.program (node_in g e.node) m e.deed e new) same does in
+      let does_so = subst (λ g. DoesEntry w.program (node_in g e.node) m e new) same does in
       let (q, is) = needs w.program m new does_so in
       absurd cc
 
@@ -68,11 +69,11 @@ module _ (group : Group) (e : Entry) (there : (p : Parts) → member_at (new_wor
       let up_there : member_at (started w e.node).members e.node ≡ Some u = changed_here w.members e.node _ u (there p) in
       let (down, does, rest) = log_first (started w e.node) crash (e ∷ []) now u up_there (after_start w e.node _ now (there p) h) in
       let down_there = changed_here (started w e.node).members e.node u down up_there in
-      not_when_down p (moved (started w e.node) crash down) now down refl refl down_there (ap (λ (m : Member). m.node) does.2) rest
+      not_when_down p (moved (started w e.node) crash down) now down refl refl down_there (ap (λ (x : Left). x.member.node) does.1.2) rest
 
   -- and that is one right after a start
   pub only_of_up : (new : Parts → Member)
-      → ((p : Parts) → DoesDeed p (node_in group e.node) (first_up p (node_in group e.node)) e.deed e (new p))
+      → ((p : Parts) → DoesEntry p (node_in group e.node) (first_up p (node_in group e.node)) e (new p))
       → HearsOf group [] e.deed → IsOnlyOfUp group (node_in group e.node) e
   only_of_up new does heard = (
     λ p. start_first p (new_world p group) e.node (e ∷ []) refl (there p)
@@ -85,27 +86,27 @@ module _ (group : Group) (e : Entry) (there : (p : Parts) → member_at (new_wor
 
 pub ticks_only_up : IsOnlyOfUp nine_nodes (node_in nine_nodes 7) ticks
 ticks_only_up =
-    only_of_up nine_nodes ticks (λ p. refl) (λ p m new does. (does.0, does.1)) _
+    only_of_up nine_nodes ticks (λ p. refl) (λ p m new does. (does.1.0, does.1.1)) _
     (λ p. tick_does p (node_in nine_nodes 7) (started_times 1) (no_progress p) []) tt
 
 pub presses_only_up : IsOnlyOfUp nine_nodes (node_in nine_nodes 9) presses
 presses_only_up =
-    only_of_up nine_nodes presses (λ p. refl) (λ p m new does. (does.0, does.1)) _
+    only_of_up nine_nodes presses (λ p. refl) (λ p m new does. (does.1.0, does.1.1)) _
     (λ p. press_does p (node_in nine_nodes 9) (started_times 1) (no_progress p) [] 255 (omega arith)) tt
 
 pub campaigns_only_up : IsOnlyOfUp five_nodes (node_in five_nodes 2) campaigning
 campaigns_only_up =
-    only_of_up five_nodes campaigning (λ p. refl) (λ p m new does. (does.0, does.1)) _
+    only_of_up five_nodes campaigning (λ p. refl) (λ p m new does. (does.1.0, does.1.1)) _
     (λ p. campaign_does p (node_in five_nodes 2) 1 (no_progress p) []) tt
 
 pub releases_only_up : IsOnlyOfUp five_nodes (node_in five_nodes 3) releasing
 releases_only_up =
-    only_of_up five_nodes releasing (λ p. refl) (λ p m new does. (does.0, does.1)) (λ p. _)
-    (λ p. (_, refl, refl, (refl, refl))) tt
+    only_of_up five_nodes releasing (λ p. refl) (λ p m new does. (does.1.0, does.1.1)) (λ p. _)
+    (λ p. (Applied, (_, refl, refl))) tt
 
 pub crashes_only_up : IsOnlyOfUp nine_nodes (node_in nine_nodes 6) crashes
 crashes_only_up =
-    only_of_up nine_nodes crashes (λ p. refl) (λ p m new does. (does.0, does.1)) _
+    only_of_up nine_nodes crashes (λ p. refl) (λ p m new does. (does.1.0, does.1.1)) _
     (λ p. crash_does p (node_in nine_nodes 6) (started_times 1) (no_progress p) [] (fresh (node_in nine_nodes 6) (started_times 1))) tt
 
 pub not_twice : IsNoLog nine_nodes starts_twice
@@ -114,7 +115,7 @@ not_twice p now h =
     let rest = after_start w 8 _ now refl h in
     let (new, does, more) = log_first (started w 8) (start_after (node_in nine_nodes 8) 1) [] now (first_up p (node_in nine_nodes 8)) refl
     rest in
-    let down = does.0 in
+    let down = does.1.0 in
     absurd cc
 
 -- ---- messages
@@ -216,7 +217,7 @@ not_older p now h =
     let rest = after_start w 5 _ now refl h in
     let (down, crashed, more) = log_first (started w 5) (quiet_entry me Crash) (start_after me 0 ∷ []) now (first_up p me) refl rest in
     let (new, does, last) = log_first (moved (started w 5) (quiet_entry me Crash) down) (start_after me 0) [] now down refl more in
-    let same = ap (λ (r : Record). r.starts) (does.1 ∙ ap (λ (m : Member). m.kept) crashed.2) in
+    let same = ap (λ (r : Record). r.starts) (does.1.1 ∙ ap (λ (x : Left). x.member.kept) crashed.1.2) in
     omega arith
 
 pub its_own : IsSomeLog nine_nodes (starts_again_over 1)
@@ -237,7 +238,7 @@ not_before_failure p now h =
     let fails : Entry = record (start_after me 0) { save = FailedNew } in
     let (down, failed, more) = log_first w fails (start_after me 0 ∷ []) now (stopped (started_times 0)) refl h in
     let (new, does, last) = log_first (moved w fails down) (start_after me 0) [] now down refl more in
-    let same = ap (λ (r : Record). r.starts) (does.1 ∙ ap (λ (m : Member). m.kept) failed.2.left) in
+    let same = ap (λ (r : Record). r.starts) (does.1.1 ∙ ap (λ (m : Member). m.kept) failed.1.2.left) in
     omega arith
 
 pub after_failure : IsSomeLog nine_nodes (failed_and_starts_over 1)
@@ -246,7 +247,7 @@ after_failure p =
     let me = node_in nine_nodes 5 in
     let fails : Entry = record (start_after me 0) { save = FailedNew } in
     logs_before w fails _ (stopped (started_times 0)) (stopped (started_times 1)) refl
-    (refl, refl, record { answer = refl; left = refl; sends = refl; types = refl }) tt
+    (Fell, (refl, refl, record { answer = refl; left = refl; sends = refl; types = refl })) tt
     (logs_before (moved w fails (stopped (started_times 1))) (start_after me 1) [] (stopped (started_times 1)) _ refl
     (start_does p me 1 refl) tt (logs_none _))
 
@@ -277,25 +278,25 @@ a_third p = start_first p (new_world p three_nodes) 3 [] refl refl (logs_none _)
 pub sends_none : IsNoLog five_nodes (idle_sends (to_all (Ask 0) ∷ []))
 sends_none p now h =
     let (new, does, rest) = log_first (new_world p five_nodes) _ [] now (stopped (started_times 0)) refl h in
-    let none = does.1.0 in
+    let none = ap (λ (x : Left). x.sent) does.1 in
     absurd cc
 
 pub types_none : IsNoLog five_nodes idle_types
 types_none p now h =
     let (new, does, rest) = log_first (new_world p five_nodes) _ [] now (stopped (started_times 0)) refl h in
-    let none = does.1.1 in
+    let none = ap (λ (x : Left). x.typed) does.1 in
     absurd cc
 
 pub does_nothing : IsSomeLog five_nodes (idle_sends [])
 does_nothing p =
     let m : Member = stopped (started_times 0) in
-    logs_before (new_world p five_nodes) _ [] m m refl (refl, (refl, refl)) tt (logs_none _)
+    logs_before (new_world p five_nodes) _ [] m m refl (Applied, refl) tt (logs_none _)
 
 pub run_sends_none : IsNoLog five_nodes (run_sends (to_all (Ask 0) ∷ []))
 run_sends_none p now h =
     let rest = after_start (new_world p five_nodes) 5 _ now refl h in
     let (new, does, more) = log_first (started (new_world p five_nodes) 5) _ [] now (first_up p (node_in five_nodes 5)) refl rest in
-    let none = does.3.0 in
+    let none = ap (λ (x : Left). x.sent) does.1.3 in
     absurd cc
 
 -- each machine may make no step
@@ -312,7 +313,7 @@ runs_on begins p =
       new_is = refl;
     } in
     start_first p (new_world p five_nodes) 5 _ refl refl
-    (logs_before (started (new_world p five_nodes) 5) _ [] (first_up p me) (first_up p me) refl (_, refl, run, (refl, refl)) tt
+    (logs_before (started (new_world p five_nodes) 5) _ [] (first_up p me) (first_up p me) refl (Applied, (_, refl, run, refl)) tt
     (logs_none _))
 
 -- a tick sends one datagram
@@ -322,7 +323,7 @@ one_is_sent p now packets h =
     let w : World = new_world p nine_nodes in
     let me = node_in nine_nodes 7 in
     let rest = after_start w 7 _ now refl h in
-    let (new, (q, is, ends), more) = log_first (started w 7) (entry_with me Tick packets) [] now (first_up p me) refl rest in
+    let (new, (d, (q, is, ends)), more) = log_first (started w 7) (entry_with me Tick packets) [] now (first_up p me) refl rest in
     let same = same_Some _ q is in
     let Sends : Running → Type 0 =
     λ x. datagrams_of me packets ≡ sent_by me (call_outcome None (started_times 1) (Makes (on_tick x.known) [])) in
@@ -347,7 +348,7 @@ no_256 p now h =
     let w : World = new_world p nine_nodes in
     let rest = after_start w 9 _ now refl h in
     let (new, does, more) = log_first (started w 9) _ [] now (first_up p (node_in nine_nodes 9)) refl rest in
-    let low = does.2 in
+    let low = does.1.2 in
     omega arith
 
 serial_is : (a b : ℕ) → Keys 9 1 a (255 ∷ []) ∷ [] ≡ Keys 9 1 b (255 ∷ []) ∷ [] → a ≡ b
@@ -358,7 +359,7 @@ first_is_one p now h =
     let w : World = new_world p nine_nodes in
     let me = node_in nine_nodes 9 in
     let rest = after_start w 9 _ now refl h in
-    let (new, (q, is, low, ends), more) = log_first (started w 9) _ [] now (first_up p me) refl rest in
+    let (new, (d, (q, is, low, ends)), more) = log_first (started w 9) _ [] now (first_up p me) refl rest in
     let same = same_Some _ q is in
     let Types : Running → Type 0 =
     λ x. Keys 9 1 2 (255 ∷ []) ∷ [] ≡ typed_by (call_outcome None (started_times 1) (call_of_press x.known 255)) in
@@ -385,34 +386,25 @@ as_before p = (no_log (new_world p five_nodes) (new_world p five_nodes) refl).0
 
 -- the events of a log of one entry are those of the entry
 of_one : (group : Group) (sent : List Datagram) (e : Entry) (events : List Event) → AreEventsOf group sent (e ∷ []) events
-    → AreEventsOfDeed group sent e e.deed events
+    → AreEventsOfEntry group sent e events
 of_one group sent e events (first, rest, one, none, is) =
-    subst (AreEventsOfDeed group sent e e.deed) (sym (is ∙ ap (λ es. first ++ es) none ∙ append-nil first)) one
+    subst (AreEventsOfEntry group sent e) (sym (is ∙ ap (λ es. first ++ es) none ∙ append-nil first)) one
 
-to_one_entry : (group : Group) (sent : List Datagram) (e : Entry) (events : List Event) → AreEventsOfDeed group sent e e.deed events
+to_one_entry : (group : Group) (sent : List Datagram) (e : Entry) (events : List Event) → AreEventsOfEntry group sent e events
     → AreEventsOf group sent (e ∷ []) events
 to_one_entry group sent e events one = (events, [], one, refl, sym (append-nil events))
-
-one_event : (x y : Event) → x ∷ [] ≡ y ∷ [] → x ≡ y
-one_event x y e = cc
-
--- the event of a typed byte
-abbrev press_at : ℕ → ℕ → Outcome → Event
-press_at i byte save = record { act = act.Press i byte; save = save }
-
-same_press : (i j byte other : ℕ) (save : Outcome) → press_at i byte save ≡ press_at j other Kept → (i ≡ j) × (byte ≡ other) × (save ≡ Kept)
-same_press i j byte other save e =
-    let acts = ap (λ (x : Event). x.act) e in
-    (cc, cc, ap (λ (x : Event). x.save) e)
 
 pressed : (i byte : ℕ) (save : Outcome) → AreEventsOf nine_nodes [] (presses ∷ []) (press_event i byte save)
     → (i ≡ 9) × (byte ≡ 255) × (save ≡ Kept)
 pressed i byte save h =
-    same_press i 9 byte 255 save
-    (one_event (press_at i byte save) (press_at 9 255 Kept) (of_one nine_nodes [] presses (press_event i byte save) h))
+    let (of_act, at, saved, none) = of_one nine_nodes [] presses (press_event i byte save) h in
+    (at, same_byte byte 255 (sym of_act), saved)
+  where
+    same_byte : (a b : ℕ) → Press a ≡ Press b → a ≡ b
+    same_byte a b e = cc
 
 pub its_press : AreEventsOf nine_nodes [] (presses ∷ []) (press_event 9 255 Kept)
-its_press = to_one_entry nine_nodes [] presses (press_event 9 255 Kept) refl
+its_press = to_one_entry nine_nodes [] presses (press_event 9 255 Kept) (refl, refl, refl, refl)
 
 pub not_other_node : ¬ AreEventsOf nine_nodes [] (presses ∷ []) (press_event 8 255 Kept)
 not_other_node h = omega (arith, (pressed 8 255 Kept h).0)
@@ -424,25 +416,24 @@ pub not_other_save : ¬ AreEventsOf nine_nodes [] (presses ∷ []) (press_event 
 not_other_save h = let same = (pressed 9 255 FailedOld h).2 in absurd cc
 
 pub some_event : ¬ AreEventsOf nine_nodes [] (presses ∷ []) []
-some_event h = let none = of_one nine_nodes [] presses [] h in absurd cc
+some_event h = let idle : Press 255 ≡ Idle = of_one nine_nodes [] presses [] h in absurd cc
 
 pub no_idle_event : ¬ AreEventsOf five_nodes [] (idle_sends []) (deliver_event 0)
-no_idle_event h = let none = of_one five_nodes [] (entry_with (node_in five_nodes 4) Idle []) (deliver_event 0) h in absurd cc
-
--- the event of a delivery
-same_number : (k l : ℕ) → kept_event (act.Deliver k 4) ≡ kept_event (act.Deliver l 4) → k ≡ l
-same_number k l e = let acts = ap (λ (x : Event). x.act) e in cc
+no_idle_event h =
+    let (m, number, is) = (of_one five_nodes [] (entry_with (node_in five_nodes 4) Idle []) (deliver_event 0) h).0 in
+    let none : None ≡ Some m = number in
+    absurd cc
 
 module _ (read : ReadLaw) where
   first_message : slice_get (messages_in five_nodes campaigning.sent) 0 ≡ Some prepared
   first_message = ap (λ ms. slice_get ms 0) (asks_read read)
 
   pub its_delivery : AreEventsOf five_nodes campaigning.sent (answers ∷ []) (deliver_event 0)
-  its_delivery = to_one_entry five_nodes campaigning.sent answers (deliver_event 0) (0, first_message, refl)
+  its_delivery =
+      to_one_entry five_nodes campaigning.sent answers (deliver_event 0) ((prepared, first_message, refl), refl, refl, refl)
 
   pub no_other_message : ¬ AreEventsOf five_nodes campaigning.sent (answers ∷ []) (deliver_event 1)
   no_other_message h =
-      let (k, number, is) = of_one five_nodes campaigning.sent answers (deliver_event 1) h in
-      let same : 1 ≡ k = same_number 1 k (one_event (kept_event (act.Deliver 1 4)) (kept_event (act.Deliver k 4)) is) in
-      let there : slice_get (prepared ∷ []) k ≡ Some prepared = subst (λ ms. slice_get ms k ≡ Some prepared) (asks_read read) number in
-      omega (arith, slice_get_within (prepared ∷ []) k prepared there)
+      let (m, number, is) = (of_one five_nodes campaigning.sent answers (deliver_event 1) h).0 in
+      let there : slice_get (prepared ∷ []) 1 ≡ Some m = subst (λ ms. slice_get ms 1 ≡ Some m) (asks_read read) number in
+      omega (arith, slice_get_within (prepared ∷ []) 1 m there)

@@ -6,7 +6,7 @@ use Rattle.std.proofs.Common.{IsTrue, nat_lt, ◌==◌, ◌≡◌, ◌≢◌, �
 use Rattle.std.proofs.lemmas.Option.{same_Some}
 use Rattle.pcode_machine.specs.Runs.{AreComparable, after_steps, begin, led, out}
 use Rattle.pcode_machine.specs.Configuration.{Configuration}
-use Rattle.pcode_machine.specs.Outcome.{outcome}
+use Rattle.pcode_machine.specs.Transition.{transition}
 use Rattle.paxos_msg.specs.declared.ballot.Ballot.{Ballot}
 use Rattle.paxos_msg.specs.declared.message.Body.TheVariants.{Accepted}
 use Rattle.paxos_msg.specs.declared.value.Value.{Value}
@@ -22,7 +22,6 @@ use Rattle.group_world.specs.WrongWorlds.{accepted_message, chosen, chosen_two, 
 use Rattle.std.specs.FinMap.{empty, insert}
 use Rattle.std.specs.List.{range_with_len}
 use Rattle.paxos_learner.specs.Input.{keys_in_order}
-use Rattle.group_node.specs.World as group
 use Rattle.group_node.proofs.Elements.{each_of, minority, none_in}
 
 -- ---- keys that are not in order, or not apart
@@ -130,7 +129,7 @@ no_majority h =
 stays : (x : List ℕ) (n : ℕ) → after_steps silent x n ≡ begin silent
 unfolding after_steps
 stays x zero = refl
-stays x (suc n) = ap (λ c. led c (outcome silent x c)) (stays x n)
+stays x (suc n) = ap (λ c. led c (transition silent x c)) (stays x n)
 
 silent_output : (x : List ℕ) (n : ℕ) → out silent x n ≡ []
 unfolding out

@@ -1,13 +1,10 @@
--- A world before and after each event. Each act has one case, in the order of `WorldStep`, so that
--- the two can be read side by side.
-use Rattle.std.specs.Prelude.{◌≡◌, ℕ, ◌<◌, Bool, true, false, List, [], ◌∷◌, slice_get, Option, Some, None}
-use Rattle.paxos_msg.specs.Batches.{Msg}
-use Rattle.group_node.specs.declared.player.Ran.{Ran}
-use Rattle.group_node.specs.Output.{IsReplay, Progress, RunsOn, no_progress, unreleased_of}
-use Rattle.group_node.specs.Protocol.{on_message}
-use Rattle.group_node.specs.States.{input}
-use Rattle.group_node.specs.Tick.{on_tick}
-use Rattle.group_node.specs.World as group
+-- An event of a world: a deed at a node, and how its save goes.
+use Rattle.std.specs.Prelude.{◌≡◌, ℕ, ◌++◌, Contains, Bool, true, false, List, [], ◌∷◌, slice_get, Option, Some, None}
+use Rattle.paxos_msg.specs.declared.message.Group.{Group}
+use Rattle.paxos_msg.specs.Batches.{Msg, Record, Sent}
+use Rattle.group_node.specs.Deeds as deed
+use Rattle.group_node.specs.Deeds.{Deed}
+use Rattle.group_node.specs.Packets.{Datagram}
 use Rattle.group_node.specs.World.{WorldState, WorldStep}
 use Rattle.group_world.specs.declared.event.Act.{Act}
 use Rattle.group_world.specs.declared.event.Act.TheVariants.{Press, Deliver, Campaign, Tick, Run, Release, Crash, Start}
@@ -16,20 +13,9 @@ use Rattle.group_world.specs.declared.event.Done.TheVariants.{Applied, Refused, 
 use Rattle.group_world.specs.declared.event.Event.{Event}
 use Rattle.group_world.specs.declared.event.Outcome.{Outcome}
 use Rattle.group_world.specs.declared.event.Outcome.TheVariants.{Kept, FailedOld, FailedNew}
-use Rattle.group_world.specs.declared.member.Ask.{Ask}
-use Rattle.group_world.specs.Group.{IsDown, IsUp, World, group_after, me_of, messages_in, with_member, world_after_fall}
-use Rattle.group_world.specs.Member.{NodeCall, CallOutcome, Makes, Member, Running, at_progress, call_outcome, call_of_ask, call_of_campaign, done_of, call_of_press, member_after_release, call_of_start}
-
--- An act as an event of its group.
-abbrev pub event_of : Act → group.Event
-event_of (Press i byte) = group.Press i byte
-event_of (Deliver m i) = group.Deliver m i
-event_of (Campaign i) = group.Campaign i
-event_of (Tick i) = group.Tick i
-event_of (Run i steps) = group.Run i steps
-event_of (Release i) = group.Release i
-event_of (Crash i) = group.Crash i
-event_of (Start i) = group.Start i
+use Rattle.group_world.specs.Deeds.{DoesDeed, Left}
+use Rattle.group_world.specs.Group.{World, me_of, member_at, messages_in, with_member}
+use Rattle.group_world.specs.Member.{Member}
 
 -- The failure that is planned for an event's save: it leaves the changed record or the old one.
 -- Allows: a save that fails and leaves either record.
@@ -49,77 +35,82 @@ node_of (Release i) = i
 node_of (Crash i) = i
 node_of (Start i) = i
 
+-- The deed of an act, where these messages were sent. A delivery is the hearing of the message with
+-- that number, and a start is one over some record.
+-- Forbids: the delivery of a message that nobody sent.
+abbrev pub IsDeedOf : Sent → Act → Deed → Type 0
+IsDeedOf sent (Press i byte) d = d ≡ deed.Press byte
+IsDeedOf sent (Deliver k i) d = (m : Msg) × (slice_get sent k ≡ Some m) × (d ≡ deed.Hear m)
+IsDeedOf sent (Campaign i) d = d ≡ deed.Campaign
+IsDeedOf sent (Tick i) d = d ≡ deed.Tick
+IsDeedOf sent (Run i steps) d = d ≡ deed.Run steps
+IsDeedOf sent (Release i) d = d ≡ deed.Release
+IsDeedOf sent (Crash i) d = d ≡ deed.Crash
+IsDeedOf sent (Start i) d = (r : Record) × (d ≡ deed.Start r)
+
+-- A deed that hears, if it hears a message, what one of these datagrams spells.
+abbrev pub HearsOf : Group → List Datagram → Deed → Type 0
+HearsOf group sent (deed.Hear m) = Contains (messages_in group sent) m
+HearsOf group sent _ = Unit {0}
+
+-- The groups before and after an act: its deed at its node.
+abbrev pub StepsBy : WorldState → Act → WorldState → Type 0
+StepsBy w act v = (deed : Deed) × IsDeedOf w.sent act deed × WorldStep w (node_of act) deed v
+
 -- An event whose save, if it makes one, is kept.
 abbrev pub kept_event : Act → Event
 kept_event act = record { act = act; save = Kept }
 
 -- ---- what an event leaves
 
--- The answer `d` and the world `v` are those of a call of node `i` that ends as the outcome says.
-abbrev pub LeavesBy : World → ℕ → Member → Progress → CallOutcome → Done → World → Type 0
-LeavesBy w i m progress o d v = (d ≡ done_of o) × (v ≡ group_after w i m progress o)
+-- The world after a deed of node `i`. What was sent and typed comes after all earlier.
+-- Forbids: a change of another node.
+abbrev pub world_after : World → ℕ → Left → World
+world_after w i left = record (with_member w i left.member) {
+  sent = w.sent ++ left.sent;
+  typed = w.typed ++ left.typed;
+}
 
--- The answer `d` and the world `v` are those of this call of node `i`. `plan` says whether its save
--- fails.
--- Source: Simple 2.5.
--- Allows: the changed record after a failed save.
--- Forbids: a packet of a call whose save failed.
-abbrev pub Leaves : World → ℕ → Member → Progress → Option Bool → NodeCall → Done → World → Type 0
-Leaves w i m progress plan call d v = LeavesBy w i m progress (call_outcome plan m.kept call) d v
+-- A deed of node `i` that leads from the world `w` to `v`, with the answer `d`. `plan` says whether
+-- its save fails.
+pub record DoesAt (w : World) (i : ℕ) (plan : Option Bool) (deed : Deed) (d : Done)
+    (v : World) : Type 0 where
+  pub node : Member
+  pub there : member_at w.members i ≡ Some node
+  pub left : Left
+  pub does : DoesDeed w.program (me_of w i) node plan deed left
+  pub answers : d ≡ left.answer
+  pub leads : v ≡ world_after w i left
 
--- The answer `d` and the world `v` are those of this call of node `i`, which is up.
-abbrev pub LeavesAsked : World → ℕ → Option Bool → Ask → Done → World → Type 0
-LeavesAsked w i plan ask d v =
-    (m : Member) × (q : Running) × IsUp w i m q
-    × Leaves w i m q.progress plan (call_of_ask q.known ask) d v
+-- A start of node `i`, over the record that it has.
+abbrev pub StartsAt : World → ℕ → Option Bool → Done → World → Type 0
+StartsAt w i plan d v = (r : Record) × DoesAt w i plan (deed.Start r) d v
 
 -- An act that leads from the world `w` to `v`, with the answer `d`. `plan` says whether its save
 -- fails.
--- Each act but a crash is that call of the node. A delivery is the message that the datagram of
--- that number spells, and a run makes steps that exist. After a save that fails the node is down,
--- nothing was sent, and its record is the old one or the changed one, as planned. A crash leaves
--- record and console.
+-- It is its deed at its node.
 -- Source: Simple 2.1.
 -- Allows: any message that was ever sent, at any node, again and again.
--- Forbids: a message that nobody sent; a change of another node.
-abbrev pub Performs : World → Option Bool → Act → Done → World → Type 0
-Performs w plan (Press i byte) d v =
-    (m : Member) × (q : Running) × IsUp w i m q × (byte < 256)
-    × Leaves w i m q.progress plan (call_of_press q.known byte) d v
-Performs w plan (Deliver k i) d v =
-    (m : Member) × (q : Running) × (message : Msg) × IsUp w i m q
-    × (slice_get (messages_in w.group w.sent) k ≡ Some message)
-    × Leaves w i m q.progress plan (Makes (on_message q.known message.sender message.body) []) d v
-Performs w plan (Campaign i) d v =
-    (m : Member) × (q : Running) × IsUp w i m q
-    × Leaves w i m q.progress plan (call_of_campaign q.known) d v
-Performs w plan (Tick i) d v =
-    (m : Member) × (q : Running) × IsUp w i m q
-    × Leaves w i m q.progress plan (Makes (on_tick q.known) []) d v
-Performs w plan (Run i steps) d v =
-    (m : Member) × (q : Running) × (progress : Progress) × (ran : Ran) × IsUp w i m q
-    × RunsOn (input q.known) steps q.progress progress ran × IsReplay (input q.known) progress
-    × (d ≡ Applied) × (v ≡ with_member w i (at_progress m q progress))
-Performs w plan (Release i) d v = (m : Member) × (q : Running) × IsUp w i m q × (d ≡ Applied)
-    × (v ≡ with_member w i
-    (member_after_release m q (slice_get (unreleased_of (input q.known) q.progress) 0)))
-Performs w plan (Crash i) d v =
-    (m : Member) × (q : Running) × IsUp w i m q × (d ≡ Applied)
-    × (v ≡ world_after_fall w i m m.kept)
-Performs w plan (Start i) d v =
-    (m : Member) × IsDown w i m
-    × Leaves w i m (no_progress w.program) plan (call_of_start (me_of w i) m.kept) d v
+pub record Performs (w : World) (plan : Option Bool) (act : Act) (d : Done)
+    (v : World) : Type 0 where
+  pub deed : Deed
+  pub is_deed : IsDeedOf (messages_in w.group w.sent) act deed
+  pub does : DoesAt w (node_of act) plan deed d v
 
 -- An event that leads from the world `w` to `v`, with the answer `d`.
 abbrev pub Goes : World → Event → Done → World → Type 0
 Goes w e d v = Performs w (plan_of e.save) e.act d v
 
--- The claim that an event which its node does not refuse is that event of its group, by
--- `WorldStep`, and that one which it refuses changes nothing.
+-- The claim that a deed which its node does not refuse is that deed in its group, by `WorldStep`,
+-- and that one which it refuses changes nothing.
+abbrev pub IsStepAt : WorldState → ℕ → Deed → Done → WorldState → Type 0
+IsStepAt w i deed Applied v = WorldStep w i deed v
+IsStepAt w i deed Fell v = WorldStep w i deed v
+IsStepAt w i deed (Refused f) v = v ≡ w
+
+-- The same of an act, by its deed.
 abbrev pub IsStep : WorldState → Act → Done → WorldState → Type 0
-IsStep w act Applied v = WorldStep w (event_of act) v
-IsStep w act Fell v = WorldStep w (event_of act) v
-IsStep w act (Refused f) v = v ≡ w
+IsStep w act d v = (deed : Deed) × IsDeedOf w.sent act deed × IsStepAt w (node_of act) deed d v
 
 -- Events that lead from the world `w` to `v`, one after the other.
 -- Allows: any list of events.

@@ -1,22 +1,20 @@
 -- A group that runs a program: its nodes, what was sent and typed, and the group after a call.
-use Rattle.std.specs.Prelude.{◌≡◌, ℕ, zero, suc, ◌-◌, List, [], ◌++◌, filter_map, flat_map, replicate, slice_get, slice_set, Option, Some, None, option_map}
+use Rattle.std.specs.Prelude.{◌≡◌, ℕ, zero, suc, ◌-◌, List, [], filter_map, flat_map, replicate, slice_get, slice_set, Option, Some, None, option_map}
 use Rattle.std.specs.Result.{result_ok}
 use Rattle.pcode_file.specs.Parts.{Parts}
 use Rattle.pcode_machine.specs.Runs.{after_steps}
 use Rattle.paxos_msg.specs.declared.message.Group.{Group}
 use Rattle.paxos_msg.specs.declared.value.Value.{Value}
-use Rattle.paxos_msg.specs.Batches.{Msg, Record, Sent}
+use Rattle.paxos_msg.specs.Batches.{Msg, Sent}
 use Rattle.paxos_msg.specs.Keys.{keys_of}
 use Rattle.paxos_msg.specs.Reading.{message_at}
 use Rattle.paxos_msg.specs.Records.{empty_record}
 use Rattle.paxos_acceptor.specs.declared.me.Me.{Me}
-use Rattle.group_node.specs.Known.{Response}
 use Rattle.group_node.specs.WaitingKeys.{waiting_keys}
-use Rattle.group_node.specs.Output.{Progress}
-use Rattle.group_node.specs.Packets.{Datagram, datagrams_of}
+use Rattle.group_node.specs.Packets.{Datagram}
 use Rattle.group_node.specs.States.{input}
 use Rattle.group_node.specs.World.{Seat, Up, WorldState}
-use Rattle.group_world.specs.Member.{CallOutcome, Fell, Happened, Member, Refused, Running, member_after_fall, member_after_call}
+use Rattle.group_world.specs.Member.{Member, Running}
 
 -- A program and a group that runs it: its nodes, node 1 first, and all that was sent and typed.
 -- What was sent are datagrams, and each typed key is a batch of one; the oldest are first.
@@ -105,25 +103,3 @@ world_state w = record {
 -- The world in which node `i` is `m`, and all else is as in `w`.
 abbrev pub with_member : World → ℕ → Member → World
 with_member w i m = record w { members = slice_set w.members (i - 1) m }
-
--- The world after a call of node `i` with the response `made`, at which these keys were typed.
--- What it sends and what was typed come after all earlier.
-abbrev pub world_after_call : World → ℕ → Response → List ℕ → Progress → List Value → World
-world_after_call w i made console progress keys =
-    record (with_member w i (member_after_call made console progress)) {
-      sent = w.sent ++ datagrams_of (me_of w i) made.sends;
-      typed = w.typed ++ keys;
-    }
-
--- The world in which node `i` is down, with the record `kept`.
--- Forbids: a packet of a call whose save failed.
-abbrev pub world_after_fall : World → ℕ → Member → Record → World
-world_after_fall w i m kept = with_member w i (member_after_fall m kept)
-
--- The world after a call of node `i` that ends as the outcome says; `m` is the node before it.
--- Allows: the old record or the changed one after a failed save.
--- Forbids: a change of another node.
-abbrev pub group_after : World → ℕ → Member → Progress → CallOutcome → World
-group_after w i m progress (Refused f) = w
-group_after w i m progress (Fell kept) = world_after_fall w i m kept
-group_after w i m progress (Happened made keys) = world_after_call w i made m.console progress keys

@@ -1,5 +1,6 @@
 pub mod Member
 pub mod Group
+pub mod Deeds
 pub mod Event
 pub mod Headline
 pub mod Processes

@@ -11,6 +11,8 @@ use Rattle.group_node.specs.declared.fault.NodeFault.TheVariants as fault
 use Rattle.group_node.specs.declared.limits.TheConstants.{MOST_WAITING}
 use Rattle.group_node.specs.declared.player.Ran.{Ran}
 use Rattle.group_node.specs.Console.{offered}
+use Rattle.group_node.specs.Deeds as deed
+use Rattle.group_node.specs.Deeds.{Deed}
 use Rattle.group_node.specs.Known.{Response, Known, front, new_key, next_serial, on_start, on_typed}
 use Rattle.group_node.specs.Output.{IsReplay, Progress, RunsOn}
 use Rattle.group_node.specs.Packets.{Datagram, datagrams_of}
@@ -119,6 +121,12 @@ abbrev pub call_of_ask : Known → Ask → NodeCall
 call_of_ask n (Hear message) = Makes (on_message n message.sender message.body) []
 call_of_ask n Campaign = call_of_campaign n
 call_of_ask n Tick = Makes (on_tick n) []
+
+-- The deed of such a call.
+abbrev pub deed_of_ask : Ask → Deed
+deed_of_ask (Hear message) = deed.Hear message
+deed_of_ask Campaign = deed.Campaign
+deed_of_ask Tick = deed.Tick
 
 -- A call whose message, if it has one, a node of the group may have sent.
 abbrev pub IsOfMember : Known → Ask → Type 0

@@ -1,26 +1,23 @@
 -- Processes that are the nodes of a group: what each of them did, in one order of time, over stores
 -- that keep their records and a network that carries what was sent.
-use Rattle.std.specs.Prelude.{◌≡◌, ℕ, ◌==◌, ◌<◌, ◌≤◌, List, [], ◌∷◌, ◌++◌, length, Contains, filter, flat_map, slice_get, take, Some, None}
+use Rattle.std.specs.Prelude.{◌≡◌, ℕ, ◌==◌, ◌≤◌, List, [], ◌∷◌, ◌++◌, length, filter, flat_map, take, Some}
 use Rattle.std.specs.List.{AllByRecursion}
 use Rattle.pcode_file.specs.Parts.{Parts}
 use Rattle.paxos_msg.specs.declared.message.Group.{Group}
 use Rattle.paxos_msg.specs.declared.value.Value.{Value}
 use Rattle.paxos_msg.specs.Fits.{IsGroup}
 use Rattle.paxos_acceptor.specs.declared.me.Me.{Me}
-use Rattle.group_node.specs.Deeds.{Deed, Idle, Start, Hear, Press, Campaign, Tick, Run, Release, Crash}
-use Rattle.group_node.specs.Output.{Progress, no_progress, unreleased_of}
+use Rattle.group_node.specs.Deeds.{Deed, Idle}
 use Rattle.group_node.specs.Packets.{Datagram}
-use Rattle.group_node.specs.Protocol.{on_message}
-use Rattle.group_node.specs.States.{IsSize, input}
-use Rattle.group_node.specs.Tick.{on_tick}
+use Rattle.group_node.specs.States.{IsSize}
 use Rattle.group_node.specs.World.{Up, WorldState}
-use Rattle.group_world.specs.declared.event.Act.{Act}
-use Rattle.group_world.specs.declared.event.Act.TheVariants as act
+use Rattle.group_world.specs.declared.event.Done.{Done}
 use Rattle.group_world.specs.declared.event.Event.{Event}
 use Rattle.group_world.specs.declared.event.Outcome.{Outcome}
-use Rattle.group_world.specs.Event.{LeadsBy, plan_of}
+use Rattle.group_world.specs.Deeds.{DoesDeed, Left}
+use Rattle.group_world.specs.Event.{HearsOf, IsDeedOf, LeadsBy, node_of, plan_of}
 use Rattle.group_world.specs.Group.{World, me_of, member_at, messages_in, new_world, world_state}
-use Rattle.group_world.specs.Member.{CallEnds, Makes, Member, NodeCall, Running, RunsMember, call_of_campaign, call_of_press, call_of_start, call_outcome, done_of, member_after_fall, member_after_release}
+use Rattle.group_world.specs.Member.{Member}
 
 -- ---- what one process does
 
@@ -36,47 +33,20 @@ pub record Entry : Type 0 where
   pub sent : List Datagram
   pub typed : List Value
 
--- The entry and the node after it are those of this call of node `m`.
-abbrev pub EndsCall : Me → Member → Progress → NodeCall → Entry → Member → Type 0
-EndsCall me m progress call e new =
-    CallEnds me m progress (call_outcome (plan_of e.save) m.kept call)
-    (done_of (call_outcome (plan_of e.save) m.kept call)) new e.sent e.typed
+-- What an entry leaves that was answered so, with the node after it.
+abbrev pub left_by : Entry → Done → Member → Left
+left_by e d new = record { answer = d; member = new; sent = e.sent; typed = e.typed }
 
--- An entry at which nothing was sent or typed.
-abbrev pub IsSilent : Entry → Type 0
-IsSilent e = (e.sent ≡ []) × (e.typed ≡ [])
-
--- The entry of this deed and the node after it, where the node was `m`. `p` is the program.
--- A start reads the record that the node's store has.
--- Forbids: a start over an older record; a deed of a node that is down.
-abbrev pub DoesDeed : Parts → Me → Member → Deed → Entry → Member → Type 0
-DoesDeed p me m Idle e new = (new ≡ m) × IsSilent e
-DoesDeed p me m (Start r) e new =
-    (m.node ≡ None) × (r ≡ m.kept) × EndsCall me m (no_progress p) (call_of_start me r) e new
-DoesDeed p me m (Hear message) e new =
-    (q : Running) × (m.node ≡ Some q)
-    × EndsCall me m q.progress (Makes (on_message q.known message.sender message.body) []) e new
-DoesDeed p me m (Press byte) e new =
-    (q : Running) × (m.node ≡ Some q) × (byte < 256)
-    × EndsCall me m q.progress (call_of_press q.known byte) e new
-DoesDeed p me m Campaign e new =
-    (q : Running) × (m.node ≡ Some q) × EndsCall me m q.progress (call_of_campaign q.known) e new
-DoesDeed p me m Tick e new =
-    (q : Running) × (m.node ≡ Some q) × EndsCall me m q.progress (Makes (on_tick q.known) []) e new
-DoesDeed p me m (Run steps) e new =
-    (q : Running) × (m.node ≡ Some q) × RunsMember m q steps new × IsSilent e
-DoesDeed p me m Release e new =
-    (q : Running) × (m.node ≡ Some q)
-    × (new ≡ member_after_release m q (slice_get (unreleased_of (input q.known) q.progress) 0))
-    × IsSilent e
-DoesDeed p me m Crash e new =
-    (q : Running) × (m.node ≡ Some q) × (new ≡ member_after_fall m m.kept) × IsSilent e
+-- The entry of a deed of node `m`, and the node after it, whatever the deed answered. `p` is the
+-- program.
+abbrev pub DoesEntry : Parts → Me → Member → Entry → Member → Type 0
+DoesEntry p me m e new = (d : Done) × DoesDeed p me m (plan_of e.save) e.deed (left_by e d new)
 
 -- The node `me`, which was `m`, after these entries.
 abbrev pub IsHistory : Parts → Me → Member → List Entry → Member → Type 0
 IsHistory p me m [] last = last ≡ m
 IsHistory p me m (e ∷ es) last =
-    (mid : Member) × DoesDeed p me m e.deed e mid × IsHistory p me mid es last
+    (mid : Member) × DoesEntry p me m e mid × IsHistory p me mid es last
 
 -- ---- what the processes of a group do
 
@@ -90,11 +60,6 @@ sent_in log = flat_map (λ e. e.sent) log
 
 abbrev pub typed_in : List Entry → List Value
 typed_in log = flat_map (λ e. e.typed) log
-
--- A deed that hears, if it hears a message, what one of these datagrams spells.
-abbrev pub HearsOf : Group → List Datagram → Deed → Type 0
-HearsOf group sent (Hear m) = Contains (messages_in group sent) m
-HearsOf group sent _ = Unit {0}
 
 -- Entries each of which hears only what was sent before it: at first, or by an entry before it.
 -- Allows: a datagram that never comes, or comes again and again, late, or before an older one, or
@@ -123,31 +88,20 @@ after_log w log now =
 
 -- ---- what a log is as events
 
--- The one event of this act, with the save that the entry has.
-abbrev pub event_with : Entry → Act → List Event
-event_with e a = record { act = a; save = e.save } ∷ []
-
--- The events of an entry with this deed: an idle one is none, and each other is one, the same deed
--- at the same node. A message that is heard is one of those that were sent before, by its number.
+-- The events of an entry: an idle one is none, and each other is one, of the same deed at the same
+-- node. A message that is heard is one of those that were sent before, by its number.
 -- Forbids: an event of another node, of another message or byte, or with another save.
-abbrev pub AreEventsOfDeed : Group → List Datagram → Entry → Deed → List Event → Type 0
-AreEventsOfDeed group sent e Idle events = events ≡ []
-AreEventsOfDeed group sent e (Start r) events = events ≡ event_with e (act.Start e.node)
-AreEventsOfDeed group sent e (Hear m) events =
-    (k : ℕ) × (slice_get (messages_in group sent) k ≡ Some m)
-    × (events ≡ event_with e (act.Deliver k e.node))
-AreEventsOfDeed group sent e (Press byte) events = events ≡ event_with e (act.Press e.node byte)
-AreEventsOfDeed group sent e Campaign events = events ≡ event_with e (act.Campaign e.node)
-AreEventsOfDeed group sent e Tick events = events ≡ event_with e (act.Tick e.node)
-AreEventsOfDeed group sent e (Run steps) events = events ≡ event_with e (act.Run e.node steps)
-AreEventsOfDeed group sent e Release events = events ≡ event_with e (act.Release e.node)
-AreEventsOfDeed group sent e Crash events = events ≡ event_with e (act.Crash e.node)
+abbrev pub AreEventsOfEntry : Group → List Datagram → Entry → List Event → Type 0
+AreEventsOfEntry group sent e [] = e.deed ≡ Idle
+AreEventsOfEntry group sent e (one ∷ events) =
+    IsDeedOf (messages_in group sent) one.act e.deed × (node_of one.act ≡ e.node)
+    × (one.save ≡ e.save) × (events ≡ [])
 
 -- The events of a log, entry by entry, where `sent` was sent before it.
 abbrev pub AreEventsOf : Group → List Datagram → List Entry → List Event → Type 0
 AreEventsOf group sent [] events = events ≡ []
 AreEventsOf group sent (e ∷ log) events =
-    (first : List Event) × (rest : List Event) × AreEventsOfDeed group sent e e.deed first
+    (first : List Event) × (rest : List Event) × AreEventsOfEntry group sent e first
     × AreEventsOf group (sent ++ e.sent) log rest × (events ≡ first ++ rest)
 
 -- The claim that the processes have done what the events of their log do.

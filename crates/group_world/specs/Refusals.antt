@@ -1,5 +1,5 @@
 -- Why a world refuses an event, and how a list of events ends early.
-use Rattle.std.specs.Prelude.{◌≡◌, ◌⊎◌, ℕ, nat_lt, List, length, slice_get, take, Option, Some, None, is_some, if◌then◌else◌}
+use Rattle.std.specs.Prelude.{◌≡◌, ◌⊎◌, ℕ, nat_lt, List, length, slice_get, take, Option, Some, None, is_some, if◌then◌else◌, Result, IfOk, IfErr, OnErr, OnOk}
 use Rattle.group_world.specs.declared.event.Act.{Act}
 use Rattle.group_world.specs.declared.event.Act.TheVariants.{Press, Deliver, Campaign, Tick, Run, Release, Crash, Start}
 use Rattle.group_world.specs.declared.event.Event.{Event}
@@ -7,8 +7,9 @@ use Rattle.group_node.specs.States.{IsSize}
 use Rattle.group_world.specs.declared.fault.RunFault.{RunFault}
 use Rattle.group_world.specs.declared.fault.WorldFault.{WorldFault}
 use Rattle.group_world.specs.declared.fault.WorldFault.TheVariants.{Memory, NoNode, NoMessage, NodeDown, NodeUp, Size}
-use Rattle.group_world.specs.Event.{LeadsBy, node_of}
-use Rattle.group_world.specs.Group.{member_at, World}
+use Rattle.group_world.specs.declared.event.Done.{Done}
+use Rattle.group_world.specs.Event.{Goes, IsStep, LeadsBy, node_of}
+use Rattle.group_world.specs.Group.{member_at, World, world_state}
 use Rattle.group_world.specs.Member.{Member}
 
 -- The refusal of an event of a node that has to be up.
@@ -41,6 +42,17 @@ refusal w act = refusal_of w act (member_at w.members (node_of act))
 -- An event that is refused with `f`: as `refusal` says, or because memory ran out.
 abbrev pub IsRefused : World → Act → WorldFault → Type 0
 IsRefused w act f = (refusal w act ≡ Some f) ⊎ ((refusal w act ≡ None) × (f ≡ Memory))
+
+-- What an event of the world `w` is answered with, and the world `v` after it.
+-- One that happens is that call of its node, and its deed in its group. A refusal says why, and
+-- changes nothing.
+pub record Applies (w : World) (e : Event) (result : Result Done WorldFault)
+    (v : World) : Type 0 where
+  pub goes : IfOk result (λ d. Goes w e d v)
+  pub step : IfOk result (λ d. IsStep (world_state w) e.act d (world_state v))
+  pub taken : OnOk result (refusal w e.act ≡ None)
+  pub refused : IfErr result (λ f. IsRefused w e.act f)
+  pub same : OnErr result (v ≡ w)
 
 -- The event with this number is the first of a list that is refused, and with `f`.
 pub record IsFirstRefused (w : World) (events : List Event) (number : ℕ)

@@ -3,9 +3,10 @@ ghost use Rattle.std.specs.Prelude.{◌≡◌, ◌+◌, ◌-◌, ◌∷◌, ◌+
 ghost use Rattle.paxos_msg.specs.Records.{empty_record};
 ghost use Rattle.group_node.specs.declared.limits.TheConstants.{MOST_PACKETS};
 ghost use Rattle.group_world.specs.declared.event.Done.TheVariants.{Applied};
-ghost use Rattle.group_world.specs.Event.{LeavesAsked, Performs};
+ghost use Rattle.group_node.specs.Deeds as deed;
+ghost use Rattle.group_world.specs.Event.{DoesAt, Performs, StartsAt};
 ghost use Rattle.group_world.specs.Group.{HasUp, IsDown, member_at, new_world};
-ghost use Rattle.group_world.specs.Member.{FailsByMemory, IsOfMember, Running};
+ghost use Rattle.group_world.specs.Member.{FailsByMemory, IsOfMember, Running, deed_of_ask};
 ghost use Rattle.group_world.specs.Refusals.{refusal};
 ghost use Rattle.group_world.specs.Sound.{IsSound};
 ghost use Rattle.group_world.specs.Member as state;
@@ -167,7 +168,7 @@ impl<'a> GroupState<'a> {
         requires sound { IsSound self.old }
         requires up { HasUp self.old node }
         ensures acts { (plan : Option Bool)
-            → IfOk result (λ d. Performs self.old plan (Act.Press node byte) d self.new) }
+            → IfOk result (λ d. DoesAt self.old node plan (deed.Press byte) d self.new) }
         ensures err { OnErr result (self.new ≡ self.old) }
         ensures memory { FailsByMemory result }
     {
@@ -189,7 +190,8 @@ impl<'a> GroupState<'a> {
         requires sound { IsSound self.old }
         requires up { HasUp self.old node }
         requires fits { (q : Running) → IsOfMember q.known ask.now }
-        ensures leaves { IfOk result (λ d. LeavesAsked self.old node plan ask.now d self.new) }
+        ensures leaves { IfOk result
+            (λ d. DoesAt self.old node plan (deed_of_ask ask.now) d self.new) }
         ensures err { OnErr result (self.new ≡ self.old) }
         ensures memory { FailsByMemory result }
     {
@@ -231,7 +233,7 @@ impl<'a> GroupState<'a> {
     fn run(&mut self, node: u8, steps: u32)
         requires up { HasUp self.old node }
         ensures acts { (plan : Option Bool)
-            → Performs self.old plan (Act.Run node steps) Applied self.new }
+            → DoesAt self.old node plan (deed.Run steps) Applied self.new }
     {
         self.members[index_of(node)].run(steps);
     }
@@ -240,7 +242,7 @@ impl<'a> GroupState<'a> {
     fn release(&mut self, node: u8) -> Result<Done, WorldFault>
         requires up { HasUp self.old node }
         ensures acts { (plan : Option Bool)
-            → IfOk result (λ d. Performs self.old plan (Act.Release node) d self.new) }
+            → IfOk result (λ d. DoesAt self.old node plan deed.Release d self.new) }
         ensures err { OnErr result (self.new ≡ self.old) }
         ensures memory { FailsByMemory result }
     {
@@ -251,7 +253,7 @@ impl<'a> GroupState<'a> {
     fn crash(&mut self, node: u8)
         requires up { HasUp self.old node }
         ensures acts { (plan : Option Bool)
-            → Performs self.old plan (Act.Crash node) Applied self.new }
+            → DoesAt self.old node plan deed.Crash Applied self.new }
     {
         self.members[index_of(node)].crash(self.alloc);
     }
@@ -261,7 +263,7 @@ impl<'a> GroupState<'a> {
     fn start(&mut self, node: u8, plan: Option<bool>) -> Result<Done, WorldFault>
         requires sound { IsSound self.old }
         requires down { (m : state.Member) × IsDown self.old node m }
-        ensures acts { IfOk result (λ d. Performs self.old plan (Act.Start node) d self.new) }
+        ensures acts { IfOk result (λ d. StartsAt self.old node plan d self.new) }
         ensures err { OnErr result (self.new ≡ self.old) }
         ensures memory { FailsByMemory result }
     {

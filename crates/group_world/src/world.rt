@@ -1,10 +1,9 @@
 //! A group whose invariant is known: after each event the claims of the main theorem hold.
-ghost use Rattle.std.specs.Prelude.{◌≡◌, ◌↔◌, ◌⊎◌, None, length, option_and_then, option_map, slice_get, IfErr, IfOk, IsErrOf, OnErr, OnOk};
+ghost use Rattle.std.specs.Prelude.{◌≡◌, ◌↔◌, ◌⊎◌, length, option_and_then, option_map, slice_get, IfErr, IfOk, IsErrOf, OnOk};
 ghost use Rattle.group_node.specs.States.{IsSize};
-ghost use Rattle.group_world.specs.Event.{Goes, IsStep};
 ghost use Rattle.group_world.specs.Group.{member_at, new_world, world_state};
 ghost use Rattle.group_world.specs.Member.{running};
-ghost use Rattle.group_world.specs.Refusals.{IsRefused, refusal};
+ghost use Rattle.group_world.specs.Refusals.{Applies};
 ghost use Rattle.group_world.specs.Headline.{ConsolesAgree, ConsolesGrow, ConsolesHoldOutput, HasNoGap, LearnedAgree, LearnedChosen, LearnedStays};
 ghost use Rattle.group_world.specs.Order.{KeysOnce, SerialsInOrder};
 
@@ -12,7 +11,7 @@ use crate::event::{Done, Event};
 use crate::fault::WorldFault;
 use crate::group::GroupState;
 use crate::laws::{
-    events_keep_it_sound, events_keep_order, ordered_worlds_are_orderly, sound_worlds_agree,
+    deeds_keep_it_sound, deeds_keep_order, ordered_worlds_are_orderly, sound_worlds_agree,
 };
 use group_node::{Node, Packet};
 use paxos_acceptor::MemoryStore;
@@ -67,8 +66,8 @@ impl<'a> World<'a> {
         ensures fit { OnOk result (IsSize size) }
         ensures others { IfErr result (λ e. (e ≡ WorldFault.Size) ⊎ (e ≡ WorldFault.Memory)) }
     {
-        events_keep_it_sound();
-        events_keep_order();
+        deeds_keep_it_sound();
+        deeds_keep_order();
         if size % 2 == 0 || size > 9 {
             return Err(WorldFault::Size);
         }
@@ -88,12 +87,7 @@ impl<'a> World<'a> {
     /// the changed one. A crash leaves the record and the console.
     #[tactic(none)]
     pub fn apply(&mut self, event: &Event) -> Result<Done, WorldFault>
-        ensures goes { IfOk result (λ d. Goes self.old event.now d self.new) }
-        ensures step { IfOk result
-            (λ d. IsStep (world_state self.old) event.now.act d (world_state self.new)) }
-        ensures taken { OnOk result (refusal self.old event.now.act ≡ None) }
-        ensures same { OnErr result (self.new ≡ self.old) }
-        ensures refused { IfErr result (λ e. IsRefused self.old event.now.act e) }
+        ensures applies { Applies self.old event.now result self.new }
         ensures learned_stays { LearnedStays (world_state self.old) (world_state self.new) }
         ensures consoles_grow { ConsolesGrow (world_state self.old) (world_state self.new) }
         ensures learned_agree { LearnedAgree (world_state self.new) }
@@ -104,8 +98,8 @@ impl<'a> World<'a> {
         ensures key_once { KeysOnce (world_state self.new) }
         ensures serials_in_order { SerialsInOrder (world_state self.new) }
     {
-        events_keep_it_sound();
-        events_keep_order();
+        deeds_keep_it_sound();
+        deeds_keep_order();
         sound_worlds_agree();
         ordered_worlds_are_orderly();
         agreement();

@@ -10,15 +10,16 @@ ghost use Rattle.paxos_learner.specs.Learner.{HasLearnedMore};
 ghost use Rattle.paxos_learner.specs.Input.{learned_input};
 ghost use Rattle.group_node.specs.declared.player.Ran.{Ran};
 ghost use Rattle.group_node.specs.Console.{offered};
+ghost use Rattle.group_node.specs.Deeds as deed;
 ghost use Rattle.group_node.specs.Known.{Known};
 ghost use Rattle.group_node.specs.ProposerRows.{on_campaign};
 ghost use Rattle.group_node.specs.Protocol.{on_message};
 ghost use Rattle.group_node.specs.Tick.{on_tick};
 ghost use Rattle.group_node.specs.Output.{IsReplay, no_progress, Progress, RunsOn, unreleased_of};
-ghost use Rattle.group_node.specs.World.{Release, Run, seat_of, Sits, with_seat, WorldState, WorldStep};
+ghost use Rattle.group_node.specs.World.{seat_of, Sits, with_seat, WorldState, WorldStep};
 
 use paxos_learner::laws::{input_grows, learned_stays};
-use pcode_machine::laws::{run_is_after, same_run_on_longer_input, step_is_outcome};
+use pcode_machine::laws::{run_is_after, same_run_on_longer_input, step_is_transition};
 
 /// What is learned stays learned, at a message, a campaign and a tick.
 pub fn calls_keep_what_is_learned()
@@ -50,14 +51,14 @@ pub fn learning_keeps_the_output()
     run_is_after();
 }
 
-/// A run, and the release of a byte to the console, are events of the group, if the machine is
-/// where a replay on the learned input is. A run makes at most as many steps as it may.
-pub fn output_is_an_event()
+/// A run, and the release of a byte to the console, are deeds that the group allows, if the machine
+/// is where a replay on the learned input is. A run makes at most as many steps as it may.
+pub fn output_is_a_deed()
     ensures run { (w : WorldState) (n : Known) (steps m made k : ℕ) (console : List ℕ)
         → Sits w n (after_steps w.program (learned_input n.learner.learned) m) k console
         → made ≤ steps → LeadsIn w.program (learned_input n.learner.learned) (m + made)
         (after_steps w.program (learned_input n.learner.learned) (m + made))
-        → WorldStep w (Run n.me.node steps)
+        → WorldStep w n.me.node (deed.Run steps)
         (with_seat w n.me.node
         (seat_of n (after_steps w.program (learned_input n.learner.learned) (m + made)) k
         console)) }
@@ -65,13 +66,13 @@ pub fn output_is_an_event()
         → Sits w n (after_steps w.program (learned_input n.learner.learned) m) k console
         → unreleased_of (learned_input n.learner.learned)
         (record { program = w.program; steps = m; released = k }) ≡ byte ∷ rest
-        → WorldStep w (Release n.me.node)
+        → WorldStep w n.me.node deed.Release
         (with_seat w n.me.node
         (seat_of n (after_steps w.program (learned_input n.learner.learned) m) (k + 1)
         (offered console k byte))) }
     ensures few { (x : List ℕ) (steps : ℕ) (old new : Progress) (answer : Ran)
         → RunsOn x steps old new answer → new.steps ≤ old.steps + steps }
 {
-    step_is_outcome();
+    step_is_transition();
     run_is_after();
 }

@@ -1,15 +1,15 @@
 //! Laws of the order of the keys that a group has chosen.
-ghost use Rattle.std.specs.Prelude.{◌≡◌, ◌∷◌, [], Bool, flat_map, List, map, Option};
+ghost use Rattle.std.specs.Prelude.{◌≡◌, ◌∷◌, [], ℕ, Bool, flat_map, List, map, Option};
 ghost use Rattle.pcode_file.specs.Parts.{Parts};
 ghost use Rattle.paxos_msg.specs.declared.message.Group.{Group};
 ghost use Rattle.paxos_msg.specs.declared.value.Value.{Value};
 ghost use Rattle.paxos_msg.specs.declared.value.Value.TheVariants.{Keys};
 ghost use Rattle.paxos_msg.specs.Keys.{keys_of};
 ghost use Rattle.paxos_learner.specs.Input.{input_of, keys_in_order};
+ghost use Rattle.group_node.specs.Deeds.{Deed};
 ghost use Rattle.group_node.specs.Inputs.{AreChosen};
-ghost use Rattle.group_world.specs.declared.event.Act.{Act};
 ghost use Rattle.group_world.specs.declared.event.Done.{Done};
-ghost use Rattle.group_world.specs.Event.{Performs};
+ghost use Rattle.group_world.specs.Event.{DoesAt};
 ghost use Rattle.group_world.specs.Group.{new_world, World, world_state};
 ghost use Rattle.group_world.specs.Order.{AreApart, AreInOrder, KeysOnce, SerialsInOrder};
 ghost use Rattle.group_world.specs.Ordered.{IsOrdered};
@@ -33,12 +33,12 @@ pub fn ordered_worlds_are_orderly()
     agreement();
 }
 
-/// A world is ordered before all events, and each event of a sound world that leaves a sound one
+/// A world is ordered before all events, and each deed in a sound world that leaves a sound one
 /// keeps it ordered.
-pub fn events_keep_order()
+pub fn deeds_keep_order()
     ensures begins { (p : Parts) (group : Group) → IsOrdered (new_world p group) }
-    ensures goes_on { (w v : World) (plan : Option Bool) (act : Act) (d : Done) → IsSound w
-        → IsSound v → IsOrdered w → Performs w plan act d v → IsOrdered v }
+    ensures goes_on { (w v : World) (i : ℕ) (plan : Option Bool) (deed : Deed) (d : Done)
+        → IsSound w → IsSound v → IsOrdered w → DoesAt w i plan deed d v → IsOrdered v }
 {
     keys_are_read_once();
     key_tests_are_exact();

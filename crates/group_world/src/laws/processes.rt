@@ -13,8 +13,8 @@ ghost use Rattle.group_world.specs.Order.{KeysOnce, SerialsInOrder};
 ghost use Rattle.group_world.specs.Processes.{AlwaysLaterOfProcesses, AlwaysOfProcesses, AreEvents, AreEventsOf, ConsolesShowReleased, Entry, HasMoment, IsCarried, IsHistory, IsLog, MayBeLogged, after_log};
 ghost use Rattle.group_world.specs.Timed.{AllHearEarlier, IsByTime, Timed, untimed};
 
-use crate::laws::order::events_keep_order;
-use crate::laws::sound::events_keep_it_sound;
+use crate::laws::order::deeds_keep_order;
+use crate::laws::sound::deeds_keep_it_sound;
 use crate::laws::worlds::{headline, later_worlds_agree};
 use group_node::laws::input_is_chosen;
 use paxos_learner::laws::values_are_learned;
@@ -78,8 +78,8 @@ pub fn processes_headline()
 pub fn processes_show()
     ensures shows { AlwaysOfProcesses ConsolesShowReleased }
 {
-    events_keep_it_sound();
-    events_keep_order();
+    deeds_keep_it_sound();
+    deeds_keep_order();
     agreement();
     input_is_chosen();
     values_are_learned();

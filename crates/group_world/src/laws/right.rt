@@ -8,21 +8,21 @@ ghost use Rattle.paxos_msg.specs.Chosen.{IsChosenBy};
 ghost use Rattle.paxos_learner.specs.Input.{keys_in_order};
 ghost use Rattle.group_node.specs.declared.console.Offer.TheVariants.{Repeat};
 ghost use Rattle.group_node.specs.Console.{offer_answer};
+ghost use Rattle.group_node.specs.Deeds as deed;
 ghost use Rattle.group_node.specs.Inputs.{AreChosen};
-ghost use Rattle.group_node.specs.World as group;
 ghost use Rattle.group_node.specs.World.{WorldState, WorldStep};
 ghost use Rattle.group_node.specs.WrongSteps.{ballot_by};
 ghost use Rattle.group_world.specs.Headline.{HasLearned};
 ghost use Rattle.group_world.specs.Order.{AreInOrder};
-ghost use Rattle.group_world.specs.RightGroups.{LeadsInSteps, first_batch, one_new, restart_events, second_batch, takeover_events, three_new, two_learn_events, two_show_events, two_starts_events};
+ghost use Rattle.group_world.specs.RightGroups.{LeadsInSteps, first_batch, one_new, restart_acts, second_batch, takeover_acts, three_new, two_learn_acts, two_show_acts, two_starts_acts};
 ghost use Rattle.group_world.specs.Witness.{echoes, letter_program};
 
-use pcode_machine::laws::step_is_outcome;
+use pcode_machine::laws::step_is_transition;
 
 /// Two nodes of a group of three learn one key for one place, whichever place it is.
 pub fn two_learn()
     ensures { (p : Parts) (s : ℕ) → (w : WorldState)
-        × LeadsInSteps (three_new p) two_learn_events w
+        × LeadsInSteps (three_new p) two_learn_acts w
         × HasLearned w 1 s first_batch × HasLearned w 2 s first_batch }
 {}
 
@@ -30,18 +30,18 @@ pub fn two_learn()
 /// both consoles show it.
 pub fn two_show()
     ensures { (w : WorldState)
-        × LeadsInSteps (three_new echoes) (two_learn_events ++ two_show_events) w
+        × LeadsInSteps (three_new echoes) (two_learn_acts ++ two_show_acts) w
         × HasLearned w 1 0 first_batch × HasLearned w 2 0 first_batch
         × ((w.seats 1).console ≡ 65 ∷ []) × ((w.seats 2).console ≡ 65 ∷ []) }
 {
-    step_is_outcome();
+    step_is_transition();
 }
 
 /// A second ballot takes over a vote of the first. In a group of three node 2 accepts a key for
 /// place 700 under a ballot of node 1. Then node 3 proposes the same key under a greater ballot of
 /// its own, by which the key is chosen, and learns it.
 pub fn takeover()
-    ensures { (p : Parts) → (w : WorldState) × LeadsInSteps (three_new p) takeover_events w
+    ensures { (p : Parts) → (w : WorldState) × LeadsInSteps (three_new p) takeover_acts w
         × IsSent w.sent 2 (Accepted (ballot_by 1 1) 700 first_batch)
         × IsChosenBy 3 w.sent (ballot_by 3 2) 700 first_batch × HasLearned w 3 700 first_batch }
 {}
@@ -50,17 +50,17 @@ pub fn takeover()
 /// crashes; it starts again and writes the byte again, which its console has shown. It releases
 /// that byte, and the console stays as it is.
 pub fn releases_again()
-    ensures { (w v : WorldState) × LeadsInSteps (three_new letter_program) restart_events w
-        × WorldStep w (group.Release 1) v × (offer_answer (w.seats 1).console 0 ≡ Repeat)
+    ensures { (w v : WorldState) × LeadsInSteps (three_new letter_program) restart_acts w
+        × WorldStep w 1 deed.Release v × (offer_answer (w.seats 1).console 0 ≡ Repeat)
         × ((v.seats 1).console ≡ 65 ∷ []) }
 {
-    step_is_outcome();
+    step_is_transition();
 }
 
 /// Keys of two starts of one node, whose serials begin again, are learned and chosen at two places,
 /// and are in order.
 pub fn two_starts()
-    ensures { (p : Parts) → (w : WorldState) × LeadsInSteps (one_new p) two_starts_events w
+    ensures { (p : Parts) → (w : WorldState) × LeadsInSteps (one_new p) two_starts_acts w
         × HasLearned w 1 0 first_batch × HasLearned w 1 1 second_batch
         × AreChosen w.size w.sent (first_batch ∷ second_batch ∷ [])
         × AreInOrder (keys_in_order (first_batch ∷ second_batch ∷ [])) }

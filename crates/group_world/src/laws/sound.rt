@@ -1,19 +1,19 @@
-//! Laws of what holds of every world: events keep it sound, and what follows for a sound one.
-ghost use Rattle.std.specs.Prelude.{Bool, Option};
+//! Laws of what holds of every world: deeds keep it sound, and what follows for a sound one.
+ghost use Rattle.std.specs.Prelude.{ℕ, Bool, Option};
 ghost use Rattle.pcode_file.specs.Parts.{Parts};
 ghost use Rattle.paxos_msg.specs.declared.message.Group.{Group};
 ghost use Rattle.paxos_msg.specs.Fits.{IsGroup};
+ghost use Rattle.group_node.specs.Deeds.{Deed};
 ghost use Rattle.group_node.specs.States.{IsSize};
-ghost use Rattle.group_world.specs.declared.event.Act.{Act};
 ghost use Rattle.group_world.specs.declared.event.Done.{Done};
-ghost use Rattle.group_world.specs.Event.{IsStep, Performs};
+ghost use Rattle.group_world.specs.Event.{DoesAt, HearsOf, IsStepAt};
 ghost use Rattle.group_world.specs.Group.{new_world, World, world_state};
 ghost use Rattle.group_world.specs.Headline.{ConsolesAgree, ConsolesHoldOutput, HasNoGap, LearnedAgree, LearnedChosen};
 ghost use Rattle.group_world.specs.Sound.{IsSound};
 
 use group_node::laws::{
-    calls_are_events, calls_are_lawful, input_is_chosen, lawful_calls_go_on,
-    learning_keeps_the_output, others_keep_it_backed, output_is_an_event, what_goes_out_fits,
+    calls_are_deeds, calls_are_lawful, input_is_chosen, lawful_calls_go_on,
+    learning_keeps_the_output, others_keep_it_backed, output_is_a_deed, what_goes_out_fits,
 };
 use paxos_acceptor::laws::backing;
 use paxos_learner::laws::{one_front, values_are_learned};
@@ -21,23 +21,25 @@ use paxos_msg::grammar::spelling_is_read;
 use paxos_msg::laws::{agreement, growth, restarts, sent_only_grows};
 use pcode_machine::laws::{output_only_grows, prefixes_are_ordered};
 
-/// A world is sound before all events, and each event keeps it sound. In a sound world, an event
-/// that is not refused is that event of its group, and one that is refused changes nothing.
-pub fn events_keep_it_sound()
+/// A world is sound before all events, and each deed of a node keeps it sound, if it hears only
+/// what was sent. In a sound world, a deed that is not refused is that deed in its group, by
+/// `WorldStep`, and one that is refused changes nothing.
+pub fn deeds_keep_it_sound()
     ensures begins { (p : Parts) (group : Group) → IsSize group.size → IsGroup group
         → IsSound (new_world p group) }
-    ensures goes_on { (w v : World) (plan : Option Bool) (act : Act) (d : Done) → IsSound w
-        → Performs w plan act d v → IsSound v }
-    ensures step { (w v : World) (plan : Option Bool) (act : Act) (d : Done) → IsSound w
-        → Performs w plan act d v → IsStep (world_state w) act d (world_state v) }
+    ensures goes_on { (w v : World) (i : ℕ) (plan : Option Bool) (deed : Deed) (d : Done)
+        → IsSound w → HearsOf w.group w.sent deed → DoesAt w i plan deed d v → IsSound v }
+    ensures step { (w v : World) (i : ℕ) (plan : Option Bool) (deed : Deed) (d : Done)
+        → IsSound w → HearsOf w.group w.sent deed → DoesAt w i plan deed d v
+        → IsStepAt (world_state w) i deed d (world_state v) }
 {
     calls_are_lawful();
     what_goes_out_fits();
     learning_keeps_the_output();
     lawful_calls_go_on();
     others_keep_it_backed();
-    calls_are_events();
-    output_is_an_event();
+    calls_are_deeds();
+    output_is_a_deed();
     input_is_chosen();
     backing();
     one_front();

@@ -11,8 +11,8 @@ ghost use Rattle.group_world.specs.Headline.{Always, AlwaysLater, ConsolesAgree,
 ghost use Rattle.group_world.specs.Order.{KeysOnce, SerialsInOrder};
 ghost use Rattle.group_world.specs.Witness.{echoes, letter, letter_batch, one, shown_events};
 
-use crate::laws::order::{events_keep_order, ordered_worlds_are_orderly};
-use crate::laws::sound::{events_keep_it_sound, sound_worlds_agree};
+use crate::laws::order::{deeds_keep_order, ordered_worlds_are_orderly};
+use crate::laws::sound::{deeds_keep_it_sound, sound_worlds_agree};
 use paxos_msg::grammar::spelling_is_read;
 use paxos_msg::laws::{agreement, sent_only_grows};
 use pcode_machine::laws::output_only_grows;
@@ -38,8 +38,8 @@ pub fn headline()
     ensures key_once { Always KeysOnce }
     ensures serials_in_order { Always SerialsInOrder }
 {
-    events_keep_it_sound();
-    events_keep_order();
+    deeds_keep_it_sound();
+    deeds_keep_order();
     sound_worlds_agree();
     ordered_worlds_are_orderly();
 }
@@ -53,8 +53,8 @@ pub fn later_worlds_agree()
     ensures learned_stays { AlwaysLater LearnedStays }
     ensures consoles_grow { AlwaysLater ConsolesGrow }
 {
-    events_keep_it_sound();
-    events_keep_order();
+    deeds_keep_it_sound();
+    deeds_keep_order();
     sound_worlds_agree();
     agreement();
     sent_only_grows();

@@ -7,7 +7,7 @@ use Rattle.group_world.proofs.running.run.Goals as goal
 
 pub loop-event-preserved : goal.loop-event-preserved
 loop-event-preserved c =
-    happens_next _ _ _ _ _ c.in_default.field-0 _ c.loop-event-test.true c.loop-event.invariant c.in_default.ensures.goes
+    happens_next _ _ _ _ _ c.in_default.field-0 _ c.loop-event-test.true c.loop-event.invariant c.in_default.ensures.applies.goes
 
 pub returns : goal.returns
 returns c =
@@ -34,5 +34,5 @@ returns-in-Err-apply-clause-refused c =
     inr (
       c.in-Ok.ensures.fit,
       inr (first_refused _ _ _ _ _ _ c.loop-event-test.true
-          c.loop-event.invariant c.in-Err-apply.ensures.refused),
+          c.loop-event.invariant c.in-Err-apply.ensures.applies.refused),
     )

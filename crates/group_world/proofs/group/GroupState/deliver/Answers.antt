@@ -1,5 +1,6 @@
 use Rattle.std.proofs.Common.{◌∙◌, ap, refl}
 use Rattle.std.proofs.lemmas.Result.{IfOk-weaker}
+use Rattle.group_node.specs.Deeds as deed
 use Rattle.group_node.specs.Packets.{Datagram}
 use Rattle.group_world.specs.declared.member.Ask.TheVariants.{Hear}
 use Rattle.group_world.proofs.GroupCalls.{above, asks_so, delivered, lent_up, unchanged_on_err}
@@ -24,7 +25,8 @@ returns-clause-acts c =
     let read =
     delivered c.self.view_is c.requires.sound c.requires.sent (rw c.reserve.ensures.items at c.index.ensures)
     (c.as_slice.ensures.value ∙ ap (λ (datagram : Datagram). datagram.bytes) c.behind-self.view_is) c.in-Ok.ensures.only in
-    IfOk-weaker c.ask-done.result _ _ (λ d asked. (asked.0, asked.1, c.in-Ok.view, asked.2, read.1, asked.3))
+    IfOk-weaker c.ask-done.result _ _
+    (λ d asked. record { deed = deed.Hear c.in-Ok.view; is_deed = (c.in-Ok.view, read.1, refl); does = asked })
     (asks_so c.self.view_is c.args.node c.index_of.ensures c.index_mut.ensures.value c.requires.up _ _ c.requires.sound c.args.plan
     (Hear c.in-Ok.view) c.ask-done.result (rw c.reserve.ensures.items at c.collect.ensures.sent) c.ask-done.ensures.ends)
 

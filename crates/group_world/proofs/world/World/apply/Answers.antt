@@ -5,7 +5,7 @@ use Rattle.group_world.specs.Group.{World, world_state}
 use Rattle.group_world.specs.Headline.{ConsolesAgree, ConsolesGrow, ConsolesHoldOutput, HasNoGap, LearnedAgree, LearnedChosen, LearnedStays}
 use Rattle.group_world.specs.Order.{KeysOnce, SerialsInOrder}
 use Rattle.group_world.specs.Ordered.{Holds}
-use Rattle.group_world.proofs.HoldsAfterEvents.{ChosenLaws, EventLaws, Grows, answer_grows, event_holds, grown_learned, grows_none}
+use Rattle.group_world.proofs.HoldsAfterEvents.{ChosenLaws, EventLaws, Grows, answer_grows, event_holds, heard_by, grown_learned, grows_none}
 use Rattle.group_world.proofs.world.World.apply.Goals as goal
 use Rattle.group_world.proofs.world.World.apply.Goals.{After-refusal}
 
@@ -48,11 +48,8 @@ returns-in-Some c =
     let held = c.self.invariant in
     let k = claims (goal.at.returns-in-Some c).After-refusal _ _ held held (grows_none _ _ refl) in
     rw (← c.self.view_is) (record {
-      goes = tt;
-      step = tt;
-      taken = tt;
-      same = refl;
-      refused = inl (sym c.refusal.ensures ∙ c.in-Some.is);
+      applies =
+          record { goes = tt; step = tt; taken = tt; same = refl; refused = inl (sym c.refusal.ensures ∙ c.in-Some.is) };
       learned_stays = k.learned_stays;
       consoles_grow = k.consoles_grow;
       learned_agree = k.learned_agree;
@@ -87,15 +84,22 @@ returns c =
     let goes : IfOk r (λ d. Goes c.self.inside.group c.args.event.now d c.perform.new.self) =
     rw (← c.plan.ensures) c.perform.ensures.acts in
     let step = IfOk-weaker r _ _
-    (λ d goes. c.events_keep_it_sound.ensures.step c.self.inside.group _ (plan_of _) _ d c.self.invariant.sound goes) goes in
+    (λ d goes. (
+      goes.deed,
+      goes.is_deed,
+      c.deeds_keep_it_sound.ensures.step c.self.inside.group _ _ (plan_of _) goes.deed d c.self.invariant.sound
+          (heard_by _ _ _ goes.deed goes.is_deed) goes.does,
+    )) goes in
     let k = claims (goal.at.returns c).After-refusal _ _ c.self.invariant (holds c)
     (answer_grows c.self.inside.group _ _ r step c.perform.ensures.err) in
     rw (← c.self.view_is) (record {
-      goes = goes;
-      step = step;
-      taken = let none = sym c.in_default.ensures in search rules;
-      same = c.perform.ensures.err;
-      refused = IfErr-weaker r _ _ (λ f memory. inr (sym c.in_default.ensures, memory)) c.perform.ensures.memory;
+      applies = record {
+        goes = goes;
+        step = step;
+        taken = let none = sym c.in_default.ensures in search rules;
+        same = c.perform.ensures.err;
+        refused = IfErr-weaker r _ _ (λ f memory. inr (sym c.in_default.ensures, memory)) c.perform.ensures.memory;
+      };
       learned_stays = k.learned_stays;
       consoles_grow = k.consoles_grow;
       learned_agree = k.learned_agree;

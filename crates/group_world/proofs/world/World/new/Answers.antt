@@ -8,7 +8,7 @@ invariant_of-result c =
     let odd : c.args.size % 2 ≡ 1 = omega (arith, mod-lt c.args.size {m = 2} (omega arith), c.if-size-eq0.false) in
     let group : Group = record { size = c.args.size; session = c.args.session } in
     rw c.in-Ok.ensures (record {
-      sound = c.events_keep_it_sound.ensures.begins _ group (record { odd = odd; few = c.if-size-gt9.false })
+      sound = c.deeds_keep_it_sound.ensures.begins _ group (record { odd = odd; few = c.if-size-gt9.false })
           c.ranges.session.fits;
-      ordered = c.events_keep_order.ensures.begins _ group;
+      ordered = c.deeds_keep_order.ensures.begins _ group;
     })

@@ -1,12 +1,11 @@
--- The calls of a node are events of its group.
-use Rattle.std.proofs.Common.{◌≡◌, ◌≢◌, ◌∙◌, ℕ, List, [], ◌∷◌, ◌++◌, Option, Some, None, IfSome, slice_get, inl, inr, refl, sym, ap, append-nil, arith}
-use Rattle.std.proofs.lemmas.Option.{get_or_from_slice_get, slice_get_within}
+-- The calls of a node are deeds that its group allows.
+use Rattle.std.proofs.Common.{◌≡◌, ◌≢◌, ◌∙◌, ℕ, List, [], ◌∷◌, ◌++◌, Option, Some, None, IfSome, inl, inr, refl, sym, ap, append-nil, arith}
 use Rattle.std.specs.Ordering.{nat_cmp}
 use Rattle.std.specs.FinMap.{FinMap}
 use Rattle.std.proofs.lemmas.Bool.Decides.{nat_tests}
 use Rattle.pcode_machine.specs.Configuration.{Configuration}
 use Rattle.paxos_msg.specs.declared.value.Value.{Value}
-use Rattle.paxos_msg.specs.Batches.{Body, Change, Msg, Record, Sent}
+use Rattle.paxos_msg.specs.Batches.{Body, Change, Record, Sent}
 use Rattle.paxos_msg.specs.Keys.{Key, keys_of}
 use Rattle.paxos_msg.specs.Messages.{IsSent}
 use Rattle.paxos_msg.specs.Records.{changed, MaySave}
@@ -24,17 +23,11 @@ use Rattle.group_node.specs.Tick.{on_tick}
 use Rattle.group_node.specs.World.{after_call, AreParted, CallOrFall, Falls, MakesCall, MayCause, Seat, seat_of, Sits, Up, with_seat, WorldState}
 use Rattle.group_node.proofs.Seats.{seat_alone, seat_elsewhere, seat_here}
 use Rattle.group_node.proofs.WaitingKeys.{keys_from-append, message_parted}
-use Rattle.group_node.proofs.laws.events.calls_are_events.Goals as goal
+use Rattle.group_node.proofs.laws.deeds.calls_are_deeds.Goals as goal
 
 -- keys that all stay
 all_stay : {learned : FinMap nat_cmp Value} {keys stay : List Key} → stay ≡ keys → AreParted learned keys stay
 all_stay {learned} e = grind (arith, nat_tests)
-
--- a message by its number was sent
-sent_at : (sent : Sent) (m j : ℕ) (body : Body) → slice_get sent m ≡ Some (record { sender = j; body = body }) → IsSent sent j body
-sent_at sent m j body e =
-    let x : Msg = record { sender = j; body = body } in
-    (m, slice_get_within sent m x e, get_or_from_slice_get sent m x x e)
 
 -- a save of a lawful call makes the record what it says
 saved_after : (sent : Sent) (old new : Record) (saves : Option Change) → IsSavedBy sent old saves new → new ≡ after old saves
@@ -150,10 +143,10 @@ module _ (c : goal.After-key_tests_are_exact) where
   row_size n j body = grind (arith, nat_tests, c.learned_stays.ensures)
 
   -- a message that was sent is lawful
-  message_lawful : (w : WorldState) (n : Known) (m j : ℕ) (body : Body) → IsInRange n → Backs w.sent w.typed n → IsHeardFit n.me j body
-      → slice_get w.sent m ≡ Some (record { sender = j; body = body }) → IsLawfulCall w.sent w.typed n (on_message n j body)
-  message_lawful w n m j body ranges h fits e =
-      c.calls_are_lawful.ensures.message w.sent w.typed n j body ranges h (record { is_sent = sent_at w.sent m j body e; fits = fits })
+  message_lawful : (w : WorldState) (n : Known) (j : ℕ) (body : Body) → IsInRange n → Backs w.sent w.typed n → IsHeardFit n.me j body
+      → IsSent w.sent j body → IsLawfulCall w.sent w.typed n (on_message n j body)
+  message_lawful w n j body ranges h fits sent =
+      c.calls_are_lawful.ensures.message w.sent w.typed n j body ranges h (record { is_sent = sent; fits = fits })
 
 pub returns-clause-press : goal.returns-clause-press
 returns-clause-press c w n byte k configuration console sits ranges h = record {
@@ -167,15 +160,14 @@ returns-clause-press c w n byte k configuration console sits ranges h = record {
       (all_stay (keys_from-append n.me.node n.kept.starts n.first n.waiting (byte ∷ [])));
 }
 
-pub returns-clause-deliver : goal.returns-clause-deliver
-returns-clause-deliver c w n m j k body configuration console sits ranges h fits e = record {
-  message = record { sender = j; body = body };
-  is_sent = e;
+pub returns-clause-hear : goal.returns-clause-hear
+returns-clause-hear c w n j k body configuration console sits ranges h fits sent = record {
+  is_sent = sent;
   saved = (on_message n j body).saves;
   cause = row_saves n j body;
   call =
       call_or_fall (on_message n j body).saves
-      (call_alone sits (on_message n j body) ranges (message_lawful c w n m j body ranges h fits e)
+      (call_alone sits (on_message n j body) ranges (message_lawful c w n j body ranges h fits sent)
       (grind (arith, nat_tests)) (row_size c n j body)
       (message_parted (record { has = c.key_tests_are_exact.ensures.has }) n (row n j body).node (row_waiting n j body)));
 }
@@ -192,15 +184,14 @@ pub returns-clause-tick : goal.returns-clause-tick
 returns-clause-tick c w n k configuration console sits ranges h =
     grind (arith, nat_tests, tick_saves, call_alone, all_stay, tick_waiting, c.calls_are_lawful.ensures.tick)
 
-pub returns-clause-falls_delivered : goal.returns-clause-falls_delivered
-returns-clause-falls_delivered c w n m j k body left configuration console sits ranges h fits e some one = record {
-  message = record { sender = j; body = body };
-  is_sent = e;
+pub returns-clause-falls_hearing : goal.returns-clause-falls_hearing
+returns-clause-falls_hearing c w n j k body left configuration console sits ranges h fits sent some one = record {
+  is_sent = sent;
   saved = (on_message n j body).saves;
   cause = row_saves n j body;
   call =
       call_fell sits left (on_message n j body).node.kept (on_message n j body).saves some
-      (message_lawful c w n m j body ranges h fits e).saves one;
+      (message_lawful c w n j body ranges h fits sent).saves one;
 }
 
 pub returns-clause-falls_campaign : goal.returns-clause-falls_campaign

@@ -1,6 +1,5 @@
--- Each event keeps a world sound, and is that event of its group. The world before all events is
--- sound.
-use Rattle.std.proofs.Common.{length, ◌≡◌, ◌∙◌, ℕ, All, ◌<◌, ◌++◌, List, [], ◌∷◌, flat_map, slice_get, Some, refl, sym, ap, subst, append-nil, arith, ◌≢◌, Bool, true, false, if◌then◌else◌, Option, None, inl, inr, ◌+◌, ◌-◌, ◌≤◌}
+-- Each deed keeps a world sound, and is that deed in its group. The world before all events is sound.
+use Rattle.std.proofs.Common.{Contains, length, ◌≡◌, ◌∙◌, ℕ, All, ◌<◌, ◌++◌, List, [], ◌∷◌, flat_map, slice_get, Some, refl, sym, ap, subst, append-nil, arith, ◌≢◌, Bool, true, false, if◌then◌else◌, Option, None, inl, inr, ◌+◌, ◌-◌, ◌≤◌}
 use Rattle.group_node.specs.ProposerRows.{last_round, on_campaign}
 use Rattle.group_node.specs.Known.{front, next_serial, Response, on_typed, new_key, on_start}
 use Rattle.group_node.specs.WaitingKeys.{waiting_keys}
@@ -19,43 +18,45 @@ use Rattle.group_node.specs.Output.{no_progress, Progress, IsReplay, RunsOn}
 use Rattle.group_node.specs.Packets.{Datagram}
 use Rattle.group_node.specs.Ranges.{IsFit, IsHeardFit, IsMember}
 use Rattle.group_node.specs.Steps.{IsLawful, IsLawfulCall}
-use Rattle.group_world.specs.Group.{IsDown, IsUp, me_of, messages_in, World, world_state, world_after_call, world_after_fall, seat_of_member, up_of, with_member, member_at, new_world}
+use Rattle.group_world.specs.Group.{IsDown, IsUp, me_of, messages_in, World, world_state, seat_of_member, up_of, with_member, member_at, new_world}
 use Rattle.group_world.specs.Member.{Member, Running, NodeCall, Makes, Refuses, call_of_campaign, call_of_press, call_of_start, failing, save_outcome, at_progress, member_after_release}
 use Rattle.group_world.specs.Sound.{IsSound, IsSpelling}
 use Rattle.std.specs.FinMap.{empty}
 use Rattle.group_world.proofs.WorldAsGroup.{is_node, running, called_state, member_state, changed_elsewhere, changed_here, SoundAt, first_node, stopped, nothing_shown}
-use Rattle.group_world.proofs.laws.sound.events_keep_it_sound.Answers.SoundAfterChange.{Laws, MayMake, call_sound, crash_sound, fall_sound, release_sound, run_sound}
-use Rattle.group_world.proofs.OrderLists.{in_from_place}
+use Rattle.group_world.proofs.laws.sound.deeds_keep_it_sound.Answers.SoundAfterChange.{Laws, MayMake, call_sound, crash_sound, fall_sound, release_sound, run_sound}
 use Rattle.pcode_machine.specs.Configuration.{Configuration}
 use Rattle.pcode_machine.specs.Runs.{after_steps, begin, out}
 use Rattle.paxos_acceptor.specs.declared.me.Me.{Me}
 use Rattle.paxos_acceptor.specs.Stores.{IsOneOf}
 use Rattle.group_node.specs.States.{input, IsSize}
+use Rattle.group_node.specs.Deeds as deed
+use Rattle.group_node.specs.Deeds.{Deed}
 use Rattle.group_node.specs.World as group
 use Rattle.group_node.specs.World.{Sits, WorldStep, after_call, with_seat, ChangesOnly, WorldState, after_release}
-use Rattle.group_world.specs.declared.event.Act.{Act}
 use Rattle.group_world.specs.declared.event.Done.{Done}
-use Rattle.group_world.specs.Event.{event_of, IsStep, Leaves, LeavesBy, Performs}
+use Rattle.group_world.specs.declared.event.Done.TheVariants.{Applied}
+use Rattle.group_world.specs.Deeds.{DoesDeed, EndsCall, Left, quietly}
+use Rattle.group_world.proofs.CallLeaves.{Leaves, LeavesBy, idle_leads, leaves_so, quiet_leads, world_after_call, world_after_fall}
+use Rattle.group_world.specs.Event.{DoesAt, HearsOf, IsStepAt, world_after}
 use Rattle.pcode_file.specs.Parts.{Parts}
 use Rattle.paxos_msg.specs.declared.record.Change.TheVariants as change
 use Rattle.paxos_msg.specs.Records.{changed, empty_record}
 use Rattle.group_node.specs.declared.player.Ran.{Ran}
-use Rattle.group_world.specs.declared.event.Act.TheVariants.{Press, Deliver, Campaign, Tick, Run, Release, Crash, Start}
 use Rattle.group_world.proofs.SoundWorldsAgree.{next_of, next_written, written}
 use Rattle.std.proofs.lemmas.List.{length-replicate}
 use Rattle.paxos_msg.specs.Messages.{IsSent}
 
--- ---- a call that an event makes
+-- ---- a call that a deed makes
 
--- The call is refused; or it may be made and leaves the group after the event `e`, also if its save
+-- The call is refused; or it may be made and leaves the group after the deed `e`, also if its save
 -- fails.
-abbrev StepsCall : World → group.Event → ℕ → Member → Progress → NodeCall → Type 0
+abbrev StepsCall : World → Deed → ℕ → Member → Progress → NodeCall → Type 0
 StepsCall w e i m progress (Refuses f) = Unit {0}
 StepsCall w e i m progress (Makes made keys) =
     MayMake w i m made progress keys
-    × WorldStep (world_state w) e (world_state (world_after_call w i made m.console progress keys))
+    × WorldStep (world_state w) i e (world_state (world_after_call w i made m.console progress keys))
     × ((is_kept : Bool) → made.saves ≢ None
-    → WorldStep (world_state w) e (world_state (world_after_fall w i m (if is_kept then made.node.kept else m.kept))))
+    → WorldStep (world_state w) i e (world_state (world_after_fall w i m (if is_kept then made.node.kept else m.kept))))
 
 -- a save that fails is a save of the call
 fails_some : (saves : Option Change) (plan : Option Bool) (is_kept : Bool) → failing saves plan ≡ Some is_kept
@@ -126,19 +127,18 @@ module _ (laws : Laws) {w : World} (h : IsSound w) {i : ℕ} {m : Member} {q : R
       (laws.what_goes_out_fits.ensures.tick q.known sound.ranges)
 
   -- a message that was sent has a spelling
-  heard_fits : (k : ℕ) (message : Msg) → slice_get (messages_in w.group w.sent) k ≡ Some message
-      → IsHeardFit q.known.me message.sender message.body
-  heard_fits k message e =
+  heard_fits : (message : Msg) → Contains (messages_in w.group w.sent) message → IsHeardFit q.known.me message.sender message.body
+  heard_fits message heard =
       subst (λ me. IsHeardFit me message.sender message.body) (sym (running h up).me_is)
-      (All-contains (Fits w.group) _ message (all_fit w.group w.sent h.spelled) (in_from_place _ k message e))
+      (All-contains (Fits w.group) _ message (all_fit w.group w.sent h.spelled) heard)
 
-  message_allowed : (k : ℕ) (message : Msg) → slice_get (messages_in w.group w.sent) k ≡ Some message
+  message_allowed : (message : Msg) → Contains (messages_in w.group w.sent) message
       → IsAllowed [] (on_message q.known message.sender message.body)
-  message_allowed k message e =
+  message_allowed message heard =
       let sound = running h up in
-      let fits = heard_fits k message e in
+      let fits = heard_fits message heard in
       alone (laws.calls_are_lawful.ensures.message _ _ q.known _ message.body sound.ranges sound.backs
-      (record { is_sent = in_from_place _ k message e; fits = fits }))
+      (record { is_sent = heard; fits = fits }))
       (laws.what_goes_out_fits.ensures.message q.known _ message.body sound.ranges fits)
 
   -- the configuration of its machine
@@ -158,13 +158,13 @@ module _ (laws : Laws) {w : World} (h : IsSound w) {i : ℕ} {m : Member} {q : R
   at_number : (P : ℕ → Type 0) → P q.known.me.node → P i
   at_number P = subst (λ (me : Me). P me.node) (running h up).me_is
 
-  -- an allowed call is the event `e` of the group, and so is its save if it fails
-  call_steps : (e : ℕ → group.Event) (made : Response) (keys : List Value) → IsAllowed (flat_map keys_of keys) made
-      → WorldStep s (e q.known.me.node)
+  -- an allowed call is the deed `e` in the group, and so is its save if it fails
+  call_steps : (e : Deed) (made : Response) (keys : List Value) → IsAllowed (flat_map keys_of keys) made
+      → WorldStep s q.known.me.node e
       (after_call s q.known.me.node made (flat_map keys_of keys) configuration q.progress.released m.console)
-      → (made.saves ≢ None → (left : Record) → IsOneOf left q.known.kept made.node.kept → WorldStep s (e q.known.me.node)
+      → (made.saves ≢ None → (left : Record) → IsOneOf left q.known.kept made.node.kept → WorldStep s q.known.me.node e
       (with_seat s q.known.me.node (record { kept = left; console = m.console; up = None })))
-      → StepsCall w (e i) i m q.progress (Makes made keys)
+      → StepsCall w e i m q.progress (Makes made keys)
   call_steps e made keys allowed step falls =
       let may = may_make made keys allowed in
       let same = laws.learning_keeps_the_output.ensures.configuration q.known.learner.learned _ q.progress
@@ -172,14 +172,14 @@ module _ (laws : Laws) {w : World} (h : IsSound w) {i : ℕ} {m : Member} {q : R
       let state =
       called_state laws.spelling_is_read.ensures.read w i m made q.progress keys up.there h.session (is_node i h up.there) may.fits in (
         may,
-        subst (WorldStep s (e i)) (sym (state ∙ ap (λ c.
+        subst (WorldStep s i e) (sym (state ∙ ap (λ c.
             after_call s i made (flat_map keys_of keys) c q.progress.released m.console) same))
-            (at_number (λ j. WorldStep s (e j)
+            (at_number (λ j. WorldStep s j e
             (after_call s j made (flat_map keys_of keys) configuration q.progress.released m.console)) step),
         λ is_kept saves.
             let left = if is_kept then made.node.kept else m.kept in
-            subst (WorldStep s (e i)) (sym (member_state w i m (record { kept = left; console = m.console; node = None }) up.there))
-            (at_number (λ j. WorldStep s (e j) (with_seat s j (record { kept = left; console = m.console; up = None })))
+            subst (WorldStep s i e) (sym (member_state w i m (record { kept = left; console = m.console; node = None }) up.there))
+            (at_number (λ j. WorldStep s j e (with_seat s j (record { kept = left; console = m.console; up = None })))
             (falls saves left (one_of is_kept))),
       )
     where
@@ -188,39 +188,39 @@ module _ (laws : Laws) {w : World} (h : IsSound w) {i : ℕ} {m : Member} {q : R
       one_of false = inl (sym (running h up).kept_is)
 
   -- each of these calls
-  press_steps : (byte : ℕ) → byte < 256 → StepsCall w (group.Press i byte) i m q.progress (call_of_press q.known byte)
+  press_steps : (byte : ℕ) → byte < 256 → StepsCall w (deed.Press byte) i m q.progress (call_of_press q.known byte)
   press_steps byte low =
-      press_cases (StepsCall w (group.Press i byte) i m q.progress) (λ f. tt) q.known byte (λ ne other.
+      press_cases (StepsCall w (deed.Press byte) i m q.progress) (λ f. tt) q.known byte (λ ne other.
       let sound = running h up in
-      call_steps (λ j. group.Press j byte) _ _ (press_allowed byte low ne other)
-      (laws.calls_are_events.ensures.press s q.known byte _ configuration m.console sits sound.ranges sound.backs)
+      call_steps (deed.Press byte) _ _ (press_allowed byte low ne other)
+      (laws.calls_are_deeds.ensures.press s q.known byte _ configuration m.console sits sound.ranges sound.backs)
       (λ saves. absurd (saves refl)))
 
-  campaign_steps : StepsCall w (group.Campaign i) i m q.progress (call_of_campaign q.known)
+  campaign_steps : StepsCall w deed.Campaign i m q.progress (call_of_campaign q.known)
   campaign_steps =
-      campaign_cases (StepsCall w (group.Campaign i) i m q.progress) (λ f. tt) q.known (λ low other.
+      campaign_cases (StepsCall w deed.Campaign i m q.progress) (λ f. tt) q.known (λ low other.
       let sound = running h up in
-      call_steps group.Campaign _ [] (campaign_allowed low other)
-      (laws.calls_are_events.ensures.campaign s q.known _ configuration m.console sits sound.ranges sound.backs)
-      (λ saves left. laws.calls_are_events.ensures.falls_campaign s q.known _ left configuration m.console sits sound.ranges sound.backs))
+      call_steps deed.Campaign _ [] (campaign_allowed low other)
+      (laws.calls_are_deeds.ensures.campaign s q.known _ configuration m.console sits sound.ranges sound.backs)
+      (λ saves left. laws.calls_are_deeds.ensures.falls_campaign s q.known _ left configuration m.console sits sound.ranges sound.backs))
 
-  tick_steps : StepsCall w (group.Tick i) i m q.progress (Makes (on_tick q.known) [])
+  tick_steps : StepsCall w deed.Tick i m q.progress (Makes (on_tick q.known) [])
   tick_steps =
       let sound = running h up in
-      call_steps group.Tick _ [] tick_allowed
-      (laws.calls_are_events.ensures.tick s q.known _ configuration m.console sits sound.ranges sound.backs)
+      call_steps deed.Tick _ [] tick_allowed
+      (laws.calls_are_deeds.ensures.tick s q.known _ configuration m.console sits sound.ranges sound.backs)
       (λ saves. absurd (saves (tick_rests q.known).1))
 
-  deliver_steps : (k : ℕ) (message : Msg) → slice_get (messages_in w.group w.sent) k ≡ Some message
-      → StepsCall w (group.Deliver k i) i m q.progress (Makes (on_message q.known message.sender message.body) [])
-  deliver_steps k message e =
+  hear_steps : (message : Msg) → Contains (messages_in w.group w.sent) message
+      → StepsCall w (deed.Hear message) i m q.progress (Makes (on_message q.known message.sender message.body) [])
+  hear_steps message heard =
       let sound = running h up in
-      let heard = heard_fits k message e in
-      call_steps (group.Deliver k) _ [] (message_allowed k message e)
-      (laws.calls_are_events.ensures.deliver s q.known k _ _ message.body configuration m.console sits sound.ranges sound.backs heard e)
+      let fits = heard_fits message heard in
+      call_steps (deed.Hear message) _ [] (message_allowed message heard)
+      (laws.calls_are_deeds.ensures.hear s q.known _ _ message.body configuration m.console sits sound.ranges sound.backs fits heard)
       (λ saves left.
-      laws.calls_are_events.ensures.falls_delivered s q.known k _ _ message.body left configuration m.console sits sound.ranges
-      sound.backs heard e saves)
+      laws.calls_are_deeds.ensures.falls_hearing s q.known _ _ message.body left configuration m.console sits sound.ranges
+      sound.backs fits heard saves)
 
   -- nothing changes but at node `i`, which is now this
   only_here : (new : Member) → ChangesOnly s (world_state (with_member w i new)) i [] []
@@ -236,13 +236,13 @@ module _ (laws : Laws) {w : World} (h : IsSound w) {i : ℕ} {m : Member} {q : R
   here : (new : Member) → (world_state (with_member w i new)).seats i ≡ seat_of_member (Some new)
   here new = ap seat_of_member (changed_here w.members i m new up.there)
 
-  crash_steps : WorldStep s (group.Crash i) (world_state (world_after_fall w i m m.kept))
+  crash_steps : WorldStep s i deed.Crash (world_state (world_after_fall w i m m.kept))
   crash_steps =
       let new : Member = record { kept = m.kept; console = m.console; node = None } in
       record { left = rw up.there (here new); rest = only_here new }
 
   release_of : (o : Option ℕ) → slice_get (written q) q.progress.released ≡ o
-      → WorldStep s (group.Release i) (world_state (with_member w i (member_after_release m q o)))
+      → WorldStep s i deed.Release (world_state (with_member w i (member_after_release m q o)))
   unfolding out
   release_of o e = record {
     was = up_of q;
@@ -260,19 +260,19 @@ module _ (laws : Laws) {w : World} (h : IsSound w) {i : ℕ} {m : Member} {q : R
   -- a run
   run_steps : (most : ℕ) (progress : Progress) (ran : Ran)
       → RunsOn (input q.known) most q.progress progress ran → IsReplay (input q.known) progress
-      → WorldStep s (group.Run i most) (world_state (with_member w i (at_progress m q progress)))
+      → WorldStep s i (deed.Run most) (world_state (with_member w i (at_progress m q progress)))
   run_steps most progress ran runs replay =
       let sound = running h up in
       let x = input q.known in
       let more = progress.steps - q.progress.steps in
       let count : progress.steps ≡ q.progress.steps + more = omega (arith, runs.more) in
       let program = ap (λ (y : Progress). y.program) runs.rest ∙ sound.program in
-      let few : more ≤ most = omega (arith, laws.output_is_an_event.ensures.few x most q.progress progress ran runs) in
+      let few : more ≤ most = omega (arith, laws.output_is_a_deed.ensures.few x most q.progress progress ran runs) in
       let seated = rw sound.program at sits in
       let leads = rw (count, program) at replay.made in
-      let step = at_number (λ j. WorldStep s (group.Run j most) (with_seat s j (group.seat_of q.known
+      let step = at_number (λ j. WorldStep s j (deed.Run most) (with_seat s j (group.seat_of q.known
       (after_steps w.program x (q.progress.steps + more)) q.progress.released m.console)))
-      (laws.output_is_an_event.ensures.run s q.known most _ more _ m.console seated few leads) in
+      (laws.output_is_a_deed.ensures.run s q.known most _ more _ m.console seated few leads) in
       let seat : seat_of_member (Some (at_progress m q progress))
       ≡ group.seat_of q.known (after_steps w.program x (q.progress.steps + more)) q.progress.released m.console =
       λ t. record {
@@ -286,7 +286,7 @@ module _ (laws : Laws) {w : World} (h : IsSound w) {i : ℕ} {m : Member} {q : R
               waiting = waiting_keys q.known;
             });
       } in
-      subst (WorldStep s (group.Run i most)) (sym (member_state w i m (at_progress m q progress) up.there ∙ ap (with_seat s i) seat)) step
+      subst (WorldStep s i (deed.Run most)) (sym (member_state w i m (at_progress m q progress) up.there ∙ ap (with_seat s i) seat)) step
 
 -- a start
 module _ (laws : Laws) {w : World} (h : IsSound w) (i : ℕ) {m : Member} (down : IsDown w i m) where
@@ -317,9 +317,9 @@ module _ (laws : Laws) {w : World} (h : IsSound w) (i : ℕ) {m : Member} (down 
         shown = omega arith;
       }
 
-  start_steps : StepsCall w (group.Start i) i m (no_progress w.program) (call_of_start (me_of w i) m.kept)
+  start_steps : StepsCall w (deed.Start m.kept) i m (no_progress w.program) (call_of_start (me_of w i) m.kept)
   start_steps =
-      start_cases (StepsCall w (group.Start i) i m (no_progress w.program)) (λ f. tt) _ m.kept (λ other.
+      start_cases (StepsCall w (deed.Start m.kept) i m (no_progress w.program)) (λ f. tt) _ m.kept (λ other.
       let made = on_start _ m.kept in
       let may = start_may other in
       let seated : (world_state w).seats i ≡ record { kept = m.kept; console = m.console; up = None } = rw (down.there, down.down) refl in
@@ -329,59 +329,88 @@ module _ (laws : Laws) {w : World} (h : IsSound w) (i : ℕ) {m : Member} (down 
       ∙ ap (λ c. after_call (world_state w) i made [] c 0 m.console)
       (first_configuration w.program _) in (
         may,
-        subst (WorldStep (world_state w) (group.Start i)) (sym state)
-            (laws.calls_are_events.ensures.start _ (me_of w i) m.kept m.console refl seated),
+        subst (WorldStep (world_state w) i (deed.Start m.kept)) (sym state)
+            (laws.calls_are_deeds.ensures.start _ (me_of w i) m.kept m.console refl seated),
         λ is_kept saves.
             let left = if is_kept then made.node.kept else m.kept in
-            subst (WorldStep (world_state w) (group.Start i))
+            subst (WorldStep (world_state w) i (deed.Start m.kept))
             (sym (member_state w i m _ down.there))
-            (laws.calls_are_events.ensures.falls_start _ (me_of w i) m.kept left m.console seated (start_one is_kept)),
+            (laws.calls_are_deeds.ensures.falls_start _ (me_of w i) m.kept left m.console seated (start_one is_kept)),
       ))
 
--- ---- the event
+-- ---- the deed
 
--- what is left is sound, and an event of the group
-abbrev pub GoesOn : World → Act → Done → World → Type 0
-GoesOn w act d v = IsSound v × IsStep (world_state w) act d (world_state v)
+-- what is left is sound, and a step of the group
+abbrev pub GoesOn : World → ℕ → Deed → Done → World → Type 0
+GoesOn w i e d v = IsSound v × IsStepAt (world_state w) i e d (world_state v)
 
-module _ (laws : Laws) {w : World} (h : IsSound w) (act : Act) (i : ℕ) {m : Member} (there : member_at w.members i ≡ Some m)
+module _ (laws : Laws) {w : World} (h : IsSound w) (e : Deed) (i : ℕ) {m : Member} (there : member_at w.members i ≡ Some m)
     (progress : Progress) (plan : Option Bool) {d : Done} {v : World} where
   saves_go_on : (made : Response) (keys : List Value) (o : Option Bool) → failing made.saves plan ≡ o
-      → StepsCall w (event_of act) i m progress (Makes made keys)
-      → LeavesBy w i m progress (save_outcome m.kept made keys o) d v → GoesOn w act d v
-  saves_go_on made keys None e (may, step, falls) (answer, leaves) =
+      → StepsCall w e i m progress (Makes made keys)
+      → LeavesBy w i m progress (save_outcome m.kept made keys o) d v → GoesOn w i e d v
+  saves_go_on made keys None none (may, step, falls) (answer, leaves) =
       rw (answer, leaves) (call_sound laws h i there progress keys made may, step)
-  saves_go_on made keys (Some is_kept) e (may, step, falls) (answer, leaves) =
-      let (c, some) = fails_some made.saves plan is_kept e in
+  saves_go_on made keys (Some is_kept) one (may, step, falls) (answer, leaves) =
+      let (c, some) = fails_some made.saves plan is_kept one in
       rw (answer, leaves) (fall_sound laws h i there made may is_kept c some, falls is_kept (λ none. absurd cc))
 
   -- the call, by what it is
-  call_goes_on : (call : NodeCall) → StepsCall w (event_of act) i m progress call → Leaves w i m progress plan call d v → GoesOn w act d v
+  call_goes_on : (call : NodeCall) → StepsCall w e i m progress call → Leaves w i m progress plan call d v → GoesOn w i e d v
   call_goes_on (Refuses f) steps (answer, same) = rw (answer, same) (h, refl)
   call_goes_on (Makes made keys) steps leaves = saves_go_on made keys _ refl steps leaves
 
--- Each event keeps the world sound. One that is not refused is one of the group, and one that is
+module _ (laws : Laws) {w v : World} (h : IsSound w) (i : ℕ) (m : Member) (there : member_at w.members i ≡ Some m) (plan : Option Bool)
+    (left : Left) {d : Done} (answers : d ≡ left.answer) (leads : v ≡ world_after w i left) where
+  -- a deed that sends and types nothing is answered so
+  quiet_answer : {new : Member} → left ≡ quietly new → d ≡ Applied
+  quiet_answer is = answers ∙ ap (λ (x : Left). x.answer) is
+
+  -- each deed, by what it is
+  deed_goes_on : (e : Deed) → HearsOf w.group w.sent e → DoesDeed w.program (me_of w i) m plan e left → GoesOn w i e d v
+  deed_goes_on deed.Idle heard is = rw (quiet_answer is, leads ∙ idle_leads w i m there is) (h, refl)
+  deed_goes_on (deed.Start r) heard (down, over, ends) =
+      let steps = start_steps laws h i (record { there = there; down = down }) in
+      subst (λ r. GoesOn w i (deed.Start r) d v) (sym over)
+      (call_goes_on laws h (deed.Start m.kept) i there _ plan _ steps
+      (leaves_so w i m there _ plan _
+      (subst (λ r. EndsCall (me_of w i) m (no_progress w.program) plan (call_of_start (me_of w i) r) left) over ends)
+      answers leads))
+  deed_goes_on (deed.Hear message) heard (q, up, ends) =
+      let call : NodeCall = Makes (on_message q.known message.sender message.body) [] in
+      call_goes_on laws h (deed.Hear message) i there q.progress plan call
+      (hear_steps laws h (record { there = there; up = up }) message heard) (leaves_so w i m there q.progress plan call ends answers leads)
+  deed_goes_on (deed.Press byte) heard (q, up, low, ends) =
+      call_goes_on laws h (deed.Press byte) i there q.progress plan _
+      (press_steps laws h (record { there = there; up = up }) byte low) (leaves_so w i m there _ plan _ ends answers leads)
+  deed_goes_on deed.Campaign heard (q, up, ends) =
+      call_goes_on laws h deed.Campaign i there q.progress plan _
+      (campaign_steps laws h (record { there = there; up = up })) (leaves_so w i m there _ plan _ ends answers leads)
+  deed_goes_on deed.Tick heard (q, up, ends) =
+      let call : NodeCall = Makes (on_tick q.known) [] in
+      call_goes_on laws h deed.Tick i there q.progress plan call
+      (tick_steps laws h (record { there = there; up = up })) (leaves_so w i m there q.progress plan call ends answers leads)
+  deed_goes_on (deed.Run most) heard (q, up, runs, is) =
+      let up_so : IsUp w i m q = record { there = there; up = up } in
+      let rest = runs.runs.rest in
+      rw (quiet_answer is, leads ∙ quiet_leads w i m there is, runs.new_is) (
+        run_sound laws h up_so runs.progress (ap (λ (x : Progress). x.program) rest) (ap (λ (x : Progress). x.released) rest) runs.replay,
+        run_steps laws h up_so most runs.progress runs.ran runs.runs runs.replay,
+      )
+  deed_goes_on deed.Release heard (q, up, is) =
+      let up_so : IsUp w i m q = record { there = there; up = up } in
+      rw (quiet_answer is, leads ∙ quiet_leads w i m there is)
+      (release_sound laws h up_so, release_of laws h up_so (next_of q) (next_written q))
+  deed_goes_on deed.Crash heard (q, up, is) =
+      rw (quiet_answer is, leads ∙ quiet_leads w i m there is)
+      (crash_sound laws h i there, crash_steps laws h (record { there = there; up = up }))
+
+-- Each deed keeps the world sound. One that is not refused is a step of the group, and one that is
 -- refused changes nothing.
-pub acts_go_on : Laws → (w v : World) (plan : Option Bool) (act : Act) (d : Done) → IsSound w → Performs w plan act d v → GoesOn w act d v
-acts_go_on laws w v plan (Press i byte) d h (m, q, up, low, leaves) =
-    call_goes_on laws h (Press i byte) i up.there q.progress plan _ (press_steps laws h up byte low) leaves
-acts_go_on laws w v plan (Deliver k i) d h (m, q, message, up, e, leaves) =
-    call_goes_on laws h (Deliver k i) i up.there q.progress plan (Makes _ []) (deliver_steps laws h up k message e) leaves
-acts_go_on laws w v plan (Campaign i) d h (m, q, up, leaves) =
-    call_goes_on laws h (Campaign i) i up.there q.progress plan _ (campaign_steps laws h up) leaves
-acts_go_on laws w v plan (Tick i) d h (m, q, up, leaves) =
-    call_goes_on laws h (Tick i) i up.there q.progress plan (Makes _ []) (tick_steps laws h up) leaves
-acts_go_on laws w v plan (Run i most) d h (m, q, progress, ran, up, runs, replay, answer, leaves) =
-    rw (answer, leaves) (
-      run_sound laws h up progress (ap (λ (x : Progress). x.program) runs.rest) (ap (λ (x : Progress). x.released) runs.rest) replay,
-      run_steps laws h up most progress ran runs replay,
-    )
-acts_go_on laws w v plan (Release i) d h (m, q, up, answer, leaves) =
-    rw (answer, leaves) (release_sound laws h up, release_of laws h up (next_of q) (next_written q))
-acts_go_on laws w v plan (Crash i) d h (m, q, up, answer, leaves) =
-    rw (answer, leaves) (crash_sound laws h i up.there, crash_steps laws h up)
-acts_go_on laws w v plan (Start i) d h (m, down, leaves) =
-    call_goes_on laws h (Start i) i down.there _ plan _ (start_steps laws h i down) leaves
+pub deeds_go_on : Laws → (w v : World) (i : ℕ) (plan : Option Bool) (e : Deed) (d : Done) → IsSound w → HearsOf w.group w.sent e
+    → DoesAt w i plan e d v → GoesOn w i e d v
+deeds_go_on laws w v i plan e d h heard at =
+    deed_goes_on laws h i at.node at.there plan at.left at.answers at.leads e heard at.does
 
 -- ---- before all events
 

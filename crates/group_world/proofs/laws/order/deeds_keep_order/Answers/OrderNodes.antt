@@ -38,7 +38,7 @@ use Rattle.paxos_acceptor.specs.declared.me.Me.{Me}
 use Rattle.group_world.specs.Sound.{IsSpelling}
 use Rattle.group_world.specs.Group.{message_of, messages_in}
 use Rattle.group_world.proofs.OrderLists.{of_map}
-use Rattle.group_world.proofs.laws.order.events_keep_order.Goals as goal
+use Rattle.group_world.proofs.laws.order.deeds_keep_order.Goals as goal
 use Rattle.group_node.proofs.Elements.{first_in, in_cases, none_in, rest_in}
 
 -- The laws of the crates below that the law cites.

@@ -8,7 +8,8 @@ use Rattle.paxos_msg.specs.Batches.{Change, Grew, Sent, Body, MaySend, MaySendAl
 use Rattle.paxos_msg.specs.Records.{MaySave, Stored}
 use Rattle.group_node.specs.Known.{Response}
 use Rattle.group_node.specs.Output.{Progress, IsReplay}
-use Rattle.group_world.specs.Group.{member_at, with_member, World, world_after_fall, world_state, IsUp, me_of, world_after_call}
+use Rattle.group_world.specs.Group.{member_at, with_member, World, world_state, IsUp, me_of}
+use Rattle.group_world.proofs.CallLeaves.{world_after_call, world_after_fall}
 use Rattle.group_world.specs.Member.{Member, at_progress, member_after_release, Running, member_after_call}
 use Rattle.group_world.specs.Sound.{IsSound, IsShown, IsMemberSound, IsSpelling, IsRunningSound}
 use Rattle.group_world.proofs.WorldAsGroup.{SoundAt, changed_elsewhere, changed_here, each_changed, running, is_node, packets_read, sent_called}
@@ -27,7 +28,7 @@ use Rattle.pcode_file.specs.Parts.{Parts}
 use Rattle.paxos_msg.specs.Messages.{messages_of}
 use Rattle.paxos_acceptor.specs.declared.me.Me.{Me}
 use Rattle.group_node.specs.Backs.{Backs}
-use Rattle.group_world.proofs.laws.sound.events_keep_it_sound.Goals as goal
+use Rattle.group_world.proofs.laws.sound.deeds_keep_it_sound.Goals as goal
 use Rattle.group_node.proofs.Elements.{only_in}
 
 abbrev pub Laws : Type 0

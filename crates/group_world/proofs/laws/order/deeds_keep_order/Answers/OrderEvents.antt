@@ -1,4 +1,4 @@
--- Each kind of event keeps a world ordered, so any event does; and the world before all events is
+-- Each kind of deed keeps a world ordered, so any deed does; and the world before all events is
 -- ordered.
 use Rattle.std.proofs.Common.{◌≡◌, ◌∙◌, ℕ, ◌+◌, ◌≤◌, List, [], ◌∷◌, ◌++◌, take, Option, Some, None, IfSome, refl, sym, ap, subst, inl, inr, arith, Bool, true, false, ◌-◌, slice_set}
 use Rattle.std.proofs.lemmas.List.{append-nil, length-append}
@@ -22,20 +22,24 @@ use Rattle.group_node.specs.Known.{Response, on_typed, new_key, next_serial, own
 use Rattle.group_node.specs.WaitingKeys.{batch_of, waiting_keys}
 use Rattle.group_node.specs.Output.{Progress, no_progress}
 use Rattle.group_node.specs.Packets.{Datagram, Packet, datagrams_of}
-use Rattle.group_world.specs.Group.{IsUp, me_of, member_at, message_of, messages_in, with_member, World, world_after_call, world_after_fall, world_state, new_world}
-use Rattle.group_world.specs.Member.{Member, member_after_call, Running, at_progress, failing, Makes, Refuses, member_after_release, save_outcome, NodeCall}
+use Rattle.group_world.specs.Group.{IsUp, me_of, member_at, message_of, messages_in, with_member, World, world_state, new_world}
+use Rattle.group_world.specs.Member.{Member, member_after_call, Running, at_progress, failing, Makes, Refuses, call_of_start, member_after_release, save_outcome, NodeCall}
 use Rattle.group_world.specs.Ordered.{IsDue, IsOrdered, AreTypedKeys, IsRowOf, AreTypedInOrder}
 use Rattle.group_world.specs.Sound.{IsSound, IsSpelling}
-use Rattle.group_world.proofs.laws.order.events_keep_order.Answers.OrderNodes.{Goes, read_of, campaign_goes, message_goes, tick_goes, AreAsked, Laws, none_asked, submit_found}
+use Rattle.group_world.proofs.laws.order.deeds_keep_order.Answers.OrderNodes.{Goes, read_of, campaign_goes, message_goes, tick_goes, AreAsked, Laws, none_asked, submit_found}
 use Rattle.group_world.proofs.OrderRows.{first_due, fresh_row, new_name, parted_row, typed_row, other_row}
 use Rattle.group_world.proofs.SoundWorldsAgree.{front_chosen, next_of, FrontLaws}
 use Rattle.group_world.proofs.WorldAsGroup.{running, first_node, each_changed}
 use Rattle.pcode_file.specs.Parts.{Parts}
 use Rattle.paxos_msg.specs.declared.message.Group.{Group}
-use Rattle.group_world.specs.declared.event.Act.{Act}
-use Rattle.group_world.specs.declared.event.Act.TheVariants.{Press, Deliver, Campaign, Tick, Run, Release, Crash, Start}
 use Rattle.group_world.specs.declared.event.Done.{Done}
-use Rattle.group_world.specs.Event.{Leaves, LeavesBy, Performs}
+use Rattle.group_world.specs.Deeds.{DoesDeed, EndsCall, Left}
+use Rattle.group_world.specs.Event.{DoesAt, world_after}
+use Rattle.group_world.proofs.CallLeaves.{Leaves, LeavesBy, idle_leads, leaves_so, quiet_leads, world_after_call, world_after_fall}
+use Rattle.group_node.specs.Deeds as deed
+use Rattle.group_node.specs.Protocol.{on_message}
+use Rattle.group_node.specs.Tick.{on_tick}
+use Rattle.group_node.specs.Deeds.{Deed}
 use Rattle.group_world.proofs.CallCases.{campaign_cases, press_cases, start_cases}
 use Rattle.group_node.specs.declared.fault.NodeFault.{NodeFault}
 use Rattle.std.proofs.lemmas.List.Quantifiers.{all_pairs_push}
@@ -248,7 +252,7 @@ module _ (laws : Laws) {w : World} (sound : IsSound w) (h : IsOrdered w) {i : �
         due = sent_due laws sound h i up.there [] None (none_asked None) (λ d among. absurd (none_in d among)) (no_submit w i);
       }
 
--- ---- any event
+-- ---- any deed
 
 module _ (laws : Laws) {w v : World} (plan : Option Bool) (d : Done) (sound : IsSound w) (after : IsSound v) (h : IsOrdered w) where
   module _ (i : ℕ) {m : Member} (there : member_at w.members i ≡ Some m) where
@@ -283,28 +287,45 @@ module _ (laws : Laws) {w v : World} (plan : Option Bool) (d : Done) (sound : Is
   refused_by : (i : ℕ) (m : Member) (progress : Progress) (f : NodeFault) → Ordered i m progress (Refuses f)
   refused_by i m progress f leaves = rw leaves.1 h
 
-  acts_by : (act : Act) → Performs w plan act d v → IsOrdered v
-  acts_by (Press i byte) (m, q, up, low, leaves) =
-      press_cases (Ordered i m q.progress) (refused_by i m q.progress) q.known byte
-      (λ ne other made. rw made.1 (pressed_world laws sound h up byte m.console q.progress)) leaves
-  acts_by (Deliver k i) (m, q, message, up, read, leaves) = silent_by up _ (message_goes laws q.known message.sender message.body) leaves
-  acts_by (Campaign i) (m, q, up, leaves) =
-      campaign_cases (Ordered i m q.progress) (refused_by i m q.progress) q.known
-      (λ low other. silent_by up _ (campaign_goes q.known)) leaves
-  acts_by (Tick i) (m, q, up, leaves) = goes_by up _ (tick_goes q.known) (batch_may laws sound h up) leaves
-  acts_by (Run i steps) (m, q, progress, ran, up, runs, replay, answer, e) =
-      rw e (put_world laws sound h i up.there (at_progress m q progress) (omega arith) (own laws sound h up))
-  acts_by (Release i) (m, q, up, answer, e) = rw e (released_by up (next_of q))
-  acts_by (Crash i) (m, q, up, answer, e) = rw e (fallen_world laws sound h i up.there m.kept (omega arith))
-  acts_by (Start i) (m, is, leaves) =
-      start_cases (Ordered i m (no_progress w.program)) (refused_by i m (no_progress w.program)) (me_of w i) m.kept
-      (λ other. saves_by i is.there (on_start (me_of w i) m.kept) _ [] (omega arith)
-      (λ e. rw e (started_world laws sound h i is.there m.console (no_progress w.program) (rw e at after)))
-      (failing (on_start (me_of w i) m.kept).saves plan)) leaves
+  module _ (i : ℕ) (m : Member) (there : member_at w.members i ≡ Some m) (left : Left) (answers : d ≡ left.answer)
+      (leads : v ≡ world_after w i left) where
+    deed_by : (e : Deed) → DoesDeed w.program (me_of w i) m plan e left → IsOrdered v
+    deed_by deed.Idle is = rw (leads ∙ idle_leads w i m there is) h
+    deed_by (deed.Start r) (down, over, ends) =
+        let ends_so = subst (λ r. EndsCall (me_of w i) m (no_progress w.program) plan (call_of_start (me_of w i) r) left) over ends in
+        start_cases (Ordered i m (no_progress w.program)) (refused_by i m (no_progress w.program)) (me_of w i) m.kept
+        (λ other. saves_by i there (on_start (me_of w i) m.kept) _ [] (omega arith)
+        (λ e. rw e (started_world laws sound h i there m.console (no_progress w.program) (rw e at after)))
+        (failing (on_start (me_of w i) m.kept).saves plan)) (leaves_so w i m there _ plan _ ends_so answers leads)
+    deed_by (deed.Hear message) (q, up, ends) =
+        let made = on_message q.known message.sender message.body in
+        silent_by (record { there = there; up = up }) made (message_goes laws q.known message.sender message.body)
+        (leaves_so w i m there q.progress plan (Makes made []) ends answers leads)
+    deed_by (deed.Press byte) (q, up, low, ends) =
+        press_cases (Ordered i m q.progress) (refused_by i m q.progress) q.known byte
+        (λ ne other made. rw made.1 (pressed_world laws sound h (record { there = there; up = up }) byte m.console q.progress))
+        (leaves_so w i m there _ plan _ ends answers leads)
+    deed_by deed.Campaign (q, up, ends) =
+        campaign_cases (Ordered i m q.progress) (refused_by i m q.progress) q.known
+        (λ low other. silent_by (record { there = there; up = up }) _ (campaign_goes q.known))
+        (leaves_so w i m there _ plan _ ends answers leads)
+    deed_by deed.Tick (q, up, ends) =
+        let up_so : IsUp w i m q = record { there = there; up = up } in
+        goes_by up_so (on_tick q.known) (tick_goes q.known) (batch_may laws sound h up_so)
+        (leaves_so w i m there q.progress plan (Makes (on_tick q.known) []) ends answers leads)
+    deed_by (deed.Run steps) (q, up, runs, is) =
+        rw (leads ∙ quiet_leads w i m there is, runs.new_is)
+        (put_world laws sound h i there (at_progress m q runs.progress) (omega arith)
+        (own laws sound h (record { there = there; up = up })))
+    deed_by deed.Release (q, up, is) =
+        rw (leads ∙ quiet_leads w i m there is) (released_by (record { there = there; up = up }) (next_of q))
+    deed_by deed.Crash (q, up, is) =
+        rw (leads ∙ quiet_leads w i m there is) (fallen_world laws sound h i there m.kept (omega arith))
 
-pub acts_ordered : Laws → (w v : World) (plan : Option Bool) (act : Act) (d : Done) → IsSound w → IsSound v
-    → IsOrdered w → Performs w plan act d v → IsOrdered v
-acts_ordered laws w v plan act d sound after h = acts_by laws plan d sound after h act
+pub deeds_ordered : Laws → (w v : World) (i : ℕ) (plan : Option Bool) (e : Deed) (d : Done) → IsSound w → IsSound v
+    → IsOrdered w → DoesAt w i plan e d v → IsOrdered v
+deeds_ordered laws w v i plan e d sound after h at =
+    deed_by laws plan d sound after h i at.node at.there at.left at.answers at.leads e at.does
 
 -- before all events
 pub begun_ordered : (p : Parts) (group : Group) → IsOrdered (new_world p group)

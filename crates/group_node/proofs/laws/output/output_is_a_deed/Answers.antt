@@ -3,7 +3,7 @@ use Rattle.std.proofs.Common.{◌≡◌, ℕ, ◌+◌, ◌↔◌, List, ◌∷�
 use Rattle.std.proofs.lemmas.Bool.Decides.{nat_tests}
 use Rattle.pcode_file.specs.Parts.{Parts}
 use Rattle.pcode_machine.specs.Configuration.{Configuration}
-use Rattle.pcode_machine.specs.Outcome.{outcome, Goes}
+use Rattle.pcode_machine.specs.Transition.{transition, Goes}
 use Rattle.pcode_machine.specs.Runs.{after_steps, out, LeadsIn}
 use Rattle.pcode_machine.specs.Step.{Step}
 use Rattle.paxos_learner.specs.Input.{learned_input}
@@ -13,16 +13,16 @@ use Rattle.group_node.specs.WaitingKeys.{waiting_keys}
 use Rattle.group_node.specs.World.{after_release, Seat, seat_of, Up, MakesSteps}
 use Rattle.group_node.proofs.Exact.{There}
 use Rattle.group_node.proofs.Seats.{seat_alone, seat_here}
-use Rattle.group_node.proofs.laws.output.output_is_an_event.Goals as goal
+use Rattle.group_node.proofs.laws.output.output_is_a_deed.Goals as goal
 
 -- steps that exist lead on from what is after m of them
-steps_from : There → ((p : Parts) (x : List ℕ) (c d : Configuration) → Step p x c d ↔ (outcome p x c ≡ Goes d))
+steps_from : There → ((p : Parts) (x : List ℕ) (c d : Configuration) → Step p x c d ↔ (transition p x c ≡ Goes d))
     → (p : Parts) (x : List ℕ) (m n : ℕ) (c : Configuration) → LeadsIn p x (m + n) c → MakesSteps p x n (after_steps p x m) c
 unfolding LeadsIn MakesSteps
 steps_from there step p x m zero c h = grind (arith, nat_tests)
 steps_from there step p x m (suc n) c h =
     let one : m + suc n ≡ suc (m + n) = omega arith in
-    let last : (b : Configuration) × LeadsIn p x (m + n) b × (outcome p x b ≡ Goes c) = subst (λ (k : ℕ). LeadsIn p x k c) one h in
+    let last : (b : Configuration) × LeadsIn p x (m + n) b × (transition p x b ≡ Goes c) = subst (λ (k : ℕ). LeadsIn p x k c) one h in
     (last.0, steps_from there step p x m n last.0 last.1, (step p x last.0 c).1 last.2)
 
 -- the first of the bytes that wait is the one with the number of those that were released
@@ -47,7 +47,7 @@ returns-clause-run c w n steps m made k console sits few leads =
       made = made;
       from = ap (λ (s : Seat). s.up) sits.seat;
       few = few;
-      moves = steps_from c.run_is_after.ensures c.step_is_outcome.ensures.step w.program x m made now leads;
+      moves = steps_from c.run_is_after.ensures c.step_is_transition.ensures.step w.program x m made now leads;
       left = seat_here w n.me.node (seat_of n now k console) ∙ sym (ap (λ (s : Seat). record s { up = Some (up_of n now k) }) sits.seat);
       rest = seat_alone w n.me.node (seat_of n now k console);
     }

@@ -22,7 +22,7 @@ use Rattle.paxos_learner.proofs.OnePlace.{get_here}
 use Rattle.group_node.specs.Backs.{Backs, HasPromised}
 use Rattle.group_node.specs.Known.{Known}
 use Rattle.group_node.specs.Ranges.{IsInRange}
-use Rattle.group_node.proofs.laws.events.possible.Goals as goal
+use Rattle.group_node.proofs.laws.deeds.possible.Goals as goal
 
 -- ---- the group, and what was sent in it
 

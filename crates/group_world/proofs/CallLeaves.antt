@@ -1,0 +1,117 @@
+-- The world after a call, by how the call ends.
+use Rattle.std.proofs.lemmas.Option.{get_or_from_slice_get}
+use Rattle.std.proofs.lemmas.List.{append-nil, set-get_or}
+use Rattle.std.proofs.Common.{set, ◌≡◌, ◌∙◌, ℕ, zero, suc, ◌-◌, ◌<◌, Bool, List, ◌++◌, slice_get, slice_set, Option, None, Some, refl, sym, ap, subst, arith}
+use Rattle.paxos_msg.specs.declared.value.Value.{Value}
+use Rattle.paxos_msg.specs.Batches.{Change, Record}
+use Rattle.paxos_acceptor.specs.declared.me.Me.{Me}
+use Rattle.group_node.specs.Deeds.{Deed}
+use Rattle.group_node.specs.Known.{Response}
+use Rattle.group_node.specs.Output.{Progress}
+use Rattle.group_node.specs.Packets.{Datagram, datagrams_of}
+use Rattle.group_world.specs.declared.event.Done.{Done}
+use Rattle.group_world.specs.declared.event.Done.TheVariants.{Applied}
+use Rattle.group_world.specs.Deeds.{DoesDeed, EndsCall, Left, quietly}
+use Rattle.group_world.specs.Event.{DoesAt, world_after}
+use Rattle.group_world.specs.Group.{World, me_of, member_at, with_member}
+use Rattle.group_world.specs.Member.{CallEnds, CallOutcome, Fell, Happened, Makes, Member, NodeCall, Refused, call_outcome, done_of, failing, member_after, member_after_call, member_after_fall, save_outcome, sent_by, typed_by}
+
+-- a node of the list has a number, and lies at the index before it
+pub is_at : (members : List Member) (i : ℕ) (m : Member) → member_at members i ≡ Some m → (0 < i) × (slice_get members (i - 1) ≡ Some m)
+is_at members zero m e = absurd cc
+is_at members (suc k) m e =
+    let same : k ≡ suc k - 1 = omega arith in
+    (omega arith, subst (λ j. slice_get members j ≡ Some m) same e)
+
+-- an element that is put where it was
+pub set_same : {X : Type 0} (xs : List X) (k : ℕ) (x : X) → slice_get xs k ≡ Some x → slice_set xs k x ≡ xs
+set_same xs k x e = ap (set xs k) (sym (get_or_from_slice_get xs k x x e)) ∙ set-get_or xs k x
+
+-- ---- worlds
+
+-- the world after a call of node `i` with this response, at which these keys were typed
+abbrev pub world_after_call : World → ℕ → Response → List ℕ → Progress → List Value → World
+world_after_call w i made console progress keys = record (with_member w i (member_after_call made console progress)) {
+  sent = w.sent ++ datagrams_of (me_of w i) made.sends;
+  typed = w.typed ++ keys;
+}
+
+-- the world in which node `i` is down, with this record
+abbrev pub world_after_fall : World → ℕ → Member → Record → World
+world_after_fall w i m kept = with_member w i (member_after_fall m kept)
+
+-- the world after a call of node `i` that ends so
+abbrev pub group_after : World → ℕ → Member → Progress → CallOutcome → World
+group_after w i m progress (Refused f) = w
+group_after w i m progress (Fell kept) = world_after_fall w i m kept
+group_after w i m progress (Happened made keys) = world_after_call w i made m.console progress keys
+
+-- answer and world of a call that ends so
+abbrev pub LeavesBy : World → ℕ → Member → Progress → CallOutcome → Done → World → Type 0
+LeavesBy w i m progress o d v = (d ≡ done_of o) × (v ≡ group_after w i m progress o)
+
+abbrev pub Leaves : World → ℕ → Member → Progress → Option Bool → NodeCall → Done → World → Type 0
+Leaves w i m progress plan call d v = LeavesBy w i m progress (call_outcome plan m.kept call) d v
+
+-- ---- what a deed of node `m` leaves
+
+module _ (w : World) (i : ℕ) (m : Member) (there : member_at w.members i ≡ Some m) where
+  -- a call
+  call_leads : {new : Member} {sent : List Datagram} {typed : List Value} (progress : Progress) (o : CallOutcome)
+      → new ≡ member_after m progress o → sent ≡ sent_by (me_of w i) o → typed ≡ typed_by o
+      → record (with_member w i new) { sent = w.sent ++ sent; typed = w.typed ++ typed } ≡ group_after w i m progress o
+  call_leads progress (Refused f) left sends types =
+      rw (left, sends, types, set_same w.members (i - 1) m (is_at w.members i m there).1, append-nil w.sent, append-nil w.typed) refl
+  call_leads progress (Fell kept) left sends types = rw (left, sends, types, append-nil w.sent, append-nil w.typed) refl
+  call_leads progress (Happened made keys) left sends types = rw (left, sends, types) refl
+
+  pub leaves_so : {left : Left} {d : Done} {v : World} (progress : Progress) (plan : Option Bool) (call : NodeCall)
+      → EndsCall (me_of w i) m progress plan call left → d ≡ left.answer → v ≡ world_after w i left → Leaves w i m progress plan call d v
+  leaves_so progress plan call ends answers leads =
+      (answers ∙ ends.answer, leads ∙ call_leads progress (call_outcome plan m.kept call) ends.left ends.sends ends.types)
+
+  -- nothing is sent or typed
+  pub quiet_leads : {left : Left} {new : Member} → left ≡ quietly new → world_after w i left ≡ with_member w i new
+  quiet_leads is = rw (is, append-nil w.sent, append-nil w.typed) refl
+
+  -- and the node is as it was
+  pub idle_leads : {left : Left} → left ≡ quietly m → world_after w i left ≡ w
+  idle_leads is =
+      quiet_leads is
+      ∙ ap (λ members. record w { members = members }) (set_same w.members (i - 1) m (is_at w.members i m there).1)
+
+  -- so it leads there
+  pub quiet_at : {v : World} (plan : Option Bool) (deed : Deed) (new : Member)
+      → DoesDeed w.program (me_of w i) m plan deed (quietly new) → v ≡ with_member w i new → DoesAt w i plan deed Applied v
+  quiet_at plan deed new does is = record {
+    node = m;
+    there = there;
+    left = quietly new;
+    does = does;
+    answers = refl;
+    leads = is ∙ sym (quiet_leads {left = quietly new} refl);
+  }
+
+-- ---- calls that are written out
+
+-- what a call leaves, by its outcome
+abbrev pub left_of : Me → Member → Progress → CallOutcome → Left
+left_of me m progress o = record { answer = done_of o; member = member_after m progress o; sent = sent_by me o; typed = typed_by o }
+
+pub ends_so : (me : Me) (m : Member) (progress : Progress) (plan : Option Bool) (call : NodeCall)
+    → EndsCall me m progress plan call (left_of me m progress (call_outcome plan m.kept call))
+ends_so me m progress plan call = record { answer = refl; left = refl; sends = refl; types = refl }
+
+not_failing : (saves : Option Change) → failing saves None ≡ None
+not_failing None = refl
+not_failing (Some c) = refl
+
+-- a call whose save, if it makes one, is kept
+pub kept_call : (me : Me) (m : Member) (progress : Progress) (call : NodeCall) (made : Response) (keys : List Value)
+    → call ≡ Makes made keys
+    → EndsCall me m progress None call (left_of me m progress (Happened made keys))
+kept_call me m progress call made keys e =
+    let left : Left = left_of me m progress (Happened made keys) in
+    subst (λ c. EndsCall me m progress None c left) (sym e)
+    (subst (λ o. CallEnds me m progress (save_outcome m.kept made keys o) left.answer left.member left.sent left.typed)
+    (sym (not_failing made.saves)) (record { answer = refl; left = refl; sends = refl; types = refl }))
