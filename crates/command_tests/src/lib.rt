@@ -1,5 +1,6 @@
-//! Tests of the crates of the command with a reader, a writer or an environment that fails. This
-//! crate has nothing else.
+//! Tests of the command's crates, apart for check time only: a crate with tests is proved twice.
+//!
+//! They have a reader, a writer or an environment that fails. This crate has nothing else.
 #![tactic(auto)]
 
 #[cfg(test)]

@@ -3,6 +3,7 @@ use crate::program::program;
 use crate::worlds::events_of;
 use group_world::{World, run};
 use paxos_msg::{Ballot, Characters, Value, Vote};
+use std::process::Abort;
 use std::test::Fail;
 
 /// Reads a byte from unit 1, which echoes it: SLDC 65, SRO 3, and UNITREAD of one byte at word 3.
@@ -20,24 +21,22 @@ const EVENTS: &str =
 const BALLOT: Ballot = Ballot { round: 1, node: 1 };
 
 /// Returns the letter, typed first at node 2, as a batch of one.
-fn letter() -> Result<Value, Fail> {
-    let bytes = Characters::new(b"A").ok_or("no characters")?;
-    Ok(Value::Keys {
+fn letter() -> Value {
+    Value::Keys {
         node: 2,
         start: 1,
         first: 1,
-        bytes,
-    })
+        bytes: Characters::from(0x41),
+    }
 }
 
 /// Returns the vote for the letter at place 0.
-fn vote() -> Result<Vote, Fail> {
-    let value = letter()?;
-    Ok(Vote {
+fn vote() -> Vote {
+    Vote {
         place: 0,
         ballot: BALLOT,
-        value,
-    })
+        value: letter(),
+    }
 }
 
 /// Returns true if a node's console has shown these bytes.
@@ -65,6 +64,25 @@ fn keeps(world: &World<'_>, node: u8, votes: &[Vote]) -> bool {
     }
 }
 
+/// Checks what was sent and typed, and that node 3 alone has learned the letter, of the nodes 1 and
+/// 3.
+fn check_values(rt: &impl Abort, world: &World<'_>) {
+    assert_eq!(rt; world.sent(), 8);
+    assert_eq!(rt; world.typed(0), Some(letter()));
+    assert_eq!(rt; world.typed(1), None);
+    assert_eq!(rt; learned(world, 1), None);
+    assert_eq!(rt; learned(world, 3), Some(letter()));
+}
+
+/// Checks that the console of node 3 alone shows the letter, and that the nodes 2 and 3 have voted
+/// for it.
+fn check_nodes(rt: &impl Abort, world: &World<'_>) {
+    let votes = [vote()];
+    assert!(rt; has_shown(world, 1, b"") && keeps(world, 1, &[]));
+    assert!(rt; has_shown(world, 2, b"") && keeps(world, 2, &votes));
+    assert!(rt; has_shown(world, 3, b"A") && keeps(world, 3, &votes));
+}
+
 /// Shows laws::a_written_log, run (happens): what the law says of the nodes after the log holds of
 /// the world after these events.
 #[test]
@@ -72,18 +90,7 @@ fn the_written_log(rt: HostRuntime) -> Result<(), Fail> {
     let program = program(rt.alloc(), &ECHOES)?;
     let events = events_of(rt.alloc(), EVENTS)?;
     let world = run(rt.alloc(), &program, 3, 7, events.as_slice())?;
-    let letter = letter()?;
-    assert_eq!(rt; world.sent(), 8);
-    assert_eq!(rt; world.typed(0), Some(letter));
-    assert_eq!(rt; world.typed(1), None);
-    assert_eq!(rt; learned(&world, 1), None);
-    assert_eq!(rt; learned(&world, 3), Some(letter));
-    assert!(rt; has_shown(&world, 1, b""));
-    assert!(rt; has_shown(&world, 2, b""));
-    assert!(rt; has_shown(&world, 3, b"A"));
-    let votes = [vote()?];
-    assert!(rt; keeps(&world, 1, &[]));
-    assert!(rt; keeps(&world, 2, &votes));
-    assert!(rt; keeps(&world, 3, &votes));
+    check_values(&rt, &world);
+    check_nodes(&rt, &world);
     Ok(())
 }

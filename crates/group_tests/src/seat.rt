@@ -17,10 +17,18 @@ const GROUP: Group = Group {
 };
 
 /// A node of the group over a store in memory, and its outbox.
-#[derive(Drop)]
 pub struct Seat<'a> {
     node: Node<'a, MemoryStore>,
     outbox: Outbox,
+}
+
+impl<'a> Drop for Seat<'a> {
+    fn drop(self) {
+        let Seat {
+            node: _node,
+            outbox: _outbox,
+        } = self;
+    }
 }
 
 impl<'a> Model for Seat<'a> {

@@ -80,11 +80,19 @@ const PAIRS: [(u8, u8); 3] = [(1, 2), (1, 3), (2, 3)];
 
 /// A group whose events are watched one after another. Contracts see nothing of it, so that a test
 /// does not carry a world from one event to the next.
-#[derive(Drop)]
 struct Watched<'a> {
     world: World<'a>,
     /// The number of messages that were delivered to all.
     passed: usize,
+}
+
+impl<'a> Drop for Watched<'a> {
+    fn drop(self) {
+        let Watched {
+            world: _world,
+            passed: _passed,
+        } = self;
+    }
 }
 
 impl<'a> Model for Watched<'a> {
@@ -241,7 +249,7 @@ fn stops_at(
     Ok(group.shows(shown))
 }
 
-/// Shows World::apply (step, refused, learned_agree, consoles_agree), World::new (begun),
+/// Shows World::apply (applies, learned_agree, consoles_agree), World::new (begun),
 /// World::node, World::console: each of twelve saves fails once with the old record and once with
 /// the changed one. The group goes on, and no nodes contradict each other.
 #[test]
@@ -256,7 +264,7 @@ fn each_save_fails(rt: HostRuntime) -> Result<(), Fail> {
     Ok(())
 }
 
-/// Shows World::apply (step), World::sent: the script itself, of whose events twelve save.
+/// Shows World::apply (applies), World::sent: the script itself, of whose events twelve save.
 #[test]
 fn no_save_fails(rt: HostRuntime) -> Result<(), Fail> {
     let program = reading_program(rt.alloc())?;

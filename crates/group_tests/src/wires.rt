@@ -19,14 +19,13 @@ const FAILURES: u32 = 200;
 
 /// The failure: the send of this number, and the receive of this number, counted from 1. Number 0
 /// is none.
-#[derive(Clone, Copy, Debug)]
+#[derive(Clone, Copy)]
 struct Failure {
     send: u32,
     receive: u32,
 }
 
 /// The network between the nodes.
-#[derive(Drop)]
 struct Network {
     alloc: Global,
     /// The datagrams on their way to each node, the oldest first.
@@ -34,6 +33,18 @@ struct Network {
     sends: u32,
     receives: u32,
     failure: Failure,
+}
+
+impl Drop for Network {
+    fn drop(self) {
+        let Network {
+            alloc: _alloc,
+            queues: _queues,
+            sends: _sends,
+            receives: _receives,
+            failure: _failure,
+        } = self;
+    }
 }
 
 impl Network {
@@ -124,11 +135,20 @@ fn started_host<'a>(
 }
 
 /// A node of the group, and what it has released.
-#[derive(Drop)]
 struct Player<'a> {
     host: Host<'a, MemoryStore>,
     node: u8,
     console: Vec<u8>,
+}
+
+impl<'a> Drop for Player<'a> {
+    fn drop(self) {
+        let Player {
+            host: _host,
+            node: _node,
+            console: _console,
+        } = self;
+    }
 }
 
 impl<'a> Player<'a> {
@@ -206,7 +226,8 @@ fn shows_all(alloc: Global, program: &Program, failure: Failure) -> Result<bool,
         .iter()
         .all(|player| shown.starts_with(player.console.as_slice()))
     {
-        return Err(Fail::new(format_args!("{failure:?}")));
+        let Failure { send, receive } = failure;
+        return Err(Fail::new(format_args!("send {send}, receive {receive}")));
     }
     Ok(
         players

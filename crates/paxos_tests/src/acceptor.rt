@@ -1,6 +1,7 @@
 //! An acceptor: the parts of a promise by their numbers, and faults that are passed on.
 ghost use Rattle.std.specs.Prelude.{◌≡◌};
 
+use super::voter::Voter;
 use paxos_acceptor::{Acceptor, AcceptorFault, Me, MemoryStore, Store};
 use paxos_msg::{Ballot, Body, Group, Record, Value, Vote, Votes};
 use std::alloc::{AllocError, Global};
@@ -53,6 +54,23 @@ fn part_of(answer: Result<Body, AcceptorFault>) -> Option<(u32, u32, Votes)> {
     }
 }
 
+/// Returns true if the part of a promise from the place on speaks of the places up to `upto`, and
+/// has eight votes.
+fn has_eight(voter: &mut Voter<MemoryStore>, from: u32, upto: u32) -> bool {
+    match part_of(voter.prepare(SECOND, from)) {
+        Some(part) => part.0 == from && part.1 == upto && part.2.as_slice().len() == 8,
+        None => false,
+    }
+}
+
+/// Returns true if the part of a promise from place 64 on is the last one, with these votes.
+fn has_last(voter: &mut Voter<MemoryStore>, expected: &[Vote]) -> bool {
+    match part_of(voter.prepare(SECOND, 64)) {
+        Some(part) => part.0 == 64 && part.1 == 65_536 && part.2.as_slice() == expected,
+        None => false,
+    }
+}
+
 /// Returns a record that has promised the first ballot, with 65 votes from place 0 on.
 fn with_votes(alloc: Global) -> Result<Record, AllocError> {
     let mut votes = Vec::new(alloc);
@@ -79,20 +97,13 @@ fn is_accepted(answer: &Result<Body, AcceptorFault>) -> bool {
 /// place 0 on has nine parts; three of them are asked for.
 #[test]
 fn promise_bytes_and_parts(rt: HostRuntime) -> Result<(), Fail> {
-    let record = with_votes(rt.alloc())?;
-    let mut acceptor = opened(&rt, rt.alloc(), MemoryStore::new(record));
-
-    let (first, upto, votes) = part_of(acceptor.prepare(SECOND, 0)).expect(&rt, "a promise");
-    assert_eq!(rt; (first, upto, votes.as_slice().len()), (0, 8, 8));
-
-    assert!(rt; is_accepted(&acceptor.accept(SECOND, 70, Value::Noop)));
-
-    let (first, upto, votes) = part_of(acceptor.prepare(SECOND, 56)).expect(&rt, "a promise");
-    assert_eq!(rt; (first, upto, votes.as_slice().len()), (56, 64, 8));
-    let (first, upto, votes) = part_of(acceptor.prepare(SECOND, 64)).expect(&rt, "a promise");
-    assert_eq!(rt; (first, upto), (64, 65_536));
+    let store = MemoryStore::new(with_votes(rt.alloc())?);
+    let mut voter = Voter::open(&rt, rt.alloc(), store);
+    assert!(rt; has_eight(&mut voter, 0, 8));
+    assert!(rt; is_accepted(&voter.accept(SECOND, 70, Value::Noop)));
+    assert!(rt; has_eight(&mut voter, 56, 64));
     let expected = [vote_for_none(64, FIRST), vote_for_none(70, SECOND)];
-    assert_eq!(rt; votes.as_slice(), expected.as_slice());
+    assert!(rt; has_last(&mut voter, &expected));
     Ok(())
 }
 
@@ -105,41 +116,49 @@ fn promise_bytes_and_parts(rt: HostRuntime) -> Result<(), Fail> {
 #[test]
 fn fails_at_will(rt: HostRuntime) -> Result<(), Fail> {
     for is_kept in [false, true] {
-        let store = MemoryStore::new(Record::new(rt.alloc()));
-        let mut acceptor = opened(&rt, rt.alloc(), store);
-        acceptor.fail_next(Some(is_kept));
-        let failed = acceptor.prepare(FIRST, 0).err();
-        assert_eq!(rt; failed, Some(AcceptorFault::Store));
-        assert_eq!(rt; acceptor.new_start(), Err(AcceptorFault::Closed));
-
-        let mut acceptor = opened(&rt, rt.alloc(), acceptor.into_store());
-        let promised = if is_kept { Some(FIRST) } else { None };
-        assert_eq!(rt; acceptor.record().promised, promised);
-        acceptor.fail_next(Some(is_kept));
-        let failed = acceptor.accept(SECOND, 3, Value::Noop).err();
-        assert_eq!(rt; failed, Some(AcceptorFault::Store));
-        let closed = acceptor.prepare(SECOND, 0).err();
-        assert_eq!(rt; closed, Some(AcceptorFault::Closed));
-
-        let store = acceptor.into_store();
+        let store = fails_to_promise(&rt, rt.alloc(), is_kept);
+        let store = fails_to_vote(&rt, rt.alloc(), store, is_kept);
         assert_eq!(rt; store.faults(), 2);
-        let acceptor = opened(&rt, rt.alloc(), store);
+        let voter = Voter::open(&rt, rt.alloc(), store);
         let votes = if is_kept { 1 } else { 0 };
-        assert_eq!(rt; acceptor.record().votes.as_slice().len(), votes);
+        assert_eq!(rt; voter.record().votes.as_slice().len(), votes);
     }
     takes_a_plan_back(&rt, rt.alloc());
-    refuses_records(&rt, rt.alloc())?;
-    Ok(())
+    refuses_records(&rt, rt.alloc())
+}
+
+/// Checks that a promise whose save fails closes the acceptor. Returns its store.
+fn fails_to_promise(rt: &impl Abort, alloc: Global, is_kept: bool) -> MemoryStore {
+    let mut voter = Voter::open(rt, alloc, MemoryStore::new(Record::new(alloc)));
+    voter.fail_next(Some(is_kept));
+    let failed = voter.fault_of_prepare(FIRST, 0);
+    assert_eq!(rt; failed, Some(AcceptorFault::Store));
+    assert_eq!(rt; voter.start(), Err(AcceptorFault::Closed));
+    voter.into_store()
+}
+
+/// Checks that a restart finds that promise, or none, and that a vote whose save fails closes the
+/// acceptor. Returns its store.
+fn fails_to_vote(rt: &impl Abort, alloc: Global, store: MemoryStore, is_kept: bool) -> MemoryStore {
+    let mut voter = Voter::open(rt, alloc, store);
+    let promised = if is_kept { Some(FIRST) } else { None };
+    assert_eq!(rt; voter.record().promised, promised);
+    voter.fail_next(Some(is_kept));
+    let failed = voter.fault_of_accept(SECOND, 3, Value::Noop);
+    assert_eq!(rt; failed, Some(AcceptorFault::Store));
+    let closed = voter.fault_of_prepare(SECOND, 0);
+    assert_eq!(rt; closed, Some(AcceptorFault::Closed));
+    voter.into_store()
 }
 
 /// Checks that a plan that is taken back leaves the next save as it is.
 fn takes_a_plan_back(rt: &impl Abort, alloc: Global) {
-    let mut acceptor = opened(rt, alloc, MemoryStore::new(Record::new(alloc)));
-    acceptor.fail_next(Some(false));
-    acceptor.fail_next(None);
-    assert_eq!(rt; acceptor.new_start(), Ok(1));
-    assert!(rt; !acceptor.is_closed());
-    let store = acceptor.into_store();
+    let mut voter = Voter::open(rt, alloc, MemoryStore::new(Record::new(alloc)));
+    voter.fail_next(Some(false));
+    voter.fail_next(None);
+    assert_eq!(rt; voter.start(), Ok(1));
+    assert!(rt; !voter.is_closed());
+    let store = voter.into_store();
     assert_eq!(rt; (store.stored().starts, store.faults()), (1, 0));
 }
 

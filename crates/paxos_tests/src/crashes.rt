@@ -7,14 +7,15 @@ use paxos_acceptor::{
     Disk, DiskFault, FaultPlan, LogStore, MemoryDisk, Store, StoreFault, log_decode,
 };
 use paxos_msg::{Ballot, Change, Characters, Record, Value};
-use std::alloc::Global;
+use std::alloc::{AllocError, Global};
+use std::marker::Model;
 use std::process::Abort;
 use std::test::Fail;
 
 /// A disk in memory of which contracts know nothing, so that a test may begin with any bytes.
 #[derive(Drop)]
-pub struct Unknown {
-    pub disk: MemoryDisk,
+struct Unknown {
+    disk: MemoryDisk,
 }
 
 impl Disk for Unknown {
@@ -57,10 +58,48 @@ impl Disk for Unknown {
     }
 }
 
-/// Returns a store on a disk in memory whose file has these bytes, if any.
-pub fn store_over(alloc: Global, bytes: Option<Vec<u8>>) -> LogStore<Unknown> {
-    let disk = MemoryDisk::new(alloc, bytes);
-    LogStore::new(alloc, Unknown { disk }, ME)
+/// A store on such a disk. Contracts see nothing of it, so that a test does not carry a record from
+/// one call to the next.
+pub struct OnDisk {
+    store: LogStore<Unknown>,
+}
+
+impl Drop for OnDisk {
+    fn drop(self) {
+        let OnDisk { store: _store } = self;
+    }
+}
+
+impl Model for OnDisk {
+    ghost Value = { Unit {0} };
+
+    ghost view = { λ _. tt };
+}
+
+impl OnDisk {
+    pub fn new(alloc: Global, disk: MemoryDisk) -> OnDisk {
+        let store = LogStore::new(alloc, Unknown { disk }, ME);
+        OnDisk { store }
+    }
+
+    pub fn load(&mut self) -> Result<Record, StoreFault> {
+        self.store.load()
+    }
+
+    pub fn save(&mut self, change: &Change) -> Result<(), StoreFault> {
+        self.store.save(change)
+    }
+
+    /// Returns the bytes of the file that are on the disk for sure, if there is one.
+    pub fn left(&self, alloc: Global) -> Result<Option<Vec<u8>>, AllocError> {
+        self.store.disk().disk.left(alloc, 0, 0, [false, false])
+    }
+
+    pub fn into_disk(self) -> MemoryDisk {
+        let OnDisk { store } = self;
+        let Unknown { disk } = store.into_disk();
+        disk
+    }
 }
 
 pub fn are_same(a: &Record, b: &Record) -> bool {
@@ -69,7 +108,7 @@ pub fn are_same(a: &Record, b: &Record) -> bool {
 
 /// Loads the record that a restart finds.
 pub fn found(alloc: Global, bytes: Option<Vec<u8>>) -> Result<Record, StoreFault> {
-    store_over(alloc, bytes).load()
+    OnDisk::new(alloc, MemoryDisk::new(alloc, bytes)).load()
 }
 
 const SECOND: Ballot = Ballot { round: 2, node: 3 };
@@ -115,12 +154,86 @@ fn after(alloc: Global, count: usize) -> Result<Record, StoreFault> {
     Ok(record)
 }
 
-/// What was saved: so many changes for sure, and so many in the record that was found or saved
-/// last.
+/// Saves of the changes: so many are there for sure, and so many in the record that was found or
+/// saved last, if one is known.
+struct Saves {
+    sure: usize,
+    done: usize,
+    is_known: bool,
+    store: OnDisk,
+}
+
+impl Drop for Saves {
+    fn drop(self) {
+        let Saves {
+            sure: _sure,
+            done: _done,
+            is_known: _is_known,
+            store: _store,
+        } = self;
+    }
+}
+
+impl Saves {
+    /// Loads the record of a disk with this plan.
+    fn begin(alloc: Global, plan: FaultPlan) -> Saves {
+        let mut disk = MemoryDisk::new(alloc, None);
+        disk.plan(Some(plan));
+        let mut store = OnDisk::new(alloc, disk);
+        let is_known = store.load().is_ok();
+        Saves {
+            sure: 0,
+            done: 0,
+            is_known,
+            store,
+        }
+    }
+
+    /// Loads the record again after a fault. A failed save may be found after all. It is on the
+    /// disk for sure only after the next save, since a sync of the file may have failed.
+    fn load_again(&mut self, alloc: Global) -> Result<(), StoreFault> {
+        let record = self.store.load()?;
+        let next = self.done.saturating_add(1);
+        if next <= CHANGES && are_same(&record, &after(alloc, next)?) {
+            self.done = next;
+        }
+        Ok(())
+    }
+
+    /// Saves the next change, after a fault once the record is loaded again. Returns false if there
+    /// is no change left, or the record cannot be loaded.
+    fn go_on(&mut self, alloc: Global) -> bool {
+        if !self.is_known && self.load_again(alloc).is_err() {
+            return false;
+        }
+        if self.done >= CHANGES {
+            return false;
+        }
+        self.is_known = self.store.save(&change(self.done)).is_ok();
+        if self.is_known {
+            self.done += 1;
+            self.sure = self.done;
+        }
+        true
+    }
+
+    fn end(self) -> Saved {
+        let Saves {
+            sure,
+            done,
+            is_known: _is_known,
+            store,
+        } = self;
+        let disk = store.into_disk();
+        Saved { sure, done, disk }
+    }
+}
+
+/// What was saved in the end: so many changes for sure, and so many in the record.
 struct Saved {
     sure: usize,
     done: usize,
-    disk: Unknown,
+    disk: MemoryDisk,
 }
 
 impl Drop for Saved {
@@ -133,48 +246,16 @@ impl Drop for Saved {
     }
 }
 
-/// Loads the record again after a fault. A failed save may be found after all. It is on the disk
-/// for sure only after the next save, since a sync of the file may have failed.
-fn load_again(
-    alloc: Global,
-    store: &mut LogStore<Unknown>,
-    done: usize,
-) -> Result<usize, StoreFault> {
-    let record = store.load()?;
-    let next = done.saturating_add(1);
-    if next <= CHANGES && are_same(&record, &after(alloc, next)?) {
-        return Ok(next);
-    }
-    Ok(done)
-}
-
 /// Saves the changes over a disk with this plan. After a fault that is no crash the record is
 /// loaded again.
 fn run(alloc: Global, plan: FaultPlan) -> Saved {
-    let mut disk = MemoryDisk::new(alloc, None);
-    disk.plan(Some(plan));
-    let mut store = LogStore::new(alloc, Unknown { disk }, ME);
-    let mut sure = 0;
-    let mut done = 0;
-    let mut is_known = store.load().is_ok();
+    let mut saves = Saves::begin(alloc, plan);
     for _ in 0..20 {
-        if !is_known {
-            match load_again(alloc, &mut store, done) {
-                Ok(count) => done = count,
-                Err(_) => break,
-            }
-        }
-        if done >= CHANGES {
+        if !saves.go_on(alloc) {
             break;
         }
-        is_known = store.save(&change(done)).is_ok();
-        if is_known {
-            done += 1;
-            sure = done;
-        }
     }
-    let disk = store.into_disk();
-    Saved { sure, done, disk }
+    saves.end()
 }
 
 /// Each choice of sectors that a crash loses, of the two that an append reaches.
@@ -202,7 +283,7 @@ fn check_left(
 /// Checks all that a crash may leave. Returns how much that is.
 fn check(rt: &impl Abort, alloc: Global, saved: &Saved) -> Result<u32, Fail> {
     let mut tried = 0;
-    let disk = &saved.disk.disk;
+    let disk = &saved.disk;
     for which in 0..disk.names() {
         for count in 0..disk.loose(which).saturating_add(1) {
             for lost in LOST.as_slice().iter() {

@@ -34,6 +34,17 @@ fn with_a_hole(alloc: Global) -> Result<(Learner, [u32; 3]), LearnerFault> {
     Ok((learner, [before, after, last]))
 }
 
+/// Returns true if the input that the places from this one on add is this.
+fn adds(learner: &Learner, place: u32, bytes: &[u8]) -> bool {
+    let mut input = learner.input_after(place);
+    for byte in bytes.iter() {
+        if input.next() != Some(*byte) {
+            return false;
+        }
+    }
+    input.next().is_none()
+}
+
 /// Shows Learner::on_tell (ok), Learner::known_front (front, least), Learner::input_after,
 /// InputAfter::next (next_gives): the front rises over a hole that is filled, and a key at two
 /// places is read once.
@@ -42,9 +53,7 @@ fn console_and_learner_edges(rt: HostRuntime) -> Result<(), Fail> {
     let (learner, fronts) = with_a_hole(rt.alloc())?;
     assert_eq!(rt; fronts, [0, 2, 3]);
     // The key is at two places, and is read once.
-    let mut input = learner.input_after(0);
-    assert_eq!(rt; input.next(), Some(0x48));
-    assert_eq!(rt; input.next(), None);
+    assert!(rt; adds(&learner, 0, b"H"));
     Ok(())
 }
 
@@ -63,14 +72,9 @@ fn with_a_batch(alloc: Global) -> Result<Learner, LearnerFault> {
 fn a_batch_is_read_from_its_first_new_key_on(rt: HostRuntime) -> Result<(), Fail> {
     let learner = with_a_batch(rt.alloc())?;
     assert_eq!(rt; learner.input_len(), 2);
-    let mut input = learner.input_after(0);
-    assert_eq!(rt; input.next(), Some(0x48));
-    assert_eq!(rt; input.next(), Some(0x49));
-    assert_eq!(rt; input.next(), None);
+    assert!(rt; adds(&learner, 0, b"HI"));
     // Place 1 adds the second key alone.
-    let mut added = learner.input_after(1);
-    assert_eq!(rt; added.next(), Some(0x49));
-    assert_eq!(rt; added.next(), None);
+    assert!(rt; adds(&learner, 1, b"I"));
     Ok(())
 }
 

@@ -1,5 +1,7 @@
-//! Tests of the crates of Paxos: messages and their bytes, acceptor, proposer and learner. This
-//! crate has nothing else.
+//! Tests of the crates of Paxos, apart for check time only: a crate with tests is proved twice.
+//!
+//! They are of messages and their bytes, acceptor, proposer and learner. This crate has nothing
+//! else.
 #![tactic(auto)]
 
 #[cfg(test)]
@@ -24,3 +26,5 @@ mod proposer;
 mod records;
 #[cfg(test)]
 mod sectors;
+#[cfg(test)]
+mod voter;

@@ -1,11 +1,13 @@
 //! Records as logs of changes: their bytes, logs that were cut or changed, and files with logs.
-ghost use Rattle.std.specs.Prelude.{◌≡◌, ◌<◌, ◌≤◌, length, IfOk};
+ghost use Rattle.std.specs.Prelude.{◌<◌, ◌≤◌, length};
 
-use super::acceptor::{FIRST, ME, opened};
+use super::acceptor::{FIRST, ME};
+use super::files::{becomes_whole, has, in_file};
 use super::records::{BYTES, BYTES_V1, check_others, is_of_bytes};
-use paxos_acceptor::{Acceptor, AcceptorFault, FileStore, StoreFault, log_decode};
+use super::voter::Voter;
+use paxos_acceptor::{FileStore, StoreFault, log_decode};
 use paxos_msg::{Characters, Record, Value};
-use std::alloc::Global;
+use std::alloc::{AllocError, Global};
 use std::fs;
 use std::process::Abort;
 use std::test::Fail;
@@ -46,21 +48,22 @@ fn are_none(alloc: Global, bytes: &[u8]) -> bool {
     log_decode(alloc, bytes, ME).err() == Some(StoreFault::Bad)
 }
 
+/// Returns true if the bytes are a whole log of that record.
+fn is_whole(alloc: Global, bytes: &[u8]) -> bool {
+    match log_decode(alloc, bytes, ME) {
+        Ok((record, taken)) => is_of_bytes(&record) && taken == bytes.len(),
+        Err(_) => false,
+    }
+}
+
 /// Shows log_decode (found, only, bad): a log's record is the empty one after its entries, in both
 /// versions. A whole record is no log.
 #[test]
-fn log_bytes(rt: HostRuntime) -> Result<(), Fail> {
-    let (record, taken) = log_decode(rt.alloc(), LOG.as_slice(), ME)?;
-    assert!(rt; is_of_bytes(&record));
-    assert_eq!(rt; taken, 38);
-
-    let (record, taken) = log_decode(rt.alloc(), LOG_V1.as_slice(), ME)?;
-    assert!(rt; is_of_bytes(&record));
-    assert_eq!(rt; taken, 37);
-
-    assert!(rt; are_none(rt.alloc(), BYTES.as_slice()));
-    assert!(rt; are_none(rt.alloc(), BYTES_V1.as_slice()));
-    Ok(())
+fn log_bytes(rt: HostRuntime) {
+    assert!(rt; is_whole(rt.alloc(), &LOG));
+    assert!(rt; is_whole(rt.alloc(), &LOG_V1));
+    assert!(rt; are_none(rt.alloc(), &BYTES));
+    assert!(rt; are_none(rt.alloc(), &BYTES_V1));
 }
 
 /// Checks the first bytes of a log. Without the whole header they are no log, and otherwise a log
@@ -104,34 +107,42 @@ fn starts_of(alloc: Global, entries: &[u8]) -> Result<Option<u32>, Fail> {
     }
 }
 
+/// Entries of unknown tags; with a ballot of round 0, and one of node 4; and of a vote at place
+/// 65,536, and one for a value of an unknown tag.
+const OUT_OF_RANGES: [&[u8]; 6] = [
+    &[4],
+    &[1, 0],
+    &[2, 0, 0, 0, 0, 1],
+    &[2, 0, 0, 0, 1, 4],
+    &[3, 0, 1, 0, 0, 0, 0, 0, 1, 1, 0],
+    &[3, 0, 0, 0, 0, 0, 0, 0, 1, 1, 2],
+];
+
 /// Shows log_decode (bad): an entry of an unknown tag or out of its ranges makes a log bad,
 /// whatever comes before it.
 #[test]
 fn entries_out_of_ranges(rt: HostRuntime) -> Result<(), Fail> {
-    // Unknown tags.
-    assert_eq!(rt; starts_of(rt.alloc(), [4].as_slice())?, None);
-    assert_eq!(rt; starts_of(rt.alloc(), [1, 0].as_slice())?, None);
-    // A ballot of round 0, and one of node 4.
-    assert_eq!(rt; starts_of(rt.alloc(), [2, 0, 0, 0, 0, 1].as_slice())?, None);
-    assert_eq!(rt; starts_of(rt.alloc(), [2, 0, 0, 0, 1, 4].as_slice())?, None);
-    // A vote at place 65,536, and one for a value of an unknown tag.
-    let there = [3, 0, 1, 0, 0, 0, 0, 0, 1, 1, 0];
-    assert_eq!(rt; starts_of(rt.alloc(), there.as_slice())?, None);
-    let value = [3, 0, 0, 0, 0, 0, 0, 0, 1, 1, 2];
-    assert_eq!(rt; starts_of(rt.alloc(), value.as_slice())?, None);
+    for entries in OUT_OF_RANGES {
+        assert_eq!(rt; starts_of(rt.alloc(), entries)?, None, "{entries:?}");
+    }
     Ok(())
 }
+
+/// A ballot that is promised again; one below it; and a vote under one below it. With them, the
+/// number of starts of the log.
+const AFTER_A_PROMISE: [(&[u8], Option<u32>); 3] = [
+    (&[2, 0, 0, 0, 2, 2, 2, 0, 0, 0, 2, 2, 1], Some(1)),
+    (&[2, 0, 0, 0, 2, 2, 2, 0, 0, 0, 2, 1, 1], None),
+    (&[2, 0, 0, 0, 2, 2, 3, 0, 0, 0, 0, 0, 0, 0, 1, 1, 0], None),
+];
 
 /// Shows log_decode (found, bad): a ballot may be promised again. One below it may not be, and may
 /// not be voted under.
 #[test]
 fn entries_below_the_promise(rt: HostRuntime) -> Result<(), Fail> {
-    let again = [2, 0, 0, 0, 2, 2, 2, 0, 0, 0, 2, 2, 1];
-    assert_eq!(rt; starts_of(rt.alloc(), again.as_slice())?, Some(1));
-    let below = [2, 0, 0, 0, 2, 2, 2, 0, 0, 0, 2, 1, 1];
-    assert_eq!(rt; starts_of(rt.alloc(), below.as_slice())?, None);
-    let vote = [2, 0, 0, 0, 2, 2, 3, 0, 0, 0, 0, 0, 0, 0, 1, 1, 0];
-    assert_eq!(rt; starts_of(rt.alloc(), vote.as_slice())?, None);
+    for (entries, starts) in AFTER_A_PROMISE {
+        assert_eq!(rt; starts_of(rt.alloc(), entries)?, starts, "{entries:?}");
+    }
     Ok(())
 }
 
@@ -156,15 +167,21 @@ fn damaged_logs(rt: HostRuntime) -> Result<(), Fail> {
 
 // ---- files
 
-/// Opens an acceptor whose record is in the file at `path`.
-fn in_file(
-    rt: &impl Abort,
-    files: HostRuntime,
-    path: &str,
-) -> Result<Acceptor<FileStore<HostRuntime>>, Fail>
-    ensures { IfOk result (λ acceptor. acceptor.me ≡ ME) }
-{
-    Ok(opened(rt, files.alloc(), FileStore::new(files, path, ME)?))
+/// Makes the change that the entry of this number of the log is of. Returns true if it was saved.
+fn saves(voter: &mut Voter<FileStore<HostRuntime>>, entry: u32) -> bool {
+    match entry {
+        0 => voter.start() == Ok(1),
+        1 => voter.fault_of_prepare(FIRST, 0).is_none(),
+        _ => {
+            let value = Value::Keys {
+                node: 2,
+                start: 1,
+                first: 1,
+                bytes: Characters::from(0x48),
+            };
+            voter.fault_of_accept(FIRST, 0, value).is_none()
+        }
+    }
 }
 
 /// Shows what no clause says: a new file is a log, to which each save appends its entry.
@@ -172,46 +189,51 @@ fn in_file(
 fn new_file_is_a_log(rt: HostRuntime) -> Result<(), Fail> {
     let path = "log_of_a_test";
     let _ = fs::remove_file(&rt, path);
-    let mut acceptor = in_file(&rt, rt, path)?;
-    assert_eq!(rt; acceptor.new_start(), Ok(1));
-    assert_eq!(rt; fs::read(&rt, path)?.as_slice(), &LOG[..10]);
-    assert!(rt; acceptor.prepare(FIRST, 0).is_ok());
-    assert_eq!(rt; fs::read(&rt, path)?.as_slice(), &LOG[..16]);
-    let value = Value::Keys {
-        node: 2,
-        start: 1,
-        first: 1,
-        bytes: Characters::from(0x48),
-    };
-    assert!(rt; acceptor.accept(FIRST, 0, value).is_ok());
-    assert_eq!(rt; fs::read(&rt, path)?.as_slice(), LOG.as_slice());
+    let mut voter = in_file(&rt, rt, path)?;
+    for (entry, length) in [(0, 10), (1, 16), (2, 38)] {
+        assert!(rt; saves(&mut voter, entry), "entry {entry}");
+        let bytes = LOG.get(..length).unwrap_or_default();
+        assert!(rt; has(rt, path, bytes), "of {length} bytes");
+    }
     assert!(rt; is_of_bytes(in_file(&rt, rt, path)?.record()));
     fs::remove_file(&rt, path)?;
     Ok(())
 }
 
-/// Opens a file with the first `length` bytes of the log, and saves a start. The whole entries
-/// precede it, and nothing of the one that was cut.
-fn goes_on(rt: &impl Abort, files: HostRuntime, path: &str, length: usize) -> Result<(), Fail>
-    requires { length ≤ 38 }
-{
-    fs::write(&files, path, &LOG[..length])?;
-    let mut acceptor = in_file(rt, files, path)?;
-    assert_eq!(rt; fs::read(&files, path)?.as_slice(), &LOG[..length]);
-    assert!(rt; acceptor.new_start().is_ok());
+/// Opens a file with these bytes, which leaves them, and saves a start. Returns what the file has
+/// then.
+fn after_start(
+    rt: &impl Abort,
+    files: HostRuntime,
+    path: &str,
+    bytes: &[u8],
+) -> Result<Vec<u8>, Fail> {
+    fs::write(&files, path, bytes)?;
+    let mut voter = in_file(rt, files, path)?;
+    assert!(rt; has(files, path, bytes));
+    assert!(rt; voter.start().is_ok());
+    Ok(fs::read(&files, path)?)
+}
+
+/// Returns the whole entries of the first `length` bytes of the log, and the entry of a start.
+fn whole_and_start(alloc: Global, length: usize) -> Result<Vec<u8>, AllocError> {
     let whole = if length == 38 {
         38
     } else {
         whole_of_first(length)
     };
-    let mut expected = Vec::new(files.alloc());
-    expected.extend_from_slice(LOG.get(..whole).unwrap_or_default())?;
-    expected.push(1)?;
-    assert_eq!(rt;
-        fs::read(&files, path)?.as_slice(),
-        expected.as_slice(),
-        "of {length} bytes"
-    );
+    let mut bytes = LOG.get(..whole).unwrap_or_default().to_vec(alloc)?;
+    bytes.push(1)?;
+    Ok(bytes)
+}
+
+/// Opens a file with the first `length` bytes of the log, and saves a start. The whole entries
+/// precede it, and nothing of the one that was cut.
+fn goes_on(rt: &impl Abort, files: HostRuntime, path: &str, length: usize) -> Result<(), Fail> {
+    let bytes = LOG.get(..length).unwrap_or_default();
+    let left = after_start(rt, files, path, bytes)?;
+    let expected = whole_and_start(files.alloc(), length)?;
+    assert!(rt; left.as_slice() == expected.as_slice(), "of {length} bytes");
     Ok(())
 }
 
@@ -227,37 +249,39 @@ fn cut_files_go_on(rt: HostRuntime) -> Result<(), Fail> {
     Ok(())
 }
 
-/// Returns what a file with these bytes has after a start was saved to it.
-fn after_start(rt: &impl Abort, files: HostRuntime, bytes: &[u8]) -> Result<Vec<u8>, Fail> {
-    let path = "whole_record_of_a_test";
-    fs::write(&files, path, bytes)?;
-    let mut acceptor = in_file(rt, files, path)?;
-    assert!(rt; is_of_bytes(acceptor.record()));
-    assert_eq!(rt; fs::read(&files, path)?.as_slice(), bytes);
-    assert!(rt; acceptor.new_start().is_ok());
-    let read = fs::read(&files, path)?;
-    fs::remove_file(&files, path)?;
-    Ok(read)
-}
-
 /// Shows what no clause says: a file in whole form stays in it. One of version 1, in either form,
 /// becomes a whole record of version 2.
 #[test]
 fn whole_files(rt: HostRuntime) -> Result<(), Fail> {
-    let mut expected = BYTES;
-    expected[12] = 2;
-    assert_eq!(rt;
-        after_start(&rt, rt, BYTES.as_slice())?.as_slice(),
-        expected.as_slice()
-    );
-    assert_eq!(rt;
-        after_start(&rt, rt, BYTES_V1.as_slice())?.as_slice(),
-        expected.as_slice()
-    );
-    assert_eq!(rt;
-        after_start(&rt, rt, LOG_V1.as_slice())?.as_slice(),
-        expected.as_slice()
-    );
+    let path = "whole_record_of_a_test";
+    becomes_whole(&rt, rt, path, &BYTES)?;
+    becomes_whole(&rt, rt, path, &BYTES_V1)?;
+    becomes_whole(&rt, rt, path, &LOG_V1)
+}
+
+/// Opens a file with the bytes `before`, which then come to be `after`. The next save is a fault,
+/// and changes nothing.
+fn fails_over(
+    rt: &impl Abort,
+    files: HostRuntime,
+    path: &str,
+    before: &[u8],
+    after: &[u8],
+) -> Result<(), Fail> {
+    fs::write(&files, path, before)?;
+    let mut voter = in_file(rt, files, path)?;
+    fs::write(&files, path, after)?;
+    assert!(rt; voter.fails());
+    assert!(rt; has(files, path, after));
+    Ok(())
+}
+
+/// Opens the file, which then is removed. The next save is a fault, and makes no file.
+fn fails_without(rt: &impl Abort, files: HostRuntime, path: &str) -> Result<(), Fail> {
+    let mut voter = in_file(rt, files, path)?;
+    fs::remove_file(&files, path)?;
+    assert!(rt; voter.fails());
+    assert!(rt; fs::read(&files, path).is_err());
     Ok(())
 }
 
@@ -266,22 +290,10 @@ fn whole_files(rt: HostRuntime) -> Result<(), Fail> {
 #[test]
 fn files_of_other_hands(rt: HostRuntime) -> Result<(), Fail> {
     let path = "changed_log_of_a_test";
-    for length in [37, 16, 0] {
-        fs::write(&rt, path, LOG.as_slice())?;
-        let mut acceptor = in_file(&rt, rt, path)?;
-        fs::write(&rt, path, LOG.get(..length).unwrap_or_default())?;
-        assert_eq!(rt; acceptor.new_start(), Err(AcceptorFault::Store));
-        assert_eq!(rt; fs::read(&rt, path)?.len(), length);
+    for (before, after) in [(38, 37), (38, 16), (38, 0), (16, 38)] {
+        let before = LOG.get(..before).unwrap_or_default();
+        let after = LOG.get(..after).unwrap_or_default();
+        fails_over(&rt, rt, path, before, after)?;
     }
-    fs::write(&rt, path, &LOG[..16])?;
-    let mut acceptor = in_file(&rt, rt, path)?;
-    fs::write(&rt, path, LOG.as_slice())?;
-    assert_eq!(rt; acceptor.new_start(), Err(AcceptorFault::Store));
-    assert_eq!(rt; fs::read(&rt, path)?.as_slice(), LOG.as_slice());
-
-    let mut acceptor = in_file(&rt, rt, path)?;
-    fs::remove_file(&rt, path)?;
-    assert_eq!(rt; acceptor.new_start(), Err(AcceptorFault::Store));
-    assert!(rt; fs::read(&rt, path).is_err());
-    Ok(())
+    fails_without(&rt, rt, path)
 }

@@ -35,10 +35,17 @@ fn vote(place: u32, round: u32, node: u8, value: Value) -> Vote {
 }
 
 /// A proposer of the group.
-#[derive(Drop)]
 struct Leader {
     proposer: Proposer,
     ghost in_group: { proposer.known.size ≡ 3 },
+}
+
+impl Drop for Leader {
+    fn drop(self) {
+        let Leader {
+            proposer: _proposer,
+        } = self;
+    }
 }
 
 impl Leader {

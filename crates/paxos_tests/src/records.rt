@@ -1,7 +1,9 @@
 //! The bytes of records, in both versions.
 ghost use Rattle.std.specs.Prelude.{◌<◌};
+ghost use Rattle.paxos_acceptor.specs.Records.{IsRecord};
 
-use super::acceptor::{FIRST, ME, opened};
+use super::acceptor::{FIRST, ME};
+use super::voter::Voter;
 use paxos_acceptor::{
     AcceptorFault, MemoryStore, StoreFault, record_decode, record_encode, record_migrate,
 };
@@ -46,35 +48,44 @@ fn are_none(alloc: Global, bytes: &[u8]) -> bool {
     record_decode(alloc, bytes, ME).err() == Some(StoreFault::Bad)
 }
 
+/// Returns true if it is the record of those bytes, and is spelled by them.
+fn is_spelled(alloc: Global, kept: &Record) -> bool
+    requires { IsRecord 3 kept.now }
+{
+    match record_encode(alloc, kept, ME) {
+        Ok(bytes) => is_of_bytes(kept) && bytes.as_slice() == BYTES.as_slice(),
+        Err(_) => false,
+    }
+}
+
+/// Returns those bytes and one more.
+fn longer() -> [u8; 44] {
+    let mut bytes = [0; 44];
+    bytes[..43].copy_from_slice(&BYTES);
+    bytes
+}
+
 /// Shows record_decode (found, only, bad), record_encode (ok), Acceptor::new_start (counts): a
 /// record has one spelling. Other bytes are none, and after 4,294,967,295 starts there is no other.
 #[test]
 fn record_bytes(rt: HostRuntime) -> Result<(), Fail> {
-    let record = record_decode(rt.alloc(), BYTES.as_slice(), ME)?;
-    assert!(rt; is_of_bytes(&record));
-    let bytes = record_encode(rt.alloc(), &record, ME)?;
-    assert_eq!(rt; bytes.as_slice(), BYTES.as_slice());
-
-    assert!(rt; are_none(rt.alloc(), &BYTES[..42]));
-    let mut longer = bytes;
-    longer.push(0)?;
-    assert!(rt; are_none(rt.alloc(), longer.as_slice()));
+    let record = record_decode(rt.alloc(), &BYTES, ME)?;
+    assert!(rt; is_spelled(rt.alloc(), &record));
     let mut of_another = BYTES;
     of_another[3] = 1;
-    assert!(rt; are_none(rt.alloc(), of_another.as_slice()));
+    assert!(rt; are_none(rt.alloc(), &BYTES[..42]));
+    assert!(rt; are_none(rt.alloc(), &longer()));
+    assert!(rt; are_none(rt.alloc(), &of_another));
     spent_starts(&rt, rt.alloc())
 }
 
 /// Checks that 4,294,967,295 starts are a record, and that no start follows them.
 fn spent_starts(rt: &impl Abort, alloc: Global) -> Result<(), Fail> {
     let mut spent = BYTES;
-    spent[9] = 0xFF;
-    spent[10] = 0xFF;
-    spent[11] = 0xFF;
-    spent[12] = 0xFF;
-    let spent = record_decode(alloc, spent.as_slice(), ME)?;
-    let mut acceptor = opened(rt, alloc, MemoryStore::new(spent));
-    assert_eq!(rt; acceptor.new_start(), Err(AcceptorFault::StartsSpent));
+    spent[9..13].copy_from_slice(&[0xFF; 4]);
+    let spent = record_decode(alloc, &spent, ME)?;
+    let mut voter = Voter::open(rt, alloc, MemoryStore::new(spent));
+    assert_eq!(rt; voter.start(), Err(AcceptorFault::StartsSpent));
     Ok(())
 }
 
@@ -83,14 +94,10 @@ fn spent_starts(rt: &impl Abort, alloc: Global) -> Result<(), Fail> {
 /// the other.
 #[test]
 fn record_of_version_1(rt: HostRuntime) -> Result<(), Fail> {
-    let record = record_migrate(rt.alloc(), BYTES_V1.as_slice(), ME)?;
-    assert!(rt; is_of_bytes(&record));
-    let bytes = record_encode(rt.alloc(), &record, ME)?;
-    assert_eq!(rt; bytes.as_slice(), BYTES.as_slice());
-
-    let as_newer = record_decode(rt.alloc(), BYTES_V1.as_slice(), ME).err();
-    assert_eq!(rt; as_newer, Some(StoreFault::Bad));
-    let as_older = record_migrate(rt.alloc(), BYTES.as_slice(), ME).err();
+    let record = record_migrate(rt.alloc(), &BYTES_V1, ME)?;
+    assert!(rt; is_spelled(rt.alloc(), &record));
+    assert!(rt; are_none(rt.alloc(), &BYTES_V1));
+    let as_older = record_migrate(rt.alloc(), &BYTES, ME).err();
     assert_eq!(rt; as_older, Some(StoreFault::Bad));
     Ok(())
 }

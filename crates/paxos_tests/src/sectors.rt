@@ -1,8 +1,8 @@
 //! Votes that are appended where a sector ends, what a crash leaves of them, and logs that are
 //! written anew.
 use super::acceptor::{FIRST, ME};
-use super::crashes::{LOST, Unknown, are_same, found, store_over};
-use paxos_acceptor::{FaultPlan, LogStore, MemoryDisk, Store, StoreFault, log_decode};
+use super::crashes::{LOST, OnDisk, are_same, found};
+use paxos_acceptor::{FaultPlan, MemoryDisk, StoreFault, log_decode};
 use paxos_msg::{Change, Characters, Record, Value};
 use std::alloc::{AllocError, Global};
 use std::process::Abort;
@@ -82,15 +82,15 @@ fn vote_of(alloc: Global, characters: u8) -> Result<Voted, AllocError> {
 fn check_left(
     rt: &impl Abort,
     alloc: Global,
-    disk: &Unknown,
+    disk: &MemoryDisk,
     old: &Record,
     new: &Record,
 ) -> Result<u32, Fail> {
     let mut tried: u32 = 0;
-    for which in 0..disk.disk.names() {
-        for count in 0..disk.disk.loose(which).saturating_add(1) {
+    for which in 0..disk.names() {
+        for count in 0..disk.loose(which).saturating_add(1) {
             for lost in LOST.as_slice().iter() {
-                let record = found(alloc, disk.disk.left(alloc, which, count, *lost)?)?;
+                let record = found(alloc, disk.left(alloc, which, count, *lost)?)?;
                 assert!(rt; are_same(&record, old) || are_same(&record, new));
                 tried = tried.saturating_add(1);
             }
@@ -99,31 +99,43 @@ fn check_left(
     Ok(tried)
 }
 
-/// Loads a log, saves a start and then the vote, on a disk on which a crash comes after so many
-/// calls: a load makes 4, the first save 5, and an append 3. Checks what is left.
-fn tear(
+/// Loads a log, saves a start and then the change, on a disk on which a crash comes after so many
+/// calls: a load makes 4, the first save 5, and an append 3. Returns the disk.
+fn torn(
     rt: &impl Abort,
     alloc: Global,
-    log: Vec<u8>,
+    log: &[u8],
     calls: u64,
-    vote: &Voted,
-) -> Result<u32, Fail> {
-    let old = record_of(alloc, log.as_slice(), [1].as_slice())?;
-    let mut more = [1].as_slice().to_vec(alloc)?;
-    more.extend_from_slice(vote.entry.as_slice())?;
-    let new = record_of(alloc, log.as_slice(), more.as_slice())?;
-
-    let mut disk = MemoryDisk::new(alloc, Some(log));
+    change: &Change,
+) -> Result<MemoryDisk, Fail> {
+    let mut disk = MemoryDisk::new(alloc, Some(log.to_vec(alloc)?));
     disk.plan(Some(FaultPlan {
         calls,
         part: 0,
         is_crash: true,
     }));
-    let mut store = LogStore::new(alloc, Unknown { disk }, ME);
-    store.load()?;
-    store.save(&Change::Start)?;
-    assert!(rt; store.save(&vote.change).is_err());
-    check_left(rt, alloc, &store.into_disk(), &old, &new)
+    let mut store = OnDisk::new(alloc, disk);
+    assert!(rt; store.load().is_ok());
+    assert!(rt; store.save(&Change::Start).is_ok());
+    assert!(rt; store.save(change).is_err());
+    Ok(store.into_disk())
+}
+
+/// Returns the bytes of a start, and of an entry after it.
+fn start_and(alloc: Global, entry: &[u8]) -> Result<Vec<u8>, AllocError> {
+    let mut bytes = Vec::new(alloc);
+    bytes.push(1)?;
+    bytes.extend_from_slice(entry)?;
+    Ok(bytes)
+}
+
+/// Tears the log at a vote, and checks what is left. Returns how much that is.
+fn tear(rt: &impl Abort, alloc: Global, log: &[u8], calls: u64, vote: &Voted) -> Result<u32, Fail> {
+    let disk = torn(rt, alloc, log, calls, &vote.change)?;
+    let more = start_and(alloc, vote.entry.as_slice())?;
+    let old = record_of(alloc, log, &[1])?;
+    let new = record_of(alloc, log, more.as_slice())?;
+    check_left(rt, alloc, &disk, &old, &new)
 }
 
 /// Shows laws::torn_appends, LogStore::save (restarts), LogStore::load (good): a vote is appended
@@ -135,7 +147,7 @@ fn votes_across_sectors(rt: HostRuntime) -> Result<(), Fail> {
         for characters in [0, 32].as_slice().iter() {
             let vote = vote_of(rt.alloc(), *characters)?;
             let log = log_of(rt.alloc(), starts, true)?;
-            tried = tear(&rt, rt.alloc(), log, 11, &vote)?.saturating_add(tried);
+            tried = tear(&rt, rt.alloc(), log.as_slice(), 11, &vote)?.saturating_add(tried);
         }
     }
     assert!(rt; tried > 20_000);
@@ -151,7 +163,7 @@ fn first_votes_across_sectors(rt: HostRuntime) -> Result<(), Fail> {
         for calls in 9..14 {
             let vote = vote_of(rt.alloc(), 32)?;
             let log = log_of(rt.alloc(), starts, false)?;
-            tried = tear(&rt, rt.alloc(), log, calls, &vote)?.saturating_add(tried);
+            tried = tear(&rt, rt.alloc(), log.as_slice(), calls, &vote)?.saturating_add(tried);
         }
     }
     assert!(rt; tried > 1000);
@@ -183,36 +195,56 @@ fn are_refused(alloc: Global, bytes: Vec<u8>) -> bool {
     found(alloc, Some(bytes)).err() == Some(StoreFault::Bad)
 }
 
+/// Checks that up to 89 zeros behind a log of so many bytes are passed over, and no more.
+fn check_zeros(rt: &impl Abort, alloc: Global, length: u32) -> Result<(), Fail> {
+    let zeros = [0; 90];
+    for count in 1..90 {
+        let bytes = with_end(alloc, length, &zeros[..count])?;
+        assert!(rt;
+            passes_over(alloc, bytes, length as usize)?,
+            "{count} behind {length}"
+        );
+    }
+    assert!(rt;
+        are_refused(alloc, with_end(alloc, length, &zeros)?),
+        "behind {length}"
+    );
+    Ok(())
+}
+
 /// Shows LogStore::load (good): zeros behind a log, up to the longest append, are passed over.
 #[test]
 fn zeros_behind_a_log(rt: HostRuntime) -> Result<(), Fail> {
-    let alloc = rt.alloc();
-    let zeros = [0; 90];
-    for length in [15u32, 100, 450, 511, 512, 513].as_slice().iter() {
-        for count in 1..90 {
-            let end = zeros.get(..count).unwrap_or_default();
-            assert!(rt; passes_over(alloc, with_end(alloc, *length, end)?, *length as usize)?);
-        }
-        assert!(rt; are_refused(alloc, with_end(alloc, *length, zeros.as_slice())?));
+    for length in [15, 100, 450, 511, 512, 513] {
+        check_zeros(&rt, rt.alloc(), length)?;
     }
     Ok(())
 }
+
+/// Zeros up to where the next sector begins behind 510 bytes, at 512, and zeros from there on.
+const ONE_SECTOR_LOST: [[u8; 4]; 2] = [[0, 0, 0x33, 0x44], [0x04, 0x05, 0, 0]];
+
+/// Behind so many bytes, others.
+const NO_SECTOR_LOST: [(u32, &[u8]); 5] = [
+    (100, &[0, 0, 0x33, 0x44]),
+    (100, &[0x04, 0x05, 0, 0]),
+    (509, &[0, 0, 0x33, 0x44]),
+    (510, &[0x04, 0x05, 0x33]),
+    (100, &[0x04]),
+];
 
 /// Shows LogStore::load (good): bytes of which one sector is zeros are passed over; others, which
 /// no crash leaves, are no record.
 #[test]
 fn sectors_behind_a_log(rt: HostRuntime) -> Result<(), Fail> {
-    let alloc = rt.alloc();
-    // The next sector begins at 512.
-    let first_lost = [0, 0, 0x33, 0x44];
-    let second_lost = [0x04, 0x05, 0, 0];
-    for end in [first_lost, second_lost].as_slice().iter() {
-        assert!(rt; passes_over(alloc, with_end(alloc, 510, end.as_slice())?, 510)?);
-        assert!(rt; are_refused(alloc, with_end(alloc, 100, end.as_slice())?));
+    for end in ONE_SECTOR_LOST {
+        let bytes = with_end(rt.alloc(), 510, &end)?;
+        assert!(rt; passes_over(rt.alloc(), bytes, 510)?, "{end:?}");
     }
-    assert!(rt; are_refused(alloc, with_end(alloc, 509, first_lost.as_slice())?));
-    assert!(rt; are_refused(alloc, with_end(alloc, 510, [0x04, 0x05, 0x33].as_slice())?));
-    assert!(rt; are_refused(alloc, with_end(alloc, 100, [0x04].as_slice())?));
+    for (length, end) in NO_SECTOR_LOST {
+        let bytes = with_end(rt.alloc(), length, end)?;
+        assert!(rt; are_refused(rt.alloc(), bytes), "{end:?} behind {length}");
+    }
     Ok(())
 }
 
@@ -222,21 +254,25 @@ fn sectors_behind_a_log(rt: HostRuntime) -> Result<(), Fail> {
 fn long_log(rt: HostRuntime) -> Result<(), Fail> {
     let alloc = rt.alloc();
     let mut bytes = log_of(alloc, 2, true)?;
-    for round in 2..175_000 {
-        bytes.push(2)?;
-        bytes.extend_from_slice(u32::to_be_bytes(round).as_slice())?;
-        bytes.push(1)?;
+    for round in 2..175_000u32 {
+        let [first, second, third, fourth] = round.to_be_bytes();
+        bytes.extend_from_slice(&[2, first, second, third, fourth, 1])?;
     }
-    let expected = record_of(alloc, bytes.as_slice(), [1].as_slice())?;
-    let mut store = store_over(alloc, Some(bytes));
-    store.load()?;
-    store.save(&Change::Start)?;
-    let left = store.disk().disk.left(alloc, 0, 0, [false, false])?;
-    let length = left.as_ref().map(|bytes| bytes.len());
+    let expected = record_of(alloc, bytes.as_slice(), &[1])?;
+    let left = after_a_start(&rt, alloc, bytes)?;
     // The header, two starts, the promise, and the start that was saved.
-    assert_eq!(rt; length, Some(9 + 2 + 6 + 1));
-    assert!(rt; are_same(&found(alloc, left)?, &expected));
+    assert_eq!(rt; left.len(), 9 + 2 + 6 + 1);
+    assert!(rt; are_same(&found(alloc, Some(left))?, &expected));
     Ok(())
+}
+
+/// Loads these bytes, and saves a start. Returns the bytes of the file then.
+fn after_a_start(rt: &impl Abort, alloc: Global, bytes: Vec<u8>) -> Result<Vec<u8>, Fail> {
+    let mut store = OnDisk::new(alloc, MemoryDisk::new(alloc, Some(bytes)));
+    assert!(rt; store.load().is_ok());
+    assert!(rt; store.save(&Change::Start).is_ok());
+    let left = store.left(alloc)?;
+    Ok(left.ok_or("no file")?)
 }
 
 /// Returns the entry of a vote for none under the first ballot.
@@ -245,18 +281,23 @@ fn vote_for_none(place: u32) -> [u8; 11] {
     [3, first, second, third, fourth, 0, 0, 0, 1, 1, 0]
 }
 
+/// Returns a log of votes for none at 300 places, in this order or the other.
+fn log_of_votes(alloc: Global, is_descending: bool) -> Result<Vec<u8>, AllocError> {
+    let mut bytes = log_of(alloc, 1, true)?;
+    for number in 0..300 {
+        let place = if is_descending { 299 - number } else { number };
+        bytes.extend_from_slice(&vote_for_none(place))?;
+    }
+    Ok(bytes)
+}
+
 /// Shows log_decode (found): votes are in order of place, whatever the order of their entries.
 #[test]
 fn votes_in_descending_places(rt: HostRuntime) -> Result<(), Fail> {
-    let alloc = rt.alloc();
-    let mut up = log_of(alloc, 1, true)?;
-    let mut down = log_of(alloc, 1, true)?;
-    for place in 0..300 {
-        up.extend_from_slice(vote_for_none(place).as_slice())?;
-        down.extend_from_slice(vote_for_none(299 - place).as_slice())?;
-    }
-    let (ascending, _) = log_decode(alloc, up.as_slice(), ME)?;
-    let (descending, taken) = log_decode(alloc, down.as_slice(), ME)?;
+    let up = log_of_votes(rt.alloc(), false)?;
+    let down = log_of_votes(rt.alloc(), true)?;
+    let (ascending, _) = log_decode(rt.alloc(), up.as_slice(), ME)?;
+    let (descending, taken) = log_decode(rt.alloc(), down.as_slice(), ME)?;
     assert_eq!(rt; taken, down.len());
     assert!(rt; are_same(&ascending, &descending));
     assert_eq!(rt; ascending.votes.as_slice().len(), 300);

@@ -1,5 +1,6 @@
-//! Tests of the machine and of the crates below it: files, opcodes, frames and steps. This crate
-//! has nothing else.
+//! Tests of the p-machine's crates, apart for check time only: a crate with tests is proved twice.
+//!
+//! They are of files, opcodes, frames and steps. This crate has nothing else.
 #![tactic(auto)]
 
 #[cfg(test)]

@@ -127,8 +127,8 @@ fn takes_turn(machine: &mut Machine<'_>, offered: Option<u8>, turn: Turn) -> boo
     machine.step(offered) == turn
 }
 
-/// Shows Machine::new (start), Machine::step (step, taken, still): the turns of a program that
-/// writes a byte. A byte that it does not want is not taken.
+/// Shows Machine::new (start), Machine::step: the turns of a program that writes a byte. A byte
+/// that it does not want is not taken.
 #[test]
 fn steps_through_a_program(rt: HostRuntime) -> Result<(), Fail> {
     let program = program(rt.alloc(), b"LETTER  ", &PRINTS_A)?;
@@ -145,8 +145,8 @@ const READS_ONE: [u8; 26] = [
     0x06, 0x00, 0x12, 0x00, 0x01, 0x00, 0x02, 0x00, 0x01, 0x01,
 ];
 
-/// Shows Machine::run (most, pauses), Machine::step (step): a run pauses at a read, and goes on
-/// after a byte.
+/// Shows Machine::run (most, pauses), Machine::step: a run pauses at a read, and goes on after a
+/// byte.
 #[test]
 fn runs_and_takes_a_byte(rt: HostRuntime) -> Result<(), Fail> {
     let program = program(rt.alloc(), b"READER  ", &READS_ONE)?;

@@ -1,4 +1,6 @@
-//! What the crates of tests run: the segments of small programs, and the code file of a segment.
+//! What the crates of tests share. It is a crate since they are several, for check time only.
+//!
+//! It has the segments of small programs, and the code file of a segment.
 #![tactic(auto)]
 
 use std::alloc::{AllocError, Global};

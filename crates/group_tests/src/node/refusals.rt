@@ -170,7 +170,7 @@ fn failing(alloc: Global, is_kept: bool) -> MemoryStore {
 }
 
 /// The store over which a node is to start.
-#[derive(Clone, Copy, Debug)]
+#[derive(Clone, Copy)]
 enum Over {
     AllStarts,
     VoteAbovePromise,
@@ -206,18 +206,14 @@ fn refusal(alloc: Global, program: &Program, store: MemoryStore) -> Option<(Node
 #[test]
 fn refused_starts(rt: HostRuntime) -> Result<(), Fail> {
     let program = reading_program(rt.alloc())?;
-    for (over, refused) in [
-        (Over::AllStarts, (NodeFault::StartsSpent, 4_294_967_295)),
-        (Over::VoteAbovePromise, (NodeFault::BadRecord, 4)),
-        (Over::FailingSave { is_kept: false }, (NodeFault::Store, 0)),
-        (Over::FailingSave { is_kept: true }, (NodeFault::Store, 1)),
+    for (over, fault, starts) in [
+        (Over::AllStarts, NodeFault::StartsSpent, 4_294_967_295),
+        (Over::VoteAbovePromise, NodeFault::BadRecord, 4),
+        (Over::FailingSave { is_kept: false }, NodeFault::Store, 0),
+        (Over::FailingSave { is_kept: true }, NodeFault::Store, 1),
     ] {
         let store = store(rt.alloc(), over)?;
-        assert_eq!(rt;
-            refusal(rt.alloc(), &program, store),
-            Some(refused),
-            "{over:?}"
-        );
+        assert_eq!(rt; refusal(rt.alloc(), &program, store), Some((fault, starts)));
     }
     Ok(())
 }
