@@ -8,10 +8,10 @@ from .tree import fault, text_of
 PATH = "docs/DEFINITIONS.md"
 HEAD = """# Definitions
 
-The definitions that public contracts cite, by crate and file. `docs/check --write` writes this page from the comments in
-`crates/*/specs`, which also say what a definition allows and forbids. "Bent by" names the must-fail edits that change the
-definition; a law or a call refuses each. A type has none, since it claims nothing. "Simple" is Lamport, "Paxos Made Simple"
-(2001); "manual" is the UCSD Pascal II.0 manual.
+The definitions that public contracts cite, and those with a source on which these rest, by crate and file. `docs/check
+--write` writes this page from the comments in `crates/*/specs`, which also say what a definition allows and forbids. "Bent
+by" names the must-fail edits that change the definition; a law or a call refuses each. A type has none, since it claims
+nothing. "Simple" is Lamport, "Paxos Made Simple" (2001); "manual" is the UCSD Pascal II.0 manual.
 """
 # Where the claims of the main theorem are defined.
 HEADLINE = "crates/group_world/specs/Headline.antt"
@@ -89,10 +89,9 @@ def cited(functions):
 
 def listed(functions):
     """The public definitions that public clauses cite, and the data whose cases they cite."""
-    by_name, homes = {}, {}
-    for crate in tree.crates():
-        for it in definitions_of(crate):
-            by_name.setdefault(it.name, []).append(it)
+    by_name, homes = by_names(), {}
+    for of_name in by_name.values():
+        for it in of_name:
             for case in re.findall(r"^ +(?:pub )?([A-Z]\w*) :", it.body, re.M) if " data " in f" {it.body[:20]} " else ():
                 homes.setdefault(case, []).append(it)
     found = []
@@ -102,6 +101,27 @@ def listed(functions):
             found.extend(it for it in homes_of_name if it not in found)
         else:
             fault(f"{place} cites {name}, which is no public definition of specs")
+    return found
+
+
+def by_names():
+    """All public definitions, by their names."""
+    found = {}
+    for crate in tree.crates():
+        for it in definitions_of(crate):
+            found.setdefault(it.name, []).append(it)
+    return found
+
+
+def below(definitions):
+    """The definitions with a source on which these rest, by the names in their bodies."""
+    by_name, found, open_ones = by_names(), [], list(definitions)
+    seen = {it.name for it in definitions}
+    while open_ones:
+        for name in sorted(words_in(open_ones.pop().body) & by_name.keys() - seen):
+            seen.add(name)
+            open_ones.extend(by_name[name])
+            found.extend(it for it in by_name[name] if it.source())
     return found
 
 
@@ -142,7 +162,7 @@ def check(functions, is_write):
             fault(f"{it.path}: the comment of {it.name} has no first sentence that ends with a full stop")
     for it in not_bent(definitions):
         fault(f"{it.path}: no must-fail edit bends {it.name}")
-    text = page(definitions)
+    text = page(definitions + below(definitions))
     if is_write:
         with open(f"{tree.TOP}/{PATH}", "w", encoding="utf-8") as file:
             file.write(text)
