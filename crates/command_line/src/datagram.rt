@@ -1,7 +1,7 @@
 //! Datagrams as text, and the work of the command `show`.
 ghost use Rattle.std.specs.Prelude.{◌≤◌, length};
 ghost use Rattle.paxos_msg.specs.declared.limits.TheConstants.{MOST_VOTES};
-ghost use Rattle.paxos_msg.specs.Views.{HasUpTo};
+ghost use Rattle.paxos_msg.specs.Bodies.{HasUpTo};
 
 use digits::{HexError, hex_bytes};
 use machine_run::RunIo;

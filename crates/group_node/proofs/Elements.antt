@@ -45,7 +45,7 @@ entries_one k x = entries-insert nat_cmp_total empty k x ∙ rw entries_none ref
 -- ---- sets of nodes
 
 -- a set of more nodes counts no fewer
-count_grows : (p q : ℕ → Bool) (n : ℕ) → ((i : ℕ) → IsTrue (p i) → IsTrue (q i)) → count_of p n ≤ count_of q n
+pub count_grows : (p q : ℕ → Bool) (n : ℕ) → ((i : ℕ) → IsTrue (p i) → IsTrue (q i)) → count_of p n ≤ count_of q n
 count_grows p q zero all = omega arith
 count_grows p q (suc n) all = grind (arith, nat_tests, all (suc n), count_grows p q n all)
 

@@ -1,9 +1,10 @@
 -- The machine with its ring and its counts stays exact, from one step to the next, and what it says
 -- of the program's output.
 use Rattle.std.proofs.Common.{◌≡◌, ℕ, zero, suc, ◌+◌, ◌<◌, ◌≤◌, List, [], ◌∷◌, ◌++◌, length, take, drop, slice_get, Some, None, refl, sym, ◌∙◌, ap, subst, add-one, append-nil, append_assoc, length-append, arith, Option}
-use Rattle.std.proofs.lemmas.List.{drop-drop, length-drop, length-take, take-append-drop, drop-append-le}
+use Rattle.std.proofs.lemmas.List.{drop-drop, length-drop, length-take, take-append-drop, take_all, drop-append-le}
 use Rattle.std.proofs.lemmas.Option.{slice_get_within}
 use Rattle.std.proofs.lemmas.Bool.Decides.{nat_tests}
+use Rattle.base.proofs.Lists.{get_none}
 use Rattle.circular_buffer.specs.Buffer.{buffer, Buffer}
 use Rattle.pcode_file.specs.Parts.{Parts}
 use Rattle.pcode_machine.specs.declared.turn.End.{End}
@@ -32,17 +33,13 @@ makes-wrote w = grind (arith, nat_tests)
 
 -- ---- one step more
 
--- this many are taken of a list that has them
-taken_length : (x : List ℕ) (n : ℕ) → n ≤ length x → length (take n x) ≡ n
-taken_length x n le = omega (arith, length-take n x)
-
 -- a step that takes what the input has next
 pub exact_more : {x : List ℕ} {old new : Player} {took wrote : List ℕ} → Laws → IsPlayed x old
     → length old.unreleased.items < 256 → PlaysStep old new took wrote
     → (rest : List ℕ) → (take old.read x ++ took) ++ rest ≡ x → IsPlayed x new
 unfolding LeadsIn
 exact_more {x} {old} {new} {took} {wrote} laws h room m rest split =
-    let len = taken_length x old.read h.read in
+    let len : length (take old.read x) ≡ old.read = omega (arith, length-take old.read x, h.read) in
     let goes =
     rw (split, len) at
     (laws.longer old.machine.program (take old.read x ++ took) rest
@@ -98,10 +95,7 @@ replayed h1 h = grind (arith, nat_tests)
 
 -- where there is no next byte, all were read
 all_read : (x : List ℕ) (n : ℕ) → slice_get x n ≡ None → n ≤ length x → (n ≡ length x) × (take n x ≡ x)
-all_read [] zero e le = (refl, refl)
-all_read [] (suc n) e le = absurd (omega arith)
-all_read (y ∷ ys) zero e le = absurd cc
-all_read (y ∷ ys) (suc n) e le = let r = all_read ys n e (omega arith) in (ap suc r.0, ap (λ (zs : List ℕ). y ∷ zs) r.1)
+all_read x n e le = let low = get_none x n e in (omega arith, take_all n x low)
 
 -- the machine waits, and all of the input is read
 pub halts_waiting : {x : List ℕ} {q : Player} {p : Parts} → Laws → IsPlayed x q → q.machine.program ≡ p
@@ -117,7 +111,7 @@ pub halts_ended : {x : List ℕ} {q : Player} {p : Parts} {e : End} → Laws →
     → transition q.machine.program x (after_steps q.machine.program x q.steps) ≡ Stops e
 halts_ended h1 h2 h3 h4 = grind (arith, nat_tests)
 
--- ---- turns
+-- ---- steps that read and write nothing
 
 -- the law that quiet steps lead on
 abbrev QuietLaw : Type 0

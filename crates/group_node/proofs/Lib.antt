@@ -11,9 +11,4 @@ mod Seats
 mod NodeBackedAsMoreIsSent
 mod Saving
 mod WaitingKeys
-mod CallParts
-mod WrongLearning
-mod WrongSaves
-mod WrongOutputs
-mod WrongSends
-mod RightSteps
+mod RunSteps

@@ -9,7 +9,8 @@ use Rattle.std.proofs.lemmas.Bool.Decides.{nat_tests}
 use Rattle.paxos_msg.specs.declared.value.Value.{Value}
 use Rattle.paxos_msg.specs.declared.value.Value.TheVariants.{Keys}
 use Rattle.paxos_msg.specs.declared.message.Body.TheVariants.{Ask, Submit, Tell, Prepare, Accept}
-use Rattle.paxos_msg.specs.Fits.{IsBody, IsBallot, IsValue, AreBytes}
+use Rattle.paxos_msg.specs.Bodies.{IsBody}
+use Rattle.paxos_msg.specs.Fits.{IsBallot, IsValue, AreBytes}
 use Rattle.paxos_msg.specs.Keys.{AreOwnKeys, batches, keys_from, Key}
 use Rattle.paxos_learner.specs.Learner.{AreInWindow, front_of}
 use Rattle.group_node.specs.Known.{front, Known, own_batch}

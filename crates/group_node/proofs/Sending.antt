@@ -1,6 +1,6 @@
 -- What a node may send, after which it is backed: packets that propose nothing new, proposals, and
 -- the calls that its proposer answers.
-use Rattle.std.proofs.Common.{◌≡◌, ◌↔◌, ℕ, ◌⊎◌, List, [], ◌∷◌, ◌++◌, Option, All, inl, inr, append_assoc, arith, zero, suc, Some, None, IfSome, refl, subst}
+use Rattle.std.proofs.Common.{◌≡◌, ◌↔◌, ℕ, List, [], ◌∷◌, ◌++◌, Option, All, inl, inr, append_assoc, arith, zero, suc, Some, None, IfSome, refl, subst}
 use Rattle.std.proofs.lemmas.Bool.Decides.{nat_tests}
 use Rattle.std.proofs.lemmas.List.{append-nil, map-append}
 use Rattle.std.proofs.lemmas.List.Elements.{All-head, All-tail, All-map, All-contains, All-weaker, Contains-append_cases}
@@ -10,7 +10,7 @@ use Rattle.paxos_msg.specs.declared.value.Value.{Value}
 use Rattle.paxos_msg.specs.declared.message.Body.TheVariants.{Accept, Prepare}
 use Rattle.paxos_msg.specs.Batches.{Body, MaySend, MaySendAll, Msg, Record, Sent, IsFree}
 use Rattle.paxos_msg.specs.Keys.{Key}
-use Rattle.paxos_msg.specs.Messages.{IsSaid, messages_of}
+use Rattle.paxos_msg.specs.Messages.{messages_of}
 use Rattle.paxos_msg.specs.Sending.{IsNoNewProposal, KnowsMore}
 use Rattle.group_node.specs.Backs.{Backs, HasPromised, IsRecordBacked, IsLeadingBacked}
 use Rattle.group_node.specs.Known.{Known, quiet}
@@ -75,8 +75,7 @@ message_of by packet = record { sender = by.me; body = packet.body }
 
 -- the messages of packets in two parts
 handed_append : (i : ℕ) (xs ys : List Packet) → messages_handed_out i (xs ++ ys) ≡ messages_handed_out i xs ++ messages_handed_out i ys
-handed_append i [] ys = λ k. messages_handed_out i ys
-handed_append i (x ∷ xs) ys = λ k. record { sender = i; body = x.body } ∷ handed_append i xs ys k
+handed_append i xs ys = simp map-append
 
 -- packets in two parts may be sent as one
 pub goes_on : {by : Sender} {sent : Sent} {xs ys : List Packet} {m n : Known} → SendingLaws → Goes by sent xs m
@@ -124,33 +123,25 @@ module _ (laws : SendingLaws) (by : Sender) (sent : Sent) where
 
   -- they have no new Accept, and their Prepares are of promised ballots
   stable_quiet : (packets : List Packet) → All (IsStable by sent) packets → IsQuiet by.me by.kept sent (messages_handed_out by.me packets)
-  stable_quiet packets all = record { asked = λ b from mine said. asked b from said; old = λ b s v mine said. old b s v said }
-    where
-      more : Sent
-      more = messages_handed_out by.me packets
-
-      asked : (b : Ballot) (from : ℕ) → IsSaid (sent ++ more) (Prepare b from) → IsSaid sent (Prepare b from) ⊎ HasPromised by.kept b
-      asked b from (i, h) =
-          elim (Contains-append_cases sent more (record { sender = i; body = Prepare b from }) h) [
-            | inl before ↦ inl (i, before)
-            | inr now ↦
-                let all_asked =
-                each_message (IsAsked by.kept)
-                (λ packet h. may_ask by.kept by.typed by.learned sent by.me by.size packet.body h.may) packets all in
-                inr (All-contains (λ (m : Msg). IsAsked by.kept m.body) more (record { sender = i; body = Prepare b from }) all_asked now)
-          ]
-
-      old : (b : Ballot) (s : ℕ) (v : Value) → IsSaid (sent ++ more) (Accept b s v) → IsSaid sent (Accept b s v)
-      old b s v (i, h) =
-          elim (Contains-append_cases sent more (record { sender = i; body = Accept b s v }) h) [
-            | inl before ↦ (i, before)
-            | inr now ↦
-                let none_new = each_message (IsNoNewProposal sent by.me) (λ packet h. h.old) packets all in (
-                  by.me,
-                  All-contains (λ (m : Msg). IsNoNewProposal sent by.me m.body) more
-                      (record { sender = i; body = Accept b s v }) none_new now,
-                )
-          ]
+  stable_quiet packets all =
+      let more = messages_handed_out by.me packets in
+      let may = λ (x : Packet) (h : IsStable by sent x). may_ask by.kept by.typed by.learned sent by.me by.size x.body h.may in
+      let asked = each_message (IsAsked by.kept) may packets all in
+      let old = each_message (IsNoNewProposal sent by.me) (λ packet h. h.old) packets all in
+      record {
+        asked = λ b from mine said.
+            let m : Msg = record { sender = said.0; body = Prepare b from } in
+            elim (Contains-append_cases sent more m said.1) [
+              | inl before ↦ inl (said.0, before)
+              | inr now ↦ inr (All-contains (λ (m : Msg). IsAsked by.kept m.body) more m asked now)
+            ];
+        old = λ b s v mine said.
+            let m : Msg = record { sender = said.0; body = Accept b s v } in
+            elim (Contains-append_cases sent more m said.1) [
+              | inl before ↦ (said.0, before)
+              | inr now ↦ (by.me, All-contains (λ (m : Msg). IsNoNewProposal sent by.me m.body) more m old now)
+            ];
+      }
 
 -- a backed node may send them, and is backed then
 pub stable_goes : SendingLaws → (sent : Sent) (typed : List Key) (n : Known) (packets : List Packet)
@@ -198,14 +189,8 @@ module _ (laws : ProposingLaws) (typed : List Key) (n : Known) where
       → IsRecordBacked (sent ++ record { sender = n.me.node; body = Accept p.ballot s v } ∷ []) n.me.node n.kept
   record_backed sent p s v promised h = record {
     votes = laws.sending.backing.votes sent (record { sender = n.me.node; body = Accept p.ballot s v } ∷ []) n.kept h.votes;
-    asked = λ b from mine said. elim (said_push sent n.me.node (Accept p.ballot s v) (Prepare b from) said) [
-      | inl old ↦ h.asked b from mine old
-      | inr e ↦ absurd cc
-    ];
-    own = λ b t w mine said. elim (said_push sent n.me.node (Accept p.ballot s v) (Accept b t w) said) [
-      | inl old ↦ h.own b t w mine old
-      | inr e ↦ let same : p.ballot ≡ b = cc in subst (HasPromised n.kept) same (promised_same n.kept p.ballot promised)
-    ];
+    asked = λ b from mine said. grind (arith, h.asked b from mine, said_push sent n.me.node (Accept p.ballot s v) (Prepare b from) said);
+    own = λ b t w mine said. grind (arith, h.own b t w mine, said_push sent n.me.node (Accept p.ballot s v) (Accept b t w) said);
   }
 
   -- a node is backed once its proposal is sent

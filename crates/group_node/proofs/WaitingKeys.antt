@@ -17,10 +17,7 @@ pub keys_from-append : (node start serial : ℕ) (xs ys : List ℕ)
     → keys_from node start serial (xs ++ ys)
     ≡ keys_from node start serial xs ++ keys_from node start (serial + length xs) ys
 keys_from-append node start serial [] ys = rw (add-zero serial) refl
-keys_from-append node start serial (x ∷ xs) ys =
-    let rest = keys_from-append node start (serial + 1) xs ys in
-    let same : serial + 1 + length xs ≡ serial + suc (length xs) = omega arith in
-    rw (← same) (λ i. record { node = node; start = start; serial = serial; byte = x } ∷ rest i)
+keys_from-append node start serial (x ∷ xs) ys = grind (arith, nat_tests, keys_from-append node start (serial + 1) xs ys)
 
 -- each is of the node
 keys_own : (node start serial : ℕ) (xs : List ℕ) → All (λ (key : Key). key.node ≡ node) (keys_from node start serial xs)

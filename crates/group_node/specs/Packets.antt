@@ -1,7 +1,7 @@
 -- Messages with their addressees, and the datagrams that an outbox holds.
 use Rattle.std.specs.Prelude.{ℕ, ◌+◌, ◌≤◌, List, length, map}
 use Rattle.paxos_msg.specs.Batches.{Body}
-use Rattle.paxos_msg.specs.Spelling.{spelling}
+use Rattle.paxos_msg.specs.Datagrams.{spelling}
 use Rattle.paxos_acceptor.specs.declared.me.Me.{Me}
 use Rattle.group_node.specs.declared.packet.To.{To}
 use Rattle.group_node.specs.declared.packet.To.TheVariants as whom

@@ -69,17 +69,17 @@ pub record Advances (x : List ℕ) (k : ℕ) (old new : Player) : Type 0 where
   pub released : new.released ≡ old.released
   pub steps : new.steps ≡ old.steps + k
 
--- The turn of at most `most` steps that made `n` of them.
+-- The part of a run that makes at most `most` steps and has made `n` of them.
 -- They are some that read and write nothing, and then one that takes or writes a byte; or the run
 -- is over.
-abbrev pub TurnsTo : List ℕ → ℕ → Player → Player → ℕ × Option Ran → Type 0
-TurnsTo x most old new (n, None) =
+abbrev pub PlaysOn : List ℕ → ℕ → Player → Player → ℕ × Option Ran → Type 0
+PlaysOn x most old new (n, None) =
     (k : ℕ) × (mid : Player) × Advances x k old mid × (k < most) × (n ≡ k + 1)
-TurnsTo x most old new (n, Some ran.More) = (n ≡ most) × Advances x n old new
-TurnsTo x most old new (n, Some ran.Full) = ⊥
-TurnsTo x most old new (n, Some ran.Waits) =
+PlaysOn x most old new (n, Some ran.More) = (n ≡ most) × Advances x n old new
+PlaysOn x most old new (n, Some ran.Full) = ⊥
+PlaysOn x most old new (n, Some ran.Waits) =
     (n < most) × Advances x n old new × MakesNoStep x new ran.Waits
-TurnsTo x most old new (n, Some (ran.Ended e)) =
+PlaysOn x most old new (n, Some (ran.Ended e)) =
     (n < most) × Advances x n old new × MakesNoStep x new (ran.Ended e)
 
 -- The run that may come to `most` steps; `left` of them are left.

@@ -8,7 +8,7 @@ use Rattle.pcode_machine.specs.Runs.{begin}
 use Rattle.pcode_machine.specs.Step.{Step}
 use Rattle.paxos_msg.specs.declared.value.Value.{Value}
 use Rattle.paxos_msg.specs.declared.record.Change.TheVariants as change
-use Rattle.paxos_msg.specs.declared.message.Body.TheVariants.{Prepare, Promise, Accept, Accepted, Refused, Submit, Ask, Tell}
+use Rattle.paxos_msg.specs.declared.message.Body.TheVariants.{Accept, Prepare}
 use Rattle.paxos_msg.specs.Batches.{Body, Change, MaySendAll, Msg, Record, Sent}
 use Rattle.paxos_msg.specs.Keys.{Key}
 use Rattle.paxos_msg.specs.Messages.{messages_of}
@@ -126,18 +126,13 @@ abbrev pub IsNoneOr : Change → Option Change → Type 0
 IsNoneOr c o = (o ≡ None) ⊎ (o ≡ Some c)
 
 -- The change that a delivered message may cause: a Prepare the promise of its ballot, an Accept a
--- vote for what it proposes.
+-- vote for what it proposes, any other message none.
 -- Source: Simple 2.2.
 -- Forbids: a vote saved at a Promise.
 abbrev pub MayCause : Body → Option Change → Type 0
 MayCause (Prepare b from) o = IsNoneOr (change.Promise b) o
-MayCause (Promise b first upto votes) o = o ≡ None
 MayCause (Accept b s v) o = IsNoneOr (change.Ballotted s b v) o
-MayCause (Accepted b s v) o = o ≡ None
-MayCause (Refused b promised) o = o ≡ None
-MayCause (Submit v) o = o ≡ None
-MayCause (Ask from) o = o ≡ None
-MayCause (Tell s v) o = o ≡ None
+MayCause _ o = o ≡ None
 
 -- The delivery of a message that was sent, at any time.
 -- Allows: a message to a node that it was not meant for.

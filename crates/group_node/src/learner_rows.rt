@@ -6,7 +6,8 @@ ghost use Rattle.paxos_msg.specs.declared.message.Body.TheVariants.{Accepted, As
 ghost use Rattle.paxos_msg.specs.declared.limits.TheConstants.{PLACES};
 ghost use Rattle.group_node.specs.Protocol.{NeedsMemory};
 ghost use Rattle.paxos_msg.specs.declared.value.Value.{Value};
-ghost use Rattle.paxos_msg.specs.Fits.{IsBody, IsNode, IsPlace};
+ghost use Rattle.paxos_msg.specs.Bodies.{IsBody};
+ghost use Rattle.paxos_msg.specs.Fits.{IsNode, IsPlace};
 ghost use Rattle.group_node.specs.Calls.{Does, MayLackMemory};
 ghost use Rattle.group_node.specs.LearnerRows.{on_accepted, on_ask, on_tell, tell_packet};
 ghost use Rattle.group_node.specs.Packets.{datagrams_of, GrowsBy, HasRoom};

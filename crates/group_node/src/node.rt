@@ -1,7 +1,7 @@
 //! One node of a group.
 ghost use Rattle.std.specs.Prelude.{◌≡◌, ◌↔◌, ◌+◌, ◌⊎◌, ◌<◌, ◌≤◌, ℕ, List, [], ◌∷◌, false, length, option_map, slice_get, IsSome, IfErr, IfNone, IfOk, IsErrOf, OnErr, OnSome};
 ghost use Rattle.std.specs.FinMap.{get};
-ghost use Rattle.paxos_msg.specs.Fits.{Fits};
+ghost use Rattle.paxos_msg.specs.Datagrams.{Fits};
 ghost use Rattle.paxos_acceptor.specs.Calls.{FailsOnlyWith, IsAmong};
 ghost use Rattle.paxos_learner.specs.Learner.{IsFront};
 ghost use Rattle.paxos_msg.specs.declared.limits.TheConstants.{LAST_SERIAL, PLACES};

@@ -1,7 +1,8 @@
 //! The packets that wait to be sent.
 ghost use Rattle.std.specs.Prelude.{◌≡◌, ◌+◌, ◌-◌, ◌<◌, ◌≤◌, [], ◌∷◌, ◌++◌, drop, length, slice_get, vec_len, IfOk, OnErr, OnOk};
-ghost use Rattle.paxos_msg.specs.Fits.{Fits, IsBody, IsNode};
-ghost use Rattle.paxos_msg.specs.Spelling.{spelling};
+ghost use Rattle.paxos_msg.specs.Datagrams.{Fits, spelling};
+ghost use Rattle.paxos_msg.specs.Bodies.{IsBody};
+ghost use Rattle.paxos_msg.specs.Fits.{IsNode};
 ghost use Rattle.group_node.specs.declared.limits.TheConstants.{MOST_PACKETS};
 ghost use Rattle.group_node.specs.Packets.{datagram_of, HasRoom};
 

@@ -5,7 +5,7 @@ ghost use Rattle.paxos_learner.specs.Input.{learned_input};
 ghost use Rattle.pcode_machine.specs.Turns.{WaitsOn};
 ghost use Rattle.group_node.specs.declared.limits.TheConstants.{RING_BYTES};
 ghost use Rattle.group_node.specs.Output.{most_of, no_progress, RunsOn, unreleased_of};
-ghost use Rattle.group_node.specs.Player.{HasByteRoom, HasPlayedLearned, IsPlayed, PlaysStep, TurnsTo, progress_of};
+ghost use Rattle.group_node.specs.Player.{HasByteRoom, HasPlayedLearned, IsPlayed, PlaysStep, PlaysOn, progress_of};
 
 use crate::limits::RING_BYTES;
 use circular_buffer::HeapCircularBuffer;
@@ -116,12 +116,12 @@ impl<'a> Player<'a> {
 
     /// Makes at most `most` steps, until one takes a byte of the learned input or writes one, or
     /// the run is over. Returns how many it made, and why the run is over if it is.
-    fn turn(&mut self, learner: &Learner, most: u32) -> (u32, Option<Ran>)
+    fn play_on(&mut self, learner: &Learner, most: u32) -> (u32, Option<Ran>)
         requires exact { HasPlayedLearned learner.now self.old }
         requires room { length self.old.unreleased.items < RING_BYTES }
         requires steps { self.old.steps + most ≤ 18446744073709551615 }
         ensures exact { HasPlayedLearned learner.now self.new }
-        ensures turns { TurnsTo (learned_input learner.now.learned) most self.old self.new result }
+        ensures plays { PlaysOn (learned_input learner.now.learned) most self.old self.new result }
         ensures most { result.0 ≤ most }
         ensures steps { self.new.steps ≡ self.old.steps + result.0 }
         ensures released { self.new.released ≡ self.old.released }
@@ -164,7 +164,7 @@ impl<'a> Player<'a> {
             if !self.has_room() {
                 return Ran::Full;
             }
-            let (made, ran) = self.turn(learner, left);
+            let (made, ran) = self.play_on(learner, left);
             if let Some(ran) = ran {
                 return ran;
             }

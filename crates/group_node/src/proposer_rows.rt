@@ -5,7 +5,8 @@ ghost use Rattle.paxos_msg.specs.declared.limits.TheConstants.{MOST_CHARACTERS, 
 ghost use Rattle.paxos_proposer.specs.declared.proposer.TheConstants.{MOST_PUMPED};
 ghost use Rattle.group_node.specs.Protocol.{NeedsMemory, row};
 ghost use Rattle.paxos_msg.specs.declared.value.Value.{Value};
-ghost use Rattle.paxos_msg.specs.Fits.{IsBallot, IsPlace, IsValue, Fits};
+ghost use Rattle.paxos_msg.specs.Fits.{IsBallot, IsPlace, IsValue};
+ghost use Rattle.paxos_msg.specs.Datagrams.{Fits};
 ghost use Rattle.group_node.specs.Calls.{Does, IsCampaignRefused, Knows, MayFailToSave, MayLackMemory, DoesAndSaves};
 ghost use Rattle.group_node.specs.ProposerRows.{on_refused, greater_ballot, unless_refused, are_known, on_submit, is_known, is_known_key, offer_after, offered_with, prepare_from, on_campaign, beginning};
 ghost use Rattle.group_node.specs.Packets.{datagrams_of, GrowsBy, HasRoom};

@@ -5,7 +5,7 @@ ghost use Rattle.group_node.specs.declared.limits.TheConstants.{MOST_WAITING};
 ghost use Rattle.paxos_acceptor.specs.Calls.{FailsOnlyWith};
 ghost use Rattle.group_node.specs.Ranges.{IsInRange};
 ghost use Rattle.group_node.specs.Known.{on_typed, new_key, next_serial, front};
-ghost use Rattle.paxos_msg.specs.Fits.{Fits};
+ghost use Rattle.paxos_msg.specs.Datagrams.{Fits};
 ghost use Rattle.group_node.specs.Calls.{IsLetIn, Knows, MayFailToSave, DoesAndSaves};
 ghost use Rattle.group_node.specs.Protocol.{NeedsMemory, row};
 ghost use Rattle.group_node.specs.WaitingKeys.{without_read};

@@ -2,7 +2,7 @@
 ghost use Rattle.std.specs.Prelude.{◌≡◌, ◌⊎◌, ◌+◌, ◌<◌, ◌≤◌, [], ◌∷◌, ◌++◌, Err, IsSome, IsTrue, OnErr, Some, is_some};
 ghost use Rattle.std.specs.Option.{option_to_list};
 ghost use Rattle.paxos_msg.specs.declared.message.Body.TheVariants.{Ask};
-ghost use Rattle.paxos_msg.specs.Fits.{IsBody};
+ghost use Rattle.paxos_msg.specs.Bodies.{IsBody};
 ghost use Rattle.paxos_msg.specs.declared.limits.TheConstants.{MOST_NODES};
 ghost use Rattle.group_node.specs.declared.limits.TheConstants.{MOST_AGAIN, TICK_PACKETS};
 ghost use Rattle.group_node.specs.Calls.{Does, MayLackMemory};

@@ -6,8 +6,7 @@ use Rattle.std.specs.Result.{result_ok}
 use Rattle.paxos_msg.specs.declared.message.Group.{Group}
 use Rattle.paxos_msg.specs.Batches.{Msg}
 use Rattle.paxos_msg.specs.Fits.{IsGroup}
-use Rattle.paxos_msg.specs.Reading.{message_at}
-use Rattle.paxos_msg.specs.Spelling.{Msgs}
+use Rattle.paxos_msg.specs.Datagrams.{message_at, Msgs}
 use Rattle.group_node.specs.declared.packet.To.{To}
 use Rattle.group_node.specs.declared.packet.To.TheVariants as whom
 use Rattle.group_node.specs.Packets.{Datagram}

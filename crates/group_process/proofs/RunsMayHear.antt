@@ -13,9 +13,9 @@ use Rattle.paxos_msg.specs.declared.message.Group.{Group}
 use Rattle.paxos_msg.specs.declared.message.Body.TheVariants.{Prepare}
 use Rattle.paxos_msg.specs.declared.value.Value.{Value}
 use Rattle.paxos_msg.specs.Batches.{Msg}
-use Rattle.paxos_msg.specs.Fits.{Fits, IsGroup}
+use Rattle.paxos_msg.specs.Datagrams.{Fits, spelling}
+use Rattle.paxos_msg.specs.Fits.{IsGroup}
 use Rattle.paxos_msg.specs.Records.{empty_record}
-use Rattle.paxos_msg.specs.Spelling.{spelling}
 use Rattle.paxos_acceptor.specs.declared.me.Me.{Me}
 use Rattle.group_node.specs.declared.packet.To.TheVariants as whom
 use Rattle.group_node.specs.Deeds.{Campaign, Hear}

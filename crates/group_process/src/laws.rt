@@ -4,7 +4,7 @@ ghost use Rattle.pcode_file.specs.Parts.{Parts};
 ghost use Rattle.paxos_msg.specs.declared.message.Group.{Group};
 ghost use Rattle.paxos_msg.specs.Batches.{Msg};
 ghost use Rattle.paxos_msg.specs.Fits.{IsGroup};
-ghost use Rattle.paxos_msg.specs.Spelling.{Msgs};
+ghost use Rattle.paxos_msg.specs.Datagrams.{Msgs};
 ghost use Rattle.paxos_acceptor.specs.declared.me.Me.{Me};
 ghost use Rattle.group_node.specs.Packets.{Datagram};
 ghost use Rattle.group_node.specs.States.{IsSize};

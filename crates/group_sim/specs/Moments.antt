@@ -20,6 +20,7 @@ use Rattle.group_world.specs.Member.{Running}
 use Rattle.group_world.specs.Refusals.{IsRefused}
 use Rattle.machine_run.specs.declared.run.RunIo.{RunIo}
 use Rattle.machine_run.specs.declared.run.RunIo.TheVariants.{Write}
+use Rattle.group_sim.specs.declared.simulation.TheConstants.{DELIVERIES, SETTLE_STEPS}
 use Rattle.group_sim.specs.declared.simulation.ScriptHalt.{ScriptHalt}
 use Rattle.group_sim.specs.declared.simulation.ScriptHalt.TheVariants as halt
 use Rattle.group_sim.specs.declared.simulation.Simulation.{Simulation}
@@ -114,14 +115,6 @@ abbrev pub is_meant : To → ℕ → Bool
 is_meant whom.All i = true
 is_meant (whom.One j) i = j == i
 
--- The most deliveries that a settle makes.
-abbrev pub deliveries : ℕ
-deliveries = 10000
-
--- The most steps that each node makes at the end of a settle.
-abbrev pub steps : ℕ
-steps = 1000
-
 -- A delivery, which is one of those that the settle may still make.
 -- If none is left, the settle is too long.
 abbrev pub Spends : ℕ → Act → Task
@@ -166,13 +159,13 @@ abbrev pub Plays : ℕ → ℕ → Task
 Plays number i a r b =
     ((is_some (node_at a.world i) ≡ false) × DoesNothing a r b)
     ⊎ ((is_some (node_at a.world i) ≡ true)
-    × Then (HappensAt number (kept_event (Run i steps))) (ReleasesAll number i) a r b)
+    × Then (HappensAt number (kept_event (Run i SETTLE_STEPS))) (ReleasesAll number i) a r b)
 
 -- A settle: all deliveries, and then each node that is up runs and releases all, ascending.
 abbrev pub Settles : ℕ → ℕ → Task
 Settles number size a r b =
     Then (DeliversAll number size) (InTurn (Plays number) 1 size)
-    (record a { left = deliveries }) r b
+    (record a { left = DELIVERIES }) r b
 
 -- ---- a script
 

@@ -17,10 +17,10 @@ use std::alloc::Global;
 use std::io::Write;
 
 /// The most deliveries that a settle makes.
-const DELIVERIES: u32 = 10_000;
+pub const DELIVERIES: u32 = 10_000;
 
 /// The most steps that each machine makes at the end of a settle.
-const SETTLE_STEPS: u32 = 1_000;
+pub const SETTLE_STEPS: u32 = 1_000;
 
 /// The line at which a script stopped, and why.
 #[derive(Clone, Copy, Debug, PartialEq, Eq)]

@@ -1,7 +1,6 @@
 //! The written log of the laws of `group_world`, event by event.
 use crate::program::program;
-use crate::worlds::events_of;
-use group_world::{World, run};
+use crate::worlds::{After, events_of};
 use paxos_msg::{Ballot, Characters, Value, Vote};
 use std::process::Abort;
 use std::test::Fail;
@@ -39,22 +38,9 @@ fn vote() -> Vote {
     }
 }
 
-/// Returns true if a node's console has shown these bytes.
-fn has_shown(world: &World<'_>, node: u8, bytes: &[u8]) -> bool {
-    match world.console(node) {
-        Some(shown) => shown == bytes,
-        None => false,
-    }
-}
-
-/// Returns what a node has learned for place 0.
-fn learned(world: &World<'_>, node: u8) -> Option<Value> {
-    world.node(node).and_then(|node| node.learned(0))
-}
-
 /// Returns true if a node's record has one start, the ballot, and these votes.
-fn keeps(world: &World<'_>, node: u8, votes: &[Vote]) -> bool {
-    match world.record(node) {
+fn keeps(after: &After<'_>, node: u8, votes: &[Vote]) -> bool {
+    match after.record(node) {
         Some(record) => {
             record.starts == 1
                 && record.promised == Some(BALLOT)
@@ -66,21 +52,26 @@ fn keeps(world: &World<'_>, node: u8, votes: &[Vote]) -> bool {
 
 /// Checks what was sent and typed, and that node 3 alone has learned the letter, of the nodes 1 and
 /// 3.
-fn check_values(rt: &impl Abort, world: &World<'_>) {
-    assert_eq!(rt; world.sent(), 8);
-    assert_eq!(rt; world.typed(0), Some(letter()));
-    assert_eq!(rt; world.typed(1), None);
-    assert_eq!(rt; learned(world, 1), None);
-    assert_eq!(rt; learned(world, 3), Some(letter()));
+fn check_values(rt: &impl Abort, after: &After<'_>) {
+    assert_eq!(rt; after.sent(), 8);
+    assert_eq!(rt; after.typed(0), Some(letter()));
+    assert_eq!(rt; after.typed(1), None);
+    assert_eq!(rt; after.learned(1), None);
+    assert_eq!(rt; after.learned(3), Some(letter()));
+}
+
+/// Returns true if a node's console shows these bytes, and its record has these votes.
+fn has(after: &After<'_>, node: u8, shown: &[u8], votes: &[Vote]) -> bool {
+    after.has_shown(node, shown) && keeps(after, node, votes)
 }
 
 /// Checks that the console of node 3 alone shows the letter, and that the nodes 2 and 3 have voted
 /// for it.
-fn check_nodes(rt: &impl Abort, world: &World<'_>) {
+fn check_nodes(rt: &impl Abort, after: &After<'_>) {
     let votes = [vote()];
-    assert!(rt; has_shown(world, 1, b"") && keeps(world, 1, &[]));
-    assert!(rt; has_shown(world, 2, b"") && keeps(world, 2, &votes));
-    assert!(rt; has_shown(world, 3, b"A") && keeps(world, 3, &votes));
+    assert!(rt; has(after, 1, b"", &[]));
+    assert!(rt; has(after, 2, b"", &votes));
+    assert!(rt; has(after, 3, b"A", &votes));
 }
 
 /// Shows laws::a_written_log, run (happens): what the law says of the nodes after the log holds of
@@ -89,8 +80,8 @@ fn check_nodes(rt: &impl Abort, world: &World<'_>) {
 fn the_written_log(rt: HostRuntime) -> Result<(), Fail> {
     let program = program(rt.alloc(), &ECHOES)?;
     let events = events_of(rt.alloc(), EVENTS)?;
-    let world = run(rt.alloc(), &program, 3, 7, events.as_slice())?;
-    check_values(&rt, &world);
-    check_nodes(&rt, &world);
+    let after = After::run(rt.alloc(), &program, 3, events.as_slice())?;
+    check_values(&rt, &after);
+    check_nodes(&rt, &after);
     Ok(())
 }

@@ -8,6 +8,7 @@ mod running;
 mod traces;
 
 use group_node::{Config, Console, NodeFault, Offer};
+use std::alloc::Global;
 use std::test::Fail;
 
 /// Node, size and session, and the refusal.
@@ -51,25 +52,32 @@ fn console_and_learner_edges(rt: HostRuntime) -> Result<(), Fail> {
     Ok(())
 }
 
+/// The text of each refusal.
+const TEXTS: [(NodeFault, &str); 12] = [
+    (NodeFault::Memory, "D1"),
+    (NodeFault::Store, "D2"),
+    (NodeFault::Stopped, "D3"),
+    (NodeFault::Busy, "D4"),
+    (NodeFault::SerialSpent, "D5"),
+    (NodeFault::OutboxFull, "D6"),
+    (NodeFault::Size, "D7"),
+    (NodeFault::Id, "D8"),
+    (NodeFault::BadRecord, "D9"),
+    (NodeFault::StartsSpent, "D10"),
+    (NodeFault::RoundsSpent, "D11"),
+    (NodeFault::PlacesSpent, "D12"),
+];
+
+fn text_of(alloc: Global, fault: NodeFault) -> Result<String, Fail> {
+    let text = format!(in alloc; "{fault}")?;
+    Ok(text)
+}
+
 /// Shows NodeFault::code, NodeFault::fmt (output): the text of each refusal is its code.
 #[test]
 fn texts_of_refusals(rt: HostRuntime) -> Result<(), Fail> {
-    let texts = [
-        (NodeFault::Memory, "D1"),
-        (NodeFault::Store, "D2"),
-        (NodeFault::Stopped, "D3"),
-        (NodeFault::Busy, "D4"),
-        (NodeFault::SerialSpent, "D5"),
-        (NodeFault::OutboxFull, "D6"),
-        (NodeFault::Size, "D7"),
-        (NodeFault::Id, "D8"),
-        (NodeFault::BadRecord, "D9"),
-        (NodeFault::StartsSpent, "D10"),
-        (NodeFault::RoundsSpent, "D11"),
-        (NodeFault::PlacesSpent, "D12"),
-    ];
-    for (fault, expected) in texts {
-        let text = format!(in rt.alloc(); "{fault}")?;
+    for (fault, expected) in TEXTS {
+        let text = text_of(rt.alloc(), fault)?;
         assert_eq!(rt; text.as_str(), expected);
     }
     Ok(())

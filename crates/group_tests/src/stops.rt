@@ -3,6 +3,7 @@
 use crate::program::reading_program;
 use group_node::To;
 use group_world::{Act, Done, Event, Outcome, World, WorldFault};
+use paxos_msg::Value;
 use pcode_ops::Program;
 use std::alloc::{AllocError, Global};
 use std::marker::Model;
@@ -108,32 +109,60 @@ impl<'a> Watched<'a> {
         Ok(Watched { world, passed: 0 })
     }
 
+    /// Returns what a node has learned for a place.
+    fn learned(&self, node: u8, place: u32) -> Option<Value> {
+        self.world.node(node)?.learned(place)
+    }
+
+    /// Returns what a node's console has shown.
+    fn shown(&self, node: u8) -> &[u8] {
+        self.world.console(node).unwrap_or(&[])
+    }
+
     /// Returns true if two nodes have learned different values for a place.
     fn differ_at(&self, left: u8, right: u8, place: u32) -> bool {
-        let left = self.world.node(left).and_then(|node| node.learned(place));
-        let right = self.world.node(right).and_then(|node| node.learned(place));
-        left.is_some() && right.is_some() && left != right
+        match (self.learned(left, place), self.learned(right, place)) {
+            (Some(left), Some(right)) => left != right,
+            _ => false,
+        }
     }
 
     /// Returns true if one of the consoles of two nodes is a prefix of the other.
     fn shows_one(&self, left: u8, right: u8) -> bool {
-        let left = self.world.console(left).unwrap_or(&[]);
-        let right = self.world.console(right).unwrap_or(&[]);
+        let left = self.shown(left);
+        let right = self.shown(right);
         left.starts_with(right) || right.starts_with(left)
     }
 
-    /// Returns true if two nodes contradict each other.
-    fn contradict(&self, left: u8, right: u8) -> bool {
-        !self.shows_one(left, right) || (0..PLACES).any(|place| self.differ_at(left, right, place))
+    /// Returns true if two nodes have learned different values for one of the places.
+    fn differ(&self, left: u8, right: u8) -> bool {
+        for place in 0..PLACES {
+            if self.differ_at(left, right, place) {
+                return true;
+            }
+        }
+        false
+    }
+
+    /// Returns true if two of the nodes contradict each other.
+    fn contradict(&self) -> bool {
+        for (left, right) in PAIRS {
+            if !self.shows_one(left, right) || self.differ(left, right) {
+                return true;
+            }
+        }
+        false
+    }
+
+    fn apply(&mut self, act: Act, save: Outcome) -> Result<Done, WorldFault> {
+        self.world.apply(&Event { act, save })
     }
 
     /// Applies an event. Fails if nodes contradict each other then.
     fn happen(&mut self, act: Act, save: Outcome) -> Result<Done, Fail> {
-        let done = self.world.apply(&Event { act, save })?;
-        for (left, right) in PAIRS {
-            if self.contradict(left, right) {
-                return Err(Fail::new("nodes contradict each other"));
-            }
+        let done = self.apply(act, save)?;
+        if self.contradict() {
+            return Err(Fail::new("nodes contradict each other"));
         }
         Ok(done)
     }
@@ -154,10 +183,14 @@ impl<'a> Watched<'a> {
         Ok(())
     }
 
+    fn is_down(&self, node: u8) -> bool {
+        self.world.node(node).is_none()
+    }
+
     /// Starts each node that is down.
     fn start_all(&mut self) -> Result<(), Fail> {
         for node in NODES {
-            if self.world.node(node).is_none() {
+            if self.is_down(node) {
                 self.go_on(Act::Start(node))?;
             }
         }
@@ -166,7 +199,7 @@ impl<'a> Watched<'a> {
 
     /// Returns to whom a message goes, if there is one of that number.
     fn addressee(&self, message: usize) -> Option<To> {
-        self.world.message(message).map(|packet| packet.to)
+        Some(self.world.message(message)?.to)
     }
 
     /// Delivers a message to those whom it is meant for.
@@ -219,11 +252,26 @@ impl<'a> Watched<'a> {
         self.play_all()
     }
 
+    fn sent(&self) -> usize {
+        self.world.sent()
+    }
+
+    /// Returns true if a node's console shows these bytes.
+    fn has_shown(&self, node: u8, bytes: &[u8]) -> bool {
+        match self.world.console(node) {
+            Some(shown) => shown == bytes,
+            None => false,
+        }
+    }
+
     /// Returns true if all consoles show these bytes.
     fn shows(&self, bytes: &[u8]) -> bool {
-        NODES
-            .iter()
-            .all(|node| self.world.console(*node) == Some(bytes))
+        for node in NODES {
+            if !self.has_shown(node, bytes) {
+                return false;
+            }
+        }
+        true
     }
 }
 
@@ -272,6 +320,6 @@ fn no_save_fails(rt: HostRuntime) -> Result<(), Fail> {
     let mut group = Watched::new(rt.alloc(), &program)?;
     group.begin(events.as_slice(), events.len())?;
     assert!(rt; group.shows(b"\x48\x51"));
-    assert_eq!(rt; group.world.sent(), 16);
+    assert_eq!(rt; group.sent(), 16);
     Ok(())
 }

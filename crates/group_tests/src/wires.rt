@@ -9,6 +9,7 @@ use paxos_msg::Record;
 use pcode_ops::Program;
 use std::alloc::{AllocError, Global};
 use std::collections::VecDeque;
+use std::marker::Model;
 use std::test::Fail;
 
 /// The number of turns of each node.
@@ -25,7 +26,7 @@ struct Failure {
     receive: u32,
 }
 
-/// The network between the nodes.
+/// The network between the nodes. Contracts see nothing of it.
 struct Network {
     alloc: Global,
     /// The datagrams on their way to each node, the oldest first.
@@ -45,6 +46,12 @@ impl Drop for Network {
             failure: _failure,
         } = self;
     }
+}
+
+impl Model for Network {
+    ghost Value = { Unit {0} };
+
+    ghost view = { λ _. tt };
 }
 
 impl Network {
@@ -77,6 +84,25 @@ impl Network {
             .get_mut(usize::from(node.saturating_sub(1)))?
             .pop_front()
     }
+
+    /// Counts a send, and puts its datagram on its way. Returns false if it is the send that fails.
+    fn send(&mut self, to: u8, bytes: &[u8]) -> bool {
+        self.sends = self.sends.saturating_add(1);
+        if self.sends == self.failure.send {
+            return false;
+        }
+        self.put(to, bytes).unwrap_or(false)
+    }
+
+    /// Counts a receive, and takes the oldest datagram on its way to the node. Returns `None` if it
+    /// is the receive that fails.
+    fn receive(&mut self, node: u8) -> Option<Vec<u8>> {
+        self.receives = self.receives.saturating_add(1);
+        if self.receives == self.failure.receive {
+            return None;
+        }
+        self.take(node)
+    }
 }
 
 /// A node's wire.
@@ -102,19 +128,11 @@ impl Wire for Port<'_> {
     ghost traffic = { λ _. None };
 
     fn send(&mut self, to: u8, bytes: &[u8]) -> bool {
-        self.network.sends = self.network.sends.saturating_add(1);
-        if self.network.sends == self.network.failure.send {
-            return false;
-        }
-        self.network.put(to, bytes).unwrap_or(false)
+        self.network.send(to, bytes)
     }
 
     fn receive(&mut self, buffer: &mut [u8]) -> Option<usize> {
-        self.network.receives = self.network.receives.saturating_add(1);
-        if self.network.receives == self.network.failure.receive {
-            return None;
-        }
-        let bytes = self.network.take(self.node)?;
+        let bytes = self.network.receive(self.node)?;
         Some(copied(buffer, bytes.as_slice()))
     }
 
@@ -134,7 +152,9 @@ fn started_host<'a>(
     }
 }
 
-/// A node of the group, and what it has released.
+/// A node of the group, and what it has released. Contracts see nothing of it, so that a test does
+/// not carry a node's state from one call to the next. Each call of the node is in a function of
+/// its own.
 struct Player<'a> {
     host: Host<'a, MemoryStore>,
     node: u8,
@@ -151,8 +171,14 @@ impl<'a> Drop for Player<'a> {
     }
 }
 
+impl<'a> Model for Player<'a> {
+    ghost Value = { Unit {0} };
+
+    ghost view = { λ _. tt };
+}
+
 impl<'a> Player<'a> {
-    fn start(alloc: Global, program: &'a Program, node: u8) -> Result<Player<'a>, Fail> {
+    fn start(alloc: Global, program: &'a Program, node: u8) -> Result<Player<'a>, NodeFault> {
         let host = started_host(alloc, program, node)?;
         Ok(Player {
             host,
@@ -161,26 +187,80 @@ impl<'a> Player<'a> {
         })
     }
 
-    /// Lets the node campaign, and types two keys at it.
-    fn lead(&mut self, network: &mut Network) -> Result<(), Fail> {
+    fn campaign(&mut self, network: &mut Network) -> Result<(), NodeFault> {
         let node = self.node;
-        self.host.campaign(&mut Port { network, node })?;
+        self.host.campaign(&mut Port { network, node })
+    }
+
+    /// Types two keys at the node.
+    fn press(&mut self) -> Result<(), NodeFault> {
         let mut typed: &[u8] = b"\x48\x51";
-        self.host.press(&mut typed)?;
+        match self.host.press(&mut typed) {
+            Ok(_) => Ok(()),
+            Err(fault) => Err(fault),
+        }
+    }
+
+    /// Makes a turn of the node.
+    fn turn(&mut self, network: &mut Network) -> Result<(), NodeFault> {
+        let node = self.node;
+        match self.host.turn(&mut Port { network, node }) {
+            Ok(_) => Ok(()),
+            Err(fault) => Err(fault),
+        }
+    }
+
+    fn unreleased(&self) -> usize {
+        self.host.unreleased()
+    }
+
+    /// Releases the first byte that waits.
+    fn release(&mut self) -> Result<(), AllocError> {
+        if let Some((_, byte)) = self.host.release() {
+            self.console.push(byte)?;
+        }
         Ok(())
     }
 
     /// Makes a turn of the node, and then releases all that waits.
     fn play(&mut self, network: &mut Network) -> Result<(), Fail> {
-        let node = self.node;
-        self.host.turn(&mut Port { network, node })?;
-        for _ in 0..self.host.unreleased() {
-            if let Some((_, byte)) = self.host.release() {
-                self.console.push(byte)?;
-            }
+        self.turn(network)?;
+        for _ in 0..self.unreleased() {
+            self.release()?;
         }
         Ok(())
     }
+
+    /// Returns true if the console shows the first of these bytes, and no others.
+    fn shows_first_of(&self, bytes: &[u8]) -> bool {
+        bytes.starts_with(self.console.as_slice())
+    }
+
+    /// Returns true if the console shows these bytes.
+    fn shows(&self, bytes: &[u8]) -> bool {
+        self.console.as_slice() == bytes
+    }
+}
+
+/// The three nodes and the network between them. Contracts see nothing of it.
+struct Players<'a> {
+    network: Network,
+    players: Vec<Player<'a>>,
+}
+
+impl<'a> Drop for Players<'a> {
+    fn drop(self) {
+        let Players {
+            network: _network,
+            players: _players,
+        } = self;
+    }
+}
+
+impl<'a> Model for Players<'a> {
+    ghost Value = { Unit {0} };
+
+    ghost view = { λ _. tt };
 }
 
 /// Starts the three nodes, in order.
@@ -192,48 +272,70 @@ fn started<'a>(alloc: Global, program: &'a Program) -> Result<Vec<Player<'a>>, F
     Ok(players)
 }
 
-/// Starts the three nodes, and has the first one campaign.
-fn players<'a>(
-    alloc: Global,
-    program: &'a Program,
-    network: &mut Network,
-) -> Result<Vec<Player<'a>>, Fail> {
-    let mut players = started(alloc, program)?;
-    if let Some(first) = players.as_mut_slice().first_mut() {
-        first.lead(network)?;
+impl<'a> Players<'a> {
+    fn start(alloc: Global, program: &'a Program, failure: Failure) -> Result<Players<'a>, Fail> {
+        let network = Network::new(alloc, failure)?;
+        let players = started(alloc, program)?;
+        Ok(Players { network, players })
     }
-    Ok(players)
+
+    /// Lets the first node campaign, and types two keys at it.
+    fn lead(&mut self) -> Result<(), NodeFault> {
+        let Some(first) = self.players.as_mut_slice().first_mut() else {
+            return Ok(());
+        };
+        first.campaign(&mut self.network)?;
+        first.press()
+    }
+
+    /// Makes a turn of each node.
+    fn play_all(&mut self) -> Result<(), Fail> {
+        for player in self.players.as_mut_slice().iter_mut() {
+            player.play(&mut self.network)?;
+        }
+        Ok(())
+    }
+
+    /// Returns true if each console shows the first of these bytes, and no others.
+    fn show_first_of(&self, bytes: &[u8]) -> bool {
+        for player in self.players.iter() {
+            if !player.shows_first_of(bytes) {
+                return false;
+            }
+        }
+        true
+    }
+
+    /// Returns true if each console shows these bytes.
+    fn show(&self, bytes: &[u8]) -> bool {
+        for player in self.players.iter() {
+            if !player.shows(bytes) {
+                return false;
+            }
+        }
+        true
+    }
 }
 
-/// Makes a turn of each node.
-fn play_all(players: &mut [Player<'_>], network: &mut Network) -> Result<(), Fail> {
-    for player in players.iter_mut() {
-        player.play(network)?;
+/// Plays a group's turns with this failure.
+fn played(alloc: Global, program: &Program, failure: Failure) -> Result<Players<'_>, Fail> {
+    let mut players = Players::start(alloc, program, failure)?;
+    players.lead()?;
+    for _ in 0..TURNS {
+        players.play_all()?;
     }
-    Ok(())
+    Ok(players)
 }
 
 /// Plays a group's turns with this failure. Fails if a console shows what it must not. Returns true
 /// if all consoles show all keys.
 fn shows_all(alloc: Global, program: &Program, failure: Failure) -> Result<bool, Fail> {
-    let mut network = Network::new(alloc, failure)?;
-    let mut players = players(alloc, program, &mut network)?;
-    for _ in 0..TURNS {
-        play_all(players.as_mut_slice(), &mut network)?;
-    }
-    let shown: &[u8] = b"\x48\x51";
-    if !players
-        .iter()
-        .all(|player| shown.starts_with(player.console.as_slice()))
-    {
+    let players = played(alloc, program, failure)?;
+    if !players.show_first_of(b"\x48\x51") {
         let Failure { send, receive } = failure;
         return Err(Fail::new(format_args!("send {send}, receive {receive}")));
     }
-    Ok(
-        players
-            .iter()
-            .all(|player| player.console.as_slice() == shown),
-    )
+    Ok(players.show(b"\x48\x51"))
 }
 
 /// Shows Host::turn (turned), Host::press (pressed), Host::release (some, none), Wire::send

@@ -1,7 +1,10 @@
 //! Lists of events, by `run` of a world.
 use crate::program::reading_program;
-use group_world::{Event, Line, RunFault, WorldFault, read_script, run};
+use group_world::{Event, Line, RunFault, World, WorldFault, read_script, run};
+use paxos_msg::{Record, Value};
+use pcode_ops::Program;
 use std::alloc::{AllocError, Global};
+use std::marker::Model;
 use std::test::Fail;
 
 /// Returns the text of lines that are separated by commas.
@@ -30,6 +33,72 @@ pub fn events_of(alloc: Global, lines: &str) -> Result<Vec<Event>, Fail> {
     Ok(events)
 }
 
+/// A group of three after a list of events. Contracts see nothing of it, so that a test does not
+/// carry a world from one look at it to the next. Each look is a function of its own.
+pub struct After<'a> {
+    world: World<'a>,
+}
+
+impl<'a> Drop for After<'a> {
+    fn drop(self) {
+        let After { world: _world } = self;
+    }
+}
+
+impl<'a> Model for After<'a> {
+    ghost Value = { Unit {0} };
+
+    ghost view = { λ _. tt };
+}
+
+impl<'a> After<'a> {
+    /// Performs the events of a group of this size.
+    pub fn run(
+        alloc: Global,
+        program: &'a Program,
+        size: u8,
+        events: &[Event],
+    ) -> Result<After<'a>, RunFault> {
+        match run(alloc, program, size, 7, events) {
+            Ok(world) => Ok(After { world }),
+            Err(refused) => Err(refused),
+        }
+    }
+
+    /// Returns the number of messages that were sent.
+    pub fn sent(&self) -> usize {
+        self.world.sent()
+    }
+
+    /// Returns the typed key with this number.
+    pub fn typed(&self, number: usize) -> Option<Value> {
+        self.world.typed(number)
+    }
+
+    /// Returns what a node has learned for place 0.
+    pub fn learned(&self, node: u8) -> Option<Value> {
+        self.world.node(node)?.learned(0)
+    }
+
+    /// Returns true if a node's console has shown these bytes.
+    pub fn has_shown(&self, node: u8, bytes: &[u8]) -> bool {
+        match self.world.console(node) {
+            Some(shown) => shown == bytes,
+            None => false,
+        }
+    }
+
+    /// Returns the record that the next start of a node finds.
+    pub fn record(&self, node: u8) -> Option<&Record> {
+        self.world.record(node)
+    }
+
+    /// Returns the number of starts in that record.
+    fn starts(&self, node: u8) -> Option<u32> {
+        Some(self.record(node)?.starts)
+    }
+}
+
 /// Returns true if a list of events ends early at this event, by this refusal.
 fn ends_at(
     alloc: Global,
@@ -40,10 +109,8 @@ fn ends_at(
 ) -> Result<bool, Fail> {
     let program = reading_program(alloc)?;
     let events = events_of(alloc, lines)?;
-    match run(alloc, &program, size, 7, events.as_slice()) {
-        Ok(_) => Ok(false),
-        Err(refused) => Ok(refused == RunFault { event, fault }),
-    }
+    let refused = After::run(alloc, &program, size, events.as_slice()).err();
+    Ok(refused == Some(RunFault { event, fault }))
 }
 
 /// Sizes and events, and where each list ends and why.
@@ -84,8 +151,8 @@ const STARTS: &str =
 fn starts_are_counted(rt: HostRuntime) -> Result<(), Fail> {
     let program = reading_program(rt.alloc())?;
     let events = events_of(rt.alloc(), STARTS)?;
-    let world = run(rt.alloc(), &program, 3, 7, events.as_slice())?;
-    assert_eq!(rt; world.record(2).map(|record| record.starts), Some(4));
-    assert_eq!(rt; world.record(1).map(|record| record.starts), Some(1));
+    let after = After::run(rt.alloc(), &program, 3, events.as_slice())?;
+    assert_eq!(rt; after.starts(2), Some(4));
+    assert_eq!(rt; after.starts(1), Some(1));
     Ok(())
 }

@@ -5,7 +5,7 @@ use Rattle.paxos_msg.specs.declared.message.Group.{Group}
 use Rattle.paxos_msg.specs.declared.fault.WireFault.{WireFault}
 use Rattle.paxos_msg.specs.declared.fault.WireFault.TheVariants as fault
 use Rattle.paxos_msg.specs.Batches.{Msg}
-use Rattle.paxos_msg.specs.Reading.{message_at}
+use Rattle.paxos_msg.specs.Datagrams.{message_at}
 use Rattle.group_udp.specs.declared.log.drops.TheConstants.{MOST_COUNTED}
 use Rattle.group_udp.specs.declared.log.drops.Drops.{Drops}
 use Rattle.group_udp.specs.declared.log.drops.DropReason.{DropReason}

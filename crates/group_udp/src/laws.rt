@@ -3,7 +3,7 @@
 ghost use Rattle.std.specs.Prelude.{◌≡◌, ◌↔◌, ◌⊎◌, ◌++◌, ℕ, suc, List, Some, length, max, slice_get};
 ghost use Rattle.std.specs.declared.net.socket_addr.SocketAddr.{SocketAddr};
 ghost use Rattle.paxos_msg.specs.Batches.{Msg};
-ghost use Rattle.paxos_msg.specs.Spelling.{Msgs};
+ghost use Rattle.paxos_msg.specs.Datagrams.{Msgs};
 ghost use Rattle.paxos_msg.specs.declared.message.Group.{Group};
 ghost use Rattle.pcode_machine.specs.Runs.{AreComparable, IsOutput};
 ghost use Rattle.group_node.specs.Output.{IsReplay, Progress};

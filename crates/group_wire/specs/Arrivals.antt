@@ -4,7 +4,7 @@ use Rattle.std.specs.List.{filter_map}
 use Rattle.paxos_msg.specs.declared.limits.TheConstants.{LONGEST_DATAGRAM}
 use Rattle.paxos_msg.specs.declared.message.Group.{Group}
 use Rattle.paxos_msg.specs.Batches.{Msg}
-use Rattle.paxos_msg.specs.Spelling.{Msgs}
+use Rattle.paxos_msg.specs.Datagrams.{Msgs}
 
 -- A datagram of at most 1,400 bytes that spells this message of the group.
 pub record Spells (g : Group) (bytes : List ℕ) (m : Msg) : Type 0 where

@@ -4,7 +4,7 @@ use Rattle.std.proofs.Common.{◌≡◌, ◌≢◌, ◌⊎◌, ◌∙◌, ◌<�
 use Rattle.std.proofs.lemmas.Bool.Decides.{nat_tests}
 use Rattle.std.proofs.lemmas.Bool.{both_ways, false_from_ne_true}
 use Rattle.paxos_msg.specs.Batches.{Change, Msg, Record}
-use Rattle.paxos_msg.specs.Fits.{Fits}
+use Rattle.paxos_msg.specs.Datagrams.{Fits}
 use Rattle.paxos_acceptor.specs.Memories.{memory_kind}
 use Rattle.paxos_acceptor.specs.Stores.{FailsAsPlanned, StoreState}
 use Rattle.paxos_proposer.specs.Proposer.{Proposer}

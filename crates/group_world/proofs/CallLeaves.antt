@@ -80,27 +80,11 @@ module _ (w : World) (i : ℕ) (m : Member) (there : member_at w.members i ≡ S
       quiet_leads is
       ∙ ap (λ members. record w { members = members }) (set_same w.members (i - 1) m (is_at w.members i m there).1)
 
-  -- so it leads there
-  pub quiet_at : {v : World} (plan : Option Bool) (deed : Deed) (new : Member)
-      → DoesDeed w.program (me_of w i) m plan deed (quietly new) → v ≡ with_member w i new → DoesAt w i plan deed Applied v
-  quiet_at plan deed new does is = record {
-    node = m;
-    there = there;
-    left = quietly new;
-    does = does;
-    answers = refl;
-    leads = is ∙ sym (quiet_leads {left = quietly new} refl);
-  }
-
 -- ---- calls that are written out
 
 -- what a call leaves, by its outcome
 abbrev pub left_of : Me → Member → Progress → CallOutcome → Left
 left_of me m progress o = record { answer = done_of o; member = member_after m progress o; sent = sent_by me o; typed = typed_by o }
-
-pub ends_so : (me : Me) (m : Member) (progress : Progress) (plan : Option Bool) (call : NodeCall)
-    → EndsCall me m progress plan call (left_of me m progress (call_outcome plan m.kept call))
-ends_so me m progress plan call = record { answer = refl; left = refl; sends = refl; types = refl }
 
 not_failing : (saves : Option Change) → failing saves None ≡ None
 not_failing None = refl

@@ -1,7 +1,9 @@
 -- Steps of groups that are written down by hand, one after the other.
 use Rattle.std.proofs.lemmas.Bool.Decides.{nat_tests}
 use Rattle.std.proofs.lemmas.Bool.{and_parts, eq-eqb, ne_eqb}
-use Rattle.std.proofs.Common.{Contains, IsTrue, ◌==◌, false, true, ◌≡◌, ◌≢◌, ◌∙◌, ◌↔◌, ℕ, zero, suc, Bool, if◌then◌else◌, List, [], ◌∷◌, ◌++◌, slice_get, Some, None, Option, IfSome, inl, inr, ◌⊎◌, refl, sym, ap, subst, arith, append-nil}
+use Rattle.std.proofs.lemmas.List.Folds.{list_all_at}
+use Rattle.std.proofs.Common.{Contains, IsTrue, ◌==◌, ◌&&◌, not, false, true, ◌≡◌, ◌≢◌, ◌≤◌, ◌<◌, ◌∙◌, ◌↔◌, ℕ, zero, suc, ◌+◌, Bool, List, [], ◌∷◌, ◌++◌, get_or, slice_get, Some, None, Option, IfSome, inl, inr, ◌⊎◌, refl, sym, ap, subst, arith, append-nil}
+use Rattle.std.specs.List.{AllByRecursion as EachOf, list_all}
 use Rattle.std.specs.FinMap.{insert, get}
 use Rattle.pcode_file.specs.Parts.{Parts}
 use Rattle.pcode_machine.specs.Configuration.{Configuration}
@@ -9,15 +11,17 @@ use Rattle.pcode_machine.specs.Transition.{Goes, transition}
 use Rattle.pcode_machine.specs.Runs.{after_steps, begin}
 use Rattle.pcode_machine.specs.Step.{Step}
 use Rattle.paxos_msg.specs.declared.ballot.Ballot.{Ballot}
-use Rattle.paxos_msg.specs.declared.message.Body.TheVariants.{Accept}
+use Rattle.paxos_msg.specs.declared.message.Body.TheVariants.{Accept, Accepted, Prepare, Promise, Submit}
 use Rattle.paxos_msg.specs.declared.record.Change.TheVariants as change
 use Rattle.paxos_msg.specs.declared.value.Value.{Value}
-use Rattle.paxos_msg.specs.Batches.{Msg, Body, Change, Record, Vote, IsTyped, MaySendAll}
-use Rattle.paxos_msg.specs.Chosen.{is_listed, IsChosen}
-use Rattle.paxos_msg.specs.Keys.{Key}
-use Rattle.paxos_msg.specs.Messages.{kept_vote_at}
-use Rattle.paxos_msg.specs.Records.{MaySave}
-use Rattle.paxos_msg.specs.Sending.{IsReport}
+use Rattle.paxos_msg.specs.declared.value.Value.TheVariants.{Keys}
+use Rattle.paxos_msg.specs.Ballots.{IsAtMost, IsBelow, IsMajority}
+use Rattle.paxos_msg.specs.Batches.{Msg, Body, Change, Record, Vote, IsSafe, IsTyped, MaySendAll, Sent}
+use Rattle.paxos_msg.specs.Chosen.{is_listed, IsChosen, IsChosenBy}
+use Rattle.paxos_msg.specs.Keys.{AreOwnKeys, Key, batches, keys_from, keys_of}
+use Rattle.paxos_msg.specs.Messages.{IsPromised, IsSaid, IsSent, kept_vote_at}
+use Rattle.paxos_msg.specs.Records.{MaySave, with_vote}
+use Rattle.paxos_msg.specs.Sending.{IsReport, IsUnproposed}
 use Rattle.paxos_acceptor.specs.Answers.{after}
 use Rattle.paxos_learner.proofs.OnePlace.{each_put, get_put}
 use Rattle.paxos_learner.specs.Backed.{MayLearn}
@@ -27,39 +31,25 @@ use Rattle.group_world.specs.declared.event.Act.{Act}
 use Rattle.group_world.specs.declared.event.Act.TheVariants as act
 use Rattle.group_world.specs.Event.{StepsBy}
 use Rattle.group_world.proofs.OrderLists.{in_from_place}
-use Rattle.group_node.specs.World.{ChangesOnly, Delivers, LearnsOnly, MakesCall, MakesSteps, Seat, Up, WorldState, WorldStep, after_release, fresh, with_seat}
+use Rattle.group_node.specs.World.{CallOrFall, ChangesOnly, LearnsOnly, MakesCall, MakesSteps, MayCause, Seat, Up, WorldState, WorldStep, after_release, fresh, with_seat}
 use Rattle.group_node.specs.WrongSteps.{ballot_by}
-use Rattle.group_node.proofs.Elements.{each_of, none_in}
-use Rattle.group_world.specs.RightGroups.{LeadsInSteps, first_batch, with_call, with_start}
-use Rattle.group_world.proofs.ConsolesMayShow.{all_go, goes_by, is_step}
+use Rattle.group_node.proofs.Elements.{each_of}
+use Rattle.group_world.specs.RightGroups.{LeadsInSteps, with_call, with_start}
+use Rattle.group_world.proofs.SmallPrograms.{all_go, goes_by, is_step}
 
 -- ---- a call
-
-then_of : {A : Type 0} (b : Bool) (x y : A) → b ≡ true → (if b then x else y) ≡ x
-then_of true x y e = refl
-then_of false x y e = absurd cc
-
-else_of : {A : Type 0} (b : Bool) (x y : A) → b ≡ false → (if b then x else y) ≡ y
-else_of true x y e = absurd cc
-else_of false x y e = refl
 
 module _ (w : WorldState) (i : ℕ) (c : Option Change) (bodies : List Body) (now : Up) (keys : List Key) where
   abbrev next : WorldState
   next = with_call w i c bodies now keys
 
   left_by : next.seats i ≡ record { kept = after (w.seats i).kept c; console = (w.seats i).console; up = Some now }
-  left_by = then_of (i == i) _ (w.seats i) (eq-eqb i i refl)
+  left_by = rw (eq-eqb i i refl) refl
 
   rest_by : ChangesOnly w next i bodies keys
-  rest_by = record {
-    program = refl;
-    size = refl;
-    others = λ j other. else_of (j == i) _ (w.seats j) (ne_eqb j i other);
-    sent = refl;
-    typed = refl;
-  }
+  rest_by = record { program = refl; size = refl; others = λ j other. rw (ne_eqb j i other) refl; sent = refl; typed = refl }
 
-  pub makes_call : (was : Up) → (w.seats i).up ≡ Some was → IfSome c (MaySave w.sent (w.seats i).kept)
+  makes_call : (was : Up) → (w.seats i).up ≡ Some was → IfSome c (MaySave w.sent (w.seats i).kept)
       → MaySendAll w.size (w.typed ++ keys) (get now.learned) w.sent i (after (w.seats i).kept c) bodies
       → LearnsOnly w keys was now → MakesCall w next i c keys
   makes_call was from saves sends learns = record {
@@ -74,8 +64,14 @@ module _ (w : WorldState) (i : ℕ) (c : Option Change) (bodies : List Body) (no
     learns = learns;
   }
 
--- a node that stays as it was, but for keys that are typed
-pub learns_nothing : (w : WorldState) (keys : List Key) (was : Up) → LearnsOnly w keys was (record was { waiting = was.waiting ++ keys })
+-- a node with one key more that waits, and as it was
+abbrev pub typing : Up → List Key → Up
+typing was keys = record was { waiting = was.waiting ++ keys }
+
+abbrev pub still : Up → Up
+still was = typing was []
+
+learns_nothing : (w : WorldState) (keys : List Key) (was : Up) → LearnsOnly w keys was (typing was keys)
 learns_nothing w keys was = record {
   keeps = record { stays = λ s v e. e };
   gains = λ s v e. inl e;
@@ -84,112 +80,28 @@ learns_nothing w keys was = record {
   waiting = record { gone = []; parts = refl; below = λ i d below. absurd (omega arith) };
 }
 
--- the delivery of the message with a number
-pub by_number : {w v : WorldState} (k i : ℕ) (m : Msg) → slice_get w.sent k ≡ Some m → (Contains w.sent m → Delivers w v m i)
-    → StepsBy w (act.Deliver k i) v
-by_number {w} k i m at step = (deed.Hear m, (m, at, refl), step (in_from_place w.sent k m at))
+-- a node that has learned a value for a place where it had learned none
+abbrev pub knowing : Up → ℕ → Value → Up
+knowing was s v = record (still was) { learned = insert was.learned s v }
 
-pub starts : (w : WorldState) (i : ℕ) → (w.seats i).up ≡ None → StepsBy w (act.Start i) (with_start w i)
-starts w i down = (
-  deed.Start (w.seats i).kept,
-  ((w.seats i).kept, refl),
-  (
-    down,
-    refl,
-    inl (record {
-      left = left_by w i (Some change.Start) [] (fresh w.program) [];
-      rest = record (rest_by w i (Some change.Start) [] (fresh w.program) []) { typed = refl };
-    }),
-  ),
-)
-
--- ---- a change of a seat
-
-module _ (w : WorldState) (i : ℕ) (seat : Seat) where
-  seat_by : (with_seat w i seat).seats i ≡ seat
-  seat_by = then_of (i == i) seat (w.seats i) (eq-eqb i i refl)
-
-  rest_seat : ChangesOnly w (with_seat w i seat) i [] []
-  rest_seat = record {
-    program = refl;
-    size = refl;
-    others = λ j other. else_of (j == i) seat (w.seats j) (ne_eqb j i other);
-    sent = sym (append-nil w.sent);
-    typed = sym (append-nil w.typed);
-  }
-
--- ---- runs, releases and crashes
-
-pub record StepLaw : Type 0 where
-  pub step : (p : Parts) (x : List ℕ) (c d : Configuration) → Step p x c d ↔ (transition p x c ≡ Goes d)
-
-makes_steps : StepLaw → (p : Parts) (x : List ℕ) (n : ℕ) → all_go p x n ≡ true → MakesSteps p x n (begin p) (after_steps p x n)
-unfolding all_go MakesSteps after_steps
-makes_steps law p x zero h = refl
-makes_steps law p x (suc n) h =
-    let parts = and_parts (all_go p x n) (is_step (transition p x (after_steps p x n))) h in
-    (after_steps p x n, makes_steps law p x n parts.0, (law.step p x _ _).1 (goes_by p x _ _ parts.1 refl))
-
--- a machine that has come to a configuration
-abbrev pub at_configuration : WorldState → ℕ → Up → Configuration → WorldState
-at_configuration w i was c = with_seat w i (record (w.seats i) { up = Some (record was { configuration = c }) })
-
--- a node that runs from its start
-pub runs : StepLaw → (w : WorldState) (i : ℕ) (was : Up) (p : Parts) (n : ℕ) → w.program ≡ p → (w.seats i).up ≡ Some was
-    → was.configuration ≡ begin p → all_go p (learned_input was.learned) n ≡ true
-    → StepsBy w (act.Run i n) (at_configuration w i was (after_steps p (learned_input was.learned) n))
-runs law w i was p n is up begins go = (
-  deed.Run n,
-  refl,
-  record {
-    was = was;
-    configuration = after_steps p (learned_input was.learned) n;
-    made = n;
-    from = up;
-    few = omega arith;
-    moves =
-        subst (λ (q : Parts). MakesSteps q (learned_input was.learned) n was.configuration (after_steps p (learned_input was.learned) n))
-        (sym is)
-        (subst (λ (c : Configuration). MakesSteps p (learned_input was.learned) n c (after_steps p (learned_input was.learned) n))
-        (sym begins) (makes_steps law p (learned_input was.learned) n go));
-    left = seat_by w i (record (w.seats i) { up = Some (record was { configuration = after_steps p (learned_input was.learned) n }) });
-    rest = rest_seat w i (record (w.seats i) { up = Some (record was { configuration = after_steps p (learned_input was.learned) n }) });
-  },
-)
-
-pub released : (w : WorldState) (i : ℕ) (was : Up) (byte : ℕ) → (w.seats i).up ≡ Some was
-    → slice_get was.configuration.output was.released ≡ Some byte
-    → WorldStep w i deed.Release (with_seat w i (after_release (w.seats i) was (Some byte)))
-released w i was byte up next = record {
-  was = was;
-  from = up;
-  left = seat_by w i (after_release (w.seats i) was (Some byte)) ∙ ap (after_release (w.seats i) was) (sym next);
-  rest = rest_seat w i (after_release (w.seats i) was (Some byte));
+learns_at : (w : WorldState) (was : Up) (s : ℕ) (v : Value) → get was.learned s ≡ None → IsChosen w.size w.sent s v
+    → LearnsOnly w [] was (knowing was s v)
+learns_at w was s v none chosen = record {
+  keeps = record { stays = λ q u e. stays_there q u e };
+  gains = λ q u e. each_put was.learned s (λ q y. (get was.learned q ≡ Some y) ⊎ MayLearn w.size w.sent q y) v
+      (inr (inr chosen)) (λ q y e. inl e) q u e;
+  configuration = refl;
+  released = refl;
+  waiting = record { gone = []; parts = refl; below = λ i d below. absurd (omega arith) };
 }
+  where
+    stays_there : (q : ℕ) (u : Value) → get was.learned q ≡ Some u → get (insert was.learned s v) q ≡ Some u
+    stays_there q u e = grind (arith, nat_tests, get_put was.learned s v q)
 
-pub releases : (w : WorldState) (i : ℕ) (was : Up) (byte : ℕ) → (w.seats i).up ≡ Some was
-    → slice_get was.configuration.output was.released ≡ Some byte
-    → StepsBy w (act.Release i) (with_seat w i (after_release (w.seats i) was (Some byte)))
-releases w i was byte up next = (deed.Release, refl, released w i was byte up next)
-
-abbrev pub crashed : WorldState → ℕ → WorldState
-crashed w i = with_seat w i (record (w.seats i) { up = None })
-
-pub crashes : (w : WorldState) (i : ℕ) → StepsBy w (act.Crash i) (crashed w i)
-crashes w i = (
-  deed.Crash,
-  refl,
-  record {
-    left = seat_by w i (record (w.seats i) { up = None });
-    rest = rest_seat w i (record (w.seats i) { up = None });
-  },
-)
-
--- steps after steps
-pub leads_then : (w v u : WorldState) (acts more : List Act) → LeadsInSteps w acts v → LeadsInSteps v more u
-    → LeadsInSteps w (acts ++ more) u
-leads_then w v u [] more same later = subst (λ (x : WorldState). LeadsInSteps x more u) same later
-leads_then w v u (a ∷ acts) more (mid, step, rest) later = (mid, step, leads_then mid v u acts more rest later)
+-- a call that may fail does not
+not_fallen : {w v : WorldState} {i : ℕ} (c : Option Change) → MakesCall w v i c [] → CallOrFall w v i c
+not_fallen None call = call
+not_fallen (Some c) call = inl call
 
 -- ---- lists and sets
 
@@ -211,38 +123,276 @@ ballot_1 = ballot_by 1 1
 abbrev pub key_1 : Key
 key_1 = record { node = 1; start = 1; serial = 1; byte = 65 }
 
--- a report of no vote
-pub no_report : (s : ℕ) (r : Record) → r.votes ≡ [] → IsReport r s (suc s) []
-no_report s r none = record {
-  own = λ vote h. absurd (none_in vote h);
-  within = λ vote h. absurd (none_in vote h);
-  whole = λ q from below. ap (λ (votes : List Vote). kept_vote_at votes q) (sym none);
+-- a report of all votes of a record
+pub report : (r : Record) (votes : List Vote) (first upto : ℕ) → r.votes ≡ votes
+    → EachOf (λ (x : Vote). (first ≤ x.place) × (x.place < upto)) votes → IsReport r first upto votes
+report r votes first upto is within = record {
+  own = λ vote h. rw is h;
+  within = λ vote h. each_of (λ (x : Vote). (first ≤ x.place) × (x.place < upto)) votes vote within h;
+  whole = λ s from below. ap (λ (votes : List Vote). kept_vote_at votes s) (sym is);
 }
 
-pub typed_1 : IsTyped (key_1 ∷ []) 1 first_batch
-typed_1 = record {
-  own = record {
-    has_key = λ none. absurd cc;
-    at_node = λ key among. each_of (λ (k : Key). k.node ≡ 1) (key_1 ∷ []) key (refl, tt) among;
-  };
-  known = λ key among. among;
+-- the keys of a batch are of its node
+same_node : (node start serial : ℕ) (bytes : List ℕ) → EachOf (λ (k : Key). k.node ≡ node) (keys_from node start serial bytes)
+same_node node start serial [] = tt
+same_node node start serial (byte ∷ bytes) = (refl, same_node node start (serial + 1) bytes)
+
+pub own_keys : (node start first byte : ℕ) (bytes : List ℕ) → AreOwnKeys batches node (Keys node start first (byte ∷ bytes))
+own_keys node start first byte bytes = record {
+  has_key = λ none. absurd cc;
+  at_node = λ k among.
+      each_of (λ (k : Key). k.node ≡ node) (keys_from node start first (byte ∷ bytes)) k (same_node node start first (byte ∷ bytes)) among;
 }
 
--- a node that learns a value for a place where it had learned none
-pub learns_at : (w : WorldState) (was : Up) (s : ℕ) (v : Value) → get was.learned s ≡ None → IsChosen w.size w.sent s v
-    → LearnsOnly w [] was (record was { learned = insert was.learned s v; waiting = was.waiting ++ [] })
-learns_at w was s v none chosen = record {
-  keeps = record { stays = λ q u e. stays_there q u e };
-  gains = λ q u e. each_put was.learned s (λ q y. (get was.learned q ≡ Some y) ⊎ MayLearn w.size w.sent q y) v
-      (inr (inr chosen)) (λ q y e. inl e) q u e;
-  configuration = refl;
-  released = refl;
-  waiting = record { gone = []; parts = refl; below = λ i d below. absurd (omega arith) };
+-- a batch of typed keys
+pub typed_by : (typed : List Key) (node start first byte : ℕ) (bytes : List ℕ)
+    → EachOf (Contains typed) (keys_of (Keys node start first (byte ∷ bytes))) → IsTyped typed node (Keys node start first (byte ∷ bytes))
+typed_by typed node start first byte bytes known = record {
+  own = own_keys node start first byte bytes;
+  known = λ k among. each_of (Contains typed) (keys_of (Keys node start first (byte ∷ bytes))) k known among;
 }
-  where
-    stays_there : (q : ℕ) (u : Value) → get was.learned q ≡ Some u → get (insert was.learned s v) q ≡ Some u
-    stays_there q u e = grind (arith, nat_tests, get_put was.learned s v q)
 
--- no body among these proposes
-abbrev pub ProposesNot : Msg → Type 0
-ProposesNot m = (b : Ballot) (s : ℕ) (v : Value) → m.body ≢ Accept b s v
+-- ---- what nodes may propose, and what is chosen
+
+-- a message that does not propose at this place under this ballot
+abbrev pub is_other : Ballot → ℕ → Msg → Bool
+is_other b s m = elim m.body [ Accept c q v ↦ not (c.round == b.round && q == s) | _ ↦ true ]
+
+pub unproposed : (sent : Sent) (b : Ballot) (s : ℕ) → list_all (is_other b s) sent ≡ true → IsUnproposed sent b s
+unproposed sent b s others v (i, among) =
+    let (k, below, at) = among in
+    let is : is_other b s (get_or sent k (record { sender = i; body = Accept b s v })) ≡ false =
+    rw (at, eq-eqb b.round b.round refl, eq-eqb s s refl) refl in
+    let found = list_all_at (is_other b s) sent k _ below is in
+    absurd cc
+
+-- a promise that reports this for a place
+pub promised : {sent : Sent} {i : ℕ} {b : Ballot} {s : ℕ} {o : Option Vote} (first upto : ℕ) (reports : List Vote)
+    → IsSent sent i (Promise b first upto reports) → first ≤ s → s < upto → kept_vote_at reports s ≡ o → IsPromised sent i b s o
+promised first upto reports among low high is = record {
+  first = first;
+  upto = upto;
+  votes = reports;
+  is_sent = among;
+  from_first = low;
+  below_upto = high;
+  reports = is;
+}
+
+-- two nodes have voted for it, and are a majority
+pub chosen_by : (sent : Sent) (b : Ballot) (s : ℕ) (v : Value) (size i j : ℕ) → IsMajority size (is_listed (i ∷ j ∷ []))
+    → IsSent sent i (Accepted b s v) → IsSent sent j (Accepted b s v) → IsChosenBy size sent b s v
+chosen_by sent b s v size i j most first second =
+    (is_listed (i ∷ j ∷ []), most, both (λ k. IsSent sent k (Accepted b s v)) i j first second)
+
+-- they have promised, and report no vote
+pub safe_by : {sent : Sent} {b : Ballot} {s : ℕ} {v : Value} (size i j : ℕ) → IsMajority size (is_listed (i ∷ j ∷ []))
+    → IsPromised sent i b s None → IsPromised sent j b s None → IsSaid sent (Submit v) → IsSafe size sent b s v
+safe_by {sent} {b} {s} {v} size i j most first second submitted = record {
+  members = is_listed (i ∷ j ∷ []);
+  reported = λ k. None;
+  best = None;
+  majority = most;
+  promised = both (λ k. IsPromised sent k b s None) i j first second;
+  is_best = λ k is. refl;
+  value = inr submitted;
+}
+
+-- ---- steps, one after the other
+
+-- a step of an act
+pub record Steps (w : WorldState) (a : Act) (v : WorldState) : Type 0 where
+  pub by : StepsBy w a v
+
+-- a group to which acts lead
+pub record Reaches (w : WorldState) (acts : List Act) : Type 0 where
+  pub end : WorldState
+  pub leads : LeadsInSteps w acts end
+
+-- a step and the acts after it, no acts, and acts after acts
+infixr 30 ◌▸◌
+abbrev pub ◌▸◌ : {w mid : WorldState} {a : Act} {acts : List Act} → Steps w a mid → Reaches mid acts → Reaches w (a ∷ acts)
+◌▸◌ {mid = mid} step rest = record { end = rest.end; leads = (mid, step.by, rest.leads) }
+
+abbrev pub stop : {w : WorldState} → Reaches w []
+stop {w} = record { end = w; leads = refl }
+
+pub leads_then : (w v u : WorldState) (acts more : List Act) → LeadsInSteps w acts v → LeadsInSteps v more u
+    → LeadsInSteps w (acts ++ more) u
+leads_then w v u [] more same later = rw same at later
+leads_then w v u (a ∷ acts) more (mid, step, rest) later = (mid, step, leads_then mid v u acts more rest later)
+
+abbrev pub and_then : {w : WorldState} {acts more : List Act} (first : Reaches w acts) → Reaches first.end more → Reaches w (acts ++ more)
+and_then {w} {acts} {more} first rest =
+    record { end = rest.end; leads = leads_then w first.end rest.end acts more first.leads rest.leads }
+
+-- ---- the calls of a node
+
+module _ {w : WorldState} (i : ℕ) where
+  pub starts : (w.seats i).up ≡ None → Steps w (act.Start i) (with_start w i)
+  starts down = record {
+    by = (
+      deed.Start (w.seats i).kept,
+      ((w.seats i).kept, refl),
+      (
+        down,
+        refl,
+        inl (record {
+          left = left_by w i (Some change.Start) [] (fresh w.program) [];
+          rest = rest_by w i (Some change.Start) [] (fresh w.program) [];
+        }),
+      ),
+    );
+  }
+
+  module _ (was : Up) (up : (w.seats i).up ≡ Some was) where
+    -- a call at which it learns nothing
+    says : (c : Option Change) (bodies : List Body) (keys : List Key) → IfSome c (MaySave w.sent (w.seats i).kept)
+        → MaySendAll w.size (w.typed ++ keys) (get was.learned) w.sent i (after (w.seats i).kept c) bodies
+        → MakesCall w (with_call w i c bodies (typing was keys) keys) i c keys
+    says c bodies keys saves sends = makes_call w i c bodies (typing was keys) keys was up saves sends (learns_nothing w keys was)
+
+    -- a key is typed
+    pub presses : (key : Key) → key.node ≡ i → key.start ≡ (w.seats i).kept.starts
+        → Steps w (act.Press i key.byte) (with_call w i None [] (typing was (key ∷ [])) (key ∷ []))
+    presses key node start = record {
+      by = (
+        deed.Press key.byte,
+        refl,
+        record { key = key; node = node; start = start; character = refl; call = says None [] (key ∷ []) tt tt },
+      );
+    }
+
+    -- it campaigns
+    pub campaigns : (round from : ℕ) → IfSome (w.seats i).kept.promised (λ p. IsBelow p (ballot_by i round))
+        → Steps w (act.Campaign i) (with_call w i (Some (change.Promise (ballot_by i round))) (Prepare (ballot_by i round) from ∷ [])
+        (still was) [])
+    campaigns round from below =
+        let b : Ballot = ballot_by i round in
+        let call = says (Some (change.Promise b)) (Prepare b from ∷ []) [] below ((refl, inr (refl, omega arith)), tt) in
+        record { by = (deed.Campaign, refl, record { round = round; call = inl call }) }
+
+    -- it ticks
+    pub ticks : (bodies : List Body) → MaySendAll w.size (w.typed ++ []) (get was.learned) w.sent i (w.seats i).kept bodies
+        → Steps w (act.Tick i) (with_call w i None bodies (still was) [])
+    ticks bodies sends = record { by = (deed.Tick, refl, says None bodies [] tt sends) }
+
+    -- it hears the message with a number
+    pub hears : (k : ℕ) (m : Msg) (c : Option Change) (bodies : List Body) → slice_get w.sent k ≡ Some m → MayCause m.body c
+        → IfSome c (MaySave w.sent (w.seats i).kept)
+        → MaySendAll w.size (w.typed ++ []) (get was.learned) w.sent i (after (w.seats i).kept c) bodies
+        → Steps w (act.Deliver k i) (with_call w i c bodies (still was) [])
+    hears k m c bodies at cause saves sends = record {
+      by = (
+        deed.Hear m,
+        (m, at, refl),
+        record {
+          is_sent = in_from_place w.sent k m at;
+          saved = c;
+          cause = cause;
+          call = not_fallen c (says c bodies [] saves sends);
+        },
+      );
+    }
+
+    -- it votes for what was proposed
+    pub votes : (k sender : ℕ) (b : Ballot) (s : ℕ) (v : Value)
+        → slice_get w.sent k ≡ Some (record { sender = sender; body = Accept b s v })
+        → IfSome (w.seats i).kept.promised (λ p. IsAtMost p b)
+        → kept_vote_at (with_vote (w.seats i).kept.votes (record { place = s; ballot = b; value = v })) s
+        ≡ Some (record { place = s; ballot = b; value = v })
+        → Steps w (act.Deliver k i) (with_call w i (Some (change.Ballotted s b v)) (Accepted b s v ∷ []) (still was) [])
+    votes k sender b s v at high kept =
+        let said : IsSaid w.sent (Accept b s v) = (sender, in_from_place w.sent k _ at) in
+        hears k _ (Some (change.Ballotted s b v)) (Accepted b s v ∷ []) at (inr refl) (said, high) ((said, kept, refl), tt)
+
+    -- it proposes what is safe, when it hears a message that causes no save
+    pub proposes : (k : ℕ) (m : Msg) (b : Ballot) (s : ℕ) (v : Value) → slice_get w.sent k ≡ Some m → MayCause m.body None → b.node ≡ i
+        → list_all (is_other b s) w.sent ≡ true → IsSafe w.size w.sent b s v
+        → Steps w (act.Deliver k i) (with_call w i None (Accept b s v ∷ []) (still was) [])
+    proposes k m b s v at cause own others safe =
+        hears k m None (Accept b s v ∷ []) at cause tt ((own, inr (unproposed w.sent b s others, safe)), tt)
+
+    -- it learns what two nodes, a majority, have accepted
+    pub learns : (k sender : ℕ) (b : Ballot) (s : ℕ) (v : Value)
+        → slice_get w.sent k ≡ Some (record { sender = sender; body = Accepted b s v }) → get was.learned s ≡ None → (j q : ℕ)
+        → IsMajority w.size (is_listed (j ∷ q ∷ [])) → IsSent w.sent j (Accepted b s v) → IsSent w.sent q (Accepted b s v)
+        → Steps w (act.Deliver k i) (with_call w i None [] (knowing was s v) [])
+    learns k sender b s v at none j q most first second =
+        let chosen : IsChosen w.size w.sent s v = (b, chosen_by w.sent b s v w.size j q most first second) in
+        let call = makes_call w i None [] (knowing was s v) [] was up tt tt (learns_at w was s v none chosen) in record {
+          by = (deed.Hear _, (_, at, refl), record { is_sent = in_from_place w.sent k _ at; saved = None; cause = refl; call = call });
+        }
+
+-- ---- a change of a seat
+
+module _ (w : WorldState) (i : ℕ) (seat : Seat) where
+  seat_by : (with_seat w i seat).seats i ≡ seat
+  seat_by = rw (eq-eqb i i refl) refl
+
+  rest_seat : ChangesOnly w (with_seat w i seat) i [] []
+  rest_seat = record {
+    program = refl;
+    size = refl;
+    others = λ j other. rw (ne_eqb j i other) refl;
+    sent = sym (append-nil w.sent);
+    typed = sym (append-nil w.typed);
+  }
+
+-- ---- runs, releases and crashes
+
+pub record StepLaw : Type 0 where
+  pub step : (p : Parts) (x : List ℕ) (c d : Configuration) → Step p x c d ↔ (transition p x c ≡ Goes d)
+
+makes_steps : StepLaw → (p : Parts) (x : List ℕ) (n : ℕ) → all_go p x n ≡ true → MakesSteps p x n (begin p) (after_steps p x n)
+unfolding all_go MakesSteps after_steps
+makes_steps law p x zero h = refl
+makes_steps law p x (suc n) h =
+    let parts = and_parts (all_go p x n) (is_step (transition p x (after_steps p x n))) h in
+    (after_steps p x n, makes_steps law p x n parts.0, (law.step p x _ _).1 (goes_by p x _ _ parts.1 refl))
+
+-- a machine that has come to a configuration
+abbrev pub at_configuration : WorldState → ℕ → Up → Configuration → WorldState
+at_configuration w i was c = with_seat w i (record (w.seats i) { up = Some (record was { configuration = c }) })
+
+abbrev crashed : WorldState → ℕ → WorldState
+crashed w i = with_seat w i (record (w.seats i) { up = None })
+
+module _ {w : WorldState} (i : ℕ) where
+  pub crashes : Steps w (act.Crash i) (crashed w i)
+  crashes = record { by = (deed.Crash, refl, record { left = seat_by w i _; rest = rest_seat w i _ }) }
+
+  module _ (was : Up) (up : (w.seats i).up ≡ Some was) where
+    -- a node that runs from its start
+    pub runs : StepLaw → (p : Parts) (n : ℕ) → w.program ≡ p → was.configuration ≡ begin p
+        → all_go p (learned_input was.learned) n ≡ true
+        → Steps w (act.Run i n) (at_configuration w i was (after_steps p (learned_input was.learned) n))
+    runs law p n is begins go = record {
+      by = (
+        deed.Run n,
+        refl,
+        record {
+          was = was;
+          configuration = after_steps p (learned_input was.learned) n;
+          made = n;
+          from = up;
+          few = omega arith;
+          moves = rw (is, begins) (makes_steps law p (learned_input was.learned) n go);
+          left = seat_by w i _;
+          rest = rest_seat w i _;
+        },
+      );
+    }
+
+    pub released : (byte : ℕ) → slice_get was.configuration.output was.released ≡ Some byte
+        → WorldStep w i deed.Release (with_seat w i (after_release (w.seats i) was (Some byte)))
+    released byte next = record {
+      was = was;
+      from = up;
+      left = seat_by w i _ ∙ ap (after_release (w.seats i) was) (sym next);
+      rest = rest_seat w i _;
+    }
+
+    pub releases : (byte : ℕ) → slice_get was.configuration.output was.released ≡ Some byte
+        → Steps w (act.Release i) (with_seat w i (after_release (w.seats i) was (Some byte)))
+    releases byte next = record { by = (deed.Release, refl, released byte next) }

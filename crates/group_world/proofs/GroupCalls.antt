@@ -10,8 +10,7 @@ use Rattle.paxos_msg.specs.declared.value.Value.{Value}
 use Rattle.paxos_msg.specs.declared.message.Group.{Group}
 use Rattle.paxos_msg.specs.declared.fault.WireFault.{WireFault}
 use Rattle.paxos_msg.specs.Batches.{Msg, Record}
-use Rattle.paxos_msg.specs.Fits.{Fits}
-use Rattle.paxos_msg.specs.Spelling.{Msgs}
+use Rattle.paxos_msg.specs.Datagrams.{Fits, Msgs}
 use Rattle.paxos_acceptor.specs.declared.me.Me.{Me}
 use Rattle.group_node.specs.Deeds as deed
 use Rattle.group_node.specs.Deeds.{Deed}

@@ -47,15 +47,10 @@ pub record EventLaws : Type 0 where
 -- the deed of an act hears what was sent
 pub heard_by : (group : Group) (sent : List Datagram) (act : Act) (deed : Deed) → IsDeedOf (messages_in group sent) act deed
     → HearsOf group sent deed
-heard_by group sent (act.Press i byte) deed e = subst (HearsOf group sent) (sym e) tt
 heard_by group sent (act.Deliver k i) deed (m, at, e) =
     subst (HearsOf group sent) (sym e) (in_from_place (messages_in group sent) k m at)
-heard_by group sent (act.Campaign i) deed e = subst (HearsOf group sent) (sym e) tt
-heard_by group sent (act.Tick i) deed e = subst (HearsOf group sent) (sym e) tt
-heard_by group sent (act.Run i steps) deed e = subst (HearsOf group sent) (sym e) tt
-heard_by group sent (act.Release i) deed e = subst (HearsOf group sent) (sym e) tt
-heard_by group sent (act.Crash i) deed e = subst (HearsOf group sent) (sym e) tt
 heard_by group sent (act.Start i) deed (r, e) = subst (HearsOf group sent) (sym e) tt
+heard_by group sent _ deed e = subst (HearsOf group sent) (sym e) tt
 
 -- an event keeps what holds
 pub one_holds : EventLaws → {w v : World} (e : Event) (d : Done) → Holds w → Goes w e d v → Holds v

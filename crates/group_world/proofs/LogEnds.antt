@@ -82,17 +82,13 @@ module _ (after : After) where
   deed_alike p me m plan Idle a b first second = ap (λ (x : Left). x.member) (second ∙ sym first)
   deed_alike p me m plan (Start r) a b (down, read, ends) (_, _, others) = others.left ∙ sym ends.left
   deed_alike p me m plan (Hear x) a b (q, up, ends) (r, other, others) =
-      let same : r ≡ q = same_Some r q (sym other ∙ up) in
-      (rw same at others).left ∙ sym ends.left
+      (rw (same_Some r q (sym other ∙ up)) at others).left ∙ sym ends.left
   deed_alike p me m plan (Press byte) a b (q, up, low, ends) (r, other, _, others) =
-      let same : r ≡ q = same_Some r q (sym other ∙ up) in
-      (rw same at others).left ∙ sym ends.left
+      (rw (same_Some r q (sym other ∙ up)) at others).left ∙ sym ends.left
   deed_alike p me m plan Campaign a b (q, up, ends) (r, other, others) =
-      let same : r ≡ q = same_Some r q (sym other ∙ up) in
-      (rw same at others).left ∙ sym ends.left
+      (rw (same_Some r q (sym other ∙ up)) at others).left ∙ sym ends.left
   deed_alike p me m plan Tick a b (q, up, ends) (r, other, others) =
-      let same : r ≡ q = same_Some r q (sym other ∙ up) in
-      (rw same at others).left ∙ sym ends.left
+      (rw (same_Some r q (sym other ∙ up)) at others).left ∙ sym ends.left
   deed_alike p me m plan (Run steps) a b (q, up, runs, silent) (r, other, again, _) =
       let same : r ≡ q = same_Some r q (sym other ∙ up) in
       let again_so : RunsMember m q steps b.member = subst (λ (y : Running). RunsMember m y steps b.member) same again in
@@ -100,8 +96,7 @@ module _ (after : After) where
       runs.runs again_so.runs runs.replay again_so.replay in
       again_so.new_is ∙ ap (at_progress m q) one ∙ sym runs.new_is
   deed_alike p me m plan Release a b (q, up, is) (r, other, again) =
-      let same : r ≡ q = same_Some r q (sym other ∙ up) in
-      ap (λ (x : Left). x.member) ((rw same at again) ∙ sym is)
+      ap (λ (x : Left). x.member) ((rw (same_Some r q (sym other ∙ up)) at again) ∙ sym is)
   deed_alike p me m plan Crash a b (q, up, is) (r, other, again) = ap (λ (x : Left). x.member) (again ∙ sym is)
 
   -- and so do several

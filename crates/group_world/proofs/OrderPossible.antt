@@ -13,8 +13,9 @@ use Rattle.paxos_msg.specs.declared.value.Value.{Value}
 use Rattle.paxos_msg.specs.declared.value.Value.TheVariants.{Keys}
 use Rattle.paxos_msg.specs.Batches.{Body, Grew, IsTyped, Msg, Vote, Change, IsSafe, Record, Sent}
 use Rattle.paxos_msg.specs.Keys.{Key, keys_of, AreOwnKeys, batches}
-use Rattle.paxos_msg.specs.Fits.{IsValue, IsVote, IsBody, IsBallot, IsNode, AreBytes}
-use Rattle.paxos_msg.specs.Messages.{IsSaid, IsSent, kept_vote_at}
+use Rattle.paxos_msg.specs.Fits.{IsValue, IsVote, IsBallot, IsNode, AreBytes}
+use Rattle.paxos_msg.specs.Bodies.{IsBody}
+use Rattle.paxos_msg.specs.Messages.{IsPromised, IsSaid, IsSent, kept_vote_at}
 use Rattle.paxos_acceptor.specs.Records.{IsVoteBacked}
 use Rattle.paxos_learner.specs.Input.{input_of}
 use Rattle.group_node.specs.Backs.{HasPromised, IsRecordBacked}
@@ -29,16 +30,16 @@ use Rattle.group_world.specs.Member.{Member}
 use Rattle.group_node.specs.Ranges.{AllFit}
 use Rattle.group_world.proofs.WorldAsGroup.{nothing_shown, packets_read, ReadLaw, stopped}
 use Rattle.group_world.proofs.OrderLists.{left_place}
-use Rattle.std.proofs.lemmas.Bool.{eqb-true, and_parts, ltb-true}
+use Rattle.std.proofs.lemmas.Bool.{and_parts, ltb-true}
 use Rattle.paxos_msg.specs.declared.ballot.Ballot.{Ballot}
 use Rattle.paxos_msg.specs.declared.record.Change.TheVariants as change
 use Rattle.paxos_msg.specs.Chosen.{IsChosen}
 use Rattle.paxos_msg.specs.Growth.{nothing, saves, sends}
 use Rattle.paxos_msg.specs.Records.{changed, empty_record, IsSaved}
-use Rattle.paxos_msg.specs.Sending.{IsReport, IsUnproposed}
 use Rattle.paxos_msg.specs.declared.message.Group.{Group}
 use Rattle.paxos_acceptor.specs.declared.me.Me.{Me}
-use Rattle.group_node.proofs.Elements.{each_of, none_in}
+use Rattle.group_node.proofs.Elements.{each_of}
+use Rattle.group_world.proofs.ChainedSteps.{chosen_by, is_other, promised as promised_here, report, safe_by, typed_by, unproposed}
 
 -- ---- the keys, and the batches
 
@@ -72,7 +73,7 @@ ballot = record { round = 1; node = 1 }
 abbrev said_of : ℕ → Value → List Body
 said_of s v = Submit v ∷ Accept ballot s v ∷ Accepted ballot s v ∷ []
 
-abbrev pub message : Body → Msg
+abbrev message : Body → Msg
 message body = record { sender = 1; body = body }
 
 -- what was sent up to the first batch, the second, the third, and in all
@@ -126,21 +127,10 @@ kept_3 = changed kept_2 (change.Ballotted 2 ballot batch_c)
 
 -- ---- a batch is proposed, voted for and chosen
 
--- a message that proposes at a lower place, or does not propose
-abbrev IsLower : ℕ → Body → Type 0
-IsLower s (Accept b t v) = t < s
-IsLower s other = Unit {0}
-
-abbrev only_one : ℕ → Bool
-only_one i = i == 1
-
-one_of : (P : ℕ → Type 0) → P 1 → (i : ℕ) → IsTrue (only_one i) → P i
-one_of P h i e = subst P (sym (eqb-true i 1 e)) h
-
 module _ (sent : Sent) (r : Record) (s : ℕ) (v : Value) (grew : Grew 1 sent (records_of r))
     (promised : r.promised ≡ Some ballot) (place : s < 65536) (own : IsTyped typed 1 v)
     (promises : (more : Sent) → IsSent (sent ++ more) 1 (Promise ballot 0 65536 []))
-    (lower : EachOf (λ (m : Msg). IsLower s m.body) (sent ++ message (Submit v) ∷ []))
+    (others : list_all (is_other ballot s) (sent ++ message (Submit v) ∷ []) ≡ true)
     (last : (x : Sent) (m : Msg) → Contains (x ++ m ∷ []) m) where
   abbrev offered : Sent
   offered = sent ++ message (Submit v) ∷ []
@@ -151,30 +141,10 @@ module _ (sent : Sent) (r : Record) (s : ℕ) (v : Value) (grew : Grew 1 sent (r
   abbrev next : Record
   next = changed r (change.Ballotted s ballot v)
 
-  unproposed : IsUnproposed offered ballot s
-  unproposed u (i, among) =
-      let low = each_of _ offered _ lower among in
-      omega arith
-
   safe : IsSafe 1 offered ballot s v
-  safe = record {
-    members = only_one;
-    reported = λ i. None;
-    best = None;
-    majority = lit< tt;
-    promised =
-        one_of _ (record {
-          first = 0;
-          upto = 65536;
-          votes = [];
-          is_sent = promises _;
-          from_first = omega arith;
-          below_upto = place;
-          reports = refl;
-        });
-    is_best = λ i member. refl;
-    value = inr (1, last sent _);
-  }
+  safe =
+      let one : IsPromised offered 1 ballot s None = promised_here 0 65536 [] (promises _) (omega arith) place refl in
+      safe_by 1 1 1 (lit< tt) one one (1, last sent _)
 
   is_proposed : IsSaid proposed (Accept ballot s v)
   is_proposed = (1, last offered _)
@@ -184,7 +154,7 @@ module _ (sent : Sent) (r : Record) (s : ℕ) (v : Value) (grew : Grew 1 sent (r
   batch_grew vote =
       let learned : ℕ → Option Value = λ s. None in
       let g1 = sends sent _ typed learned 1 _ grew own in
-      let g2 = sends offered _ typed learned 1 (Accept ballot s v) g1 (refl, inr (unproposed, safe)) in
+      let g2 = sends offered _ typed learned 1 (Accept ballot s v) g1 (refl, inr (unproposed offered ballot s others, safe)) in
       let may : (p : Ballot) → p ≡ ballot
       → (ballot.round < p.round) ⊎ ((ballot.round ≡ p.round) × (ballot.node ≤ p.node)) =
       λ p e. inr (ap (λ (b : Ballot). b.round) (sym e), omega (arith, ap (λ (b : Ballot). b.node) e)) in
@@ -194,32 +164,15 @@ module _ (sent : Sent) (r : Record) (s : ℕ) (v : Value) (grew : Grew 1 sent (r
 
 -- ---- the three
 
--- keys that are all of the node are its own
-pub own_keys : (start first byte : ℕ) (bytes : List ℕ) → EachOf (λ k. k.node ≡ 1) (keys_of (Keys 1 start first (byte ∷ bytes)))
-    → AreOwnKeys batches 1 (Keys 1 start first (byte ∷ bytes))
-own_keys start first byte bytes each = record {
-  has_key = λ none. absurd cc;
-  at_node = λ k among. each_of (λ k. k.node ≡ 1) (keys_of (Keys 1 start first (byte ∷ bytes))) k each among;
-}
-
 -- the keys of each batch were typed at the node
 typed_a : IsTyped typed 1 batch_a
-typed_a = record {
-  own = own_keys 1 1 65 [] (refl, tt);
-  known = λ k among. each_of (Contains typed) (keys_of batch_a) k ((0, lit< tt, refl), tt) among;
-}
+typed_a = typed_by typed 1 1 1 65 [] ((0, lit< tt, refl), tt)
 
 typed_ab : IsTyped typed 1 batch_ab
-typed_ab = record {
-  own = own_keys 1 1 65 (66 ∷ []) (refl, (refl, tt));
-  known = λ k among. each_of (Contains typed) (keys_of batch_ab) k ((0, lit< tt, refl), ((1, lit< tt, refl), tt)) among;
-}
+typed_ab = typed_by typed 1 1 1 65 (66 ∷ []) ((0, lit< tt, refl), ((1, lit< tt, refl), tt))
 
 typed_c : IsTyped typed 1 batch_c
-typed_c = record {
-  own = own_keys 1 3 67 [] (refl, tt);
-  known = λ k among. each_of (Contains typed) (keys_of batch_c) k ((2, lit< tt, refl), tt) among;
-}
+typed_c = typed_by typed 1 1 3 67 [] ((2, lit< tt, refl), tt)
 
 grew_0 : Grew 1 sent_0 (records_of kept_0)
 grew_0 =
@@ -228,42 +181,36 @@ grew_0 =
     let g1 = saves [] (records_of empty_record) _ 1 change.Start g0 tt (records_saved empty_record change.Start) in
     let g2 = saves [] (records_of started_record) _ 1 (change.Promise ballot) g1 tt
     (records_saved started_record (change.Promise ballot)) in
-    let reports : IsReport kept_0 0 65536 [] =
-    record {
-      own = λ vote h. absurd (none_in vote h);
-      within = λ vote h. absurd (none_in vote h);
-      whole = λ s from below. refl;
-    } in
-    sends [] (records_of kept_0) typed learned 1 _ g2 (refl, reports)
+    sends [] (records_of kept_0) typed learned 1 _ g2 (refl, report kept_0 [] 0 65536 refl tt)
 
 grew_1 : Grew 1 sent_1 (records_of kept_1)
 grew_1 =
-    batch_grew sent_0 kept_0 0 batch_a grew_0 refl (omega arith) typed_a (λ more. (0, omega arith, refl)) (tt, (tt, tt))
+    batch_grew sent_0 kept_0 0 batch_a grew_0 refl (omega arith) typed_a (λ more. (0, omega arith, refl)) refl
     (λ x m. Contains-push x m) refl
 
 grew_2 : Grew 1 sent_2 (records_of kept_2)
 grew_2 =
-    batch_grew sent_1 kept_1 1 batch_ab grew_1 refl (omega arith) typed_ab (λ more. (0, omega arith, refl))
-    (tt, (tt, (omega arith, (tt, (tt, tt))))) (λ x m. Contains-push x m) refl
+    batch_grew sent_1 kept_1 1 batch_ab grew_1 refl (omega arith) typed_ab (λ more. (0, omega arith, refl)) refl
+    (λ x m. Contains-push x m) refl
 
 grew_3 : Grew 1 sent_3 (records_of kept_3)
 grew_3 =
-    batch_grew sent_2 kept_2 2 batch_c grew_2 refl (omega arith) typed_c (λ more. (0, omega arith, refl))
-    (tt, (tt, (omega arith, (tt, (tt, (omega arith, (tt, (tt, tt)))))))) (λ x m. Contains-push x m) refl
+    batch_grew sent_2 kept_2 2 batch_c grew_2 refl (omega arith) typed_c (λ more. (0, omega arith, refl)) refl
+    (λ x m. Contains-push x m) refl
 
 -- ---- what is chosen
 
 -- the index of the message that says that it is accepted
-chosen_by : (s : ℕ) (v : Value) → Contains sent_3 (message (Accepted ballot s v)) → IsChosen 1 sent_3 s v
-chosen_by s v among = (ballot, (only_one, lit< tt, one_of _ among))
+accepted_in : (s : ℕ) (v : Value) → Contains sent_3 (message (Accepted ballot s v)) → IsChosen 1 sent_3 s v
+accepted_in s v among = (ballot, chosen_by sent_3 ballot s v 1 1 1 (lit< tt) among among)
 
 abbrev chosen_values : List Value
 chosen_values = batch_a ∷ batch_ab ∷ batch_c ∷ []
 
 chosen_at : (s : ℕ) (v : Value) → slice_get chosen_values s ≡ Some v → IsChosen 1 sent_3 s v
-chosen_at zero v e = subst (IsChosen 1 sent_3 0) (same_Some _ v e) (chosen_by 0 batch_a (3, lit< tt, refl))
-chosen_at (suc zero) v e = subst (IsChosen 1 sent_3 1) (same_Some _ v e) (chosen_by 1 batch_ab (6, lit< tt, refl))
-chosen_at (suc (suc zero)) v e = subst (IsChosen 1 sent_3 2) (same_Some _ v e) (chosen_by 2 batch_c (9, lit< tt, refl))
+chosen_at zero v e = subst (IsChosen 1 sent_3 0) (same_Some _ v e) (accepted_in 0 batch_a (3, lit< tt, refl))
+chosen_at (suc zero) v e = subst (IsChosen 1 sent_3 1) (same_Some _ v e) (accepted_in 1 batch_ab (6, lit< tt, refl))
+chosen_at (suc (suc zero)) v e = subst (IsChosen 1 sent_3 2) (same_Some _ v e) (accepted_in 2 batch_c (9, lit< tt, refl))
 chosen_at (suc (suc (suc s))) v e = absurd cc
 
 all_chosen : AreChosen 1 sent_3 chosen_values
@@ -274,7 +221,7 @@ two_chosen = record { chosen = λ s v e. chosen_at s v (left_place (batch_a ∷ 
 
 -- ---- the messages have spellings
 
-abbrev pub group : Group
+abbrev group : Group
 group = record { size = 1; session = 0 }
 
 abbrev pub me : Me
@@ -310,7 +257,7 @@ fits_c : IsValue 1 batch_c
 fits_c = value_fits 3 (67 ∷ []) (omega arith) (omega arith) (omega arith) (omega arith) refl
 
 -- the packet fits the node
-abbrev pub FitsHere : Packet → Type 0
+abbrev FitsHere : Packet → Type 0
 FitsHere packet = IsBody 1 1 packet.body
 
 -- the packets of a batch, before others
@@ -324,11 +271,6 @@ all_fit = All-from_recursion FitsHere packets (
   batch_fits 0 batch_a (omega arith) fits_a typed_a.own
       (batch_fits 1 batch_ab (omega arith) fits_ab typed_ab.own (batch_fits 2 batch_c (omega arith) fits_c typed_c.own tt)),
 )
-
--- packets that fit have spellings, which are read as the messages that the node sends
-pub fit_read : ReadLaw → (ps : List Packet) → AllFit me ps → All (IsSpelling group) (datagrams_of me ps)
-    × (messages_in group (datagrams_of me ps) ≡ messages_handed_out 1 ps)
-fit_read read = packets_read read me (omega arith) node_fits
 
 -- ---- what each message says
 
@@ -451,7 +393,7 @@ typed_apart =
 module _ (read : ReadLaw) where
   all_read : All (IsSpelling group) (datagrams_of me packets)
       × (messages_in group (datagrams_of me packets) ≡ messages_handed_out 1 packets)
-  all_read = fit_read read packets all_fit
+  all_read = packets_read read me (omega arith) node_fits packets all_fit
 
   sent_is : messages_in group (datagrams_of me packets) ≡ sent_3
   sent_is = all_read.1

@@ -153,20 +153,6 @@ module _ (laws : PlayLaws) {w : World} (h : IsSound w) where
       let shown = (h.members i m there).shown in
       chosen_output shown.values x m.console shown.chosen chosen shown.output
 
-  -- the next byte that a node releases is one of what its machine has written, and its console is
-  -- comparable with that
-  pub offer_fits : {i : ℕ} {m : Member} {q : Running} (up : IsUp w i m q) (byte : ℕ)
-      → slice_get (written q) q.progress.released ≡ Some byte → IsOffer m.console (written q) q.progress.released byte
-  offer_fits {i} {m} {q} up byte e =
-      let (x, chosen) = laws.there w.group.size _ in
-      let sound = running h up in
-      let output : IsOutput w.program (input q.known) (written q) =
-      (q.progress.steps, rw sound.program (record { rest = []; whole = sym (append-nil _) })) in
-      let compare =
-      laws.compared w.program x x m.console (written q) (inl (laws.itself x)) (console_output i m x up.there chosen)
-      (chosen_output _ x (written q) (front_chosen laws.fronts sound.learned) chosen output) in
-      record { compare = compare; begins = laws.shorter m.console (written q) compare; shown = sound.shown; byte = e }
-
   -- its console is comparable with what its machine has written
   console_compares : {i : ℕ} {m : Member} {q : Running} → IsUp w i m q → AreComparable m.console (written q)
   console_compares {i} {m} {q} up =
@@ -176,6 +162,13 @@ module _ (laws : PlayLaws) {w : World} (h : IsSound w) where
       (q.progress.steps, rw sound.program (record { rest = []; whole = sym (append-nil _) })) in
       laws.compared w.program x x m.console (written q) (inl (laws.itself x)) (console_output i m x up.there chosen)
       (chosen_output _ x (written q) (front_chosen laws.fronts sound.learned) chosen output)
+
+  -- the next byte that a node releases is one of what its machine has written
+  pub offer_fits : {i : ℕ} {m : Member} {q : Running} (up : IsUp w i m q) (byte : ℕ)
+      → slice_get (written q) q.progress.released ≡ Some byte → IsOffer m.console (written q) q.progress.released byte
+  offer_fits {m = m} {q} up byte e =
+      let compare = console_compares up in
+      record { compare = compare; begins = laws.shorter m.console (written q) compare; shown = (running h up).shown; byte = e }
 
 -- comparable lists begin alike
 first_alike : (a b : List ℕ) (k : ℕ) → AreComparable a b → k ≤ length a → k ≤ length b → take k b ≡ take k a

@@ -12,12 +12,7 @@ use Rattle.group_node.specs.Deeds.{Deed, Hear}
 use Rattle.group_world.specs.Processes.{IsCarried, sent_in}
 use Rattle.group_world.specs.Event.{HearsOf}
 use Rattle.group_world.specs.Timed.{AllHearEarlier, HearsEarlier, IsByTime, Timed, untimed}
-use Rattle.group_node.proofs.Elements.{in_cases, none_in}
-
--- each element has what all have
-all_has : {X : Type 0} (P : X → Type 0) (xs : List X) (y : X) → AllByRecursion P xs → Contains xs y → P y
-all_has P [] y all h = absurd (none_in y h)
-all_has P (x ∷ xs) y all h = elim (in_cases x xs y h) [ inl e ↦ subst P e all.0 | inr later ↦ all_has P xs y all.1 later ]
+use Rattle.group_node.proofs.Elements.{each_of, in_cases, none_in}
 
 module _ (group : Group) where
   -- a message of an entry is one of all that were sent
@@ -47,7 +42,7 @@ module _ (group : Group) where
       where
         not_later : (x ≡ y) ⊎ Contains rest y → ⊥
         not_later (inl e) = let same = ap (λ (z : Timed). z.time) e in omega arith
-        not_later (inr h) = let least : x.time ≤ y.time = all_has (λ z. x.time ≤ z.time) rest y later h in omega arith
+        not_later (inr h) = let least : x.time ≤ y.time = each_of (λ z. x.time ≤ z.time) rest y later h in omega arith
 
     one_heard : (front rest : List Timed) (x : Timed) (deed : Deed) → AllByRecursion (λ z. x.time ≤ z.time) rest
         → HearsEarlier group (front ++ x ∷ rest) x.time deed → HearsOf group (before front) deed

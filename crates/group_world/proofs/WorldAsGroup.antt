@@ -12,10 +12,10 @@ use Rattle.paxos_msg.specs.Records.{empty_record}
 use Rattle.paxos_msg.specs.declared.message.Group.{Group}
 use Rattle.paxos_msg.specs.declared.value.Value.{Value}
 use Rattle.paxos_msg.specs.Batches.{Msg, Record, Sent}
-use Rattle.paxos_msg.specs.Fits.{IsBody, IsNode, IsGroup}
+use Rattle.paxos_msg.specs.Bodies.{IsBody}
+use Rattle.paxos_msg.specs.Fits.{IsNode, IsGroup}
 use Rattle.paxos_msg.specs.Keys.{keys_of}
-use Rattle.paxos_msg.specs.Reading.{message_at}
-use Rattle.paxos_msg.specs.Spelling.{Msgs}
+use Rattle.paxos_msg.specs.Datagrams.{message_at, Msgs}
 use Rattle.paxos_acceptor.specs.declared.me.Me.{Me}
 use Rattle.group_node.specs.Packets.{Packet, datagram_of, datagrams_of}
 use Rattle.group_node.specs.Ranges.{AllFit}
@@ -153,7 +153,7 @@ called_state read w i m made progress keys e session node fits = λ t. record {
 abbrev pub SoundAt : World → ℕ → Member → Type 0
 SoundAt w i m = IsMemberSound w.program (me_of w i) (world_state w).sent (world_state w).typed m
 
-abbrev RunsAt : World → ℕ → Member → Running → Type 0
+abbrev pub RunsAt : World → ℕ → Member → Running → Type 0
 RunsAt w i m q = IsRunningSound w.program (me_of w i) (world_state w).sent (world_state w).typed m.kept m.console q
 
 -- a node that is up

@@ -4,18 +4,19 @@ use Rattle.std.proofs.Common.{◌≡◌, ℕ, ◌+◌, ◌<◌, List, [], ◌∷
 use Rattle.std.proofs.lemmas.List.Elements.{All-from_recursion}
 use Rattle.std.specs.List.{AllByRecursion}
 use Rattle.pcode_file.specs.Parts.{Parts}
-use Rattle.paxos_msg.specs.declared.message.Body.TheVariants.{Ask, Prepare, Promise}
+use Rattle.paxos_msg.specs.declared.message.Body.TheVariants.{Ask, Prepare}
 use Rattle.paxos_msg.specs.declared.record.Change.TheVariants as change
 use Rattle.paxos_msg.specs.declared.value.Value.TheVariants.{Keys}
 use Rattle.paxos_msg.specs.Batches.{Body, Record}
-use Rattle.paxos_msg.specs.Fits.{IsBody, IsGroup, IsNode}
+use Rattle.paxos_msg.specs.Bodies.{IsBody}
+use Rattle.paxos_msg.specs.Fits.{IsGroup, IsNode}
 use Rattle.paxos_acceptor.specs.declared.me.Me.{Me}
 use Rattle.paxos_proposer.specs.Proposer.{new_proposer}
 use Rattle.paxos_learner.specs.Learner.{new_learner}
 use Rattle.group_node.specs.Deeds.{Campaign, Crash, Tick}
 use Rattle.group_node.specs.Known.{Known, Response, on_start}
 use Rattle.group_node.specs.Output.{Progress, no_progress}
-use Rattle.group_node.specs.Packets.{Packet, datagrams_of, to_all, to_one}
+use Rattle.group_node.specs.Packets.{Packet, datagrams_of, to_all}
 use Rattle.group_node.specs.Protocol.{on_message}
 use Rattle.group_node.specs.Steps.{messages_handed_out}
 use Rattle.group_node.specs.Tick.{on_tick}
@@ -26,8 +27,7 @@ use Rattle.group_world.specs.declared.event.Done.TheVariants.{Applied}
 use Rattle.group_world.specs.Event.{HearsOf}
 use Rattle.group_world.proofs.CallLeaves.{kept_call}
 use Rattle.group_world.specs.WrittenLogs.{entry_with, first_ballot, hear_entry, press_entry, quiet_entry, start_after, started_times}
-use Rattle.group_world.proofs.ProcessEvents.{log_first, moved}
-use Rattle.group_world.proofs.EventProcesses.{log_before, no_log}
+use Rattle.group_world.proofs.ProcessEvents.{log_before, log_first, moved, no_log}
 use Rattle.group_world.proofs.WorldAsGroup.{ReadLaw, packets_read, stopped}
 use Rattle.group_node.proofs.Elements.{entries_none}
 
@@ -80,6 +80,15 @@ pub start_does : (p : Parts) (me : Me) (n : ℕ) → Spare me n
 start_does p me n spare =
     (Applied, (refl, refl, kept_call me (stopped (started_times n)) (no_progress p) _ (on_start me (started_times n)) [] spare))
 
+-- a node that has heard nothing ticks, and hears another ask
+pub ticks_so : (me : Me) (kept : Record)
+    → on_tick (fresh me kept) ≡ record { node = fresh me kept; saves = None; sends = to_all (Ask 0) ∷ [] }
+ticks_so me kept = rw entries_none refl
+
+pub tells_so : (me : Me) (kept : Record) (other : ℕ)
+    → on_message (fresh me kept) other (Ask 0) ≡ record { node = fresh me kept; saves = None; sends = [] }
+tells_so me kept other = rw entries_none refl
+
 module _ (p : Parts) (me : Me) (kept : Record) (progress : Progress) (console : List ℕ) where
   -- a node that has heard nothing ticks
   pub tick_does : DoesEntry p me (up (fresh me kept) progress console) (entry_with me Tick (to_all (Ask 0) ∷ []))
@@ -90,12 +99,9 @@ module _ (p : Parts) (me : Me) (kept : Record) (progress : Progress) (console : 
       _,
       refl,
       kept_call me (up (fresh me kept) progress console) progress _
-          (record { node = fresh me kept; saves = None; sends = to_all (Ask 0) ∷ [] }) [] (ap (λ made. Makes made []) ticks),
+          (record { node = fresh me kept; saves = None; sends = to_all (Ask 0) ∷ [] }) [] (ap (λ made. Makes made []) (ticks_so me kept)),
     ),
   )
-    where
-      ticks : on_tick (fresh me kept) ≡ record { node = fresh me kept; saves = None; sends = to_all (Ask 0) ∷ [] }
-      ticks = rw entries_none refl
 
   -- it takes a byte
   pub press_does : (byte : ℕ) → byte < 256
@@ -113,15 +119,6 @@ module _ (p : Parts) (me : Me) (kept : Record) (progress : Progress) (console : 
     ),
   )
 
-  -- it hears another ask, and tells nothing
-  pub ask_does : (other : ℕ) → DoesEntry p me (up (fresh me kept) progress console)
-      (hear_entry me other (Ask 0) []) (up (fresh me kept) progress console)
-  ask_does other =
-      hear_does p me (fresh me kept) progress console other (Ask 0) (record { node = fresh me kept; saves = None; sends = [] }) tells
-    where
-      tells : on_message (fresh me kept) other (Ask 0) ≡ record { node = fresh me kept; saves = None; sends = [] }
-      tells = rw entries_none refl
-
   -- it crashes
   pub crash_does : (n : Known) → DoesEntry p me (up n progress console) (quiet_entry me Crash)
       (record { kept = n.kept; console = console; node = None })
@@ -135,34 +132,28 @@ abbrev pub asking : Me → ℕ → Known
 asking me starts =
     record (fresh me (promised starts me.node)) { proposer = Some (new_proposer (first_ballot me.node) 0 me.group.size) }
 
-module _ (p : Parts) (me : Me) (starts : ℕ) (progress : Progress) (console : List ℕ) where
-  abbrev prepares : Response
-  prepares = record {
-    node = asking me starts;
-    saves = Some (change.Promise (first_ballot me.node));
-    sends = to_all (Prepare (first_ballot me.node) 0) ∷ [];
-  }
+-- a node that has heard nothing campaigns
+abbrev pub prepares : Me → ℕ → Response
+prepares me starts = record {
+  node = asking me starts;
+  saves = Some (change.Promise (first_ballot me.node));
+  sends = to_all (Prepare (first_ballot me.node) 0) ∷ [];
+}
 
-  -- a node that has heard nothing campaigns
+pub campaigns_so : (me : Me) (starts : ℕ) → call_of_campaign (fresh me (started_times starts)) ≡ Makes (prepares me starts) []
+campaigns_so me starts = rw entries_none refl
+
+module _ (p : Parts) (me : Me) (starts : ℕ) (progress : Progress) (console : List ℕ) where
   pub campaign_does : DoesEntry p me (up (fresh me (started_times starts)) progress console)
       (entry_with me Campaign (to_all (Prepare (first_ballot me.node) 0) ∷ [])) (up (asking me starts) progress console)
-  campaign_does =
-      (Applied, (_, refl, kept_call me (up (fresh me (started_times starts)) progress console) progress _ prepares [] campaigns))
-    where
-      campaigns : call_of_campaign (fresh me (started_times starts)) ≡ Makes prepares []
-      campaigns = rw entries_none refl
-
-  -- it hears a Prepare, and promises
-  pub promise_does : (other : ℕ) → DoesEntry p me (up (fresh me (started_times starts)) progress console)
-      (hear_entry me other (Prepare (first_ballot other) 0) (to_one other (Promise (first_ballot other) 0 65536 []) ∷ []))
-      (up (fresh me (promised starts other)) progress console)
-  promise_does other =
-      hear_does p me (fresh me (started_times starts)) progress console other (Prepare (first_ballot other) 0)
-      (record {
-        node = fresh me (promised starts other);
-        saves = Some (change.Promise (first_ballot other));
-        sends = to_one other (Promise (first_ballot other) 0 65536 []) ∷ [];
-      }) refl
+  campaign_does = (
+    Applied,
+    (
+      _,
+      refl,
+      kept_call me (up (fresh me (started_times starts)) progress console) progress _ (prepares me starts) [] (campaigns_so me starts),
+    ),
+  )
 
 -- ---- what was sent
 

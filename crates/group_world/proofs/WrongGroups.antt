@@ -28,7 +28,7 @@ use Rattle.group_world.specs.Processes.{ConsolesShowReleased}
 use Rattle.group_node.specs.WrongSteps.{ballot_by, no_code, ninth_key, up_learned, up_written}
 use Rattle.group_node.proofs.Elements.{each_of, minority}
 use Rattle.group_world.specs.Witness.{letter_program}
-use Rattle.group_world.proofs.ConsolesMayShow.{writes_letter}
+use Rattle.group_world.proofs.SmallPrograms.{writes_letter, written_by}
 use Rattle.group_world.specs.WrongGroups.{accepts_at, apart_consoles, chosen_three, five_accept, forty_and, bare, late_unchosen, late_untyped, late_values, learned_late, letters_shown, ninth_written, seventh_key, third_keys, three_of_nine, three_written}
 
 -- ---- what was learned
@@ -141,15 +141,11 @@ ended : (x : List ℕ) → transition letter_program x (after_steps letter_progr
 unfolding after_steps instr_of
 ended x = refl
 
--- a step more, and what is written so far
+-- a step more
 one_more : (x : List ℕ) (n : ℕ) → after_steps letter_program x (suc n)
     ≡ led (after_steps letter_program x n) (transition letter_program x (after_steps letter_program x n))
 unfolding after_steps
 one_more x n = refl
-
-pub written_by : (x : List ℕ) (n : ℕ) → out letter_program x n ≡ (after_steps letter_program x n).output
-unfolding out
-written_by x n = refl
 
 -- and stays as it is
 still : (x : List ℕ) (n : ℕ) → after_steps letter_program x n ≡ after_steps letter_program x 10
@@ -167,7 +163,8 @@ stays x (suc n) from = elim (cases_eq (suc n) 10) [
 
 output_stays : (x : List ℕ) (n : ℕ) → 10 ≤ n → out letter_program x n ≡ 65 ∷ []
 output_stays x n from =
-    written_by x n ∙ ap (λ (c : Configuration). c.output) (stays x n from) ∙ sym (written_by x 10) ∙ ten_steps x
+    written_by letter_program x n ∙ ap (λ (c : Configuration). c.output) (stays x n from)
+    ∙ sym (written_by letter_program x 10) ∙ ten_steps x
 
 one_letter : OutputLaws → (x : List ℕ) (n : ℕ) → length (out letter_program x n) ≤ 1
 one_letter laws x n = elim (le_or_above n) [

@@ -26,12 +26,12 @@ use Rattle.group_world.specs.Group.{World, me_of, member_at, messages_in, new_wo
 use Rattle.group_world.specs.Member.{IsMemberUp, Makes, Member, Running, RunsMember, call_outcome, call_of_press, sent_by, typed_by}
 use Rattle.group_world.specs.Processes.{AreEventsOf, AreEventsOfEntry, DoesEntry, Entry, IsLog}
 use Rattle.group_world.specs.Timed.{AllHearEarlier, IsByTime, Timed}
-use Rattle.group_world.specs.WrittenLogs.{IsNoLog, IsSomeLog, entry_with, first_ballot, five_nodes, hear_entry, nine_nodes, node_in, quiet_entry, start_after, started_times, three_nodes}
+use Rattle.group_world.specs.WrittenLogs.{IsNoLog, IsSomeLog, entry_with, first_ballot, five_nodes, nine_nodes, node_in, quiet_entry, start_after, started_times, three_nodes}
 use Rattle.group_world.specs.WrongLogs.{IsOnlyOfUp, answers, campaigning, asks_all, crashes, deliver_event, failed_and_starts_over, heard_at, hears_ask_from, idle_sends, idle_types, nodes_down, only_start, press_event, press_types, presses, releasing, run_sends, starts_again_over, starts_twice, tick_sends, ticks, two_start}
-use Rattle.group_world.proofs.ProcessEvents.{log_first, moved}
-use Rattle.group_world.proofs.EventProcesses.{no_log}
+use Rattle.group_world.proofs.LoggedRuns.{◌▸◌, Ran, campaigns, crashes as falls, fails, hears, starts, stop, ticks as sends}
+use Rattle.group_world.proofs.ProcessEvents.{log_first, moved, no_log}
 use Rattle.group_world.proofs.WorldAsGroup.{ReadLaw, changed_here, stopped}
-use Rattle.group_world.proofs.WrittenLogs.{Logs, after_start, asking, campaign_does, crash_does, fresh, logs_before, logs_none, press_does, ask_does, promise_does, sent_read, start_does, started, tick_does, up}
+use Rattle.group_world.proofs.WrittenLogs.{Logs, after_start, campaign_does, campaigns_so, crash_does, fresh, logs_before, logs_none, prepares, press_does, sent_read, start_does, started, tells_so, tick_does, ticks_so, up}
 use Rattle.group_node.proofs.Elements.{first_in, in_cases, none_in}
 
 -- ---- nodes that are up and down
@@ -46,6 +46,17 @@ start_first : (p : Parts) (w : World) (i : ℕ) (log : List Entry) → w.program
 start_first p w i log is there rest =
     logs_before w (start_after (me_of w i) 0) log (stopped (started_times 0)) (first_up w.program (me_of w i)) there
     (start_does w.program (me_of w i) 0 refl) tt rest
+
+-- an entry after the first start of its node
+second : (group : Group) (i : ℕ) (p : Parts) (now : List Member) (e : Entry) (log : List Entry)
+    → IsLog (new_world p group) (start_after (node_in group i) 0 ∷ e ∷ log) now → e.node ≡ i
+    → member_at (new_world p group).members i ≡ Some (stopped (started_times 0))
+    → (new : Member) × DoesEntry p (node_in group e.node) (first_up p (node_in group i)) e new
+    × IsLog (moved (started (new_world p group) i) e new) log now
+second group i p now e log h own there =
+    let w : World = new_world p group in
+    let up_there = changed_here w.members i _ (first_up p (node_in group i)) there in
+    log_first (started w i) e log now (first_up p (node_in group i)) (rw own up_there) (after_start w i (e ∷ log) now there h)
 
 -- an entry of a node that has to be up
 module _ (group : Group) (e : Entry) (there : (p : Parts) → member_at (new_world p group).members e.node ≡ Some (stopped (started_times 0)))
@@ -66,9 +77,8 @@ module _ (group : Group) (e : Entry) (there : (p : Parts) → member_at (new_wor
       let w : World = new_world p group in
       let u : Member = first_up p (node_in group e.node) in
       let crash : Entry = quiet_entry (node_in group e.node) Crash in
-      let up_there : member_at (started w e.node).members e.node ≡ Some u = changed_here w.members e.node _ u (there p) in
-      let (down, does, rest) = log_first (started w e.node) crash (e ∷ []) now u up_there (after_start w e.node _ now (there p) h) in
-      let down_there = changed_here (started w e.node).members e.node u down up_there in
+      let (down, does, rest) = second group e.node p now crash (e ∷ []) h refl (there p) in
+      let down_there = changed_here (started w e.node).members e.node u down (changed_here w.members e.node _ u (there p)) in
       not_when_down p (moved (started w e.node) crash down) now down refl refl down_there (ap (λ (x : Left). x.member.node) does.1.2) rest
 
   -- and that is one right after a start
@@ -111,10 +121,7 @@ crashes_only_up =
 
 pub not_twice : IsNoLog nine_nodes starts_twice
 not_twice p now h =
-    let w : World = new_world p nine_nodes in
-    let rest = after_start w 8 _ now refl h in
-    let (new, does, more) = log_first (started w 8) (start_after (node_in nine_nodes 8) 1) [] now (first_up p (node_in nine_nodes 8)) refl
-    rest in
+    let (new, does, more) = second nine_nodes 8 p now _ _ h refl refl in
     let down = does.1.0 in
     absurd cc
 
@@ -142,19 +149,19 @@ module _ (read : ReadLaw) where
   heard_after : Contains (messages_in five_nodes campaigning.sent) prepared
   heard_after = subst (λ ms. Contains ms prepared) (sym asks_read) (first_in prepared [])
 
+  first_message : slice_get (messages_in five_nodes campaigning.sent) 0 ≡ Some prepared
+  first_message = ap (λ ms. slice_get ms 0) asks_read
+
   pub after_it : IsSomeLog five_nodes (two_start (campaigning ∷ answers ∷ []))
   after_it p =
-      let w : World = new_world p five_nodes in
-      let one : World = started w 2 in
-      let two : World = started one 4 in
-      let campaigned = up (asking (node_in five_nodes 2) 1) (no_progress p) [] in
-      let asked : World = moved two campaigning campaigned in
-      start_first p w 2 _ refl refl
-      (start_first p one 4 _ refl refl
-      (logs_before two campaigning _ (first_up p (node_in five_nodes 2)) campaigned refl
-      (campaign_does p (node_in five_nodes 2) 1 (no_progress p) []) tt
-      (logs_before asked answers [] (first_up p (node_in five_nodes 4)) _ refl
-      (promise_does p (node_in five_nodes 4) 1 (no_progress p) [] 2) heard_after (logs_none _))))
+      let second : Me = node_in five_nodes 2 in
+      let run : Ran (new_world p five_nodes) _ =
+      starts 2 0 refl refl
+      ▸ starts 4 0 refl refl
+      ▸ campaigns 2 (fresh second (started_times 1)) refl (prepares second 1) (campaigns_so second 1)
+      ▸ hears 4 (fresh (node_in five_nodes 4) (started_times 1)) refl 0 2 (Prepare (first_ballot 2) 0) _ first_message refl
+      ▸ stop in
+      (run.now, run.lasts.0)
 
   -- what node 8 asked
   ask_read : messages_in nine_nodes asks_all.sent ≡ asked_from 0 ∷ []
@@ -171,17 +178,15 @@ module _ (read : ReadLaw) where
 
   pub somebody_sent : IsSomeLog nine_nodes (hears_ask_from 0)
   somebody_sent p =
-      let w : World = new_world p nine_nodes in
-      let one : World = started w 8 in
-      let two : World = moved one asks_all (first_up p (node_in nine_nodes 8)) in
-      let heard : Contains (messages_in nine_nodes asks_all.sent) (asked_from 0) =
-      subst (λ ms. Contains ms (asked_from 0)) (sym ask_read) (first_in (asked_from 0) []) in
-      start_first p w 8 _ refl refl
-      (logs_before one asks_all _ (first_up p (node_in nine_nodes 8)) _ refl
-      (tick_does p (node_in nine_nodes 8) (started_times 1) (no_progress p) []) tt
-      (start_first p two 3 _ refl refl
-      (logs_before (started two 3) (hear_entry (node_in nine_nodes 3) 8 (Ask 0) []) [] (first_up p (node_in nine_nodes 3)) _ refl
-      (ask_does p (node_in nine_nodes 3) (started_times 1) (no_progress p) [] 8) heard (logs_none _))))
+      let eighth : Me = node_in nine_nodes 8 in
+      let third : Me = node_in nine_nodes 3 in
+      let run : Ran (new_world p nine_nodes) _ =
+      starts 8 0 refl refl
+      ▸ sends 8 (fresh eighth (started_times 1)) refl _ (ticks_so eighth (started_times 1))
+      ▸ starts 3 0 refl refl
+      ▸ hears 3 (fresh third (started_times 1)) refl 0 8 (Ask 0) _ (ap (λ ms. slice_get ms 0) ask_read) (tells_so third (started_times 1) 8)
+      ▸ stop in
+      (run.now, run.lasts.0)
 
   -- ---- times
 
@@ -212,24 +217,18 @@ is_out_of_order time low h = let least = h.0.0 in omega arith
 
 pub not_older : IsNoLog nine_nodes (starts_again_over 0)
 not_older p now h =
-    let w : World = new_world p nine_nodes in
     let me = node_in nine_nodes 5 in
-    let rest = after_start w 5 _ now refl h in
-    let (down, crashed, more) = log_first (started w 5) (quiet_entry me Crash) (start_after me 0 ∷ []) now (first_up p me) refl rest in
-    let (new, does, last) = log_first (moved (started w 5) (quiet_entry me Crash) down) (start_after me 0) [] now down refl more in
+    let (down, crashed, more) = second nine_nodes 5 p now (quiet_entry me Crash) (start_after me 0 ∷ []) h refl refl in
+    let (new, does, last) =
+    log_first (moved (started (new_world p nine_nodes) 5) (quiet_entry me Crash) down) (start_after me 0) [] now down refl more in
     let same = ap (λ (r : Record). r.starts) (does.1.1 ∙ ap (λ (x : Left). x.member.kept) crashed.1.2) in
     omega arith
 
 pub its_own : IsSomeLog nine_nodes (starts_again_over 1)
 its_own p =
-    let w : World = new_world p nine_nodes in
-    let me = node_in nine_nodes 5 in
-    let crash : Entry = quiet_entry me Crash in
-    let two : World = moved (started w 5) crash (stopped (started_times 1)) in
-    start_first p w 5 _ refl refl
-    (logs_before (started w 5) crash _ (first_up p me) (stopped (started_times 1)) refl
-    (crash_does p me (started_times 1) (no_progress p) [] (fresh me (started_times 1))) tt
-    (logs_before two (start_after me 1) [] (stopped (started_times 1)) _ refl (start_does p me 1 refl) tt (logs_none _)))
+    let run : Ran (new_world p nine_nodes) _ =
+    starts 5 0 refl refl ▸ falls 5 (fresh (node_in nine_nodes 5) (started_times 1)) refl ▸ starts 5 1 refl refl ▸ stop in
+    (run.now, run.lasts.0)
 
 pub not_before_failure : IsNoLog nine_nodes (failed_and_starts_over 0)
 not_before_failure p now h =
@@ -243,13 +242,12 @@ not_before_failure p now h =
 
 pub after_failure : IsSomeLog nine_nodes (failed_and_starts_over 1)
 after_failure p =
-    let w : World = new_world p nine_nodes in
-    let me = node_in nine_nodes 5 in
-    let fails : Entry = record (start_after me 0) { save = FailedNew } in
-    logs_before w fails _ (stopped (started_times 0)) (stopped (started_times 1)) refl
-    (Fell, (refl, refl, record { answer = refl; left = refl; sends = refl; types = refl })) tt
-    (logs_before (moved w fails (stopped (started_times 1))) (start_after me 1) [] (stopped (started_times 1)) _ refl
-    (start_does p me 1 refl) tt (logs_none _))
+    let run : Ran (new_world p nine_nodes) _ =
+    fails 5 0 FailedNew (stopped (started_times 1)) refl
+    (Fell, (refl, refl, record { answer = refl; left = refl; sends = refl; types = refl }))
+    ▸ starts 5 1 refl refl
+    ▸ stop in
+    (run.now, run.lasts.0)
 
 -- ---- nodes of a group
 
@@ -294,8 +292,7 @@ does_nothing p =
 
 pub run_sends_none : IsNoLog five_nodes (run_sends (to_all (Ask 0) ∷ []))
 run_sends_none p now h =
-    let rest = after_start (new_world p five_nodes) 5 _ now refl h in
-    let (new, does, more) = log_first (started (new_world p five_nodes) 5) _ [] now (first_up p (node_in five_nodes 5)) refl rest in
+    let (new, does, more) = second five_nodes 5 p now _ _ h refl refl in
     let none = ap (λ (x : Left). x.sent) does.1.3 in
     absurd cc
 
@@ -320,10 +317,8 @@ runs_on begins p =
 one_is_sent : (p : Parts) (now : List Member) (packets : List Packet) → IsLog (new_world p nine_nodes) (tick_sends packets) now
     → (d : Datagram) × (datagrams_of (node_in nine_nodes 7) packets ≡ d ∷ [])
 one_is_sent p now packets h =
-    let w : World = new_world p nine_nodes in
     let me = node_in nine_nodes 7 in
-    let rest = after_start w 7 _ now refl h in
-    let (new, (d, (q, is, ends)), more) = log_first (started w 7) (entry_with me Tick packets) [] now (first_up p me) refl rest in
+    let (new, (d, (q, is, ends)), more) = second nine_nodes 7 p now (entry_with me Tick packets) [] h refl refl in
     let same = same_Some _ q is in
     let Sends : Running → Type 0 =
     λ x. datagrams_of me packets ≡ sent_by me (call_outcome None (started_times 1) (Makes (on_tick x.known) [])) in
@@ -345,9 +340,7 @@ sends_once p now h =
 
 pub no_256 : IsNoLog nine_nodes (press_types 256 1)
 no_256 p now h =
-    let w : World = new_world p nine_nodes in
-    let rest = after_start w 9 _ now refl h in
-    let (new, does, more) = log_first (started w 9) _ [] now (first_up p (node_in nine_nodes 9)) refl rest in
+    let (new, does, more) = second nine_nodes 9 p now _ _ h refl refl in
     let low = does.1.2 in
     omega arith
 
@@ -356,10 +349,7 @@ serial_is a b e = cc
 
 pub first_is_one : IsNoLog nine_nodes (press_types 255 2)
 first_is_one p now h =
-    let w : World = new_world p nine_nodes in
-    let me = node_in nine_nodes 9 in
-    let rest = after_start w 9 _ now refl h in
-    let (new, (d, (q, is, low, ends)), more) = log_first (started w 9) _ [] now (first_up p me) refl rest in
+    let (new, (d, (q, is, low, ends)), more) = second nine_nodes 9 p now _ _ h refl refl in
     let same = same_Some _ q is in
     let Types : Running → Type 0 =
     λ x. Keys 9 1 2 (255 ∷ []) ∷ [] ≡ typed_by (call_outcome None (started_times 1) (call_of_press x.known 255)) in
@@ -425,12 +415,9 @@ no_idle_event h =
     absurd cc
 
 module _ (read : ReadLaw) where
-  first_message : slice_get (messages_in five_nodes campaigning.sent) 0 ≡ Some prepared
-  first_message = ap (λ ms. slice_get ms 0) (asks_read read)
-
   pub its_delivery : AreEventsOf five_nodes campaigning.sent (answers ∷ []) (deliver_event 0)
   its_delivery =
-      to_one_entry five_nodes campaigning.sent answers (deliver_event 0) ((prepared, first_message, refl), refl, refl, refl)
+      to_one_entry five_nodes campaigning.sent answers (deliver_event 0) ((prepared, first_message read, refl), refl, refl, refl)
 
   pub no_other_message : ¬ AreEventsOf five_nodes campaigning.sent (answers ∷ []) (deliver_event 1)
   no_other_message h =

@@ -7,7 +7,7 @@ use Rattle.paxos_msg.specs.declared.message.Group.{Group}
 use Rattle.paxos_msg.specs.declared.value.Value.{Value}
 use Rattle.paxos_msg.specs.Batches.{Msg, Sent}
 use Rattle.paxos_msg.specs.Keys.{keys_of}
-use Rattle.paxos_msg.specs.Reading.{message_at}
+use Rattle.paxos_msg.specs.Datagrams.{message_at}
 use Rattle.paxos_msg.specs.Records.{empty_record}
 use Rattle.paxos_acceptor.specs.declared.me.Me.{Me}
 use Rattle.group_node.specs.WaitingKeys.{waiting_keys}

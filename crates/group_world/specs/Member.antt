@@ -3,7 +3,7 @@ use Rattle.std.specs.Prelude.{◌≡◌, ◌≢◌, ◌⊎◌, ℕ, ◌+◌, ◌
 use Rattle.paxos_msg.specs.declared.limits.TheConstants.{LAST_ROUND, LAST_SERIAL, LAST_START, PLACES}
 use Rattle.paxos_msg.specs.declared.value.Value.{Value}
 use Rattle.paxos_msg.specs.Batches.{Change, Record}
-use Rattle.paxos_msg.specs.Fits.{Fits}
+use Rattle.paxos_msg.specs.Datagrams.{Fits}
 use Rattle.paxos_acceptor.specs.declared.me.Me.{Me}
 use Rattle.paxos_acceptor.specs.Stores.{StoreState}
 use Rattle.group_node.specs.declared.fault.NodeFault.{NodeFault}

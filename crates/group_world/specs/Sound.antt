@@ -10,7 +10,7 @@ use Rattle.paxos_msg.specs.Batches.{Grew, Msg, Record, Sent}
 use Rattle.paxos_msg.specs.Chosen.{IsChosen}
 use Rattle.paxos_msg.specs.Fits.{IsGroup}
 use Rattle.paxos_msg.specs.Keys.{Key}
-use Rattle.paxos_msg.specs.Spelling.{Msgs}
+use Rattle.paxos_msg.specs.Datagrams.{Msgs}
 use Rattle.paxos_acceptor.specs.declared.me.Me.{Me}
 use Rattle.paxos_acceptor.specs.Records.{IsRecord}
 use Rattle.paxos_learner.specs.Input.{input_of}

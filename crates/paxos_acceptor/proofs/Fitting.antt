@@ -9,7 +9,8 @@ use Rattle.paxos_msg.specs.Batches.{Record, Vote}
 use Rattle.paxos_msg.specs.declared.record.Change.TheVariants as change
 use Rattle.paxos_msg.specs.declared.message.Body.TheVariants.{Promise, Refused}
 use Rattle.paxos_msg.specs.Ballots.{IsBelow}
-use Rattle.paxos_msg.specs.Fits.{IsBallot, IsPlace, IsValue, AreVotes, IsBody}
+use Rattle.paxos_msg.specs.Fits.{IsBallot, IsPlace, IsValue, AreVotes}
+use Rattle.paxos_msg.specs.Bodies.{IsBody}
 use Rattle.paxos_msg.specs.Messages.{kept_vote_at}
 use Rattle.paxos_msg.specs.Records.{changed}
 use Rattle.paxos_msg.specs.Places.{votes_from}

@@ -13,5 +13,6 @@ mod LogGrowth
 mod Forms
 mod RecordIn
 mod TornAppends
+mod SyncedEntries
 mod DiskCalls
 mod Restarts

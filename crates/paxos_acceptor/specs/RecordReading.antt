@@ -5,7 +5,7 @@ use Rattle.paxos_msg.specs.Batches.{Record, Vote}
 use Rattle.paxos_msg.specs.declared.fault.WireFault.{WireFault}
 use Rattle.paxos_msg.specs.declared.fault.WireFault.TheVariants as fault
 use Rattle.base.specs.Steps.{◌>>=◌, unless}
-use Rattle.paxos_msg.specs.Reading.{number_at, ballot_at, votes_at}
+use Rattle.paxos_msg.specs.Reading.{number_at, ballot_at, refuse, votes_at}
 use Rattle.paxos_msg.specs.Tests.{ballot_lt}
 use Rattle.paxos_msg.specs.Version1.{value_at_v1}
 use Rattle.paxos_acceptor.specs.declared.me.Me.{Me}
@@ -54,12 +54,12 @@ promised_at size bytes =
 unfoldable pub vote_at_v1 : ℕ → Ballot → ℕ → List ℕ → Result (Vote × List ℕ) WireFault
 vote_at_v1 size b low bytes = do
   place ← number_at bytes
-  above ← unless fault.Order (nat_lt place.0 low) place
-  there ← unless fault.Place (nat_lt LAST_PLACE above.0) above
-  ballot ← ballot_at size there.1
-  not_above ← unless fault.Ballot (ballot_lt b ballot.0) ballot
-  value ← value_at_v1 size not_above.1
-  Ok (record { place = there.0; ballot = not_above.0; value = value.0 }, value.1)
+  _ ← refuse fault.Order (nat_lt place.0 low)
+  _ ← refuse fault.Place (nat_lt LAST_PLACE place.0)
+  ballot ← ballot_at size place.1
+  _ ← refuse fault.Ballot (ballot_lt b ballot.0)
+  value ← value_at_v1 size ballot.1
+  Ok (record { place = place.0; ballot = ballot.0; value = value.0 }, value.1)
 
 -- The first `n` votes of version 1, and the bytes after them.
 unfoldable pub votes_at_v1 : ℕ → Ballot → ℕ → ℕ → List ℕ → Result (List Vote × List ℕ) WireFault

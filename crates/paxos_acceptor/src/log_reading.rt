@@ -3,8 +3,7 @@ ghost use Rattle.std.specs.Prelude.{◌≡◌, ◌↔◌, ℕ, List, IfOk, IsErr
 ghost use Rattle.paxos_msg.specs.declared.record.Change.{Change};
 ghost use Rattle.paxos_msg.specs.declared.value.Value.{Value};
 ghost use Rattle.paxos_msg.specs.Fits.{AreBytes};
-ghost use Rattle.paxos_msg.specs.Reading.{Gives};
-ghost use Rattle.paxos_msg.specs.Views.{GivesField};
+ghost use Rattle.paxos_msg.specs.Reading.{Gives, GivesField};
 ghost use Rattle.paxos_acceptor.specs.declared.version.Version.{Version};
 ghost use Rattle.paxos_acceptor.specs.Entries.{BeginsEntry};
 ghost use Rattle.paxos_acceptor.specs.LogReading.{entry_at, log_promise_at, log_vote_at, tagged, value_in};

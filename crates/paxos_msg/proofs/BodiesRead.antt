@@ -2,12 +2,14 @@
 use Rattle.std.proofs.Common.{◌≡◌, ℕ, zero, suc, ◌<◌, ◌≤◌, not, leb, ltb, List, ◌++◌, length, Ok, refl, arith, lit<}
 use Rattle.std.proofs.lemmas.Bool.{le-ltb, lt-leb}
 use Rattle.std.proofs.lemmas.Bool.Decides.{nat_tests}
+use Rattle.paxos_msg.specs.declared.bodies.TheConstants.{LAST_KIND}
 use Rattle.paxos_msg.specs.declared.fault.WireFault.TheVariants as fault
 use Rattle.paxos_msg.specs.Batches.{Body}
 use Rattle.paxos_msg.specs.declared.message.Body.TheVariants.{Promise}
-use Rattle.paxos_msg.specs.Fits.{IsBody, AreBytes}
-use Rattle.paxos_msg.specs.Spelling.{number_bytes, kind_of, body_bytes}
-use Rattle.paxos_msg.specs.Reading.{place_at, prepare_at, promise_at, accept_at, accepted_at, refused_at, submit_at, ask_at, tell_at, body_at}
+use Rattle.paxos_msg.specs.Bodies.{IsBody, kind_of, body_bytes, prepare_at, promise_at, accept_at, accepted_at, refused_at, submit_at, ask_at, tell_at, body_at}
+use Rattle.paxos_msg.specs.Fits.{AreBytes}
+use Rattle.paxos_msg.specs.Spelling.{number_bytes}
+use Rattle.paxos_msg.specs.Reading.{place_at}
 use Rattle.paxos_msg.specs.Tests.{ballot_lt}
 use Rattle.paxos_msg.proofs.Exact.{below}
 use Rattle.paxos_msg.proofs.Fields.{Exact, step, step_if, one_byte, ballots, own_ballots, places}
@@ -23,7 +25,7 @@ end = places 65536 (lit< tt)
 
 module _ (size sender : ℕ) where
   -- a body that is read fits, is of the kind, and is spelled there
-  body_found : (kind : ℕ) (bytes : List ℕ) (body : Body) (rest : List ℕ) → 0 < kind → kind ≤ 8 → AreBytes bytes
+  body_found : (kind : ℕ) (bytes : List ℕ) (body : Body) (rest : List ℕ) → 0 < kind → kind ≤ LAST_KIND → AreBytes bytes
       → body_at size kind sender bytes ≡ Ok (body, rest)
       → (IsBody size sender body × (kind_of body ≡ kind)) × (bytes ≡ body_bytes body ++ rest)
   unfolding body_at prepare_at promise_at accept_at accepted_at refused_at submit_at ask_at tell_at
@@ -92,7 +94,7 @@ module _ (size sender : ℕ) where
       )
 
   -- a body is read as it is spelled
-  pub bodies : (kind : ℕ) → 0 < kind → kind ≤ 8
+  pub bodies : (kind : ℕ) → 0 < kind → kind ≤ LAST_KIND
       → Exact (body_at size kind sender) (λ body. IsBody size sender body × (kind_of body ≡ kind)) body_bytes
   bodies kind above most = record {
     found = λ bytes body rest. body_found kind bytes body rest above most;

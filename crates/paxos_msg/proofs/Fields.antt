@@ -1,13 +1,13 @@
 -- Readings that give just what is spelled at the front of the bytes, and steps of readings; those
 -- of numbers, ballots and places.
 use Rattle.std.proofs.Common.{◌≡◌, ◌↔◌, ℕ, suc, Bool, false, List, [], ◌∷◌, ◌++◌, Result, Ok, subst, ◌^◌, ◌<◌, refl, arith, ◌≤◌}
-use Rattle.base.specs.Steps.{◌>>=◌, unless}
+use Rattle.base.specs.Steps.{◌>>=◌}
 use Rattle.base.proofs.Steps.{bind_ok, unless_ok}
 use Rattle.paxos_msg.specs.declared.fault.WireFault.{WireFault}
 use Rattle.std.proofs.lemmas.Bool.Decides.{nat_tests}
 use Rattle.byteorder.specs.Endian.{big_number}
 use Rattle.paxos_msg.specs.Spelling.{number_bytes, ballot_bytes}
-use Rattle.paxos_msg.specs.Reading.{first_byte, number_at, ballot_at, own_ballot_at, place_at}
+use Rattle.paxos_msg.specs.Reading.{first_byte, number_at, ballot_at, own_ballot_at, place_at, refuse}
 use Rattle.paxos_msg.specs.Fits.{IsBallot, AreBytes}
 
 -- a reading gives just the value whose spelling is at the front of the bytes
@@ -33,11 +33,11 @@ module _ {A : Type 0} {read : List ℕ → Result (A × List ℕ) WireFault} {fi
 
   -- the same where a test of what was read comes next
   pub step_if : {B G : Type 0} (bytes : List ℕ) (fault : WireFault) (test : A → Bool) (next : A × List ℕ → Result B WireFault) (y : B)
-      → AreBytes bytes → (read bytes >>= λ p. unless fault (test p.0) p >>= next) ≡ Ok y
+      → AreBytes bytes → (read bytes >>= λ p. refuse fault (test p.0) >>= λ _. next p) ≡ Ok y
       → ((x : A) (rest : List ℕ) → fits x → bytes ≡ spells x ++ rest → AreBytes rest → test x ≡ false → next (x, rest) ≡ Ok y → G) → G
   step_if bytes fault test next y are e goal =
       step bytes _ y are e (λ x rest good parts are e.
-      let (passed, e) = unless_ok fault (test x) (x, rest) next y e in
+      let (passed, e) = unless_ok fault (test x) tt (λ _. next (x, rest)) y e in
       goal x rest good parts are passed e)
 
   -- a value is read just where the bytes begin with its spelling

@@ -1,10 +1,11 @@
 -- The law: a datagram is read as a message just where it is the message's spelling.
 use Rattle.std.proofs.Common.{◌≡◌, ℕ, ◌<◌, ◌≤◌, List, length, Ok, arith, ◌↔◌, [], refl, sym, ◌∙◌}
 use Rattle.std.proofs.lemmas.Bool.Decides.{nat_tests}
+use Rattle.paxos_msg.specs.declared.bodies.TheConstants.{LAST_KIND}
 use Rattle.paxos_msg.specs.declared.message.Group.{Group}
 use Rattle.paxos_msg.specs.Fits.{IsNode, AreBytes, IsGroup}
-use Rattle.paxos_msg.specs.Spelling.{header_bytes, kind_of, body_bytes, Msgs}
-use Rattle.paxos_msg.specs.Reading.{header_at, message_at}
+use Rattle.paxos_msg.specs.Datagrams.{header_bytes, Msgs, header_at, message_at}
+use Rattle.paxos_msg.specs.Bodies.{kind_of, body_bytes}
 use Rattle.paxos_msg.proofs.Fields.{Exact, step, four_again}
 use Rattle.std.proofs.lemmas.Bool.{eqb-true, not-false}
 use Rattle.std.proofs.lemmas.List.{append-nil, nil_from_length}
@@ -17,7 +18,7 @@ use Rattle.paxos_msg.proofs.BodiesRead.{bodies}
 module _ (group : Group) where
   -- a kind of message, and a sender of the group
   abbrev pub IsHeader : ℕ × ℕ → Type 0
-  IsHeader h = (0 < h.0) × (h.0 ≤ 8) × IsNode group.size h.1
+  IsHeader h = (0 < h.0) × (h.0 ≤ LAST_KIND) × IsNode group.size h.1
 
   -- a header is read as it is spelled
   pub headers : IsGroup group → Exact (header_at group) IsHeader (λ h. header_bytes group h.0 h.1)
@@ -43,8 +44,8 @@ message_found group bytes m small are e =
       spelled = rw (parts, parts', no_rest, append-nil, ← good.1) refl;
     })))
 
--- a kind is from 1 to 8
-kind_within : (body : Body) → (0 < kind_of body) × (kind_of body ≤ 8)
+-- a kind is from 1 on
+kind_within : (body : Body) → (0 < kind_of body) × (kind_of body ≤ LAST_KIND)
 kind_within body = grind (arith, nat_tests)
 
 -- a message's spelling is read as the message

@@ -15,7 +15,8 @@ use Rattle.paxos_msg.specs.Chosen.{IsChosen}
 use Rattle.paxos_msg.specs.Growth.{Grew, nothing, sends, saves}
 use Rattle.paxos_msg.specs.Keys.{Key, Values}
 use Rattle.paxos_msg.specs.Messages.{IsPromised, IsSaid, IsSent, Sent, kept_vote_at}
-use Rattle.paxos_msg.specs.Migration.{body_with, change_with, msg_with, record_with, sent_with, vote_with}
+use Rattle.paxos_msg.specs.Bodies.{body_with, vote_with}
+use Rattle.paxos_msg.specs.Migration.{change_with, msg_with, record_with, sent_with}
 use Rattle.paxos_msg.specs.Records.{changed, MaySave, with_vote}
 use Rattle.paxos_msg.specs.Sending.{IsReport, IsUnproposed, MaySend}
 

@@ -1,5 +1,5 @@
 -- The vote under the greatest ballot, of the nodes of a majority, is for the chosen value.
-use Rattle.std.proofs.Common.{IsTrue, ◌≡◌, ◌∙◌, ◌<◌, ◌≤◌, ℕ, zero, suc, Bool, List, [], ◌∷◌, ◌++◌, length, slice_get, Option, Some, None, IfSome, IsSomeAnd, inl, inr, refl, sym, ap, subst, arith}
+use Rattle.std.proofs.Common.{IsTrue, ◌≡◌, ◌∙◌, ◌≤◌, ℕ, suc, Bool, List, [], ◌∷◌, ◌++◌, length, slice_get, Option, Some, None, IfSome, IsSomeAnd, refl, sym, ap, subst, arith}
 use Rattle.std.proofs.lemmas.Bool.Decides.{nat_tests}
 use Rattle.std.proofs.lemmas.Option.{same_Some, slice_get_within}
 use Rattle.std.specs.Option.{option_map}

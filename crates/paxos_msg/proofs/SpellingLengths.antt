@@ -8,9 +8,10 @@ use Rattle.paxos_msg.specs.declared.value.Value.TheVariants.{Noop, Keys}
 use Rattle.paxos_msg.specs.Batches.{Body, Msg, Vote}
 use Rattle.paxos_msg.specs.declared.message.Group.{Group}
 use Rattle.paxos_msg.specs.declared.message.Body.TheVariants.{Promise}
-use Rattle.paxos_msg.specs.Fits.{AreVotes, IsBody, IsValue, IsVote, Fits}
-use Rattle.paxos_msg.specs.Spelling.{value_bytes, vote_bytes, votes_bytes, body_bytes, spelling}
-use Rattle.paxos_msg.specs.Views.{HasUpTo}
+use Rattle.paxos_msg.specs.Fits.{AreVotes, IsValue, IsVote}
+use Rattle.paxos_msg.specs.Bodies.{IsBody, body_bytes, HasUpTo}
+use Rattle.paxos_msg.specs.Datagrams.{Fits, spelling}
+use Rattle.paxos_msg.specs.Spelling.{value_bytes, vote_bytes, votes_bytes}
 use Rattle.paxos_msg.specs.declared.limits.TheConstants.{MOST_VOTES}
 
 pub value_short : (size : ℕ) (v : Value) → IsValue size v → length (value_bytes v) ≤ 43

@@ -21,7 +21,7 @@ module _ (size : ℕ) (b : Ballot) (first upto : ℕ) (small : upto ≤ 65536) w
   one_vote low = record {
     found = λ bytes v rest are e.
         step_if numbers bytes fault.Order (λ place. ltb place low) _ _ are e (λ place later below parts are from_low e.
-        let (in_range, e) = unless_ok fault.Place (ltb place first || leb upto place) (place, later) _ _ e in
+        let (in_range, e) = unless_ok fault.Place (ltb place first || leb upto place) tt _ _ e in
         step_if (ballots size) later fault.Ballot (λ ballot. ballot_lt b ballot) _ _ are e (λ ballot later good parts' are not_above e.
         step (values size) later _ _ are e (λ value later fits parts'' are e.
         grind (arith, nat_tests, not_below))));

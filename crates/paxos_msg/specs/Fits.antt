@@ -1,14 +1,12 @@
 -- The ranges of each field. A message has a spelling if all its fields are in their ranges.
-use Rattle.std.specs.Prelude.{◌≡◌, ℕ, ◌+◌, ◌^◌, ◌<◌, ◌≤◌, List, [], ◌∷◌, length, slice_index}
+use Rattle.std.specs.Prelude.{ℕ, ◌+◌, ◌^◌, ◌<◌, ◌≤◌, List, [], ◌∷◌, length, slice_index}
 use Rattle.paxos_msg.specs.declared.ballot.Ballot.{Ballot}
 use Rattle.paxos_msg.specs.declared.value.Value.{Value}
 use Rattle.paxos_msg.specs.declared.value.Value.TheVariants as value
-use Rattle.paxos_msg.specs.Batches.{Body, Msg, Vote}
+use Rattle.paxos_msg.specs.Batches.{Vote}
 use Rattle.paxos_msg.specs.declared.message.Group.{Group}
-use Rattle.paxos_msg.specs.declared.message.Body.TheVariants as body
-use Rattle.paxos_msg.specs.Ballots.{IsBelow, IsAtMost}
-use Rattle.paxos_msg.specs.Keys.{AreOwnKeys, batches}
-use Rattle.paxos_msg.specs.declared.limits.TheConstants.{LAST_PLACE, LAST_SERIAL, MOST_CHARACTERS, MOST_VOTES, PLACES}
+use Rattle.paxos_msg.specs.Ballots.{IsAtMost}
+use Rattle.paxos_msg.specs.declared.limits.TheConstants.{LAST_PLACE, LAST_SERIAL, MOST_CHARACTERS}
 
 -- Numbers that are bytes, as the items of a `&[u8]` and of a `Vec<u8>` are.
 -- Allows: 255.
@@ -66,24 +64,3 @@ abbrev pub AreVotes : ℕ → Ballot → ℕ → ℕ → List Vote → Type 0
 AreVotes size b low upto [] = Unit {0}
 AreVotes size b low upto (vote ∷ votes) =
     IsVote size b low upto vote × AreVotes size b (vote.place + 1) upto votes
-
--- The ranges of a body that node `i` sends.
-abbrev pub IsBody : ℕ → ℕ → Body → Type 0
-IsBody size i (body.Prepare b from) = IsBallot size b × (b.node ≡ i) × IsPlace from
-IsBody size i (body.Promise b first upto votes) =
-    IsBallot size b × IsPlace first × (upto ≤ PLACES) × (first < upto) × (length votes ≤ MOST_VOTES)
-    × AreVotes size b first upto votes
-IsBody size i (body.Accept b s v) = IsBallot size b × (b.node ≡ i) × IsPlace s × IsValue size v
-IsBody size i (body.Accepted b s v) = IsBallot size b × IsPlace s × IsValue size v
-IsBody size i (body.Refused b promised) =
-    IsBallot size b × IsBallot size promised × IsBelow b promised
-IsBody size i (body.Submit v) = IsValue size v × AreOwnKeys batches i v
-IsBody size i (body.Ask from) = from ≤ PLACES
-IsBody size i (body.Tell s v) = IsPlace s × IsValue size v
-
--- The message has a spelling in the group: its sender is a node of it, and its body is in its
--- ranges.
--- Allows: A Promise whose `upto` is 65,536.
--- Forbids: A vote at place 65,536.
-abbrev pub Fits : Group → Msg → Type 0
-Fits group m = IsNode group.size m.sender × IsBody group.size m.sender m.body

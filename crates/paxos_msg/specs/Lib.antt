@@ -7,7 +7,6 @@ pub mod Spelling
 pub mod Reading
 pub mod Version1
 pub mod Raw
-pub mod Views
 pub mod Messages
 pub mod Places
 pub mod Records
@@ -15,6 +14,8 @@ pub mod Sending
 pub mod Chosen
 pub mod Growth
 pub mod Batches
+pub mod Bodies
+pub mod Datagrams
 pub mod Migration
 pub mod Codes
 pub mod ReadRecords

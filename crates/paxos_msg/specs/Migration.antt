@@ -3,32 +3,16 @@ use Rattle.std.specs.Prelude.{[], ◌∷◌, map, Option, Some, None}
 use Rattle.std.specs.Option.{option_to_list}
 use Rattle.paxos_msg.specs.declared.value.Value.{Value}
 use Rattle.paxos_msg.specs.declared.value.Value.TheVariants.{Noop, Keys}
-use Rattle.paxos_msg.specs.declared.value.Vote.{Vote}
 use Rattle.paxos_msg.specs.declared.record.Record.{Record}
 use Rattle.paxos_msg.specs.declared.record.Change.{Change}
 use Rattle.paxos_msg.specs.declared.record.Change.TheVariants as change
-use Rattle.paxos_msg.specs.declared.message.Body.{Body}
-use Rattle.paxos_msg.specs.declared.message.Body.TheVariants.{Prepare, Promise, Accept, Accepted, Refused, Submit, Ask, Tell}
+use Rattle.paxos_msg.specs.declared.message.Body.TheVariants.{Promise}
 use Rattle.paxos_msg.specs.declared.message.Msg.{Msg}
+use Rattle.paxos_msg.specs.Bodies.{body_with, vote_with}
 use Rattle.paxos_msg.specs.Keys.{Key, Values}
 use Rattle.paxos_msg.specs.Messages.{Sent}
 
 -- ---- with other values
-
--- The vote with its value replaced by `f`.
-abbrev pub vote_with : {V W : Type 0} → (V → W) → Vote V → Vote W
-vote_with f vote = record { place = vote.place; ballot = vote.ballot; value = f vote.value }
-
--- The body with each value replaced by `f`.
-abbrev pub body_with : {V W : Type 0} → (V → W) → Body V → Body W
-body_with f (Prepare b from) = Prepare b from
-body_with f (Promise b first upto votes) = Promise b first upto (map (vote_with f) votes)
-body_with f (Accept b s v) = Accept b s (f v)
-body_with f (Accepted b s v) = Accepted b s (f v)
-body_with f (Refused b promised) = Refused b promised
-body_with f (Submit v) = Submit (f v)
-body_with f (Ask from) = Ask from
-body_with f (Tell s v) = Tell s (f v)
 
 -- The message with each value replaced by `f`.
 abbrev pub msg_with : {V W : Type 0} → (V → W) → Msg V → Msg W

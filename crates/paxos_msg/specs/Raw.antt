@@ -6,8 +6,8 @@ use Rattle.paxos_msg.specs.declared.value.Value.TheVariants as value
 use Rattle.paxos_msg.specs.Batches.{Vote}
 use Rattle.paxos_msg.specs.declared.fault.WireFault.{WireFault}
 use Rattle.paxos_msg.specs.declared.fault.WireFault.TheVariants as fault
-use Rattle.base.specs.Steps.{unless, ◌>>=◌}
-use Rattle.paxos_msg.specs.Reading.{first_byte, bytes_at, characters_at, number_at, vote_at}
+use Rattle.base.specs.Steps.{◌>>=◌}
+use Rattle.paxos_msg.specs.Reading.{first_byte, bytes_at, characters_at, number_at, refuse, vote_at}
 use Rattle.paxos_msg.specs.declared.limits.TheConstants.{MOST_CHARACTERS}
 
 -- The rest after the first `n` bytes.
@@ -27,8 +27,8 @@ raw_ballot_at bytes = do
 unfoldable pub raw_characters_at : List ℕ → Result (List ℕ × List ℕ) WireFault
 raw_characters_at bytes = do
   count ← first_byte bytes
-  some ← unless fault.Value ((count.0 == 0) || nat_lt MOST_CHARACTERS count.0) count
-  bytes_at some.0 some.1
+  _ ← refuse fault.Value ((count.0 == 0) || nat_lt MOST_CHARACTERS count.0)
+  bytes_at count.0 count.1
 
 -- The fields of a batch after its node, without a test of its start and serials.
 unfoldable pub raw_keys_at : ℕ → List ℕ → Result (Value × List ℕ) WireFault
@@ -42,10 +42,10 @@ raw_keys_at node bytes = do
 unfoldable pub keys_rest_at : ℕ → List ℕ → Result (Value × List ℕ) WireFault
 keys_rest_at node bytes = do
   start ← number_at bytes
-  started ← unless fault.Value (start.0 == 0) start
-  first ← number_at started.1
+  _ ← refuse fault.Value (start.0 == 0)
+  first ← number_at start.1
   characters ← characters_at first.0 first.1
-  Ok (value.Keys node started.0 first.0 characters.0, characters.1)
+  Ok (value.Keys node start.0 first.0 characters.0, characters.1)
 
 -- The value after its tag, without a test of its node, start and serials.
 abbrev pub raw_tagged : ℕ → List ℕ → Result (Value × List ℕ) WireFault

@@ -113,11 +113,5 @@ pub record KnowsMore {V : Type 0} (typed newer : List Key)
 -- Allows: An Accept sent again.
 -- Forbids: A first Accept.
 abbrev pub IsNoNewProposal : {V : Type 0} → Sent V → ℕ → Body V → Type 0
-IsNoNewProposal sent i (Prepare b from) = Unit {0}
-IsNoNewProposal sent i (Promise b first upto votes) = Unit {0}
 IsNoNewProposal sent i (Accept b s v) = IsSent sent i (Accept b s v)
-IsNoNewProposal sent i (Accepted b s v) = Unit {0}
-IsNoNewProposal sent i (Refused b promised) = Unit {0}
-IsNoNewProposal sent i (Submit v) = Unit {0}
-IsNoNewProposal sent i (Ask from) = Unit {0}
-IsNoNewProposal sent i (Tell s v) = Unit {0}
+IsNoNewProposal sent i _ = Unit {0}

@@ -1,12 +1,12 @@
 -- Values as version 1 spelled them: a value was a single key or a no-op.
 use Rattle.std.specs.Prelude.{ℕ, ◌≤◌, ◌==◌, not, List, [], ◌∷◌, ◌++◌, length, Result, Ok, Err, if◌then◌else◌}
-use Rattle.base.specs.Steps.{◌>>=◌, unless}
+use Rattle.base.specs.Steps.{◌>>=◌}
 use Rattle.paxos_msg.specs.declared.value.Value.{Value}
 use Rattle.paxos_msg.specs.declared.value.Value.TheVariants.{Noop, Keys}
 use Rattle.paxos_msg.specs.declared.fault.WireFault.{WireFault}
 use Rattle.paxos_msg.specs.declared.fault.WireFault.TheVariants as fault
 use Rattle.paxos_msg.specs.Keys.{keys_of}
-use Rattle.paxos_msg.specs.Reading.{first_byte, is_node, number_at}
+use Rattle.paxos_msg.specs.Reading.{first_byte, is_node, number_at, refuse}
 use Rattle.paxos_msg.specs.Spelling.{number_bytes}
 
 -- A value with at most one key, as all were in version 1.
@@ -25,18 +25,18 @@ value_bytes_v1 (Keys node start first bytes) =
 unfoldable pub key_rest_at_v1 : ℕ → List ℕ → Result (Value × List ℕ) WireFault
 key_rest_at_v1 node bytes = do
   start ← number_at bytes
-  started ← unless fault.Value (start.0 == 0) start
-  serial ← number_at started.1
-  counted ← unless fault.Value (serial.0 == 0) serial
-  byte ← first_byte counted.1
-  Ok (Keys node started.0 counted.0 (byte.0 ∷ []), byte.1)
+  _ ← refuse fault.Value (start.0 == 0)
+  serial ← number_at start.1
+  _ ← refuse fault.Value (serial.0 == 0)
+  byte ← first_byte serial.1
+  Ok (Keys node start.0 serial.0 (byte.0 ∷ []), byte.1)
 
 -- The fields of a key after its tag.
 unfoldable pub key_at_v1 : ℕ → List ℕ → Result (Value × List ℕ) WireFault
 key_at_v1 size bytes = do
   node ← first_byte bytes
-  there ← unless fault.Value (not (is_node size node.0)) node
-  key_rest_at_v1 there.0 there.1
+  _ ← refuse fault.Value (not (is_node size node.0))
+  key_rest_at_v1 node.0 node.1
 
 -- The value of version 1 after its tag.
 abbrev pub tagged_v1 : ℕ → ℕ → List ℕ → Result (Value × List ℕ) WireFault

@@ -1,199 +1,26 @@
 //! Reads datagrams.
-ghost use Rattle.std.specs.Prelude.{◌≡◌, ◌≤◌, ◌<◌, IfErr, IfOk, Err, Ok, length};
-ghost use Rattle.paxos_msg.specs.Reading.{Gives, number_at, ballot_at, value_at, vote_at, votes_at, prepare_at, promise_at, accept_at, accepted_at, refused_at, submit_at, ask_at, tell_at, body_at, header_at, message_at};
+ghost use Rattle.std.specs.Prelude.{◌≤◌, ◌<◌, IfOk, Ok, length};
+ghost use Rattle.paxos_msg.specs.declared.bodies.TheConstants.{LAST_KIND};
+ghost use Rattle.paxos_msg.specs.declared.limits.TheConstants.{MOST_VOTES, PLACES};
 ghost use Rattle.paxos_msg.specs.Batches.{Msg};
-ghost use Rattle.paxos_msg.specs.Raw.{PassesVote, votes_left};
-ghost use Rattle.paxos_msg.specs.Spelling.{Msgs};
-ghost use Rattle.paxos_msg.specs.Views.{GivesField, HasUpTo, said};
-ghost use Rattle.paxos_msg.specs.declared.limits.TheConstants.{LAST_KIND, MOST_VOTES, PLACES};
+ghost use Rattle.paxos_msg.specs.Bodies.{HasUpTo};
+ghost use Rattle.paxos_msg.specs.Datagrams.{Msgs, header_at, message_at};
+ghost use Rattle.paxos_msg.specs.Reading.{Gives, GivesField, ballot_at, number_at, value_at, votes_at};
 
 use crate::ballot::Ballot;
+use crate::bodies::{LAST_KIND, body_of};
 use crate::fault::WireFault;
 use crate::lent::LentVotes;
-use crate::limits::{LAST_KIND, LAST_PLACE, MOST_VOTES, PLACES};
-use crate::message::Group;
-use crate::reading::{
-    Part, ballot_of, first_byte, number_of, own_ballot_of, own_keys_of, place_of, value_of, vote_of,
-};
+use crate::limits::PLACES;
+use crate::message::{Group, View};
+use crate::reading::{Part, after_votes, ballot_of, number_of, value_of};
 use crate::value::Value;
-use crate::view::{BodyView, View};
 use byteorder::{BigEndian, ByteOrder};
-
-/// Checks one vote. Returns its place and the bytes after it. Fails as `vote_of` does.
-fn pass_vote(part: Part, low: u32, bytes: &[u8]) -> Result<(u32, &[u8]), WireFault>
-    ensures read { IfOk result
-        (λ x. PassesVote part.size part.ballot part.first part.upto low bytes.now x.0 x.1.now) }
-    ensures err { IfErr result
-        (λ e. vote_at part.size part.ballot part.first part.upto low bytes.now ≡ Err e) }
-    ensures place { IfOk result (λ x. x.0 < part.upto) }
-{
-    match vote_of(part, low, bytes) {
-        Ok((vote, taken)) => Ok((vote.place, &bytes[taken..])),
-        Err(fault) => Err(fault),
-    }
-}
-
-/// Checks `count` votes of a promise. Returns the bytes after them. Fails as the first vote that
-/// has a fault.
-#[tactic(auto, using(crate::proofs::VotesLeft::few_left))]
-fn after_votes(part: Part, count: u32, bytes: &[u8]) -> Result<&[u8], WireFault>
-    requires { part.upto ≤ PLACES }
-    ensures exact { Gives (λ rest. (votes_left count bytes.now, rest.now)) result
-        (votes_at part.size part.ballot part.first part.upto 0 count bytes.now) }
-    ensures few { length (votes_left count bytes.now) ≤ count }
-{
-    let mut rest = bytes;
-    let mut low = 0;
-    for _ in 0..count {
-        let (place, after) = pass_vote(part, low, rest)?;
-        rest = after;
-        low = place + 1;
-    }
-    Ok(rest)
-}
-
-/// Reads the body of a Prepare: a ballot of the sender's own, and the first place asked for.
-#[tactic(auto, unfolding(crate::specs::Reading::prepare_at))]
-fn prepare_of(size: u8, sender: u8, bytes: &[u8]) -> Result<(BodyView<'_>, &[u8]), WireFault>
-    ensures { Gives (λ x. (said x.0, x.1.now)) result (prepare_at size sender bytes.now) }
-{
-    let (ballot, rest) = own_ballot_of(size, sender, bytes)?;
-    let (from, rest) = place_of(LAST_PLACE, rest)?;
-    Ok((BodyView::Prepare { ballot, from }, rest))
-}
-
-/// Reads the body of a Promise. Fails with `Place` if `upto` is above 65,536 or not above `first`,
-/// and with `Count` if there are more than 8 votes.
-#[tactic(auto, unfolding(crate::specs::Reading::promise_at))]
-fn promise_of(size: u8, bytes: &[u8]) -> Result<(BodyView<'_>, &[u8]), WireFault>
-    ensures { Gives (λ x. (said x.0, x.1.now)) result (promise_at size bytes.now) }
-{
-    let (ballot, rest) = ballot_of(size, bytes)?;
-    let (first, rest) = place_of(LAST_PLACE, rest)?;
-    let (upto, rest) = place_of(PLACES, rest)?;
-    if upto <= first {
-        return Err(WireFault::Place);
-    }
-    let (count, rest) = first_byte(rest)?;
-    if usize::from(count) > MOST_VOTES {
-        return Err(WireFault::Count);
-    }
-    let part = Part {
-        size,
-        ballot,
-        first,
-        upto,
-    };
-    let count = u32::from(count);
-    let after = after_votes(part, count, rest)?;
-    let body = BodyView::Promise {
-        ballot,
-        first,
-        upto,
-        votes: LentVotes::new(rest, count),
-    };
-    Ok((body, after))
-}
-
-/// Reads the body of an Accept: a ballot of the sender's own, a place and a value.
-#[tactic(auto, unfolding(crate::specs::Reading::accept_at))]
-fn accept_of(size: u8, sender: u8, bytes: &[u8]) -> Result<(BodyView<'_>, &[u8]), WireFault>
-    ensures { Gives (λ x. (said x.0, x.1.now)) result (accept_at size sender bytes.now) }
-{
-    let (ballot, rest) = own_ballot_of(size, sender, bytes)?;
-    let (place, rest) = place_of(LAST_PLACE, rest)?;
-    let (value, taken) = value_of(size, rest)?;
-    let body = BodyView::Accept {
-        ballot,
-        place,
-        value,
-    };
-    Ok((body, &rest[taken..]))
-}
-
-/// Reads the body of an Accepted: a ballot, a place and a value.
-#[tactic(auto, unfolding(crate::specs::Reading::accepted_at))]
-fn accepted_of(size: u8, bytes: &[u8]) -> Result<(BodyView<'_>, &[u8]), WireFault>
-    ensures { Gives (λ x. (said x.0, x.1.now)) result (accepted_at size bytes.now) }
-{
-    let (ballot, rest) = ballot_of(size, bytes)?;
-    let (place, rest) = place_of(LAST_PLACE, rest)?;
-    let (value, taken) = value_of(size, rest)?;
-    let body = BodyView::Accepted {
-        ballot,
-        place,
-        value,
-    };
-    Ok((body, &rest[taken..]))
-}
-
-/// Reads the body of a Refused. Fails with `Ballot` also if the promised ballot is not above the
-/// refused one.
-#[tactic(auto, unfolding(crate::specs::Reading::refused_at))]
-fn refused_of(size: u8, bytes: &[u8]) -> Result<(BodyView<'_>, &[u8]), WireFault>
-    ensures { Gives (λ x. (said x.0, x.1.now)) result (refused_at size bytes.now) }
-{
-    let (ballot, rest) = ballot_of(size, bytes)?;
-    let (promised, rest) = ballot_of(size, rest)?;
-    if promised <= ballot {
-        return Err(WireFault::Ballot);
-    }
-    Ok((BodyView::Refused { ballot, promised }, rest))
-}
-
-/// Reads the body of a Submit: keys that were typed at the sender.
-#[tactic(auto, unfolding(crate::specs::Reading::submit_at))]
-fn submit_of(size: u8, sender: u8, bytes: &[u8]) -> Result<(BodyView<'_>, &[u8]), WireFault>
-    ensures { Gives (λ x. (said x.0, x.1.now)) result (submit_at size sender bytes.now) }
-{
-    let (key, taken) = own_keys_of(size, sender, bytes)?;
-    Ok((BodyView::Submit { key }, &bytes[taken..]))
-}
-
-/// Reads the body of an Ask: a place, at most 65,536.
-#[tactic(auto, unfolding(crate::specs::Reading::ask_at))]
-fn ask_of(bytes: &[u8]) -> Result<(BodyView<'_>, &[u8]), WireFault>
-    ensures { Gives (λ x. (said x.0, x.1.now)) result (ask_at bytes.now) }
-{
-    let (from, rest) = place_of(PLACES, bytes)?;
-    Ok((BodyView::Ask { from }, rest))
-}
-
-/// Reads the body of a Tell: a place and a value.
-#[tactic(auto, unfolding(crate::specs::Reading::tell_at))]
-fn tell_of(size: u8, bytes: &[u8]) -> Result<(BodyView<'_>, &[u8]), WireFault>
-    ensures { Gives (λ x. (said x.0, x.1.now)) result (tell_at size bytes.now) }
-{
-    let (place, rest) = place_of(LAST_PLACE, bytes)?;
-    let (value, taken) = value_of(size, rest)?;
-    Ok((BodyView::Tell { place, value }, &rest[taken..]))
-}
-
-/// Reads the body of a message of kind `kind`, 1 to 8, from `sender`. Returns it and the bytes
-/// after it.
-#[tactic(auto, unfolding(crate::specs::Reading::body_at))]
-fn body_of(size: u8, kind: u8, sender: u8, bytes: &[u8]) -> Result<(BodyView<'_>, &[u8]), WireFault>
-    requires above { 0 < kind }
-    requires most { kind ≤ LAST_KIND }
-    ensures { Gives (λ x. (said x.0, x.1.now)) result (body_at size kind sender bytes.now) }
-{
-    match kind {
-        1 => prepare_of(size, sender, bytes),
-        2 => promise_of(size, bytes),
-        3 => accept_of(size, sender, bytes),
-        4 => accepted_of(size, bytes),
-        5 => refused_of(size, bytes),
-        6 => submit_of(size, sender, bytes),
-        7 => ask_of(bytes),
-        8 => tell_of(size, bytes),
-        _ => unreachable!(),
-    }
-}
 
 /// Reads the header of a datagram of the group, 10 bytes. Returns kind, sender and the bytes after
 /// it. Fails with `Short` if there are fewer bytes, then with `Magic`, `Version`, `Kind`, `Group`
 /// and `Sender`, in this order.
-#[tactic(auto, unfolding(crate::specs::Reading::header_at))]
+#[tactic(auto, unfolding(crate::specs::Datagrams::header_at))]
 fn header_of(group: Group, bytes: &[u8]) -> Result<((u8, u8), &[u8]), WireFault>
     ensures exact { Gives (λ x. (x.0, x.1.now)) result (header_at group bytes.now) }
     ensures above { IfOk result (λ x. 0 < x.0.0) }
@@ -222,7 +49,7 @@ fn header_of(group: Group, bytes: &[u8]) -> Result<((u8, u8), &[u8]), WireFault>
 
 /// Reads the message that is all of the datagram. Fails with the first fault from the left, or with
 /// `Trailing` if bytes are left over.
-#[tactic(auto, unfolding(crate::specs::Reading::message_at))]
+#[tactic(auto, unfolding(crate::specs::Datagrams::message_at))]
 fn message_of(bytes: &[u8], group: Group) -> Result<View<'_>, WireFault>
     ensures { Gives (λ view. view) result (message_at group bytes.now) }
 {

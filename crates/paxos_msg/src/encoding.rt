@@ -1,58 +1,15 @@
 //! Writes messages as datagrams.
-ghost use Rattle.std.specs.Prelude.{◌≡◌, ◌+◌, ◌≤◌, length, vec_len, vec_capacity, IfOk, IfErr};
+ghost use Rattle.std.specs.Prelude.{◌≡◌, ◌≤◌, vec_len, vec_capacity, IfOk, IfErr};
 ghost use Rattle.paxos_msg.specs.declared.fault.WireFault.TheVariants as fault;
-ghost use Rattle.paxos_msg.specs.Fits.{Fits};
-ghost use Rattle.paxos_msg.specs.Spelling.{Puts, body_bytes, spelling};
-ghost use Rattle.paxos_msg.specs.Views.{HasUpTo};
-ghost use Rattle.paxos_msg.specs.declared.limits.TheConstants.{LONGEST_DATAGRAM, MOST_VOTES};
+ghost use Rattle.paxos_msg.specs.Datagrams.{Fits, spelling};
+ghost use Rattle.paxos_msg.specs.declared.limits.TheConstants.{LONGEST_DATAGRAM};
 
+use crate::bodies::{kind, put_body};
 use crate::fault::WireFault;
 use crate::limits::LONGEST_DATAGRAM;
-use crate::message::{Body, Group, Msg};
-use crate::spelling::{
-    kind, put_ballot, put_header, put_number, put_promise, put_proposal, put_value,
-};
+use crate::message::{Group, Msg};
+use crate::spelling::put_header;
 use std::alloc::Global;
-
-/// Appends a body. A promise has at most 8 votes.
-fn put_body(body: &Body, out: &mut Vec<u8>)
-    requires few { HasUpTo MOST_VOTES body.now }
-    requires room { vec_len out.old + length (body_bytes body.now) ≤ vec_capacity out.old }
-    ensures { Puts out.old out.new (body_bytes body.now) }
-{
-    match body {
-        Body::Prepare { ballot, from } => {
-            put_ballot(*ballot, out);
-            put_number(*from, out);
-        }
-        Body::Promise {
-            ballot,
-            first,
-            upto,
-            votes,
-        } => put_promise(*ballot, *first, *upto, votes.as_slice(), out),
-        Body::Accept {
-            ballot,
-            place,
-            value,
-        }
-        | Body::Accepted {
-            ballot,
-            place,
-            value,
-        } => put_proposal(*ballot, *place, *value, out),
-        Body::Refused { ballot, promised } => {
-            put_ballot(*ballot, out);
-            put_ballot(*promised, out);
-        }
-        Body::Submit { key } => put_value(*key, out),
-        Body::Ask { from } => put_number(*from, out),
-        Body::Tell { place, value } => {
-            put_number(*place, out);
-            put_value(*value, out);
-        }
-    }
-}
 
 /// Writes the spelling of a message that fits into an empty vector with room for 1,400 bytes. The
 /// capacity stays, and the call cannot fail.

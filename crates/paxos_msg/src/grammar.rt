@@ -5,9 +5,10 @@ ghost use Rattle.paxos_msg.specs.declared.ballot.Ballot.{Ballot};
 ghost use Rattle.paxos_msg.specs.declared.value.Value.{Value};
 ghost use Rattle.paxos_msg.specs.Batches.{Msg, Vote};
 ghost use Rattle.paxos_msg.specs.declared.message.Group.{Group};
-ghost use Rattle.paxos_msg.specs.Fits.{AreVotes, IsBallot, IsValue, Fits, AreBytes, IsGroup};
-ghost use Rattle.paxos_msg.specs.Spelling.{Msgs, ballot_bytes, number_bytes, value_bytes, votes_bytes, spelling};
-ghost use Rattle.paxos_msg.specs.Reading.{ballot_at, number_at, value_at, votes_at, message_at};
+ghost use Rattle.paxos_msg.specs.Fits.{AreVotes, IsBallot, IsValue, AreBytes, IsGroup};
+ghost use Rattle.paxos_msg.specs.Datagrams.{Fits, Msgs, spelling, message_at};
+ghost use Rattle.paxos_msg.specs.Spelling.{ballot_bytes, number_bytes, value_bytes, votes_bytes};
+ghost use Rattle.paxos_msg.specs.Reading.{ballot_at, number_at, value_at, votes_at};
 ghost use Rattle.paxos_msg.specs.Version1.{IsSingle, value_at_v1, value_bytes_v1};
 ghost use Rattle.paxos_msg.specs.declared.limits.TheConstants.{PLACES};
 

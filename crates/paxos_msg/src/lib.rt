@@ -13,6 +13,7 @@
 #![tactic(auto)]
 
 mod ballot;
+mod bodies;
 mod characters;
 pub mod choosing;
 mod decoding;
@@ -29,23 +30,22 @@ mod record;
 mod spelling;
 mod value;
 mod version1;
-mod view;
 mod voted;
 mod votes;
 
 pub use ballot::Ballot;
+pub use bodies::LAST_KIND;
 pub use characters::Characters;
 pub use decoding::{decode, read_ballot, read_number, read_value, read_votes};
 pub use encoding::{encode, encode_into};
 pub use fault::WireFault;
 pub use lent::LentVotes;
 pub use limits::PLACES;
-pub use message::{Body, Group, Msg};
+pub use message::{Body, BodyView, Group, Msg, View};
 pub use ranges::{fits, fits_ballot, fits_votes};
 pub use record::{Change, Record};
 pub use spelling::{put_ballot, put_number, put_value, put_votes};
 pub use value::{Value, Vote};
 pub use version1::read_value_v1;
-pub use view::{BodyView, View};
 pub use voted::{find_vote, insert_vote};
 pub use votes::Votes;

@@ -12,9 +12,6 @@ pub const MOST_NODES: u8 = 9;
 /// The most characters, and so keys, of one batch.
 pub const MOST_CHARACTERS: usize = 32;
 
-/// The greatest number of a message's kind. Kinds are 1 to 8.
-pub const LAST_KIND: u8 = 8;
-
 /// The most votes of one Promise.
 pub const MOST_VOTES: usize = 8;
 

@@ -1,13 +1,14 @@
 //! Tests of the ranges of a message, which say if it has a spelling.
 ghost use Rattle.std.specs.Prelude.{◌↔◌, ◌<◌, IsTrue};
-ghost use Rattle.paxos_msg.specs.declared.message.Body.TheVariants as body;
 ghost use Rattle.paxos_msg.specs.Ballots.{IsBelow, IsAtMost};
 ghost use Rattle.paxos_msg.specs.Keys.{AreOwnKeys, batches};
-ghost use Rattle.paxos_msg.specs.Fits.{IsNode, IsBallot, IsBatch, IsValue, IsVote, AreVotes, IsBody, Fits};
+ghost use Rattle.paxos_msg.specs.Fits.{IsNode, IsBallot, IsBatch, IsValue, IsVote, AreVotes};
+ghost use Rattle.paxos_msg.specs.Datagrams.{Fits};
 
 use crate::ballot::Ballot;
-use crate::limits::{LAST_PLACE, MOST_CHARACTERS, MOST_VOTES, PLACES};
-use crate::message::{Body, Group, Msg};
+use crate::bodies::fits_body;
+use crate::limits::MOST_CHARACTERS;
+use crate::message::{Group, Msg};
 use crate::reading::is_batch;
 use crate::value::{Value, Vote};
 
@@ -36,7 +37,7 @@ fn fits_batch(first: u32, bytes: &[u8]) -> bool
 
 /// Returns true if `value` is a no-op, or a batch of keys in its ranges: its node is one of a group
 /// of `size` nodes, its start is at least 1, and its serials are 1 to 4,294,967,295.
-fn fits_value(size: u8, value: Value) -> bool
+pub(crate) fn fits_value(size: u8, value: Value) -> bool
     ensures { IsTrue result ↔ IsValue size value }
 {
     match value {
@@ -51,7 +52,7 @@ fn fits_value(size: u8, value: Value) -> bool
 }
 
 /// Returns true if `value` has keys, and all were typed at `node`.
-fn are_own_keys(node: u8, value: Value) -> bool
+pub(crate) fn are_own_keys(node: u8, value: Value) -> bool
     ensures { IsTrue result ↔ AreOwnKeys batches node value }
 {
     match value {
@@ -68,7 +69,7 @@ fn are_own_keys(node: u8, value: Value) -> bool
 }
 
 /// Returns true if `ballot` is below `other`.
-fn is_below(ballot: Ballot, other: Ballot) -> bool
+pub(crate) fn is_below(ballot: Ballot, other: Ballot) -> bool
     ensures { IsTrue result ↔ IsBelow ballot other }
 {
     ballot.round < other.round || (ballot.round == other.round && ballot.node < other.node)
@@ -106,59 +107,6 @@ pub fn fits_votes(size: u8, ballot: Ballot, first: u32, upto: u32, votes: &[Vote
         low = vote.place + 1;
     }
     true
-}
-
-/// Returns true if a promise is in its ranges: `upto` is at most 65,536, `first` is below it, and
-/// there are at most 8 votes, each in order.
-fn fits_promise(size: u8, ballot: Ballot, first: u32, upto: u32, votes: &[Vote]) -> bool
-    ensures { IsTrue result ↔ IsBody size 0 (body.Promise ballot first upto votes.now) }
-{
-    fits_ballot(size, ballot)
-        && first <= LAST_PLACE
-        && upto <= PLACES
-        && first < upto
-        && votes.len() <= MOST_VOTES
-        && fits_votes(size, ballot, first, upto, votes)
-}
-
-/// Returns true if a body that `sender` sends is in its ranges.
-fn fits_body(size: u8, sender: u8, body: &Body) -> bool
-    ensures { IsTrue result ↔ IsBody size sender body.now }
-{
-    match body {
-        Body::Prepare { ballot, from } => {
-            fits_ballot(size, *ballot) && ballot.node == sender && *from <= LAST_PLACE
-        }
-        Body::Promise {
-            ballot,
-            first,
-            upto,
-            votes,
-        } => fits_promise(size, *ballot, *first, *upto, votes.as_slice()),
-        Body::Accept {
-            ballot,
-            place,
-            value,
-        } => {
-            fits_ballot(size, *ballot)
-                && ballot.node == sender
-                && *place <= LAST_PLACE
-                && fits_value(size, *value)
-        }
-        Body::Accepted {
-            ballot,
-            place,
-            value,
-        } => fits_ballot(size, *ballot) && *place <= LAST_PLACE && fits_value(size, *value),
-        Body::Refused { ballot, promised } => {
-            fits_ballot(size, *ballot)
-                && fits_ballot(size, *promised)
-                && is_below(*ballot, *promised)
-        }
-        Body::Submit { key } => fits_value(size, *key) && are_own_keys(sender, *key),
-        Body::Ask { from } => *from <= PLACES,
-        Body::Tell { place, value } => *place <= LAST_PLACE && fits_value(size, *value),
-    }
 }
 
 /// Returns true if `message` has a spelling in the group: its sender is a node of it, and its body

@@ -1,11 +1,10 @@
 //! Reads the fields of a datagram. Each function reads the field at the front of the bytes. It
 //! returns the field and the bytes after it, or, where it has a value, the number of bytes that it
 //! takes.
-ghost use Rattle.std.specs.Prelude.{◌≡◌, ◌≤◌, ◌<◌, IfOk, Ok, drop};
-ghost use Rattle.paxos_msg.specs.Reading.{Gives, first_byte, bytes_at, number_at, ballot_at, own_ballot_at, place_at, is_batch, characters_at, value_at, own_keys_at, vote_at};
-ghost use Rattle.paxos_msg.specs.Raw.{Takes, raw_ballot_at, raw_characters_at, raw_keys_at, raw_value_at, raw_vote_at, keys_rest_at};
-ghost use Rattle.paxos_msg.specs.Views.{GivesField};
-ghost use Rattle.paxos_msg.specs.declared.limits.TheConstants.{MOST_CHARACTERS};
+ghost use Rattle.std.specs.Prelude.{◌≡◌, ◌≤◌, ◌<◌, IfErr, IfOk, Ok, Err, drop, length};
+ghost use Rattle.paxos_msg.specs.Reading.{Gives, first_byte, bytes_at, number_at, ballot_at, own_ballot_at, place_at, is_batch, characters_at, value_at, own_keys_at, vote_at, votes_at, GivesField};
+ghost use Rattle.paxos_msg.specs.Raw.{Takes, raw_ballot_at, raw_characters_at, raw_keys_at, raw_value_at, raw_vote_at, keys_rest_at, PassesVote, votes_left};
+ghost use Rattle.paxos_msg.specs.declared.limits.TheConstants.{MOST_CHARACTERS, PLACES};
 
 use crate::ballot::Ballot;
 use crate::characters::Characters;
@@ -320,4 +319,37 @@ pub(crate) fn vote_of(part: Part, low: u32, bytes: &[u8]) -> Result<(Vote, usize
         value,
     };
     Ok((vote, 9 + taken))
+}
+
+/// Checks one vote. Returns its place and the bytes after it. Fails as `vote_of` does.
+fn pass_vote(part: Part, low: u32, bytes: &[u8]) -> Result<(u32, &[u8]), WireFault>
+    ensures read { IfOk result
+        (λ x. PassesVote part.size part.ballot part.first part.upto low bytes.now x.0 x.1.now) }
+    ensures err { IfErr result
+        (λ e. vote_at part.size part.ballot part.first part.upto low bytes.now ≡ Err e) }
+    ensures place { IfOk result (λ x. x.0 < part.upto) }
+{
+    match vote_of(part, low, bytes) {
+        Ok((vote, taken)) => Ok((vote.place, &bytes[taken..])),
+        Err(fault) => Err(fault),
+    }
+}
+
+/// Checks `count` votes of a promise. Returns the bytes after them. Fails as the first vote that
+/// has a fault.
+#[tactic(auto, using(crate::proofs::VotesLeft::few_left))]
+pub(crate) fn after_votes(part: Part, count: u32, bytes: &[u8]) -> Result<&[u8], WireFault>
+    requires { part.upto ≤ PLACES }
+    ensures exact { Gives (λ rest. (votes_left count bytes.now, rest.now)) result
+        (votes_at part.size part.ballot part.first part.upto 0 count bytes.now) }
+    ensures few { length (votes_left count bytes.now) ≤ count }
+{
+    let mut rest = bytes;
+    let mut low = 0;
+    for _ in 0..count {
+        let (place, after) = pass_vote(part, low, rest)?;
+        rest = after;
+        low = place + 1;
+    }
+    Ok(rest)
 }

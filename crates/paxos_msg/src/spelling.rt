@@ -1,12 +1,12 @@
 //! Writes the parts of a datagram at the end of a vector. Each function needs the room to be made
 //! before, so it takes no memory and cannot fail.
-ghost use Rattle.std.specs.Prelude.{◌≡◌, ◌+◌, ◌≤◌, ◌++◌, ◌∷◌, [], length, vec_len, vec_capacity};
-ghost use Rattle.paxos_msg.specs.Spelling.{Puts, number_bytes, ballot_bytes, value_bytes, vote_bytes, votes_bytes, kind_of, header_bytes};
-ghost use Rattle.paxos_msg.specs.declared.limits.TheConstants.{MOST_VOTES};
+ghost use Rattle.std.specs.Prelude.{◌+◌, ◌≤◌, ◌∷◌, [], length, vec_len, vec_capacity};
+ghost use Rattle.paxos_msg.specs.Spelling.{Puts, number_bytes, ballot_bytes, value_bytes, vote_bytes, votes_bytes};
+ghost use Rattle.paxos_msg.specs.Datagrams.{header_bytes};
 
 use crate::ballot::Ballot;
 use crate::characters::Characters;
-use crate::message::{Body, Group};
+use crate::message::Group;
 use crate::value::{Value, Vote};
 use std::mem;
 
@@ -15,7 +15,7 @@ const VERSION: u8 = 2;
 
 /// Appends a byte.
 #[inline(always)]
-fn put_byte(byte: u8, out: &mut Vec<u8>)
+pub(crate) fn put_byte(byte: u8, out: &mut Vec<u8>)
     requires room { vec_len out.old + 1 ≤ vec_capacity out.old }
     ensures { Puts out.old out.new (byte ∷ []) }
 {
@@ -115,33 +115,6 @@ pub fn put_votes(votes: &[Vote], out: &mut Vec<u8>)
     }
 }
 
-/// Appends the fields of a promise: its ballot, the places from `first` up to `upto`, the number of
-/// votes in one byte, and the votes.
-pub(crate) fn put_promise(ballot: Ballot, first: u32, upto: u32, votes: &[Vote], out: &mut Vec<u8>)
-    requires few { length votes.now ≤ MOST_VOTES }
-    requires room { vec_len out.old + 14 + length (votes_bytes votes.now) ≤ vec_capacity out.old }
-    ensures { Puts out.old out.new
-        (ballot_bytes ballot ++ number_bytes first ++ number_bytes upto
-        ++ length votes.now ∷ votes_bytes votes.now) }
-{
-    put_ballot(ballot, out);
-    put_number(first, out);
-    put_number(upto, out);
-    put_byte(votes.len() as u8, out);
-    put_votes(votes, out);
-}
-
-/// Appends a ballot, a place and a value.
-pub(crate) fn put_proposal(ballot: Ballot, place: u32, value: Value, out: &mut Vec<u8>)
-    requires room { vec_len out.old + 9 + length (value_bytes value) ≤ vec_capacity out.old }
-    ensures { Puts out.old out.new
-        (ballot_bytes ballot ++ number_bytes place ++ value_bytes value) }
-{
-    put_ballot(ballot, out);
-    put_number(place, out);
-    put_value(value, out);
-}
-
 /// Appends the header of a datagram, ten bytes. `kind` is 1 to 8.
 pub(crate) fn put_header(group: Group, kind: u8, sender: u8, out: &mut Vec<u8>)
     requires room { vec_len out.old + 10 ≤ vec_capacity out.old }
@@ -154,20 +127,4 @@ pub(crate) fn put_header(group: Group, kind: u8, sender: u8, out: &mut Vec<u8>)
     put_byte(sender, out);
     put_byte(group.size, out);
     put_number(group.session, out);
-}
-
-/// Returns the number of a body's kind, 1 to 8.
-pub(crate) fn kind(body: &Body) -> u8
-    ensures { result ≡ kind_of body.now }
-{
-    match body {
-        Body::Prepare { .. } => 1,
-        Body::Promise { .. } => 2,
-        Body::Accept { .. } => 3,
-        Body::Accepted { .. } => 4,
-        Body::Refused { .. } => 5,
-        Body::Submit { .. } => 6,
-        Body::Ask { .. } => 7,
-        Body::Tell { .. } => 8,
-    }
 }

@@ -1,7 +1,7 @@
 //! Values of version 1, in which a value was one key or a no-op.
 ghost use Rattle.std.specs.Prelude.{Ok};
 ghost use Rattle.paxos_msg.specs.Version1.{key_rest_at_v1, value_at_v1};
-ghost use Rattle.paxos_msg.specs.Views.{GivesField};
+ghost use Rattle.paxos_msg.specs.Reading.{GivesField};
 
 use crate::characters::Characters;
 use crate::fault::WireFault;

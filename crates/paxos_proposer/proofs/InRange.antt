@@ -11,7 +11,8 @@ use Rattle.paxos_msg.specs.declared.message.Body.TheVariants.{Accept, Promise}
 use Rattle.paxos_msg.specs.declared.value.Value.{Value}
 use Rattle.paxos_msg.specs.declared.value.Value.TheVariants.{Noop}
 use Rattle.paxos_msg.specs.Batches.{Vote}
-use Rattle.paxos_msg.specs.Fits.{AreVotes, IsBallot, IsBody, IsPlace, IsValue}
+use Rattle.paxos_msg.specs.Fits.{AreVotes, IsBallot, IsPlace, IsValue}
+use Rattle.paxos_msg.specs.Bodies.{IsBody}
 use Rattle.paxos_msg.specs.Messages.{kept_vote_at}
 use Rattle.paxos_proposer.specs.Proposer.{Proposer, proposer_after_part, new_proposer, coverage_of, is_covered, is_kept_from, next_of, next_value, proposed_at, proposing, rises, value_or}
 use Rattle.paxos_proposer.specs.States.{IsProposerInRange, AreInRange}

@@ -8,7 +8,8 @@ use Rattle.paxos_msg.specs.declared.ballot.Ballot.{Ballot}
 use Rattle.paxos_msg.specs.Batches.{Sent, Vote}
 use Rattle.paxos_msg.specs.declared.message.Body.TheVariants.{Promise}
 use Rattle.paxos_msg.specs.Ballots.{IsAtMost}
-use Rattle.paxos_msg.specs.Fits.{AreVotes, IsBody}
+use Rattle.paxos_msg.specs.Fits.{AreVotes}
+use Rattle.paxos_msg.specs.Bodies.{IsBody}
 use Rattle.paxos_msg.specs.Messages.{IsSent, IsPromised, kept_vote_at}
 use Rattle.paxos_msg.specs.Sending.{IsBest, IsGreatest}
 use Rattle.paxos_msg.specs.Tests.{ballot_lt}

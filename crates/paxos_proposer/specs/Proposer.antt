@@ -106,38 +106,20 @@ asks_on p j first upto = if rises p j first upto && nat_lt upto PLACES then Some
 
 -- A body that is a promise, or a part of one, under the ballot.
 abbrev pub IsPromisePart : Ballot → Body → Type 0
-IsPromisePart b (body.Prepare ballot from) = ⊥
 IsPromisePart b (body.Promise ballot first upto votes) = ballot ≡ b
-IsPromisePart b (body.Accept ballot s v) = ⊥
-IsPromisePart b (body.Accepted ballot s v) = ⊥
-IsPromisePart b (body.Refused ballot promised) = ⊥
-IsPromisePart b (body.Submit v) = ⊥
-IsPromisePart b (body.Ask from) = ⊥
-IsPromisePart b (body.Tell s v) = ⊥
+IsPromisePart b _ = ⊥
 
 -- The proposer after a body: a part of a promise counts, and no other body changes anything.
 -- Source: Simple 2.2, phase 2(a).
 -- Forbids: A body of another kind that changes anything.
 abbrev pub heard_promise : Proposer → ℕ → Body → Proposer
-heard_promise p j (body.Prepare ballot from) = p
 heard_promise p j (body.Promise ballot first upto votes) = proposer_after_part p j first upto votes
-heard_promise p j (body.Accept ballot s v) = p
-heard_promise p j (body.Accepted ballot s v) = p
-heard_promise p j (body.Refused ballot promised) = p
-heard_promise p j (body.Submit v) = p
-heard_promise p j (body.Ask from) = p
-heard_promise p j (body.Tell s v) = p
+heard_promise p j _ = p
 
 -- The place from which to ask for more after a body, if any.
 abbrev pub asks_after : Proposer → ℕ → Body → Option ℕ
-asks_after p j (body.Prepare ballot from) = None
 asks_after p j (body.Promise ballot first upto votes) = asks_on p j first upto
-asks_after p j (body.Accept ballot s v) = None
-asks_after p j (body.Accepted ballot s v) = None
-asks_after p j (body.Refused ballot promised) = None
-asks_after p j (body.Submit v) = None
-asks_after p j (body.Ask from) = None
-asks_after p j (body.Tell s v) = None
+asks_after p j _ = None
 
 -- ---- proposing
 

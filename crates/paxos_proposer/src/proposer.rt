@@ -1,6 +1,6 @@
 //! A proposer under one ballot.
 ghost use Rattle.std.specs.Prelude.{◌≡◌, ◌↔◌, ◌+◌, ◌<◌, ◌≤◌, IsTrue, IsSome, IfOk, IfSome, IsOkUnless, OnOk, OnErr, IsErrOf, option_map};
-ghost use Rattle.paxos_msg.specs.Fits.{IsBody};
+ghost use Rattle.paxos_msg.specs.Bodies.{IsBody};
 ghost use Rattle.paxos_proposer.specs.Proposer.{IsPromisePart, asks_after, new_proposer, coverage_of, is_covered, is_kept_from, next_of, next_value, heard_promise, proposal, proposed_at, proposing};
 ghost use Rattle.paxos_msg.specs.declared.limits.TheConstants.{LAST_PLACE, MOST_NODES, PLACES};
 ghost use Rattle.paxos_proposer.specs.declared.proposer.TheConstants.{RESERVED_PROPOSALS};

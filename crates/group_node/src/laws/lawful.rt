@@ -4,20 +4,16 @@
 ghost use Rattle.std.specs.Prelude.{◌≡◌, ◌≢◌, ◌++◌, ◌∷◌, [], ℕ, List, Option, Some};
 ghost use Rattle.std.specs.FinMap.{empty, FinMap, get};
 ghost use Rattle.std.specs.Ordering.{nat_cmp};
-ghost use Rattle.paxos_msg.specs.declared.ballot.Ballot.{Ballot};
-ghost use Rattle.paxos_msg.specs.declared.message.Body.TheVariants.{Accept, Accepted, Ask, Prepare, Promise, Refused, Submit, Tell};
 ghost use Rattle.paxos_msg.specs.declared.value.Value.{Value};
-ghost use Rattle.paxos_msg.specs.Batches.{Body, Grew, MaySend, Record, Sent, Vote};
+ghost use Rattle.paxos_msg.specs.Batches.{Body, Grew, MaySend, Record, Sent};
 ghost use Rattle.paxos_msg.specs.Chosen.{IsChosen};
 ghost use Rattle.paxos_msg.specs.Keys.{Key, keys_of};
 ghost use Rattle.paxos_acceptor.specs.declared.me.Me.{Me};
 ghost use Rattle.paxos_acceptor.specs.Stores.{IsOneOf};
 ghost use Rattle.group_node.specs.Backs.{Backs, IsRecordBacked};
-ghost use Rattle.group_node.specs.Protocol.{on_message};
-ghost use Rattle.group_node.specs.AcceptorRows.{on_accept, on_prepare};
+ghost use Rattle.group_node.specs.Protocol.{on_message, row};
 ghost use Rattle.group_node.specs.Known.{on_typed, Response, new_key, Known, on_start};
-ghost use Rattle.group_node.specs.LearnerRows.{on_accepted, on_ask, on_tell};
-ghost use Rattle.group_node.specs.ProposerRows.{on_promise, on_submit, on_campaign, on_refused};
+ghost use Rattle.group_node.specs.ProposerRows.{on_campaign};
 ghost use Rattle.group_node.specs.Tick.{on_tick};
 ghost use Rattle.group_node.specs.Ranges.{IsInRange};
 ghost use Rattle.group_node.specs.Steps.{AllChosen, AllTyped, messages_handed_out, IsDelivered, IsLawful, IsLawfulCall};
@@ -64,31 +60,9 @@ pub fn calls_are_lawful()
 /// A message of each kind that was sent and has a spelling is lawful at a node that is in its
 /// ranges and backed, before the waiting keys below the front leave.
 pub fn rows_are_lawful()
-    ensures prepare { (sent : Sent) (typed : List Key) (n : Known) (j from : ℕ) (b : Ballot)
-        → IsInRange n → Backs sent typed n → IsDelivered sent n j (Prepare b from)
-        → IsLawfulCall sent typed n (on_prepare n b from) }
-    ensures promise { (sent : Sent) (typed : List Key) (n : Known) (j first upto : ℕ) (b : Ballot)
-        (votes : List Vote) → IsInRange n → Backs sent typed n
-        → IsDelivered sent n j (Promise b first upto votes)
-        → IsLawfulCall sent typed n (on_promise n j b first upto votes) }
-    ensures accept { (sent : Sent) (typed : List Key) (n : Known) (j s : ℕ) (b : Ballot)
-        (v : Value) → IsInRange n → Backs sent typed n → IsDelivered sent n j (Accept b s v)
-        → IsLawfulCall sent typed n (on_accept n b s v) }
-    ensures accepted { (sent : Sent) (typed : List Key) (n : Known) (j s : ℕ) (b : Ballot)
-        (v : Value) → IsInRange n → Backs sent typed n → IsDelivered sent n j (Accepted b s v)
-        → IsLawfulCall sent typed n (on_accepted n j b s v) }
-    ensures tell { (sent : Sent) (typed : List Key) (n : Known) (j s : ℕ) (v : Value)
-        → IsInRange n → Backs sent typed n → IsDelivered sent n j (Tell s v)
-        → IsLawfulCall sent typed n (on_tell n s v) }
-    ensures refused { (sent : Sent) (typed : List Key) (n : Known) (j : ℕ) (b promised : Ballot)
-        → IsInRange n → Backs sent typed n → IsDelivered sent n j (Refused b promised)
-        → IsLawfulCall sent typed n (on_refused n b promised) }
-    ensures submit { (sent : Sent) (typed : List Key) (n : Known) (j : ℕ) (v : Value)
-        → IsInRange n → Backs sent typed n → IsDelivered sent n j (Submit v)
-        → IsLawfulCall sent typed n (on_submit n v) }
-    ensures ask { (sent : Sent) (typed : List Key) (n : Known) (j from : ℕ) → IsInRange n
-        → Backs sent typed n → IsDelivered sent n j (Ask from)
-        → IsLawfulCall sent typed n (on_ask n j from) }
+    ensures { (sent : Sent) (typed : List Key) (n : Known) (j : ℕ) (body : Body) → IsInRange n
+        → Backs sent typed n → IsDelivered sent n j body
+        → IsLawfulCall sent typed n (row n j body) }
 {
     backing();
     proposer_stays_backed();

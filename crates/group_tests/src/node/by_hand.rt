@@ -2,6 +2,7 @@
 ghost use Rattle.std.specs.Prelude.{◌≡◌, IfOk};
 
 use crate::program::reading_program;
+use std::marker::Model;
 use std::test::Fail;
 
 // docs/LIBRARY.md shows the lines from here on:
@@ -71,19 +72,43 @@ fn show(node: &mut Node<'_, MemoryStore>, console: &mut Console) -> Result<(), N
 
 // docs/LIBRARY.md shows the lines up to here.
 
-/// Returns the free places of the outbox in the end, and the number of shown bytes.
-fn by_hand(alloc: Global, program: &Program) -> Result<(usize, usize), Fail> {
+/// The node that leads, and its outbox. Contracts see nothing of it, so that its state is not
+/// carried further.
+struct Leader<'a> {
+    node: Node<'a, MemoryStore>,
+    outbox: Outbox,
+}
+
+impl<'a> Drop for Leader<'a> {
+    fn drop(self) {
+        let Leader {
+            node: _node,
+            outbox: _outbox,
+        } = self;
+    }
+}
+
+impl<'a> Model for Leader<'a> {
+    ghost Value = { Unit {0} };
+
+    ghost view = { λ _. tt };
+}
+
+fn led(alloc: Global, program: &Program) -> Result<Leader<'_>, Fail> {
     let mut outbox = Outbox::new(alloc)?;
-    let mut console = Console::new(alloc);
     let Ok(mut node) = alone(alloc, program) else {
         return Err(Fail::from("no start"));
     };
-    let led = lead(&mut node, &mut outbox);
-    let shown = show(&mut node, &mut console);
-    let _store = node.into_store();
-    led?;
-    shown?;
-    Ok((outbox.free(), console.bytes().len()))
+    lead(&mut node, &mut outbox)?;
+    Ok(Leader { node, outbox })
+}
+
+/// Returns the free places of the outbox in the end, and the number of shown bytes.
+fn by_hand(alloc: Global, program: &Program) -> Result<(usize, usize), Fail> {
+    let mut leader = led(alloc, program)?;
+    let mut console = Console::new(alloc);
+    show(&mut leader.node, &mut console)?;
+    Ok((leader.outbox.free(), console.bytes().len()))
 }
 
 /// Shows Node::typed (ok, known), Node::campaign (responds), Node::on_message (responds),

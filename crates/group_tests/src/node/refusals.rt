@@ -29,9 +29,7 @@ fn fresh(
     lines: &[(Act, Option<NodeFault>)],
 ) -> Result<Option<usize>, NodeFault> {
     let mut seat = Seat::fresh(alloc, program, 1)?;
-    let unlike = first_unlike(&mut seat, lines);
-    let _store = seat.into_store();
-    Ok(unlike)
+    Ok(first_unlike(&mut seat, lines))
 }
 
 /// Asserts that node 1, after its first start over the program of the segment, answers as the lines
@@ -126,9 +124,7 @@ fn campaigns_above(
 ) -> Result<bool, NodeFault> {
     let promised = without_votes(alloc, 1, Some(ballot(round)));
     let mut seat = Seat::over(alloc, program, 1, promised)?;
-    let unlike = first_unlike(&mut seat, &[(Campaigns, fault)]);
-    let _store = seat.into_store();
-    Ok(unlike.is_none())
+    Ok(first_unlike(&mut seat, &[(Campaigns, fault)]).is_none())
 }
 
 /// Shows Node::campaign (refuses): after the greatest round a campaign is `RoundsSpent`.
@@ -193,10 +189,7 @@ fn left(refused: &StartRefused<MemoryStore>) -> (NodeFault, u32) {
 /// Returns how a start over the store is refused, and the number of starts that the store has then.
 fn refusal(alloc: Global, program: &Program, store: MemoryStore) -> Option<(NodeFault, u32)> {
     match Seat::start(alloc, program, 2, store) {
-        Ok(seat) => {
-            let _store = seat.into_store();
-            None
-        }
+        Ok(_) => None,
         Err(refused) => Some(left(&refused)),
     }
 }
@@ -240,8 +233,10 @@ fn is_given_up(seat: &mut Seat<'_>, saves: Act, is_kept: bool) -> bool {
     .is_none()
 }
 
-/// Returns what a store has: the promised ballot, the number of starts, and the number of votes.
-fn kept(store: &MemoryStore) -> (Option<Ballot>, u32, usize) {
+/// What a store has: the promised ballot, the number of starts, and the number of votes.
+type Kept = (Option<Ballot>, u32, usize);
+
+fn kept(store: &MemoryStore) -> Kept {
     let record = store.stored();
     (
         record.promised,
@@ -257,15 +252,29 @@ fn kept_after(
     program: &Program,
     saves: Act,
     is_kept: bool,
-) -> Result<Option<(Option<Ballot>, u32, usize)>, NodeFault> {
+) -> Result<Option<Kept>, NodeFault> {
     let mut seat = Seat::fresh(alloc, program, 1)?;
-    let is_given_up = is_given_up(&mut seat, saves, is_kept);
-    let store = seat.into_store();
-    if is_given_up {
-        Ok(Some(kept(&store)))
-    } else {
-        Ok(None)
+    if !is_given_up(&mut seat, saves, is_kept) {
+        return Ok(None);
     }
+    let store = seat.into_store();
+    Ok(Some(kept(&store)))
+}
+
+/// Asserts that after such a save that fails the store has the old record, or the changed one with
+/// so many votes.
+fn assert_kept<H: Abort + AllocGlobal>(
+    rt: &H,
+    program: &Program,
+    name: &str,
+    saves: Act,
+    votes: usize,
+) -> Result<(), Fail> {
+    let old = kept_after(rt.alloc(), program, saves, false)?;
+    assert_eq!(rt; old, Some((None, 1, 0)), "{name}");
+    let changed = kept_after(rt.alloc(), program, saves, true)?;
+    assert_eq!(rt; changed, Some((Some(ballot(1)), 1, votes)), "{name}");
+    Ok(())
 }
 
 /// Shows Node::fail_next (plan), Node::on_message (responds), Node::campaign (responds),
@@ -275,15 +284,7 @@ fn kept_after(
 #[test]
 fn saves_that_fail(rt: HostRuntime) -> Result<(), Fail> {
     let program = reading_program(rt.alloc())?;
-    for (name, saves, votes) in [
-        ("a campaign", Campaigns, 0),
-        ("a Prepare", Hears(&PREPARE), 0),
-        ("an Accept", Hears(&ACCEPT), 1),
-    ] {
-        for (is_kept, expected) in [(false, (None, 1, 0)), (true, (Some(ballot(1)), 1, votes))] {
-            let left = kept_after(rt.alloc(), &program, saves, is_kept)?;
-            assert_eq!(rt; left, Some(expected), "{name}, {is_kept}");
-        }
-    }
-    Ok(())
+    assert_kept(&rt, &program, "a campaign", Campaigns, 0)?;
+    assert_kept(&rt, &program, "a Prepare", Hears(&PREPARE), 0)?;
+    assert_kept(&rt, &program, "an Accept", Hears(&ACCEPT), 1)
 }

@@ -12,6 +12,7 @@ use group_node::NodeFault;
 use group_node::To::{All, One};
 use pcode_ops::Program;
 use std::alloc::Global;
+use std::marker::Model;
 use std::process::Abort;
 use std::test::Fail;
 
@@ -19,77 +20,64 @@ use std::test::Fail;
 /// next call that may send.
 type Line = (usize, Act);
 
-/// Returns true if the node of this number does or sends what its line says.
-fn comes_about(
-    first: &mut Seat<'_>,
-    second: &mut Seat<'_>,
-    third: &mut Seat<'_>,
-    number: usize,
-    what: Act,
-) -> bool {
-    match number {
-        1 => is_done(first, what),
-        2 => is_done(second, what),
-        _ => is_done(third, what),
+/// The nodes 1, 2 and 3. Contracts see nothing of them.
+struct Three<'a> {
+    first: Seat<'a>,
+    second: Seat<'a>,
+    third: Seat<'a>,
+}
+
+impl<'a> Drop for Three<'a> {
+    fn drop(self) {
+        let Three {
+            first: _first,
+            second: _second,
+            third: _third,
+        } = self;
     }
 }
 
-/// Lets the nodes 1, 2 and 3 do what the lines say. Returns the first line that does not hold.
-fn first_unlike(
-    first: &mut Seat<'_>,
-    second: &mut Seat<'_>,
-    third: &mut Seat<'_>,
-    lines: &[Line],
-) -> Option<usize> {
-    for (line, (number, what)) in lines.iter().enumerate() {
-        if !comes_about(first, second, third, *number, *what) {
-            return Some(line);
+impl<'a> Model for Three<'a> {
+    ghost Value = { Unit {0} };
+
+    ghost view = { λ _. tt };
+}
+
+impl<'a> Three<'a> {
+    /// Starts each node for the first time.
+    fn start(alloc: Global, program: &'a Program) -> Result<Three<'a>, NodeFault> {
+        Ok(Three {
+            first: Seat::fresh(alloc, program, 1)?,
+            second: Seat::fresh(alloc, program, 2)?,
+            third: Seat::fresh(alloc, program, 3)?,
+        })
+    }
+
+    /// Returns true if the node of this number does or sends what its line says.
+    fn is_done(&mut self, number: usize, what: Act) -> bool {
+        match number {
+            1 => is_done(&mut self.first, what),
+            2 => is_done(&mut self.second, what),
+            _ => is_done(&mut self.third, what),
         }
     }
-    None
-}
 
-/// Does the same, from the first start of node 3 on.
-fn with_third(
-    alloc: Global,
-    program: &Program,
-    first: &mut Seat<'_>,
-    second: &mut Seat<'_>,
-    lines: &[Line],
-) -> Result<Option<usize>, NodeFault> {
-    let mut third = Seat::fresh(alloc, program, 3)?;
-    let unlike = first_unlike(first, second, &mut third, lines);
-    let _store = third.into_store();
-    Ok(unlike)
-}
-
-/// Does the same, from the first start of node 2 on.
-fn with_second(
-    alloc: Global,
-    program: &Program,
-    first: &mut Seat<'_>,
-    lines: &[Line],
-) -> Result<Option<usize>, NodeFault> {
-    let mut second = Seat::fresh(alloc, program, 2)?;
-    let unlike = with_third(alloc, program, first, &mut second, lines);
-    let _store = second.into_store();
-    unlike
-}
-
-/// Does the same, from the first start of each on. Each node has a separate function, which
-/// keeps their proofs short.
-fn follow(alloc: Global, program: &Program, lines: &[Line]) -> Result<Option<usize>, NodeFault> {
-    let mut first = Seat::fresh(alloc, program, 1)?;
-    let unlike = with_second(alloc, program, &mut first, lines);
-    let _store = first.into_store();
-    unlike
+    /// Lets the nodes do what the lines say. Returns the first line that does not hold.
+    fn first_unlike(&mut self, lines: &[Line]) -> Option<usize> {
+        for (line, (number, what)) in lines.iter().enumerate() {
+            if !self.is_done(*number, *what) {
+                return Some(line);
+            }
+        }
+        None
+    }
 }
 
 /// Asserts that three nodes of the reading program do and send what the lines say.
 fn assert_follow(rt: &impl Abort, alloc: Global, lines: &[Line]) -> Result<(), Fail> {
     let program = reading_program(alloc)?;
-    let unlike = follow(alloc, &program, lines)?;
-    assert_eq!(rt; unlike, None);
+    let mut nodes = Three::start(alloc, &program)?;
+    assert_eq!(rt; nodes.first_unlike(lines), None);
     Ok(())
 }
 

@@ -1,4 +1,4 @@
-use Rattle.paxos_acceptor.proofs.TornAppends.{entries_stay}
+use Rattle.paxos_acceptor.proofs.SyncedEntries.{entries_stay}
 use Rattle.paxos_acceptor.proofs.laws.synced_entries_stay.Goals as goal
 
 pub returns : goal.returns

@@ -4,10 +4,10 @@ use Rattle.std.proofs.lemmas.Bool.Decides.{nat_tests}
 use Rattle.paxos_msg.specs.declared.message.Group.{Group}
 use Rattle.paxos_msg.specs.Batches.{Msg}
 use Rattle.paxos_msg.specs.declared.fault.WireFault.{WireFault}
-use Rattle.paxos_msg.specs.Reading.{Gives, message_at}
-use Rattle.paxos_msg.specs.Spelling.{Msgs}
+use Rattle.paxos_msg.specs.Reading.{Gives}
+use Rattle.paxos_msg.specs.Datagrams.{message_at, Msgs}
 use Rattle.paxos_msg.specs.Fits.{AreBytes, IsGroup}
-use Rattle.paxos_msg.specs.Views.{HasUpTo}
+use Rattle.paxos_msg.specs.Bodies.{HasUpTo}
 use Rattle.paxos_msg.specs.declared.limits.TheConstants.{MOST_VOTES}
 use Rattle.paxos_msg.proofs.MessagesRead.{message_again, reading_is_spelling}
 use Rattle.paxos_msg.proofs.SpellingLengths.{few_votes}

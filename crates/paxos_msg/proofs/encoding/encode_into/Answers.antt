@@ -1,5 +1,5 @@
 use Rattle.std.proofs.Common.{◌≤◌, length, arith}
-use Rattle.paxos_msg.specs.Spelling.{body_bytes}
+use Rattle.paxos_msg.specs.Bodies.{body_bytes}
 use Rattle.paxos_msg.proofs.SpellingLengths.{body_short}
 use Rattle.paxos_msg.proofs.encoding.encode_into.Goals as goal
 

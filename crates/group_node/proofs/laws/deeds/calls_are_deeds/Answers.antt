@@ -29,13 +29,10 @@ use Rattle.group_node.proofs.laws.deeds.calls_are_deeds.Goals as goal
 all_stay : {learned : FinMap nat_cmp Value} {keys stay : List Key} → stay ≡ keys → AreParted learned keys stay
 all_stay {learned} e = grind (arith, nat_tests)
 
--- a save of a lawful call makes the record what it says
-saved_after : (sent : Sent) (old new : Record) (saves : Option Change) → IsSavedBy sent old saves new → new ≡ after old saves
-saved_after sent old new saves e = grind (arith, nat_tests)
-
--- and it may be made
-saved_may : (sent : Sent) (old new : Record) (saves : Option Change) → IsSavedBy sent old saves new → IfSome saves (MaySave sent old)
-saved_may sent old new saves e = grind (arith, nat_tests)
+-- a save of a lawful call makes the record what it says, and may be made
+saved : (sent : Sent) (old new : Record) (saves : Option Change) → IsSavedBy sent old saves new
+    → (new ≡ after old saves) × IfSome saves (MaySave sent old)
+saved sent old new saves e = grind (arith, nat_tests)
 
 -- a node whose save failed
 fell : {r : Record} {console : List ℕ} (w : WorldState) (i : ℕ) (left : Record) (change : Change) → (w.seats i).kept ≡ r
@@ -71,9 +68,7 @@ module _ {w : WorldState} {n : Known} {k : ℕ} {c : Configuration} {console : L
       → MakesCall w (after_call w n.me.node done keys c k console) n.me.node done.saves keys
   call_made done keys ranges lawful me same parted =
       let now : Up = record { learned = done.node.learner.learned; configuration = c; released = k; waiting = waiting_keys done.node } in
-      let kept : done.node.kept ≡ after (w.seats n.me.node).kept done.saves =
-      saved_after w.sent n.kept done.node.kept done.saves lawful.saves
-      ∙ ap (λ (r : Record). after r done.saves) (sym kept_same) in
+      let saves = rw (← kept_same) at (saved w.sent n.kept done.node.kept done.saves lawful.saves) in
       let size : done.node.learner.size ≡ w.size = same ∙ ranges.learner.size ∙ sym sits.size in
       record {
         bodies = bodies_of done.sends;
@@ -82,7 +77,7 @@ module _ {w : WorldState} {n : Known} {k : ℕ} {c : Configuration} {console : L
         from = ap (λ (s : Seat). s.up) sits.seat;
         left =
             seat_here w n.me.node (seat_of done.node c k console)
-            ∙ (λ t. record { kept = kept t; console = sym console_same t; up = Some now });
+            ∙ (λ t. record { kept = saves.0 t; console = sym console_same t; up = Some now });
         rest =
             record {
               program = refl;
@@ -91,8 +86,8 @@ module _ {w : WorldState} {n : Known} {k : ℕ} {c : Configuration} {console : L
               sent = refl;
               typed = refl;
             };
-        saves = rw kept_same (saved_may w.sent n.kept done.node.kept done.saves lawful.saves);
-        sends = rw (← kept, sits.size, ← me) lawful.sends;
+        saves = saves.1;
+        sends = rw (← saves.0, sits.size, ← me) lawful.sends;
         learns = record {
           keeps = lawful.keeps;
           gains = λ s v e. inr (rw size at (lawful.learns.learned s v e));

@@ -1,6 +1,6 @@
 -- A node that leads, with a key that waits and was offered, a kept vote and a tally.
-use Rattle.std.proofs.Common.{◌≡◌, ◌∙◌, ℕ, zero, suc, inr, List, [], ◌∷◌, ◌++◌, length, None, Some, refl, sym, subst, arith}
-use Rattle.std.specs.FinMap.{empty, entries, get, get-empty, insert, len-empty, len-entries}
+use Rattle.std.proofs.Common.{◌≡◌, ℕ, zero, suc, [], ◌∷◌, ◌++◌, None, Some, refl, subst, arith}
+use Rattle.std.specs.FinMap.{empty, get, get-empty, insert}
 use Rattle.std.specs.Ordering.{nat_cmp}
 use Rattle.std.proofs.lemmas.Bool.Decides.{nat_tests}
 use Rattle.paxos_msg.specs.declared.ballot.Ballot.{Ballot}
@@ -8,7 +8,8 @@ use Rattle.paxos_msg.specs.declared.value.Value.{Value}
 use Rattle.paxos_msg.specs.declared.value.Value.TheVariants.{Keys, Noop}
 use Rattle.paxos_msg.specs.declared.message.Body.TheVariants.{Accept, Accepted, Prepare, Promise}
 use Rattle.paxos_msg.specs.Batches.{Sent, Vote}
-use Rattle.paxos_msg.specs.Fits.{IsBallot, IsBody, IsValue, AreBytes}
+use Rattle.paxos_msg.specs.Bodies.{IsBody}
+use Rattle.paxos_msg.specs.Fits.{IsValue, AreBytes}
 use Rattle.paxos_msg.specs.Keys.{Key}
 use Rattle.paxos_msg.specs.Messages.{IsSaid}
 use Rattle.paxos_proposer.specs.Backed.{IsProposerBacked, IsQuietUnder}
@@ -19,6 +20,7 @@ use Rattle.paxos_learner.specs.Learner.{IsLearnerInRange, Hearing, Learner, new_
 use Rattle.paxos_learner.specs.Tallies.{Tally, begun_tally as heard_of}
 use Rattle.paxos_learner.specs.declared.heard.Heard.TheVariants.{Counted}
 use Rattle.paxos_learner.proofs.OnePlace.{get_here}
+use Rattle.group_node.proofs.Elements.{entries_none}
 use Rattle.group_node.specs.Backs.{Backs, HasPromised}
 use Rattle.group_node.specs.Known.{Known}
 use Rattle.group_node.specs.Ranges.{IsInRange}
@@ -103,16 +105,12 @@ n = record {
 unsaid : (s : ℕ) (v : Value) → IsSaid asked (Accept b s v) → ⊥
 unsaid s v (i, h) = grind (arith, nat_tests)
 
--- all was asked and proposed under the one ballot
-asked_under : (c : Ballot) (from : ℕ) → IsSaid sent (Prepare c from) → c ≡ b
-asked_under c from (i, h) = grind (arith, nat_tests)
+-- all was asked and proposed under the promised ballot
+asked_promised : (c : Ballot) (from : ℕ) → IsSaid sent (Prepare c from) → HasPromised n.kept c
+asked_promised c from (i, h) = grind (arith, nat_tests)
 
-proposed_under : (c : Ballot) (s : ℕ) (v : Value) → IsSaid sent (Accept c s v) → c ≡ b
-proposed_under c s v (i, h) = grind (arith, nat_tests)
-
--- the record has promised it
-is_promised : (c : Ballot) → c ≡ b → HasPromised n.kept c
-is_promised c e = rw e (inr (refl, omega arith))
+proposed_promised : (c : Ballot) (s : ℕ) (v : Value) → IsSaid sent (Accept c s v) → HasPromised n.kept c
+proposed_promised c s v (i, h) = grind (arith, nat_tests)
 
 -- what came after the proposal proposes nothing
 quiet : IsQuietUnder b proposed sent
@@ -120,26 +118,13 @@ quiet = grind (arith, nat_tests)
 
 -- ---- what its learner hears
 
-no_entries : {X : Type 0} (xs : List X) → length xs ≡ 0 → xs ≡ []
-no_entries [] e = refl
-no_entries (x ∷ xs) e = absurd (omega arith)
-
-entries_none : entries (empty {X = Value} {R = nat_cmp}) ≡ []
-entries_none = no_entries (entries empty) (sym (len-entries empty) ∙ len-empty nat_cmp Value)
-
-value_none : get (empty {X = Value} {R = nat_cmp}) 0 ≡ None
-value_none = get-empty nat_cmp 0
-
-tally_none : get (empty {X = Tally} {R = nat_cmp}) 0 ≡ None
-tally_none = get-empty nat_cmp 0
-
 heard_one : heard_accepted (new_learner 3) 2 b 0 batch ≡ record { learner = l; answer = Counted }
-heard_one = rw (value_none, entries_none, tally_none) refl
+heard_one =
+    let value : get (empty {X = Value} {R = nat_cmp}) 0 ≡ None = get-empty nat_cmp 0 in
+    let tally : get (empty {X = Tally} {R = nat_cmp}) 0 ≡ None = get-empty nat_cmp 0 in
+    rw (value, entries_none {X = Value}, tally) refl
 
 -- ---- ranges
-
-ballot_fits : IsBallot 3 b
-ballot_fits = ((omega arith, omega arith), (omega arith, omega arith))
 
 one_byte : AreBytes (65 ∷ [])
 one_byte zero = omega arith
@@ -149,7 +134,7 @@ batch_fits : IsValue 3 batch
 batch_fits = grind (arith, nat_tests)
 
 part_body : (j : ℕ) → IsBody 3 j (Promise b 0 65536 [])
-part_body j = grind (arith, nat_tests, ballot_fits)
+part_body j = grind (arith, nat_tests)
 
 vote_body : IsBody 3 3 (Promise b 0 65536 (vote ∷ []))
 vote_body = grind (arith, nat_tests)
@@ -173,14 +158,14 @@ module _ (c : goal.After-window_holds) where
       (c.parts_keep_it_backed.ensures proposed 1 3 0 65536 p_3 (vote ∷ []) p_3_backed (omega arith) vote_body (3, omega arith, refl))
 
   p_3_fits : IsProposerInRange p_3
-  p_3_fits = grind (arith, nat_tests, ballot_fits, part_body, batch_fits, c.what_goes_out_fits.ensures)
+  p_3_fits = grind (arith, nat_tests, part_body, batch_fits, c.what_goes_out_fits.ensures)
 
   -- ---- the node
 
   n_fits : IsInRange n
   n_fits = record {
-    me = record { node = (omega arith, omega arith); few = omega arith };
-    kept = record { starts = omega arith; kept = (ballot_fits, tt) };
+    me = omega arith;
+    kept = grind (arith, nat_tests);
     counted = omega arith;
     proposer =
         record { size = refl; own = refl; ranges = c.what_goes_out_fits.ensures.parts 3 0 65536 p_3 (vote ∷ []) p_3_fits vote_body };
@@ -198,8 +183,8 @@ module _ (c : goal.After-window_holds) where
   n_backed = record {
     kept = record {
       votes = record { votes = λ s. tt; in_order = tt };
-      asked = λ c from mine said. is_promised c (asked_under c from said);
-      own = λ c s v mine said. is_promised c (proposed_under c s v said);
+      asked = λ c from mine said. asked_promised c from said;
+      own = λ c s v mine said. proposed_promised c s v said;
     };
     proposer = record { backed = p_backed; promised = refl };
     learner =
@@ -218,8 +203,7 @@ returns c = (
   n_fits c,
   n_backed c,
   (refl, omega arith),
-  rw
-      (get_here {X = Tally} empty 0 tally) refl,
+  rw (get_here {X = Tally} empty 0 tally) refl,
   omega arith,
   omega arith,
 )

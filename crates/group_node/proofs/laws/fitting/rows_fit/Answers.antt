@@ -6,7 +6,8 @@ use Rattle.std.proofs.lemmas.List.Elements.{All-append}
 use Rattle.std.proofs.lemmas.Bool.Decides.{nat_tests}
 use Rattle.paxos_msg.specs.declared.ballot.Ballot.{Ballot}
 use Rattle.paxos_msg.specs.declared.message.Body.TheVariants.{Promise}
-use Rattle.paxos_msg.specs.Fits.{IsBody, AreBytes}
+use Rattle.paxos_msg.specs.Bodies.{IsBody}
+use Rattle.paxos_msg.specs.Fits.{AreBytes}
 use Rattle.paxos_msg.specs.Keys.{Key, keys_from}
 use Rattle.paxos_acceptor.specs.Answers.{Answer, accept_of, after, prepare_of}
 use Rattle.paxos_acceptor.specs.Records.{IsRecord}

@@ -7,7 +7,8 @@ use Rattle.std.proofs.lemmas.Bool.Decides.{nat_tests}
 use Rattle.base.proofs.Lists.{all_of_one}
 use Rattle.paxos_msg.specs.declared.message.Body.TheVariants.{Accept, Accepted, Ask, Prepare, Promise, Refused, Submit, Tell}
 use Rattle.paxos_msg.specs.Batches.{Body, Record}
-use Rattle.paxos_msg.specs.Fits.{IsBallot, IsBody, AreBytes}
+use Rattle.paxos_msg.specs.Fits.{IsBallot, AreBytes}
+use Rattle.paxos_msg.specs.Bodies.{IsBody}
 use Rattle.paxos_acceptor.specs.declared.me.Me.{Me}
 use Rattle.paxos_acceptor.specs.Records.{IsRecord}
 use Rattle.paxos_proposer.specs.Proposer.{coverage_of}

@@ -1,7 +1,7 @@
 -- There is an input that was chosen: what was sent determines at each place what is chosen there,
 -- or that nothing is. As at most one value is chosen at a place, there is one input alone, with
 -- which that of any chosen values begins.
-use Rattle.std.proofs.Common.{◌&&◌, ◌==◌, ◌≡◌, ℕ, zero, suc, ◌+◌, ◌*◌, ◌<◌, ◌≤◌, ◌⊎◌, Bool, true, false, IsTrue, [], ◌∷◌, Contains, if◌then◌else◌, inl, inr, ap, arith, List, length, slice_get, Some, refl, subst, add-zero, sym, ◌++◌, ◌∙◌}
+use Rattle.std.proofs.Common.{◌&&◌, ◌==◌, ◌≡◌, ℕ, zero, suc, ◌+◌, ◌*◌, ◌<◌, ◌≤◌, ◌⊎◌, Bool, true, false, [], ◌∷◌, Contains, inl, inr, ap, arith, List, length, slice_get, Some, refl, subst, sym, ◌++◌, ◌∙◌}
 use Rattle.std.proofs.lemmas.Bool.{cases_lt}
 use Rattle.std.specs.List.{list_any}
 use Rattle.std.proofs.lemmas.List.Folds.{list_any_at}
@@ -18,6 +18,7 @@ use Rattle.paxos_msg.specs.Tests.{same_ballot, same_value}
 use Rattle.paxos_learner.specs.Input.{input_of}
 use Rattle.group_node.specs.Inputs.{IsInput, AreChosen}
 use Rattle.pcode_machine.specs.Runs.{IsPrefix}
+use Rattle.group_node.proofs.Elements.{count_grows, in_cases, none_in}
 use Rattle.group_node.proofs.laws.inputs.input_is_chosen.Goals as goal
 
 -- the laws of the crates below
@@ -69,25 +70,12 @@ module _ (laws : Laws) (sent : Sent) (b : Ballot) (s : ℕ) (v : Value) (i : ℕ
       itself : is_accepted (accepted i b s v) (accepted i b s v) ≡ true
       itself = grind (arith, nat_tests, laws.tests_are_exact.ensures.same, laws.tests_are_exact.ensures.same_values)
 
--- a message is the first, or one of the others
-contains_cases : (m : Msg) (ms : Sent) (x : Msg) → Contains (m ∷ ms) x → (m ≡ x) ⊎ Contains ms x
-contains_cases m ms x h1 = grind (arith, nat_tests)
-
--- one more node is counted in the larger set if it is in the smaller
-more_count : (x y : Bool) (m n : ℕ) → (IsTrue x → IsTrue y) → m ≤ n → (if x then 1 else 0) + m ≤ (if y then 1 else 0) + n
-more_count x y m n h low = grind (arith, nat_tests)
-
--- a set of more nodes counts no fewer
-count_more : (x y : ℕ → Bool) (n : ℕ) → ((i : ℕ) → IsTrue (x i) → IsTrue (y i)) → count_of x n ≤ count_of y n
-count_more x y zero h = omega arith
-count_more x y (suc n) h = more_count (x (suc n)) (y (suc n)) (count_of x n) (count_of y n) (h (suc n)) (count_more x y n h)
-
 -- a value is chosen by a ballot, or it isn't
 chosen_decided : Laws → (size : ℕ) (sent : Sent) (b : Ballot) (s : ℕ) (v : Value) → Decided (IsChosenBy size sent b s v)
 chosen_decided laws size sent b s v = elim (cases_lt size (2 * count_of (acceptors sent b s v) size)) [
   | inl majority ↦ inl (acceptors sent b s v, majority, acceptors_sent laws sent b s v)
   | inr few ↦ inr (λ h.
-      omega (arith, few, h.1, count_more h.0 (acceptors sent b s v) size (λ i member. sent_acceptors laws sent b s v i (h.2 i member))))
+      omega (arith, few, h.1, count_grows h.0 (acceptors sent b s v) size (λ i member. sent_acceptors laws sent b s v i (h.2 i member))))
 ]
 
 -- what is chosen was accepted in a message
@@ -97,144 +85,95 @@ chosen_was_accepted h1 size sent b s v h2 = grind (arith, nat_tests)
 
 -- ---- what is chosen at a place
 
-module _ (laws : Laws) (size : ℕ) (sent : Sent) (s : ℕ) where
-  -- a value is chosen at the place
-  Found : Type 0
-  Found = (v : Value) × IsChosen size sent s v
-
-  -- no value is chosen there by a ballot under which one of these messages accepts it
-  NoneBy : Sent → Type 0
-  NoneBy messages = (i : ℕ) (b : Ballot) (v : Value) → Contains messages (accepted i b s v) → IsChosenBy size sent b s v → ⊥
-
-  -- the same of one message
-  NoneByOne : Body → Type 0
-  NoneByOne body = (b : Ballot) (v : Value) → body ≡ Accepted b s v → IsChosenBy size sent b s v → ⊥
-
-  -- a value is found by one message, or none
-  find_by : (body : Body) → Found ⊎ NoneByOne body
-  unfolding Found NoneByOne
-  find_by (Accepted c t u) = elim (chosen_decided laws size sent c s u) [
-    | inl chosen ↦ inl (u, (c, chosen))
-    | inr none ↦ inr (λ b v e chosen.
-        let eb : c ≡ b = cc in
-        let ev : u ≡ v = cc in
-        none (rw (eb, ev) chosen))
-  ]
-  find_by other = inr (λ b v e. absurd cc)
-
-  -- a value is found by one of the messages, or none
-  find : (messages : Sent) → Found ⊎ NoneBy messages
-  unfolding Found NoneBy NoneByOne
-  find [] = inr (λ i b v h. omega (arith, h.1))
-  find (m ∷ ms) = elim (find_by m.body) [
+-- a thing in a list is found, or the list has none
+find : {X : Type 0} (P : X → Type 0) → ((x : X) → Decided (P x)) → (xs : List X) → ((x : X) × P x) ⊎ ((x : X) → Contains xs x → P x → ⊥)
+find P each [] = inr (λ x h is. none_in x h)
+find P each (x ∷ xs) = elim (each x) [
+  | inl here ↦ inl (x, here)
+  | inr none ↦ elim (find P each xs) [
     | inl found ↦ inl found
-    | inr none ↦ elim (find ms) [
-      | inl found ↦ inl found
-      | inr later ↦ inr (λ i b v h. elim (contains_cases m ms (accepted i b s v) h) [
-        | inl e ↦ none b v (ap (λ (x : Msg). x.body) e)
-        | inr there ↦ later i b v there
-      ])
+    | inr later ↦ inr (λ y h is. elim (in_cases x xs y h) [ inl e ↦ none (subst P (sym e) is) | inr there ↦ later y there is ])
+  ]
+]
+
+-- the body accepts a value under a ballot by which that is chosen at the place
+abbrev Accepts : ℕ → Sent → ℕ → Body → Type 0
+Accepts size sent s (Accepted b t v) = IsChosenBy size sent b s v
+Accepts size sent s other = ⊥
+
+-- whether it does
+accepts_decided : Laws → (size : ℕ) (sent : Sent) (s : ℕ) (body : Body) → Decided (Accepts size sent s body)
+accepts_decided laws size sent s (Accepted b t v) = chosen_decided laws size sent b s v
+accepts_decided laws size sent s other = inr (λ h. h)
+
+-- its value is chosen there
+its_value : (size : ℕ) (sent : Sent) (s : ℕ) (body : Body) → Accepts size sent s body → (v : Value) × IsChosen size sent s v
+its_value size sent s (Accepted b t v) h = (v, (b, h))
+its_value size sent s other h = absurd h
+
+-- there is a chosen value, or none is chosen
+place_decided : Laws → (size : ℕ) (sent : Sent) (s : ℕ)
+    → ((v : Value) × IsChosen size sent s v) ⊎ ((v : Value) → IsChosen size sent s v → ⊥)
+place_decided laws size sent s =
+    elim (find (λ (m : Msg). Accepts size sent s m.body) (λ m. accepts_decided laws size sent s m.body) sent) [
+      | inl found ↦ inl (its_value size sent s found.0.body found.1)
+      | inr none ↦ inr (λ v h.
+          let said = chosen_was_accepted laws size sent h.0 s v h.1 in
+          none (accepted said.0 h.0 s v) said.1 h.1)
     ]
-  ]
-
-  -- there is a chosen value, or none is chosen
-  place_decided : ((v : Value) × IsChosen size sent s v) ⊎ ((v : Value) → IsChosen size sent s v → ⊥)
-  unfolding Found NoneBy
-  place_decided = elim (find sent) [
-    | inl found ↦ inl found
-    | inr none ↦ inr (λ v h.
-        let said = chosen_was_accepted laws size sent h.0 s v h.1 in
-        none said.0 h.0 v said.1 h.1)
-  ]
 
 -- ---- the places
 
 -- the place of a message that accepts a value
-place_of : Body → ℕ
+abbrev place_of : Body → ℕ
 place_of (Accepted b s v) = s
 place_of other = 0
 
 -- no place of a message reaches this number
-places : Sent → ℕ
+abbrev places : Sent → ℕ
 places [] = 0
 places (m ∷ ms) = suc (place_of m.body + places ms)
 
 -- the place of each accepted value is below it
 below_places : (sent : Sent) (i : ℕ) (b : Ballot) (s : ℕ) (v : Value) → Contains sent (accepted i b s v) → s < places sent
-unfolding places place_of
 below_places [] i b s v h = omega (arith, h.1)
-below_places (m ∷ ms) i b s v h = elim (contains_cases m ms (accepted i b s v) h) [
+below_places (m ∷ ms) i b s v h = elim (in_cases m ms (accepted i b s v) h) [
   | inl e ↦ let at : place_of m.body ≡ s = ap (λ (x : Msg). place_of x.body) e in omega arith
   | inr later ↦ let below : s < places ms = below_places ms i b s v later in omega arith
 ]
 
--- so is each place at which a value is chosen
-chosen_below : Laws → (size : ℕ) (sent : Sent) (s : ℕ) (v : Value) → IsChosen size sent s v → s < places sent
-chosen_below laws size sent s v h =
-    let said = chosen_was_accepted laws size sent h.0 s v h.1 in
-    below_places sent said.0 h.0 s v said.1
-
--- the values chosen from place s on, up to the first place at which nothing is chosen
-record ChosenFrom (size : ℕ) (sent : Sent) (s : ℕ) : Type 0 where
+-- Values as long as there is one for each place, up to the first place for which there is none.
+record UpToGap (P : ℕ → Value → Type 0) : Type 0 where
   values : List Value
-  chosen : (t : ℕ) (v : Value) → slice_get values t ≡ Some v → IsChosen size sent (s + t) v
-  over : (v : Value) → IsChosen size sent (s + length values) v → ⊥
+  each : (s : ℕ) (v : Value) → slice_get values s ≡ Some v → P s v
+  over : (v : Value) → P (length values) v → ⊥
 
-module _ (laws : Laws) (size : ℕ) (sent : Sent) where
-  -- nothing is chosen at the place
-  none_from : (s : ℕ) → ((v : Value) → IsChosen size sent s v → ⊥) → ChosenFrom size sent s
-  none_from s none =
-      let here : s ≡ s + 0 = omega arith in
-      record {
-        values = [];
-        chosen = λ t v e. absurd cc;
-        over = λ v. rw here at (none v);
-      }
+-- one more in front
+in_front : (P : ℕ → Value → Type 0) (v : Value) → P 0 v → UpToGap (λ s. P (suc s)) → UpToGap P
+in_front P v here later = record { values = v ∷ later.values; each = each; over = later.over }
+  where
+    each : (s : ℕ) (w : Value) → slice_get (v ∷ later.values) s ≡ Some w → P s w
+    each zero w e = let same : v ≡ w = cc in rw (← same) here
+    each (suc s) w e = later.each s w e
 
-  -- a value is chosen at the place, and these at the next ones
-  one_from : (s : ℕ) (v : Value) → IsChosen size sent s v → ChosenFrom size sent (s + 1) → ChosenFrom size sent s
-  one_from s v here later = record {
-    values = v ∷ later.values;
-    chosen = each;
-    over = λ w h. later.over w (rw next_place at h);
-  }
-    where
-      next_place : s + length (v ∷ later.values) ≡ (s + 1) + length later.values
-      next_place = omega arith
+-- there are such values where places below a number alone have one
+up_to_gap : (P : ℕ → Value → Type 0) → ((s : ℕ) → ((v : Value) × P s v) ⊎ ((v : Value) → P s v → ⊥)) → (n : ℕ)
+    → ((s : ℕ) (v : Value) → P s v → s < n) → UpToGap P
+up_to_gap P at zero low = record { values = []; each = λ s v e. absurd cc; over = λ v h. omega (arith, low 0 v h) }
+up_to_gap P at (suc n) low = elim (at 0) [
+  | inl found ↦
+      in_front P found.0 found.1 (up_to_gap (λ s. P (suc s)) (λ s. at (suc s)) n (λ s v h. omega (arith, low (suc s) v h)))
+  | inr none ↦ record { values = []; each = λ s v e. absurd cc; over = none }
+]
 
-      each : (t : ℕ) (w : Value) → slice_get (v ∷ later.values) t ≡ Some w → IsChosen size sent (s + t) w
-      each zero w e =
-          let same : v ≡ w = cc in
-          rw (add-zero s, ← same) here
-      each (suc t) w e =
-          let place : s + suc t ≡ (s + 1) + t = omega arith in
-          rw place (later.chosen t w e)
-
-  -- the values from any place on
-  chosen_from : (n s : ℕ) → s + n ≡ places sent → ChosenFrom size sent s
-  chosen_from zero s e = none_from s (λ v h. omega (arith, e, chosen_below laws size sent s v h))
-  chosen_from (suc n) s e = elim (place_decided laws size sent s) [
-    | inl found ↦ one_from s found.0 found.1 (chosen_from n (s + 1) (omega arith))
-    | inr none ↦ none_from s none
-  ]
-
-  -- there is an input
-  input_is_there : (x : List ℕ) × IsInput size sent x
-  input_is_there =
-      let from = chosen_from (places sent) 0 (omega arith) in (
-        input_of from.values,
-        record {
-          values = from.values;
-          chosen =
-              record {
-                chosen = λ s v e. let place : 0 + s ≡ s = omega arith in
-                    subst (λ (n : ℕ). IsChosen size sent n v) place (from.chosen s v e);
-              };
-          over = λ v h. let place : length from.values ≡ 0 + length from.values =
-              omega arith in from.over v (subst (λ (n : ℕ). IsChosen size sent n v) place h);
-          bytes = refl;
-        },
-      )
+-- there is an input
+input_is_there : Laws → (size : ℕ) (sent : Sent) → (x : List ℕ) × IsInput size sent x
+input_is_there laws size sent =
+    let low = λ (s : ℕ) (v : Value) (h : IsChosen size sent s v).
+    let said = chosen_was_accepted laws size sent h.0 s v h.1 in
+    below_places sent said.0 h.0 s v said.1 in
+    let all = up_to_gap (IsChosen size sent) (place_decided laws size sent) (places sent) low in
+    (input_of all.values, record { values = all.values; chosen = record { chosen = all.each }; over = all.over; bytes = refl })
 
 -- of two lists that agree wherever both have something the shorter begins the longer
 agree_prefix : {X : Type 0} (a b : List X)

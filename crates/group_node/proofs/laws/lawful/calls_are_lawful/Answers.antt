@@ -7,9 +7,9 @@ use Rattle.base.proofs.Lists.{all_of_one}
 use Rattle.paxos_msg.specs.declared.ballot.Ballot.{Ballot}
 use Rattle.paxos_msg.specs.declared.value.Value.{Value}
 use Rattle.paxos_msg.specs.declared.record.Change.TheVariants as change
-use Rattle.paxos_msg.specs.declared.message.Body.TheVariants.{Accept, Accepted, Ask, Prepare, Promise, Refused, Submit, Tell}
+use Rattle.paxos_msg.specs.declared.message.Body.TheVariants.{Accept, Prepare, Promise}
 use Rattle.paxos_msg.specs.Ballots.{IsAtMost, IsBelow}
-use Rattle.paxos_msg.specs.Batches.{Body, IsTyped, Sent}
+use Rattle.paxos_msg.specs.Batches.{IsTyped, Sent}
 use Rattle.paxos_msg.specs.Keys.{Key, keys_from, keys_of}
 use Rattle.paxos_msg.specs.Messages.{IsSent}
 use Rattle.paxos_msg.specs.Records.{MaySave}
@@ -20,8 +20,7 @@ use Rattle.group_node.specs.Packets.{Packet, to_all}
 use Rattle.group_node.specs.Protocol.{row}
 use Rattle.group_node.specs.ProposerRows.{next_ballot, on_campaign}
 use Rattle.group_node.specs.Pump.{accepts_of, pump}
-use Rattle.group_node.specs.Ranges.{IsInRange}
-use Rattle.group_node.specs.Steps.{IsDelivered, IsLawful, messages_handed_out}
+use Rattle.group_node.specs.Steps.{IsLawful, messages_handed_out}
 use Rattle.group_node.specs.Tick.{accepts_again, asks, prepares_again}
 use Rattle.group_node.specs.WaitingKeys.{batch_of, count_gone, waiting_keys}
 use Rattle.group_node.proofs.ByCases.{by_tick, each_accept, each_last, each_prepare}
@@ -64,18 +63,6 @@ not_promised o b h above = grind (arith, nat_tests)
 
 sending : goal.After-begins_backed → SendingLaws
 sending c = grind (arith, nat_tests)
-
--- a message, before the waiting keys below the front leave
-row_lawful : goal.After-begins_backed → (sent : Sent) (typed : List Key) (n : Known) (j : ℕ) (body : Body) → IsInRange n
-    → Backs sent typed n → IsDelivered sent n j body → IsLawful sent typed n.kept n.learner.learned (row n j body)
-row_lawful c sent typed n j (Prepare b from) = c.rows_are_lawful.ensures.prepare sent typed n j from b
-row_lawful c sent typed n j (Promise b first upto votes) = c.rows_are_lawful.ensures.promise sent typed n j first upto b votes
-row_lawful c sent typed n j (Accept b s v) = c.rows_are_lawful.ensures.accept sent typed n j s b v
-row_lawful c sent typed n j (Accepted b s v) = c.rows_are_lawful.ensures.accepted sent typed n j s b v
-row_lawful c sent typed n j (Refused b promised) = c.rows_are_lawful.ensures.refused sent typed n j b promised
-row_lawful c sent typed n j (Submit v) = c.rows_are_lawful.ensures.submit sent typed n j v
-row_lawful c sent typed n j (Ask from) = c.rows_are_lawful.ensures.ask sent typed n j from
-row_lawful c sent typed n j (Tell s v) = c.rows_are_lawful.ensures.tell sent typed n j s v
 
 pub returns : goal.returns
 returns c = record {
@@ -152,7 +139,7 @@ returns c = record {
       let last = stable_goes (sending c) now typed next (asks n) pumped.backs (asks_stable now typed next pumped.backs) in
       led_lawful n.offered h (rw (append_assoc before made (asks n)) at (goes_on (sending c) pumped last)));
   message = λ sent typed n j body ranges h delivered.
-      let f = row_lawful c sent typed n j body ranges h delivered in
+      let f = c.rows_are_lawful.ensures sent typed n j body ranges h delivered in
       let next : Known = (row n j body).node in
       record {
         saves = f.saves;

@@ -1,14 +1,11 @@
 -- What other nodes send, and keys that are typed.
-use Rattle.std.proofs.Common.{◌≡◌, ◌≢◌, ◌∙◌, ℕ, List, [], ◌∷◌, ◌++◌, Option, ◌⊎◌, inl, inr, sym, subst, arith}
+use Rattle.std.proofs.Common.{◌≢◌, ℕ, List, [], ◌∷◌, Option, arith}
 use Rattle.std.proofs.lemmas.List.Elements.{Contains-append_left}
 use Rattle.std.proofs.lemmas.Bool.Decides.{nat_tests}
-use Rattle.paxos_msg.specs.declared.ballot.Ballot.{Ballot}
 use Rattle.paxos_msg.specs.declared.value.Value.{Value}
 use Rattle.paxos_msg.specs.declared.message.Body.TheVariants.{Accept, Prepare}
 use Rattle.paxos_msg.specs.Batches.{Body, MaySend, Record, Sent}
 use Rattle.paxos_msg.specs.Keys.{Key}
-use Rattle.paxos_msg.specs.Messages.{IsSaid}
-use Rattle.group_node.specs.Backs.{HasPromised}
 use Rattle.group_node.proofs.NodeBackedAsMoreIsSent.{IsQuiet, said_push, backs_later, BackingLaws, record_later}
 use Rattle.group_node.proofs.laws.lawful.others_keep_it_backed.Goals as goal
 
@@ -16,26 +13,10 @@ use Rattle.group_node.proofs.laws.lawful.others_keep_it_backed.Goals as goal
 other_quiet : (size : ℕ) (known : List Key) (learned : ℕ → Option Value) (sent : Sent) (me j : ℕ) (r : Record)
     (body : Body) → j ≢ me → MaySend size known learned sent j r body → (own : Record)
     → IsQuiet me own sent (record { sender = j; body = body } ∷ [])
-other_quiet size known learned sent me j r body ne may own = record { asked = asked; old = old }
-  where
-    asked : (b : Ballot) (from : ℕ) → b.node ≡ me
-        → IsSaid (sent ++ record { sender = j; body = body } ∷ []) (Prepare b from)
-        → IsSaid sent (Prepare b from) ⊎ HasPromised own b
-    asked b from mine said = elim (said_push sent j body (Prepare b from) said) [
-      | inl before ↦ inl before
-      | inr e ↦
-          let rule : MaySend size known learned sent j r (Prepare b from) = subst (MaySend size known learned sent j r) e may in
-          absurd (ne (sym rule.0 ∙ mine))
-    ]
-
-    old : (b : Ballot) (s : ℕ) (v : Value) → b.node ≡ me
-        → IsSaid (sent ++ record { sender = j; body = body } ∷ []) (Accept b s v) → IsSaid sent (Accept b s v)
-    old b s v mine said = elim (said_push sent j body (Accept b s v) said) [
-      | inl before ↦ before
-      | inr e ↦
-          let rule : MaySend size known learned sent j r (Accept b s v) = subst (MaySend size known learned sent j r) e may in
-          absurd (ne (sym rule.0 ∙ mine))
-    ]
+other_quiet size known learned sent me j r body ne may own = record {
+  asked = λ b from mine said. grind (arith, nat_tests, said_push sent j body (Prepare b from) said);
+  old = λ b s v mine said. grind (arith, nat_tests, said_push sent j body (Accept b s v) said);
+}
 
 laws : goal.After-stays_backed-2 → BackingLaws
 laws c = grind (arith, nat_tests)

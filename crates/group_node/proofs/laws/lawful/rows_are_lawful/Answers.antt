@@ -1,15 +1,15 @@
--- A message of each kind is lawful: the answers of the node's acceptor, a part of a promise, a
--- Submit and an Ask.
+-- A message of each kind is lawful.
 use Rattle.std.proofs.Common.{◌≡◌, ◌↔◌, ◌∙◌, ◌++◌, ℕ, Bool, true, false, if◌then◌else◌, inr, List, [], ◌∷◌, Option, Some, IfSome, IsSomeAnd, subst, sym, arith}
 use Rattle.std.specs.FinMap.{get}
 use Rattle.std.proofs.lemmas.Bool.Decides.{nat_tests}
+use Rattle.std.proofs.lemmas.List.{append-nil}
 use Rattle.base.proofs.Lists.{all_of_one}
 use Rattle.paxos_msg.specs.declared.ballot.Ballot.{Ballot}
 use Rattle.paxos_msg.specs.declared.value.Value.{Value}
-use Rattle.paxos_msg.specs.declared.message.Body.TheVariants.{Accept, Promise, Submit}
+use Rattle.paxos_msg.specs.declared.message.Body.TheVariants.{Accept, Accepted, Ask, Prepare, Promise, Refused, Submit, Tell}
 use Rattle.paxos_msg.specs.Ballots.{IsAtMost}
-use Rattle.paxos_msg.specs.Batches.{Change, IsFree, MaySend, Record, Sent, Vote}
-use Rattle.paxos_msg.specs.Fits.{IsBody}
+use Rattle.paxos_msg.specs.Batches.{Body, Change, IsFree, MaySend, Record, Sent, Vote}
+use Rattle.paxos_msg.specs.Bodies.{IsBody}
 use Rattle.paxos_msg.specs.Keys.{Key}
 use Rattle.paxos_msg.specs.Messages.{IsSaid}
 use Rattle.paxos_msg.specs.Records.{MaySave}
@@ -19,13 +19,16 @@ use Rattle.paxos_acceptor.specs.Answers.{accept_of, after, Answer, prepare_of, g
 use Rattle.paxos_acceptor.specs.Records.{HasBackedVotes as IsVotesBacked}
 use Rattle.paxos_proposer.specs.Backed.{IsProposerBacked}
 use Rattle.paxos_proposer.specs.Proposer.{asks_on, Proposer, proposer_after_part}
+use Rattle.paxos_learner.specs.Backed.{IsLearnerBacked}
+use Rattle.paxos_learner.specs.Learner.{HasLearnedMore, Learner}
 use Rattle.group_node.specs.declared.packet.To.{To}
 use Rattle.group_node.specs.declared.packet.To.TheVariants as whom
 use Rattle.group_node.specs.AcceptorRows.{accept_answered_to, answering, unless_passed, with_kept}
 use Rattle.group_node.specs.Backs.{Backs, HasPromised, IsLeadingBacked}
-use Rattle.group_node.specs.Known.{Known}
+use Rattle.group_node.specs.Known.{Known, quiet}
 use Rattle.group_node.specs.LearnerRows.{on_ask}
-use Rattle.group_node.specs.ProposerRows.{leaves_room, prepare_from}
+use Rattle.group_node.specs.Protocol.{row}
+use Rattle.group_node.specs.ProposerRows.{leaves_room, prepare_from, unless_refused}
 use Rattle.group_node.specs.Packets.{Packet}
 use Rattle.group_node.specs.Pump.{accepts_of, offer, pump, stop}
 use Rattle.group_node.specs.Ranges.{IsInRange}
@@ -126,8 +129,13 @@ module _ (c : goal.After-learned_stays) where
           size = size ∙ g.size;
         }
 
-pub returns-clause-prepare : goal.returns-clause-prepare
-returns-clause-prepare c sent typed n j from b ranges h delivered =
+-- a message of this body is lawful
+abbrev IsRowLawful : Body → Type 0
+IsRowLawful body = goal.After-learned_stays → (sent : Sent) (typed : List Key) (n : Known) (j : ℕ) → IsInRange n → Backs sent typed n
+    → IsDelivered sent n j body → IsLawful sent typed n.kept n.learner.learned (row n j body)
+
+prepare_lawful : (b : Ballot) (from : ℕ) → IsRowLawful (Prepare b from)
+prepare_lawful b from c sent typed n j ranges h delivered =
     let law = c.promises_may_be_sent.ensures in
     answer_lawful c sent typed n (whom.One b.node) (prepare_of n.kept b from) h (record {
       old = grind (arith, nat_tests);
@@ -137,8 +145,8 @@ returns-clause-prepare c sent typed n j from b ranges h delivered =
       backed = law.backed sent n.kept b from h.kept.votes;
     })
 
-pub returns-clause-accept : goal.returns-clause-accept
-returns-clause-accept c sent typed n j s b v ranges h delivered =
+accept_lawful : (b : Ballot) (s : ℕ) (v : Value) → IsRowLawful (Accept b s v)
+accept_lawful b s v c sent typed n j ranges h delivered =
     let law = c.votes_may_be_sent.ensures in
     let said : IsSaid sent (Accept b s v) = (j, delivered.is_sent) in
     answer_lawful c sent typed n (accept_answered_to (greater_promise n.kept.promised b) b) (accept_of n.kept b s v) h (record {
@@ -149,8 +157,8 @@ returns-clause-accept c sent typed n j s b v ranges h delivered =
       backed = law.backed sent n.kept b s v h.kept.votes said;
     })
 
-pub returns-clause-promise : goal.returns-clause-promise
-returns-clause-promise c sent typed n j first upto b votes ranges h delivered =
+promise_lawful : (b : Ballot) (first upto : ℕ) (votes : List Vote) → IsRowLawful (Promise b first upto votes)
+promise_lawful b first upto votes c sent typed n j ranges h delivered =
     by_part (IsLawful sent typed n.kept n.learner.learned) n n.proposer j first upto b votes (quiet_lawful h) (λ p e t.
     let g = sound h ranges p e in
     let same : p.ballot ≡ b = (c.tests_are_exact.ensures.same p.ballot b).0 t in
@@ -166,8 +174,8 @@ offer_if : ProposingLaws → (typed : List Key) (n : Known) (now : Sent) (t : Bo
 offer_if laws typed n now true p v free size g = offer_goes laws typed n now p v free size g
 offer_if laws typed n now false p v free size g = stop_goes laws typed n now p size g
 
-pub returns-clause-submit : goal.returns-clause-submit
-returns-clause-submit c sent typed n j v ranges h delivered =
+submit_lawful : (v : Value) → IsRowLawful (Submit v)
+submit_lawful v c sent typed n j ranges h delivered =
     by_offer (IsLawful sent typed n.kept n.learner.learned) n n.proposer v (quiet_lawful h) (λ p e.
     let g = sound h ranges p e in
     let laws = proposing c in
@@ -179,7 +187,37 @@ returns-clause-submit c sent typed n j v ranges h delivered =
     led_lawful _ h (goes_on laws.sending pumped.goes offered.goes))
 
 -- Tells may say what is learned
-pub returns-clause-ask : goal.returns-clause-ask
-returns-clause-ask c sent typed n j from ranges h delivered =
+ask_lawful : (from : ℕ) → IsRowLawful (Ask from)
+ask_lawful from c sent typed n j ranges h delivered =
     sent_lawful h (stable_goes (sending c) sent typed n (on_ask n j from).sends h
     (each_tell (IsStable (sender_of typed n) sent) n j from (λ s v e. record { may = e; old = tt })))
+
+-- a call that leaves the record and what waits, and sends nothing
+heard_lawful : {sent : Sent} {typed : List Key} (n : Known) (o : Option Proposer) (remembered : Option Ballot) (l : Learner)
+    → Backs sent typed n → IfSome o (IsLeadingBacked sent n.me.node n.kept) → IsLearnerBacked sent l
+    → HasLearnedMore n.learner.learned l.learned
+    → IsLawful sent typed n.kept n.learner.learned (quiet (record n { proposer = o; remembered = remembered; learner = l }))
+heard_lawful n o remembered l h proposer learner more = grind (arith, nat_tests, append-nil)
+
+-- a proposer that a Refused has left is backed
+refused_backs : (sent : Sent) (me : ℕ) (r : Record) (b : Ballot) (o : Option Proposer) → IfSome o (IsLeadingBacked sent me r)
+    → IfSome (unless_refused b o) (IsLeadingBacked sent me r)
+refused_backs sent me r b o h = grind (arith, nat_tests)
+
+-- ---- a message of any kind
+
+pub returns : goal.returns
+returns c sent typed n j (Prepare b from) = prepare_lawful b from c sent typed n j
+returns c sent typed n j (Promise b first upto votes) = promise_lawful b first upto votes c sent typed n j
+returns c sent typed n j (Accept b s v) = accept_lawful b s v c sent typed n j
+returns c sent typed n j (Accepted b s v) = λ ranges h delivered.
+    heard_lawful n n.proposer n.remembered _ h h.proposer
+    (c.stays_backed-2.ensures.accepted sent n.learner j s b v h.learner delivered.is_sent)
+    (c.learned_stays.ensures.accepted n.learner j s b v)
+returns c sent typed n j (Refused b promised) = λ ranges h delivered.
+    heard_lawful n _ _ n.learner h (refused_backs sent n.me.node n.kept b n.proposer h.proposer) h.learner (record { stays = λ s v e. e })
+returns c sent typed n j (Submit v) = submit_lawful v c sent typed n j
+returns c sent typed n j (Ask from) = ask_lawful from c sent typed n j
+returns c sent typed n j (Tell s v) = λ ranges h delivered.
+    heard_lawful n n.proposer n.remembered _ h h.proposer
+    (c.stays_backed-2.ensures.told sent n.learner s v h.learner (j, delivered.is_sent)) (c.learned_stays.ensures.told n.learner s v)

@@ -1,5 +1,87 @@
-use Rattle.group_node.proofs.RightSteps.{campaigns, key_leaves, promises, ticks, types, votes}
+use Rattle.std.proofs.lemmas.List.Elements.{All-from_recursion}
+use Rattle.std.proofs.lemmas.Bool.Decides.{nat_tests}
+use Rattle.std.proofs.Common.{◌≡◌, List, [], ◌∷◌, ◌++◌, Contains, Some, None, Option, IfSome, append-nil, inl, inr, refl, sym, subst, arith}
+use Rattle.std.specs.Ordering.{nat_cmp}
+use Rattle.std.specs.List.{AllByRecursion as EachOf}
+use Rattle.std.specs.FinMap.{FinMap, empty, insert}
+use Rattle.paxos_msg.specs.declared.record.Change.TheVariants as change
+use Rattle.paxos_msg.specs.declared.value.Value.{Value}
+use Rattle.paxos_msg.specs.Batches.{Sent, Change}
+use Rattle.paxos_msg.specs.Keys.{Key}
+use Rattle.paxos_msg.specs.Records.{MaySave}
+use Rattle.paxos_acceptor.specs.Answers.{after}
+use Rattle.paxos_learner.proofs.OnePlace.{get_here}
+use Rattle.paxos_learner.specs.Input.{front_values, keys_in_order}
+use Rattle.group_node.specs.World.{MakesCall, Up}
+use Rattle.group_node.specs.WrongSteps.{ballot_by, fortieth, kept_third, nine, ninth_key, seat_up, up_as, up_learned, up_waiting}
+use Rattle.group_node.proofs.Elements.{entries_one}
 use Rattle.group_node.proofs.laws.wrong.right_calls.Goals as goal
 
+-- the key is read from what is learned
+abbrev IsRead : FinMap nat_cmp Value → Key → Type 0
+IsRead learned = Contains (keys_in_order (front_values learned))
+
+-- a call that sends nothing, of a node that learns nothing
+calls : (was : Up) (sent : Sent) (typed : List Key) (c : Option Change) (keys gone stay : List Key)
+    → IfSome c (MaySave sent kept_third) → was.waiting ++ keys ≡ gone ++ stay → EachOf (IsRead was.learned) gone
+    → MakesCall (nine (seat_up kept_third [] was) sent typed)
+    (nine (seat_up (after kept_third c) [] (record was { waiting = stay })) (sent ++ []) (typed ++ keys)) 9 c keys
+calls was sent typed c keys gone stay saves parts read = record {
+  bodies = [];
+  was = was;
+  now = record was { waiting = stay };
+  from = refl;
+  left = refl;
+  rest = grind (arith, nat_tests);
+  saves = saves;
+  sends = tt;
+  learns = record {
+    keeps = record { stays = λ s v e. e };
+    gains = λ s v e. inl e;
+    configuration = refl;
+    released = refl;
+    waiting = record { gone = gone; parts = parts; below = All-from_recursion (IsRead was.learned) gone read };
+  };
+}
+
+-- of a node that has learned nothing, and at which no key waits
+saves : (sent : Sent) (c : Change) → MaySave sent kept_third c
+    → MakesCall (nine (seat_up kept_third [] (up_learned empty)) sent [])
+    (nine (seat_up (after kept_third (Some c)) [] (up_learned empty)) (sent ++ []) []) 9 (Some c) []
+saves sent c may = calls (up_learned empty) sent [] (Some c) [] [] [] may refl tt
+
+-- the first of two keys is read at the place 0
+abbrev one : FinMap nat_cmp Value
+one = insert empty 0 (fortieth 65)
+
+read_40 : keys_in_order (front_values one) ≡ ninth_key 40 65 ∷ []
+read_40 = rw (entries_one 0 (fortieth 65), get_here empty 0 (fortieth 65)) refl
+
 pub returns : goal.returns
-returns c = assumption (ticks, key_leaves, types, promises, votes, campaigns)
+returns c = record {
+  ticks = λ up. calls up [] [] None [] [] up.waiting tt (append-nil up.waiting) tt;
+  key_leaves =
+      calls (up_as one [] 0 (ninth_key 40 65 ∷ ninth_key 41 66 ∷ [])) [] [] None [] (ninth_key 40 65 ∷ []) (ninth_key 41 66 ∷ []) tt refl
+      (subst (λ (ks : List Key). Contains ks (ninth_key 40 65)) (sym read_40) (0, omega arith, refl), tt);
+  types = record {
+    key = ninth_key 40 65;
+    node = refl;
+    start = refl;
+    character = refl;
+    call = calls (up_waiting (ninth_key 39 64 ∷ [])) [] (ninth_key 39 64 ∷ []) None (ninth_key 40 65 ∷ []) []
+        (ninth_key 39 64 ∷ ninth_key 40 65 ∷ []) tt refl tt;
+  };
+  promises = record {
+    is_sent = (1, omega arith, refl);
+    saved = Some (change.Promise (ballot_by 5 41));
+    cause = inr refl;
+    call = inl (saves _ (change.Promise (ballot_by 5 41)) (inl (omega arith)));
+  };
+  votes = record {
+    is_sent = (1, omega arith, refl);
+    saved = Some (change.Ballotted 700 (ballot_by 7 41) (fortieth 65));
+    cause = inr refl;
+    call = inl (saves _ (change.Ballotted 700 (ballot_by 7 41) (fortieth 65)) ((7, (0, omega arith, refl)), inl (omega arith)));
+  };
+  campaigns = record { round = 41; call = inl (saves [] (change.Promise (ballot_by 9 41)) (inl (omega arith))) };
+}

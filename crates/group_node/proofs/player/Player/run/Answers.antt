@@ -8,7 +8,7 @@ use Rattle.group_node.specs.declared.player.Player.{Player}
 use Rattle.group_node.specs.declared.player.Ran.{Ran}
 use Rattle.group_node.specs.declared.player.Ran.TheVariants as ran
 use Rattle.group_node.specs.Output.{IsOver, most_of, RunsOn, unreleased_of}
-use Rattle.group_node.specs.Player.{Advances, MakesNoStep, IsPlayed, progress_of, RanSoFar, TurnsTo}
+use Rattle.group_node.specs.Player.{Advances, MakesNoStep, IsPlayed, progress_of, RanSoFar, PlaysOn}
 use Rattle.std.proofs.lemmas.Bool.{true≢false}
 use Rattle.group_node.proofs.Exact.{There, waits_unreleased}
 use Rattle.group_node.proofs.player.Player.run.Goals as goal
@@ -57,11 +57,11 @@ run_advances {x} {most} {left} {old} {now} {new} k laws r room a few =
     }
 
 -- one step, where there was room
-run_turns : {x : List ℕ} {most left : ℕ} {old now new : Player} → Laws → RanSoFar x most left old now
+run_plays_on : {x : List ℕ} {most left : ℕ} {old now new : Player} → Laws → RanSoFar x most left old now
     → length now.unreleased.items < 256
     → IsPlayed x new → new.machine.program ≡ now.machine.program → new.released ≡ now.released → new.steps ≡ now.steps + 1 → 0 < left
     → RanSoFar x most (left - 1) old new
-run_turns {x} {most} {left} {old} {now} {new} laws r room exact program released steps some = record {
+run_plays_on {x} {most} {left} {old} {now} {new} laws r room exact program released steps some = record {
   exact = exact;
   program = program ∙ r.program;
   released = released ∙ r.released;
@@ -94,12 +94,12 @@ halts : {x : List ℕ} {old now : Player} (steps left : ℕ) (why : Ran) → The
     → RanSoFar x (most_of old.steps steps) left old now → RunsOn x steps (progress_of old) (progress_of now) why
 halts steps left why there some room h r = grind (arith, nat_tests, over_by, waits_unreleased)
 
--- ---- by a turn
+-- ---- by a part of the run
 
--- a turn after which the run goes on
+-- a part after which the run goes on
 run_goes_on : {x : List ℕ} {most left : ℕ} {old now new : Player} (n : ℕ) → Laws → RanSoFar x most left old now
     → length now.unreleased.items < 256
-    → TurnsTo x left now new (n, None) → IsPlayed x new → new.machine.program ≡ now.machine.program
+    → PlaysOn x left now new (n, None) → IsPlayed x new → new.machine.program ≡ now.machine.program
     → new.released ≡ now.released → new.steps ≡ now.steps + n → RanSoFar x most (left - n) old new
 run_goes_on {x} {most} {left} {old} {now} {new} n laws r room (k, mid, a, few, is) exact program released steps =
     let still : length mid.unreleased.items < 256 = rw a.unreleased room in
@@ -107,12 +107,12 @@ run_goes_on {x} {most} {left} {old} {now} {new} n laws r room (k, mid, a, few, i
     run_advances k laws r room a (omega arith) in
     let fewer : left - k - 1 ≡ left - n = omega arith in
     let one : new.steps ≡ mid.steps + 1 = omega (arith, a.steps) in
-    rw fewer at (run_turns laws here still exact (program ∙ sym a.program) (released ∙ sym a.released) one (omega arith))
+    rw fewer at (run_plays_on laws here still exact (program ∙ sym a.program) (released ∙ sym a.released) one (omega arith))
 
--- a turn with which it is over
+-- a part with which it is over
 run_is_over : {x : List ℕ} {old now : Player} (steps left n : ℕ) (new : Player) (why : Ran) → Laws
     → RanSoFar x (most_of old.steps steps) left old now → length now.unreleased.items < 256
-    → TurnsTo x left now new (n, Some why) → RunsOn x steps (progress_of old) (progress_of new) why
+    → PlaysOn x left now new (n, Some why) → RunsOn x steps (progress_of old) (progress_of new) why
 run_is_over {x} {old} {now} steps left n new ran.More laws r room (all, a) =
     run_spent steps (left - n) (omega arith) (run_advances n laws r room a (omega arith))
 run_is_over steps left n new ran.Full laws r room h = absurd h
@@ -132,12 +132,12 @@ pub returns-in-Some-clause-runs : goal.returns-in-Some-clause-runs
 returns-in-Some-clause-runs c =
     let laws : Laws = record { there = c.run_is_after.ensures; grows = c.output_only_grows.ensures.steps } in
     let room : length c.loop-left.self.unreleased.items < 256 = c.has_room.ensures.0 c.if-not-has_room.false in
-    run_is_over c.args.steps c.loop-left.left _ c.turn-made.new.self c.in-Some.ran laws c.loop-left.invariant room
-    (rw c.in-Some.is at c.turn-made.ensures.turns)
+    run_is_over c.args.steps c.loop-left.left _ c.play_on-made.new.self c.in-Some.ran laws c.loop-left.invariant room
+    (rw c.in-Some.is at c.play_on-made.ensures.plays)
 
 pub loop-left-preserved : goal.loop-left-preserved
 loop-left-preserved c =
     let laws : Laws = record { there = c.run_is_after.ensures; grows = c.output_only_grows.ensures.steps } in
     let room : length c.loop-left.self.unreleased.items < 256 = c.has_room.ensures.0 c.if-not-has_room.false in
-    let t = c.turn-made.ensures in
-    run_goes_on _ laws c.loop-left.invariant room (rw c.in_default.is at t.turns) t.exact t.program t.released t.steps
+    let t = c.play_on-made.ensures in
+    run_goes_on _ laws c.loop-left.invariant room (rw c.in_default.is at t.plays) t.exact t.program t.released t.steps

@@ -5,7 +5,7 @@ use Rattle.group_node.specs.declared.fault.NodeFault.{NodeFault}
 use Rattle.group_node.specs.declared.fault.NodeFault.TheVariants.{Memory}
 use Rattle.group_node.specs.Known.{Known}
 use Rattle.group_node.specs.Protocol.{NeedsMemory}
-use Rattle.paxos_msg.specs.Views.{said}
+use Rattle.paxos_msg.specs.Bodies.{said}
 use Rattle.group_node.proofs.protocol.Protocol.row.Goals as goal
 
 -- a row that lacks memory, by the message that its view shows

@@ -1,4 +1,4 @@
-use Rattle.group_world.proofs.KeyLog.{a_key_log}
+use Rattle.group_world.proofs.WitnessLogs.{a_key_log}
 use Rattle.group_world.proofs.laws.logs.a_written_log.Goals as goal
 
 pub returns : goal.returns

@@ -1,4 +1,4 @@
-use Rattle.group_world.proofs.ConsolesMayShow.{bytes_are_possible}
+use Rattle.group_world.proofs.WitnessLogs.{bytes_are_possible}
 use Rattle.group_world.proofs.laws.worlds.consoles_may_show.Goals as goal
 
 pub returns : goal.returns

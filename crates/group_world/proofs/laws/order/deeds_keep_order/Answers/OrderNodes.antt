@@ -31,9 +31,10 @@ use Rattle.group_node.specs.Pump.{pump, accepts_of}
 use Rattle.group_world.specs.Ordered.{IsFirstUnread}
 use Rattle.group_world.proofs.OrderRows.{IsParted}
 use Rattle.paxos_msg.specs.declared.message.Group.{Group}
-use Rattle.paxos_msg.specs.Fits.{Fits, IsGroup}
+use Rattle.paxos_msg.specs.Datagrams.{Fits, Msgs, spelling}
+use Rattle.paxos_msg.specs.Fits.{IsGroup}
 use Rattle.paxos_msg.specs.Messages.{IsSaid}
-use Rattle.paxos_msg.specs.Spelling.{kind_of, Msgs, spelling}
+use Rattle.paxos_msg.specs.Bodies.{kind_of}
 use Rattle.paxos_acceptor.specs.declared.me.Me.{Me}
 use Rattle.group_world.specs.Sound.{IsSpelling}
 use Rattle.group_world.specs.Group.{message_of, messages_in}

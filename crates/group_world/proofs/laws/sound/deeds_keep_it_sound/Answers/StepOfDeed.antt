@@ -10,7 +10,8 @@ use Rattle.std.specs.List.{cons_option}
 use Rattle.paxos_msg.specs.declared.message.Group.{Group}
 use Rattle.paxos_msg.specs.declared.value.Value.{Value}
 use Rattle.paxos_msg.specs.Batches.{Msg, Record, Change, Body}
-use Rattle.paxos_msg.specs.Fits.{Fits, IsGroup}
+use Rattle.paxos_msg.specs.Datagrams.{Fits}
+use Rattle.paxos_msg.specs.Fits.{IsGroup}
 use Rattle.paxos_msg.specs.Keys.{Key, keys_of}
 use Rattle.group_node.specs.Protocol.{on_message}
 use Rattle.group_node.specs.Tick.{on_tick}
@@ -22,7 +23,7 @@ use Rattle.group_world.specs.Group.{IsDown, IsUp, me_of, messages_in, World, wor
 use Rattle.group_world.specs.Member.{Member, Running, NodeCall, Makes, Refuses, call_of_campaign, call_of_press, call_of_start, failing, save_outcome, at_progress, member_after_release}
 use Rattle.group_world.specs.Sound.{IsSound, IsSpelling}
 use Rattle.std.specs.FinMap.{empty}
-use Rattle.group_world.proofs.WorldAsGroup.{is_node, running, called_state, member_state, changed_elsewhere, changed_here, SoundAt, first_node, stopped, nothing_shown}
+use Rattle.group_world.proofs.WorldAsGroup.{RunsAt, is_node, running, called_state, member_state, changed_elsewhere, changed_here, SoundAt, first_node, stopped, nothing_shown}
 use Rattle.group_world.proofs.laws.sound.deeds_keep_it_sound.Answers.SoundAfterChange.{Laws, MayMake, call_sound, crash_sound, fall_sound, release_sound, run_sound}
 use Rattle.pcode_machine.specs.Configuration.{Configuration}
 use Rattle.pcode_machine.specs.Runs.{after_steps, begin, out}
@@ -76,6 +77,9 @@ module _ (laws : Laws) {w : World} (h : IsSound w) {i : ℕ} {m : Member} {q : R
   abbrev s : WorldState
   s = world_state w
 
+  sound : RunsAt w i m q
+  sound = running h up
+
   -- a lawful call of the node that fits, at which these keys are typed
   abbrev IsAllowed : List Key → Response → Type 0
   IsAllowed keys made = IsLawfulCall (world_state w).sent ((world_state w).typed ++ keys) q.known made × IsFit q.known.me made
@@ -83,7 +87,6 @@ module _ (laws : Laws) {w : World} (h : IsSound w) {i : ℕ} {m : Member} {q : R
   -- it may be made
   may_make : (made : Response) (keys : List Value) → IsAllowed (flat_map keys_of keys) made → MayMake w i m made q.progress keys
   may_make made keys (lawful, fits) =
-      let sound = running h up in
       record {
         me_is = fits.same ∙ sound.me_is;
         before = q.known.learner.learned;
@@ -106,7 +109,6 @@ module _ (laws : Laws) {w : World} (h : IsSound w) {i : ℕ} {m : Member} {q : R
   press_allowed : (byte : ℕ) → byte < 256 → length q.known.waiting ≢ 256 → next_serial q.known ≢ 4294967296
       → IsAllowed (keys_of (new_key q.known byte)) (on_typed q.known byte)
   press_allowed byte low ne other =
-      let sound = running h up in
       let ranges = sound.ranges in (
         laws.calls_are_lawful.ensures.typed _ _ q.known byte ranges sound.backs,
         laws.what_goes_out_fits.ensures.typed q.known byte ranges low (omega (arith, ranges.waiting.few, ne))
@@ -115,27 +117,24 @@ module _ (laws : Laws) {w : World} (h : IsSound w) {i : ℕ} {m : Member} {q : R
 
   campaign_allowed : last_round q.known < 4294967295 → front q.known ≢ 65536 → IsAllowed [] (on_campaign q.known)
   campaign_allowed low other =
-      let sound = running h up in
       let within = laws.one_front.ensures.few q.known.learner.learned sound.ranges.learner.window in
       alone (laws.calls_are_lawful.ensures.campaign _ _ q.known sound.ranges sound.backs)
       (laws.what_goes_out_fits.ensures.campaign q.known sound.ranges (omega (arith, low)) (omega (arith, within, other)))
 
   tick_allowed : IsAllowed [] (on_tick q.known)
   tick_allowed =
-      let sound = running h up in
       alone (laws.calls_are_lawful.ensures.tick _ _ q.known sound.ranges sound.backs)
       (laws.what_goes_out_fits.ensures.tick q.known sound.ranges)
 
   -- a message that was sent has a spelling
   heard_fits : (message : Msg) → Contains (messages_in w.group w.sent) message → IsHeardFit q.known.me message.sender message.body
   heard_fits message heard =
-      subst (λ me. IsHeardFit me message.sender message.body) (sym (running h up).me_is)
+      subst (λ me. IsHeardFit me message.sender message.body) (sym sound.me_is)
       (All-contains (Fits w.group) _ message (all_fit w.group w.sent h.spelled) heard)
 
   message_allowed : (message : Msg) → Contains (messages_in w.group w.sent) message
       → IsAllowed [] (on_message q.known message.sender message.body)
   message_allowed message heard =
-      let sound = running h up in
       let fits = heard_fits message heard in
       alone (laws.calls_are_lawful.ensures.message _ _ q.known _ message.body sound.ranges sound.backs
       (record { is_sent = heard; fits = fits }))
@@ -148,7 +147,6 @@ module _ (laws : Laws) {w : World} (h : IsSound w) {i : ℕ} {m : Member} {q : R
   -- the node is in its group
   sits : Sits s q.known configuration q.progress.released m.console
   sits =
-      let sound = running h up in
       record {
         size = ap (λ (me : Me). me.group.size) (sym sound.me_is);
         seat = ap (λ (me : Me). s.seats me.node) sound.me_is ∙ rw (up.there, up.up, sound.kept_is) refl;
@@ -156,7 +154,7 @@ module _ (laws : Laws) {w : World} (h : IsSound w) {i : ℕ} {m : Member} {q : R
 
   -- the same step, at the node's own number
   at_number : (P : ℕ → Type 0) → P q.known.me.node → P i
-  at_number P = subst (λ (me : Me). P me.node) (running h up).me_is
+  at_number P = subst (λ (me : Me). P me.node) sound.me_is
 
   -- an allowed call is the deed `e` in the group, and so is its save if it fails
   call_steps : (e : Deed) (made : Response) (keys : List Value) → IsAllowed (flat_map keys_of keys) made
@@ -168,7 +166,7 @@ module _ (laws : Laws) {w : World} (h : IsSound w) {i : ℕ} {m : Member} {q : R
   call_steps e made keys allowed step falls =
       let may = may_make made keys allowed in
       let same = laws.learning_keeps_the_output.ensures.configuration q.known.learner.learned _ q.progress
-      allowed.0.keeps (running h up).replay in
+      allowed.0.keeps sound.replay in
       let state =
       called_state laws.spelling_is_read.ensures.read w i m made q.progress keys up.there h.session (is_node i h up.there) may.fits in (
         may,
@@ -185,13 +183,12 @@ module _ (laws : Laws) {w : World} (h : IsSound w) {i : ℕ} {m : Member} {q : R
     where
       one_of : (is_kept : Bool) → IsOneOf (if is_kept then made.node.kept else m.kept) q.known.kept made.node.kept
       one_of true = inr refl
-      one_of false = inl (sym (running h up).kept_is)
+      one_of false = inl (sym sound.kept_is)
 
   -- each of these calls
   press_steps : (byte : ℕ) → byte < 256 → StepsCall w (deed.Press byte) i m q.progress (call_of_press q.known byte)
   press_steps byte low =
       press_cases (StepsCall w (deed.Press byte) i m q.progress) (λ f. tt) q.known byte (λ ne other.
-      let sound = running h up in
       call_steps (deed.Press byte) _ _ (press_allowed byte low ne other)
       (laws.calls_are_deeds.ensures.press s q.known byte _ configuration m.console sits sound.ranges sound.backs)
       (λ saves. absurd (saves refl)))
@@ -199,14 +196,12 @@ module _ (laws : Laws) {w : World} (h : IsSound w) {i : ℕ} {m : Member} {q : R
   campaign_steps : StepsCall w deed.Campaign i m q.progress (call_of_campaign q.known)
   campaign_steps =
       campaign_cases (StepsCall w deed.Campaign i m q.progress) (λ f. tt) q.known (λ low other.
-      let sound = running h up in
       call_steps deed.Campaign _ [] (campaign_allowed low other)
       (laws.calls_are_deeds.ensures.campaign s q.known _ configuration m.console sits sound.ranges sound.backs)
       (λ saves left. laws.calls_are_deeds.ensures.falls_campaign s q.known _ left configuration m.console sits sound.ranges sound.backs))
 
   tick_steps : StepsCall w deed.Tick i m q.progress (Makes (on_tick q.known) [])
   tick_steps =
-      let sound = running h up in
       call_steps deed.Tick _ [] tick_allowed
       (laws.calls_are_deeds.ensures.tick s q.known _ configuration m.console sits sound.ranges sound.backs)
       (λ saves. absurd (saves (tick_rests q.known).1))
@@ -214,7 +209,6 @@ module _ (laws : Laws) {w : World} (h : IsSound w) {i : ℕ} {m : Member} {q : R
   hear_steps : (message : Msg) → Contains (messages_in w.group w.sent) message
       → StepsCall w (deed.Hear message) i m q.progress (Makes (on_message q.known message.sender message.body) [])
   hear_steps message heard =
-      let sound = running h up in
       let fits = heard_fits message heard in
       call_steps (deed.Hear message) _ [] (message_allowed message heard)
       (laws.calls_are_deeds.ensures.hear s q.known _ _ message.body configuration m.console sits sound.ranges sound.backs fits heard)
@@ -262,7 +256,6 @@ module _ (laws : Laws) {w : World} (h : IsSound w) {i : ℕ} {m : Member} {q : R
       → RunsOn (input q.known) most q.progress progress ran → IsReplay (input q.known) progress
       → WorldStep s i (deed.Run most) (world_state (with_member w i (at_progress m q progress)))
   run_steps most progress ran runs replay =
-      let sound = running h up in
       let x = input q.known in
       let more = progress.steps - q.progress.steps in
       let count : progress.steps ≡ q.progress.steps + more = omega (arith, runs.more) in

@@ -1,7 +1,7 @@
 use Rattle.std.proofs.Common.{◌+◌, ◌-◌, arith}
 use Rattle.std.proofs.lemmas.Result.{err_from_is_err_and}
 use Rattle.paxos_msg.proofs.VotesLeft.{at_start, goes_on, fault_at, no_votes}
-use Rattle.paxos_msg.proofs.decoding.after_votes.Goals as goal
+use Rattle.paxos_msg.proofs.reading.after_votes.Goals as goal
 
 pub loop-init : goal.loop-init
 loop-init c = at_start (c.args.count - 0) (omega arith)

@@ -1,5 +1,5 @@
 use Rattle.std.proofs.Common.{append_assoc, rules}
-use Rattle.paxos_msg.proofs.spelling.put_promise.Goals as goal
+use Rattle.paxos_msg.proofs.bodies.put_promise.Goals as goal
 
 pub returns : goal.returns
 returns c = record {

@@ -4,8 +4,8 @@ use Rattle.paxos_learner.specs.Input.{learned_input}
 use Rattle.group_node.specs.declared.player.Player.{Player}
 use Rattle.group_node.specs.Player.{Advances}
 use Rattle.group_node.proofs.Exact.{Laws, advanced, advances, to_advanced, makes-wrote, exact_idle, exact_fed, halts_waiting, halts_ended}
-use Rattle.group_node.proofs.player.Player.turn.Goals as goal
-use Rattle.group_node.proofs.player.Player.turn.Goals.{After-from}
+use Rattle.group_node.proofs.player.Player.play_on.Goals as goal
+use Rattle.group_node.proofs.player.Player.play_on.Goals.{After-from}
 
 laws : After-from → Laws
 laws c = record { there = c.run_is_after.ensures; longer = c.same_step_on_longer_input.ensures }
@@ -21,23 +21,23 @@ ran_on c quiet =
     advances _ c.quiet_steps_lead_on.ensures c.requires.exact quiet c.run-made.ensures.program refl
     (omega (arith, c.from.ensures)) refl refl
 
-pub returns-in-Ended-clause-turns : goal.returns-in-Ended-clause-turns
-returns-in-Ended-clause-turns c =
-    let before = (goal.at.returns-in-Ended-clause-turns c).After-from in
+pub returns-in-Ended-clause-plays : goal.returns-in-Ended-clause-plays
+returns-in-Ended-clause-plays c =
+    let before = (goal.at.returns-in-Ended-clause-plays c).After-from in
     let h = rw c.in-Ended.is at c.run-made.ensures.pauses in
     let a = ran_on before h.1 in (h.0, a, halts_ended (laws before) a.exact c.run-made.ensures.program h.2)
 
-pub returns-in-Wrote-clause-turns : goal.returns-in-Wrote-clause-turns
-returns-in-Wrote-clause-turns c =
+pub returns-in-Wrote-clause-plays : goal.returns-in-Wrote-clause-plays
+returns-in-Wrote-clause-plays c =
     let h = rw c.in-Wrote.is at c.run-made.ensures.pauses in
     (h.1, advanced c.args.self.now h.1 h.0, to_advanced h.1 h.0 c.quiet_steps_lead_on.ensures c.requires.exact h.4, h.3, h.2)
 
 pub returns-in-Wrote-clause-exact : goal.returns-in-Wrote-clause-exact
-unfolding returns-in-Wrote-clause-turns
+unfolding returns-in-Wrote-clause-plays
 returns-in-Wrote-clause-exact c =
     let before = (goal.at.returns-in-Wrote-clause-exact c).After-from in
     let h = rw c.in-Wrote.is at c.run-made.ensures.pauses in
-    rw c.write.ensures (exact_idle (laws before) (returns-in-Wrote-clause-turns c).2.exact c.requires.room (record {
+    rw c.write.ensures (exact_idle (laws before) (returns-in-Wrote-clause-plays c).2.exact c.requires.room (record {
       program = c.run-made.ensures.program;
       made = makes-wrote h.5;
       waits = refl;
@@ -48,19 +48,19 @@ returns-in-Wrote-clause-exact c =
       one = omega arith;
     }))
 
-pub returns-in-Some-clause-turns : goal.returns-in-Some-clause-turns
-returns-in-Some-clause-turns c =
-    let before = (goal.at.returns-in-Some-clause-turns c).After-from in
+pub returns-in-Some-clause-plays : goal.returns-in-Some-clause-plays
+returns-in-Some-clause-plays c =
+    let before = (goal.at.returns-in-Some-clause-plays c).After-from in
     let h = rw c.in-Wants.is at c.run-made.ensures.pauses in (c.run-made.result.0, ran before, ran_on before h.1, h.0, refl)
 
 pub returns-in-Some-clause-exact : goal.returns-in-Some-clause-exact
-unfolding returns-in-Some-clause-turns
+unfolding returns-in-Some-clause-plays
 returns-in-Some-clause-exact c =
-    exact_fed (laws (goal.at.returns-in-Some-clause-exact c).After-from) (returns-in-Some-clause-turns c).2.exact c.requires.room
+    exact_fed (laws (goal.at.returns-in-Some-clause-exact c).After-from) (returns-in-Some-clause-plays c).2.exact c.requires.room
     (sym c.in-Some.ensures) c.feed.ensures.1
 
-pub returns-in-None-clause-turns : goal.returns-in-None-clause-turns
-returns-in-None-clause-turns c =
-    let before = (goal.at.returns-in-None-clause-turns c).After-from in
+pub returns-in-None-clause-plays : goal.returns-in-None-clause-plays
+returns-in-None-clause-plays c =
+    let before = (goal.at.returns-in-None-clause-plays c).After-from in
     let h = rw c.in-Wants.is at c.run-made.ensures.pauses in
     let a = ran_on before h.1 in (h.0, a, halts_waiting (laws before) a.exact c.run-made.ensures.program h.2 (sym c.in-None.ensures))
