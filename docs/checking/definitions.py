@@ -160,9 +160,10 @@ def check(functions, is_write):
     for it in definitions:
         if not it.sentence():
             fault(f"{it.path}: the comment of {it.name} has no first sentence that ends with a full stop")
+    definitions = definitions + below(definitions)
     for it in not_bent(definitions):
         fault(f"{it.path}: no must-fail edit bends {it.name}")
-    text = page(definitions + below(definitions))
+    text = page(definitions)
     if is_write:
         with open(f"{tree.TOP}/{PATH}", "w", encoding="utf-8") as file:
             file.write(text)
