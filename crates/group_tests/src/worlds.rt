@@ -33,8 +33,8 @@ pub fn events_of(alloc: Global, lines: &str) -> Result<Vec<Event>, Fail> {
     Ok(events)
 }
 
-/// A group of three after a list of events. Contracts see nothing of it, so that a test does not
-/// carry a world from one look at it to the next. Each look is a function of its own.
+/// A group after a list of events. Contracts see nothing of it, so that a test does not carry a
+/// world from one look at it to the next. Each look is a function of its own.
 pub struct After<'a> {
     world: World<'a>,
 }
