@@ -15,7 +15,7 @@ from parts.scripts import expect_end, path_of
 from parts.terminals import Terminal
 from renew_cut import renew_cut
 from renew_records import by_number, keys, log, records_in, renew, vote
-from shared.nodes import free_addresses
+from shared.nodes import free_addresses, is_empty_at
 from shared.record import PLACES, read_head, read_record
 from shared.watch import Whole
 from shared.words import text_of
@@ -85,8 +85,14 @@ def await_settled(group):
         raise Broken(f"{broken}: {fault}")
 
 
+def are_taken(group):
+    """Whether each node that runs has taken all datagrams with keys that were sent to it."""
+    return all(is_empty_at(it.keys[1]) for it in group.up())
+
+
 def type_singly(group, places):
-    """Types single keys in turn at all nodes that run, until one has voted at so many places."""
+    """Types single keys in turn at all nodes that run, until one has voted at so many places. A
+    node that is slow is waited for: its socket drops what there is no room for."""
     node = group.up()[0]
     record = Whole(node.record)
     for count in itertools.count(1):
@@ -94,6 +100,7 @@ def type_singly(group, places):
             type_at(group, it, bytes(itertools.islice(group.text, 1)))
         time.sleep(0.001)
         if count % 50 == 0:
+            await_that(lambda: are_taken(group), "the nodes take their keys")
             node.check()
             if len(record.read().votes) >= places:
                 return
