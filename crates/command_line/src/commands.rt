@@ -1,141 +1,106 @@
-//! The commands. Each is a module with its words, its help and its work.
-mod check;
-mod list;
-mod net;
-mod node;
-pub mod run;
-mod show;
-mod sim;
-
-use crate::conclusion::Conclusion;
-use crate::value::WordFault;
-use clap::{ArgMatches, Command};
-use std::alloc::{AllocError, Global};
-use std::io::{Read, Write};
+//! The work of the commands. Each is done by the crate that has it, and ends in a `Conclusion`.
+use crate::conclusion::{Conclusion, Refusal};
+use crate::datagram::show;
+use crate::environment::{if_said, is_log_asked, trace_asked};
+use command_words::{Asked, NodeWords};
+use group_sim::sim_file;
+use group_udp::{NetPlan, NodePlan, net_file, node_file};
+use machine_run::{Counting, MachineRefusal, RunIo, check_file, list_file, run_file};
+use paxos_msg::Group;
+use std::io::{BufWriter, Read, Write};
 use std::net::Net;
 use std::rt::{Env, Files};
 use std::time::Clock;
 
-/// What help says after the list of commands. No line of help has more than 80 columns.
-const HELP: &str = "Examples:
-  pgroup run examples/echo.code
-  pgroup help node
-
-Exit status:
-  0  done; or the program that runs waits, and its input has ended: `waits`
-  1  refused: `refused` and a code such as F3, O5, E1 or D2
-  2  a fault of the command line
-  3  an execution error of the program
-  4  the steps are spent, and the program has not ended: `steps`
-`pgroup help codes` explains the codes, docs/FORMATS.md what is printed.";
-
-/// A command by its name.
-#[derive(Clone, Copy, Debug, PartialEq, Eq)]
-pub enum Name {
-    Check,
-    List,
-    Run,
-    Show,
-    Sim,
-    Net,
-    Node,
-}
-
-/// All commands, in the order of help.
-static ALL: [Name; 7] = [
-    Name::Check,
-    Name::List,
-    Name::Run,
-    Name::Show,
-    Name::Sim,
-    Name::Net,
-    Name::Node,
-];
-
-/// Names an item of the command's module, or calls a function of it.
-macro_rules! in_module {
-    ($command:expr, $($item:tt)*) => {
-        match $command {
-            Name::Check => check::$($item)*,
-            Name::List => list::$($item)*,
-            Name::Run => run::$($item)*,
-            Name::Show => show::$($item)*,
-            Name::Sim => sim::$($item)*,
-            Name::Net => net::$($item)*,
-            Name::Node => node::$($item)*,
-        }
+/// Runs the script of `sim`, and writes what it says in large parts. What was said before a refusal
+/// is written.
+fn sim<H: Files + AllocGlobal, W: Write>(
+    rt: &H,
+    file: &str,
+    script: &str,
+    writer: &mut W,
+) -> Result<(), Refusal> {
+    let Ok(mut buffered) = BufWriter::new(rt.alloc(), writer) else {
+        return Err(Refusal::Machine(MachineRefusal::Run(RunIo::Memory)));
     };
+    let done = sim_file(rt, file, script, &mut buffered);
+    if buffered.flush().is_err() {
+        return Err(Refusal::Machine(MachineRefusal::Run(RunIo::Write)));
+    }
+    Ok(done?)
 }
 
-impl Name {
-    /// Returns the word that names the command.
-    pub fn word(self) -> &'static str {
-        in_module!(self, WORD)
-    }
+/// Runs the node of a plan.
+fn run_plan<H: Files + Net + Clock + Env + AllocGlobal + Copy + Drop, R: Read, W: Write, E: Write>(
+    rt: &H,
+    file: &str,
+    plan: &NodePlan<'_>,
+    reader: &mut R,
+    writer: &mut W,
+    errors: &mut E,
+) -> Conclusion {
+    let mut writer = Counting::new(writer);
+    Conclusion::of_done(node_file(rt, file, plan, reader, &mut writer, errors))
+}
 
-    /// Returns the command that a word names, if it names one.
-    pub fn of(word: &str) -> Option<Name> {
-        for name in ALL {
-            if name.word() == word {
-                return Some(name);
-            }
-        }
-        None
-    }
-
-    /// Returns the command's words, as clap reads them.
-    fn words<'a>(self, alloc: Global) -> Result<Command<'a>, AllocError> {
-        in_module!(self, words(alloc))
-    }
-
-    /// Does what the command's words ask for. Returns how that ended, or what is wrong with the
-    /// words.
-    pub fn perform<
-        'a,
-        H: Files + Net + Clock + Env + AllocGlobal + Copy + Drop,
-        R: Read,
-        W: Write,
-        E: Write,
-    >(
-        self,
-        rt: &H,
-        matches: &ArgMatches<'a>,
-        reader: &mut R,
-        writer: &mut W,
-        errors: &mut E,
-    ) -> Result<Conclusion, WordFault<'a>> {
-        match self {
-            Name::Check => check::perform(rt, matches, writer),
-            Name::List => list::perform(rt, matches, writer),
-            Name::Run => run::perform(rt, matches, reader, writer),
-            Name::Show => show::perform(rt.alloc(), matches, writer),
-            Name::Sim => sim::perform(rt, matches, writer),
-            Name::Net => net::perform(rt, matches, reader, writer, errors),
-            Name::Node => node::perform(rt, matches, reader, writer, errors),
-        }
-    }
-
-    /// Returns the command by itself, for the texts of its faults: its usage begins with `pgroup`
-    /// too.
-    pub fn alone<'a>(self, alloc: Global) -> Result<Command<'a>, AllocError> {
-        let word = self.word();
-        let full_name = format!(in alloc; "pgroup {word}")?;
-        self.words(alloc)?.bin_name(full_name.as_str())
+/// Returns the plan of the words of `node`, with the log and the trace that the environment asks
+/// for.
+fn plan_of<'a>(words: &'a NodeWords<'a>, trace: Option<&'a str>, is_logged: bool) -> NodePlan<'a> {
+    NodePlan {
+        node: words.node,
+        group: Group {
+            size: words.size,
+            session: words.session,
+        },
+        record: words.record,
+        turns: words.turns,
+        addresses: words.addresses.as_slice(),
+        seen: words.seen,
+        campaigns: words.campaigns,
+        keys: words.keys,
+        trace,
+        is_logged,
     }
 }
 
-/// Returns the words of all commands, as clap reads them. Without one of them the built-in program
-/// runs, so that usage shows the command as optional.
-pub fn all_words<'a>(alloc: Global) -> Result<Command<'a>, AllocError> {
-    let about = "Runs UCSD Pascal II.0 p-code programs, alone or in a group of nodes.
-Without words it runs a built-in program, which prints A.";
-    let mut all = Command::new(alloc, "pgroup")
-        .bin_name("pgroup")?
-        .no_binary_name(true)
-        .about(about)
-        .after_help(HELP);
-    for name in ALL {
-        all = all.subcommand(name.words(alloc)?)?;
+/// Runs the node of the words of `node`.
+fn node<H: Files + Net + Clock + Env + AllocGlobal + Copy + Drop, R: Read, W: Write, E: Write>(
+    rt: &H,
+    words: &NodeWords<'_>,
+    reader: &mut R,
+    writer: &mut W,
+    errors: &mut E,
+) -> Conclusion {
+    let asked = trace_asked(rt);
+    let plan = plan_of(words, if_said(asked.as_str()), is_log_asked(rt));
+    run_plan(rt, words.file, &plan, reader, writer, errors)
+}
+
+/// Does what is asked. Returns how that ended.
+pub fn perform<
+    H: Files + Net + Clock + Env + AllocGlobal + Copy + Drop,
+    R: Read,
+    W: Write,
+    E: Write,
+>(rt: &H, asked: &Asked<'_>, reader: &mut R, writer: &mut W, errors: &mut E) -> Conclusion {
+    match *asked {
+        Asked::Check { file } => Conclusion::of_done(check_file(rt, file, writer)),
+        Asked::List { file } => Conclusion::of_done(list_file(rt, file, writer)),
+        Asked::Run { file, steps } => Conclusion::of_run(run_file(rt, file, steps, reader, writer)),
+        Asked::Show {
+            size,
+            session,
+            digits,
+        } => Conclusion::of_show(show(rt.alloc(), Group { size, session }, digits, writer)),
+        Asked::Sim { file, script } => Conclusion::of_done(sim(rt, file, script, writer)),
+        Asked::Net { file, size, turns } => {
+            let plan = NetPlan {
+                size,
+                turns,
+                is_logged: is_log_asked(rt),
+            };
+            Conclusion::of_done(net_file(rt, file, &plan, reader, writer, errors))
+        }
+        Asked::Node(ref words) => node(rt, words, reader, writer, errors),
     }
-    Ok(all)
 }

@@ -1,8 +1,8 @@
 //! What the program does with its words.
 use crate::codes::CODES;
-use crate::commands::run::DEFAULT_STEPS;
+use crate::commands::perform;
 use crate::conclusion::{BAD_WORDS, Conclusion, DONE, Refusal, conclude, refuse};
-use crate::reading::{NotAsked, command_in, no_command, read_words, refused};
+use command_words::{DEFAULT_STEPS, NotAsked, asked_of};
 use machine_run::{MachineRefusal, RunIo, run_built_in};
 use std::io::{self, Read, Write};
 use std::net::Net;
@@ -36,7 +36,7 @@ fn tell<W: Write, E: Write>(writer: &mut W, errors: &mut E, words: &[String]) ->
     Some(status_of(errors, written))
 }
 
-/// Writes why the words ask for nothing that is done. Returns the status.
+/// Writes why the words ask for no command. Returns the status.
 pub fn explain<W: Write, E: Write>(writer: &mut W, errors: &mut E, reason: NotAsked) -> u8 {
     match reason {
         NotAsked::Help(help) => {
@@ -48,24 +48,6 @@ pub fn explain<W: Write, E: Write>(writer: &mut W, errors: &mut E, reason: NotAs
             BAD_WORDS
         }
         NotAsked::Memory => refuse(errors, Refusal::Machine(MachineRefusal::Run(RunIo::Memory))),
-    }
-}
-
-/// Does what the words ask for. Returns how that ended, or why they ask for nothing that is done.
-fn perform<H: Files + Net + Clock + Env + AllocGlobal + Copy + Drop, R: Read, W: Write, E: Write>(
-    rt: &H,
-    words: &[String],
-    reader: &mut R,
-    writer: &mut W,
-    errors: &mut E,
-) -> Result<Conclusion, NotAsked> {
-    let matches = read_words(rt.alloc(), words)?;
-    let Some((name, own)) = command_in(&matches) else {
-        return Err(no_command(rt.alloc())?);
-    };
-    match name.perform(rt, own, reader, writer, errors) {
-        Ok(conclusion) => Ok(conclusion),
-        Err(fault) => Err(refused(rt.alloc(), name, fault)),
     }
 }
 
@@ -87,8 +69,11 @@ pub fn command<
     if let Some(status) = tell(writer, errors, words) {
         return status;
     }
-    match perform(rt, words, reader, writer, errors) {
-        Ok(conclusion) => conclude(errors, conclusion),
+    match asked_of(rt.alloc(), words) {
+        Ok(asked) => {
+            let conclusion = perform(rt, &asked, reader, writer, errors);
+            conclude(errors, conclusion)
+        }
         Err(reason) => explain(writer, errors, reason),
     }
 }

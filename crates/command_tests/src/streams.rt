@@ -2,7 +2,7 @@
 //! writer.
 use super::files::{write_file, write_program};
 use super::refusals::{is_code, is_refused};
-use command_line::{DEFAULT_STEPS, NotAsked, read_words};
+use command_words::{DEFAULT_STEPS, NotAsked, asked_of};
 use group_sim::{ScriptRefusal, sim_file};
 use machine_run::{run_built_in, run_file};
 use std::alloc::{AllocError, Global};
@@ -169,7 +169,7 @@ fn help_fails(alloc: Global, takes_nothing: bool) -> Result<bool, AllocError> {
     let mut words = Vec::new(alloc);
     words.push(String::from_str(alloc, "--help")?)?;
     let mut output = FailingWriter { takes_nothing };
-    match read_words(alloc, words.as_slice()) {
+    match asked_of(alloc, words.as_slice()) {
         Err(NotAsked::Help(help)) => Ok(write!(output, "{help}").is_err()),
         _ => Ok(false),
     }

@@ -1,6 +1,6 @@
 //! Words of a command line that can be read, and others that cannot.
 use super::refusals::is_code;
-use command_line::{NotAsked, words_of};
+use command_words::{NotAsked, words_of};
 use machine_run::{MachineRefusal, RunIo};
 use std::alloc::Global;
 use std::env::FillError;

@@ -1,7 +1,8 @@
 //! The program `pgroup`: the command line on the streams of its process.
 #![tactic(auto)]
 
-use command_line::{command, explain, words_of};
+use command_line::{command, explain};
+use command_words::words_of;
 use std::io;
 use std::process::ExitCode;
 

@@ -1,12 +1,9 @@
 //! `show SIZE SESSION HEX`.
-use crate::conclusion::Conclusion;
-use crate::datagram::show;
+use crate::asked::Asked;
 use crate::shared_words::{SESSION, SIZE, value_arg};
 use crate::value::{Word, WordFault, byte_of, count_of, text_of};
 use clap::{ArgMatches, Command};
-use paxos_msg::Group;
 use std::alloc::{AllocError, Global};
-use std::io::Write;
 
 const HEX: Word = Word::Required("HEX");
 
@@ -36,15 +33,14 @@ pub fn words<'a>(alloc: Global) -> Result<Command<'a>, AllocError> {
         .arg(value_arg(alloc, HEX, hex))
 }
 
-/// Does what the words ask for. Returns how that ended, or what is wrong with the words.
-pub fn perform<'a, W: Write>(
-    alloc: Global,
-    matches: &ArgMatches<'a>,
-    writer: &mut W,
-) -> Result<Conclusion, WordFault<'a>> {
+/// Returns what the words ask for.
+pub fn read<'a>(matches: &ArgMatches<'a>) -> Result<Asked<'a>, WordFault<'a>> {
     let size = byte_of(matches, SIZE)?;
     let session = count_of(matches, SESSION)?;
     let digits = text_of(matches, HEX)?;
-    let shown = show(alloc, Group { size, session }, digits, writer);
-    Ok(Conclusion::of_show(shown))
+    Ok(Asked::Show {
+        size,
+        session,
+        digits,
+    })
 }

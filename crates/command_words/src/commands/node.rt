@@ -1,6 +1,5 @@
 //! `node FILE ID SIZE SESSION RECORD TURNS ADDR.. [--seen N] [--campaign] [--keys ADDR]`.
-use crate::conclusion::Conclusion;
-use crate::environment::{if_said, is_log_asked, trace_asked};
+use crate::asked::{Asked, NodeWords};
 use crate::shared_words::{
     FILE, SESSION, SIZE, TURNS, on_file, option_arg, size_arg, text_arg, value_arg,
 };
@@ -9,14 +8,8 @@ use crate::value::{
     text_of,
 };
 use clap::{Arg, ArgAction, ArgMatches, Command};
-use group_udp::{NodePlan, node_file};
-use machine_run::Counting;
-use paxos_msg::Group;
 use std::alloc::{AllocError, Global};
-use std::io::{Read, Write};
-use std::net::{Net, SocketAddr};
-use std::rt::{Env, Files};
-use std::time::Clock;
+use std::net::SocketAddr;
 
 const ID: Word = Word::Required("ID");
 
@@ -157,61 +150,27 @@ fn read_keys<'a>(
     Ok(Some(address))
 }
 
-/// Reads the number of the node, and its group.
-fn read_group<'a>(matches: &ArgMatches<'a>) -> Result<(u8, Group), WordFault<'a>> {
+/// Returns what the words ask for.
+pub fn read<'a>(alloc: Global, matches: &ArgMatches<'a>) -> Result<Asked<'a>, WordFault<'a>> {
+    let file = text_of(matches, FILE)?;
     let node = byte_of(matches, ID)?;
     let size = byte_of(matches, SIZE)?;
     let session = count_of(matches, SESSION)?;
-    Ok((node, Group { size, session }))
-}
-
-/// Runs the node of a plan. Returns how that ended.
-fn run_plan<H: Files + Net + Clock + Env + AllocGlobal + Copy + Drop, R: Read, W: Write, E: Write>(
-    rt: &H,
-    file: &str,
-    plan: &NodePlan<'_>,
-    reader: &mut R,
-    writer: &mut W,
-    errors: &mut E,
-) -> Conclusion {
-    let mut writer = Counting::new(writer);
-    Conclusion::of_done(node_file(rt, file, plan, reader, &mut writer, errors))
-}
-
-/// Does what the words ask for. Returns how that ended, or what is wrong with the words.
-pub fn perform<
-    'a,
-    H: Files + Net + Clock + Env + AllocGlobal + Copy + Drop,
-    R: Read,
-    W: Write,
-    E: Write,
->(
-    rt: &H,
-    matches: &ArgMatches<'a>,
-    reader: &mut R,
-    writer: &mut W,
-    errors: &mut E,
-) -> Result<Conclusion, WordFault<'a>> {
-    let file = text_of(matches, FILE)?;
-    let (node, group) = read_group(matches)?;
     let record = path_of(matches, RECORD)?;
     let turns = count_of(matches, TURNS)?;
-    let addresses = read_addresses(rt.alloc(), matches, group.size)?;
+    let addresses = read_addresses(alloc, matches, size)?;
     let seen = read_seen(matches)?;
     let keys = read_keys(matches, addresses.as_slice())?;
-    let asked = trace_asked(rt);
-    let trace = if_said(asked.as_str());
-    let plan = NodePlan {
+    Ok(Asked::Node(NodeWords {
+        file,
         node,
-        group,
+        size,
+        session,
         record,
         turns,
-        addresses: addresses.as_slice(),
+        addresses,
         seen,
         campaigns: matches.get_flag("campaign"),
         keys,
-        trace,
-        is_logged: is_log_asked(rt),
-    };
-    Ok(run_plan(rt, file, &plan, reader, writer, errors))
+    }))
 }

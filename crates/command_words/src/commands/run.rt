@@ -1,12 +1,9 @@
 //! `run FILE [--steps N]`.
-use crate::conclusion::Conclusion;
+use crate::asked::Asked;
 use crate::shared_words::{FILE, on_file, option_arg};
 use crate::value::{Word, WordFault, count_in, text_of};
 use clap::{ArgMatches, Command};
-use machine_run::run_file;
 use std::alloc::{AllocError, Global};
-use std::io::{Read, Write};
-use std::rt::Files;
 
 /// The most steps of a run, if the words do not say it.
 pub const DEFAULT_STEPS: u32 = 1_000_000;
@@ -35,18 +32,12 @@ pub fn words<'a>(alloc: Global) -> Result<Command<'a>, AllocError> {
     on_file(alloc, WORD, about, HELP)?.arg(option_arg(alloc, STEPS, steps))
 }
 
-/// Does what the words ask for. Returns how that ended, or what is wrong with the words.
-pub fn perform<'a, H: Files + AllocGlobal, R: Read, W: Write>(
-    rt: &H,
-    matches: &ArgMatches<'a>,
-    reader: &mut R,
-    writer: &mut W,
-) -> Result<Conclusion, WordFault<'a>> {
+/// Returns what the words ask for.
+pub fn read<'a>(matches: &ArgMatches<'a>) -> Result<Asked<'a>, WordFault<'a>> {
     let file = text_of(matches, FILE)?;
     let steps = match matches.get_str(STEPS.name()) {
         None => DEFAULT_STEPS,
         Some(text) => count_in(STEPS, text)?,
     };
-    let ran = run_file(rt, file, steps, reader, writer);
-    Ok(Conclusion::of_run(ran))
+    Ok(Asked::Run { file, steps })
 }

@@ -1,13 +1,9 @@
 //! `sim FILE SCRIPT`.
-use crate::conclusion::{Conclusion, Refusal};
+use crate::asked::Asked;
 use crate::shared_words::{FILE, on_file, text_arg};
 use crate::value::{Word, WordFault, text_of};
 use clap::{ArgMatches, Command};
-use group_sim::sim_file;
-use machine_run::{MachineRefusal, RunIo};
 use std::alloc::{AllocError, Global};
-use std::io::{BufWriter, Write};
-use std::rt::Files;
 
 const SCRIPT: Word = Word::Required("SCRIPT");
 
@@ -33,34 +29,9 @@ pub fn words<'a>(alloc: Global) -> Result<Command<'a>, AllocError> {
     on_file(alloc, WORD, about, HELP)?.arg(text_arg(alloc, SCRIPT, script))
 }
 
-/// Runs the script, and writes what it says in large parts. What was said before a refusal is
-/// written.
-fn sim_buffered<H: Files + AllocGlobal, W: Write>(
-    rt: &H,
-    file: &str,
-    script: &str,
-    writer: &mut W,
-) -> Result<(), Refusal> {
-    let Ok(mut buffered) = BufWriter::new(rt.alloc(), writer) else {
-        return Err(Refusal::Machine(MachineRefusal::Run(RunIo::Memory)));
-    };
-    let done = sim_file(rt, file, script, &mut buffered);
-    if buffered.flush().is_err() {
-        return Err(Refusal::Machine(MachineRefusal::Run(RunIo::Write)));
-    }
-    Ok(done?)
-}
-
-/// Does what the words ask for. Returns how that ended, or what is wrong with the words.
-pub fn perform<'a, H: Files + AllocGlobal, W: Write>(
-    rt: &H,
-    matches: &ArgMatches<'a>,
-    writer: &mut W,
-) -> Result<Conclusion, WordFault<'a>> {
+/// Returns what the words ask for.
+pub fn read<'a>(matches: &ArgMatches<'a>) -> Result<Asked<'a>, WordFault<'a>> {
     let file = text_of(matches, FILE)?;
     let script = text_of(matches, SCRIPT)?;
-    Ok(match sim_buffered(rt, file, script, writer) {
-        Ok(()) => Conclusion::Done,
-        Err(refusal) => Conclusion::Refused(refusal),
-    })
+    Ok(Asked::Sim { file, script })
 }

@@ -1,12 +1,9 @@
 //! `list FILE`.
-use crate::conclusion::Conclusion;
+use crate::asked::Asked;
 use crate::shared_words::{FILE, on_file};
 use crate::value::{WordFault, text_of};
 use clap::{ArgMatches, Command};
-use machine_run::list_file;
 use std::alloc::{AllocError, Global};
-use std::io::Write;
-use std::rt::Files;
 
 /// The word that names the command.
 pub const WORD: &str = "list";
@@ -27,13 +24,8 @@ pub fn words<'a>(alloc: Global) -> Result<Command<'a>, AllocError> {
     on_file(alloc, WORD, about, HELP)
 }
 
-/// Does what the words ask for. Returns how that ended, or what is wrong with the words.
-pub fn perform<'a, H: Files + AllocGlobal, W: Write>(
-    rt: &H,
-    matches: &ArgMatches<'a>,
-    writer: &mut W,
-) -> Result<Conclusion, WordFault<'a>> {
+/// Returns what the words ask for.
+pub fn read<'a>(matches: &ArgMatches<'a>) -> Result<Asked<'a>, WordFault<'a>> {
     let file = text_of(matches, FILE)?;
-    let done = list_file(rt, file, writer);
-    Ok(Conclusion::of_done(done))
+    Ok(Asked::List { file })
 }

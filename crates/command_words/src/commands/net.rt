@@ -1,15 +1,9 @@
 //! `net FILE SIZE TURNS`.
-use crate::conclusion::Conclusion;
-use crate::environment::is_log_asked;
+use crate::asked::Asked;
 use crate::shared_words::{FILE, SIZE, TURNS, on_file, size_arg, value_arg};
 use crate::value::{WordFault, byte_of, count_of, text_of};
 use clap::{ArgMatches, Command};
-use group_udp::{NetPlan, net_file};
 use std::alloc::{AllocError, Global};
-use std::io::{Read, Write};
-use std::net::Net;
-use std::rt::{Env, Files};
-use std::time::Clock;
 
 /// The word that names the command.
 pub const WORD: &str = "net";
@@ -37,20 +31,10 @@ pub fn words<'a>(alloc: Global) -> Result<Command<'a>, AllocError> {
         .arg(value_arg(alloc, TURNS, "How many turns each node has"))
 }
 
-/// Does what the words ask for. Returns how that ended, or what is wrong with the words.
-pub fn perform<'a, H: Files + Net + Clock + Env + AllocGlobal, R: Read, W: Write, E: Write>(
-    rt: &H,
-    matches: &ArgMatches<'a>,
-    reader: &mut R,
-    writer: &mut W,
-    errors: &mut E,
-) -> Result<Conclusion, WordFault<'a>> {
+/// Returns what the words ask for.
+pub fn read<'a>(matches: &ArgMatches<'a>) -> Result<Asked<'a>, WordFault<'a>> {
     let file = text_of(matches, FILE)?;
-    let plan = NetPlan {
-        size: byte_of(matches, SIZE)?,
-        turns: count_of(matches, TURNS)?,
-        is_logged: is_log_asked(rt),
-    };
-    let done = net_file(rt, file, &plan, reader, writer, errors);
-    Ok(Conclusion::of_done(done))
+    let size = byte_of(matches, SIZE)?;
+    let turns = count_of(matches, TURNS)?;
+    Ok(Asked::Net { file, size, turns })
 }

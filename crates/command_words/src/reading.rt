@@ -1,4 +1,5 @@
 //! The words of the command line, read.
+use crate::asked::Asked;
 use crate::commands::{Name, all_words};
 use crate::value::WordFault;
 use clap::error::ErrorKind;
@@ -8,7 +9,7 @@ use std::rt::Env;
 use std::string::String;
 use std::{env, io};
 
-/// Why the words ask for nothing that is done: help, a fault in them, or memory that ran out.
+/// Why the words ask for no command: help, a fault in them, or memory that ran out.
 #[derive(Drop)]
 pub enum NotAsked {
     /// The text of help.
@@ -71,7 +72,7 @@ fn text_of_word_fault(
 }
 
 /// Returns the refusal of a fault in the words of a command.
-pub fn refused(alloc: Global, name: Name, fault: WordFault<'_>) -> NotAsked {
+fn refused(alloc: Global, name: Name, fault: WordFault<'_>) -> NotAsked {
     if fault == WordFault::Memory {
         return NotAsked::Memory;
     }
@@ -88,13 +89,13 @@ fn refused_whole(alloc: Global, kind: ErrorKind, what: &str) -> Result<NotAsked,
 }
 
 /// Returns the refusal of words that name no command.
-pub fn no_command(alloc: Global) -> Result<NotAsked, AllocError> {
+fn no_command(alloc: Global) -> Result<NotAsked, AllocError> {
     refused_whole(alloc, ErrorKind::MissingSubcommand, "a command is missing")
 }
 
 /// Reads words, which are without the program's own name. Fails if they ask for help or have a
 /// fault that clap finds.
-pub fn read_words<'a>(alloc: Global, words: &'a [String]) -> Result<ArgMatches<'a>, NotAsked> {
+fn read_words<'a>(alloc: Global, words: &'a [String]) -> Result<ArgMatches<'a>, NotAsked> {
     match all_words(alloc)?.try_get_matches_from(words) {
         Ok(matches) => Ok(matches),
         Err(error) => Err(unread(alloc, error)),
@@ -102,9 +103,22 @@ pub fn read_words<'a>(alloc: Global, words: &'a [String]) -> Result<ArgMatches<'
 }
 
 /// Returns the command that the words name, with its own words.
-pub fn command_in<'m, 'a>(matches: &'m ArgMatches<'a>) -> Option<(Name, &'m ArgMatches<'a>)> {
+fn command_in<'m, 'a>(matches: &'m ArgMatches<'a>) -> Option<(Name, &'m ArgMatches<'a>)> {
     let (word, own) = matches.subcommand()?;
     Some((Name::of(word)?, own))
+}
+
+/// Returns what words ask for, which are without the program's own name. Fails if they ask for
+/// help, if there is a fault in them, or if memory runs out.
+pub fn asked_of<'a>(alloc: Global, words: &'a [String]) -> Result<Asked<'a>, NotAsked> {
+    let matches = read_words(alloc, words)?;
+    let Some((name, own)) = command_in(&matches) else {
+        return Err(no_command(alloc)?);
+    };
+    match name.read(alloc, own) {
+        Ok(asked) => Ok(asked),
+        Err(fault) => Err(refused(alloc, name, fault)),
+    }
 }
 
 /// Returns the words of the command line without the program's own name. Fails if memory runs out,
