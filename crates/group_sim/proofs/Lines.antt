@@ -7,11 +7,12 @@ use Rattle.group_world.specs.Group.{World}
 use Rattle.group_sim.specs.declared.simulation.ScriptHalt.{ScriptHalt}
 use Rattle.group_sim.specs.declared.simulation.ScriptHalt.TheVariants as halt
 use Rattle.group_sim.specs.declared.simulation.Stopped.{Stopped}
+use Rattle.group_sim.specs.Texts.{Held}
 use Rattle.group_sim.specs.Moments.{AreDone, IsScriptDone, IsHalted, IsNoGroup, LineIsDone, Moment, Says, halt_answer, first_moment, halt_of}
 use Rattle.group_sim.proofs.Turns.{halts_at, one_more}
 
 -- the outcome of a script that halts at a line, by its answer
-answers : {w : World} {lines : List Line} {old new : Option (List ℕ)} (h : ScriptHalt) (number : ℕ) (r : Result (Option Stopped) RunIo)
+answers : {w : World} {lines : List Line} {old new : Held} (h : ScriptHalt) (number : ℕ) (r : Result (Option Stopped) RunIo)
     → r ≡ halt_answer number h → IsHalted w lines number h old new
     → IfOk r (λ answer. IfSome answer
     (λ stopped. (IsNoGroup w.group.size stopped.line stopped.fault × (new ≡ old))
@@ -38,7 +39,7 @@ line_done size n number lines default a mid b e less p q =
     one_more (LineIsDone size lines) 2 n a mid b p (line_there _ lines default e less q)
 
 -- all lines are done
-pub all_done : (w : World) (lines : List Line) (n : ℕ) (b : Moment) (old : Option (List ℕ)) → n ≡ length lines
+pub all_done : (w : World) (lines : List Line) (n : ℕ) (b : Moment) (old : Held) → n ≡ length lines
     → AreDone (LineIsDone w.group.size lines) 2 n (first_moment w old) b
     → IsScriptDone w lines old b.written
 all_done w lines n b old e p = record { end = b; done = rw e at p; written = refl }
@@ -46,7 +47,7 @@ all_done w lines n b old e p = record { end = b; done = rw e at p; written = ref
 -- the script halts at a line: its outcome where the world refused an event or the settle is too
 -- long, and where a write failed
 pub line_halts : (w : World) (lines : List Line) (n number : ℕ) (default : Line) (mid b : Moment) (h : ScriptHalt)
-    (old : Option (List ℕ)) (r : Result (Option Stopped) RunIo) → number ≡ n + 1 → n < length lines
+    (old : Held) (r : Result (Option Stopped) RunIo) → number ≡ n + 1 → n < length lines
     → AreDone (LineIsDone w.group.size lines) 2 n (first_moment w old) mid
     → Says w.group.size (number + 1) (get_or lines n default) mid (Err h) b → r ≡ halt_answer (number + 1) h
     → IfOk r (λ answer. IfSome answer

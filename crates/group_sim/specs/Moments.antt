@@ -1,6 +1,5 @@
 -- What a script does to a group and to a writer, line by line.
 use Rattle.std.specs.Prelude.{◌≡◌, ◌⊎◌, ℕ, zero, suc, ◌+◌, ◌-◌, ◌<◌, ◌≤◌, Bool, true, false, ◌&&◌, ◌==◌, List, length, slice_get, Option, Some, None, is_some, Result, Ok, Err}
-use Rattle.std.specs.Io.KnownBytes.{Appends}
 use Rattle.group_node.specs.declared.packet.To.{To}
 use Rattle.group_node.specs.declared.packet.To.TheVariants as whom
 use Rattle.group_node.specs.Output.{unreleased_of}
@@ -18,6 +17,7 @@ use Rattle.group_world.specs.Event.{Goes, kept_event}
 use Rattle.group_world.specs.Group.{World}
 use Rattle.group_world.specs.Member.{Running}
 use Rattle.group_world.specs.Refusals.{IsRefused}
+use Rattle.machine_run.specs.Streams.{Borrowed}
 use Rattle.machine_run.specs.declared.run.RunIo.{RunIo}
 use Rattle.machine_run.specs.declared.run.RunIo.TheVariants.{Write}
 use Rattle.group_sim.specs.declared.simulation.TheConstants.{DELIVERIES, SETTLE_STEPS}
@@ -25,20 +25,20 @@ use Rattle.group_sim.specs.declared.simulation.ScriptHalt.{ScriptHalt}
 use Rattle.group_sim.specs.declared.simulation.ScriptHalt.TheVariants as halt
 use Rattle.group_sim.specs.declared.simulation.Simulation.{Simulation}
 use Rattle.group_sim.specs.declared.simulation.Stopped.{Stopped}
-use Rattle.group_sim.specs.Texts.{AppendsFront, node_at, event_text}
+use Rattle.group_sim.specs.Texts.{AppendsText, AppendsFront, Held, event_text, node_at, held}
 use Rattle.group_sim.specs.Groups.{group_text}
 
 -- A moment of a script.
 -- It has the group, the number of messages that the settles have passed, the number of deliveries
--- that the settle may still make, and what the writer holds, where that is known.
+-- that the settle may still make, and what is known of the writer.
 pub record Moment : Type 0 where
   pub world : World
   pub passed : ℕ
   pub left : ℕ
-  pub written : Option (List ℕ)
+  pub written : Held
 
--- The moment of a simulation, with what the writer holds.
-abbrev pub moment : Simulation → Option (List ℕ) → Moment
+-- The moment of a simulation, with what is known of the writer.
+abbrev pub moment : Simulation → Held → Moment
 moment s written = record { world = s.world; passed = s.passed; left = s.left; written = written }
 
 -- A relation of a moment, an answer (done, or the script halts) and the moment after it.
@@ -60,6 +60,13 @@ pub record HaltsAt (task : ℕ → Task) (first number : ℕ) (a : Moment) (h : 
   pub done : AreDone task first (number - first) a before
   pub after_first : first ≤ number
   pub halts : task number before (Err h) b
+
+-- A task that a call performs on a simulation and a writer which it borrows.
+abbrev pub PerformsTask : {W : Type 0} → (W → Option (List ℕ)) → (W → ℕ) → Task
+    → Borrowed Simulation → Borrowed W → Result (Unit {0}) ScriptHalt → Type 0
+PerformsTask contents faults task simulation writer r =
+    task (moment simulation.entry.now (held contents faults writer.entry.now)) r
+    (moment simulation.exit.now (held contents faults writer.exit.now))
 
 -- A task of n tasks in order, up to the first that halts.
 abbrev pub InTurn : (ℕ → Task) → ℕ → ℕ → Task
@@ -84,7 +91,7 @@ pub record LeavesWorld (a : Moment) (world : World) (text : List ℕ) (b : Momen
   pub world_is : b.world ≡ world
   pub passed : b.passed ≡ a.passed
   pub left : b.left ≡ a.left
-  pub written : Appends a.written b.written text
+  pub written : AppendsText a.written b.written text
 
 -- A moment after another in which only the world is new, and a prefix of the text was written.
 pub record LeavesFront (a : Moment) (world : World) (text : List ℕ) (b : Moment) : Type 0 where
@@ -189,21 +196,22 @@ abbrev pub LineIsDone : ℕ → List Line → ℕ → Task
 LineIsDone size lines number a r b =
     (said : Line) × (slice_get lines (number - 2) ≡ Some said) × Says size number said a r b
 
--- The moment before the first event of a script, with what the writer holds.
-abbrev pub first_moment : World → Option (List ℕ) → Moment
+-- The moment before the first event of a script, with what is known of the writer.
+abbrev pub first_moment : World → Held → Moment
 first_moment w written = record { world = w; passed = 0; left = 0; written = written }
 
--- A script whose lines were all done in order, and what the writer then holds.
+-- A script whose lines were all done in order, and what is then known of the writer.
 -- Forbids: a line that is left out.
-pub record IsScriptDone (w : World) (lines : List Line) (old new : Option (List ℕ)) : Type 0 where
+pub record IsScriptDone (w : World) (lines : List Line) (old new : Held) : Type 0 where
   pub end : Moment
   pub done : AreDone (LineIsDone w.group.size lines) 2 (length lines) (first_moment w old) end
   pub written : end.written ≡ new
 
--- A script that was done up to line `number`, which halts with `h`, and what the writer then holds.
+-- A script that was done up to line `number`, which halts with `h`, and what is then known of
+-- the writer.
 -- Allows: a settle that halts in the middle.
 pub record IsHalted (w : World) (lines : List Line) (number : ℕ) (h : ScriptHalt)
-    (old new : Option (List ℕ)) : Type 0 where
+    (old new : Held) : Type 0 where
   pub end : Moment
   pub halted : HaltsAt (LineIsDone w.group.size lines) 2 number (first_moment w old) h end
   pub few : number < 2 + length lines

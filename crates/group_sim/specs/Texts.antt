@@ -1,6 +1,8 @@
 -- The texts of refusals at a line of a script, what a failed write leaves of a text, and nodes.
 use Rattle.std.specs.Prelude.{ℕ, List, [], ◌++◌, Option, option_and_then, codes, decimal, ◌≡◌, Result, MatchResult}
 use Rattle.std.specs.Io.KnownBytes.{Appends}
+use Rattle.base.specs.Faults.{HasRisen}
+use Rattle.machine_run.specs.Streams.{Borrowed}
 use Rattle.group_node.specs.declared.fault.NodeFault.{NodeFault}
 use Rattle.group_node.specs.Fault.{code_of}
 use Rattle.group_world.specs.declared.event.Done.{Done}
@@ -8,18 +10,42 @@ use Rattle.group_world.specs.declared.event.Done.TheVariants.{Applied, Refused, 
 use Rattle.group_world.specs.Group.{member_at, World}
 use Rattle.group_world.specs.Member.{Running}
 
--- A prefix of a text that was appended, perhaps all of it.
-pub record AppendsFront (old new : Option (List ℕ)) (text : List ℕ) : Type 0 where
+-- ---- what is written
+
+-- What is known of a writer: the bytes that it holds, where they are known, and how many of its
+-- writes have failed or taken nothing.
+pub record Held : Type 0 where
+  pub bytes : Option (List ℕ)
+  pub faults : ℕ
+
+-- What is known of a writer: what it holds, and how many of its writes have failed.
+abbrev pub held : {W : Type 0} → (W → Option (List ℕ)) → (W → ℕ) → W → Held
+held contents faults writer = record { bytes = contents writer; faults = faults writer }
+
+-- A text was appended, and no write failed.
+pub record AppendsText (old new : Held) (text : List ℕ) : Type 0 where
+  pub bytes : Appends old.bytes new.bytes text
+  pub faults : new.faults ≡ old.faults
+
+-- A prefix of a text was appended, perhaps all of it, and then a write failed.
+-- Forbids: a text that is not written whole where no write fails.
+pub record AppendsFront (old new : Held) (text : List ℕ) : Type 0 where
   pub front : List ℕ
   pub rest : List ℕ
   pub whole : text ≡ front ++ rest
-  pub appends : Appends old new front
+  pub bytes : Appends old.bytes new.bytes front
+  pub fault : HasRisen old.faults new.faults
 
--- What a write of a text appends: the text, or, if it failed, a prefix of it.
-abbrev pub WritesText : {E : Type 0} → Option (List ℕ) → Result (Unit {0}) E → Option (List ℕ)
-    → List ℕ → Type 0
+-- What a write of a text does: it appends the text, or a prefix of it, if a write has failed.
+abbrev pub WritesText : {E : Type 0} → Held → Result (Unit {0}) E → Held → List ℕ → Type 0
 WritesText old r new text =
-    MatchResult r (λ _. Appends old new text) (λ _. AppendsFront old new text)
+    MatchResult r (λ _. AppendsText old new text) (λ _. AppendsFront old new text)
+
+-- A call that writes a text to a writer that it borrows.
+abbrev pub PutsText : {W E : Type 0} → (W → Option (List ℕ)) → (W → ℕ) → Borrowed W
+    → Result (Unit {0}) E → List ℕ → Type 0
+PutsText contents faults writer r text =
+    WritesText (held contents faults writer.entry.now) r (held contents faults writer.exit.now) text
 
 -- ---- what a node refuses
 

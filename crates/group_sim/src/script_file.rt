@@ -2,7 +2,7 @@
 use crate::refusal::ScriptRefusal;
 use crate::simulation::sim;
 use group_world::{Script, read_script};
-use machine_run::{MachineRefusal, load_file, read_file};
+use machine_run::{Counting, MachineRefusal, load_file, read_file};
 use std::io::Write;
 use std::rt::Files;
 
@@ -24,7 +24,8 @@ pub fn sim_file<H: Files + AllocGlobal, W: Write>(
 ) -> Result<(), ScriptRefusal> {
     let program = load_file(rt, file)?;
     let script = load_script(rt, script)?;
-    match sim(rt.alloc(), &program, &script, writer).map_err(MachineRefusal::Run)? {
+    let mut writer = Counting::new(writer);
+    match sim(rt.alloc(), &program, &script, &mut writer).map_err(MachineRefusal::Run)? {
         None => Ok(()),
         Some(stopped) => Err(ScriptRefusal::from(stopped)),
     }

@@ -5,34 +5,32 @@ ghost use Rattle.group_sim.specs.Groups.{ballot_text, console_at, console_text, 
 ghost use Rattle.group_sim.specs.Groups.{keys_text, known_text, learned_at, learned_by, node_line};
 ghost use Rattle.group_sim.specs.Groups.{node_lines, place_line, place_lines, known_promise};
 ghost use Rattle.group_sim.specs.Groups.{promised_text, value_text};
-ghost use Rattle.group_sim.specs.Texts.{node_at, WritesText};
+ghost use Rattle.group_sim.specs.Texts.{node_at, PutsText};
 
 use crate::text::{put, put_decimal, put_hex, put_number};
 use group_node::Node;
 use group_world::World;
-use machine_run::WriteFault;
+use machine_run::{ByteWriter, WriteFault};
 use paxos_acceptor::MemoryStore;
 use paxos_msg::{Ballot, PLACES, Value};
-use std::io::Write;
 
 /// Writes a ballot.
-fn write_ballot<W: Write>(writer: &mut W, ballot: Ballot) -> Result<(), WriteFault>
-    ensures { WritesText (W.contents writer.old) result (W.contents writer.new)
-        (ballot_text ballot) }
+fn write_ballot<W: ByteWriter>(writer: &mut W, ballot: Ballot) -> Result<(), WriteFault>
+    ensures { PutsText W.contents W.write_faults writer result (ballot_text ballot) }
 {
     put_decimal(writer, ballot.round as u64)?;
     put_number(writer, b".", ballot.node as u64)
 }
 
 /// Writes the keys of a value, whose first has the serial `first`.
-fn write_keys<W: Write>(
+fn write_keys<W: ByteWriter>(
     writer: &mut W,
     node: u8,
     start: u32,
     first: u32,
     bytes: &[u8],
 ) -> Result<(), WriteFault>
-    ensures { WritesText (W.contents writer.old) result (W.contents writer.new)
+    ensures { PutsText W.contents W.write_faults writer result
         (keys_text node start first bytes.now) }
 {
     put_number(writer, b"key ", node as u64)?;
@@ -43,8 +41,8 @@ fn write_keys<W: Write>(
 }
 
 /// Writes a value.
-fn write_value<W: Write>(writer: &mut W, value: Value) -> Result<(), WriteFault>
-    ensures { WritesText (W.contents writer.old) result (W.contents writer.new) (value_text value) }
+fn write_value<W: ByteWriter>(writer: &mut W, value: Value) -> Result<(), WriteFault>
+    ensures { PutsText W.contents W.write_faults writer result (value_text value) }
 {
     match value {
         Value::Noop => put(writer, b"noop"),
@@ -58,8 +56,8 @@ fn write_value<W: Write>(writer: &mut W, value: Value) -> Result<(), WriteFault>
 }
 
 /// Writes whether a node is up, and its known front if it is.
-fn write_known<W: Write>(writer: &mut W, world: &World<'_>, node: u8) -> Result<(), WriteFault>
-    ensures { WritesText (W.contents writer.old) result (W.contents writer.new)
+fn write_known<W: ByteWriter>(writer: &mut W, world: &World<'_>, node: u8) -> Result<(), WriteFault>
+    ensures { PutsText W.contents W.write_faults writer result
         (known_text (node_at world.now node)) }
 {
     match world.node(node) {
@@ -79,9 +77,8 @@ fn promised(world: &World<'_>, node: u8) -> Option<Ballot>
 }
 
 /// Writes the ballot that a node has promised, or `-`.
-fn write_promised<W: Write>(writer: &mut W, promised: Option<Ballot>) -> Result<(), WriteFault>
-    ensures { WritesText (W.contents writer.old) result (W.contents writer.new)
-        (promised_text promised) }
+fn write_promised<W: ByteWriter>(writer: &mut W, promised: Option<Ballot>) -> Result<(), WriteFault>
+    ensures { PutsText W.contents W.write_faults writer result (promised_text promised) }
 {
     match promised {
         None => put(writer, b" promised -"),
@@ -103,9 +100,8 @@ fn console<'w>(world: &'w World<'_>, node: u8) -> &'w [u8]
 }
 
 /// Writes the bytes that a console has shown, or `-`.
-fn write_console<W: Write>(writer: &mut W, console: &[u8]) -> Result<(), WriteFault>
-    ensures { WritesText (W.contents writer.old) result (W.contents writer.new)
-        (console_text console.now) }
+fn write_console<W: ByteWriter>(writer: &mut W, console: &[u8]) -> Result<(), WriteFault>
+    ensures { PutsText W.contents W.write_faults writer result (console_text console.now) }
 {
     if console.is_empty() {
         return put(writer, b" console -");
@@ -115,9 +111,8 @@ fn write_console<W: Write>(writer: &mut W, console: &[u8]) -> Result<(), WriteFa
 }
 
 /// Writes the line of a node.
-fn write_node<W: Write>(writer: &mut W, world: &World<'_>, node: u8) -> Result<(), WriteFault>
-    ensures { WritesText (W.contents writer.old) result (W.contents writer.new)
-        (node_line world.now node) }
+fn write_node<W: ByteWriter>(writer: &mut W, world: &World<'_>, node: u8) -> Result<(), WriteFault>
+    ensures { PutsText W.contents W.write_faults writer result (node_line world.now node) }
 {
     put_number(writer, b"node ", node as u64)?;
     write_known(writer, world, node)?;
@@ -127,9 +122,8 @@ fn write_node<W: Write>(writer: &mut W, world: &World<'_>, node: u8) -> Result<(
 }
 
 /// Writes a line for each node.
-fn write_nodes<W: Write>(writer: &mut W, world: &World<'_>, size: u8) -> Result<(), WriteFault>
-    ensures { WritesText (W.contents writer.old) result (W.contents writer.new)
-        (node_lines world.now size) }
+fn write_nodes<W: ByteWriter>(writer: &mut W, world: &World<'_>, size: u8) -> Result<(), WriteFault>
+    ensures { PutsText W.contents W.write_faults writer result (node_lines world.now size) }
 {
     for before in 0..size {
         write_node(writer, world, 1 + before)?;
@@ -159,9 +153,8 @@ fn learned(world: &World<'_>, size: u8, place: u32) -> Option<Value>
 }
 
 /// Writes the line of a place at which `value` is learned.
-fn write_learned<W: Write>(writer: &mut W, place: u32, value: Value) -> Result<(), WriteFault>
-    ensures { WritesText (W.contents writer.old) result (W.contents writer.new)
-        (place_line place (Some value)) }
+fn write_learned<W: ByteWriter>(writer: &mut W, place: u32, value: Value) -> Result<(), WriteFault>
+    ensures { PutsText W.contents W.write_faults writer result (place_line place (Some value)) }
 {
     put_number(writer, b"place ", place as u64)?;
     put(writer, b" ")?;
@@ -170,13 +163,12 @@ fn write_learned<W: Write>(writer: &mut W, place: u32, value: Value) -> Result<(
 }
 
 /// Writes the line of a place, if a value is learned there.
-fn write_place<W: Write>(
+fn write_place<W: ByteWriter>(
     writer: &mut W,
     place: u32,
     learned: Option<Value>,
 ) -> Result<(), WriteFault>
-    ensures { WritesText (W.contents writer.old) result (W.contents writer.new)
-        (place_line place learned) }
+    ensures { PutsText W.contents W.write_faults writer result (place_line place learned) }
 {
     match learned {
         None => Ok(()),
@@ -223,9 +215,12 @@ fn places_end(world: &World<'_>, size: u8) -> u32
 
 /// Writes a line for each place at which some node that is up has learned a value, ascending. It
 /// looks at no place that is far above all fronts.
-fn write_places<W: Write>(writer: &mut W, world: &World<'_>, size: u8) -> Result<(), WriteFault>
-    ensures { WritesText (W.contents writer.old) result (W.contents writer.new)
-        (place_lines world.now size) }
+fn write_places<W: ByteWriter>(
+    writer: &mut W,
+    world: &World<'_>,
+    size: u8,
+) -> Result<(), WriteFault>
+    ensures { PutsText W.contents W.write_faults writer result (place_lines world.now size) }
 {
     for place in 0..places_end(world, size) {
         write_place(writer, place, learned(world, size, place))?;
@@ -235,9 +230,12 @@ fn write_places<W: Write>(writer: &mut W, world: &World<'_>, size: u8) -> Result
 
 /// Writes a line for each node of a group of `size` nodes, a line for each learned place, and the
 /// number of messages that were sent. A write that fails leaves a prefix of this text.
-pub fn write_group<W: Write>(writer: &mut W, world: &World<'_>, size: u8) -> Result<(), WriteFault>
-    ensures { WritesText (W.contents writer.old) result (W.contents writer.new)
-        (group_text world.now size) }
+pub fn write_group<W: ByteWriter>(
+    writer: &mut W,
+    world: &World<'_>,
+    size: u8,
+) -> Result<(), WriteFault>
+    ensures { PutsText W.contents W.write_faults writer result (group_text world.now size) }
 {
     write_nodes(writer, world, size)?;
     write_places(writer, world, size)?;

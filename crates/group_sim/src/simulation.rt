@@ -4,17 +4,16 @@ ghost use Rattle.group_node.specs.Fault.{code_of};
 ghost use Rattle.group_node.specs.States.{IsSize};
 ghost use Rattle.group_world.specs.Event.{kept_event};
 ghost use Rattle.group_world.specs.Group.{new_world};
-ghost use Rattle.group_sim.specs.Moments.{DeliversOne, DeliversAll, HappensAt, InTurn, IsScriptDone, IsHalted, IsNoGroup, Plays, ReleasesAll, Says, Settles, Shows, halt_answer, halt_of, is_meant, moment, waiting};
-ghost use Rattle.group_sim.specs.Texts.{node_at, refusal_text, event_text, WritesText};
+ghost use Rattle.group_sim.specs.Moments.{DeliversOne, DeliversAll, HappensAt, InTurn, IsScriptDone, IsHalted, IsNoGroup, PerformsTask, Plays, ReleasesAll, Says, Settles, Shows, halt_answer, halt_of, is_meant, moment, waiting};
+ghost use Rattle.group_sim.specs.Texts.{node_at, refusal_text, event_text, held, PutsText};
 
 use crate::showing::write_group;
 use crate::text::{put, put_number};
 use group_node::{NodeFault, To};
 use group_world::{Act, Done, Event, Line, Outcome, Script, World, WorldFault};
-use machine_run::{RunIo, WriteFault};
+use machine_run::{ByteWriter, RunIo, WriteFault};
 use pcode_ops::Program;
 use std::alloc::Global;
-use std::io::Write;
 
 /// The most deliveries that a settle makes.
 pub const DELIVERIES: u32 = 10_000;
@@ -50,9 +49,12 @@ fn code(fault: NodeFault) -> &'static [u8]
 }
 
 /// Writes the line of a node's refusal.
-fn write_refusal<W: Write>(writer: &mut W, line: usize, fault: NodeFault) -> Result<(), WriteFault>
-    ensures { WritesText (W.contents writer.old) result (W.contents writer.new)
-        (refusal_text line fault) }
+fn write_refusal<W: ByteWriter>(
+    writer: &mut W,
+    line: usize,
+    fault: NodeFault,
+) -> Result<(), WriteFault>
+    ensures { PutsText W.contents W.write_faults writer result (refusal_text line fault) }
 {
     put_number(writer, b"line ", line as u64)?;
     put(writer, b" node ")?;
@@ -61,9 +63,8 @@ fn write_refusal<W: Write>(writer: &mut W, line: usize, fault: NodeFault) -> Res
 }
 
 /// Writes the line of a node's refusal, if it refused the event.
-fn tell<W: Write>(writer: &mut W, line: usize, done: Done) -> Result<(), WriteFault>
-    ensures { WritesText (W.contents writer.old) result (W.contents writer.new)
-        (event_text line done) }
+fn tell<W: ByteWriter>(writer: &mut W, line: usize, done: Done) -> Result<(), WriteFault>
+    ensures { PutsText W.contents W.write_faults writer result (event_text line done) }
 {
     match done {
         Done::Refused(fault) => write_refusal(writer, line, fault),
@@ -94,26 +95,30 @@ struct Simulation<'a> {
 
 impl Simulation<'_> {
     /// Applies an event of the line. Writes a refusal of its node, after which the script goes on.
-    fn happen<W: Write>(
+    fn happen<W: ByteWriter>(
         &mut self,
         writer: &mut W,
         line: usize,
         event: &Event,
     ) -> Result<(), ScriptHalt>
         ensures size { self.new.size ≡ self.old.size }
-        ensures happens { HappensAt line event.now (moment self.old (W.contents writer.old)) result
-            (moment self.new (W.contents writer.new)) }
+        ensures happens { PerformsTask W.contents W.write_faults
+            (HappensAt line event.now) self writer result }
     {
         let done = self.world.apply(event).map_err(ScriptHalt::Refused)?;
         tell(writer, line, done).or(Err(ScriptHalt::Unwritten))
     }
 
     /// Performs an act of a settle, whose save does not fail.
-    fn go_on<W: Write>(&mut self, writer: &mut W, line: usize, act: Act) -> Result<(), ScriptHalt>
+    fn go_on<W: ByteWriter>(
+        &mut self,
+        writer: &mut W,
+        line: usize,
+        act: Act,
+    ) -> Result<(), ScriptHalt>
         ensures size { self.new.size ≡ self.old.size }
-        ensures happens { HappensAt line (kept_event act)
-            (moment self.old (W.contents writer.old)) result
-            (moment self.new (W.contents writer.new)) }
+        ensures happens { PerformsTask W.contents W.write_faults
+            (HappensAt line (kept_event act)) self writer result }
     {
         let save = Outcome::Kept;
         self.happen(writer, line, &Event { act, save })
@@ -127,7 +132,7 @@ impl Simulation<'_> {
     }
 
     /// Delivers a message to a node, if it is for that node and the node is up.
-    fn deliver<W: Write>(
+    fn deliver<W: ByteWriter>(
         &mut self,
         writer: &mut W,
         line: usize,
@@ -136,9 +141,8 @@ impl Simulation<'_> {
         node: u8,
     ) -> Result<(), ScriptHalt>
         ensures size { self.new.size ≡ self.old.size }
-        ensures delivers { DeliversOne line message to node
-            (moment self.old (W.contents writer.old)) result
-            (moment self.new (W.contents writer.new)) }
+        ensures delivers { PerformsTask W.contents W.write_faults
+            (DeliversOne line message to node) self writer result }
     {
         if !is_meant_for(to, node) || !self.is_up(node) {
             return Ok(());
@@ -151,7 +155,7 @@ impl Simulation<'_> {
     }
 
     /// Delivers a message to those whom it is for and who are up, in ascending order.
-    fn pass<W: Write>(
+    fn pass<W: ByteWriter>(
         &mut self,
         writer: &mut W,
         line: usize,
@@ -159,9 +163,8 @@ impl Simulation<'_> {
         to: To,
     ) -> Result<(), ScriptHalt>
         ensures size { self.new.size ≡ self.old.size }
-        ensures passes { InTurn (DeliversOne line message to) 1 self.old.size
-            (moment self.old (W.contents writer.old)) result
-            (moment self.new (W.contents writer.new)) }
+        ensures passes { PerformsTask W.contents W.write_faults
+            (InTurn (DeliversOne line message to) 1 self.old.size) self writer result }
     {
         let size = self.size;
         for before in 0..size {
@@ -172,11 +175,10 @@ impl Simulation<'_> {
 
     /// Delivers the messages that no settle has passed, and those that they cause, in the order in
     /// which they were sent.
-    fn deliver_all<W: Write>(&mut self, writer: &mut W, line: usize) -> Result<(), ScriptHalt>
+    fn deliver_all<W: ByteWriter>(&mut self, writer: &mut W, line: usize) -> Result<(), ScriptHalt>
         ensures size { self.new.size ≡ self.old.size }
-        ensures delivers { DeliversAll line self.old.size
-            (moment self.old (W.contents writer.old)) result
-            (moment self.new (W.contents writer.new)) }
+        ensures delivers { PerformsTask W.contents W.write_faults
+            (DeliversAll line self.old.size) self writer result }
     {
         // Each delivery may cause further messages.
         for message in self.passed..usize::MAX {
@@ -204,15 +206,15 @@ impl Simulation<'_> {
     }
 
     /// Releases all output that waits at a node.
-    fn release_all<W: Write>(
+    fn release_all<W: ByteWriter>(
         &mut self,
         writer: &mut W,
         line: usize,
         node: u8,
     ) -> Result<(), ScriptHalt>
         ensures size { self.new.size ≡ self.old.size }
-        ensures releases { ReleasesAll line node (moment self.old (W.contents writer.old)) result
-            (moment self.new (W.contents writer.new)) }
+        ensures releases { PerformsTask W.contents W.write_faults
+            (ReleasesAll line node) self writer result }
     {
         let waiting = self.waiting(node);
         for _ in 0..waiting {
@@ -222,10 +224,15 @@ impl Simulation<'_> {
     }
 
     /// Runs a node, if it is up, and releases all its output that waits.
-    fn play<W: Write>(&mut self, writer: &mut W, line: usize, node: u8) -> Result<(), ScriptHalt>
+    fn play<W: ByteWriter>(
+        &mut self,
+        writer: &mut W,
+        line: usize,
+        node: u8,
+    ) -> Result<(), ScriptHalt>
         ensures size { self.new.size ≡ self.old.size }
-        ensures plays { Plays line node (moment self.old (W.contents writer.old)) result
-            (moment self.new (W.contents writer.new)) }
+        ensures plays { PerformsTask W.contents W.write_faults
+            (Plays line node) self writer result }
     {
         if !self.is_up(node) {
             return Ok(());
@@ -235,11 +242,10 @@ impl Simulation<'_> {
     }
 
     /// Runs each node that is up and releases all its output, in ascending order.
-    fn play_all<W: Write>(&mut self, writer: &mut W, line: usize) -> Result<(), ScriptHalt>
+    fn play_all<W: ByteWriter>(&mut self, writer: &mut W, line: usize) -> Result<(), ScriptHalt>
         ensures size { self.new.size ≡ self.old.size }
-        ensures plays { InTurn (Plays line) 1 self.old.size
-            (moment self.old (W.contents writer.old)) result
-            (moment self.new (W.contents writer.new)) }
+        ensures plays { PerformsTask W.contents W.write_faults
+            (InTurn (Plays line) 1 self.old.size) self writer result }
     {
         let size = self.size;
         for before in 0..size {
@@ -252,11 +258,10 @@ impl Simulation<'_> {
     /// which they were sent, to those of its addressees that are up. Then lets each node that is up
     /// run for at most 1,000 steps and release all its output, node 1 first. Halts with `TooLong`
     /// before the 10,001st delivery. Where it halts, what was done before has happened.
-    fn settle<W: Write>(&mut self, writer: &mut W, line: usize) -> Result<(), ScriptHalt>
+    fn settle<W: ByteWriter>(&mut self, writer: &mut W, line: usize) -> Result<(), ScriptHalt>
         ensures size { self.new.size ≡ self.old.size }
-        ensures settles { Settles line self.old.size
-            (moment self.old (W.contents writer.old)) result
-            (moment self.new (W.contents writer.new)) }
+        ensures settles { PerformsTask W.contents W.write_faults
+            (Settles line self.old.size) self writer result }
     {
         self.left = DELIVERIES;
         self.deliver_all(writer, line)?;
@@ -264,24 +269,24 @@ impl Simulation<'_> {
     }
 
     /// Writes the group.
-    fn show<W: Write>(&self, writer: &mut W) -> Result<(), ScriptHalt>
-        ensures { Shows self.now.size (moment self.now (W.contents writer.old)) result
-            (moment self.now (W.contents writer.new)) }
+    fn show<W: ByteWriter>(&self, writer: &mut W) -> Result<(), ScriptHalt>
+        ensures { Shows self.now.size
+            (moment self.now (held W.contents W.write_faults writer.old)) result
+            (moment self.now (held W.contents W.write_faults writer.new)) }
     {
         write_group(writer, &self.world, self.size).or(Err(ScriptHalt::Unwritten))
     }
 
     /// Performs a line.
-    fn perform<W: Write>(
+    fn perform<W: ByteWriter>(
         &mut self,
         writer: &mut W,
         number: usize,
         line: &Line,
     ) -> Result<(), ScriptHalt>
         ensures size { self.new.size ≡ self.old.size }
-        ensures says { Says self.old.size number line.now
-            (moment self.old (W.contents writer.old)) result
-            (moment self.new (W.contents writer.new)) }
+        ensures says { PerformsTask W.contents W.write_faults
+            (Says self.old.size number line.now) self writer result }
     {
         match line {
             Line::Act(event) => self.happen(writer, number, event),
@@ -304,13 +309,13 @@ fn stopped_at(line: usize, halt: ScriptHalt) -> Result<Option<Stopped>, RunIo>
 }
 
 /// Performs `script` on a new group that runs `program`. At `Ok(None)` each line was done, in
-/// order. Otherwise a line halted for just the cause returned, after all before it were done. Line
-/// 1 halts with `Size` exactly if the size is even or above 9, else only with `Memory`; then
-/// nothing is written. Fails only with `Write`.
+/// order. Else a line halted for just the cause returned, after all before it. Line 1 halts with
+/// `Size` exactly if the size is even or above 9, else only with `Memory`; then nothing is written.
+/// `Write` means that a write failed.
 ///
 /// It writes `line N node Dk` for an event that its node refuses, nothing for another event, and
-/// the text of the group for a `show`. If a write fails, a prefix of that text was written. What
-/// the line that halts did before has happened.
+/// the text of the group for a `show`. It fails exactly if a write fails, or takes nothing: then a
+/// prefix of that text was written. What the line that halts did before has happened.
 ///
 /// A `settle` passes the messages that no earlier settle has passed, with those that it causes, in
 /// the order in which they were sent. It delivers each to those whom it is for and who are up, in
@@ -319,9 +324,8 @@ fn stopped_at(line: usize, halt: ScriptHalt) -> Result<Option<Stopped>, RunIo>
 ///
 /// Returns where it stopped, if it did: at line 1 if there is no group of the size or no memory for
 /// it, at a line that the world refused, or at a settle with one delivery to make after its
-/// 10,000th. Fails with `Write` if a write failed or took nothing. Running out of memory is a
-/// refusal of the world, so it never fails with `Memory`.
-pub fn sim<W: Write>(
+/// 10,000th. Running out of memory is a refusal of the world, so it never fails with `Memory`.
+pub fn sim<W: ByteWriter>(
     alloc: Global,
     program: &Program,
     script: &Script,
@@ -335,19 +339,20 @@ pub fn sim<W: Write>(
         (λ answer. IsNone answer
         → IsScriptDone (new_world program.now
         (record { size = script.now.size; session = script.now.session })) script.now.lines.items
-        (W.contents writer.old) (W.contents writer.new)) }
+        (held W.contents W.write_faults writer.old) (held W.contents W.write_faults writer.new)) }
     ensures stopped { IfOk result
         (λ answer. IfSome answer
         (λ stopped. (IsNoGroup script.now.size stopped.line stopped.fault
-        × (W.contents writer.new ≡ W.contents writer.old))
+        × (held W.contents W.write_faults writer.new ≡ held W.contents W.write_faults writer.old))
         ⊎ IsHalted (new_world program.now
         (record { size = script.now.size; session = script.now.session })) script.now.lines.items
-        stopped.line (halt_of stopped.fault) (W.contents writer.old) (W.contents writer.new))) }
+        stopped.line (halt_of stopped.fault)
+        (held W.contents W.write_faults writer.old) (held W.contents W.write_faults writer.new))) }
     ensures unwritten { OnErr result
         ((number : ℕ) × IsHalted
         (new_world program.now (record { size = script.now.size; session = script.now.session }))
-        script.now.lines.items number ScriptHalt.Unwritten (W.contents writer.old)
-        (W.contents writer.new)) }
+        script.now.lines.items number ScriptHalt.Unwritten
+        (held W.contents W.write_faults writer.old) (held W.contents W.write_faults writer.new)) }
     ensures size { result ≡ Ok (Some (record { line = 1; fault = Some WorldFault.Size }))
         ↔ ¬ IsSize script.now.size }
 {

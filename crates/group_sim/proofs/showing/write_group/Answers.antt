@@ -1,6 +1,5 @@
 use Rattle.std.proofs.Common.{[], ◌∷◌, rules}
-use Rattle.std.proofs.KnownBytes.{Appends-trans}
-use Rattle.group_sim.proofs.Writing.{appended, failed-at, failed-first}
+use Rattle.group_sim.proofs.Writing.{appended, both-written, failed-at, failed-first}
 use Rattle.group_sim.proofs.showing.write_group.Goals as goal
 
 pub returns-in_err-write_nodes : goal.returns-in_err-write_nodes
@@ -12,11 +11,11 @@ returns-in_err-write_places g c =
 
 pub returns-in_err-put_number : goal.returns-in_err-put_number
 returns-in_err-put_number g c =
-    failed-at _ _ _ (_ ∷ []) (search rules) (Appends-trans _ _ _ _ _ c.in_ok-write_nodes.ensures c.in_ok-write_places.ensures)
+    failed-at _ _ _ (_ ∷ []) (search rules) (both-written _ _ _ _ _ c.in_ok-write_nodes.ensures c.in_ok-write_places.ensures)
     (rw c.sent.ensures at c.in_err-put_number.ensures)
 
 pub returns : goal.returns
 returns g c =
     appended _ _ _ _ _ _
-    (Appends-trans _ _ _ _ _ (Appends-trans _ _ _ _ _ c.in_ok-write_nodes.ensures c.in_ok-write_places.ensures)
+    (both-written _ _ _ _ _ (both-written _ _ _ _ _ c.in_ok-write_nodes.ensures c.in_ok-write_places.ensures)
     (rw c.sent.ensures at c.in_ok-put_number.ensures)) c.put.ensures

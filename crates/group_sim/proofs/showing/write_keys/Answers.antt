@@ -1,6 +1,5 @@
 use Rattle.std.proofs.Common.{[], ◌∷◌, rules}
-use Rattle.std.proofs.KnownBytes.{Appends-trans}
-use Rattle.group_sim.proofs.Writing.{appended, failed-first, failed-at}
+use Rattle.group_sim.proofs.Writing.{appended, both-written, failed-at, failed-first}
 use Rattle.group_sim.proofs.showing.write_keys.Goals as goal
 
 pub returns-in_err-put_number : goal.returns-in_err-put_number
@@ -12,16 +11,16 @@ returns-in_err-put_number-2 g c = failed-at _ _ _ (_ ∷ _ ∷ _ ∷ []) (search
 pub returns-in_err-put_number-3 : goal.returns-in_err-put_number-3
 returns-in_err-put_number-3 g c =
     failed-at _ _ _ (_ ∷ _ ∷ []) (search rules)
-    (Appends-trans _ _ _ _ _ c.in_ok-put_number.ensures c.in_ok-put_number-2.ensures) c.in_err-put_number-3.ensures
+    (both-written _ _ _ _ _ c.in_ok-put_number.ensures c.in_ok-put_number-2.ensures) c.in_err-put_number-3.ensures
 
 pub returns-in_err-put : goal.returns-in_err-put
 returns-in_err-put g c =
     failed-at _ _ _ (_ ∷ []) (search rules)
-    (Appends-trans _ _ _ _ _ (Appends-trans _ _ _ _ _ c.in_ok-put_number.ensures c.in_ok-put_number-2.ensures) c.in_ok-put_number-3.ensures)
+    (both-written _ _ _ _ _ (both-written _ _ _ _ _ c.in_ok-put_number.ensures c.in_ok-put_number-2.ensures) c.in_ok-put_number-3.ensures)
     c.in_err-put.ensures
 
 pub returns : goal.returns
 returns g c =
     appended _ _ _ _ _ _
-    (Appends-trans _ _ _ _ _ (Appends-trans _ _ _ _ _ (Appends-trans _ _ _ _ _ c.in_ok-put_number.ensures c.in_ok-put_number-2.ensures)
+    (both-written _ _ _ _ _ (both-written _ _ _ _ _ (both-written _ _ _ _ _ c.in_ok-put_number.ensures c.in_ok-put_number-2.ensures)
     c.in_ok-put_number-3.ensures) c.in_ok-put.ensures) c.put_hex.ensures

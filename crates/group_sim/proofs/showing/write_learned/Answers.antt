@@ -1,6 +1,5 @@
 use Rattle.std.proofs.Common.{[], ◌∷◌, rules}
-use Rattle.std.proofs.KnownBytes.{Appends-trans}
-use Rattle.group_sim.proofs.Writing.{appended, failed-at, failed-first}
+use Rattle.group_sim.proofs.Writing.{appended, both-written, failed-at, failed-first}
 use Rattle.group_sim.proofs.showing.write_learned.Goals as goal
 
 pub returns-in_err-put_number : goal.returns-in_err-put_number
@@ -11,11 +10,11 @@ returns-in_err-put g c = failed-at _ _ _ (_ ∷ _ ∷ []) (search rules) c.in_ok
 
 pub returns-in_err-write_value : goal.returns-in_err-write_value
 returns-in_err-write_value g c =
-    failed-at _ _ _ (_ ∷ []) (search rules) (Appends-trans _ _ _ _ _ c.in_ok-put_number.ensures c.in_ok-put.ensures)
+    failed-at _ _ _ (_ ∷ []) (search rules) (both-written _ _ _ _ _ c.in_ok-put_number.ensures c.in_ok-put.ensures)
     c.in_err-write_value.ensures
 
 pub returns : goal.returns
 returns g c =
     appended _ _ _ _ _ _
-    (Appends-trans _ _ _ _ _ (Appends-trans _ _ _ _ _ c.in_ok-put_number.ensures c.in_ok-put.ensures) c.in_ok-write_value.ensures)
+    (both-written _ _ _ _ _ (both-written _ _ _ _ _ c.in_ok-put_number.ensures c.in_ok-put.ensures) c.in_ok-write_value.ensures)
     c.put-2.ensures

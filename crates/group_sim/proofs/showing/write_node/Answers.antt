@@ -1,6 +1,5 @@
 use Rattle.std.proofs.Common.{[], ◌∷◌, rules}
-use Rattle.std.proofs.KnownBytes.{Appends-trans}
-use Rattle.group_sim.proofs.Writing.{appended, failed-at, failed-first}
+use Rattle.group_sim.proofs.Writing.{appended, both-written, failed-at, failed-first}
 use Rattle.group_sim.proofs.showing.write_node.Goals as goal
 
 pub returns-in_err-put_number : goal.returns-in_err-put_number
@@ -12,21 +11,21 @@ returns-in_err-write_known g c =
 
 pub returns-in_err-write_promised : goal.returns-in_err-write_promised
 returns-in_err-write_promised g c =
-    failed-at _ _ _ (_ ∷ _ ∷ []) (search rules) (Appends-trans _ _ _ _ _ c.in_ok-put_number.ensures c.in_ok-write_known.ensures)
+    failed-at _ _ _ (_ ∷ _ ∷ []) (search rules) (both-written _ _ _ _ _ c.in_ok-put_number.ensures c.in_ok-write_known.ensures)
     (rw c.promised.ensures at c.in_err-write_promised.ensures)
 
 pub returns-in_err-write_console : goal.returns-in_err-write_console
 returns-in_err-write_console g c =
     failed-at _ _ _ (_ ∷ []) (search rules)
-    (Appends-trans _ _ _ _ _ (Appends-trans _ _ _ _ _ c.in_ok-put_number.ensures c.in_ok-write_known.ensures)
+    (both-written _ _ _ _ _ (both-written _ _ _ _ _ c.in_ok-put_number.ensures c.in_ok-write_known.ensures)
     (rw c.promised.ensures at c.in_ok-write_promised.ensures))
     (rw c.console.ensures at c.in_err-write_console.ensures)
 
 pub returns : goal.returns
 returns g c =
     appended _ _ _ _ _ _
-    (Appends-trans _ _ _ _ _
-    (Appends-trans _ _ _ _ _ (Appends-trans _ _ _ _ _ c.in_ok-put_number.ensures c.in_ok-write_known.ensures)
+    (both-written _ _ _ _ _
+    (both-written _ _ _ _ _ (both-written _ _ _ _ _ c.in_ok-put_number.ensures c.in_ok-write_known.ensures)
     (rw c.promised.ensures at c.in_ok-write_promised.ensures))
     (rw c.console.ensures at c.in_ok-write_console.ensures))
     c.put.ensures

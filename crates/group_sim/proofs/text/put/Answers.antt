@@ -1,9 +1,9 @@
-use Rattle.group_sim.proofs.Writing.{left-part, left-same}
+use Rattle.std.proofs.Common.{[], rules}
+use Rattle.group_sim.proofs.Writing.{cut-at, failed-first}
 use Rattle.group_sim.proofs.text.put.Goals as goal
-use Rattle.group_sim.proofs.text.put.Goals.{in-Ok, in-Err+else-ne}
 
-pub loop-preserved : goal.loop-preserved
-loop-preserved g c = elim c.match-write.branch [
-  | in-Ok w ↦ rw w.rest-is (left-part _ _ _ _ _ w.in-Ok.count c.loop.invariant (w.in-Ok.ensures.bytes))
-  | in-Err+else-ne w ↦ rw w.rest-is (left-same _ _ _ _ _ c.loop.invariant (w.in-Err.ensures.bytes))
-]
+pub returns-in_err-write_byte : goal.returns-in_err-write_byte
+returns-in_err-write_byte g c =
+    failed-first _ [] (search rules)
+    (cut-at _ _ _ c.args.text.now c.loop-byte.byte-index c.loop-byte.invariant c.in_err-write_byte.ensures.bytes
+    c.in_err-write_byte.ensures.faults)

@@ -1,5 +1,10 @@
-use Rattle.group_sim.proofs.Writing.{IsLeft}
+use Rattle.std.proofs.Common.{take}
+use Rattle.group_sim.specs.Texts.{AppendsText, held}
 use Rattle.group_sim.proofs.text.put.Given as goal
 
-abbrev pub invariant-loop : goal.invariant-loop
-invariant-loop g l = IsLeft (g.W.Write.contents l.fn.writer) (g.W.Write.contents l.writer) l.text l.rest
+abbrev pub invariant-loop-byte : goal.invariant-loop-byte
+invariant-loop-byte g l =
+    let old = held g.W.ByteWriter.contents g.W.ByteWriter.write_faults l.fn.writer in
+    let now = held g.W.ByteWriter.contents g.W.ByteWriter.write_faults l.writer in
+    AppendsText old
+    now (take l.byte-index l.text)

@@ -1,11 +1,15 @@
 use Rattle.std.proofs.Common.{◌≡◌, ◌-◌, ◌≤◌}
 use Rattle.group_sim.specs.Moments.{AreDone, PassesOn, moment}
+use Rattle.group_sim.specs.Texts.{held}
 use Rattle.group_sim.proofs.simulation.Simulation.deliver_all.Given as goal
 
 abbrev pub invariant-loop-message : goal.invariant-loop-message
-invariant-loop-message g l = record {
-  size : l.self.size ≡ l.fn.self.size;
-  from : l.fn.self.passed ≤ l.message;
-  done : AreDone (PassesOn l.line l.fn.self.size) l.fn.self.passed (l.message - l.fn.self.passed)
-      (moment l.fn.self (g.W.Write.contents l.fn.writer)) (moment l.self (g.W.Write.contents l.writer));
-}
+invariant-loop-message g l =
+    let old = held g.W.ByteWriter.contents g.W.ByteWriter.write_faults l.fn.writer in
+    let now = held g.W.ByteWriter.contents g.W.ByteWriter.write_faults l.writer in
+    record {
+      size : l.self.size ≡ l.fn.self.size;
+      from : l.fn.self.passed ≤ l.message;
+      done : AreDone (PassesOn l.line l.fn.self.size) l.fn.self.passed (l.message - l.fn.self.passed)
+          (moment l.fn.self old) (moment l.self now);
+    }

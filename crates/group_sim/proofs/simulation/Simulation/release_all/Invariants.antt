@@ -1,12 +1,16 @@
 use Rattle.std.proofs.Common.{◌≡◌}
 use Rattle.group_world.specs.declared.event.Act.TheVariants.{Release}
 use Rattle.group_sim.specs.Moments.{AreDone, HappensAt, moment}
+use Rattle.group_sim.specs.Texts.{held}
 use Rattle.group_world.specs.Event.{kept_event}
 use Rattle.group_sim.proofs.simulation.Simulation.release_all.Given as goal
 
 abbrev pub invariant-loop : goal.invariant-loop
-invariant-loop g l = record {
-  size : l.self.size ≡ l.fn.self.size;
-  done : AreDone (λ k. HappensAt l.line (kept_event (Release l.node))) 0 l.counter
-      (moment l.fn.self (g.W.Write.contents l.fn.writer)) (moment l.self (g.W.Write.contents l.writer));
-}
+invariant-loop g l =
+    let old = held g.W.ByteWriter.contents g.W.ByteWriter.write_faults l.fn.writer in
+    let now = held g.W.ByteWriter.contents g.W.ByteWriter.write_faults l.writer in
+    record {
+      size : l.self.size ≡ l.fn.self.size;
+      done : AreDone (λ k. HappensAt l.line (kept_event (Release l.node))) 0 l.counter
+          (moment l.fn.self old) (moment l.self now);
+    }
