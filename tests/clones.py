@@ -32,6 +32,7 @@ case $1 in
   version) echo "$KIT" && exit ;;
   ci)
     find . -mindepth 1 -path './.git' -prune -o -print | sort > "$LOG.tree"
+    echo "${RT_JOBS:-}" > "$LOG.jobs"
     if [ -n "${HOLD:-}" ]; then
       echo $$ > "$HOLD.begun"
       until [ -e "$HOLD" ]; do sleep 0.01; done
