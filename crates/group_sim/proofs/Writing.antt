@@ -1,5 +1,5 @@
 -- Texts that are written one after the other.
-use Rattle.std.proofs.Common.{◌≡◌, ◌∙◌, ℕ, zero, suc, ◌+◌, ◌-◌, ◌<◌, ◌≤◌, ◌==◌, false, add-one, add-suc, append-nil, arith, refl, subst, sym}
+use Rattle.std.proofs.Common.{◌≡◌, ◌∙◌, ℕ, zero, suc, ◌+◌, ◌-◌, ◌<◌, ◌≤◌, ◌==◌, false, add-one, add-suc, append-nil, arith, subst, sym}
 use Rattle.std.proofs.Common.{List, [], ◌∷◌, ◌++◌, take, drop, get_or, length, Result, Ok, Err, IsErr}
 use Rattle.std.specs.Prelude.{codes}
 use Rattle.std.specs.List.{flat_map}
@@ -11,10 +11,6 @@ use Rattle.std.proofs.lemmas.List.{take-append-drop, take_more}
 use Rattle.digits.specs.Digits.{hex_text}
 use Rattle.group_sim.specs.Groups.{console_text, lines_below}
 use Rattle.group_sim.specs.Texts.{AppendsFront, AppendsText, Held, WritesText}
-
--- nothing was written
-pub nothing-written : (old : Held) → AppendsText old old []
-nothing-written old = record { bytes = grind (arith, common_steps); faults = refl }
 
 -- two texts that were written are one
 pub both-written : (old mid new : Held) (a b : List ℕ) → AppendsText old mid a → AppendsText mid new b → AppendsText old new (a ++ b)
