@@ -42,9 +42,26 @@ def keys_of(functions, crate, text, place):
     return keys
 
 
+def check_applies(crate, path):
+    """Refuses an edit of which an old text does not stand in its file exactly once. The prover would not try it, and its line
+    in .ci/must-fail.tried may stay, since that does not rest on comments."""
+    texts, file, old = {}, None, None
+    for kind, text in re.findall(r"^(file|old|new): ?(.*)$", text_of(path), re.M):
+        if kind == "file":
+            file = f"crates/{crate}/{text.strip()}"
+            texts.setdefault(file, text_of(file))
+        elif kind == "old":
+            old = text
+            if texts[file].count(old) != 1:
+                fault(f"{path}: an old text stands in {file} {texts[file].count(old)} times, and not once")
+        else:
+            texts[file] = texts[file].replace(old, text)
+
+
 def edits_of(functions, crate):
     found, old = [], []
     for path in tree.files_below(f"crates/{crate}/must-fail", ".edit"):
+        check_applies(crate, path)
         first = re.sub(r"^# ", "", text_of(path).split("\n")[0])
         it = LINE.fullmatch(first)
         if not it or it[1] != "Turns":

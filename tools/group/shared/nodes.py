@@ -1,6 +1,7 @@
 """The command line of a node, free addresses, and what the system says of UDP ports. The scripts of
 this folder share it with the tests and benches of groups."""
 
+import os
 import random
 import socket
 
@@ -20,10 +21,12 @@ def command_of(program, file, node, session, record, addresses, *more, turns=TUR
 def free_addresses(count):
     """Returns `count` loopback addresses whose ports nobody has bound. They are below the range from
     which the system gives ports to those that ask for any: a node that is started again finds its
-    own still free."""
+    own still free. PGROUP_PORTS has the first port and the last, as `20000-25999`: scripts that run
+    at the same time get ports of their own."""
+    first, last = map(int, os.environ.get("PGROUP_PORTS", "20000-31999").split("-"))
     found = []
     while len(found) < count:
-        address = ("127.0.0.1", random.SystemRandom().randrange(20000, 32000))
+        address = ("127.0.0.1", random.SystemRandom().randint(first, last))
         with socket.socket(socket.AF_INET, socket.SOCK_DGRAM) as probe:
             try:
                 probe.bind(address)
