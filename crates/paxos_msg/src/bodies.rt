@@ -21,7 +21,7 @@ use crate::value::{Value, Vote};
 /// The greatest number of a message's kind. Kinds are 1 to 8.
 pub const LAST_KIND: u8 = 8;
 
-/// Returns the number of a body's kind, 1 to 8.
+/// Returns the number of a body's kind, 1 to `LAST_KIND`.
 pub(crate) fn kind(body: &Body) -> u8
     ensures { result ≡ kind_of body.now }
 {
@@ -274,8 +274,8 @@ fn tell_of(size: u8, bytes: &[u8]) -> Result<(BodyView<'_>, &[u8]), WireFault>
     Ok((BodyView::Tell { place, value }, &rest[taken..]))
 }
 
-/// Reads the body of a message of kind `kind`, 1 to 8, from `sender`. Returns it and the bytes
-/// after it.
+/// Reads the body of a message of kind `kind`, 1 to `LAST_KIND`, from `sender`. Returns it and the
+/// bytes after it.
 #[tactic(auto, unfolding(crate::specs::Bodies::body_at))]
 pub(crate) fn body_of(
     size: u8,

@@ -13,7 +13,7 @@ pub enum WireFault {
     /// The version is not 2.
     #[error("G3")]
     Version,
-    /// The kind is not 1 to 8.
+    /// There is no such kind: it is 0, or above `LAST_KIND`.
     #[error("G4")]
     Kind,
     /// The size or the session is not the group's.

@@ -4,8 +4,8 @@ use crate::value::Vote;
 use std::alloc::AllocError;
 use std::marker::Model;
 
-/// The votes in a datagram, in ascending order of place: an iterator that reads each vote when it
-/// returns it.
+/// The votes that bytes spell, in the order in which they stand: an iterator that reads each vote
+/// when it returns it. Reading finds them in the bytes of a Promise, in ascending order of place.
 #[derive(Drop)]
 pub struct LentVotes<'a> {
     bytes: &'a [u8],

@@ -115,7 +115,7 @@ pub fn put_votes(votes: &[Vote], out: &mut Vec<u8>)
     }
 }
 
-/// Appends the header of a datagram, ten bytes. `kind` is 1 to 8.
+/// Appends the header of a datagram of kind `kind`, ten bytes.
 pub(crate) fn put_header(group: Group, kind: u8, sender: u8, out: &mut Vec<u8>)
     requires room { vec_len out.old + 10 ≤ vec_capacity out.old }
     ensures { Puts out.old out.new (header_bytes group kind sender) }
