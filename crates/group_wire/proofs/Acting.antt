@@ -142,7 +142,7 @@ turn_acts {S} {kind} {old} {new} {from} {to} done h replay =
     let heard : Known = after_heard n (heard_of h.came) in
     let after : Working = record w { known = heard } in
     let ticked : Working = record w { known = (ticked_if done.ticked heard).node } in
-    let heard_so = receives_does me w h.came h.plays.fates in
+    let heard_so = receives_does me w h.came h.plays.arrivals.fates in
     let last = last_does me after h.ending (elim h.hears.ended [ inl none ↦ inl none | inr goes ↦ inr goes.0 ]) in
     let tick = tick_does me after done.ticked in
     let both = does_then me w _ _ after after heard_so last in
@@ -171,7 +171,7 @@ turn_acts {S} {kind} {old} {new} {from} {to} done h replay =
 pub turn_fails : {S : Type 0} {kind : StoreKind S} {old new : NodeState S} {from to : Option Traffic}
     → HasTurned kind old new from to (Err Store) → Fails old new from to []
 turn_fails {S} {kind} {old} {new} {from} {to} h =
-    by h.ending (h.hears.fault refl) h.plays.last h.plays.traffic
+    by h.ending (h.hears.fault refl) h.plays.arrivals.last h.plays.traffic
   where
     by : (ending : Ending) → EndsAt ending (λ m. kind.honest → IsAfterFault kind new m) → IsSpelledEnding old.protocol.known.me.group ending
         → to ≡ grown from (transfers_of old.protocol.known.me (hearing old.protocol.known.me old.protocol.known h.came ending
@@ -183,7 +183,7 @@ turn_fails {S} {kind} {old} {new} {from} {to} h =
         let me : Me = old.protocol.known.me in
         let n : Known = old.protocol.known in
         let w : Working = working old in
-        let came = receives_does me w h.came h.plays.fates in (
+        let came = receives_does me w h.came h.plays.arrivals.fates in (
           receives me n h.came,
           refused_at bytes m,
           record {
@@ -208,13 +208,13 @@ turn_acts_by (Err e) h replay = let none : ⊥ = elim h.others [ inl stopped ↦
 
 -- receives of which none was refused
 hears_acts : {S : Type 0} {came : List Arrival} {ending : Ending} {old new : NodeState S} {from to : Option Traffic}
-    → HearsSome old.protocol.known.me.group came ending old new from to → (ending ≡ NoneCame) ⊎ (ending ≡ GoesOn) → HasActed old new from
+    → HearsSome came ending old new from to → (ending ≡ NoneCame) ⊎ (ending ≡ GoesOn) → HasActed old new from
     to []
 hears_acts {S} {came} {ending} {old} {new} h ended =
     let me : Me = old.protocol.known.me in
     let w : Working = working old in
     let after : Working = record w { known = after_heard w.known (heard_of came) } in
-    let all = does_then me w _ _ after after (receives_does me w came h.fates) (last_does me after ending ended) in (
+    let all = does_then me w _ _ after after (receives_does me w came h.arrivals.fates) (last_does me after ending ended) in (
       hearing me w.known came ending,
       record {
         me = h.me;
@@ -227,7 +227,7 @@ hears_acts {S} {came} {ending} {old} {new} h ended =
 
 -- receives the last of which was refused
 hears_fails : {S : Type 0} (came : List Arrival) (bytes : List ℕ) (m : Msg) {old new : NodeState S} {from to : Option Traffic}
-    → HearsSome old.protocol.known.me.group came (Refuses bytes m) old new from to → Fails old new from to []
+    → HearsSome came (Refuses bytes m) old new from to → Fails old new from to []
 hears_fails {S} came bytes m {old} {new} h =
     let me : Me = old.protocol.known.me in
     let w : Working = working old in (
@@ -236,8 +236,8 @@ hears_fails {S} came bytes m {old} {new} h =
       record {
         me = h.me;
         does = subst (DoesAll me w (receives me w.known came)) (λ t. record { known = sym h.known t; progress = sym h.progress t })
-            (receives_does me w came h.fates);
-        fails = (bytes, h.last, refl, (refl, refl));
+            (receives_does me w came h.arrivals.fates);
+        fails = (bytes, h.arrivals.last, refl, (refl, refl));
         traffic = h.traffic;
       },
       hearing_unprompted me w.known came (Refuses bytes m),
@@ -257,7 +257,7 @@ pub hear_acts_by : {S : Type 0} {kind : StoreKind S} {old new : NodeState S} {fr
 hear_acts_by (Ok heard) h = hears_acts h.hears (receive_ends heard h.came h.ending h.tells)
 hear_acts_by {S} {kind} {old} {new} {from} {to} (Err Store) h = by h.ending h.tells.1 h.hears
   where
-    by : (ending : Ending) → EndsAt ending (λ m. Unit {0}) → HearsSome old.protocol.known.me.group h.came ending old new from to
+    by : (ending : Ending) → EndsAt ending (λ m. Unit {0}) → HearsSome h.came ending old new from to
         → Fails old new from to []
     by GoesOn ends hears = absurd ends
     by NoneCame ends hears = absurd ends

@@ -2,7 +2,6 @@
 use Rattle.std.proofs.Common.{◌≡◌, ◌+◌, ◌-◌, ◌≤◌, ℕ, suc, List, [], ◌∷◌, ◌++◌, map, Option, refl, arith}
 use Rattle.std.specs.List.{range_with_len}
 use Rattle.std.proofs.lemmas.Grind.{common_steps}
-use Rattle.std.proofs.lemmas.List.{map-append}
 use Rattle.std.proofs.lemmas.Grind.{flat_map-append}
 use Rattle.paxos_acceptor.specs.declared.me.Me.{Me}
 use Rattle.group_node.specs.Packets.{Datagram}
@@ -13,10 +12,6 @@ use Rattle.group_wire.specs.Traffic.{Hands, Letter, Traffic, grown, handed, lett
 pub grown_twice : (from via to : Option Traffic) (xs ys all : Traffic)
     → via ≡ grown from xs → to ≡ grown via ys → all ≡ xs ++ ys → to ≡ grown from all
 grown_twice from via to xs ys all first second whole = grind (arith, common_steps)
-
--- letters that were handed over, and then others
-pub handed_then : (xs ys : List Letter) → handed (xs ++ ys) ≡ handed xs ++ handed ys
-handed_then xs ys = map-append (λ l. Hands l) xs ys
 
 -- what passed in some deeds, and then in others
 pub passed_then : (me : Me) (xs ys : List Doing) → transfers_of me (xs ++ ys) ≡ transfers_of me xs ++ transfers_of me ys

@@ -1,6 +1,5 @@
 -- Messages that a node hears one after the other.
-use Rattle.std.proofs.Common.{rules, None, ◌≡◌, ◌≢◌, ◌+◌, ◌⊎◌, ◌↔◌, ℕ, Bool, true, List, [], ◌∷◌, ◌++◌, length, Option, Some, Result, Ok, Err, IfErr, IsErrOf, refl, sym, ap, ◌∙◌, arith, append-nil, append_assoc}
-use Rattle.std.proofs.lemmas.List.{map-append}
+use Rattle.std.proofs.Common.{rules, None, ◌≡◌, ◌≢◌, ◌+◌, ◌≤◌, ◌⊎◌, ◌↔◌, ℕ, Bool, true, List, [], ◌∷◌, ◌++◌, length, Option, Some, Result, Ok, Err, IfErr, IsErrOf, refl, sym, ap, ◌∙◌, arith, append-nil, append_assoc}
 use Rattle.std.proofs.lemmas.List.Elements.{All-append, All-cons, All-nil, filter_map-append}
 use Rattle.std.proofs.lemmas.List.Sums.{sum_by-append}
 use Rattle.std.proofs.lemmas.Grind.{common_steps}
@@ -17,7 +16,7 @@ use Rattle.group_node.specs.States.{NodeState, Protocol}
 use Rattle.group_wire.specs.declared.answers.Received.{Received}
 use Rattle.group_wire.specs.declared.answers.Received.TheVariants as answer
 use Rattle.group_wire.specs.Traffic.{Gives, Traffic, grown, handed, letters_of}
-use Rattle.group_wire.specs.Arrivals.{Arrival, Ending, Fate, Hears, Loses, NoMessage, TooLong, GoesOn, Refuses, IsFateOf, Spells, heard_of, loss_of, lost_of, heard_message, received}
+use Rattle.group_wire.specs.Arrivals.{Arrival, Ending, Fate, Hears, Loses, NoMessage, NoneCame, TooLong, GoesOn, Refuses, IsFateOf, Spells, heard_of, loss_of, lost_of, heard_message, received}
 use Rattle.group_wire.specs.Turns.{FailsAtEnd, HearsSome, IsHearingRefused, IsOne, IsWireTurn, TellsOfOne, answer_of}
 use Rattle.group_wire.specs.Doings.{after_fate, after_heard, hearing, last_receiving, receives, receiving, ticked_if, ticking, transfers_of}
 use Rattle.std.specs.List.{cons_option}
@@ -35,11 +34,6 @@ heard_of_both came later = search (rules, filter_map-append)
 
 lost_of_both : (came later : List Arrival) → lost_of (came ++ later) ≡ lost_of came + lost_of later
 lost_of_both came later = search (rules, sum_by-append)
-
--- hearing that goes on, and then more of it
-received_then : (came later : List Arrival) (ending : Ending)
-    → received (came ++ later) ending ≡ received came GoesOn ++ received later ending
-received_then came later ending = grind (arith, common_steps, map-append)
 
 -- a node after one datagram, and then others
 pub after_came : (n : Known) (fate : Fate) (rest : List Msg)
@@ -68,9 +62,9 @@ hearing_then me n came later ending =
 -- a node that has heard some, and then others
 hears_then : {S : Type 0} {came later : List Arrival} {ending : Ending} {old mid new : NodeState S} {from via to : Option Traffic}
     → (old.protocol.is_stopped ≡ true → mid.protocol.is_stopped ≡ true)
-    → HearsSome old.protocol.known.me.group came GoesOn old mid from via
-    → HearsSome mid.protocol.known.me.group later ending mid new via to
-    → HearsSome old.protocol.known.me.group (came ++ later) ending old new from to
+    → HearsSome came GoesOn old mid from via
+    → HearsSome later ending mid new via to
+    → HearsSome (came ++ later) ending old new from to
 hears_then {S} {came} {later} {ending} {old} {mid} {new} {from} {via} {to} stays first second =
     let n : Known = old.protocol.known in
     let next : Known = mid.protocol.known in
@@ -81,12 +75,16 @@ hears_then {S} {came} {later} {ending} {old} {mid} {new} {from} {via} {to} stays
     ∙ (λ t. transfers_of n.me (hearing n.me n came GoesOn) ++ transfers_of (sym first.me t)
     (hearing (sym first.me t) (sym first.known t) later ending)) in
     record {
-      fates = All-append (λ (a : Arrival). IsFateOf n.me.group a.bytes a.fate) came later first.fates (rw first.me at second.fates);
-      last = rw first.me at second.last;
-      deaf = λ stopped.
-          let one = first.deaf stopped in
-          let other = second.deaf (stays stopped) in
-          grind (arith, common_steps, heard_of_both, lost_of_both);
+      arrivals = record {
+        fates =
+            All-append (λ (a : Arrival). IsFateOf n.me.group a.bytes a.fate) came later first.arrivals.fates
+            (rw first.me at second.arrivals.fates);
+        last = rw first.me at second.arrivals.last;
+        deaf = λ stopped.
+            let one = first.arrivals.deaf stopped in
+            let other = second.arrivals.deaf (stays stopped) in
+            grind (arith, common_steps, heard_of_both, lost_of_both);
+      };
       known = grind (arith, common_steps, heard_then, heard_of_both);
       me = cc;
       traffic = grown_twice _ _ _ _ _ _ first.traffic second.traffic both;
@@ -99,7 +97,7 @@ hears_then {S} {came} {later} {ending} {old} {mid} {new} {from} {via} {to} stays
 abbrev pub HearsThere : {S : Type 0} → StoreKind S → NodeState S → NodeState S
     → Option Traffic → Option Traffic → Result Received NodeFault → Type 0
 HearsThere kind old new from to result = (came : List Arrival) × (ending : Ending)
-    × HearsSome old.protocol.known.me.group came ending old new from to
+    × HearsSome came ending old new from to
     × TellsOfOne result came ending × FailsAtEnd kind ending new result
 
 -- a datagram comes, and no message is heard
@@ -171,27 +169,40 @@ one_came h came ending some told = grind (arith, common_steps)
 pub hears_one_more : {S : Type 0} {F : List Arrival → Ending → Type 0} {count lost now : ℕ} {old mid new : NodeState S}
     {from via to : Option Traffic} (h : Received)
     → (old.protocol.is_stopped ≡ true → mid.protocol.is_stopped ≡ true)
-    → (came : List Arrival) × HearsSome old.protocol.known.me.group came GoesOn old mid from via
+    → (came : List Arrival) × HearsSome came GoesOn old mid from via
     × (length came ≡ count) × (lost_of came ≡ lost)
-    → (later : List Arrival) × (ending : Ending) × HearsSome mid.protocol.known.me.group later ending mid new via to
+    → (later : List Arrival) × (ending : Ending) × HearsSome later ending mid new via to
     × TellsOfOne (Ok h) later ending × F later ending
     → h ≢ answer.Nothing → now ≡ lost + loss_in h
-    → (all : List Arrival) × HearsSome old.protocol.known.me.group all GoesOn old new from to
+    → (all : List Arrival) × HearsSome all GoesOn old new from to
     × (length all ≡ count + 1) × (lost_of all ≡ now)
 hears_one_more h stays (came, first, many, losses) (later, ending, second, told, _) some sum =
     let (a, one, goes_on, said) = one_came h later ending some told in
     let lossier : loss_in h ≡ lost_of later = grind (arith, common_steps, loss_is) in
     (came ++ later, rw goes_on at (hears_then stays first second), grind (arith, common_steps), omega (arith, lost_of_both came later))
 
+-- one receive more than datagrams came, at most
+pub few_received : (came : List Arrival) (ending : Ending) → length (received came ending) ≤ length came + 1
+few_received came GoesOn = grind (arith, common_steps)
+few_received came NoneCame = grind (arith, common_steps)
+few_received came (Refuses bytes m) = grind (arith, common_steps)
+
+-- a node that has heard some, and then no more
+pub hears_no_more : {S : Type 0} {came later : List Arrival} {ending : Ending} {old mid new : NodeState S} {from via to : Option Traffic}
+    → (old.protocol.is_stopped ≡ true → mid.protocol.is_stopped ≡ true)
+    → HearsSome came GoesOn old mid from via → later ≡ [] → HearsSome later ending mid new via to
+    → HearsSome came ending old new from to
+hears_no_more {came = came} {later} stays first none second = rw (none, append-nil came) at (hears_then stays first second)
+
 -- ---- a turn
 
 -- the messages that are heard, and then a tick or none
-pub turn_is : {S : Type 0} {g : Group} {came : List Arrival} {ending : Ending} {ticks : Bool} {old mid new : NodeState S}
+pub turn_is : {S : Type 0} {came : List Arrival} {ending : Ending} {ticks : Bool} {old mid new : NodeState S}
     {from to : Option Traffic} (via : Option Traffic)
-    → HearsSome g came ending old mid from via → new.protocol.known ≡ (ticked_if ticks mid.protocol.known).node
+    → HearsSome came ending old mid from via → new.protocol.known ≡ (ticked_if ticks mid.protocol.known).node
     → to ≡ grown via (transfers_of mid.protocol.known.me (ticking mid.protocol.known.me ticks mid.protocol.known))
-    → IsWireTurn g came ending old new from to ticks
-turn_is {S} {g} {came} {ending} {ticks} {old} {mid} via h known last =
+    → IsWireTurn came ending old new from to ticks
+turn_is {S} {came} {ending} {ticks} {old} {mid} via h known last =
     let n : Known = old.protocol.known in
     let next : Known = mid.protocol.known in
     let heard : Known = after_heard n (heard_of came) in
@@ -200,9 +211,7 @@ turn_is {S} {g} {came} {ending} {ticks} {old} {mid} via h known last =
     passed_then n.me (hearing n.me n came ending) (ticking n.me ticks heard)
     ∙ (λ t. transfers_of n.me (hearing n.me n came ending) ++ transfers_of (sym h.me t) (ticking (sym h.me t) ticks (sym h.known t))) in
     record {
-      fates = h.fates;
-      last = h.last;
-      deaf = h.deaf;
+      arrivals = h.arrivals;
       known = rw (← h.known) known;
       traffic = grown_twice _ _ _ _ _ _ h.traffic last both;
     }

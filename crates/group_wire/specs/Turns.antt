@@ -1,6 +1,5 @@
 -- A turn of a node on its wire: the messages that it hears, a tick, and a run of its machine.
 use Rattle.std.specs.Prelude.{◌≡◌, ◌⊎◌, ◌↔◌, ◌≤◌, Bool, true, false, ⊤, List, [], ◌∷◌, ◌++◌, All, length, Option, Result, Ok, Err, IfErr, IfOk, IsErr, IsErrOf, OnErr, OnOk, ℕ, take}
-use Rattle.paxos_msg.specs.declared.message.Group.{Group}
 use Rattle.paxos_msg.specs.Batches.{Msg}
 use Rattle.paxos_acceptor.specs.Stores.{HasCause, IsOneOf, StoreKind}
 use Rattle.group_node.specs.declared.fault.NodeFault.{NodeFault}
@@ -36,12 +35,18 @@ IsTurnFault e = (e ≡ Stopped) ⊎ (e ≡ Store)
 
 -- ---- what hearing and a turn leave
 
+-- Datagrams that come to a node, and how hearing ends. Their fates are those that bytes have in its
+-- group. A node that has stopped hears and loses nothing.
+pub record HasArrivals {S : Type 0} (n : NodeState S) (came : List Arrival) (ending : Ending)
+    : Type 0 where
+  pub fates : All (λ a. IsFateOf n.protocol.known.me.group a.bytes a.fate) came
+  pub last : IsSpelledEnding n.protocol.known.me.group ending
+  pub deaf : n.protocol.is_stopped ≡ true → IsUnheard came
+
 -- A node and its wire once these datagrams came and hearing ended so.
-pub record HearsSome {S : Type 0} (g : Group) (came : List Arrival) (ending : Ending)
+pub record HearsSome {S : Type 0} (came : List Arrival) (ending : Ending)
     (old new : NodeState S) (from to : Option Traffic) : Type 0 where
-  pub fates : All (λ a. IsFateOf g a.bytes a.fate) came
-  pub last : IsSpelledEnding g ending
-  pub deaf : old.protocol.is_stopped ≡ true → IsUnheard came
+  pub arrivals : HasArrivals old came ending
   pub known : new.protocol.known ≡ after_heard old.protocol.known (heard_of came)
   pub me : new.protocol.known.me ≡ old.protocol.known.me
   pub traffic : to ≡ grown from (transfers_of old.protocol.known.me
@@ -51,14 +56,11 @@ pub record HearsSome {S : Type 0} (g : Group) (came : List Arrival) (ending : En
 -- A node and its wire once these datagrams came and the node then ticked, or did not.
 -- The node heard the messages that datagrams spell, in order, but for those that were lost. A
 -- datagram was dropped only if it has more than 1,400 bytes or spells no message of the group. What
--- these calls and the tick sent went to the wire, in order, once for each node that it is for. A
--- node that had stopped heard and lost nothing.
+-- these calls and the tick sent went to the wire, in order, once for each node that it is for.
 -- Forbids: a tick that the answer does not report.
-pub record IsWireTurn {S : Type 0} (g : Group) (came : List Arrival) (ending : Ending)
+pub record IsWireTurn {S : Type 0} (came : List Arrival) (ending : Ending)
     (old new : NodeState S) (from to : Option Traffic) (ticks : Bool) : Type 0 where
-  pub fates : All (λ a. IsFateOf g a.bytes a.fate) came
-  pub last : IsSpelledEnding g ending
-  pub deaf : old.protocol.is_stopped ≡ true → IsUnheard came
+  pub arrivals : HasArrivals old came ending
   pub known :
       new.protocol.known ≡ (ticked_if ticks (after_heard old.protocol.known (heard_of came))).node
   pub traffic : to ≡ grown from (transfers_of old.protocol.known.me
@@ -144,7 +146,7 @@ pub record HasHeard {S : Type 0} (kind : StoreKind S)
     : Type 0 where
   pub came : List Arrival
   pub ending : Ending
-  pub hears : HearsSome old.protocol.known.me.group came ending old new from to
+  pub hears : HearsSome came ending old new from to
   pub tells : TellsOfOne result came ending
   pub fault : FailsAtEnd kind ending new result
   pub refused : IsHearingRefused kind old new result
@@ -160,7 +162,7 @@ pub record HasTurned {S : Type 0} (kind : StoreKind S)
     : Type 0 where
   pub came : List Arrival
   pub ending : Ending
-  pub plays : IsWireTurn old.protocol.known.me.group came ending old new from to (has_ticked result)
+  pub plays : IsWireTurn came ending old new from to (has_ticked result)
   pub hears : HearsOut kind came ending new result
   pub lost : IfOk result (λ done. done.lost ≡ lost_of came)
   pub me : new.protocol.known.me ≡ old.protocol.known.me

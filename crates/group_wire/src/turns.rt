@@ -43,7 +43,7 @@ impl<'a, S: Store> Host<'a, S> {
         ensures hears { (from : Option Traffic)
             → T.traffic wire.old ≡ grown from (Gives (Some bytes.now) ∷ [])
             → (came : List Arrival) × (ending : Ending)
-            × HearsSome self.old.protocol.known.me.group came ending self.old self.new from
+            × HearsSome came ending self.old self.new from
             (T.traffic wire.new)
             × TellsOfOne result came ending × FailsAtEnd S.kind ending self.new result }
         ensures refused { IsHearingRefused S.kind self.old self.new result }
@@ -70,7 +70,7 @@ impl<'a, S: Store> Host<'a, S> {
     /// Takes the next datagram, if one is there. Receives it into `buffer`.
     fn hear_next<T: Wire>(&mut self, wire: &mut T, buffer: &mut [u8]) -> Result<Received, NodeFault>
         ensures hears { (came : List Arrival) × (ending : Ending)
-            × HearsSome self.old.protocol.known.me.group came ending self.old self.new
+            × HearsSome came ending self.old self.new
             (T.traffic wire.old) (T.traffic wire.new)
             × TellsOfOne result came ending
             × FailsAtEnd S.kind ending self.new result }
@@ -86,7 +86,7 @@ impl<'a, S: Store> Host<'a, S> {
     /// lost because memory ran out.
     fn hear_all<T: Wire>(&mut self, wire: &mut T) -> Result<u32, NodeFault>
         ensures hears { (came : List Arrival) × (ending : Ending)
-            × HearsSome self.old.protocol.known.me.group came ending self.old self.new
+            × HearsSome came ending self.old self.new
             (T.traffic wire.old) (T.traffic wire.new)
             × HearsOut S.kind came ending self.new result
             × IfOk result (λ lost. lost ≡ lost_of came) }

@@ -7,7 +7,7 @@ use Rattle.group_wire.proofs.host.Host.hear_all.Given as goal
 abbrev pub invariant-loop : goal.invariant-loop
 invariant-loop g l = record {
   hears : (came : List Arrival)
-      × HearsSome l.initial.self.protocol.known.me.group came GoesOn l.initial.self l.self
+      × HearsSome came GoesOn l.initial.self l.self
       (g.T.Wire.traffic l.initial.wire) (g.T.Wire.traffic l.wire)
       × (length came ≡ l.counter) × (lost_of came ≡ l.lost);
   few : l.lost ≤ l.counter;
