@@ -1,6 +1,6 @@
 //! The command line of `pgroup`: the work of each command, its texts and its statuses.
 //!
-//! It is for the program `pgroup`, and for tests of its commands. Call first:
+//! It is for the program `pgroup`. Call first:
 //!
 //! - `command(rt, words, reader, writer, errors)`, which does what the words ask for and returns
 //!   the status;

@@ -1,10 +1,2 @@
-mod Going
-mod Starting
-mod Pressing
-mod Releasing
-mod Consoles
-mod Writing
-mod Showing
-mod Running
 mod Senders
 mod Kept

@@ -1,17 +1,5 @@
-pub mod Output
 pub mod Refusals
 pub mod Prompts
-pub mod Going
-pub mod Pressing
-pub mod Releases
-pub mod Runs
-pub mod Ends
 pub mod Sources
 pub mod OwnDatagrams
 pub mod Pace
-pub mod Drops
-pub mod Milestones
-pub mod Notes
-pub mod Roles
-pub mod Sends
-pub mod Traces

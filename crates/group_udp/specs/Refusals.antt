@@ -1,6 +1,6 @@
 -- Why a group or a node on UDP ends early.
 use Rattle.std.specs.Prelude.{◌≡◌, ◌⊎◌}
-use Rattle.group_node.specs.declared.fault.NodeFault.TheVariants.{SerialSpent, Stopped, Store}
+use Rattle.group_node.specs.declared.fault.NodeFault.TheVariants.{SerialSpent, Store}
 use Rattle.group_node.specs.declared.fault.NodeFault.TheVariants as fault
 use Rattle.machine_run.specs.declared.refusal.MachineRefusal.TheVariants.{Run}
 use Rattle.machine_run.specs.declared.run.RunIo.TheVariants.{Memory, Write}
@@ -15,19 +15,6 @@ write_failed = Machine (Run Write)
 -- The refusal for memory that ran out.
 abbrev pub no_memory : GroupFault
 no_memory = Machine (Run Memory)
-
--- What a node of a group in one process may refuse when it takes a turn: it is stopped, or a save
--- failed.
-abbrev pub IsTurnRefusal : GroupFault → Type 0
-IsTurnRefusal e = (e ≡ group.Node Stopped) ⊎ (e ≡ group.Node Store)
-
--- What a turn whose output is shown may refuse: also memory that ran out.
-abbrev pub IsShownTurnRefusal : GroupFault → Type 0
-IsShownTurnRefusal e = IsTurnRefusal e ⊎ (e ≡ no_memory)
-
--- What it may refuse when bytes are typed at it: also spent serials.
-abbrev pub IsPressRefusal : GroupFault → Type 0
-IsPressRefusal e = IsTurnRefusal e ⊎ (e ≡ group.Node SerialSpent)
 
 -- What a node may refuse in a cycle, in which no save has failed before: a save fails, or its
 -- serials are spent.
@@ -59,8 +46,3 @@ IsSocketRefusal e = e ≡ group.Socket
 -- Why sockets are not opened.
 abbrev pub IsOpenRefusal : GroupFault → Type 0
 IsOpenRefusal e = IsSocketRefusal e ⊎ (e ≡ no_memory)
-
--- Why a group in one process ends early.
-abbrev pub IsNetRefusal : GroupFault → Type 0
-IsNetRefusal e = IsOpenRefusal e ⊎ (e ≡ group.Node fault.Size) ⊎ (e ≡ group.Node fault.Id)
-    ⊎ (e ≡ group.Node Stopped) ⊎ IsRunRefusal e

@@ -2,9 +2,9 @@
 use Rattle.std.specs.Prelude.{◌≡◌, ℕ, zero, suc, Bool, true, false, List, Option, Some, None, slice_get}
 use Rattle.std.specs.declared.net.socket_addr.SocketAddr.{SocketAddr}
 use Rattle.paxos_msg.specs.declared.message.Group.{Group}
-use Rattle.group_udp.specs.Drops.{reason_of}
-use Rattle.group_udp.specs.declared.log.drops.DropReason.{DropReason}
-use Rattle.group_udp.specs.declared.log.drops.DropReason.TheVariants.{Source}
+use Rattle.group_log.specs.Drops.{reason_of}
+use Rattle.group_log.specs.declared.drops.DropReason.{DropReason}
+use Rattle.group_log.specs.declared.drops.DropReason.TheVariants.{Source}
 
 -- The index in a datagram of its sender's number.
 abbrev pub sender_index : ℕ

@@ -1,5 +1,4 @@
 //! Why a group or a node on UDP ends early.
-use crate::log::ProcessEnd;
 use group_node::{NodeFault, StartRefused};
 use machine_run::{MachineRefusal, RunIo};
 use std::alloc::{AllocError, AllocFailed};
@@ -84,14 +83,5 @@ impl<T: Drop> From<AllocFailed<T>> for GroupFault {
 
     fn from(_: AllocFailed<T>) -> GroupFault {
         GroupFault::from(RunIo::Memory)
-    }
-}
-
-/// Returns how a run ended, for the log.
-pub fn end_of(done: &Result<(), GroupFault>) -> ProcessEnd {
-    match done {
-        Ok(()) => ProcessEnd::Turns,
-        Err(GroupFault::Node(fault)) => ProcessEnd::Node(*fault),
-        Err(GroupFault::Socket | GroupFault::Machine(_)) => ProcessEnd::Other,
     }
 }

@@ -1,19 +1,10 @@
-//! Where the typed bytes of a node come from, and what it does with them.
-ghost use Rattle.std.specs.Prelude.{◌≡◌, ◌+◌, ◌<◌, ◌≤◌, ◌↔◌, [], ◌∷◌, Option, false, if◌then◌else◌, map, take, IsTrue, OnOk};
+//! Where the typed bytes of a node come from.
+ghost use Rattle.std.specs.Prelude.{◌≡◌, ◌+◌, ◌≤◌, [], ◌∷◌, Option, if◌then◌else◌, map, take};
 ghost use Rattle.group_node.specs.declared.limits.TheConstants.{MOST_WAITING};
 ghost use Rattle.group_node.specs.Deeds.{Campaign, Press};
-ghost use Rattle.group_wire.specs.Turns.{SameReleased};
-ghost use Rattle.group_udp.specs.Going.{around};
-ghost use Rattle.group_udp.specs.Pressing.{HasCampaignedAsAsked, HasPressedKeyboard, HasTypedGiven, LeadsWithoutGap};
 ghost use Rattle.group_udp.specs.Prompts.{Remaining, with_gift};
 
-use crate::endpoints::Endpoints;
-use crate::fault::GroupFault;
 use group_node::limits::MOST_WAITING;
-use group_node::{Node, NodeFault};
-use group_wire::laws::deeds_go_on;
-use group_wire::{Host, Told, Wire};
-use paxos_acceptor::Store;
 
 /// What people do at a node: they type bytes, and ask it to campaign.
 pub trait Keyboard {
@@ -44,113 +35,4 @@ pub trait Keyboard {
         ensures room { waiting ≤ MOST_WAITING → waiting + result ≤ MOST_WAITING }
         ensures given { remaining self.old
             ≡ with_gift (map Press (take result buffer.new)) (remaining self.new) };
-}
-
-/// What a node did with what its keyboard gave.
-#[derive(Clone, Copy, Debug, PartialEq, Eq)]
-pub enum Pressed {
-    /// It took the bytes, each once and in order.
-    Bytes,
-    /// It was asked to campaign, and did.
-    Campaigned,
-    /// It was asked to campaign, and leads already, with nothing missing.
-    Ignored,
-    /// It was asked to campaign, and could not.
-    CampaignRefused(NodeFault),
-}
-
-/// Returns true if the keyboard calls a node at which `waiting` keys wait from its rest: by a
-/// request, or by bytes if no key waits. While keys wait their batch is under way, and further
-/// bytes can wait for the next tick.
-pub fn is_calling<K: Keyboard>(keyboard: &K, waiting: usize) -> bool {
-    keyboard.has_request() || (waiting == 0 && keyboard.has_bytes())
-}
-
-/// Tells the wire of typed bytes.
-fn tell_typed<T: Wire>(wire: &mut T, bytes: &[u8])
-    ensures passed { T.traffic wire.new ≡ T.traffic wire.old }
-{
-    for byte in bytes {
-        wire.tell(&Told::Pressed(*byte));
-    }
-}
-
-/// Types what the keyboard gives now.
-fn type_given<T: Wire, K: Keyboard, S: Store>(
-    host: &mut Host<'_, S>,
-    endpoints: &mut Endpoints<T, K>,
-) -> Result<(), GroupFault>
-    requires works { host.old.protocol.is_stopped ≡ false }
-    ensures works { host.new.protocol.is_stopped ≡ false }
-    ensures typed { HasTypedGiven host.old host.new (K.remaining endpoints.old.keyboard)
-        (K.remaining endpoints.new.keyboard) result }
-    ensures passed { T.traffic endpoints.new.wire ≡ T.traffic endpoints.old.wire }
-    ensures stays { SameReleased host.old host.new }
-    ensures progress { host.new.progress ≡ host.old.progress }
-{
-    let mut buffer = [0u8; MOST_WAITING];
-    let count = endpoints.keyboard.give(&mut buffer, host.node().waiting());
-    let given = &buffer[..count];
-    let mut bytes = given;
-    let pressed = host.press(&mut bytes);
-    let typed = count.saturating_sub(bytes.len());
-    tell_typed(&mut endpoints.wire, &given[..typed]);
-    Ok(pressed?)
-}
-
-/// Returns true if the node leads without a gap: each vote of its record is at a place below its
-/// known front.
-fn leads_without_gap<S: Store>(node: &Node<'_, S>) -> bool
-    ensures { IsTrue result ↔ LeadsWithoutGap node.now.protocol.known }
-{
-    let front = node.known_front();
-    let votes = node.record().votes.as_slice();
-    node.is_leading() && votes.iter().all(|vote| vote.place < front)
-}
-
-/// Campaigns, as the node was asked to, unless it leads without a gap: a new ballot would only
-/// cost time. Returns `CampaignRefused` if no ballot or no place is left or memory ran out: that
-/// ends nothing, and the node goes on as it was.
-fn campaign_when_asked<T: Wire, S: Store>(
-    host: &mut Host<'_, S>,
-    wire: &mut T,
-) -> Result<Pressed, GroupFault>
-    requires works { host.old.protocol.is_stopped ≡ false }
-    ensures works { OnOk result (host.new.protocol.is_stopped ≡ false) }
-    ensures campaigned { HasCampaignedAsAsked S.kind host.old host.new
-        (T.traffic wire.old) (T.traffic wire.new) result }
-    ensures stays { SameReleased host.old host.new }
-    ensures progress { host.new.progress ≡ host.old.progress }
-{
-    deeds_go_on::<S>();
-    if leads_without_gap(host.node()) {
-        return Ok(Pressed::Ignored);
-    }
-    match host.campaign(wire) {
-        Ok(()) => Ok(Pressed::Campaigned),
-        Err(fault @ (NodeFault::Stopped | NodeFault::Store)) => Err(GroupFault::Node(fault)),
-        Err(fault) => Ok(Pressed::CampaignRefused(fault)),
-    }
-}
-
-/// Looks at the keyboard before a turn, and campaigns if it asks for that, or types what it gives.
-/// Returns what the node did.
-pub fn press<T: Wire, K: Keyboard, S: Store>(
-    host: &mut Host<'_, S>,
-    endpoints: &mut Endpoints<T, K>,
-) -> Result<Pressed, GroupFault>
-    requires works { host.old.protocol.is_stopped ≡ false }
-    ensures works { OnOk result (host.new.protocol.is_stopped ≡ false) }
-    ensures pressed { HasPressedKeyboard S.kind host.old host.new
-        (around (T.traffic endpoints.old.wire) (K.remaining endpoints.old.keyboard))
-        (around (T.traffic endpoints.new.wire) (K.remaining endpoints.new.keyboard)) result }
-    ensures stays { SameReleased host.old host.new }
-    ensures progress { host.new.progress ≡ host.old.progress }
-{
-    endpoints.keyboard.look();
-    if endpoints.keyboard.is_asked() {
-        return campaign_when_asked(host, &mut endpoints.wire);
-    }
-    type_given(host, endpoints)?;
-    Ok(Pressed::Bytes)
 }

@@ -1,9 +1,5 @@
 //! The limits of a node on UDP, each under its name. Code, clauses and definitions cite them.
 
-/// The most datagrams that a resting node hears. It is so great that a rest ends when its time is
-/// over: if many datagrams ended it, the tick after it would bring as many again.
-pub const MOST_RESTING: u32 = 65_536;
-
 /// The most bytes of a datagram that is typed. A longer one is dropped.
 pub const LONGEST_PRESS: usize = 64;
 

@@ -1,7 +1,7 @@
 //! A wire at which a node can rest.
 ghost use Rattle.std.specs.Prelude.{◌≡◌};
 
-use crate::log::{Drops, Sends};
+use group_log::{Drops, Sends};
 use group_wire::Wire;
 
 /// Why a wait at a wire has ended.

@@ -1,7 +1,7 @@
 //! The trace of a node: a file in which it writes down its calls, and what it sends at each.
-use crate::log::{Call, Traced, millis_now, traced_line};
-use crate::node::NodePlan;
+use group_log::{Call, Traced, millis_now, traced_line};
 use group_wire::Told;
+use paxos_msg::Group;
 use std::fs::{self, OpenOptions};
 use std::io::Write;
 use std::net::SocketAddr;
@@ -44,20 +44,27 @@ impl<'a, H: Files> Drop for Trace<'a, H> {
 }
 
 impl<'a, H: Files + Clock + AllocGlobal> Trace<'a, H> {
-    /// Opens the trace of a node with this address, which is made if there is none, and writes that
-    /// a process begins, and that its node begins to start. If that fails, the trace is lost.
-    pub fn open(rt: &'a H, path: &str, own: SocketAddr, plan: &NodePlan<'_>) -> Trace<'a, H> {
+    /// Opens the trace at `path`, which is made if there is none, of a node with the address `own`
+    /// and its record at `record`. Writes that a process begins, and that its node begins to start.
+    /// If that fails, the trace is lost.
+    pub fn open(
+        rt: &'a H,
+        path: &str,
+        own: SocketAddr,
+        record: &str,
+        node: u8,
+        group: Group,
+    ) -> Trace<'a, H> {
         let file = OpenOptions::new().append(true).create(true).open(rt, path);
         let mut trace = Trace {
             rt,
             file: file.ok(),
-            record: fs::read(rt, plan.record).unwrap_or(Vec::new(rt.alloc())),
+            record: fs::read(rt, record).unwrap_or(Vec::new(rt.alloc())),
             begun: Call::Start,
             own,
             source: own,
             is_loss_said: false,
         };
-        let (node, group) = (plan.node, plan.group);
         trace.write(&Traced::Process { node, group });
         trace.write(&Traced::BeginsStart);
         trace

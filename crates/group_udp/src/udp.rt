@@ -5,12 +5,12 @@ ghost use Rattle.group_udp.specs.Sources.{drop_of};
 
 use crate::fault::GroupFault;
 use crate::limits::LONG_PAUSE;
-use crate::log::{DropReason, Drops, Sends, reason_of};
 use crate::own_datagrams::OwnDatagrams;
 use crate::pace::Pace;
 use crate::resting::{RestingWire, Waited};
 use crate::sources::{address_at, is_from_sender, taken_of};
 use crate::trace::Trace;
+use group_log::{DropReason, Drops, Sends, reason_of};
 use group_wire::{Told, Wire};
 use mio::net::UdpSocket;
 use mio::{Events, Interest, Poll, Token};
@@ -26,7 +26,7 @@ const KIND: usize = 3;
 /// The kind of an Ask.
 const ASK: u8 = 7;
 
-/// Binds a socket at this address, whose calls never wait.
+/// Binds a socket at this address, whose calls never wait. Fails if that cannot be done.
 pub fn bind<H: Net>(rt: &H, address: SocketAddr) -> Result<UdpSocket, GroupFault>
     ensures others { IfErr result IsSocketRefusal }
 {
@@ -65,7 +65,7 @@ const OWN: Token = Token(0);
 const TYPED: Token = Token(1);
 
 impl Watch {
-    /// Makes a watch of no socket.
+    /// Makes a watch of no socket. Fails if the system has none to give, or memory runs out.
     pub fn new<H: Net + AllocGlobal>(rt: &H) -> Result<Watch, GroupFault>
         ensures others { IfErr result IsOpenRefusal }
     {
@@ -86,7 +86,7 @@ impl Watch {
             .or(Err(GroupFault::Socket))
     }
 
-    /// Watches the socket of typed bytes.
+    /// Watches the socket of typed bytes. Fails if that cannot be done.
     pub fn add_typed(&self, socket: &mut UdpSocket) -> Result<(), GroupFault>
         ensures others { IfErr result IsSocketRefusal }
     {
@@ -140,23 +140,24 @@ pub struct UdpWire<'a, H: Files> {
 }
 
 impl<'a, H: Clock + Files + AllocGlobal> UdpWire<'a, H> {
-    /// Makes the wire of node `node` with this socket. Typed bytes end its waiting too, if the
-    /// watch has a socket for them. `own` keeps what the node sends to itself. The wire counts the
-    /// datagrams that a node of the group `counted` drops.
+    /// Makes the wire of node `node` with this socket. `addresses` are those of the nodes, node 1
+    /// first. Typed bytes end its waiting too, if the watch has a socket for them. The wire counts
+    /// the datagrams that a node of the group `counted` drops. Fails if the socket cannot be
+    /// watched, or memory runs out.
     pub fn new(
-        clock: &'a H,
+        rt: &'a H,
         node: u8,
         mut socket: UdpSocket,
         watch: Watch,
         addresses: &'a [SocketAddr],
-        own: OwnDatagrams,
         counted: Option<Group>,
     ) -> Result<UdpWire<'a, H>, GroupFault>
-        ensures others { IfErr result IsSocketRefusal }
+        ensures others { IfErr result IsOpenRefusal }
     {
+        let own = OwnDatagrams::new(rt.alloc())?;
         watch.add(&mut socket, OWN)?;
         Ok(UdpWire {
-            clock,
+            clock: rt,
             node,
             socket,
             watch,

@@ -1,0 +1,6 @@
+pub mod Drops
+pub mod Milestones
+pub mod Notes
+pub mod Roles
+pub mod Sends
+pub mod Traces

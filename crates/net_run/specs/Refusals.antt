@@ -1,0 +1,25 @@
+-- Why a group in one process ends early.
+use Rattle.std.specs.Prelude.{◌≡◌, ◌⊎◌}
+use Rattle.group_node.specs.declared.fault.NodeFault.TheVariants.{SerialSpent, Stopped, Store}
+use Rattle.group_node.specs.declared.fault.NodeFault.TheVariants as fault
+use Rattle.group_udp.specs.declared.fault.GroupFault.{GroupFault}
+use Rattle.group_udp.specs.declared.fault.GroupFault.TheVariants as group
+use Rattle.group_udp.specs.Refusals.{IsOpenRefusal, IsRunRefusal, no_memory}
+
+-- What a node of a group in one process may refuse when it takes a turn: it is stopped, or a save
+-- failed.
+abbrev pub IsTurnRefusal : GroupFault → Type 0
+IsTurnRefusal e = (e ≡ group.Node Stopped) ⊎ (e ≡ group.Node Store)
+
+-- What a turn whose output is shown may refuse: also memory that ran out.
+abbrev pub IsShownTurnRefusal : GroupFault → Type 0
+IsShownTurnRefusal e = IsTurnRefusal e ⊎ (e ≡ no_memory)
+
+-- What it may refuse when bytes are typed at it: also spent serials.
+abbrev pub IsPressRefusal : GroupFault → Type 0
+IsPressRefusal e = IsTurnRefusal e ⊎ (e ≡ group.Node SerialSpent)
+
+-- Why a group in one process ends early.
+abbrev pub IsNetRefusal : GroupFault → Type 0
+IsNetRefusal e = IsOpenRefusal e ⊎ (e ≡ group.Node fault.Size) ⊎ (e ≡ group.Node fault.Id)
+    ⊎ (e ≡ group.Node Stopped) ⊎ IsRunRefusal e

@@ -1,0 +1,113 @@
+-- A whole run of a node, by its answer.
+use Rattle.std.proofs.Common.{◌≡◌, ◌⊎◌, inl, inr, ℕ, List, Option, Some, None, IfErr, IsErrOf, Result, Ok, Err, refl, sym, ap, subst, arith}
+use Rattle.std.specs.declared.net.socket_addr.SocketAddr.{SocketAddr}
+use Rattle.pcode_file.specs.Parts.{Parts}
+use Rattle.paxos_acceptor.specs.declared.me.Me.{Me}
+use Rattle.paxos_acceptor.specs.Stores.{StoreKind}
+use Rattle.group_node.specs.Output.{IsReplay}
+use Rattle.group_node.specs.States.{IsConfig, NodeState, input}
+use Rattle.group_wire.specs.Doings.{working}
+use Rattle.group_wire.specs.Starts.{HasStarted}
+use Rattle.group_udp.specs.declared.fault.GroupFault.{GroupFault}
+use Rattle.node_run.specs.declared.node.NodePlan.{NodePlan}
+use Rattle.node_run.specs.Ends.{EndsLoaded, IsRefusedInput, IsTypedText, RefusesUnwritten, RunsOpened, RunsOverFile, keys_at_first, me_in}
+use Rattle.node_run.specs.Going.{Around, HasGone, planned}
+use Rattle.node_run.specs.Output.{AppendsOutput}
+use Rattle.group_udp.specs.Prompts.{Remaining}
+use Rattle.group_udp.specs.Refusals.{IsCampaignRefusal, IsWrittenRoundRefusal, write_failed}
+use Rattle.node_run.specs.Runs.{RunsNode}
+use Rattle.node_run.proofs.Going.{is_store}
+use Rattle.node_run.proofs.Showing.{written_from}
+use Rattle.node_run.proofs.Starting.{ran_on, ran_out}
+
+module _ {S : Type 0} (kind : StoreKind S) (me : Me) (program : Parts)
+    (store : S) (plan : NodePlan) (first last : NodeState S) (from to : Around) (before after : Option (List ℕ))
+    (starts : HasStarted kind me program store (Ok first)) (replay : IsReplay (input last.protocol.known) last.progress) where
+  pub runs_by : (result : Result (Unit {0}) GroupFault) → HasGone (planned plan.campaigns) first last from to plan.turns result
+      → AppendsOutput plan.seen first last (IsErrOf result write_failed) before after
+      → IfErr result (λ e. IsWrittenRoundRefusal e ⊎ IsCampaignRefusal e)
+      → RunsNode kind.loads me program store plan from to before after result
+  runs_by (Ok x) h writes others = record {
+    last = working last;
+    first = planned plan.campaigns;
+    prompts = h.prompts;
+    runs = ran_on kind me program store first last from.traffic to.traffic starts _ (λ is. absurd cc) h.acts;
+    begun = inl refl;
+    gift = h.gift;
+    given = h.given;
+    turns = plan.turns;
+    follows = record {
+      lost = h.prompted.lost;
+      typed = h.prompted.typed;
+      all = λ _. h.prompted.all (λ f. f);
+      campaigns = h.prompted.campaigns;
+      made = h.prompted.made;
+    };
+    few = omega arith;
+    all = refl;
+    ends = tt;
+    due = tt;
+    writes = written_from program plan.seen first last _ before after starts.fresh.progress replay writes;
+  }
+  runs_by (Err e) (begun, is, done, few, h) writes others = record {
+    last = working last;
+    first = begun;
+    prompts = h.prompts;
+    runs = elim (is_store e) [
+      | inl store_failed ↦
+          ran_out kind me program store first last from.traffic to.traffic starts _ (ap Err store_failed) (h.fails store_failed)
+      | inr other ↦
+          ran_on kind me program store first last from.traffic to.traffic starts _ (λ failed. other cc) (h.acts other)
+    ];
+    begun = elim is [ inl same ↦ inl same | inr none ↦ inr (refl, none) ];
+    gift = h.gift;
+    given = h.given;
+    turns = done;
+    follows = record {
+      lost = h.prompted.lost;
+      typed = h.prompted.typed;
+      all = λ not_spent. h.prompted.all (λ spent. not_spent (ap Err spent));
+      campaigns = h.prompted.campaigns;
+      made = h.prompted.made;
+    };
+    few = few;
+    all = tt;
+    ends = others;
+    due = h.due;
+    writes = written_from program plan.seen first last _ before after starts.fresh.progress replay writes;
+  }
+
+-- ---- over the files and sockets of the system
+
+-- a text is typed
+pub opened_text : {me : Me} {program : Parts} {plan : NodePlan} (text : List ℕ) {before after : Option (List ℕ)}
+    {result : Result (Unit {0}) GroupFault} (to : Option Remaining) → plan.keys ≡ None
+    → RunsOverFile me program plan (Some (record { bytes = text; requests = 0 })) to before after result
+    → RunsOpened me program plan text before after result
+opened_text {me} {program} {plan} text {before} {after} {result} to none h =
+    inr (to, subst (λ k. RunsOverFile me program plan (keys_at_first k text) to before after result) (sym none) h)
+
+-- or typed bytes come as datagrams
+pub opened_datagrams : {me : Me} {program : Parts} {plan : NodePlan} (text : List ℕ) {before after : Option (List ℕ)}
+    {result : Result (Unit {0}) GroupFault} (to : Option Remaining) (address : SocketAddr) → plan.keys ≡ Some address
+    → RunsOverFile me program plan None to before after result → RunsOpened me program plan text before after result
+opened_datagrams {me} {program} {plan} text {before} {after} {result} to address some h =
+    inr (to, subst (λ k. RunsOverFile me program plan (keys_at_first k text) to before after result) (sym some) h)
+
+-- the node of a plan that a group has
+pub loaded_runs : {config : Me} {program : Parts} {plan : NodePlan} {from to : Option (List ℕ)} (text : List ℕ)
+    {before after : Option (List ℕ)} {result : Result (Unit {0}) GroupFault} → config ≡ me_in plan → IsConfig config
+    → IsTypedText plan.keys from to text → RunsOpened config program plan text before after result
+    → EndsLoaded program plan from to before after result
+loaded_runs {config} {program} {plan} {from} {to} text {before} {after} {result} is ranges typed runs =
+    inr (
+      subst IsConfig is ranges,
+      inr (text, typed, subst (λ (me : Me). RunsOpened me program plan text before after result) is runs),
+    )
+
+-- the same node, whose input cannot be read
+pub loaded_refuses : {config : Me} {program : Parts} {plan : NodePlan} {from to : Option (List ℕ)}
+    {before after : Option (List ℕ)} {result : Result (Unit {0}) GroupFault} → config ≡ me_in plan → IsConfig config
+    → RefusesUnwritten (IsRefusedInput plan from to) before after result
+    → EndsLoaded program plan from to before after result
+loaded_refuses is ranges refused = inr (subst IsConfig is ranges, inl refused)

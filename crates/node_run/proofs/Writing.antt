@@ -1,0 +1,69 @@
+-- What a cycle of a node writes, and several cycles.
+use Rattle.std.proofs.Common.{◌≡◌, ◌↔◌, ◌∙◌, ℕ, ◌-◌, List, [], ◌∷◌, ◌++◌, drop, length, Option, refl, arith, append_assoc}
+use Rattle.std.proofs.Math.Seq.{drop-append-add}
+use Rattle.std.proofs.lemmas.Grind.{common_steps}
+use Rattle.std.proofs.lemmas.List.{drop-append-le, drop_all}
+use Rattle.std.proofs.KnownBytes.{Appends-nil, Appends-trans}
+use Rattle.group_node.specs.Output.{IsReplay}
+use Rattle.group_node.specs.States.{NodeState, input}
+use Rattle.group_wire.specs.Turns.{released_by}
+use Rattle.node_run.specs.Output.{AppendsOutput, ReleasesBytes, WritesOutput}
+use Rattle.node_run.specs.Releases.{LosesOutput, NodeMoment, WritesAll}
+use Rattle.node_run.proofs.Releasing.{released_on}
+
+-- some bytes, and then others, without the first n
+drop_both : (n m : ℕ) (a b : List ℕ) → m ≡ n - length a → drop n (a ++ b) ≡ drop n a ++ drop m b
+drop_both n m a b e = grind (arith, common_steps, drop-append-le, drop-append-add {A = ℕ} a b m, drop_all)
+
+-- nothing was lost
+none_lost : {S : Type 0} {seen : ℕ} {old new : NodeState S} {fails : Type 0} {wrote : List ℕ} → ¬ fails
+    → drop seen (released_by new) ≡ drop seen (released_by old) ++ wrote → WritesOutput seen old new fails wrote
+none_lost not whole = record {
+  lost = [];
+  whole = grind (arith, common_steps);
+  one = λ f. absurd (not f);
+  none = λ _. refl;
+}
+
+-- nothing was released
+pub wrote_none : {S : Type 0} (seen : ℕ) (old new : NodeState S) (fails : Type 0) (c : Option (List ℕ)) → ¬ fails
+    → released_by new ≡ released_by old → AppendsOutput seen old new fails c c
+wrote_none seen old new fails c not same = ([], none_lost not (grind (arith, common_steps)), Appends-nil c)
+
+-- bytes were released, and those that were not seen were written or lost
+unseen_gone : {S : Type 0} (seen : ℕ) (old mid new : NodeState S) {gone : List ℕ} → released_by mid ≡ released_by old
+    → IsReplay (input mid.protocol.known) mid.progress → new.protocol ≡ mid.protocol
+    → ReleasesBytes (input mid.protocol.known) mid.progress new.progress gone
+    → drop seen (released_by new) ≡ drop seen (released_by old) ++ drop (seen - mid.progress.released) gone
+unseen_gone seen old mid new same replay protocol h =
+    grind (arith, common_steps, replay.released, released_on _ _ _ _ h, drop_both seen (seen - mid.progress.released))
+
+pub wrote_all : {S : Type 0} {seen : ℕ} (old : NodeState S) {mid new : NodeMoment S} (fails : Type 0) → WritesAll seen mid new
+    → released_by mid.node ≡ released_by old → IsReplay (input mid.node.protocol.known) mid.node.progress → ¬ fails
+    → AppendsOutput seen old new.node fails mid.written new.written
+wrote_all old fails h same replay not =
+    (_, none_lost not (unseen_gone _ old _ _ same replay h.protocol (grind (arith, common_steps, drop_all))), h.appended)
+
+pub wrote_but_one : {S : Type 0} {seen : ℕ} (old : NodeState S) {mid new : NodeMoment S} (fails : Type 0) → LosesOutput seen mid new
+    → released_by mid.node ≡ released_by old → IsReplay (input mid.node.protocol.known) mid.node.progress → fails
+    → AppendsOutput seen old new.node fails mid.written new.written
+wrote_but_one old fails h same replay is = (
+  _,
+  record {
+    lost = h.byte ∷ [];
+    whole = unseen_gone _ old _ _ same replay h.protocol h.released ∙ grind (arith, common_steps, drop-append-le);
+    one = λ _. refl;
+    none = λ not. absurd (not is);
+  },
+  h.appended,
+)
+
+-- a cycle more, after cycles at which no write failed
+pub wrote_then : {S : Type 0} (seen : ℕ) (old mid new : NodeState S) (failed fails now : Type 0) (c d e : Option (List ℕ))
+    → ¬ failed → now ↔ fails → AppendsOutput seen old mid failed c d → AppendsOutput seen mid new fails d e
+    → AppendsOutput seen old new now c e
+wrote_then seen old mid new failed fails now c d e not same (first, g, before) (wrote, h, then) = (
+  first ++ wrote,
+  record { lost = h.lost; whole = grind (arith, common_steps, append_assoc); one = grind arith; none = grind arith },
+  Appends-trans c d e first wrote before then,
+)

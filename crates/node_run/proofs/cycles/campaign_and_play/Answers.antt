@@ -1,0 +1,19 @@
+use Rattle.std.proofs.Common.{arith}
+use Rattle.std.proofs.lemmas.Result.{err_from_is_err_and}
+use Rattle.node_run.proofs.Going.{begun_by, campaign_refused}
+use Rattle.node_run.proofs.Writing.{wrote_none}
+use Rattle.node_run.proofs.cycles.campaign_and_play.Goals as goal
+
+pub returns-in_err-campaign_if-clause-writes : goal.returns-in_err-campaign_if-clause-writes
+returns-in_err-campaign_if-clause-writes g c =
+    wrote_none c.args.plan.now.seen c.args.host.now c.campaign_if.new.host _ _
+    (let p = err_from_is_err_and c.from_residual.result c.from_residual.ensures.1 in grind arith) c.in_err-campaign_if.ensures.stays
+
+pub returns-in_err-campaign_if-clause-goes : goal.returns-in_err-campaign_if-clause-goes
+returns-in_err-campaign_if-clause-goes g c =
+    let p = err_from_is_err_and c.from_residual.result c.from_residual.ensures.1 in
+    rw (p.1, p.2) (campaign_refused c.in_err-campaign_if.ensures.acts)
+
+pub returns-clause-goes : goal.returns-clause-goes
+returns-clause-goes g c = begun_by c.deeds_go_on.ensures _ _ _ _ _ _ _ c.args.plan.now.turns c.play.result
+    c.in_ok-campaign_if.ensures.acts c.play.ensures.goes

@@ -1,0 +1,17 @@
+use Rattle.std.proofs.Common.{◌+◌, ◌≤◌, length, take, refl, arith}
+use Rattle.std.proofs.lemmas.Grind.{common_steps}
+use Rattle.std.proofs.lemmas.Result.{err_from_is_err_and}
+use Rattle.node_run.proofs.Pressing.{typed_all, typed_some}
+use Rattle.node_run.proofs.press.type_given.Goals as goal
+
+pub returns-in_err-pressed-clause-typed : goal.returns-in_err-pressed-clause-typed
+returns-in_err-pressed-clause-typed g c =
+    let p = err_from_is_err_and c.from_residual.result c.from_residual.ensures.1 in
+    rw (p.1, p.2) (typed_some _ _ c.in_err-pressed.ensures.pressed c.in_err-pressed.ensures.acts refl c.requires.works
+    c.give-count.ensures.given)
+
+pub returns-clause-typed : goal.returns-clause-typed
+returns-clause-typed g c =
+    let room : length c.args.host.now.protocol.known.waiting + length (take c.give-count.result c.give-count.new.buffer) ≤ 256 =
+    grind (arith, common_steps, c.waiting.ensures.count, c.waiting.ensures.few, c.give-count.ensures.room) in
+    typed_all _ c.in_ok-pressed.ensures.pressed c.in_ok-pressed.ensures.acts refl room c.give-count.ensures.given

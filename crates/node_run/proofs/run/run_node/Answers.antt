@@ -1,0 +1,15 @@
+use Rattle.std.proofs.Common.{inl, inr, refl, ap, Err}
+use Rattle.node_run.proofs.Running.{runs_by}
+use Rattle.node_run.proofs.run.run_node.Goals as goal
+
+pub returns-in-Err-clause-ends : goal.returns-in-Err-clause-ends
+returns-in-Err-clause-ends g c =
+    rw (c.tell_end.ensures.same, c.tell_end.ensures.passed)
+    (inl (c.in-Err.refused, c.in-Err.ensures.starts, refl, refl, ap Err c.from.ensures))
+
+pub returns-clause-ends : goal.returns-clause-ends
+returns-clause-ends g c =
+    rw (c.tell_end-2.ensures.same, c.tell_end-2.ensures.passed, ← c.tell.ensures.passed)
+    (inr (runs_by g.S.Store.kind _ _ _ c.args.plan.now c.in-Ok.host c.campaign_and_play-played.new.host _ _ _ _
+    c.in-Ok.ensures.starts c.unreleased.ensures.replay c.campaign_and_play-played.result c.campaign_and_play-played.ensures.goes
+    c.campaign_and_play-played.ensures.writes c.campaign_and_play-played.ensures.others))

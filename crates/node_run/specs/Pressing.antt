@@ -1,0 +1,73 @@
+-- What happens at a node's keyboard before a turn.
+use Rattle.std.specs.Prelude.{◌≡◌, ◌≢◌, ◌<◌, ℕ, true, All, List, [], ◌∷◌, ◌++◌, map, Option, Result, Ok, Err}
+use Rattle.paxos_acceptor.specs.Stores.{StoreKind}
+use Rattle.group_node.specs.declared.fault.NodeFault.TheVariants.{SerialSpent, Stopped, Store}
+use Rattle.group_node.specs.Deeds.{Campaign, Press}
+use Rattle.group_node.specs.Known.{Known, front}
+use Rattle.group_node.specs.ProposerRows.{is_leading}
+use Rattle.group_node.specs.States.{NodeState}
+use Rattle.group_wire.specs.Campaigns.{HasCampaigned}
+use Rattle.group_wire.specs.Doings.{HasActed}
+use Rattle.group_wire.specs.Traffic.{Traffic}
+use Rattle.group_udp.specs.declared.fault.GroupFault.{GroupFault}
+use Rattle.group_udp.specs.declared.fault.GroupFault.TheVariants as group
+use Rattle.node_run.specs.declared.press.Pressed.{Pressed}
+use Rattle.node_run.specs.declared.press.Pressed.TheVariants.{Bytes, Campaigned, CampaignRefused, Ignored}
+use Rattle.node_run.specs.Going.{Around, FailsAt, HasEnded, HasReason}
+use Rattle.group_udp.specs.Prompts.{Remaining, with_gift}
+use Rattle.group_udp.specs.Refusals.{IsRoundRefusal}
+
+-- A node that leads without a gap: each vote of its record is at a place below its known front.
+abbrev pub LeadsWithoutGap : Known → Type 0
+LeadsWithoutGap n = (is_leading n.proposer ≡ true) × All (λ v. v.place < front n) n.kept.votes
+
+-- Typing of the bytes that a keyboard gave. If the serials are spent, the last of them are lost.
+-- Forbids: a byte that is typed twice, or that the keyboard did not give.
+abbrev pub HasTypedGiven : {S : Type 0} → NodeState S → NodeState S → Option Remaining
+    → Option Remaining → Result (Unit {0}) GroupFault → Type 0
+HasTypedGiven old new from to (Ok x) =
+    (typed : List ℕ) × (from ≡ with_gift (map Press typed) to)
+    × ((passed : Option Traffic) → HasActed old new passed passed (map Press typed))
+HasTypedGiven old new from to (Err e) =
+    (typed lost : List ℕ) × (e ≡ group.Node SerialSpent)
+    × (from ≡ with_gift (map Press (typed ++ lost)) to) × HasReason e new.protocol.known
+    × ((passed : Option Traffic) → HasActed old new passed passed (map Press typed))
+
+-- A campaign that was asked for, and its answer. Exactly a node that leads without a gap
+-- ignores it.
+-- Only a save that fails ends the node.
+-- Allows: a campaign that does not begin.
+-- Forbids: a node that ends since no ballot or no place is left; a leader with a gap that stays
+-- under its ballot.
+abbrev pub HasCampaignedAsAsked : {S : Type 0} → StoreKind S → NodeState S → NodeState S
+    → Option Traffic → Option Traffic → Result Pressed GroupFault → Type 0
+HasCampaignedAsAsked kind old new from to (Ok Bytes) = ⊥
+HasCampaignedAsAsked kind old new from to (Ok Ignored) =
+    LeadsWithoutGap old.protocol.known × HasActed old new from to []
+HasCampaignedAsAsked kind old new from to (Ok Campaigned) =
+    (¬ LeadsWithoutGap old.protocol.known) × HasActed old new from to (Campaign ∷ [])
+HasCampaignedAsAsked kind old new from to (Ok (CampaignRefused f)) =
+    (¬ LeadsWithoutGap old.protocol.known)
+    × HasCampaigned kind old new from to (Err f) × (f ≢ Stopped) × (f ≢ Store)
+    × HasActed old new from to []
+HasCampaignedAsAsked kind old new from to (Err e) =
+    (¬ LeadsWithoutGap old.protocol.known) × FailsAt old new from to (Campaign ∷ []) e
+
+-- What happens at a keyboard before a turn: typing of what it gave, or a campaign that it asked
+-- for, as the answer says.
+abbrev pub HasPressedKeyboard : {S : Type 0} → StoreKind S → NodeState S → NodeState S
+    → Around → Around → Result Pressed GroupFault → Type 0
+HasPressedKeyboard kind old new from to (Ok Bytes) =
+    (typed : List ℕ) × (from.keys ≡ with_gift (map Press typed) to.keys)
+    × HasActed old new from.traffic to.traffic (map Press typed)
+HasPressedKeyboard kind old new from to (Ok Ignored) =
+    (from.keys ≡ with_gift (Campaign ∷ []) to.keys)
+    × HasCampaignedAsAsked kind old new from.traffic to.traffic (Ok Ignored)
+HasPressedKeyboard kind old new from to (Ok Campaigned) =
+    (from.keys ≡ with_gift (Campaign ∷ []) to.keys)
+    × HasCampaignedAsAsked kind old new from.traffic to.traffic (Ok Campaigned)
+HasPressedKeyboard kind old new from to (Ok (CampaignRefused f)) =
+    (from.keys ≡ with_gift (Campaign ∷ []) to.keys)
+    × HasCampaignedAsAsked kind old new from.traffic to.traffic (Ok (CampaignRefused f))
+HasPressedKeyboard kind old new from to (Err e) =
+    IsRoundRefusal e × HasEnded [] old new from to 0 e

@@ -1,0 +1,40 @@
+-- The release of a node's output to a writer.
+use Rattle.std.specs.Prelude.{◌≡◌, ℕ, ◌+◌, ◌-◌, ◌≤◌, List, [], ◌∷◌, ◌++◌, drop, length, Option, Result, Ok, Err}
+use Rattle.std.specs.Io.KnownBytes.{Appends}
+use Rattle.group_node.specs.States.{NodeState, input}
+use Rattle.group_udp.specs.declared.fault.GroupFault.{GroupFault}
+use Rattle.node_run.specs.Output.{ReleasesBytes, all_released, unseen_of}
+use Rattle.group_udp.specs.Refusals.{write_failed}
+
+-- A moment of a node: the node, and what its writer holds, where that is known.
+pub record NodeMoment (S : Type 0) : Type 0 where
+  pub node : NodeState S
+  pub written : Option (List ℕ)
+
+-- A release of all output that waits. The bytes that were not seen are written.
+-- Allows: no byte waits.
+pub record WritesAll {S : Type 0} (seen : ℕ) (old new : NodeMoment S) : Type 0 where
+  pub progress : new.node.progress ≡ all_released
+      (input old.node.protocol.known) old.node.progress
+  pub appended : Appends old.written new.written (unseen_of seen
+      (input old.node.protocol.known) old.node.progress)
+  pub protocol : new.node.protocol ≡ old.node.protocol
+
+-- A release that a failed write ends: the bytes before that one are released, and written if they
+-- were not seen; that one is released, and lost.
+pub record LosesOutput {S : Type 0} (seen : ℕ) (old new : NodeMoment S) : Type 0 where
+  pub gone : List ℕ
+  pub byte : ℕ
+  pub released : ReleasesBytes
+      (input old.node.protocol.known) old.node.progress new.node.progress
+      (gone ++ byte ∷ [])
+  pub unseen : seen ≤ old.node.progress.released + length gone
+  pub appended : Appends old.written new.written (drop
+      (seen - old.node.progress.released) gone)
+  pub protocol : new.node.protocol ≡ old.node.protocol
+
+-- A release of all output, which a failed write ends.
+abbrev pub HasReleased : {S : Type 0} → ℕ → NodeMoment S → NodeMoment S
+    → Result (Unit {0}) GroupFault → Type 0
+HasReleased seen old new (Ok x) = WritesAll seen old new
+HasReleased seen old new (Err e) = LosesOutput seen old new × (e ≡ write_failed)

@@ -1,0 +1,72 @@
+-- What a whole run of a node does, what passes over its wire, what is typed at it, and what it
+-- writes.
+use Rattle.std.specs.Prelude.{◌≡◌, ◌≤◌, ◌⊎◌, ℕ, List, [], ◌++◌, length, Option, Result, Err, IfErr, IsErr, IsErrOf, OnOk}
+use Rattle.std.specs.Io.KnownBytes.{Appends}
+use Rattle.paxos_acceptor.specs.declared.me.Me.{Me}
+use Rattle.paxos_acceptor.specs.declared.store.StoreFault.{StoreFault}
+use Rattle.paxos_acceptor.specs.Stores.{StoreKind}
+use Rattle.paxos_msg.specs.Batches.{Record}
+use Rattle.pcode_file.specs.Parts.{Parts}
+use Rattle.group_node.specs.declared.fault.NodeFault.TheVariants.{SerialSpent, Store}
+use Rattle.group_node.specs.declared.protocol.StartRefused.{StartRefused}
+use Rattle.group_node.specs.Deeds.{Deed}
+use Rattle.group_node.specs.Output.{IsReplay}
+use Rattle.group_node.specs.States.{input}
+use Rattle.group_wire.specs.Doings.{Working}
+use Rattle.group_wire.specs.Process.{RunsAsProcess}
+use Rattle.group_wire.specs.Starts.{HasStarted}
+use Rattle.group_udp.specs.declared.fault.GroupFault.{GroupFault}
+use Rattle.group_udp.specs.declared.fault.GroupFault.TheVariants as group
+use Rattle.node_run.specs.declared.node.NodePlan.{NodePlan}
+use Rattle.node_run.specs.Going.{Around, HasReason, planned}
+use Rattle.node_run.specs.Output.{shown_of}
+use Rattle.group_udp.specs.Prompts.{IsPrompted, with_gift}
+use Rattle.group_udp.specs.Refusals.{IsCampaignRefusal, IsWrittenRoundRefusal, write_failed}
+
+-- What was written in the run of a node: the bytes that it has released, from number `seen` on,
+-- each once and in order. If a write failed, the last of them is lost. They are output of the
+-- program on what the node has learned.
+-- Allows: nothing, if nothing was released or all was seen.
+-- Forbids: a byte left out, or written twice; a byte that was not released.
+pub record WritesReleased (seen : ℕ) (last : Working) (fails : Type 0) (from to : Option (List ℕ))
+    : Type 0 where
+  pub replay : IsReplay (input last.known) last.progress
+  pub wrote : List ℕ
+  pub lost : List ℕ
+  pub whole : shown_of seen (input last.known) last.progress ≡ wrote ++ lost
+  pub one : fails → length lost ≡ 1
+  pub none : ¬ fails → lost ≡ []
+  pub appended : Appends from to wrote
+
+-- A run of a node that has started, as a process of its group over one load of its store. All that
+-- passes over its wire is what passes in its deeds. It campaigns first if its plan says so. Then it
+-- is prompted by its keyboard, and takes as many turns as the plan has, or fewer if it is refused.
+-- It ends at its first failed save.
+pub record RunsNode {S : Type 0} (loads : S → Result Record StoreFault → S → Type 0) (me : Me)
+    (program : Parts) (store : S) (plan : NodePlan) (from to : Around)
+    (before after : Option (List ℕ))
+    (result : Result (Unit {0}) GroupFault) : Type 0 where
+  pub last : Working
+  pub first : List Deed
+  pub prompts : List Deed
+  pub runs : RunsAsProcess loads me program store last from.traffic to.traffic (first ++ prompts)
+      (IsErrOf result (group.Node Store))
+  pub begun : (first ≡ planned plan.campaigns) ⊎ (IsErr result × (first ≡ []))
+  pub gift : List Deed
+  pub given : from.keys ≡ with_gift gift to.keys
+  pub turns : ℕ
+  pub follows : IsPrompted gift turns (IsErrOf result (group.Node SerialSpent)) prompts
+  pub few : turns ≤ plan.turns
+  pub all : OnOk result (turns ≡ plan.turns)
+  pub ends : IfErr result (λ e. IsWrittenRoundRefusal e ⊎ IsCampaignRefusal e)
+  pub due : IfErr result (λ e. HasReason e last.known)
+  pub writes : WritesReleased plan.seen last (IsErrOf result write_failed) before after
+
+-- A run of a node over a store, a wire and a keyboard. Its start is refused; then nothing passes,
+-- nothing is typed, and nothing is written. Or it starts, and runs.
+abbrev pub RunsOrRefuses : {S : Type 0} → StoreKind S → Me → Parts → S → NodePlan → Around
+    → Around → Option (List ℕ) → Option (List ℕ) → Result (Unit {0}) GroupFault → Type 0
+RunsOrRefuses {S} kind me program store plan from to before after result =
+    ((refused : StartRefused S) × HasStarted kind me program store (Err refused)
+    × (to ≡ from) × (after ≡ before) × (result ≡ Err (group.Node refused.fault)))
+    ⊎ RunsNode kind.loads me program store plan from to before after result

@@ -1,0 +1,168 @@
+//! The cycles of one node: each is a rest, typing, a turn, and the release of all output.
+ghost use Rattle.std.specs.Prelude.{◌≡◌, [], false, ◌⊎◌, IfErr, IsErrOf, OnOk};
+ghost use Rattle.group_node.specs.States.{input};
+ghost use Rattle.group_node.specs.Output.{unreleased_of};
+ghost use Rattle.group_wire.specs.Turns.{SameReleased};
+ghost use Rattle.node_run.specs.Going.{CampaignsIf, HasGone, around, planned};
+ghost use Rattle.node_run.specs.Output.{AppendsOutput, SameProgram};
+ghost use Rattle.group_udp.specs.Refusals.{IsCampaignRefusal, IsRoundRefusal, IsWrittenRoundRefusal, write_failed};
+
+use crate::endpoints::{Endpoints, note_pressed};
+use crate::node::NodePlan;
+use crate::press::press;
+use crate::release::release_all;
+use crate::rest::{is_busy_after, own_turn, rest_unless_busy};
+use group_log::{Log, Note};
+use group_udp::{GroupFault, Keyboard, RestingWire};
+use group_wire::laws::deeds_go_on;
+use group_wire::{Host, Wire};
+use machine_run::ByteWriter;
+use paxos_acceptor::Store;
+use std::io::Write;
+use std::time::Clock;
+
+/// Notes that the wire's trace is lost, if it was not said before, and what the wire has counted of
+/// datagrams, if it is time for that.
+fn note_wire<H: Clock, T: RestingWire, E: Write>(wire: &mut T, log: &mut Log<'_, H, E>)
+    ensures passed { T.traffic wire.new ≡ T.traffic wire.old }
+{
+    if wire.has_lost_trace() {
+        log.note(&Note::TraceLost);
+    }
+    if log.counted(&wire.drops(), &wire.sends()) {
+        wire.clear_counts();
+    }
+}
+
+/// Rests, unless the node is busy; types bytes at it; and takes its turn. Returns true if the node
+/// is busy then. What was released before stays as it is.
+fn rest_and_turn<H: Clock, T: RestingWire, K: Keyboard, S: Store, E: Write>(
+    host: &mut Host<'_, S>,
+    endpoints: &mut Endpoints<T, K>,
+    is_busy: bool,
+    log: &mut Log<'_, H, E>,
+) -> Result<bool, GroupFault>
+    requires works { host.old.protocol.is_stopped ≡ false }
+    ensures works { OnOk result (host.new.protocol.is_stopped ≡ false) }
+    ensures goes { HasGone [] host.old host.new
+        (around (T.traffic endpoints.old.wire) (K.remaining endpoints.old.keyboard))
+        (around (T.traffic endpoints.new.wire) (K.remaining endpoints.new.keyboard)) 1 result }
+    ensures program { SameProgram host.old host.new }
+    ensures stays { SameReleased host.old host.new }
+    ensures others { IfErr result IsRoundRefusal }
+{
+    deeds_go_on::<S>();
+    rest_unless_busy(host, endpoints, is_busy)?;
+    log.look(host.node());
+    let pressed = press(host, endpoints)?;
+    note_pressed(host, &endpoints.keyboard, pressed, log);
+    let ran = own_turn(host, &mut endpoints.wire)?;
+    log.look(host.node());
+    log.ran(ran);
+    note_wire(&mut endpoints.wire, log);
+    Ok(is_busy_after(ran))
+}
+
+/// Makes a cycle: a rest, typing, a turn, and then the release of all output. The bytes from number
+/// `seen` on are written. Returns true if the node is busy.
+fn cycle<H: Clock, T: RestingWire, K: Keyboard, S: Store, W: ByteWriter, E: Write>(
+    host: &mut Host<'_, S>,
+    seen: u64,
+    endpoints: &mut Endpoints<T, K>,
+    is_busy: bool,
+    writer: &mut W,
+    log: &mut Log<'_, H, E>,
+) -> Result<bool, GroupFault>
+    requires works { host.old.protocol.is_stopped ≡ false }
+    ensures works { OnOk result (host.new.protocol.is_stopped ≡ false) }
+    ensures goes { HasGone [] host.old host.new
+        (around (T.traffic endpoints.old.wire) (K.remaining endpoints.old.keyboard))
+        (around (T.traffic endpoints.new.wire) (K.remaining endpoints.new.keyboard)) 1 result }
+    ensures program { SameProgram host.old host.new }
+    ensures writes { AppendsOutput seen host.old host.new (IsErrOf result write_failed)
+        (W.contents writer.old) (W.contents writer.new) }
+    ensures none_waits { OnOk result
+        (unreleased_of (input host.new.protocol.known) host.new.progress ≡ []) }
+    ensures others { IfErr result IsWrittenRoundRefusal }
+{
+    deeds_go_on::<S>();
+    let more = rest_and_turn(host, endpoints, is_busy, log)?;
+    // The machine is where a replay from the start is.
+    host.unreleased();
+    release_all(host, seen, &mut endpoints.wire, writer)?;
+    Ok(more)
+}
+
+/// Makes as many cycles as the plan has turns, up to the first refusal: a failed save, spent
+/// serials, or a failed write. Over all cycles the bytes that were released are written, each once
+/// and in order, but for those that were seen. If a write fails, the last one is lost.
+fn play<H: Clock, T: RestingWire, K: Keyboard, S: Store, W: ByteWriter, E: Write>(
+    host: &mut Host<'_, S>,
+    plan: &NodePlan<'_>,
+    endpoints: &mut Endpoints<T, K>,
+    writer: &mut W,
+    log: &mut Log<'_, H, E>,
+) -> Result<(), GroupFault>
+    requires works { host.old.protocol.is_stopped ≡ false }
+    ensures goes { HasGone [] host.old host.new
+        (around (T.traffic endpoints.old.wire) (K.remaining endpoints.old.keyboard))
+        (around (T.traffic endpoints.new.wire) (K.remaining endpoints.new.keyboard)) plan.now.turns
+        result }
+    ensures program { SameProgram host.old host.new }
+    ensures writes { AppendsOutput plan.now.seen host.old host.new (IsErrOf result write_failed)
+        (W.contents writer.old) (W.contents writer.new) }
+    ensures others { IfErr result IsWrittenRoundRefusal }
+{
+    deeds_go_on::<S>();
+    let mut is_busy = true;
+    for _ in 0..plan.turns {
+        is_busy = cycle(host, plan.seen, endpoints, is_busy, writer, log)?;
+    }
+    Ok(())
+}
+
+/// Campaigns, if `is_asked`.
+fn campaign_if<T: Wire, S: Store>(
+    host: &mut Host<'_, S>,
+    wire: &mut T,
+    is_asked: bool,
+) -> Result<(), GroupFault>
+    requires works { host.old.protocol.is_stopped ≡ false }
+    ensures works { OnOk result (host.new.protocol.is_stopped ≡ false) }
+    ensures acts { CampaignsIf is_asked host.old host.new (T.traffic wire.old)
+        (T.traffic wire.new) result }
+    ensures stays { SameReleased host.old host.new }
+    ensures progress { host.new.progress ≡ host.old.progress }
+    ensures others { IfErr result IsCampaignRefusal }
+{
+    deeds_go_on::<S>();
+    if is_asked {
+        host.campaign(wire)?;
+    }
+    Ok(())
+}
+
+/// Campaigns, if the plan says so, and then makes the cycles. A campaign that is refused ends it,
+/// and nothing is written.
+pub fn campaign_and_play<H: Clock, T: RestingWire, K: Keyboard, S: Store, W: ByteWriter, E: Write>(
+    host: &mut Host<'_, S>,
+    plan: &NodePlan<'_>,
+    endpoints: &mut Endpoints<T, K>,
+    writer: &mut W,
+    log: &mut Log<'_, H, E>,
+) -> Result<(), GroupFault>
+    requires works { host.old.protocol.is_stopped ≡ false }
+    ensures goes { HasGone (planned plan.now.campaigns) host.old host.new
+        (around (T.traffic endpoints.old.wire) (K.remaining endpoints.old.keyboard))
+        (around (T.traffic endpoints.new.wire) (K.remaining endpoints.new.keyboard)) plan.now.turns
+        result }
+    ensures program { SameProgram host.old host.new }
+    ensures writes { AppendsOutput plan.now.seen host.old host.new (IsErrOf result write_failed)
+        (W.contents writer.old) (W.contents writer.new) }
+    ensures others { IfErr result
+        (λ e. IsWrittenRoundRefusal e ⊎ IsCampaignRefusal e) }
+{
+    deeds_go_on::<S>();
+    campaign_if(host, &mut endpoints.wire, plan.campaigns)?;
+    play(host, plan, endpoints, writer, log)
+}

@@ -1,0 +1,93 @@
+//! The wire and the keyboard of a node.
+ghost use Rattle.std.specs.Prelude.{IfErr};
+ghost use Rattle.group_udp.specs.Refusals.{IsOpenRefusal, IsSocketRefusal};
+
+use crate::node::NodePlan;
+use crate::press::Pressed;
+use group_log::{Log, Note};
+use group_node::limits::MOST_WAITING;
+use group_udp::{GroupFault, Keyboard, Trace, TypedDatagrams, UdpWire, Watch, address_at, bind};
+use group_wire::Host;
+use mio::net::UdpSocket;
+use paxos_acceptor::Store;
+use std::io::Write;
+use std::net::{Net, SocketAddr};
+use std::rt::Files;
+use std::time::Clock;
+
+/// Where the datagrams and the typed bytes of a node come from.
+#[derive(Drop)]
+pub struct Endpoints<T, K> {
+    pub wire: T,
+    pub keyboard: K,
+}
+
+/// Notes the result of typing or of a campaign, and that bytes are left because there is no room.
+pub fn note_pressed<H: Clock, K: Keyboard, S: Store, E: Write>(
+    host: &Host<'_, S>,
+    keyboard: &K,
+    pressed: Pressed,
+    log: &mut Log<'_, H, E>,
+) {
+    if !log.is_on() {
+        return;
+    }
+    if let Pressed::CampaignRefused(fault) = pressed {
+        log.note(&Note::CampaignRefused(fault));
+    }
+    log.look(host.node());
+    let waiting = host.node().waiting();
+    log.full(waiting, waiting >= MOST_WAITING && keyboard.has_bytes());
+}
+
+/// Binds a socket to the address, and notes a refusal.
+fn bind_noted<H: Net + Clock, E: Write>(
+    rt: &H,
+    address: SocketAddr,
+    log: &mut Log<'_, H, E>,
+) -> Result<UdpSocket, GroupFault>
+    ensures others { IfErr result IsSocketRefusal }
+{
+    let bound = bind(rt, address);
+    if bound.is_err() {
+        log.note(&Note::NoSocket(address));
+    }
+    bound
+}
+
+/// Opens the socket of typed bytes at its address, which is watched.
+pub fn open_keyboard<'a, H: Net + Clock + AllocGlobal, E: Write>(
+    rt: &'a H,
+    address: SocketAddr,
+    watch: &Watch,
+    log: &mut Log<'_, H, E>,
+) -> Result<TypedDatagrams<'a, H>, GroupFault>
+    ensures others { IfErr result IsOpenRefusal }
+{
+    let mut socket = bind_noted(rt, address, log)?;
+    watch.add_typed(&mut socket)?;
+    Ok(TypedDatagrams::new(rt, rt.alloc(), socket)?)
+}
+
+/// Opens the wire of the plan's node, on the socket of its address. Typed bytes end its waiting
+/// too.
+pub fn open_wire<'a, H: Net + Files + Clock + AllocGlobal, E: Write>(
+    rt: &'a H,
+    plan: &NodePlan<'a>,
+    watch: Watch,
+    log: &mut Log<'_, H, E>,
+) -> Result<UdpWire<'a, H>, GroupFault>
+    ensures others { IfErr result IsOpenRefusal }
+{
+    let Some(address) = address_at(plan.addresses, plan.node) else {
+        return Err(GroupFault::Socket);
+    };
+    let socket = bind_noted(rt, address, log)?;
+    let counted = if log.is_on() { Some(plan.group) } else { None };
+    let mut wire = UdpWire::new(rt, plan.node, socket, watch, plan.addresses, counted)?;
+    if let Some(path) = plan.trace {
+        let trace = Trace::open(rt, path, address, plan.record, plan.node, plan.group);
+        wire.set_trace(trace);
+    }
+    Ok(wire)
+}

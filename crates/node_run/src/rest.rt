@@ -1,0 +1,164 @@
+//! A node's rest between two turns, and a turn.
+ghost use Rattle.std.specs.Prelude.{◌≡◌, [], ◌∷◌, false, true, Ok, IfErr, IfOk, OnOk};
+ghost use Rattle.group_node.specs.Deeds.{Run};
+ghost use Rattle.group_wire.specs.declared.answers.Turned.{Turned};
+ghost use Rattle.group_wire.specs.declared.limits.TheConstants.{TURN_STEPS};
+ghost use Rattle.group_wire.specs.Doings.{HasActed};
+ghost use Rattle.group_wire.specs.Turns.{HasTurned, SameReleased};
+ghost use Rattle.node_run.specs.Going.{FailsAt, is_busy_after};
+ghost use Rattle.node_run.specs.Output.{SameProgram};
+
+use crate::endpoints::Endpoints;
+use crate::limits::MOST_RESTING;
+use crate::press::is_calling;
+use group_node::{NodeFault, Ran};
+use group_udp::{GroupFault, Keyboard, RestingWire, Waited};
+use group_wire::laws::deeds_go_on;
+use group_wire::{Host, Received, Wire};
+use paxos_acceptor::Store;
+use paxos_msg::limits::MOST_CHARACTERS;
+
+/// Waits at the wire of a node at which `waiting` keys wait. Returns true if its rest is over: it
+/// has taken its time, or the keyboard calls.
+fn wait<T: RestingWire, K: Keyboard>(endpoints: &mut Endpoints<T, K>, waiting: usize) -> bool
+    ensures passed { T.traffic endpoints.new.wire ≡ T.traffic endpoints.old.wire }
+    ensures untyped { K.remaining endpoints.new.keyboard ≡ K.remaining endpoints.old.keyboard }
+{
+    match endpoints.wire.wait() {
+        Waited::Over => true,
+        Waited::Datagram => false,
+        Waited::Keyboard => {
+            endpoints.keyboard.look();
+            is_calling(&endpoints.keyboard, waiting)
+        }
+    }
+}
+
+/// Returns true if the rest of a node is over once a place has become known. While its typed keys
+/// are under way, and fewer wait than a place takes, it lasts as long as such a rest has to: else
+/// each place that is learned would open one for the few keys that came meanwhile, and have all be
+/// repeated that is under way. On a quick network that is no time.
+fn ends_rest<T: RestingWire>(wire: &mut T, waiting: usize) -> bool
+    ensures passed { T.traffic wire.new ≡ T.traffic wire.old }
+{
+    wire.note_learned();
+    waiting == 0 || waiting >= MOST_CHARACTERS || wire.is_over()
+}
+
+/// Receives once, and waits if nothing came. Returns true if the rest is over: it has taken its
+/// time, the keyboard calls, or the known front has moved since it was at `front`.
+fn rest_once<T: RestingWire, K: Keyboard, S: Store>(
+    host: &mut Host<'_, S>,
+    endpoints: &mut Endpoints<T, K>,
+    front: u32,
+) -> Result<bool, GroupFault>
+    requires works { host.old.protocol.is_stopped ≡ false }
+    ensures works { OnOk result (host.new.protocol.is_stopped ≡ false) }
+    ensures acts { OnOk result (HasActed host.old host.new (T.traffic endpoints.old.wire)
+        (T.traffic endpoints.new.wire) []) }
+    ensures refused { IfErr result (FailsAt host.old host.new (T.traffic endpoints.old.wire)
+        (T.traffic endpoints.new.wire) []) }
+    ensures untyped { K.remaining endpoints.new.keyboard ≡ K.remaining endpoints.old.keyboard }
+    ensures stays { SameReleased host.old host.new }
+    ensures progress { host.new.progress ≡ host.old.progress }
+{
+    match host.hear(&mut endpoints.wire) {
+        Ok(Received::Nothing) => Ok(wait(endpoints, host.node().waiting())),
+        Ok(_) if host.node().known_front() > front => {
+            Ok(ends_rest(&mut endpoints.wire, host.node().waiting()))
+        }
+        Ok(_) => Ok(endpoints.wire.is_over()),
+        Err(fault) => Err(GroupFault::Node(fault)),
+    }
+}
+
+/// Hears what comes to a node that has nothing to do, until a place has become known, the keyboard
+/// calls, or the rest has taken its time (`ends_rest`). What a message asks for is done when it
+/// is heard, so it needs no tick; and a tick after each would make the other nodes tick in turn,
+/// without end.
+fn rest<T: RestingWire, K: Keyboard, S: Store>(
+    host: &mut Host<'_, S>,
+    endpoints: &mut Endpoints<T, K>,
+) -> Result<(), GroupFault>
+    requires works { host.old.protocol.is_stopped ≡ false }
+    ensures works { OnOk result (host.new.protocol.is_stopped ≡ false) }
+    ensures acts { OnOk result (HasActed host.old host.new (T.traffic endpoints.old.wire)
+        (T.traffic endpoints.new.wire) []) }
+    ensures refused { IfErr result (FailsAt host.old host.new (T.traffic endpoints.old.wire)
+        (T.traffic endpoints.new.wire) []) }
+    ensures untyped { K.remaining endpoints.new.keyboard ≡ K.remaining endpoints.old.keyboard }
+    ensures stays { SameReleased host.old host.new }
+    ensures progress { host.new.progress ≡ host.old.progress }
+{
+    deeds_go_on::<S>();
+    let front = host.node().known_front();
+    endpoints.wire.begin_rest(front);
+    for _ in 0..MOST_RESTING {
+        match rest_once(host, endpoints, front) {
+            Ok(false) => {}
+            Ok(true) => return Ok(()),
+            Err(fault) => return Err(fault),
+        }
+    }
+    Ok(())
+}
+
+/// Rests, unless the node is busy, or the keyboard calls. A rest keeps what was released.
+pub fn rest_unless_busy<T: RestingWire, K: Keyboard, S: Store>(
+    host: &mut Host<'_, S>,
+    endpoints: &mut Endpoints<T, K>,
+    is_busy: bool,
+) -> Result<(), GroupFault>
+    requires works { host.old.protocol.is_stopped ≡ false }
+    ensures works { OnOk result (host.new.protocol.is_stopped ≡ false) }
+    ensures busy { is_busy ≡ true → (result ≡ Ok tt) × (host.new ≡ host.old)
+        × (endpoints.new ≡ endpoints.old) }
+    ensures acts { OnOk result (HasActed host.old host.new (T.traffic endpoints.old.wire)
+        (T.traffic endpoints.new.wire) []) }
+    ensures refused { IfErr result (FailsAt host.old host.new (T.traffic endpoints.old.wire)
+        (T.traffic endpoints.new.wire) []) }
+    ensures untyped { K.remaining endpoints.new.keyboard ≡ K.remaining endpoints.old.keyboard }
+    ensures stays { SameReleased host.old host.new }
+    ensures progress { host.new.progress ≡ host.old.progress }
+{
+    deeds_go_on::<S>();
+    if is_busy {
+        return Ok(());
+    }
+    endpoints.keyboard.look();
+    if is_calling(&endpoints.keyboard, host.node().waiting()) {
+        return Ok(());
+    }
+    rest(host, endpoints)
+}
+
+/// Returns true if a node is busy after such a run: its machine has not ended, and does not wait
+/// for a key.
+pub fn is_busy_after(ran: Ran) -> bool
+    ensures { result ≡ is_busy_after ran }
+{
+    match ran {
+        Ran::More | Ran::Full => true,
+        Ran::Waits | Ran::Ended(_) => false,
+    }
+}
+
+/// Takes a turn of the node on its wire. Returns why its run ended.
+pub fn own_turn<T: Wire, S: Store>(host: &mut Host<'_, S>, wire: &mut T) -> Result<Ran, GroupFault>
+    requires works { host.old.protocol.is_stopped ≡ false }
+    ensures works { OnOk result (host.new.protocol.is_stopped ≡ false) }
+    ensures turned { IfOk result (λ ran. (done : Turned)
+        × HasTurned S.kind host.old host.new (T.traffic wire.old) (T.traffic wire.new)
+        (Ok done) × (ran ≡ done.ran)) }
+    ensures acts { OnOk result (HasActed host.old host.new (T.traffic wire.old) (T.traffic wire.new)
+        (Run TURN_STEPS ∷ [])) }
+    ensures refused { IfErr result
+        (FailsAt host.old host.new (T.traffic wire.old) (T.traffic wire.new) []) }
+    ensures program { SameProgram host.old host.new }
+    ensures stays { SameReleased host.old host.new }
+{
+    match host.turn(wire) {
+        Ok(turned) => Ok(turned.ran),
+        Err(fault) => Err(GroupFault::Node(fault)),
+    }
+}

@@ -1,0 +1,40 @@
+//! A text that is typed at a node.
+use group_node::limits::MOST_WAITING;
+use group_udp::Keyboard;
+
+/// A text that is typed at a node, as there is room for it.
+#[derive(Drop)]
+pub struct Text<'a> {
+    /// The bytes that are still to be typed.
+    pub rest: &'a [u8],
+}
+
+impl Keyboard for Text<'_> {
+    ghost use Rattle.std.specs.Prelude.{Some};
+
+    ghost remaining = { λ t. Some (record { bytes = t.rest.now; requests = 0 }) };
+
+    // All of it is there.
+    fn look(&mut self) {}
+
+    // A text asks for no campaign.
+    fn has_request(&self) -> bool {
+        false
+    }
+
+    fn has_bytes(&self) -> bool {
+        !self.rest.is_empty()
+    }
+
+    fn is_asked(&mut self) -> bool {
+        false
+    }
+
+    fn give(&mut self, buffer: &mut [u8; MOST_WAITING], waiting: usize) -> usize {
+        let count = self.rest.len().min(MOST_WAITING.saturating_sub(waiting));
+        let (now, later) = self.rest.split_at(count);
+        buffer[..count].copy_from_slice(now);
+        self.rest = later;
+        count
+    }
+}
