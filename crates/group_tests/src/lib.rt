@@ -5,17 +5,11 @@
 #![tactic(auto)]
 
 #[cfg(test)]
-mod logs;
-#[cfg(test)]
 mod node;
 #[cfg(test)]
 mod program;
 #[cfg(test)]
-mod script;
-#[cfg(test)]
 mod seat;
-#[cfg(test)]
-mod stops;
 #[cfg(test)]
 mod wires;
 #[cfg(test)]

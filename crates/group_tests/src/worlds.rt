@@ -1,41 +1,27 @@
-//! Lists of events, by `run` of a world.
-use crate::program::reading_program;
-use group_world::{Event, Line, RunFault, World, WorldFault, read_script, run};
-use paxos_msg::{Record, Value};
+//! Lists of events, by `run` of a world: those of the written log of the laws, and those that end
+//! early.
+use crate::program::{program, reading_program};
+use group_world::Act::{Campaign, Deliver, Press, Release, Run, Start, Tick};
+use group_world::{Act, Event, Outcome, RunFault, World, WorldFault, read_script, run};
+use paxos_msg::{Ballot, Characters, Value, Vote};
 use pcode_ops::Program;
 use std::alloc::{AllocError, Global};
 use std::marker::Model;
 use std::test::Fail;
 
-/// Returns the text of lines that are separated by commas.
-fn text_of(alloc: Global, lines: &str) -> Result<String, AllocError> {
-    let mut text = String::new(alloc);
-    for line in lines.split(", ") {
-        text.push_str(line)?;
-        text.push('\n')?;
-    }
-    Ok(text)
-}
-
-/// Returns the events of lines that are separated by commas. None of them is a `settle` or a
-/// `show`.
-pub fn events_of(alloc: Global, lines: &str) -> Result<Vec<Event>, Fail> {
-    let text = format!(in alloc; "size 3 session 7, {lines}")?;
-    let text = text_of(alloc, text.as_str())?;
-    let script = read_script(alloc, text.as_str())?;
+/// Returns the events of these acts. All saves succeed.
+fn events_of(alloc: Global, acts: &[Act]) -> Result<Vec<Event>, AllocError> {
     let mut events = Vec::new(alloc);
-    for line in script.lines.iter() {
-        match line {
-            Line::Act(event) => events.push(*event)?,
-            Line::Settle | Line::Show => return Err(Fail::new("no event")),
-        }
+    for act in acts {
+        let save = Outcome::Kept;
+        events.push(Event { act: *act, save })?;
     }
     Ok(events)
 }
 
 /// A group after a list of events. Contracts see nothing of it, so that a test does not carry a
-/// world from one look at it to the next. Each look is a function of its own.
-pub struct After<'a> {
+/// world from one look at it to the next.
+struct After<'a> {
     world: World<'a>,
 }
 
@@ -51,80 +37,114 @@ impl<'a> Model for After<'a> {
     ghost view = { λ _. tt };
 }
 
-impl<'a> After<'a> {
-    /// Performs the events of a group of this size.
-    pub fn run(
-        alloc: Global,
-        program: &'a Program,
-        size: u8,
-        events: &[Event],
-    ) -> Result<After<'a>, RunFault> {
-        match run(alloc, program, size, 7, events) {
-            Ok(world) => Ok(After { world }),
-            Err(refused) => Err(refused),
-        }
-    }
-
-    /// Returns the number of messages that were sent.
-    pub fn sent(&self) -> usize {
-        self.world.sent()
-    }
-
-    /// Returns the typed key with this number.
-    pub fn typed(&self, number: usize) -> Option<Value> {
-        self.world.typed(number)
-    }
-
-    /// Returns what a node has learned for place 0.
-    pub fn learned(&self, node: u8) -> Option<Value> {
-        self.world.node(node)?.learned(0)
-    }
-
-    /// Returns true if a node's console has shown these bytes.
-    pub fn has_shown(&self, node: u8, bytes: &[u8]) -> bool {
-        match self.world.console(node) {
-            Some(shown) => shown == bytes,
-            None => false,
-        }
-    }
-
-    /// Returns the record that the next start of a node finds.
-    pub fn record(&self, node: u8) -> Option<&Record> {
-        self.world.record(node)
-    }
-
-    /// Returns the number of starts in that record.
-    fn starts(&self, node: u8) -> Option<u32> {
-        Some(self.record(node)?.starts)
+/// Performs the acts in a group of this size.
+fn group_after<'a>(
+    alloc: Global,
+    program: &'a Program,
+    size: u8,
+    acts: &[Act],
+) -> Result<After<'a>, RunFault> {
+    let Ok(events) = events_of(alloc, acts) else {
+        let fault = WorldFault::Memory;
+        return Err(RunFault { event: 0, fault });
+    };
+    match run(alloc, program, size, 7, events.as_slice()) {
+        Ok(world) => Ok(After { world }),
+        Err(refused) => Err(refused),
     }
 }
 
-/// Returns true if a list of events ends early at this event, by this refusal.
-fn ends_at(
-    alloc: Global,
-    size: u8,
-    lines: &str,
-    event: usize,
-    fault: WorldFault,
-) -> Result<bool, Fail> {
-    let program = reading_program(alloc)?;
-    let events = events_of(alloc, lines)?;
-    let refused = After::run(alloc, &program, size, events.as_slice()).err();
-    Ok(refused == Some(RunFault { event, fault }))
+/// Reads a byte from unit 1, which echoes it: SLDC 65, SRO 3, and UNITREAD of one byte at word 3.
+const ECHOES: [u8; 28] = [
+    0x41, 0xab, 0x03, 0x01, 0xa5, 0x03, 0x00, 0x01, 0x00, 0x00, 0x9e, 0x05, 0xc1, 0x00, 0x02, 0x00,
+    0x04, 0x00, 0x06, 0x00, 0x14, 0x00, 0x01, 0x00, 0x02, 0x00, 0x01, 0x01,
+];
+
+/// Node 1 leads, the letter A is typed at node 2, nodes 2 and 3 accept it, and node 3 learns and
+/// shows it.
+const LOG: [Act; 17] = [
+    Start(1),
+    Start(2),
+    Start(3),
+    Campaign(1),
+    Deliver(0, 2),
+    Deliver(0, 3),
+    Deliver(1, 1),
+    Deliver(2, 1),
+    Press(2, 0x41),
+    Tick(2),
+    Deliver(3, 1),
+    Deliver(5, 2),
+    Deliver(5, 3),
+    Deliver(6, 3),
+    Deliver(7, 3),
+    Run(3, 10),
+    Release(3),
+];
+
+/// The ballot of node 1.
+const BALLOT: Ballot = Ballot { round: 1, node: 1 };
+
+/// Returns true if a node is up, its console shows these bytes, it has learned this for place 0,
+/// and its record has one start, the ballot, and these votes.
+fn has(world: &World<'_>, node: u8, shown: &[u8], learned: Option<Value>, votes: &[Vote]) -> bool {
+    match (world.node(node), world.console(node), world.record(node)) {
+        (Some(running), Some(console), Some(record)) => {
+            running.learned(0) == learned
+                && console == shown
+                && record.starts == 1
+                && record.promised == Some(BALLOT)
+                && record.votes.as_slice() == votes
+        }
+        _ => false,
+    }
+}
+
+/// Returns true if the letter alone was typed, the nodes 2 and 3 have voted for it, and node 3
+/// alone has learned it and shows it.
+fn is_logged(world: &World<'_>) -> bool {
+    // The letter, typed first at node 2, as a batch of one.
+    let value = Value::Keys {
+        node: 2,
+        start: 1,
+        first: 1,
+        bytes: Characters::from(0x41),
+    };
+    let vote = Vote {
+        place: 0,
+        ballot: BALLOT,
+        value,
+    };
+    world.sent() == 8
+        && world.typed(0) == Some(value)
+        && world.typed(1).is_none()
+        && has(world, 1, b"", None, &[])
+        && has(world, 2, b"", None, &[vote])
+        && has(world, 3, b"A", Some(value), &[vote])
+}
+
+/// Shows laws::a_written_log, run (happens): what the law says of the nodes after the log holds of
+/// the world after these events.
+#[test]
+fn the_written_log(rt: HostRuntime) -> Result<(), Fail> {
+    let program = program(rt.alloc(), &ECHOES)?;
+    let after = group_after(rt.alloc(), &program, 3, &LOG)?;
+    assert!(rt; is_logged(&after.world));
+    Ok(())
 }
 
 /// Sizes and events, and where each list ends and why.
-const ENDS: [(u8, &str, usize, WorldFault); 6] = [
-    (2, "start 1", 0, WorldFault::Size),
-    (3, "start 1, tick 4", 1, WorldFault::NoNode),
-    (3, "deliver 0 1", 0, WorldFault::NoMessage),
-    (3, "tick 1", 0, WorldFault::NodeDown),
-    (3, "start 1, start 1", 1, WorldFault::NodeUp),
+const ENDS: [(u8, &[Act], usize, WorldFault); 6] = [
+    (2, &[Start(1)], 0, WorldFault::Size),
+    (3, &[Start(1), Tick(4)], 1, WorldFault::NoNode),
+    (3, &[Deliver(0, 1)], 0, WorldFault::NoMessage),
+    (3, &[Tick(1)], 0, WorldFault::NodeDown),
+    (3, &[Start(1), Start(1)], 1, WorldFault::NodeUp),
     // A release when nothing waits does nothing. A message that does not exist is reported before a
     // node that is down.
     (
         3,
-        "start 1, release 1, run 1 0, deliver 0 2",
+        &[Start(1), Release(1), Run(1, 0), Deliver(0, 2)],
         3,
         WorldFault::NoMessage,
     ),
@@ -133,26 +153,18 @@ const ENDS: [(u8, &str, usize, WorldFault); 6] = [
 /// Shows running::run (size, refused): where a list of events ends early, and why.
 #[test]
 fn lists_that_end_early(rt: HostRuntime) -> Result<(), Fail> {
-    for (size, lines, event, fault) in ENDS {
-        assert!(rt; ends_at(rt.alloc(), size, lines, event, fault)?, "{lines}");
+    let program = reading_program(rt.alloc())?;
+    for (size, acts, event, fault) in ENDS {
+        let ended = group_after(rt.alloc(), &program, size, acts).err();
+        assert_eq!(rt; ended, Some(RunFault { event, fault }), "{acts:?}");
     }
     Ok(())
 }
 
-/// A key is typed at node 1, and the saves of nodes 2 and 3 fail. They start again, and the key is
-/// learned and shown at node 1. Then node 2 crashes, the save of its start fails with the changed
-/// record, and it starts once more: four starts are counted.
-const STARTS: &str =
-    "start 1, start 2, start 3, campaign 1, deliver 0 1, deliver 0 2, deliver 0 3, deliver 1 1, deliver 2 1, deliver 3 1, type 1 48, tick 1, deliver 4 1, deliver 6 2 failnew, deliver 6 3 failold, start 2, start 3, deliver 6 2, deliver 6 3, deliver 7 1, deliver 8 1, run 1 1000, release 1, crash 2, start 2 failnew, start 2";
-
-/// Shows running::run (happens), World::record: four starts of node 2 are counted, also the one
-/// whose save fails.
+/// Shows read_script (read): the session of a script, which no command prints.
 #[test]
-fn starts_are_counted(rt: HostRuntime) -> Result<(), Fail> {
-    let program = reading_program(rt.alloc())?;
-    let events = events_of(rt.alloc(), STARTS)?;
-    let after = After::run(rt.alloc(), &program, 3, events.as_slice())?;
-    assert_eq!(rt; after.starts(2), Some(4));
-    assert_eq!(rt; after.starts(1), Some(1));
+fn session_of_a_script(rt: HostRuntime) -> Result<(), Fail> {
+    let script = read_script(rt.alloc(), "size 3 session 4294967295")?;
+    assert_eq!(rt; script.session, 4_294_967_295);
     Ok(())
 }
