@@ -1,14 +1,13 @@
 //! Which nodes there are, a console, and the texts of refusals. The files below have what a node of
 //! a group of three refuses, what it sends byte by byte, and what its machine writes.
-mod acts;
 mod by_hand;
 mod datagrams;
 mod refusals;
 mod running;
+mod seat;
 mod traces;
 
 use group_node::{Config, Console, NodeFault, Offer};
-use std::alloc::Global;
 use std::test::Fail;
 
 /// Node, size and session, and the refusal.
@@ -27,11 +26,8 @@ const CONFIGS: [((u8, u8, u32), Option<NodeFault>); 8] = [
 #[test]
 fn nodes_of_groups(rt: HostRuntime) {
     for ((node, size, session), fault) in CONFIGS {
-        assert_eq!(rt;
-            Config::new(node, size, session).err(),
-            fault,
-            "node {node} of {size}"
-        );
+        let found = Config::new(node, size, session).err();
+        assert!(rt; found == fault, "node {node} of {size}");
     }
 }
 
@@ -46,9 +42,9 @@ fn console_and_learner_edges(rt: HostRuntime) -> Result<(), Fail> {
         (0, 0x41, Offer::Repeat),
         (2, 0x42, Offer::Gap),
     ] {
-        assert_eq!(rt; console.offer(number, byte), offer, "at {number}");
+        assert!(rt; console.offer(number, byte) == offer);
     }
-    assert_eq!(rt; console.bytes(), [0x41].as_slice());
+    assert!(rt; console.bytes() == [0x41].as_slice());
     Ok(())
 }
 
@@ -68,17 +64,12 @@ const TEXTS: [(NodeFault, &str); 12] = [
     (NodeFault::PlacesSpent, "D12"),
 ];
 
-fn text_of(alloc: Global, fault: NodeFault) -> Result<String, Fail> {
-    let text = format!(in alloc; "{fault}")?;
-    Ok(text)
-}
-
 /// Shows NodeFault::code, NodeFault::fmt (output): the text of each refusal is its code.
 #[test]
 fn texts_of_refusals(rt: HostRuntime) -> Result<(), Fail> {
     for (fault, expected) in TEXTS {
-        let text = text_of(rt.alloc(), fault)?;
-        assert_eq!(rt; text.as_str(), expected);
+        let text = format!(in rt.alloc(); "{fault}")?;
+        assert!(rt; text.as_str() == expected);
     }
     Ok(())
 }

@@ -7,7 +7,7 @@ use group_wire::{Host, Told, Wire};
 use paxos_acceptor::MemoryStore;
 use paxos_msg::Record;
 use pcode_ops::Program;
-use std::alloc::{AllocError, Global};
+use std::alloc::Global;
 use std::collections::VecDeque;
 use std::marker::Model;
 use std::test::Fail;
@@ -18,32 +18,31 @@ const TURNS: u32 = 40;
 /// The number of sends that fail, and of receives, each in a separate run.
 const FAILURES: u32 = 200;
 
-/// The failure: the send of this number, and the receive of this number, counted from 1. Number 0
-/// is none.
-#[derive(Clone, Copy)]
-struct Failure {
-    send: u32,
-    receive: u32,
-}
-
-/// The network between the nodes. Contracts see nothing of it.
+/// The network between the nodes, as the wire of the node whose turn it is. Contracts see nothing
+/// of it.
 struct Network {
     alloc: Global,
+    /// The node whose turn it is.
+    node: u8,
     /// The datagrams on their way to each node, the oldest first.
-    queues: Vec<VecDeque<Vec<u8>>>,
+    first: VecDeque<Vec<u8>>,
+    second: VecDeque<Vec<u8>>,
+    third: VecDeque<Vec<u8>>,
+    /// The number of sends up to the one that fails, and of receives. At 0 none fails any more.
     sends: u32,
     receives: u32,
-    failure: Failure,
 }
 
 impl Drop for Network {
     fn drop(self) {
         let Network {
             alloc: _alloc,
-            queues: _queues,
+            node: _node,
+            first: _first,
+            second: _second,
+            third: _third,
             sends: _sends,
             receives: _receives,
-            failure: _failure,
         } = self;
     }
 }
@@ -54,62 +53,50 @@ impl Model for Network {
     ghost view = { λ _. tt };
 }
 
-impl Network {
-    fn new(alloc: Global, failure: Failure) -> Result<Network, AllocError> {
-        let mut queues = Vec::new(alloc);
-        for _ in 0..3 {
-            queues.push(VecDeque::new(alloc))?;
-        }
-        Ok(Network {
-            alloc,
-            queues,
-            sends: 0,
-            receives: 0,
-            failure,
-        })
+/// Counts down to the one that fails. Returns true if this is it.
+fn is_failure(left: &mut u32) -> bool {
+    let is_last = *left == 1;
+    if *left > 0 {
+        *left -= 1;
     }
-
-    /// Puts a datagram on its way.
-    fn put(&mut self, to: u8, bytes: &[u8]) -> Result<bool, AllocError> {
-        let Some(queue) = self.queues.get_mut(usize::from(to.saturating_sub(1))) else {
-            return Ok(false);
-        };
-        queue.push_back(Vec::from_slice(self.alloc, bytes)?)?;
-        Ok(true)
-    }
-
-    /// Takes the oldest datagram on its way to a node.
-    fn take(&mut self, node: u8) -> Option<Vec<u8>> {
-        self.queues
-            .get_mut(usize::from(node.saturating_sub(1)))?
-            .pop_front()
-    }
-
-    /// Counts a send, and puts its datagram on its way. Returns false if it is the send that fails.
-    fn send(&mut self, to: u8, bytes: &[u8]) -> bool {
-        self.sends = self.sends.saturating_add(1);
-        if self.sends == self.failure.send {
-            return false;
-        }
-        self.put(to, bytes).unwrap_or(false)
-    }
-
-    /// Counts a receive, and takes the oldest datagram on its way to the node. Returns `None` if it
-    /// is the receive that fails.
-    fn receive(&mut self, node: u8) -> Option<Vec<u8>> {
-        self.receives = self.receives.saturating_add(1);
-        if self.receives == self.failure.receive {
-            return None;
-        }
-        self.take(node)
-    }
+    is_last
 }
 
-/// A node's wire.
-#[derive(Drop)]
-struct Port<'a> {
-    network: &'a mut Network,
-    node: u8,
+impl Network {
+    /// Makes a network whose send of this number fails, and whose receive of this number, counted
+    /// from 1. Number 0 is none.
+    fn new(alloc: Global, sends: u32, receives: u32) -> Network {
+        Network {
+            alloc,
+            node: 1,
+            first: VecDeque::new(alloc),
+            second: VecDeque::new(alloc),
+            third: VecDeque::new(alloc),
+            sends,
+            receives,
+        }
+    }
+
+    /// Puts a datagram on its way. Returns false if memory runs out.
+    fn put(&mut self, to: u8, bytes: &[u8]) -> bool {
+        let Ok(bytes) = Vec::from_slice(self.alloc, bytes) else {
+            return false;
+        };
+        match to {
+            1 => self.first.push_back(bytes).is_ok(),
+            2 => self.second.push_back(bytes).is_ok(),
+            _ => self.third.push_back(bytes).is_ok(),
+        }
+    }
+
+    /// Takes the oldest datagram on its way to the node whose turn it is.
+    fn take(&mut self) -> Option<Vec<u8>> {
+        match self.node {
+            1 => self.first.pop_front(),
+            2 => self.second.pop_front(),
+            _ => self.third.pop_front(),
+        }
+    }
 }
 
 /// Copies a datagram to the front of a buffer, cut to its length. Returns the number of bytes
@@ -122,43 +109,38 @@ fn copied(buffer: &mut [u8], bytes: &[u8]) -> usize
     count
 }
 
-impl Wire for Port<'_> {
+impl Wire for Network {
     ghost use Rattle.std.specs.Prelude.{None};
 
     ghost traffic = { λ _. None };
 
     fn send(&mut self, to: u8, bytes: &[u8]) -> bool {
-        self.network.send(to, bytes)
+        !is_failure(&mut self.sends) && self.put(to, bytes)
     }
 
     fn receive(&mut self, buffer: &mut [u8]) -> Option<usize> {
-        let bytes = self.network.receive(self.node)?;
-        Some(copied(buffer, bytes.as_slice()))
+        if is_failure(&mut self.receives) {
+            return None;
+        }
+        match self.take() {
+            Some(bytes) => Some(copied(buffer, bytes.as_slice())),
+            None => None,
+        }
     }
 
     fn tell(&mut self, _: &Told<'_>) {}
 }
 
-/// Starts node `node` of the group for the first time.
-fn started_host<'a>(
-    alloc: Global,
-    program: &'a Program,
-    node: u8,
-) -> Result<Host<'a, MemoryStore>, NodeFault> {
-    let config = Config::new(node, 3, 7)?;
-    match Host::start(alloc, program, config, MemoryStore::new(Record::new(alloc))) {
-        Ok(host) => Ok(host),
-        Err(refused) => Err(refused.fault),
-    }
-}
-
-/// A node of the group, and what it has released. Contracts see nothing of it, so that a test does
-/// not carry a node's state from one call to the next. Each call of the node is in a function of
-/// its own.
+/// A node of the group, and what it has released of the keys. Contracts see nothing of it, so that
+/// a test does not carry a node's state from one call to the next. Each call of the node is in a
+/// function of its own.
 struct Player<'a> {
     host: Host<'a, MemoryStore>,
     node: u8,
-    console: Vec<u8>,
+    /// The number of keys that were released, in order.
+    shown: u8,
+    /// True if something else was released, or a call failed.
+    is_wrong: bool,
 }
 
 impl<'a> Drop for Player<'a> {
@@ -166,7 +148,8 @@ impl<'a> Drop for Player<'a> {
         let Player {
             host: _host,
             node: _node,
-            console: _console,
+            shown: _shown,
+            is_wrong: _is_wrong,
         } = self;
     }
 }
@@ -178,93 +161,53 @@ impl<'a> Model for Player<'a> {
 }
 
 impl<'a> Player<'a> {
+    /// Starts node `node` of the group for the first time.
     fn start(alloc: Global, program: &'a Program, node: u8) -> Result<Player<'a>, NodeFault> {
-        let host = started_host(alloc, program, node)?;
-        Ok(Player {
-            host,
-            node,
-            console: Vec::new(alloc),
-        })
+        let config = Config::new(node, 3, 7)?;
+        match Host::start(alloc, program, config, MemoryStore::new(Record::new(alloc))) {
+            Ok(host) => Ok(Player {
+                host,
+                node,
+                shown: 0,
+                is_wrong: false,
+            }),
+            Err(refused) => Err(refused.fault),
+        }
     }
 
-    fn campaign(&mut self, network: &mut Network) -> Result<(), NodeFault> {
-        let node = self.node;
-        self.host.campaign(&mut Port { network, node })
+    fn campaign(&mut self, network: &mut Network) {
+        if self.host.campaign(network).is_err() {
+            self.is_wrong = true;
+        }
     }
 
     /// Types two keys at the node.
-    fn press(&mut self) -> Result<(), NodeFault> {
+    fn press(&mut self) {
         let mut typed: &[u8] = b"\x48\x51";
-        match self.host.press(&mut typed) {
-            Ok(_) => Ok(()),
-            Err(fault) => Err(fault),
+        if self.host.press(&mut typed).is_err() {
+            self.is_wrong = true;
         }
     }
 
-    /// Makes a turn of the node.
-    fn turn(&mut self, network: &mut Network) -> Result<(), NodeFault> {
-        let node = self.node;
-        match self.host.turn(&mut Port { network, node }) {
-            Ok(_) => Ok(()),
-            Err(fault) => Err(fault),
+    fn turn(&mut self, network: &mut Network) {
+        if self.host.turn(network).is_err() {
+            self.is_wrong = true;
         }
     }
 
-    fn unreleased(&self) -> usize {
-        self.host.unreleased()
-    }
-
-    /// Releases the first byte that waits.
-    fn release(&mut self) -> Result<(), AllocError> {
-        if let Some((_, byte)) = self.host.release() {
-            self.console.push(byte)?;
+    /// Releases the first byte that waits, which is to be the next key.
+    fn release(&mut self) {
+        match (self.shown, self.host.release()) {
+            (0, Some((0, 0x48))) => self.shown = 1,
+            (1, Some((1, 0x51))) => self.shown = 2,
+            (_, None) => {}
+            _ => self.is_wrong = true,
         }
-        Ok(())
-    }
-
-    /// Makes a turn of the node, and then releases all that waits.
-    fn play(&mut self, network: &mut Network) -> Result<(), Fail> {
-        self.turn(network)?;
-        for _ in 0..self.unreleased() {
-            self.release()?;
-        }
-        Ok(())
-    }
-
-    /// Returns true if the console shows the first of these bytes, and no others.
-    fn shows_first_of(&self, bytes: &[u8]) -> bool {
-        bytes.starts_with(self.console.as_slice())
-    }
-
-    /// Returns true if the console shows these bytes.
-    fn shows(&self, bytes: &[u8]) -> bool {
-        self.console.as_slice() == bytes
     }
 }
 
-/// The three nodes and the network between them. Contracts see nothing of it.
-struct Players<'a> {
-    network: Network,
-    players: Vec<Player<'a>>,
-}
-
-impl<'a> Drop for Players<'a> {
-    fn drop(self) {
-        let Players {
-            network: _network,
-            players: _players,
-        } = self;
-    }
-}
-
-impl<'a> Model for Players<'a> {
-    ghost Value = { Unit {0} };
-
-    ghost view = { λ _. tt };
-}
-
-/// Starts the three nodes, in order.
-fn started<'a>(alloc: Global, program: &'a Program) -> Result<Vec<Player<'a>>, Fail> {
+/// Starts the nodes 1, 2 and 3.
+fn started(alloc: Global, program: &Program) -> Result<Vec<Player<'_>>, Fail> {
     let mut players = Vec::new(alloc);
     for node in 1..=3 {
         players.push(Player::start(alloc, program, node)?)?;
@@ -272,103 +215,79 @@ fn started<'a>(alloc: Global, program: &'a Program) -> Result<Vec<Player<'a>>, F
     Ok(players)
 }
 
-impl<'a> Players<'a> {
-    fn start(alloc: Global, program: &'a Program, failure: Failure) -> Result<Players<'a>, Fail> {
-        let network = Network::new(alloc, failure)?;
-        let players = started(alloc, program)?;
-        Ok(Players { network, players })
-    }
-
-    /// Lets the first node campaign, and types two keys at it.
-    fn lead(&mut self) -> Result<(), NodeFault> {
-        let Some(first) = self.players.as_mut_slice().first_mut() else {
-            return Ok(());
-        };
-        first.campaign(&mut self.network)?;
-        first.press()
-    }
-
-    /// Makes a turn of each node.
-    fn play_all(&mut self) -> Result<(), Fail> {
-        for player in self.players.as_mut_slice().iter_mut() {
-            player.play(&mut self.network)?;
+/// Makes a turn of each node, and lets it release a byte. Before its first turn node 1 campaigns,
+/// and two keys are typed at it.
+fn play(players: &mut [Player<'_>], network: &mut Network, number: u32) {
+    for player in players.iter_mut() {
+        network.node = player.node;
+        if number == 0 && player.node == 1 {
+            player.campaign(network);
+            player.press();
         }
-        Ok(())
-    }
-
-    /// Returns true if each console shows the first of these bytes, and no others.
-    fn show_first_of(&self, bytes: &[u8]) -> bool {
-        for player in self.players.iter() {
-            if !player.shows_first_of(bytes) {
-                return false;
-            }
-        }
-        true
-    }
-
-    /// Returns true if each console shows these bytes.
-    fn show(&self, bytes: &[u8]) -> bool {
-        for player in self.players.iter() {
-            if !player.shows(bytes) {
-                return false;
-            }
-        }
-        true
+        player.turn(network);
+        player.release();
     }
 }
 
-/// Plays a group's turns with this failure.
-fn played(alloc: Global, program: &Program, failure: Failure) -> Result<Players<'_>, Fail> {
-    let mut players = Players::start(alloc, program, failure)?;
-    players.lead()?;
-    for _ in 0..TURNS {
-        players.play_all()?;
-    }
-    Ok(players)
+/// What the consoles of a group show in the end.
+#[derive(Clone, Copy, PartialEq, Eq)]
+enum Shown {
+    /// Each of them all keys.
+    All,
+    /// None of them what it must not.
+    Right,
+    /// One of them what it must not, or a call failed.
+    Wrong,
 }
 
-/// Plays a group's turns with this failure. Fails if a console shows what it must not. Returns true
-/// if all consoles show all keys.
-fn shows_all(alloc: Global, program: &Program, failure: Failure) -> Result<bool, Fail> {
-    let players = played(alloc, program, failure)?;
-    if !players.show_first_of(b"\x48\x51") {
-        let Failure { send, receive } = failure;
-        return Err(Fail::new(format_args!("send {send}, receive {receive}")));
+fn shown_by(players: &[Player<'_>]) -> Shown {
+    let mut shown = Shown::All;
+    for player in players.iter() {
+        if player.is_wrong {
+            return Shown::Wrong;
+        }
+        if player.shown < 2 {
+            shown = Shown::Right;
+        }
     }
-    Ok(players.show(b"\x48\x51"))
+    shown
+}
+
+/// Plays a group's turns over the network.
+fn played_over(alloc: Global, program: &Program, network: &mut Network) -> Result<Shown, Fail> {
+    let mut players = started(alloc, program)?;
+    for number in 0..TURNS {
+        play(players.as_mut_slice(), network, number);
+    }
+    Ok(shown_by(players.as_slice()))
+}
+
+/// The same, where the send of this number fails, and the receive of this number.
+fn played(alloc: Global, sends: u32, receives: u32) -> Result<Shown, Fail> {
+    let program = reading_program(alloc)?;
+    let mut network = Network::new(alloc, sends, receives);
+    played_over(alloc, &program, &mut network)
 }
 
 /// Shows Host::turn (turned), Host::press (pressed), Host::release (some, none), Wire::send
 /// (handed), Wire::receive (within, given, idle): if nothing fails, all consoles show all keys.
 #[test]
 fn no_wire_fails(rt: HostRuntime) -> Result<(), Fail> {
-    let program = reading_program(rt.alloc())?;
-    let failure = Failure {
-        send: 0,
-        receive: 0,
-    };
-    assert!(rt; shows_all(rt.alloc(), &program, failure)?);
+    assert!(rt; played(rt.alloc(), 0, 0)? == Shown::All);
     Ok(())
 }
 
-/// Shows Host::turn (turned): if one of the first 200 sends fails, no console shows what it
-/// must not.
+/// Shows Host::turn (turned): if one of the first 200 sends fails, or one of the first 200 receives
+/// gives nothing, no console shows what it must not.
 #[test]
-fn a_send_fails(rt: HostRuntime) -> Result<(), Fail> {
-    let program = reading_program(rt.alloc())?;
-    for send in 1..=FAILURES {
-        shows_all(rt.alloc(), &program, Failure { send, receive: 0 })?;
-    }
-    Ok(())
-}
-
-/// Shows Host::turn (turned): if one of the first 200 receives gives nothing, no console
-/// shows what it must not.
-#[test]
-fn a_receive_gives_nothing(rt: HostRuntime) -> Result<(), Fail> {
-    let program = reading_program(rt.alloc())?;
-    for receive in 1..=FAILURES {
-        shows_all(rt.alloc(), &program, Failure { send: 0, receive })?;
+fn a_wire_fails(rt: HostRuntime) -> Result<(), Fail> {
+    for number in 1..=FAILURES {
+        let sent = played(rt.alloc(), number, 0)?;
+        let received = played(rt.alloc(), 0, number)?;
+        assert!(rt;
+            sent != Shown::Wrong && received != Shown::Wrong,
+            "number {number}"
+        );
     }
     Ok(())
 }

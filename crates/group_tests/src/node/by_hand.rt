@@ -2,7 +2,6 @@
 ghost use Rattle.std.specs.Prelude.{◌≡◌, IfOk};
 
 use crate::program::reading_program;
-use std::marker::Model;
 use std::test::Fail;
 
 // docs/LIBRARY.md shows the lines from here on:
@@ -72,43 +71,21 @@ fn show(node: &mut Node<'_, MemoryStore>, console: &mut Console) -> Result<(), N
 
 // docs/LIBRARY.md shows the lines up to here.
 
-/// The node that leads, and its outbox. Contracts see nothing of it, so that its state is not
-/// carried further.
-struct Leader<'a> {
-    node: Node<'a, MemoryStore>,
-    outbox: Outbox,
-}
-
-impl<'a> Drop for Leader<'a> {
-    fn drop(self) {
-        let Leader {
-            node: _node,
-            outbox: _outbox,
-        } = self;
-    }
-}
-
-impl<'a> Model for Leader<'a> {
-    ghost Value = { Unit {0} };
-
-    ghost view = { λ _. tt };
-}
-
-fn led(alloc: Global, program: &Program) -> Result<Leader<'_>, Fail> {
+/// Returns the free places of the outbox in the end, and the number of shown bytes.
+fn by_hand(alloc: Global, program: &Program) -> Result<(usize, usize), Fail> {
     let mut outbox = Outbox::new(alloc)?;
     let Ok(mut node) = alone(alloc, program) else {
         return Err(Fail::from("no start"));
     };
     lead(&mut node, &mut outbox)?;
-    Ok(Leader { node, outbox })
+    let mut console = Console::new(alloc);
+    show(&mut node, &mut console)?;
+    Ok((outbox.free(), console.bytes().len()))
 }
 
-/// Returns the free places of the outbox in the end, and the number of shown bytes.
-fn by_hand(alloc: Global, program: &Program) -> Result<(usize, usize), Fail> {
-    let mut leader = led(alloc, program)?;
-    let mut console = Console::new(alloc);
-    show(&mut leader.node, &mut console)?;
-    Ok((leader.outbox.free(), console.bytes().len()))
+fn read_by_hand(alloc: Global) -> Result<(usize, usize), Fail> {
+    let program = reading_program(alloc)?;
+    by_hand(alloc, &program)
 }
 
 /// Shows Node::typed (ok, known), Node::campaign (responds), Node::on_message (responds),
@@ -116,7 +93,7 @@ fn by_hand(alloc: Global, program: &Program) -> Result<(usize, usize), Fail> {
 /// and the Ask of the tick are in the outbox, and no key is learned yet.
 #[test]
 fn node_by_hand(rt: HostRuntime) -> Result<(), Fail> {
-    let program = reading_program(rt.alloc())?;
-    assert_eq!(rt; by_hand(rt.alloc(), &program)?, (62, 0));
+    let (free, shown) = read_by_hand(rt.alloc())?;
+    assert!(rt; free == 62 && shown == 0);
     Ok(())
 }

@@ -1,47 +1,46 @@
 //! What a node refuses, and its state after that.
-use super::acts::Act::{
+use super::datagrams::Datagram::{Accept, Ask1, Ask2, Prepare};
+use super::seat::Act::{
     Campaigns, FailsNext, HasSentAll, Hears, HearsOfAllPlaces, IsStopped, Knows, Runs, Sends,
-    Ticks, Types, TypesMany,
+    Ticks, Types,
 };
-use super::acts::{Act, first_unlike};
-use super::datagrams::{ACCEPT, ASK_1, ASK_2, PREPARE};
+use super::seat::{Act, Line, Seat};
 use crate::program::{program, reading_program};
-use crate::seat::Seat;
 use group_node::To::All;
 use group_node::{NodeFault, Ran, StartRefused};
 use paxos_acceptor::{MemoryStore, Store};
 use paxos_msg::{Ballot, Record, Value, Vote, Votes};
 use pcode_ops::Program;
 use std::alloc::{AllocError, Global};
-use std::process::Abort;
 use std::test::Fail;
 use test_programs::READS;
 
-/// Returns a ballot of node 1.
-fn ballot(round: u32) -> Ballot {
-    Ballot { round, node: 1 }
+/// Fails if a line is answered otherwise than it says, with its number.
+pub fn agrees(unlike: Option<usize>) -> Result<(), Fail> {
+    match unlike {
+        None => Ok(()),
+        Some(line) => Err(Fail::new(format_args!("line {line}"))),
+    }
 }
 
-/// Lets node 1 do all this after its first start. Returns the first line that it answers otherwise.
-fn fresh(
-    alloc: Global,
-    program: &Program,
-    lines: &[(Act, Option<NodeFault>)],
-) -> Result<Option<usize>, NodeFault> {
+/// Starts node 1 for the first time. Fails if it does not answer as the lines say. Returns its
+/// store.
+fn store_of_fresh(alloc: Global, program: &Program, lines: &[Line]) -> Result<MemoryStore, Fail> {
     let mut seat = Seat::fresh(alloc, program, 1)?;
-    Ok(first_unlike(&mut seat, lines))
+    agrees(seat.first_unlike(lines))?;
+    Ok(seat.into_store())
 }
 
-/// Asserts that node 1, after its first start over the program of the segment, answers as the lines
-/// say.
-pub fn assert_answers<H: Abort + AllocGlobal>(
-    rt: &H,
-    segment: &[u8],
-    lines: &[(Act, Option<NodeFault>)],
-) -> Result<(), Fail> {
-    let program = program(rt.alloc(), segment)?;
-    let unlike = fresh(rt.alloc(), &program, lines)?;
-    assert_eq!(rt; unlike, None);
+/// The same over the program of the segment.
+fn store_after(alloc: Global, segment: &[u8], lines: &[Line]) -> Result<MemoryStore, Fail> {
+    let program = program(alloc, segment)?;
+    store_of_fresh(alloc, &program, lines)
+}
+
+/// Fails if node 1, after its first start over the program of the segment, does not answer as the
+/// lines say.
+pub fn assert_answers(alloc: Global, segment: &[u8], lines: &[Line]) -> Result<(), Fail> {
+    store_after(alloc, segment, lines)?;
     Ok(())
 }
 
@@ -54,16 +53,16 @@ const FULL: Option<NodeFault> = Some(NodeFault::OutboxFull);
 fn outbox_is_full(rt: HostRuntime) -> Result<(), Fail> {
     let lines = [
         (Ticks, None),
-        (Types(0x48), None),
-        (Hears(&ASK_2), FULL),
+        (Types(0x48, 1), None),
+        (Hears(Ask2), FULL),
         (Campaigns, FULL),
         (Ticks, FULL),
         (Runs(1, Ran::More), None),
-        (Sends(All, &ASK_1), None),
+        (Sends(All, Ask1), None),
         (HasSentAll, None),
         (Campaigns, None),
     ];
-    assert_answers(&rt, &READS, &lines)
+    assert_answers(rt.alloc(), &READS, &lines)
 }
 
 /// Shows Node::tick (sends), Outbox::pop (value, packets): once the outbox is empty a tick
@@ -73,12 +72,12 @@ fn outbox_is_ready_after_a_pop(rt: HostRuntime) -> Result<(), Fail> {
     let lines = [
         (Ticks, None),
         (Ticks, FULL),
-        (Sends(All, &ASK_1), None),
+        (Sends(All, Ask1), None),
         (Ticks, None),
-        (Sends(All, &ASK_1), None),
+        (Sends(All, Ask1), None),
         (HasSentAll, None),
     ];
-    assert_answers(&rt, &READS, &lines)
+    assert_answers(rt.alloc(), &READS, &lines)
 }
 
 /// Shows Node::typed (ok, known, busy), Node::waiting (count): 256 keys wait, and the next is
@@ -86,11 +85,11 @@ fn outbox_is_ready_after_a_pop(rt: HostRuntime) -> Result<(), Fail> {
 #[test]
 fn most_keys_wait(rt: HostRuntime) -> Result<(), Fail> {
     let lines = [
-        (TypesMany(256), None),
-        (Types(0x48), Some(NodeFault::Busy)),
+        (Types(0x48, 256), None),
+        (Types(0x48, 1), Some(NodeFault::Busy)),
         (Knows(0, 256), None),
     ];
-    assert_answers(&rt, &READS, &lines)
+    assert_answers(rt.alloc(), &READS, &lines)
 }
 
 /// Shows Node::campaign (refuses), Node::known_front (front): once all places are learned a
@@ -102,189 +101,138 @@ fn places_are_spent(rt: HostRuntime) -> Result<(), Fail> {
         (Knows(65_536, 0), None),
         (Campaigns, Some(NodeFault::PlacesSpent)),
     ];
-    assert_answers(&rt, &READS, &lines)
+    assert_answers(rt.alloc(), &READS, &lines)
 }
 
-/// Returns a record with these counts, without votes.
-fn without_votes(alloc: Global, starts: u32, promised: Option<Ballot>) -> Record {
-    Record {
+/// Returns the ballot of node 1 of this round. There is none of round 0.
+fn ballot(round: u32) -> Option<Ballot> {
+    if round == 0 {
+        return None;
+    }
+    Some(Ballot { round, node: 1 })
+}
+
+/// Returns a store with so many starts, this promised ballot, and a vote under that one, if any. By
+/// the plan, if there is one, its next save fails and leaves the changed record or the old one.
+fn store_of(
+    alloc: Global,
+    starts: u32,
+    promised: Option<Ballot>,
+    voted: Option<Ballot>,
+    plan: Option<bool>,
+) -> Result<MemoryStore, AllocError> {
+    let mut votes = Vec::new(alloc);
+    if let Some(ballot) = voted {
+        votes.push(Vote {
+            place: 0,
+            ballot,
+            value: Value::Noop,
+        })?;
+    }
+    let mut store = MemoryStore::new(Record {
         starts,
         promised,
-        votes: Votes::new(Vec::new(alloc)),
-    }
-}
-
-/// Returns true if a campaign of node 1, which has promised a ballot of this round, is answered by
-/// `fault`.
-fn campaigns_above(
-    alloc: Global,
-    program: &Program,
-    round: u32,
-    fault: Option<NodeFault>,
-) -> Result<bool, NodeFault> {
-    let promised = without_votes(alloc, 1, Some(ballot(round)));
-    let mut seat = Seat::over(alloc, program, 1, promised)?;
-    Ok(first_unlike(&mut seat, &[(Campaigns, fault)]).is_none())
-}
-
-/// Shows Node::campaign (refuses): after the greatest round a campaign is `RoundsSpent`.
-#[test]
-fn rounds_are_spent(rt: HostRuntime) -> Result<(), Fail> {
-    let program = reading_program(rt.alloc())?;
-    for (round, fault) in [
-        (4_294_967_294, None),
-        (4_294_967_295, Some(NodeFault::RoundsSpent)),
-    ] {
-        assert!(rt;
-            campaigns_above(rt.alloc(), &program, round, fault)?,
-            "above round {round}"
-        );
-    }
-    Ok(())
-}
-
-/// Returns a record with a vote above its promise.
-fn bad(alloc: Global) -> Result<Record, AllocError> {
-    let mut votes = Vec::new(alloc);
-    votes.push(Vote {
-        place: 0,
-        ballot: ballot(2),
-        value: Value::Noop,
-    })?;
-    Ok(Record {
-        starts: 4,
-        promised: Some(ballot(1)),
         votes: Votes::new(votes),
-    })
+    });
+    store.fail_next(plan);
+    Ok(store)
 }
 
-/// Returns a store without a record, whose next save fails.
-fn failing(alloc: Global, is_kept: bool) -> MemoryStore {
-    let mut store = MemoryStore::new(Record::new(alloc));
-    store.fail_next(Some(is_kept));
-    store
-}
+/// The refusal of a start, or of a campaign after it, if any, and the store then.
+type Refused = (Option<NodeFault>, MemoryStore);
 
-/// The store over which a node is to start.
-#[derive(Clone, Copy)]
-enum Over {
-    AllStarts,
-    VoteAbovePromise,
-    FailingSave { is_kept: bool },
-}
-
-fn store(alloc: Global, over: Over) -> Result<MemoryStore, AllocError> {
-    match over {
-        Over::AllStarts => Ok(MemoryStore::new(without_votes(alloc, 4_294_967_295, None))),
-        Over::VoteAbovePromise => Ok(MemoryStore::new(bad(alloc)?)),
-        Over::FailingSave { is_kept } => Ok(failing(alloc, is_kept)),
+/// Starts node 1 over the store, and lets it campaign.
+fn refused_over(alloc: Global, program: &Program, store: MemoryStore) -> Refused {
+    match Seat::start(alloc, program, 1, store) {
+        Ok(mut seat) => match seat.does(Campaigns) {
+            Ok(_) => (None, seat.into_store()),
+            Err(fault) => (Some(fault), seat.into_store()),
+        },
+        Err(refused) => {
+            let StartRefused { fault, store } = refused;
+            (Some(fault), store)
+        }
     }
 }
 
-/// Returns the refusal of a start, and the number of starts that the store has after it.
-fn left(refused: &StartRefused<MemoryStore>) -> (NodeFault, u32) {
-    (refused.fault, refused.store.stored().starts)
+/// The same, over the reading program.
+fn refused(alloc: Global, store: MemoryStore) -> Result<Refused, Fail> {
+    let program = reading_program(alloc)?;
+    Ok(refused_over(alloc, &program, store))
 }
 
-/// Returns how a start over the store is refused, and the number of starts that the store has then.
-fn refusal(alloc: Global, program: &Program, store: MemoryStore) -> Option<(NodeFault, u32)> {
-    match Seat::start(alloc, program, 2, store) {
-        Ok(_) => None,
-        Err(refused) => Some(left(&refused)),
-    }
-}
+/// The starts of a store, the rounds of its promised ballot and of its vote, and whether its next
+/// save fails and leaves the changed record; what node 1 refuses over it, and the store's starts
+/// after that. The last two start, and campaign.
+const STARTS: [((u32, u32, u32, Option<bool>), Option<NodeFault>, u32); 6] = [
+    (
+        (4_294_967_295, 0, 0, None),
+        Some(NodeFault::StartsSpent),
+        4_294_967_295,
+    ),
+    ((4, 1, 2, None), Some(NodeFault::BadRecord), 4),
+    ((0, 0, 0, Some(false)), Some(NodeFault::Store), 0),
+    ((0, 0, 0, Some(true)), Some(NodeFault::Store), 1),
+    ((1, 4_294_967_295, 0, None), Some(NodeFault::RoundsSpent), 2),
+    ((1, 4_294_967_294, 0, None), None, 2),
+];
 
-/// Shows Node::start (once, from, plan): starts over a bad record, over the
-/// last start, and over a save that fails, with what the store then has.
+/// Shows Node::start (once, from, plan), Node::campaign (refuses): starts over the last start, over
+/// a vote above the promise, and over a save that fails; campaigns above the greatest round and the
+/// one below it. Then the store has as many starts as it had, or one more.
 #[test]
-fn refused_starts(rt: HostRuntime) -> Result<(), Fail> {
-    let program = reading_program(rt.alloc())?;
-    for (over, fault, starts) in [
-        (Over::AllStarts, NodeFault::StartsSpent, 4_294_967_295),
-        (Over::VoteAbovePromise, NodeFault::BadRecord, 4),
-        (Over::FailingSave { is_kept: false }, NodeFault::Store, 0),
-        (Over::FailingSave { is_kept: true }, NodeFault::Store, 1),
-    ] {
-        let store = store(rt.alloc(), over)?;
-        assert_eq!(rt; refusal(rt.alloc(), &program, store), Some((fault, starts)));
+fn refused_starts_and_campaigns(rt: HostRuntime) -> Result<(), Fail> {
+    for ((starts, promised, voted, plan), fault, left) in STARTS {
+        let store = store_of(rt.alloc(), starts, ballot(promised), ballot(voted), plan)?;
+        let (found, store) = refused(rt.alloc(), store)?;
+        assert!(rt; found == fault && store.stored().starts == left);
     }
     Ok(())
 }
 
 const STOPPED: Option<NodeFault> = Some(NodeFault::Stopped);
 
-/// Returns true if the save that this makes fails, nothing is sent, and each further call is
-/// `Stopped`.
-fn is_given_up(seat: &mut Seat<'_>, saves: Act, is_kept: bool) -> bool {
-    first_unlike(
-        seat,
-        &[
-            (FailsNext(is_kept), None),
-            (saves, Some(NodeFault::Store)),
-            (HasSentAll, None),
-            (IsStopped, None),
-            (Types(0x48), STOPPED),
-            (Hears(&ASK_1), STOPPED),
-            (Campaigns, STOPPED),
-            (Ticks, STOPPED),
-            (Runs(1, Ran::More), STOPPED),
-        ],
-    )
-    .is_none()
-}
-
-/// What a store has: the promised ballot, the number of starts, and the number of votes.
-type Kept = (Option<Ballot>, u32, usize);
-
-fn kept(store: &MemoryStore) -> Kept {
-    let record = store.stored();
-    (
-        record.promised,
-        record.starts,
-        record.votes.as_slice().len(),
-    )
-}
-
-/// Returns what the store of node 1 has after such a save that fails. Returns `None` if the node is
-/// not stopped.
-fn kept_after(
+/// Returns true if the save that this makes at node 1 fails, nothing is sent, each further call is
+/// `Stopped`, and the store then has its one start, a promise of this round, and so many votes.
+fn is_given_up(
     alloc: Global,
-    program: &Program,
     saves: Act,
     is_kept: bool,
-) -> Result<Option<Kept>, NodeFault> {
-    let mut seat = Seat::fresh(alloc, program, 1)?;
-    if !is_given_up(&mut seat, saves, is_kept) {
-        return Ok(None);
-    }
-    let store = seat.into_store();
-    Ok(Some(kept(&store)))
-}
-
-/// Asserts that after such a save that fails the store has the old record, or the changed one with
-/// so many votes.
-fn assert_kept<H: Abort + AllocGlobal>(
-    rt: &H,
-    program: &Program,
-    name: &str,
-    saves: Act,
+    promised: u32,
     votes: usize,
-) -> Result<(), Fail> {
-    let old = kept_after(rt.alloc(), program, saves, false)?;
-    assert_eq!(rt; old, Some((None, 1, 0)), "{name}");
-    let changed = kept_after(rt.alloc(), program, saves, true)?;
-    assert_eq!(rt; changed, Some((Some(ballot(1)), 1, votes)), "{name}");
-    Ok(())
+) -> Result<bool, Fail> {
+    let lines = [
+        (FailsNext(is_kept), None),
+        (saves, Some(NodeFault::Store)),
+        (HasSentAll, None),
+        (IsStopped, None),
+        (Types(0x48, 1), STOPPED),
+        (Hears(Ask1), STOPPED),
+        (Campaigns, STOPPED),
+        (Ticks, STOPPED),
+        (Runs(1, Ran::More), STOPPED),
+    ];
+    let store = store_after(alloc, &READS, &lines)?;
+    let record = store.stored();
+    let count = record.votes.as_slice().len();
+    Ok(record.starts == 1 && record.promised == ballot(promised) && count == votes)
 }
 
 /// Shows Node::fail_next (plan), Node::on_message (responds), Node::campaign (responds),
 /// Node::tick (sends), Node::typed (stopped), Node::run (stopped), Node::is_stopped,
-/// Node::into_store: after a save that failed nothing was sent, each call is `Stopped`, and the
-/// store has the old record or the changed one.
+/// Node::into_store: after a campaign, a Prepare or an Accept whose save failed nothing was sent,
+/// each call is `Stopped`, and the store has the old record or the changed one.
 #[test]
 fn saves_that_fail(rt: HostRuntime) -> Result<(), Fail> {
-    let program = reading_program(rt.alloc())?;
-    assert_kept(&rt, &program, "a campaign", Campaigns, 0)?;
-    assert_kept(&rt, &program, "a Prepare", Hears(&PREPARE), 0)?;
-    assert_kept(&rt, &program, "an Accept", Hears(&ACCEPT), 1)
+    for (saves, is_kept, promised, votes) in [
+        (Campaigns, false, 0, 0),
+        (Campaigns, true, 1, 0),
+        (Hears(Prepare), false, 0, 0),
+        (Hears(Prepare), true, 1, 0),
+        (Hears(Accept), false, 0, 0),
+        (Hears(Accept), true, 1, 1),
+    ] {
+        assert!(rt; is_given_up(rt.alloc(), saves, is_kept, promised, votes)?);
+    }
+    Ok(())
 }

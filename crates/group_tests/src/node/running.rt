@@ -1,6 +1,6 @@
 //! The machine of a node, whose output waits until it is released.
-use super::acts::Act::{HasOutput, ReleasesZeros, Runs};
 use super::refusals::assert_answers;
+use super::seat::Act::{HasOutput, HasReleasedAll, Releases, Runs};
 use crate::program::WRITES_300;
 use group_node::Ran::{Ended, Full, More};
 use pcode_machine::End;
@@ -19,13 +19,15 @@ fn full_after_263_steps(rt: HostRuntime) -> Result<(), Fail> {
         (HasOutput(256), None),
         (Runs(1, Full), None),
         (HasOutput(256), None),
-        (ReleasesZeros(0, 256), None),
+        (Releases(0, 256, 0), None),
+        (HasReleasedAll, None),
         (Runs(1000, Ended(End::Normal)), None),
-        (ReleasesZeros(256, 300), None),
+        (Releases(256, 300, 0), None),
+        (HasReleasedAll, None),
     ];
-    assert_answers(&rt, &WRITES_300, &one_by_one)?;
+    assert_answers(rt.alloc(), &WRITES_300, &one_by_one)?;
     let at_once = [(Runs(263, More), None), (Runs(1, Full), None)];
-    assert_answers(&rt, &WRITES_300, &at_once)
+    assert_answers(rt.alloc(), &WRITES_300, &at_once)
 }
 
 /// Shows Node::run (runs), Node::release (value, some): one run ends with `Full`, with steps to
@@ -35,9 +37,11 @@ fn full_in_one_call(rt: HostRuntime) -> Result<(), Fail> {
     let lines = [
         (Runs(1000, Full), None),
         (HasOutput(256), None),
-        (ReleasesZeros(0, 256), None),
+        (Releases(0, 256, 0), None),
+        (HasReleasedAll, None),
         (Runs(1000, Ended(End::Normal)), None),
-        (ReleasesZeros(256, 300), None),
+        (Releases(256, 300, 0), None),
+        (HasReleasedAll, None),
     ];
-    assert_answers(&rt, &WRITES_300, &lines)
+    assert_answers(rt.alloc(), &WRITES_300, &lines)
 }
