@@ -131,7 +131,7 @@ fn the_written_log(rt: HostRuntime) -> Result<(), Fail> {
     Ok(())
 }
 
-/// Sizes and events, and where each list ends and why. What comes behind that does not happen.
+/// Sizes and events, and where each list ends and why. What comes after that does not happen.
 const ENDS: [(u8, [Act; 4], usize, WorldFault); 6] = [
     (
         2,
