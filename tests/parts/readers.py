@@ -11,10 +11,16 @@ from shared.record import PLACES
 # Where a segment is in its file, its number, and how many procedures it has.
 Segment = collections.namedtuple("Segment", "begin length number count")
 # The record of node 2 in a group of size 3 and session 7 of one start, which has promised 1.1 and
-# voted at place 0 under it for the key H: whole in version 2, and as a log in version 1.
+# voted at place 0 under it for the key H: whole and as a log in version 2, and so in version 1.
 RECORD = bytes.fromhex("""
     50 52 02 02 03 00 00 00 07  00 00 00 01  00 00 00 01 01  00 00 00 01
     00 00 00 00  00 00 00 01 01  01 02 00 00 00 01 00 00 00 01 01 48""")
+LOG = bytes.fromhex("""
+    50 4C 02 02 03 00 00 00 07  01  02 00 00 00 01 01
+    03 00 00 00 00  00 00 00 01 01  01 02 00 00 00 01 00 00 00 01 01 48""")
+OLD_RECORD = bytes.fromhex("""
+    50 52 01 02 03 00 00 00 07  00 00 00 01  00 00 00 01 01  00 00 00 01
+    00 00 00 00  00 00 00 01 01  01 02 00 00 00 01 00 00 00 01 48""")
 OLD_LOG = bytes.fromhex("""
     50 4C 01 02 03 00 00 00 07  01  02 00 00 00 01 01
     03 00 00 00 00  00 00 00 01 01  01 02 00 00 00 01 00 00 00 01 48""")
