@@ -1,7 +1,7 @@
 //! Datagrams and their parts, by the calls that read and write them.
 use paxos_msg::{
-    Ballot, Body, Characters, Group, Msg, Value, Vote, Votes, WireFault, decode, encode, fits,
-    read_ballot, read_value, read_value_v1,
+    Ballot, Body, Characters, Group, Msg, Value, Vote, Votes, WireFault, encode, fits, read_ballot,
+    read_value, read_value_v1,
 };
 use std::alloc::{AllocError, Global};
 use std::test::Fail;
@@ -54,24 +54,6 @@ const KEY_V1: [u8; 11] = [
     0x01, 0x02, 0x00, 0x00, 0x00, 0x01, 0x00, 0x00, 0x00, 0x01, 0x48,
 ];
 
-/// Promise of node 2 under ballot 1.1 for all places, without votes.
-const PROMISE: [u8; 24] = [
-    0x50, 0x47, 0x02, 0x02, 0x02, 0x03, 0x00, 0x00, 0x00, 0x07, 0x00, 0x00, 0x00, 0x01, 0x01, 0x00,
-    0x00, 0x00, 0x00, 0x00, 0x01, 0x00, 0x00, 0x00,
-];
-
-/// Shows paxos_msg::decode (exact): a datagram that is cut anywhere is `Short`.
-#[test]
-fn cut_datagrams(rt: HostRuntime) -> Result<(), Fail> {
-    for bytes in [PREPARE.as_slice(), ACCEPT.as_slice(), PROMISE.as_slice()] {
-        for k in 0..bytes.len() {
-            let fault = decode(&bytes[..k], GROUP).err();
-            assert_eq!(rt; fault, Some(WireFault::Short), "{k}");
-        }
-    }
-    Ok(())
-}
-
 /// Returns a promise of node 2 under 1.1 with these keys of node 2 at `count` places from 0 on.
 fn promise_with(alloc: Global, count: u32, bytes: &[u8]) -> Result<Msg, AllocError> {
     let mut votes = Vec::new(alloc);
@@ -115,34 +97,34 @@ const TWO_VOTES: [u8; 66] = [
     0x01, 0x48,
 ];
 
-/// Shows ranges::fits, encoding::encode (ok): the bytes of a promise with two votes.
+/// Shows ranges::fits, encoding::encode (ok): the bytes of a promise with two votes; the longest
+/// promise has 440 bytes, and one with nine votes does not fit.
 #[test]
 fn promise_bytes_and_parts(rt: HostRuntime) -> Result<(), Fail> {
-    let two = promise_with(rt.alloc(), 2, b"H")?;
-    assert!(rt; fits(&two, GROUP));
-    let bytes = encode(rt.alloc(), &two, GROUP)?;
-    assert_eq!(rt; bytes.as_slice(), TWO_VOTES.as_slice());
-    Ok(())
-}
-
-/// Shows ranges::fits, encoding::encode (ok): the longest promise has 440 bytes, and one with nine
-/// votes does not fit.
-#[test]
-fn longest_promise(rt: HostRuntime) -> Result<(), Fail> {
-    let most = promise_with(rt.alloc(), 8, &[0x41; 32])?;
-    assert!(rt; fits(&most, GROUP));
-    assert_eq!(rt; encode(rt.alloc(), &most, GROUP)?.len(), 440);
-    let too_many = promise_with(rt.alloc(), 9, b"A")?;
-    assert!(rt; !fits(&too_many, GROUP));
+    for (count, keys, length) in [
+        (2, b"H".as_slice(), Some(66)),
+        (8, &[0x41; 32], Some(440)),
+        (9, b"A", None),
+    ] {
+        let message = promise_with(rt.alloc(), count, keys)?;
+        if fits(&message, GROUP) {
+            let bytes = encode(rt.alloc(), &message, GROUP)?;
+            assert!(rt; length == Some(bytes.len()), "{count}");
+            assert!(rt; count != 2 || bytes.as_slice() == TWO_VOTES.as_slice());
+        } else {
+            assert!(rt; length.is_none(), "{count}");
+        }
+    }
     Ok(())
 }
 
 /// Shows Characters::new (some): a slice of 1 to 32 bytes has characters.
 #[test]
 fn characters_of_slices(rt: HostRuntime) {
+    let bytes = [0x41u8; 33];
     for (len, is_some) in [(0, false), (1, true), (32, true), (33, false)] {
-        let bytes = [0x41u8; 33];
-        assert_eq!(rt; Characters::new(&bytes[..len]).is_some(), is_some, "{len}");
+        let is_so = Characters::new(&bytes[..len]).is_some() == is_some;
+        assert!(rt; is_so, "{len}");
     }
 }
 
@@ -175,12 +157,11 @@ const TELL: [u8; 26] = [
     0x00, 0x00, 0x00, 0x01, 0x00, 0x00, 0x00, 0x03, 0x01, 0x4a,
 ];
 
-/// Returns messages of the other kinds: the sender, the body and the bytes.
-fn messages_of_other_kinds() -> [(u8, Body, &'static [u8]); 5] {
+/// Returns a message of another kind: the sender, the body and the bytes.
+fn message(number: u32) -> (u8, Body, &'static [u8]) {
     let value = Value::Noop;
-    let promised = Ballot { round: 2, node: 3 };
-    [
-        (
+    match number {
+        0 => (
             2,
             Body::Accepted {
                 ballot: BALLOT,
@@ -189,17 +170,17 @@ fn messages_of_other_kinds() -> [(u8, Body, &'static [u8]); 5] {
             },
             &ACCEPTED,
         ),
-        (
+        1 => (
             3,
             Body::Refused {
                 ballot: BALLOT,
-                promised,
+                promised: Ballot { round: 2, node: 3 },
             },
             &REFUSED,
         ),
-        (2, Body::Submit { key: key(3, 0x4a) }, &SUBMIT),
-        (1, Body::Ask { from: 65536 }, &ASK),
-        (
+        2 => (2, Body::Submit { key: key(3, 0x4a) }, &SUBMIT),
+        3 => (1, Body::Ask { from: 65536 }, &ASK),
+        _ => (
             1,
             Body::Tell {
                 place: 65535,
@@ -207,17 +188,18 @@ fn messages_of_other_kinds() -> [(u8, Body, &'static [u8]); 5] {
             },
             &TELL,
         ),
-    ]
+    }
 }
 
 /// Shows ranges::fits, encoding::encode (ok): the bytes of the other kinds of messages.
 #[test]
 fn other_kinds(rt: HostRuntime) -> Result<(), Fail> {
-    for (sender, body, expected) in messages_of_other_kinds() {
+    for number in 0..5 {
+        let (sender, body, expected) = message(number);
         let message = Msg { sender, body };
-        assert!(rt; fits(&message, GROUP));
+        assert!(rt; fits(&message, GROUP), "{number}");
         let bytes = encode(rt.alloc(), &message, GROUP)?;
-        assert_eq!(rt; bytes.as_slice(), expected);
+        assert!(rt; bytes.as_slice() == expected, "{number}");
     }
     Ok(())
 }
@@ -230,7 +212,7 @@ fn single_fields(rt: HostRuntime) {
         (&PREPARE[10..], Ok((BALLOT, 5))),
         (&[0, 0, 0, 1, 4], Err(WireFault::Ballot)),
     ] {
-        assert_eq!(rt; read_ballot(bytes, GROUP), field);
+        assert!(rt; read_ballot(bytes, GROUP) == field, "{bytes:?}");
     }
     for (bytes, field) in [
         (&ACCEPT_ONE[19..], Ok((first_key(), 12))),
@@ -241,21 +223,22 @@ fn single_fields(rt: HostRuntime) {
         // Its character is where the count is, and is above 32.
         (&KEY_V1, Err(WireFault::Value)),
     ] {
-        assert_eq!(rt; read_value(bytes, GROUP), field);
+        assert!(rt; read_value(bytes, GROUP) == field, "{bytes:?}");
     }
 }
 
 /// Shows version1::read_value_v1 (exact): a value of version 1, whole, cut and of an unknown tag.
 #[test]
 fn values_of_version_1(rt: HostRuntime) {
-    assert_eq!(rt; read_value_v1(&KEY_V1, GROUP), Ok((first_key(), 11)));
-    assert_eq!(rt; read_value_v1(&[0], GROUP), Ok((Value::Noop, 1)));
-    assert_eq!(rt; read_value_v1(&[2], GROUP), Err(WireFault::Value));
+    for (bytes, field) in [
+        (KEY_V1.as_slice(), Ok((first_key(), 11))),
+        (&[0], Ok((Value::Noop, 1))),
+        (&[2], Err(WireFault::Value)),
+    ] {
+        assert!(rt; read_value_v1(bytes, GROUP) == field, "{bytes:?}");
+    }
     for k in 0..11 {
-        assert_eq!(rt;
-            read_value_v1(&KEY_V1[..k], GROUP),
-            Err(WireFault::Short),
-            "{k}"
-        );
+        let is_short = read_value_v1(&KEY_V1[..k], GROUP) == Err(WireFault::Short);
+        assert!(rt; is_short, "{k}");
     }
 }

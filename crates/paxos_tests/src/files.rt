@@ -1,70 +1,11 @@
-//! Records in files.
+//! A record in a file.
 use super::acceptor::{FIRST, ME, vote_for_none};
-use super::records::{BYTES, BYTES_V1, is_of_bytes};
-use super::voter::Voter;
-use paxos_acceptor::{Acceptor, AcceptorFault, FileStore, Store, StoreFault};
+use paxos_acceptor::{FileStore, Store, StoreFault};
 use paxos_msg::{Change, Record, Value};
 use std::fs;
 use std::marker::Model;
 use std::process::Abort;
 use std::test::Fail;
-
-/// Opens an acceptor whose record is in the file at `path`.
-pub fn in_file(
-    rt: &impl Abort,
-    files: HostRuntime,
-    path: &str,
-) -> Result<Voter<FileStore<HostRuntime>>, Fail> {
-    let store = FileStore::new(files, path, ME)?;
-    Ok(Voter::open(rt, files.alloc(), store))
-}
-
-/// Returns true if the file at `path` has these bytes.
-pub fn has(files: HostRuntime, path: &str, bytes: &[u8]) -> bool {
-    match fs::read(&files, path) {
-        Ok(read) => read.as_slice() == bytes,
-        Err(_) => false,
-    }
-}
-
-/// Checks that a file with these bytes has the record of `BYTES`, and after a start the whole
-/// record with one start more. It is read again then.
-pub fn becomes_whole(
-    rt: &impl Abort,
-    files: HostRuntime,
-    path: &str,
-    bytes: &[u8],
-) -> Result<(), Fail> {
-    fs::write(&files, path, bytes)?;
-    let mut voter = in_file(rt, files, path)?;
-    assert!(rt; is_of_bytes(voter.record()));
-    assert!(rt; has(files, path, bytes));
-    assert_eq!(rt; voter.start(), Ok(2));
-    let mut expected = BYTES;
-    expected[12] = 2;
-    assert!(rt; has(files, path, &expected));
-    assert_eq!(rt; in_file(rt, files, path)?.record().starts, 2);
-    fs::remove_file(&files, path)?;
-    Ok(())
-}
-
-/// Shows what no clause says: a file with a record of version 1 is loaded and left as it is. After
-/// a start it has the record in version 2.
-#[test]
-fn file_of_version_1(rt: HostRuntime) -> Result<(), Fail> {
-    becomes_whole(&rt, rt, "old_record_of_a_test", &BYTES_V1)
-}
-
-/// Shows Acceptor::new_start (counts), FileStore::faults: without a folder for it a file counts as
-/// missing, and no save succeeds.
-#[test]
-fn no_folder_for_a_file(rt: HostRuntime) -> Result<(), Fail> {
-    let mut voter = in_file(&rt, rt, "no_such_folder/record")?;
-    assert!(rt; voter.fails());
-    assert_eq!(rt; voter.start(), Err(AcceptorFault::Closed));
-    assert_eq!(rt; voter.into_store().faults(), 1);
-    Ok(())
-}
 
 /// A store in a file. Contracts see nothing of it, so that a test does not carry a record from one
 /// call to the next.
@@ -90,27 +31,17 @@ impl Kept {
         Ok(Kept { store })
     }
 
-    fn load(&mut self) -> Result<Record, StoreFault> {
-        self.store.load()
-    }
-
-    /// Loads the record, and returns its number of starts.
-    fn starts(&mut self) -> Result<u32, StoreFault> {
-        let record = self.store.load()?;
-        Ok(record.starts)
-    }
-
-    /// Saves these changes, one after another.
-    fn save(&mut self, changes: &[Change]) -> Result<(), StoreFault> {
-        for change in changes.iter() {
-            self.store.save(change)?;
+    /// Saves the change, or loads the record if there is none. Returns its number of starts then,
+    /// and whether it has the promise and the vote.
+    fn act(&mut self, change: Option<Change>) -> Result<Option<(u32, bool)>, StoreFault> {
+        if let Some(change) = change {
+            self.store.save(&change)?;
+            return Ok(None);
         }
-        Ok(())
-    }
-
-    /// Returns true if the device fails at a save.
-    fn fails(&mut self) -> bool {
-        self.store.save(&Change::Start) == Err(StoreFault::Device)
+        let record = self.store.load()?;
+        let has_voted = record.promised == Some(FIRST)
+            && record.votes.as_slice() == [vote_for_none(3, FIRST)].as_slice();
+        Ok(Some((record.starts, has_voted)))
     }
 
     fn faults(&self) -> u64 {
@@ -118,167 +49,88 @@ impl Kept {
     }
 }
 
-/// Returns true if the record has two starts, the first ballot's promise, and a vote for no key at
-/// place 3.
-fn has_voted(record: &Record) -> bool {
-    record.starts == 2
-        && record.promised == Some(FIRST)
-        && record.votes.as_slice() == [vote_for_none(3, FIRST)].as_slice()
-}
+const PATH: &str = "record_of_a_test";
 
-/// Saves these changes in the record of the file at `path`, one after another. Returns the number
-/// of starts that the record had before.
-fn save_in_file(rt: HostRuntime, path: &str, changes: &[Change]) -> Result<u32, Fail> {
-    let mut store = Kept::new(rt, path)?;
-    let starts = store.starts()?;
-    store.save(changes)?;
-    Ok(starts)
-}
+/// What others write to the file before, a change to save or a load, and what comes of it.
+type Step = (
+    Option<&'static [u8]>,
+    Option<Change>,
+    Result<Option<(u32, bool)>, StoreFault>,
+);
 
-/// Shows FileStore::new, FileStore::load, FileStore::save (notes): a file keeps what was saved,
-/// each save built on the one before.
-#[test]
-fn keeps_a_record_in_a_file(rt: HostRuntime) -> Result<(), Fail> {
-    let path = "record_of_a_test";
-    let _ = fs::remove_file(&rt, path);
-    let first = [
-        Change::Start,
-        Change::Promise(FIRST),
-        Change::Ballotted(3, FIRST, Value::Noop),
-    ];
-    assert_eq!(rt; save_in_file(rt, path, &first)?, 0);
-    assert_eq!(rt; save_in_file(rt, path, &[Change::Start])?, 1);
-    let record = Kept::new(rt, path)?.load()?;
-    assert!(rt; has_voted(&record));
-    fs::remove_file(&rt, path)?;
-    Ok(())
-}
-
-/// Returns how a store in the file at `path` is refused, and how many faults it has counted.
-fn refusal(rt: HostRuntime, path: &str) -> Result<Option<(AcceptorFault, u64)>, Fail> {
-    match Acceptor::open(rt.alloc(), FileStore::new(rt, path, ME)?, ME) {
-        Ok(_) => Ok(None),
-        Err(refused) => Ok(Some((refused.fault, refused.store.faults()))),
-    }
-}
-
-/// Paths, how a store there is refused, and how many faults it has counted then.
-const REFUSED: [(&str, (AcceptorFault, u64)); 4] = [
-    ("folder_of_a_test", (AcceptorFault::Store, 1)),
-    ("file_of_a_test/record", (AcceptorFault::Store, 1)),
-    ("file_of_a_test", (AcceptorFault::BadRecord, 0)),
-    ("/dev/zero", (AcceptorFault::Store, 1)),
+/// The first load finds no file.
+const MAKES: [Step; 4] = [
+    (None, None, Ok(Some((0, false)))),
+    (None, Some(Change::Start), Ok(None)),
+    (None, Some(Change::Promise(FIRST)), Ok(None)),
+    (
+        None,
+        Some(Change::Ballotted(3, FIRST, Value::Noop)),
+        Ok(None),
+    ),
 ];
 
-/// Shows Acceptor::open (once, plan), FileStore::faults: a folder in the file's place, a path
-/// through a file, and a file without an end are faults of the device, not missing files. An empty
-/// file is a bad record.
-#[test]
-fn files_that_cannot_be_read(rt: HostRuntime) -> Result<(), Fail> {
-    let _ = fs::remove_dir(&rt, "folder_of_a_test");
-    fs::create_dir(&rt, "folder_of_a_test")?;
-    fs::write(&rt, "file_of_a_test", b"")?;
-    for (path, refused) in REFUSED {
-        assert_eq!(rt; refusal(rt, path)?, Some(refused), "{path}");
-    }
-    fs::remove_dir(&rt, "folder_of_a_test")?;
-    fs::remove_file(&rt, "file_of_a_test")?;
-    Ok(())
-}
+/// The log of these changes.
+const LOG: &[u8] = b"PL\x02\x02\x03\0\0\0\x07\x01\x02\0\0\0\x01\x01\
+    \x03\0\0\0\x03\0\0\0\x01\x01\0";
 
-/// What is done to files, or to a store in one of them, and what it is then.
-#[derive(Clone, Copy)]
-enum Act {
-    CreatesFolder(&'static str),
-    RemovesFolder(&'static str),
-    Renames(&'static str, &'static str),
-    Has(&'static str, &'static [u8]),
-    /// The record is loaded, and has so many starts.
-    LoadsStarts(u32),
-    SavesStart,
-    /// The device fails at a save.
-    Fails,
-    HasFaults(u64),
-}
+/// Others leave a shorter file, an empty one, and then the first one again. Until it is loaded
+/// nothing is saved.
+const GOES_ON: [Step; 7] = [
+    (None, None, Ok(Some((1, true)))),
+    (Some(b"PL"), Some(Change::Start), Err(StoreFault::Device)),
+    (Some(b""), None, Err(StoreFault::Bad)),
+    (Some(LOG), Some(Change::Start), Err(StoreFault::Device)),
+    (None, None, Ok(Some((1, true)))),
+    (None, Some(Change::Start), Ok(None)),
+    (None, None, Ok(Some((2, true)))),
+];
 
-/// Does what the act says. Returns true if it is so.
-fn is_done(files: HostRuntime, store: &mut Kept, act: Act) -> bool {
-    match act {
-        Act::CreatesFolder(path) => fs::create_dir(&files, path).is_ok(),
-        Act::RemovesFolder(path) => fs::remove_dir(&files, path).is_ok(),
-        Act::Renames(from, to) => fs::rename(&files, from, to).is_ok(),
-        Act::Has(path, bytes) => has(files, path, bytes),
-        Act::LoadsStarts(count) => store.starts() == Ok(count),
-        Act::SavesStart => store.save(&[Change::Start]).is_ok(),
-        Act::Fails => store.fails(),
-        Act::HasFaults(count) => store.faults() == count,
-    }
-}
+/// Without its folder a file counts as missing, and no save succeeds.
+const FAILS: [Step; 2] = [
+    (None, None, Ok(Some((0, false)))),
+    (None, Some(Change::Start), Err(StoreFault::Device)),
+];
 
-/// Does all this, one after another. Returns the number of the first act that is otherwise.
-fn first_unlike(files: HostRuntime, store: &mut Kept, acts: &[Act]) -> Option<usize> {
-    for (number, act) in acts.iter().enumerate() {
-        if !is_done(files, store, *act) {
-            return Some(number);
+/// A folder in the file's place, a path through a file, and a file without an end cannot be loaded.
+const UNREADABLE: [Step; 1] = [(None, None, Err(StoreFault::Device))];
+
+/// Takes the steps with a store in the file at `path`, which counts so many faults. What others
+/// have written stays.
+fn take(
+    rt: &impl Abort,
+    files: HostRuntime,
+    path: &str,
+    steps: &[Step],
+    faults: u64,
+) -> Result<(), Fail> {
+    let mut store = Kept::new(files, path)?;
+    for (others, change, result) in steps {
+        if let Some(bytes) = others {
+            fs::write(&files, path, *bytes)?;
+        }
+        assert_eq!(rt; store.act(*change), *result);
+        if let Some(bytes) = others {
+            assert!(rt; fs::read(&files, path)?.as_slice() == *bytes);
         }
     }
-    None
-}
-
-/// Checks that all this is so with a store in the file at `path`, which is removed in the end.
-fn check_all(rt: &impl Abort, files: HostRuntime, path: &str, acts: &[Act]) -> Result<(), Fail> {
-    let mut store = Kept::new(files, path)?;
-    assert_eq!(rt; first_unlike(files, &mut store, acts), None);
-    fs::remove_file(&files, path)?;
+    assert_eq!(rt; store.faults(), faults);
     Ok(())
 }
 
-const FAULTY: &str = "faulty_record_of_a_test";
-
-const FAULTY_KEPT: &str = "faulty_record_of_a_test.kept";
-
-/// A folder takes the file's place for a while.
-const FAULTY_ACTS: [Act; 12] = [
-    Act::LoadsStarts(0),
-    Act::SavesStart,
-    Act::Renames(FAULTY, FAULTY_KEPT),
-    Act::CreatesFolder(FAULTY),
-    Act::Fails,
-    Act::RemovesFolder(FAULTY),
-    Act::Renames(FAULTY_KEPT, FAULTY),
-    Act::Fails,
-    Act::HasFaults(2),
-    Act::LoadsStarts(1),
-    Act::SavesStart,
-    Act::LoadsStarts(2),
-];
-
-/// Shows FileStore::save (notes), FileStore::load, FileStore::faults: after a save that failed a
-/// store saves no more until it is loaded.
+/// Shows FileStore::new, FileStore::load, FileStore::save (notes), FileStore::faults: a file keeps
+/// what was saved, each save built on the one before. After a save that failed a store saves no
+/// more until it is loaded. A file that cannot be read is a fault of the device, not a missing one.
 #[test]
-fn saves_no_more_after_a_fault(rt: HostRuntime) -> Result<(), Fail> {
-    let _ = fs::remove_dir(&rt, FAULTY);
-    let _ = fs::remove_file(&rt, FAULTY);
-    check_all(&rt, rt, FAULTY, &FAULTY_ACTS)
-}
-
-const WHOLE: &str = "whole_faulty_record_of_a_test";
-
-const WHOLE_NEW: &str = "whole_faulty_record_of_a_test.new";
-
-/// A folder takes the second file's place, and the file keeps its record.
-const WHOLE_ACTS: [Act; 5] = [
-    Act::LoadsStarts(1),
-    Act::CreatesFolder(WHOLE_NEW),
-    Act::Fails,
-    Act::RemovesFolder(WHOLE_NEW),
-    Act::Has(WHOLE, &BYTES),
-];
-
-/// Shows FileStore::save (notes): a save fails if the second file can't be written.
-#[test]
-fn no_second_file(rt: HostRuntime) -> Result<(), Fail> {
-    let _ = fs::remove_dir(&rt, WHOLE_NEW);
-    fs::write(&rt, WHOLE, &BYTES)?;
-    check_all(&rt, rt, WHOLE, &WHOLE_ACTS)
+fn keeps_a_record_in_a_file(rt: HostRuntime) -> Result<(), Fail> {
+    let _ = fs::remove_file(&rt, PATH);
+    take(&rt, rt, PATH, &MAKES, 0)?;
+    assert!(rt; fs::read(&rt, PATH)?.as_slice() == LOG);
+    take(&rt, rt, PATH, &GOES_ON, 2)?;
+    take(&rt, rt, "no_such_folder/record", &FAILS, 1)?;
+    for path in [".", "record_of_a_test/record", "/dev/zero"] {
+        take(&rt, rt, path, &UNREADABLE, 1)?;
+    }
+    fs::remove_file(&rt, PATH)?;
+    Ok(())
 }

@@ -1,7 +1,6 @@
 //! A learner in a group of three nodes.
-use paxos_learner::{Heard, Learner, LearnerFault};
+use paxos_learner::{Heard, Learner};
 use paxos_msg::{Ballot, Characters, Value};
-use std::alloc::Global;
 use std::test::Fail;
 
 const BALLOT: Ballot = Ballot { round: 1, node: 1 };
@@ -21,19 +20,6 @@ fn key() -> Value {
     keys(Characters::from(0x48))
 }
 
-/// Returns a learner that has heard of the key at places 1 and 2, and between these of no key at
-/// place 0. Returns its fronts too.
-fn with_a_hole(alloc: Global) -> Result<(Learner, [u32; 3]), LearnerFault> {
-    let mut learner = Learner::new(alloc, 3);
-    learner.on_tell(1, key())?;
-    let before = learner.known_front();
-    learner.on_tell(0, Value::Noop)?;
-    let after = learner.known_front();
-    learner.on_tell(2, key())?;
-    let last = learner.known_front();
-    Ok((learner, [before, after, last]))
-}
-
 /// Returns true if the input that the places from this one on add is this.
 fn adds(learner: &Learner, place: u32, bytes: &[u8]) -> bool {
     let mut input = learner.input_after(place);
@@ -46,53 +32,45 @@ fn adds(learner: &Learner, place: u32, bytes: &[u8]) -> bool {
 }
 
 /// Shows Learner::on_tell (ok), Learner::known_front (front, least), Learner::input_after,
-/// InputAfter::next (next_gives): the front rises over a hole that is filled, and a key at two
-/// places is read once.
+/// InputAfter::next (next_gives), Learner::input_len: the front rises over a hole that is filled,
+/// and a key at two places is read once. Of a batch whose first key was read before only the second
+/// one is read.
 #[test]
 fn console_and_learner_edges(rt: HostRuntime) -> Result<(), Fail> {
-    let (learner, fronts) = with_a_hole(rt.alloc())?;
-    assert_eq!(rt; fronts, [0, 2, 3]);
-    // The key is at two places, and is read once.
-    assert!(rt; adds(&learner, 0, b"H"));
+    let both = Characters::new(b"HI").ok_or("no characters")?;
+    let mut learner = Learner::new(rt.alloc(), 3);
+    for (place, value, front, length) in [
+        (1, key(), 0, 0),
+        (0, Value::Noop, 2, 1),
+        (2, key(), 3, 1),
+        (3, keys(both), 4, 2),
+    ] {
+        learner.on_tell(place, value)?;
+        assert!(rt; learner.known_front() == front, "place {place}");
+        assert!(rt; learner.input_len() == length, "place {place}");
+    }
+    // Places 2 and 3 add the second key alone.
+    for (place, input) in [(0, b"HI".as_slice()), (1, b"HI"), (2, b"I"), (3, b"I")] {
+        assert!(rt; adds(&learner, place, input), "from {place} on");
+    }
     Ok(())
-}
-
-/// Returns a learner that has heard of the first key at place 0, and of the first two at place 1.
-fn with_a_batch(alloc: Global) -> Result<Learner, LearnerFault> {
-    let both = Characters::new(b"HI").unwrap();
-    let mut learner = Learner::new(alloc, 3);
-    learner.on_tell(0, key())?;
-    learner.on_tell(1, keys(both))?;
-    Ok(learner)
-}
-
-/// Shows Learner::input_after, Learner::input_len, InputAfter::next (next_gives): of a batch whose
-/// first key was read before only the second one is read.
-#[test]
-fn a_batch_is_read_from_its_first_new_key_on(rt: HostRuntime) -> Result<(), Fail> {
-    let learner = with_a_batch(rt.alloc())?;
-    assert_eq!(rt; learner.input_len(), 2);
-    assert!(rt; adds(&learner, 0, b"HI"));
-    // Place 1 adds the second key alone.
-    assert!(rt; adds(&learner, 1, b"I"));
-    Ok(())
-}
-
-/// Returns a learner after three messages, two of one node and one of another, and its answers.
-fn heard(alloc: Global) -> Result<(Learner, [Heard; 3]), LearnerFault> {
-    let mut learner = Learner::new(alloc, 3);
-    let first = learner.on_accepted(1, BALLOT, 0, key())?;
-    let repeated = learner.on_accepted(1, BALLOT, 0, key())?;
-    let second = learner.on_accepted(3, BALLOT, 0, key())?;
-    Ok((learner, [first, repeated, second]))
 }
 
 /// Shows Learner::new, Learner::on_accepted (ok, answer), Learner::learned (value): a place is
 /// learned once two of three nodes have accepted. One node heard twice is not enough.
 #[test]
 fn two_of_three_are_a_majority(rt: HostRuntime) -> Result<(), Fail> {
-    let (learner, answers) = heard(rt.alloc())?;
-    assert_eq!(rt; answers, [Heard::Counted, Heard::Passed, Heard::Learned]);
-    assert_eq!(rt; learner.learned(0), Some(key()));
+    let mut learner = Learner::new(rt.alloc(), 3);
+    for (sender, answer, learned) in [
+        (1, Heard::Counted, None),
+        (1, Heard::Passed, None),
+        (3, Heard::Learned, Some(key())),
+    ] {
+        let heard = learner.on_accepted(sender, BALLOT, 0, key())?;
+        assert!(rt;
+            heard == answer && learner.learned(0) == learned,
+            "from {sender}"
+        );
+    }
     Ok(())
 }

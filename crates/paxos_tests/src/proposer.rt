@@ -1,9 +1,7 @@
 //! What a proposer proposes after given promises, and the next ballots.
 ghost use Rattle.std.specs.Prelude.{◌≡◌, ◌≤◌};
 
-use paxos_msg::{
-    Ballot, Body, BodyView, Characters, Group, Msg, Value, Vote, Votes, decode, encode, fits,
-};
+use paxos_msg::{Ballot, BodyView, Characters, Group, Value, Vote, decode};
 use paxos_proposer::{Proposer, ProposerFault, next_ballot};
 use std::alloc::Global;
 use std::process::Abort;
@@ -15,22 +13,19 @@ const GROUP: Group = Group {
     session: 7,
 };
 
-/// Returns a key of the first start of the node.
-fn key(node: u8, serial: u32, byte: u8) -> Value {
-    Value::Keys {
-        node,
-        start: 1,
-        first: serial,
-        bytes: Characters::from(byte),
-    }
-}
+/// A key of the first start of a node: the node, its serial and its character.
+type Key = (u8, u32, u8);
 
-/// Returns a vote under the ballot `round.node`.
-fn vote(place: u32, round: u32, node: u8, value: Value) -> Vote {
-    Vote {
-        place,
-        ballot: Ballot { round, node },
-        value,
+/// Returns a key as a value, or the value for no key.
+fn value_of(key: Option<Key>) -> Value {
+    match key {
+        Some((node, first, byte)) => Value::Keys {
+            node,
+            start: 1,
+            first,
+            bytes: Characters::from(byte),
+        },
+        None => Value::Noop,
     }
 }
 
@@ -58,34 +53,19 @@ impl Leader {
         }
     }
 
-    /// Hears by a datagram that the node promises the ballot from a place on, and reports the
-    /// votes. Returns `None` if the datagram cannot be written.
-    fn hear(
-        &mut self,
-        alloc: Global,
-        sender: u8,
-        first: u32,
-        votes: &[Vote],
-    ) -> Option<Result<Option<u32>, ProposerFault>> {
-        let body = Body::Promise {
-            ballot: self.proposer.ballot(),
-            first,
-            upto: 65_536,
-            votes: Votes::new(Vec::from_slice(alloc, votes).ok()?),
+    /// Hears a promise of its ballot, which has to reach all places. Returns false if the datagram
+    /// is none.
+    fn hear(&mut self, datagram: &[u8]) -> bool {
+        let Ok(view) = decode(datagram, GROUP) else {
+            return false;
         };
-        let message = Msg { sender, body };
-        if !fits(&message, GROUP) {
-            return None;
-        }
-        let bytes = encode(alloc, &message, GROUP).ok()?;
-        let view = decode(&bytes, GROUP).ok()?;
         let BodyView::Promise { ballot, .. } = &view.body else {
-            return None;
+            return false;
         };
         if *ballot != self.proposer.ballot() {
-            return None;
+            return false;
         }
-        Some(self.proposer.on_promise(view.sender, &view))
+        self.proposer.on_promise(view.sender, &view) == Ok(None)
     }
 
     /// Makes room, and proposes.
@@ -98,19 +78,17 @@ impl Leader {
         self.proposer.proposed(place)
     }
 
-    /// Returns the next place, how far the third node's promise goes, and whether it is done: all
-    /// places up to the last are covered, and no vote is kept from the third place on.
-    fn state(&self) -> (u32, u32, bool) {
-        let is_done = self.proposer.is_covered(65_535) && !self.proposer.is_kept_from(3);
+    /// Returns the next place, how far the third node's promise goes, whether all places up to the
+    /// last are covered, whether a vote is kept from the third place on, and whether the ballot is
+    /// given up after a refusal for this one.
+    fn state(&self, refused: Ballot) -> (u32, u32, bool, bool, bool) {
         (
             self.proposer.next_place(),
             self.proposer.coverage(3),
-            is_done,
+            self.proposer.is_covered(65_535),
+            self.proposer.is_kept_from(3),
+            self.proposer.on_refused(refused),
         )
-    }
-
-    fn on_refused(&self, ballot: Ballot) -> bool {
-        self.proposer.on_refused(ballot)
     }
 
     fn drop_ballot(self) {
@@ -119,52 +97,72 @@ impl Leader {
     }
 }
 
-/// Hears the parts of nodes 1 and 2. One node of three is no majority.
-fn hear_parts(rt: &impl Abort, alloc: Global, leader: &mut Leader) {
-    let first = [vote(0, 2, 2, key(2, 1, 0x41))];
-    assert_eq!(rt; leader.hear(alloc, 1, 0, &first), Some(Ok(None)));
-    assert_eq!(rt; leader.propose(None), Ok(None));
-    let second = [
-        vote(0, 1, 1, key(1, 1, 0x42)),
-        vote(2, 1, 1, key(1, 2, 0x43)),
-    ];
-    assert_eq!(rt; leader.hear(alloc, 2, 0, &second), Some(Ok(None)));
+/// What happens to a proposer: a datagram comes, or it proposes a value at a place, if any, with an
+/// offered value or without.
+#[derive(Clone, Copy)]
+enum Event {
+    Hears(&'static [u8]),
+    Proposes(Option<Option<Key>>, Result<Option<(u32, Option<Key>)>, ProposerFault>),
 }
 
-/// Returns what is proposed after that, at each place.
-fn proposals() -> [Option<Vote>; 4] {
-    [
-        Some(vote(0, 3, 3, key(2, 1, 0x41))),
-        Some(vote(1, 3, 3, Value::Noop)),
-        Some(vote(2, 3, 3, key(1, 2, 0x43))),
-        None,
-    ]
-}
-
-/// Checks that this is proposed.
-fn propose_all(rt: &impl Abort, leader: &mut Leader) {
-    for (place, proposal) in proposals().iter().enumerate() {
-        assert_eq!(rt; leader.propose(None), Ok(*proposal), "at {place}");
+/// Returns true if this happens. What is proposed is a vote under the ballot.
+fn happens(leader: &mut Leader, ballot: Ballot, event: Event) -> bool {
+    match event {
+        Event::Hears(datagram) => leader.hear(datagram),
+        Event::Proposes(offered, expected) => {
+            let offered = match offered {
+                Some(key) => Some(value_of(key)),
+                None => None,
+            };
+            let proposed = leader.propose(offered);
+            match expected {
+                Ok(Some((place, key))) => {
+                    let value = value_of(key);
+                    proposed
+                        == Ok(Some(Vote {
+                            place,
+                            ballot,
+                            value,
+                        }))
+                }
+                Ok(None) => proposed == Ok(None),
+                Err(fault) => proposed == Err(fault),
+            }
+        }
     }
 }
 
-/// Checks that a late part changes nothing that is proposed.
-fn hear_late(rt: &impl Abort, alloc: Global, leader: &mut Leader) {
-    let late = [vote(0, 2, 3, key(3, 1, 0x44))];
-    assert_eq!(rt; leader.hear(alloc, 3, 0, &late), Some(Ok(None)));
-    for (place, proposal) in proposals().iter().enumerate() {
-        let proposed = leader.proposed(place as u32);
-        assert_eq!(rt; proposed, proposal.map(|vote| vote.value), "at {place}");
+/// Checks that all this happens.
+fn check(rt: &impl Abort, leader: &mut Leader, ballot: Ballot, events: &[Event]) {
+    for (number, event) in events.iter().enumerate() {
+        assert!(rt; happens(leader, ballot, *event), "event {number}");
     }
 }
 
-/// Checks that an offered key is proposed at the next place.
-fn propose_offered(rt: &impl Abort, leader: &mut Leader) {
-    let proposed = leader.propose(Some(key(3, 2, 0x45)));
-    let expected = vote(3, 3, 3, key(3, 2, 0x45));
-    assert_eq!(rt; proposed, Ok(Some(expected)));
-    assert_eq!(rt; leader.state(), (4, 65_536, true));
-}
+/// Node 1 promises 3.3 and has a vote at place 0 under 2.2, node 2 has votes at places 0 and 2
+/// under 1.1, and node 3 is late and has one at place 0 under 2.3.
+const FROM_1: &[u8] = b"PG\x02\x02\x01\x03\0\0\0\x07\0\0\0\x03\x03\0\0\0\0\0\x01\0\0\x01\
+    \0\0\0\0\0\0\0\x02\x02\x01\x02\0\0\0\x01\0\0\0\x01\x01A";
+
+const FROM_2: &[u8] = b"PG\x02\x02\x02\x03\0\0\0\x07\0\0\0\x03\x03\0\0\0\0\0\x01\0\0\x02\
+    \0\0\0\0\0\0\0\x01\x01\x01\x01\0\0\0\x01\0\0\0\x01\x01B\
+    \0\0\0\x02\0\0\0\x01\x01\x01\x01\0\0\0\x01\0\0\0\x02\x01C";
+
+const FROM_3: &[u8] = b"PG\x02\x02\x03\x03\0\0\0\x07\0\0\0\x03\x03\0\0\0\0\0\x01\0\0\x01\
+    \0\0\0\0\0\0\0\x02\x03\x01\x03\0\0\0\x01\0\0\0\x01\x01D";
+
+/// One node of three is no majority. The late part changes nothing. In the end a key is offered.
+const WORKED: [Event; 9] = [
+    Event::Hears(FROM_1),
+    Event::Proposes(None, Ok(None)),
+    Event::Hears(FROM_2),
+    Event::Proposes(None, Ok(Some((0, Some((2, 1, 0x41)))))),
+    Event::Proposes(None, Ok(Some((1, None)))),
+    Event::Proposes(None, Ok(Some((2, Some((1, 2, 0x43)))))),
+    Event::Proposes(None, Ok(None)),
+    Event::Hears(FROM_3),
+    Event::Proposes(Some(Some((3, 2, 0x45))), Ok(Some((3, Some((3, 2, 0x45)))))),
+];
 
 /// Shows paxos_msg::decode (found), Proposer::begin, Proposer::on_promise (ok, answer),
 /// Proposer::reserve (ok), Proposer::next_accept (ok, answer, sure), Proposer::proposed,
@@ -173,59 +171,78 @@ fn propose_offered(rt: &impl Abort, leader: &mut Leader) {
 /// promises of two nodes, after a late part, and of an offered key.
 #[test]
 fn worked_promises(rt: HostRuntime) {
-    let alloc = rt.alloc();
-    let mut leader = Leader::begin(alloc, Ballot { round: 3, node: 3 }, 0);
-    hear_parts(&rt, alloc, &mut leader);
-    propose_all(&rt, &mut leader);
-    hear_late(&rt, alloc, &mut leader);
-    propose_offered(&rt, &mut leader);
-    assert!(rt; leader.on_refused(Ballot { round: 3, node: 3 }));
-    assert!(rt; !leader.on_refused(Ballot { round: 3, node: 2 }));
+    let ballot = Ballot { round: 3, node: 3 };
+    let mut leader = Leader::begin(rt.alloc(), ballot, 0);
+    check(&rt, &mut leader, ballot, &WORKED);
+    for (place, key) in [
+        (0, Some(Some((2, 1, 0x41)))),
+        (1, Some(None)),
+        (2, Some(Some((1, 2, 0x43)))),
+        (3, Some(Some((3, 2, 0x45)))),
+        (4, None),
+    ] {
+        let expected = match key {
+            Some(key) => Some(value_of(key)),
+            None => None,
+        };
+        assert!(rt; leader.proposed(place) == expected, "at {place}");
+    }
+    for (node, is_given_up) in [(3, true), (2, false)] {
+        let state = leader.state(Ballot { round: 3, node });
+        assert!(rt; state == (4, 65_536, true, false, is_given_up), "{node}");
+    }
     leader.drop_ballot();
 }
 
-/// Checks the ballot after one of round 4, and after the greatest round.
-fn next_ballots(rt: &impl Abort) {
-    let low = Ballot { round: 1, node: 1 };
-    let seen = Ballot { round: 4, node: 2 };
-    let next = Ballot { round: 5, node: 3 };
-    assert_eq!(rt; next_ballot(Some(low), Some(seen), 3), Ok(next));
-    let last = Ballot {
-        round: 4_294_967_295,
-        node: 1,
-    };
-    let spent = next_ballot(Some(last), None, 3);
-    assert_eq!(rt; spent, Err(ProposerFault::RoundsSpent));
-}
+/// Nodes 1 and 3 promise 5.3 for the last place.
+const LAST_OF_1: &[u8] = b"PG\x02\x02\x01\x03\0\0\0\x07\0\0\0\x05\x03\0\0\xFF\xFF\0\x01\0\0\0";
 
-/// Checks that at the last place one value is proposed, and none after it.
-fn propose_last(rt: &impl Abort, leader: &mut Leader) {
-    let proposed = leader.propose(Some(key(1, 1, 0x41)));
-    let expected = vote(65_535, 5, 3, key(1, 1, 0x41));
-    assert_eq!(rt; proposed, Ok(Some(expected)));
-    let spent = leader.propose(Some(Value::Noop));
-    assert_eq!(rt; spent, Err(ProposerFault::PlacesSpent));
-    assert_eq!(rt; leader.propose(None), Ok(None));
-}
+const LAST_OF_3: &[u8] = b"PG\x02\x02\x03\x03\0\0\0\x07\0\0\0\x05\x03\0\0\xFF\xFF\0\x01\0\0\0";
 
-/// Shows rounds::next_ballot (ok, spent), Proposer::next_accept (answer, spent): the next ballots,
-/// and a proposal at the last place. No clause says the texts of the faults.
+const LAST: [Event; 5] = [
+    Event::Hears(LAST_OF_1),
+    Event::Hears(LAST_OF_3),
+    Event::Proposes(
+        Some(Some((1, 1, 0x41))),
+        Ok(Some((65_535, Some((1, 1, 0x41))))),
+    ),
+    Event::Proposes(Some(None), Err(ProposerFault::PlacesSpent)),
+    Event::Proposes(None, Ok(None)),
+];
+
+/// Shows Proposer::next_accept (answer, spent): at the last place one value is proposed, and none
+/// after it. No clause says the texts of the faults.
 #[test]
 fn promise_bytes_and_parts(rt: HostRuntime) -> Result<(), Fail> {
-    next_ballots(&rt);
     let ballot = Ballot { round: 5, node: 3 };
     let mut leader = Leader::begin(rt.alloc(), ballot, 65_535);
-    for sender in [1, 3] {
-        let heard = leader.hear(rt.alloc(), sender, 65_535, &[]);
-        assert_eq!(rt; heard, Some(Ok(None)));
-    }
-    propose_last(&rt, &mut leader);
+    check(&rt, &mut leader, ballot, &LAST);
     let text = format!(in rt.alloc();
         "{} {} {}",
         ProposerFault::Memory,
         ProposerFault::RoundsSpent,
         ProposerFault::PlacesSpent
     )?;
-    assert_eq!(rt; text.as_str(), "P1 P2 P3");
+    assert!(rt; text.as_str() == "P1 P2 P3");
     Ok(())
+}
+
+/// Shows rounds::next_ballot (ok, spent): the ballot after one of round 4, and none after the
+/// greatest round.
+#[test]
+fn next_ballots(rt: HostRuntime) {
+    let last = Ballot {
+        round: 4_294_967_295,
+        node: 1,
+    };
+    for (promised, seen, next) in [
+        (
+            Ballot { round: 1, node: 1 },
+            Some(Ballot { round: 4, node: 2 }),
+            Ok(Ballot { round: 5, node: 3 }),
+        ),
+        (last, None, Err(ProposerFault::RoundsSpent)),
+    ] {
+        assert!(rt; next_ballot(Some(promised), seen, 3) == next);
+    }
 }
