@@ -73,16 +73,13 @@ fn promise_bytes_and_parts(rt: HostRuntime) -> Result<(), Fail> {
         else {
             panic!(rt; "no promise from {from} on");
         };
-        assert!(rt; first == from && upto == end, "from {from} on");
         let votes = votes.as_slice();
-        assert!(rt;
-            votes.first() == Some(&vote_for_none(from, FIRST)),
-            "from {from} on"
-        );
-        assert!(rt;
-            votes.last() == Some(&last) && votes.len() == count,
-            "from {from} on"
-        );
+        let is_so = first == from
+            && upto == end
+            && votes.len() == count
+            && votes.first() == Some(&vote_for_none(from, FIRST))
+            && votes.last() == Some(&last);
+        assert!(rt; is_so, "from {from} on");
     }
     Ok(())
 }

@@ -259,22 +259,24 @@ fn check_faults(rt: &impl Abort, alloc: Global, is_crash: bool) -> Result<(), Fa
             let saves = run(alloc, None, story, plan);
             let (sure, done) = saves.counts();
             assert!(rt; done == if is_crash { sure } else { 6 });
-            tried = check(rt, alloc, story, saves)?.saturating_add(tried);
+            let more = check(rt, alloc, story, saves)?;
+            tried = more.saturating_add(tried);
         }
     }
     assert!(rt; tried > 10_000);
     Ok(())
 }
 
-/// Shows LogStore::save (restarts), LogStore::load (good), MemoryDisk::left: a crash at each call
-/// of a load and of six saves, after each byte that it writes.
+/// Shows LogStore::save (saved, restarts), LogStore::load (found, good), MemoryDisk::left: a crash
+/// at each call of a load and of six saves, after each byte that it writes.
 #[test]
 fn crash_at_each_call(rt: HostRuntime) -> Result<(), Fail> {
     check_faults(&rt, rt.alloc(), true)
 }
 
-/// Shows LogStore::save (restarts, notes), LogStore::load (good): one call that fails, whatever it
-/// has done; then the record is loaded again, the other changes are saved, and a crash comes.
+/// Shows LogStore::save (restarts, notes, cause), LogStore::load (good, synced, cause): one call
+/// that fails, whatever it has done; then the record is loaded again, the other changes are saved,
+/// and a crash comes.
 #[test]
 fn one_call_fails(rt: HostRuntime) -> Result<(), Fail> {
     check_faults(&rt, rt.alloc(), false)

@@ -51,9 +51,10 @@ impl Kept {
 
 const PATH: &str = "record_of_a_test";
 
-/// What others write to the file before, a change to save or a load, and what comes of it.
+/// What others leave in place of the file before, if they do, a change to save or a load, and what
+/// comes of it.
 type Step = (
-    Option<&'static [u8]>,
+    Option<Option<&'static [u8]>>,
     Option<Change>,
     Result<Option<(u32, bool)>, StoreFault>,
 );
@@ -74,13 +75,41 @@ const MAKES: [Step; 4] = [
 const LOG: &[u8] = b"PL\x02\x02\x03\0\0\0\x07\x01\x02\0\0\0\x01\x01\
     \x03\0\0\0\x03\0\0\0\x01\x01\0";
 
-/// Others leave a shorter file, an empty one, and then the first one again. Until it is loaded
-/// nothing is saved.
-const GOES_ON: [Step; 7] = [
+/// The same with one start more.
+const LONGER: &[u8] = b"PL\x02\x02\x03\0\0\0\x07\x01\x02\0\0\0\x01\x01\
+    \x03\0\0\0\x03\0\0\0\x01\x01\0\x01";
+
+/// Others leave a shorter file, an empty one, a longer one and none, and each time the same bytes
+/// again: in the end in another file, which counts from the second load on. After a save that
+/// failed nothing is saved until the record is loaded.
+const GOES_ON: [Step; 14] = [
     (None, None, Ok(Some((1, true)))),
-    (Some(b"PL"), Some(Change::Start), Err(StoreFault::Device)),
-    (Some(b""), None, Err(StoreFault::Bad)),
-    (Some(LOG), Some(Change::Start), Err(StoreFault::Device)),
+    (
+        Some(Some(b"PL")),
+        Some(Change::Start),
+        Err(StoreFault::Device),
+    ),
+    (
+        Some(Some(LOG)),
+        Some(Change::Start),
+        Err(StoreFault::Device),
+    ),
+    (None, None, Ok(Some((1, true)))),
+    (
+        Some(Some(b"")),
+        Some(Change::Start),
+        Err(StoreFault::Device),
+    ),
+    (None, None, Err(StoreFault::Bad)),
+    (Some(Some(LOG)), None, Ok(Some((1, true)))),
+    (
+        Some(Some(LONGER)),
+        Some(Change::Start),
+        Err(StoreFault::Device),
+    ),
+    (Some(Some(LOG)), None, Ok(Some((1, true)))),
+    (Some(None), Some(Change::Start), Err(StoreFault::Device)),
+    (Some(Some(LOG)), None, Err(StoreFault::Device)),
     (None, None, Ok(Some((1, true)))),
     (None, Some(Change::Start), Ok(None)),
     (None, None, Ok(Some((2, true)))),
@@ -96,7 +125,7 @@ const FAILS: [Step; 2] = [
 const UNREADABLE: [Step; 1] = [(None, None, Err(StoreFault::Device))];
 
 /// Takes the steps with a store in the file at `path`, which counts so many faults. What others
-/// have written stays.
+/// have left stays.
 fn take(
     rt: &impl Abort,
     files: HostRuntime,
@@ -106,12 +135,17 @@ fn take(
 ) -> Result<(), Fail> {
     let mut store = Kept::new(files, path)?;
     for (others, change, result) in steps {
-        if let Some(bytes) = others {
-            fs::write(&files, path, *bytes)?;
+        match others {
+            Some(Some(bytes)) => fs::write(&files, path, *bytes)?,
+            Some(None) => fs::remove_file(&files, path)?,
+            None => {}
         }
         assert_eq!(rt; store.act(*change), *result);
-        if let Some(bytes) = others {
-            assert!(rt; fs::read(&files, path)?.as_slice() == *bytes);
+        if let Some(left) = others {
+            match (fs::read(&files, path), left) {
+                (Ok(read), Some(bytes)) => assert!(rt; read.as_slice() == *bytes),
+                (read, left) => assert!(rt; read.is_err() && left.is_none()),
+            }
         }
     }
     assert_eq!(rt; store.faults(), faults);
@@ -126,7 +160,7 @@ fn keeps_a_record_in_a_file(rt: HostRuntime) -> Result<(), Fail> {
     let _ = fs::remove_file(&rt, PATH);
     take(&rt, rt, PATH, &MAKES, 0)?;
     assert!(rt; fs::read(&rt, PATH)?.as_slice() == LOG);
-    take(&rt, rt, PATH, &GOES_ON, 2)?;
+    take(&rt, rt, PATH, &GOES_ON, 6)?;
     take(&rt, rt, "no_such_folder/record", &FAILS, 1)?;
     for path in [".", "record_of_a_test/record", "/dev/zero"] {
         take(&rt, rt, path, &UNREADABLE, 1)?;

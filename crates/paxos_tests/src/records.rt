@@ -1,7 +1,10 @@
 //! The bytes of records and logs, in both versions.
+ghost use Rattle.paxos_acceptor.specs.Records.{IsRecord};
+
 use super::acceptor::{FIRST, ME};
 use paxos_acceptor::{StoreFault, log_decode, record_decode, record_encode, record_migrate};
 use paxos_msg::{Characters, Record, Value, Vote};
+use std::alloc::Global;
 use std::process::Abort;
 use std::test::Fail;
 
@@ -101,15 +104,25 @@ fn has_vote(rt: &impl Abort, read: Result<Record, StoreFault>) -> Option<bool> {
 fn bytes_of_records(rt: HostRuntime) {
     let alloc = rt.alloc();
     for (bytes, [whole, whole_v1, log], taken) in ROWS {
-        let read = record_decode(alloc, bytes, ME);
-        assert_eq!(rt; has_vote(&rt, read), whole, "{bytes:?}");
-        let read = record_migrate(alloc, bytes, ME);
-        assert_eq!(rt; has_vote(&rt, read), whole_v1, "{bytes:?}");
         let (read, length) = match log_decode(alloc, bytes, ME) {
             Ok((record, length)) => (Ok(record), length),
             Err(fault) => (Err(fault), 0),
         };
-        assert_eq!(rt; (has_vote(&rt, read), length), (log, taken), "{bytes:?}");
+        let is_so = has_vote(&rt, record_decode(alloc, bytes, ME)) == whole
+            && has_vote(&rt, record_migrate(alloc, bytes, ME)) == whole_v1
+            && has_vote(&rt, read) == log
+            && length == taken;
+        assert!(rt; is_so, "{bytes:?}");
+    }
+}
+
+/// Returns true if the record is spelled by the bytes of version 2.
+fn is_spelled(alloc: Global, kept: &Record) -> bool
+    requires { IsRecord 3 kept.now }
+{
+    match record_encode(alloc, kept, ME) {
+        Ok(bytes) => bytes.as_slice() == WHOLE,
+        Err(_) => false,
     }
 }
 
@@ -117,8 +130,8 @@ fn bytes_of_records(rt: HostRuntime) {
 #[test]
 fn records_are_written_in_version_2(rt: HostRuntime) -> Result<(), Fail> {
     let record = record_decode(rt.alloc(), WHOLE, ME)?;
-    assert!(rt; record_encode(rt.alloc(), &record, ME)?.as_slice() == WHOLE);
+    assert!(rt; is_spelled(rt.alloc(), &record));
     let record = record_migrate(rt.alloc(), WHOLE_V1, ME)?;
-    assert!(rt; record_encode(rt.alloc(), &record, ME)?.as_slice() == WHOLE);
+    assert!(rt; is_spelled(rt.alloc(), &record));
     Ok(())
 }
