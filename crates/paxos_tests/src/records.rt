@@ -24,7 +24,7 @@ const LOG_V1: &[u8] = b"PL\x01\x02\x03\0\0\0\x07\x01\x02\0\0\0\x01\x01\
 
 /// Bytes, whether they are a record of version 2, one of version 1, and a log, each with the vote
 /// or without it, and how many of them are the log's header and whole entries.
-const ROWS: [(&[u8], [Option<bool>; 3], usize); 11] = [
+const ROWS: [(&[u8], [Option<bool>; 3], usize); 15] = [
     (WHOLE, [Some(true), None, None], 0),
     (WHOLE_V1, [None, Some(true), None], 0),
     (LOG, [None, None, Some(true)], 38),
@@ -53,14 +53,35 @@ const ROWS: [(&[u8], [Option<bool>; 3], usize); 11] = [
         [None, None, None],
         0,
     ),
-    // Of node 1; a promise of round 0; and a promise below another one.
+    // Of node 1; with an unknown tag; with promises of round 0 and of node 4; with a vote at place
+    // 65,536, and one for a value of an unknown tag; and with a promise below another one.
     (
         b"PL\x02\x01\x03\0\0\0\x07\x01\x02\0\0\0\x01\x01",
         [None, None, None],
         0,
     ),
     (
+        b"PL\x02\x02\x03\0\0\0\x07\x01\x04\x05\0\0",
+        [None, None, None],
+        0,
+    ),
+    (
         b"PL\x02\x02\x03\0\0\0\x07\x01\x02\0\0\0\0\x01",
+        [None, None, None],
+        0,
+    ),
+    (
+        b"PL\x02\x02\x03\0\0\0\x07\x01\x02\0\0\0\x01\x04",
+        [None, None, None],
+        0,
+    ),
+    (
+        b"PL\x02\x02\x03\0\0\0\x07\x01\x03\0\x01\0\0\0\0\0\x01\x01\0",
+        [None, None, None],
+        0,
+    ),
+    (
+        b"PL\x02\x02\x03\0\0\0\x07\x01\x03\0\0\0\0\0\0\0\x01\x01\x02",
         [None, None, None],
         0,
     ),
