@@ -72,10 +72,10 @@ fn records_of(alloc: Global, log: &[u8], lengths: &[usize]) -> Result<Vec<Record
     Ok(records)
 }
 
-/// Returns true if the record is one of these, from number `low` to `high`.
-fn is_one_of(record: &Record, records: &[Record], low: usize, high: usize) -> bool {
+/// Returns true if what was found is one of these, from number `low` to `high`.
+fn is_one_of(found: &Record, records: &[Record], low: usize, high: usize) -> bool {
     for (number, other) in records.iter().enumerate() {
-        if low <= number && number <= high && are_same(record, other) {
+        if low <= number && number <= high && are_same(found, other) {
             return true;
         }
     }
