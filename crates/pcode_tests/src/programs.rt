@@ -1,48 +1,36 @@
-//! A code file, its program, and the turns of a machine on it.
+//! A code file, its superinstructions, and the turns of a machine on it.
 use pcode_file::CodeFile;
-use pcode_machine::{End, Machine, Pause, Turn};
+use pcode_machine::{End, Machine, Turn};
 use pcode_ops::{Operation, Program, Pushed, Sink, Source, Superinstruction};
 use std::alloc::Global;
 use std::test::Fail;
 use test_programs::{PRINTS_A, code_file};
 
 /// Returns the file of a segment.
-fn file(alloc: Global, name: &[u8; 8], segment: &[u8]) -> Result<CodeFile, Fail> {
-    let bytes = code_file(alloc, name, segment)?;
-    let file = CodeFile::read(alloc, bytes.as_slice())
-        .ok()
-        .ok_or("a file")?;
-    Ok(file)
+fn file(alloc: Global, segment: &[u8]) -> Result<CodeFile, Fail> {
+    let bytes = code_file(alloc, b"LETTER  ", segment)?;
+    match CodeFile::read(alloc, bytes.as_slice()) {
+        Ok(file) => Ok(file),
+        Err(_) => Err(Fail::from("no file")),
+    }
+}
+
+/// Returns the program of a segment.
+fn program(alloc: Global, segment: &[u8]) -> Result<Program, Fail> {
+    match Program::check(alloc, file(alloc, segment)?) {
+        Ok(program) => Ok(program),
+        Err(_) => Err(Fail::from("no program")),
+    }
 }
 
 /// Shows CodeFile::read (found), CodeFile::name, CodeFile::segment (value), CodeFile::number,
 /// CodeFile::count (value, some), CodeFile::procedure (value): the parts of a code file.
 #[test]
 fn looks_at_a_file(rt: HostRuntime) -> Result<(), Fail> {
-    let file = file(rt.alloc(), b"LETTER  ", &PRINTS_A)?;
+    let file = file(rt.alloc(), &PRINTS_A)?;
     assert!(rt; file.name() == *b"LETTER  " && file.segment() == PRINTS_A.as_slice());
     assert!(rt; file.number() == 1 && file.count() == 1);
     assert!(rt; file.procedure(0).is_none() && file.procedure(2).is_none());
-    Ok(())
-}
-
-/// Returns the program of a segment.
-fn program(alloc: Global, name: &[u8; 8], segment: &[u8]) -> Result<Program, Fail> {
-    let program = Program::check(alloc, file(alloc, name, segment)?)
-        .ok()
-        .ok_or("a program")?;
-    Ok(program)
-}
-
-/// Shows Program::check (ok), Program::reached, Program::is_start: the reached offsets of a
-/// program.
-#[test]
-fn looks_at_a_program(rt: HostRuntime) -> Result<(), Fail> {
-    let program = program(rt.alloc(), b"LETTER  ", &PRINTS_A)?;
-    assert_eq!(rt; program.reached(), 10);
-    for (at, reached) in [(0, true), (2, false), (12, true), (13, false), (28, false)] {
-        assert_eq!(rt; program.is_start(at), reached, "at {at}");
-    }
     Ok(())
 }
 
@@ -54,118 +42,99 @@ const FUSES: [u8; 34] = [
     0x01, 0x01,
 ];
 
-/// Returns the superinstruction at an offset, if it is reached and one begins there.
-fn fused(program: &Program, at: u32) -> Option<Superinstruction> {
-    if !program.is_start(at) {
-        return None;
-    }
-    match program.superinstruction(at) {
-        Some(found) => Some(*found),
-        None => None,
-    }
-}
+/// Offsets that are reached, and the superinstruction that begins there, if there is one: with a
+/// store, with a branch, after a jump, and with bounds. RBP is fused with nothing.
+const FUSED: [(u32, Option<Superinstruction>); 5] = [
+    (
+        0,
+        Some(Superinstruction {
+            steps: 4,
+            operation: Some(Operation::Sum),
+            pushed: Pushed::Two(Source::Own(1), Source::Constant(5)),
+            sink: Sink::Own(1),
+            next: 5,
+        }),
+    ),
+    (
+        5,
+        Some(Superinstruction {
+            steps: 4,
+            operation: Some(Operation::Less),
+            pushed: Pushed::Two(Source::Own(1), Source::Constant(10)),
+            sink: Sink::Unless(12),
+            next: 10,
+        }),
+    ),
+    (
+        10,
+        Some(Superinstruction {
+            steps: 3,
+            operation: None,
+            pushed: Pushed::Two(Source::Own(1), Source::Constant(0)),
+            sink: Sink::Push,
+            next: 14,
+        }),
+    ),
+    (
+        13,
+        Some(Superinstruction {
+            steps: 4,
+            operation: None,
+            pushed: Pushed::Bounds(0, 9),
+            sink: Sink::Main(2),
+            next: 18,
+        }),
+    ),
+    (18, None),
+];
 
-/// Shows Program::superinstruction: which instructions are fused, with a store, with a branch,
-/// after a jump, and with bounds. RBP is fused with nothing.
+/// Shows Program::check (ok), Program::is_start, Program::superinstruction: which instructions are
+/// fused. An offset past the segment is not reached.
 #[test]
 fn fuses_instructions(rt: HostRuntime) -> Result<(), Fail> {
-    let program = program(rt.alloc(), b"FUSES   ", &FUSES)?;
-    let stores = Superinstruction {
-        steps: 4,
-        operation: Some(Operation::Sum),
-        pushed: Pushed::Two(Source::Own(1), Source::Constant(5)),
-        sink: Sink::Own(1),
-        next: 5,
-    };
-    let branches = Superinstruction {
-        steps: 4,
-        operation: Some(Operation::Less),
-        pushed: Pushed::Two(Source::Own(1), Source::Constant(10)),
-        sink: Sink::Unless(12),
-        next: 10,
-    };
-    let jumps = Superinstruction {
-        steps: 3,
-        operation: None,
-        pushed: Pushed::Two(Source::Own(1), Source::Constant(0)),
-        sink: Sink::Push,
-        next: 14,
-    };
-    let checks = Superinstruction {
-        steps: 4,
-        operation: None,
-        pushed: Pushed::Bounds(0, 9),
-        sink: Sink::Main(2),
-        next: 18,
-    };
-    for (at, wanted) in [(0, stores), (5, branches), (10, jumps), (13, checks)] {
-        assert_eq!(rt; fused(&program, at), Some(wanted), "at {at}");
+    let program = program(rt.alloc(), &FUSES)?;
+    for (at, wanted) in FUSED {
+        assert!(rt; program.is_start(at), "at {at}");
+        assert!(rt; program.superinstruction(at).copied() == wanted, "at {at}");
     }
-    assert!(rt; fused(&program, 18).is_none());
+    assert!(rt; !program.is_start(34));
     Ok(())
 }
 
-/// The bytes that are offered to a machine, and its turns. A byte that it does not want is not
-/// taken.
-const TURNS: [(Option<u8>, Turn); 12] = [
-    (None, Turn::Went),
-    (None, Turn::Went),
-    (None, Turn::Went),
-    (None, Turn::Went),
-    (None, Turn::Went),
-    (None, Turn::Went),
-    (None, Turn::Went),
-    (None, Turn::Went),
-    (None, Turn::Went),
-    (Some(7), Turn::Wrote(0x41)),
-    (None, Turn::Ended(End::Normal)),
-    (Some(7), Turn::Ended(End::Normal)),
+/// Reads a byte from unit 1 to word 3, and another one from unit 2, and writes that to unit 1.
+const READS_TWO: [u8; 44] = [
+    0x01, 0xa5, 0x03, 0x00, 0x01, 0x00, 0x00, 0x9e, 0x05, 0x02, 0xa5, 0x03, 0x00, 0x01, 0x00, 0x00,
+    0x9e, 0x05, 0x01, 0xa5, 0x03, 0x00, 0x01, 0x00, 0x00, 0x9e, 0x06, 0xc1, 0x00, 0x00, 0x02, 0x00,
+    0x04, 0x00, 0x07, 0x00, 0x24, 0x00, 0x01, 0x00, 0x02, 0x00, 0x01, 0x01,
 ];
 
-/// Returns true if a machine that is offered a byte takes this turn.
-fn takes_turn(machine: &mut Machine<'_>, offered: Option<u8>, turn: Turn) -> bool {
-    machine.step(offered) == turn
-}
+/// How often a byte is offered or none, and the turn of the machine. It takes a byte only where it
+/// wants one, so none of the sevens.
+const TURNS: [(u8, Option<u8>, Turn); 10] = [
+    (7, Some(7), Turn::Went),
+    (1, None, Turn::Waits),
+    (1, Some(0x48), Turn::TookAndWrote(0x48)),
+    (7, Some(7), Turn::Went),
+    (1, None, Turn::Waits),
+    (1, Some(0x49), Turn::Took),
+    (7, Some(7), Turn::Went),
+    (1, Some(7), Turn::Wrote(0x49)),
+    (1, None, Turn::Ended(End::Normal)),
+    (1, Some(7), Turn::Ended(End::Normal)),
+];
 
-/// Shows Machine::new (start), Machine::step: the turns of a program that writes a byte. A byte
+/// Shows Machine::new (start), Machine::step: the turns of a program that reads and writes. A byte
 /// that it does not want is not taken.
 #[test]
 fn steps_through_a_program(rt: HostRuntime) -> Result<(), Fail> {
-    let program = program(rt.alloc(), b"LETTER  ", &PRINTS_A)?;
-    let mut machine = Machine::new(rt.alloc(), &program).ok().ok_or("a machine")?;
-    for (offered, turn) in TURNS {
-        assert!(rt; takes_turn(&mut machine, offered, turn), "{turn:?}");
+    let program = program(rt.alloc(), &READS_TWO)?;
+    let Ok(mut machine) = Machine::new(rt.alloc(), &program) else {
+        return Err(Fail::from("no machine"));
+    };
+    for (times, offered, turn) in TURNS {
+        for _ in 0..times {
+            assert!(rt; machine.step(offered) == turn, "{turn:?}");
+        }
     }
-    Ok(())
-}
-
-/// Reads a byte from unit 1 to word 3, and ends: UNITREAD of one byte.
-const READS_ONE: [u8; 26] = [
-    0x01, 0xa5, 0x03, 0x00, 0x01, 0x00, 0x00, 0x9e, 0x05, 0xd7, 0xc1, 0x00, 0x02, 0x00, 0x04, 0x00,
-    0x06, 0x00, 0x12, 0x00, 0x01, 0x00, 0x02, 0x00, 0x01, 0x01,
-];
-
-/// Shows Machine::run (most, pauses), Machine::step: a run pauses at a read, and goes on after a
-/// byte.
-#[test]
-fn runs_and_takes_a_byte(rt: HostRuntime) -> Result<(), Fail> {
-    let program = program(rt.alloc(), b"READER  ", &READS_ONE)?;
-    let mut machine = Machine::new(rt.alloc(), &program).ok().ok_or("a machine")?;
-    assert_eq!(rt; machine.run(3), (3, Pause::Spent));
-    assert_eq!(rt; machine.run(100), (4, Pause::Wants));
-    assert_eq!(rt; machine.step(Some(0x48)), Turn::TookAndWrote(0x48));
-    assert_eq!(rt; machine.run(100), (1, Pause::Ended(End::Normal)));
-    Ok(())
-}
-
-/// Shows Machine::run (most, pauses): a run pauses after a byte that it wrote, after no step, and
-/// at the end.
-#[test]
-fn pauses_at_a_byte(rt: HostRuntime) -> Result<(), Fail> {
-    let program = program(rt.alloc(), b"LETTER  ", &PRINTS_A)?;
-    let mut machine = Machine::new(rt.alloc(), &program).ok().ok_or("a machine")?;
-    assert_eq!(rt; machine.run(100), (10, Pause::Wrote(0x41)));
-    assert_eq!(rt; machine.run(0), (0, Pause::Spent));
-    assert_eq!(rt; machine.run(1), (0, Pause::Ended(End::Normal)));
     Ok(())
 }
