@@ -64,7 +64,8 @@ enum Work {
 /// Returns true if help cannot be written.
 fn help_fails(alloc: Global, output: &mut Sink) -> Result<bool, AllocError> {
     let words = [String::from_str(alloc, "--help")?];
-    match asked_of(alloc, &words) {
+    let asked = asked_of(alloc, &words);
+    match &asked {
         Err(NotAsked::Help(help)) => Ok(write!(output, "{help}").is_err()),
         _ => Ok(false),
     }
