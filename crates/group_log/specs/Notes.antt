@@ -7,9 +7,9 @@ use Rattle.paxos_msg.specs.declared.message.Group.{Group}
 use Rattle.pcode_machine.specs.declared.turn.End.{End}
 use Rattle.pcode_machine.specs.declared.turn.End.TheVariants as program
 use Rattle.paxos_msg.specs.declared.limits.TheConstants.{PLACES}
-use Rattle.group_node.specs.declared.fault.NodeFault.{NodeFault}
-use Rattle.group_node.specs.declared.fault.NodeFault.TheVariants.{PlacesSpent}
-use Rattle.group_node.specs.Fault.{code_of}
+use Rattle.group_protocol.specs.declared.fault.NodeFault.{NodeFault}
+use Rattle.group_protocol.specs.declared.fault.NodeFault.TheVariants.{PlacesSpent}
+use Rattle.group_protocol.specs.Fault.{code_of}
 use Rattle.group_log.specs.declared.drops.Drops.{Drops}
 use Rattle.group_log.specs.declared.note.ProcessEnd.{ProcessEnd}
 use Rattle.group_log.specs.declared.note.ProcessEnd.TheVariants.{Turns, Node, Other}

@@ -3,8 +3,8 @@
 use Rattle.std.specs.Prelude.{ℕ, List, [], ◌++◌, codes, decimal}
 use Rattle.std.specs.Net.Text.{socket_text}
 use Rattle.digits.specs.Digits.{hex_text}
-use Rattle.group_node.specs.declared.packet.To.{To}
-use Rattle.group_node.specs.declared.packet.To.TheVariants as whom
+use Rattle.group_protocol.specs.declared.packet.To.{To}
+use Rattle.group_protocol.specs.declared.packet.To.TheVariants as whom
 use Rattle.group_log.specs.declared.traced.Call.{Call}
 use Rattle.group_log.specs.declared.traced.Call.TheVariants as call
 use Rattle.group_log.specs.declared.traced.Traced.{Traced}

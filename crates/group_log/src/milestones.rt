@@ -1,10 +1,8 @@
 //! What a node says once, as its session goes on.
 ghost use Rattle.std.specs.Prelude.{◌≡◌, ◌↔◌, false, length, Some};
 ghost use Rattle.pcode_machine.specs.declared.turn.End.{End};
-ghost use Rattle.group_node.specs.declared.player.Ran.TheVariants.{Ended};
 ghost use Rattle.group_log.specs.Milestones.{marks_of};
 
-use group_node::Ran;
 use paxos_msg::limits::PLACES;
 use pcode_machine::End;
 
@@ -26,12 +24,9 @@ pub fn marks_reached(places: u32) -> u8
     }
 }
 
-/// Returns the end of the program that a run has come to, if it was not noted before.
-pub fn end_to_note(was_noted: bool, ran: Ran) -> Option<End>
-    ensures { (end : End) → (result ≡ Some end) ↔ ((was_noted ≡ false) × (ran ≡ Ended end)) }
+/// Returns the end of the program that a run has come to, if it has and that was not noted before.
+pub fn end_to_note(was_noted: bool, reached: Option<End>) -> Option<End>
+    ensures { (end : End) → (result ≡ Some end) ↔ ((was_noted ≡ false) × (reached ≡ Some end)) }
 {
-    match ran {
-        Ran::Ended(end) if !was_noted => Some(end),
-        _ => None,
-    }
+    if was_noted { None } else { reached }
 }

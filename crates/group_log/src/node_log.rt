@@ -4,9 +4,10 @@ use crate::milestones::{end_to_note, marks_reached};
 use crate::note::{Note, line_of};
 use crate::role::Role;
 use crate::sends::Sends;
-use group_node::{Node, Ran};
+use group_protocol::Protocol;
 use paxos_acceptor::Store;
 use paxos_msg::{Ballot, Group};
+use pcode_machine::End;
 use std::alloc::Global;
 use std::io::Write;
 use std::time::{Clock, Duration, Instant, SystemTime};
@@ -81,7 +82,7 @@ impl<'a, H: Clock, E: Write> Log<'a, H, E> {
     }
 
     /// Notes that the node has started, and over which record.
-    pub fn started<S: Store>(&mut self, node: &Node<'_, S>, group: Group) {
+    pub fn started<S: Store>(&mut self, node: &Protocol<S>, group: Group) {
         let record = node.record();
         if record.starts == 1 && record.promised.is_none() {
             return self.note(&Note::StartedNew(group));
@@ -96,7 +97,7 @@ impl<'a, H: Clock, E: Write> Log<'a, H, E> {
 
     /// Notes what has changed since the last look: of the node's ballot, and how many places are
     /// taken.
-    pub fn look<S: Store>(&mut self, node: &Node<'_, S>) {
+    pub fn look<S: Store>(&mut self, node: &Protocol<S>) {
         if !self.is_on {
             return;
         }
@@ -114,7 +115,7 @@ impl<'a, H: Clock, E: Write> Log<'a, H, E> {
             self.note(&Note::Leads(ballot));
         }
         self.role = next;
-        self.look_at_places(node.known_front());
+        self.look_at_places(node.learner().known_front());
     }
 
     /// Notes that a half, three quarters, nine tenths or all of the places are taken, once each.
@@ -126,9 +127,10 @@ impl<'a, H: Clock, E: Write> Log<'a, H, E> {
         self.marks = reached;
     }
 
-    /// Notes the end of the program, when a run comes to it for the first time in this process.
-    pub fn ran(&mut self, ran: Ran) {
-        if let Some(end) = end_to_note(self.has_ended, ran) {
+    /// Notes the end of the program that a run has come to, if it has, for the first time in this
+    /// process.
+    pub fn ran(&mut self, reached: Option<End>) {
+        if let Some(end) = end_to_note(self.has_ended, reached) {
             self.note(&Note::Program(end));
             self.has_ended = true;
         }

@@ -3,7 +3,7 @@ ghost use Rattle.std.specs.Prelude.{◌≡◌, IfOk, string_bytes};
 ghost use Rattle.group_log.specs.Notes.{line_text};
 
 use crate::drops::Drops;
-use group_node::NodeFault;
+use group_protocol::NodeFault;
 use paxos_msg::limits::PLACES;
 use paxos_msg::{Ballot, Group};
 use pcode_machine::End;

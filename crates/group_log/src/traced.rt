@@ -4,7 +4,7 @@ ghost use Rattle.digits.specs.Digits.{hex_text};
 ghost use Rattle.group_log.specs.Traces.{bytes_traced, traced_line};
 
 use digits::hex_digits;
-use group_node::To;
+use group_protocol::To;
 use paxos_msg::Group;
 use std::alloc::{AllocError, Global};
 use std::fmt;

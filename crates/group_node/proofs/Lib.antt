@@ -1,14 +1,3 @@
-pub mod Elements
-mod PacketsFit
-mod ByCases
-mod Sending
-mod Campaigning
-mod Leaving
-mod Places
-mod Pumping
 mod Exact
 mod Seats
-mod NodeBackedAsMoreIsSent
-mod Saving
-mod WaitingKeys
 mod RunSteps

@@ -1,16 +1,4 @@
-pub mod Packets
-pub mod Known
-pub mod AcceptorRows
-pub mod LearnerRows
-pub mod WaitingKeys
-pub mod Pump
-pub mod ProposerRows
-pub mod Tick
-pub mod Protocol
-pub mod Backs
-pub mod Ranges
 pub mod Starting
-pub mod Steps
 pub mod World
 pub mod Inputs
 pub mod Output
@@ -19,5 +7,4 @@ pub mod Console
 pub mod States
 pub mod Calls
 pub mod Deeds
-pub mod Fault
 pub mod WrongSteps

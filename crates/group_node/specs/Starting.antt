@@ -3,20 +3,20 @@ use Rattle.std.specs.Prelude.{◌≡◌, ◌≢◌, ◌⊎◌, ◌↔◌, ◌<�
 use Rattle.paxos_msg.specs.Batches.{Record}
 use Rattle.paxos_acceptor.specs.Opening.{fault_of_load}
 use Rattle.paxos_acceptor.specs.Records.{IsRecord}
-use Rattle.paxos_acceptor.specs.Stores.{FailsAsPlanned, HasCause, IsOneOf, StoreKind}
+use Rattle.paxos_acceptor.specs.Stores.{FailsAsPlanned, CountsIf, IsOneOf, StoreKind}
 use Rattle.paxos_acceptor.specs.declared.me.Me.{Me}
 use Rattle.paxos_acceptor.specs.declared.store.StoreFault.{StoreFault}
-use Rattle.group_node.specs.Calls.{node_fault}
-use Rattle.group_node.specs.Known.{on_start}
+use Rattle.group_protocol.specs.Calls.{node_fault}
+use Rattle.group_protocol.specs.Known.{on_start}
 use Rattle.group_node.specs.Output.{no_progress}
-use Rattle.group_node.specs.Ranges.{IsInRange}
+use Rattle.group_protocol.specs.Ranges.{IsInRange}
 use Rattle.group_node.specs.States.{NodeState}
 use Rattle.pcode_file.specs.Parts.{Parts}
 use Rattle.paxos_msg.specs.Records.{changed}
 use Rattle.paxos_msg.specs.declared.record.Change.TheVariants.{Start}
-use Rattle.group_node.specs.declared.fault.NodeFault.{NodeFault}
-use Rattle.group_node.specs.declared.fault.NodeFault.TheVariants.{BadRecord, StartsSpent, Store}
-use Rattle.group_node.specs.declared.protocol.StartRefused.{StartRefused}
+use Rattle.group_protocol.specs.declared.fault.NodeFault.{NodeFault}
+use Rattle.group_protocol.specs.declared.fault.NodeFault.TheVariants.{BadRecord, StartsSpent, Store}
+use Rattle.group_node.specs.declared.node.StartRefused.{StartRefused}
 use Rattle.paxos_msg.specs.declared.limits.TheConstants.{LAST_START}
 
 -- The claim that the start is refused with this fault.
@@ -31,7 +31,7 @@ IsStartRefused (Err e) f = e.fault ≡ f
 -- one in its ranges has counted 4,294,967,295 starts. Then the store is as the load left it. A save
 -- that failed has used up the plan.
 -- Allows: any store, honest or not.
-pub record StartsOver {S : Type 0} (kind : StoreKind S) (me : Me) (kept : Record) (left : S)
+pub record StartsOnRecord {S : Type 0} (kind : StoreKind S) (me : Me) (kept : Record) (left : S)
     (result : Result (NodeState S) (StartRefused S)) : Type 0 where
   pub known : IfOk result (λ n. n.protocol.known ≡ (on_start me kept).node)
   pub bad : IsStartRefused result BadRecord ↔ ¬ IsRecord me.group.size kept
@@ -46,13 +46,13 @@ pub record StartsOver {S : Type 0} (kind : StoreKind S) (me : Me) (kept : Record
 -- Forbids: a node over a record that no load gave.
 abbrev pub StartsAfter : {S : Type 0} → StoreKind S → Me → Result Record StoreFault → S
     → Result (NodeState S) (StartRefused S) → Type 0
-StartsAfter kind me (Ok kept) left result = StartsOver kind me kept left result
+StartsAfter kind me (Ok kept) left result = StartsOnRecord kind me kept left result
 StartsAfter kind me (Err f) left result =
     result ≡ Err (record { fault = node_fault (fault_of_load f); store = left })
 
 -- A start over the answer of one load, and over the store that the load left.
 -- Forbids: a start over a second load.
-pub record StartsOnce {S : Type 0} (kind : StoreKind S) (me : Me) (store : S)
+pub record StartsByLoad {S : Type 0} (kind : StoreKind S) (me : Me) (store : S)
     (result : Result (NodeState S) (StartRefused S)) : Type 0 where
   pub answer : Result Record StoreFault
   pub left : S
@@ -69,7 +69,7 @@ pub record IsFresh {S : Type 0} (me : Me) (program : Parts) (n : NodeState S) : 
 -- The result of a start over a store that has this record: a node over the record with one more
 -- start, which the store then has too; or a refusal, whose store still has the record, or after a
 -- fault of the device perhaps that with the start counted.
-pub record StartsFrom {S : Type 0} (kind : StoreKind S) (me : Me) (store : S)
+pub record StartsHonestly {S : Type 0} (kind : StoreKind S) (me : Me) (store : S)
     (result : Result (NodeState S) (StartRefused S)) : Type 0 where
   pub known : IfOk result (λ n. n.protocol.known ≡ (on_start me (kind.state store).stored).node)
   pub saved : IfOk result
@@ -105,6 +105,6 @@ pub record StartsByPlan {S : Type 0} (kind : StoreKind S) (store : S)
   pub quiet : IfOk result
       (λ n. (kind.state n.protocol.store).faults ≡ (kind.state store).faults)
   pub cause : IfErr result
-      (λ e. HasCause (e.fault ≡ Store) (kind.state store).faults (kind.state e.store).faults)
+      (λ e. CountsIf (e.fault ≡ Store) (kind.state store).faults (kind.state e.store).faults)
   pub planned : kind.honest → kind.fails_at_will → IfErr result
       (λ e. e.fault ≡ Store → FailsStart kind store e)

@@ -20,9 +20,9 @@ use Rattle.paxos_learner.specs.Learner.{HasLearnedMore}
 use Rattle.paxos_learner.specs.Input.{front_values, keys_in_order, learned_input}
 use Rattle.group_node.specs.Console.{offered}
 use Rattle.group_node.specs.Deeds.{Deed, Idle, Start, Hear, Press, Campaign, Tick, Run, Release, Crash}
-use Rattle.group_node.specs.Known.{Response, Known}
-use Rattle.group_node.specs.WaitingKeys.{waiting_keys}
-use Rattle.group_node.specs.Steps.{messages_handed_out}
+use Rattle.group_protocol.specs.Known.{Response, Known}
+use Rattle.group_protocol.specs.WaitingKeys.{waiting_keys}
+use Rattle.group_protocol.specs.Steps.{messages_handed_out}
 
 -- A node that is up: what it has learned, its machine's configuration, the number of released
 -- bytes, and the keys that wait.

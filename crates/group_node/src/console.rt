@@ -2,7 +2,7 @@
 ghost use Rattle.std.specs.Prelude.{◌≡◌, ◌≢◌, ◌<◌, [], length, IfErr, OnOk};
 ghost use Rattle.group_node.specs.Console.{offer_answer, offered};
 
-use crate::fault::NodeFault;
+use group_protocol::NodeFault;
 use std::alloc::Global;
 use std::marker::Model;
 

@@ -11,31 +11,17 @@
 //! Tick each node from time to time, and let one node campaign, which then leads. docs/LIBRARY.md
 //! runs a node by hand. A refusal is a `NodeFault`: after `Memory` nothing has
 //! changed, and after `Store` the node is stopped. The module `laws` has what holds of each node
-//! and of its group.
+//! and of its group; those of its part in the protocol, which knows no machine, are laws of
+//! `group_protocol`.
 #![tactic(auto)]
 
-mod acceptor_rows;
-mod config;
 mod console;
-mod fault;
 pub mod laws;
-mod learner_rows;
 pub mod limits;
 mod node;
-mod outbox;
-mod packet;
 mod player;
-mod proposer_rows;
-mod protocol;
-mod pump;
-mod tick;
-mod waiting_keys;
 
-pub use config::Config;
 pub use console::{Console, Offer};
-pub use fault::NodeFault;
-pub use node::Node;
-pub use outbox::Outbox;
-pub use packet::{Packet, To};
+pub use group_protocol::{Config, NodeFault, Outbox, Packet, To};
+pub use node::{Node, StartRefused};
 pub use player::Ran;
-pub use protocol::StartRefused;

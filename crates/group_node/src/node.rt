@@ -5,30 +5,25 @@ ghost use Rattle.paxos_msg.specs.Datagrams.{Fits};
 ghost use Rattle.paxos_acceptor.specs.Calls.{FailsOnlyWith, IsAmong};
 ghost use Rattle.paxos_learner.specs.Learner.{IsFront};
 ghost use Rattle.paxos_msg.specs.declared.limits.TheConstants.{LAST_SERIAL, PLACES};
-ghost use Rattle.group_node.specs.declared.limits.TheConstants.{MOST_WAITING, TICK_PACKETS};
-ghost use Rattle.group_node.specs.Calls.{RefusesCampaign, RefusesIfStopped, Responds, Sends};
-ghost use Rattle.group_node.specs.Protocol.{answer_to, NeedsMemory};
-ghost use Rattle.group_node.specs.Known.{on_typed, front, new_key, next_serial};
-ghost use Rattle.group_node.specs.ProposerRows.{is_leading, own_ballot, on_campaign};
-ghost use Rattle.group_node.specs.Tick.{on_tick};
+ghost use Rattle.group_protocol.specs.declared.limits.TheConstants.{MOST_WAITING, TICK_PACKETS};
+ghost use Rattle.group_protocol.specs.Calls.{IsCampaignRefused, IsLet, RefusesIfStopped};
+ghost use Rattle.group_node.specs.Calls.{Responds, Sends};
+ghost use Rattle.group_protocol.specs.Protocol.{answer_to, NeedsMemory};
+ghost use Rattle.group_protocol.specs.Known.{on_typed, front, new_key, next_serial};
+ghost use Rattle.group_protocol.specs.ProposerRows.{is_leading, own_ballot, on_campaign};
+ghost use Rattle.group_protocol.specs.Tick.{on_tick};
 ghost use Rattle.group_node.specs.Output.{IsReplay, no_progress, RunsOn, unreleased_of};
 ghost use Rattle.group_node.specs.Player.{IsPlayed, progress_of};
-ghost use Rattle.group_node.specs.Ranges.{IsInRange};
-ghost use Rattle.group_node.specs.Starting.{IsFresh, StartsByPlan, StartsFrom, StartsOnce};
+ghost use Rattle.group_protocol.specs.Ranges.{IsInRange};
+ghost use Rattle.group_node.specs.Starting.{IsFresh, StartsByPlan, StartsHonestly, StartsByLoad};
 ghost use Rattle.group_node.specs.States.{input};
 
-use crate::config::Config;
-use crate::fault::{NodeFault, node_fault};
-use crate::laws::what_goes_out_fits;
-use crate::limits::MOST_WAITING;
-use crate::outbox::Outbox;
 use crate::player::{Player, Ran};
-use crate::protocol::{Protocol, StartRefused};
-use crate::waiting_keys::Waiting;
+use group_protocol::laws::{calls_keep_what_is_learned, what_goes_out_fits};
+use group_protocol::{Config, NodeFault, Outbox, Protocol, Waiting, node_fault};
 use paxos_acceptor::{Acceptor, OpenRefused, Store};
-use paxos_learner::laws::{input_grows, learned_stays};
-use paxos_learner::{KeySet, Learner};
-use paxos_msg::limits::{LAST_SERIAL, LAST_START};
+use paxos_learner::laws::input_grows;
+use paxos_msg::limits::LAST_START;
 use paxos_msg::{Ballot, Record, Value, View};
 use pcode_machine::laws::{run_is_after, same_run_on_longer_input};
 use pcode_ops::Program;
@@ -71,6 +66,13 @@ impl<'a, S: Store> Model for Node<'a, S> {
     ghost invariant = { λ n. IsPlayed (input n.protocol.known) n.player };
 }
 
+/// A store over which a node was not started, and why.
+#[derive(Drop)]
+pub struct StartRefused<S> {
+    pub fault: NodeFault,
+    pub store: S,
+}
+
 /// Makes the room of a node besides its acceptor: for the machine and its output, and for the keys
 /// that wait.
 fn room<'a>(alloc: Global, program: &'a Program) -> Result<(Player<'a>, Waiting), AllocError>
@@ -102,9 +104,9 @@ impl<'a, S: Store> Node<'a, S> {
         config: Config,
         store: S,
     ) -> Result<Node<'a, S>, StartRefused<S>>
-        ensures once { StartsOnce S.kind config store result }
+        ensures once { StartsByLoad S.kind config store result }
         ensures fresh { IfOk result (IsFresh config program.now) }
-        ensures from { S.kind.honest → StartsFrom S.kind config store result }
+        ensures from { S.kind.honest → StartsHonestly S.kind config store result }
         ensures plan { StartsByPlan S.kind store result }
         ensures others { IfErr result (λ e. IsAmong (NodeFault.Memory ∷ NodeFault.Store
             ∷ NodeFault.BadRecord ∷ NodeFault.StartsSpent ∷ []) e.fault) }
@@ -127,19 +129,9 @@ impl<'a, S: Store> Node<'a, S> {
             let store = acceptor.into_store();
             return Err(StartRefused { fault, store });
         };
-        let me = config.me();
         match acceptor.new_start() {
             Ok(_) => {
-                let protocol = Protocol {
-                    me,
-                    acceptor,
-                    learner: Learner::new(alloc, me.group.size),
-                    proposer: None,
-                    remembered: None,
-                    offered: KeySet::new(alloc),
-                    waiting,
-                    alloc,
-                };
+                let protocol = Protocol::new(alloc, &config, acceptor, waiting);
                 Ok(Node { protocol, player })
             }
             Err(fault) => Err(StartRefused {
@@ -174,17 +166,7 @@ impl<'a, S: Store> Node<'a, S> {
         ensures others { FailsOnlyWith (NodeFault.Stopped ∷ NodeFault.Busy
             ∷ NodeFault.SerialSpent ∷ []) result }
     {
-        let protocol = &mut self.protocol;
-        if protocol.is_stopped() {
-            return Err(NodeFault::Stopped);
-        }
-        if protocol.waiting.len() >= MOST_WAITING {
-            return Err(NodeFault::Busy);
-        }
-        if protocol.waiting.next_serial() > u64::from(LAST_SERIAL) {
-            return Err(NodeFault::SerialSpent);
-        }
-        Ok(protocol.on_typed(byte))
+        self.protocol.typed(byte)
     }
 
     /// Takes the message `view`: changes and saves what `on_message` defines for its kind, and puts
@@ -202,13 +184,10 @@ impl<'a, S: Store> Node<'a, S> {
         ensures others { FailsOnlyWith (NodeFault.Stopped ∷ NodeFault.OutboxFull
             ∷ NodeFault.Memory ∷ NodeFault.Store ∷ []) result }
     {
-        learned_stays();
+        calls_keep_what_is_learned();
         input_grows();
         same_run_on_longer_input();
-        self.protocol.let_in(outbox)?;
-        self.protocol.row(view, outbox)?;
-        self.protocol.drop_read();
-        Ok(())
+        self.protocol.on_message(view, outbox)
     }
 
     /// Begins the node's next ballot, as `on_campaign` defines, and puts its Prepare into `outbox`.
@@ -222,13 +201,13 @@ impl<'a, S: Store> Node<'a, S> {
     /// dropped.
     pub fn campaign(&mut self, outbox: &mut Outbox) -> Result<(), NodeFault>
         ensures responds { Responds S.kind on_campaign self outbox result }
-        ensures refuses { RefusesCampaign self outbox result }
+        ensures refuses { IsLet self.old.protocol outbox.old.packets
+            → IsCampaignRefused self.old.protocol.known result }
         ensures others { FailsOnlyWith (NodeFault.Stopped ∷ NodeFault.OutboxFull
             ∷ NodeFault.RoundsSpent ∷ NodeFault.PlacesSpent ∷ NodeFault.Memory
             ∷ NodeFault.Store ∷ []) result }
     {
-        self.protocol.let_in(outbox)?;
-        self.protocol.on_campaign(outbox)
+        self.protocol.campaign(outbox)
     }
 
     /// Does what a node does from time to time, as `on_tick` defines, and puts what it sends into
@@ -246,8 +225,7 @@ impl<'a, S: Store> Node<'a, S> {
         ensures others { FailsOnlyWith (NodeFault.Stopped ∷ NodeFault.OutboxFull
             ∷ NodeFault.Memory ∷ []) result }
     {
-        self.protocol.let_in(outbox)?;
-        self.protocol.on_tick(outbox)
+        self.protocol.tick(outbox)
     }
 
     /// Runs the machine for at most `steps` steps on the keys below the known front, while fewer
@@ -269,7 +247,7 @@ impl<'a, S: Store> Node<'a, S> {
         if self.protocol.is_stopped() {
             return Err(NodeFault::Stopped);
         }
-        Ok(self.player.run(&self.protocol.learner, steps))
+        Ok(self.player.run(self.protocol.learner(), steps))
     }
 
     /// Releases the first byte of the output that waits. Returns its number, which is the number of
@@ -303,20 +281,27 @@ impl<'a, S: Store> Node<'a, S> {
         self.player.unreleased_len()
     }
 
+    /// Returns the node's part in the protocol.
+    pub fn protocol(&self) -> &Protocol<S>
+        ensures { result.now ≡ self.now.protocol }
+    {
+        &self.protocol
+    }
+
     /// Returns the known front: the least place that is not learned, 0 to 65,536.
     pub fn known_front(&self) -> u32
         ensures front { result ≡ front self.now.protocol.known }
         ensures least { IsFront self.now.protocol.known.learner.learned result }
         ensures few { result ≤ PLACES }
     {
-        self.protocol.learner.known_front()
+        self.protocol.learner().known_front()
     }
 
     /// Returns the value that is learned at `place`, if one is. `place` may be any number.
     pub fn learned(&self, place: u32) -> Option<Value>
         ensures { result ≡ get self.now.protocol.known.learner.learned place }
     {
-        self.protocol.learner.learned(place)
+        self.protocol.learner().learned(place)
     }
 
     /// Returns the acceptor's record. An honest store has the same one, unless a save has failed.
@@ -338,8 +323,7 @@ impl<'a, S: Store> Node<'a, S> {
     pub fn ballot(&self) -> Option<Ballot>
         ensures { result ≡ own_ballot self.now.protocol.known.proposer }
     {
-        let proposer = self.protocol.proposer.as_ref()?;
-        Some(proposer.ballot())
+        self.protocol.ballot()
     }
 
     /// Returns true exactly if the node leads: it has a proposer, and under its ballot a majority
@@ -347,10 +331,7 @@ impl<'a, S: Store> Node<'a, S> {
     pub fn is_leading(&self) -> bool
         ensures { result ≡ is_leading self.now.protocol.known.proposer }
     {
-        match &self.protocol.proposer {
-            Some(proposer) => proposer.is_covered(proposer.next_place()),
-            None => false,
-        }
+        self.protocol.is_leading()
     }
 
     /// Returns the greatest ballot that a Refused has reported to the node in this start, if one
@@ -358,7 +339,7 @@ impl<'a, S: Store> Node<'a, S> {
     pub fn refusing_ballot(&self) -> Option<Ballot>
         ensures { result ≡ self.now.protocol.known.remembered }
     {
-        self.protocol.remembered
+        self.protocol.refusing_ballot()
     }
 
     /// Returns the number of typed keys that wait, at most 256.
@@ -366,7 +347,7 @@ impl<'a, S: Store> Node<'a, S> {
         ensures count { result ≡ length self.now.protocol.known.waiting }
         ensures few { result ≤ MOST_WAITING }
     {
-        self.protocol.waiting.len()
+        self.protocol.waiting()
     }
 
     /// Returns true exactly if a save has failed.
@@ -392,7 +373,7 @@ impl<'a, S: Store> Node<'a, S> {
             × (self.new.protocol.is_stopped ≡ self.old.protocol.is_stopped)
             × (self.new.progress ≡ self.old.progress) }
     {
-        self.protocol.acceptor.fail_next(plan);
+        self.protocol.fail_next(plan);
     }
 
     /// Returns the store as it is.

@@ -30,6 +30,18 @@ pub enum Ran {
     Ended(End),
 }
 
+impl Ran {
+    /// Returns how the program has ended, if it has.
+    pub fn end(self) -> Option<End>
+        ensures { (e : End) → (result ≡ Some e) ↔ (self ≡ Ran.Ended e) }
+    {
+        match self {
+            Ran::Ended(end) => Some(end),
+            _ => None,
+        }
+    }
+}
+
 /// The machine of a node, and its output.
 #[derive(Drop)]
 pub(crate) struct Player<'a> {

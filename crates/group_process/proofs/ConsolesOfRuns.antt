@@ -13,8 +13,9 @@ use Rattle.paxos_msg.specs.Fits.{IsGroup}
 use Rattle.paxos_acceptor.specs.declared.me.Me.{Me}
 use Rattle.group_node.specs.Deeds.{Campaign, Crash, Deed, Hear, Idle, Press, Release, Run, Start, Tick}
 use Rattle.group_node.specs.Output.{Progress, unreleased_of}
-use Rattle.group_node.specs.Packets.{Datagram}
-use Rattle.group_node.specs.States.{IsSize, input}
+use Rattle.group_protocol.specs.Packets.{Datagram}
+use Rattle.group_protocol.specs.States.{IsSize}
+use Rattle.group_node.specs.States.{input}
 use Rattle.group_wire.specs.Doings.{DoesAll, Doing, Working}
 use Rattle.group_wire.specs.Doings as wire
 use Rattle.group_wire.specs.Process.{IsProcess, started}
@@ -31,7 +32,7 @@ use Rattle.group_process.proofs.GroupLogs.{first, first_at}
 use Rattle.group_process.proofs.RunFronts.{ends_few}
 use Rattle.group_process.proofs.RunHistories.{IsAt, deed_is_entry, fall_is_history, history_then, stand_is_entry, start_is_entry}
 use Rattle.group_process.proofs.RunsShow.{LogLaws, down_before, node_there, run_shows}
-use Rattle.group_node.proofs.Elements.{first_in, rest_in}
+use Rattle.group_protocol.proofs.Elements.{first_in, rest_in}
 
 -- ---- one entry
 

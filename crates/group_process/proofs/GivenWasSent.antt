@@ -7,12 +7,12 @@ use Rattle.paxos_msg.specs.declared.message.Group.{Group}
 use Rattle.paxos_msg.specs.Batches.{Msg}
 use Rattle.paxos_msg.specs.Fits.{IsGroup}
 use Rattle.paxos_msg.specs.Datagrams.{message_at, Msgs}
-use Rattle.group_node.specs.declared.packet.To.{To}
-use Rattle.group_node.specs.declared.packet.To.TheVariants as whom
-use Rattle.group_node.specs.Packets.{Datagram}
+use Rattle.group_protocol.specs.declared.packet.To.{To}
+use Rattle.group_protocol.specs.declared.packet.To.TheVariants as whom
+use Rattle.group_protocol.specs.Packets.{Datagram}
 use Rattle.group_wire.specs.Traffic.{Letter, letters_of, letters_to}
 use Rattle.group_world.specs.Group.{message_of, messages_in}
-use Rattle.group_node.proofs.Elements.{first_in, in_cases, none_in, only_in, rest_in}
+use Rattle.group_protocol.proofs.Elements.{first_in, in_cases, none_in, only_in, rest_in}
 
 -- the letters for these nodes have these bytes
 same_bytes : (bytes : List ℕ) (nodes : List ℕ) (l : Letter) → Contains (map (λ i. record { to = i; bytes = bytes }) nodes) l → bytes ≡

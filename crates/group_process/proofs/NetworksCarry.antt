@@ -9,8 +9,8 @@ use Rattle.paxos_msg.specs.Batches.{Change, Record}
 use Rattle.paxos_msg.specs.Fits.{IsGroup, IsNode}
 use Rattle.paxos_acceptor.specs.declared.me.Me.{Me}
 use Rattle.group_node.specs.Deeds.{Deed, Hear, Start}
-use Rattle.group_node.specs.Known.{Response}
-use Rattle.group_node.specs.Packets.{Datagram}
+use Rattle.group_protocol.specs.Known.{Response}
+use Rattle.group_protocol.specs.Packets.{Datagram}
 use Rattle.group_wire.specs.Arrivals.{Spells}
 use Rattle.group_wire.specs.Doings.{DoesAll, DoesOnWire, Doing, FailsDeed, Working}
 use Rattle.group_wire.specs.Process.{IsProcess, started}
@@ -21,7 +21,7 @@ use Rattle.group_world.specs.Event.{HearsOf}
 use Rattle.group_process.specs.Network.{AreDelivered, AreLetters, IsNetworkLog, Received, entries_alone, given_for, received_at, received_by, received_in, received_in_run, with_given}
 use Rattle.group_process.specs.Runs.{AreRuns, Attempt, FailsToStart, GoesOn, IsAttempt, IsGroupLog, IsOver, NodeRun, Stand, Starts, end_after, run_end, ends_by, entries_of_attempt, entry_by, fall_of, record_left, silent_entry, unsaved}
 use Rattle.group_process.proofs.GivenWasSent.{ReadLaw, letter_sent, message_sent}
-use Rattle.group_node.proofs.Elements.{first_in}
+use Rattle.group_protocol.proofs.Elements.{first_in}
 
 -- ---- lists
 

@@ -11,8 +11,8 @@ use Rattle.paxos_msg.specs.Fits.{IsNode}
 use Rattle.paxos_msg.specs.Records.{empty_record}
 use Rattle.paxos_acceptor.specs.declared.me.Me.{Me}
 use Rattle.group_node.specs.Deeds.{Start}
-use Rattle.group_node.specs.Known.{Response}
-use Rattle.group_node.specs.Packets.{Datagram}
+use Rattle.group_protocol.specs.Known.{Response}
+use Rattle.group_protocol.specs.Packets.{Datagram}
 use Rattle.group_wire.specs.Doings.{DoesAll, Doing, Working}
 use Rattle.group_wire.specs.Process.{IsProcess, Process, started}
 use Rattle.group_world.specs.declared.event.Outcome.TheVariants.{Kept}

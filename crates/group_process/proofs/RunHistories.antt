@@ -5,11 +5,11 @@ use Rattle.pcode_file.specs.Parts.{Parts}
 use Rattle.paxos_msg.specs.declared.value.Value.{Value}
 use Rattle.paxos_msg.specs.Batches.{Change, Msg, Record}
 use Rattle.paxos_acceptor.specs.declared.me.Me.{Me}
-use Rattle.group_node.specs.Known.{Known, Response, front, new_key, next_serial, on_start, on_typed}
+use Rattle.group_protocol.specs.Known.{Known, Response, front, new_key, next_serial, on_start, on_typed}
 use Rattle.group_node.specs.Output.{Progress, no_progress}
-use Rattle.group_node.specs.Protocol.{on_message}
-use Rattle.group_node.specs.ProposerRows.{last_round, on_campaign}
-use Rattle.group_node.specs.Tick.{on_tick}
+use Rattle.group_protocol.specs.Protocol.{on_message}
+use Rattle.group_protocol.specs.ProposerRows.{last_round, on_campaign}
+use Rattle.group_protocol.specs.Tick.{on_tick}
 use Rattle.group_wire.specs.Doings.{DoesAll, Doing, FailsDeed, RespondsOnWire, Working}
 use Rattle.group_wire.specs.Doings as wire
 use Rattle.group_world.specs.declared.event.Outcome.TheVariants.{Kept}

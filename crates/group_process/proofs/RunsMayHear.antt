@@ -17,13 +17,13 @@ use Rattle.paxos_msg.specs.Datagrams.{Fits, spelling}
 use Rattle.paxos_msg.specs.Fits.{IsGroup}
 use Rattle.paxos_msg.specs.Records.{empty_record}
 use Rattle.paxos_acceptor.specs.declared.me.Me.{Me}
-use Rattle.group_node.specs.declared.packet.To.TheVariants as whom
+use Rattle.group_protocol.specs.declared.packet.To.TheVariants as whom
 use Rattle.group_node.specs.Deeds.{Campaign, Hear}
-use Rattle.group_node.specs.Known.{front}
-use Rattle.group_node.specs.Packets.{datagrams_of}
-use Rattle.group_node.specs.Protocol.{on_message}
-use Rattle.group_node.specs.ProposerRows.{next_ballot, on_campaign}
-use Rattle.group_node.specs.States.{IsSize}
+use Rattle.group_protocol.specs.Known.{front}
+use Rattle.group_protocol.specs.Packets.{datagrams_of}
+use Rattle.group_protocol.specs.Protocol.{on_message}
+use Rattle.group_protocol.specs.ProposerRows.{next_ballot, on_campaign}
+use Rattle.group_protocol.specs.States.{IsSize}
 use Rattle.group_wire.specs.Arrivals.{Spells}
 use Rattle.group_wire.specs.Doings.{DoesAll, Doing, Working}
 use Rattle.group_wire.specs.Process.{IsProcess, Process, started}
@@ -31,7 +31,7 @@ use Rattle.group_wire.specs.Traffic.{Letter, letters_of, letters_to}
 use Rattle.group_world.specs.declared.event.Outcome.TheVariants.{Kept}
 use Rattle.group_process.specs.Network.{AreDelivered, AreLetters, IsNetworkLog, MayHear, Received, entries_alone, received_by, received_in, received_in_run}
 use Rattle.group_process.specs.Runs.{AreRuns, Attempt, GoesOn, IsGroupLog, NodeRun, Starts, entry_by}
-use Rattle.group_node.proofs.Elements.{none_in, only_in}
+use Rattle.group_protocol.proofs.Elements.{none_in, only_in}
 
 -- the front of a node that has learned nothing
 no_entries : {X : Type 0} (xs : List X) → length xs ≡ 0 → xs ≡ []

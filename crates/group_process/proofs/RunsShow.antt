@@ -11,7 +11,7 @@ use Rattle.paxos_msg.specs.Batches.{Record}
 use Rattle.paxos_msg.specs.Fits.{IsGroup}
 use Rattle.paxos_acceptor.specs.declared.me.Me.{Me}
 use Rattle.group_node.specs.Deeds.{Start}
-use Rattle.group_node.specs.States.{IsSize}
+use Rattle.group_protocol.specs.States.{IsSize}
 use Rattle.group_wire.specs.Process.{started}
 use Rattle.group_world.specs.declared.event.Done.TheVariants.{Applied}
 use Rattle.group_world.specs.declared.event.Outcome.TheVariants.{Kept}
@@ -22,7 +22,7 @@ use Rattle.group_world.specs.Processes.{AlwaysLaterOfProcesses, AlwaysOfProcesse
 use Rattle.group_process.specs.Runs.{AreRuns, Attempt, ConsolesShowRuns, FailsToStart, GoesOn, IsAfterRuns, IsAttempt, IsLastIfOn, IsOver, NodeRun, Stand, Starts, ends_by, entries_of_attempt, entry_by, node_by, node_left, run_output, node_at_work, silent_entry}
 use Rattle.group_process.proofs.GroupLogs.{first, first_at}
 use Rattle.group_process.proofs.RunHistories.{IsAt, attempt_is_history, doings_are_entries, history_then, start_is_entry}
-use Rattle.group_node.proofs.Elements.{in_cases, none_in}
+use Rattle.group_protocol.proofs.Elements.{in_cases, none_in}
 
 -- ---- the node of a run
 

@@ -8,7 +8,7 @@ use Rattle.paxos_msg.specs.Fits.{IsNode}
 use Rattle.paxos_msg.specs.Records.{empty_record}
 use Rattle.paxos_acceptor.specs.declared.me.Me.{Me}
 use Rattle.group_node.specs.Deeds.{Hear, Start}
-use Rattle.group_node.specs.Packets.{Datagram}
+use Rattle.group_protocol.specs.Packets.{Datagram}
 use Rattle.group_wire.specs.Arrivals.{Spells}
 use Rattle.group_wire.specs.Doings.{Doing}
 use Rattle.group_wire.specs.Traffic.{Letter, letters_of}

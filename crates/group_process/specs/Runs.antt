@@ -10,10 +10,11 @@ use Rattle.paxos_msg.specs.Fits.{IsGroup, IsNode}
 use Rattle.paxos_msg.specs.declared.record.Change.TheVariants as change
 use Rattle.paxos_msg.specs.Records.{changed, empty_record}
 use Rattle.paxos_acceptor.specs.declared.me.Me.{Me}
-use Rattle.group_node.specs.Known.{Known, Response}
-use Rattle.group_node.specs.Protocol.{on_message}
-use Rattle.group_node.specs.ProposerRows.{on_campaign}
-use Rattle.group_node.specs.States.{IsSize, input}
+use Rattle.group_protocol.specs.Known.{Known, Response}
+use Rattle.group_protocol.specs.Protocol.{on_message}
+use Rattle.group_protocol.specs.ProposerRows.{on_campaign}
+use Rattle.group_protocol.specs.States.{IsSize}
+use Rattle.group_node.specs.States.{input}
 use Rattle.group_node.specs.World.{WorldState}
 use Rattle.group_wire.specs.Doings.{Doing, Working}
 use Rattle.group_wire.specs.Process.{IsProcess, Process}

@@ -5,7 +5,7 @@ use Rattle.std.specs.List.{filter_map}
 use Rattle.std.proofs.lemmas.Option.{slice_get_within}
 use Rattle.std.proofs.lemmas.Bool.{lt-ltb}
 use Rattle.std.proofs.lemmas.Grind.{common_steps}
-use Rattle.group_node.specs.declared.packet.To.{To}
+use Rattle.group_protocol.specs.declared.packet.To.{To}
 use Rattle.group_node.specs.Deeds as deed
 use Rattle.group_node.specs.Deeds.{Deed}
 use Rattle.group_world.specs.declared.event.Act.{Act}

@@ -2,7 +2,7 @@
 use Rattle.std.proofs.Common.{◌≡◌, ℕ, suc, ◌+◌, ◌-◌, ◌<◌, ◌≤◌, Some, Ok, Err, slice_get, add-one, arith, sym, subst}
 use Rattle.group_sim.specs.declared.simulation.ScriptHalt.{ScriptHalt}
 use Rattle.group_sim.specs.Moments.{AreDone, Task, DeliversOne, HaltsAt, InTurn, Moment, PassesOn}
-use Rattle.group_node.specs.Packets.{Datagram}
+use Rattle.group_protocol.specs.Packets.{Datagram}
 
 -- one more is done
 pub one_more : (task : ℕ → Task) (first n : ℕ) (a mid b : Moment) → AreDone task first n a mid

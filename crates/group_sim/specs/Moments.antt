@@ -1,10 +1,11 @@
 -- What a script does to a group and to a writer, line by line.
 use Rattle.std.specs.Prelude.{◌≡◌, ◌⊎◌, ℕ, zero, suc, ◌+◌, ◌-◌, ◌<◌, ◌≤◌, Bool, true, false, ◌&&◌, ◌==◌, List, length, slice_get, Option, Some, None, is_some, Result, Ok, Err}
-use Rattle.group_node.specs.declared.packet.To.{To}
-use Rattle.group_node.specs.declared.packet.To.TheVariants as whom
+use Rattle.group_protocol.specs.declared.packet.To.{To}
+use Rattle.group_protocol.specs.declared.packet.To.TheVariants as whom
 use Rattle.group_node.specs.Output.{unreleased_of}
-use Rattle.group_node.specs.Packets.{Datagram}
-use Rattle.group_node.specs.States.{IsSize, input}
+use Rattle.group_protocol.specs.Packets.{Datagram}
+use Rattle.group_protocol.specs.States.{IsSize}
+use Rattle.group_node.specs.States.{input}
 use Rattle.group_world.specs.declared.event.Act.{Act}
 use Rattle.group_world.specs.declared.event.Act.TheVariants.{Deliver, Run, Release}
 use Rattle.group_world.specs.declared.event.Done.{Done}

@@ -3,8 +3,8 @@ use Rattle.std.specs.Prelude.{ℕ, List, [], ◌++◌, Option, option_and_then, 
 use Rattle.std.specs.Io.KnownBytes.{Appends}
 use Rattle.base.specs.Faults.{HasRisen}
 use Rattle.machine_run.specs.Streams.{Borrowed}
-use Rattle.group_node.specs.declared.fault.NodeFault.{NodeFault}
-use Rattle.group_node.specs.Fault.{code_of}
+use Rattle.group_protocol.specs.declared.fault.NodeFault.{NodeFault}
+use Rattle.group_protocol.specs.Fault.{code_of}
 use Rattle.group_world.specs.declared.event.Done.{Done}
 use Rattle.group_world.specs.declared.event.Done.TheVariants.{Applied, Refused, Fell}
 use Rattle.group_world.specs.Group.{member_at, World}

@@ -1,6 +1,6 @@
 //! When a line of a script halts: the contract of a function that does nothing.
 ghost use Rattle.std.specs.Prelude.{◌≡◌, ℕ};
-ghost use Rattle.group_node.specs.declared.packet.To.{To};
+ghost use Rattle.group_protocol.specs.declared.packet.To.{To};
 ghost use Rattle.group_world.specs.declared.event.Event.{Event};
 ghost use Rattle.group_world.specs.declared.fault.WorldFault.{WorldFault};
 ghost use Rattle.group_world.specs.declared.fault.WorldFault.TheVariants.{Memory};

@@ -1,7 +1,7 @@
 //! The performance of a script on a group.
 ghost use Rattle.std.specs.Prelude.{◌≡◌, ◌↔◌, ◌⊎◌, ℕ, ◌+◌, ◌≤◌, is_some, length, IfErr, IfOk, IfSome, IsNone, OnErr};
-ghost use Rattle.group_node.specs.Fault.{code_of};
-ghost use Rattle.group_node.specs.States.{IsSize};
+ghost use Rattle.group_protocol.specs.Fault.{code_of};
+ghost use Rattle.group_protocol.specs.States.{IsSize};
 ghost use Rattle.group_world.specs.Event.{kept_event};
 ghost use Rattle.group_world.specs.Group.{new_world};
 ghost use Rattle.group_sim.specs.Moments.{DeliversOne, DeliversAll, HappensAt, InTurn, IsScriptDone, IsHalted, IsNoGroup, PerformsTask, Plays, ReleasesAll, Says, Settles, Shows, halt_answer, halt_of, is_meant, moment, waiting};

@@ -1,5 +1,6 @@
 //! Which nodes there are, a console, and the texts of refusals. The files below have what a node of
 //! a group of three refuses, what it sends byte by byte, and what its machine writes.
+mod another_machine;
 mod by_hand;
 mod datagrams;
 mod refusals;

@@ -1,7 +1,7 @@
 -- Why a group or a node on UDP ends early.
 use Rattle.std.specs.Prelude.{◌≡◌, ◌⊎◌}
-use Rattle.group_node.specs.declared.fault.NodeFault.TheVariants.{SerialSpent, Store}
-use Rattle.group_node.specs.declared.fault.NodeFault.TheVariants as fault
+use Rattle.group_protocol.specs.declared.fault.NodeFault.TheVariants.{SerialSpent, Store}
+use Rattle.group_protocol.specs.declared.fault.NodeFault.TheVariants as fault
 use Rattle.machine_run.specs.declared.refusal.MachineRefusal.TheVariants.{Run}
 use Rattle.machine_run.specs.declared.run.RunIo.TheVariants.{Memory, Write}
 use Rattle.group_udp.specs.declared.fault.GroupFault.{GroupFault}

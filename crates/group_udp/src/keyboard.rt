@@ -1,10 +1,10 @@
 //! Where the typed bytes of a node come from.
 ghost use Rattle.std.specs.Prelude.{◌≡◌, ◌+◌, ◌≤◌, [], ◌∷◌, Option, if◌then◌else◌, map, take};
-ghost use Rattle.group_node.specs.declared.limits.TheConstants.{MOST_WAITING};
+ghost use Rattle.group_protocol.specs.declared.limits.TheConstants.{MOST_WAITING};
 ghost use Rattle.group_node.specs.Deeds.{Campaign, Press};
 ghost use Rattle.group_udp.specs.Prompts.{Remaining, with_gift};
 
-use group_node::limits::MOST_WAITING;
+use group_protocol::limits::MOST_WAITING;
 
 /// What people do at a node: they type bytes, and ask it to campaign.
 pub trait Keyboard {

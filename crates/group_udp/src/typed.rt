@@ -3,7 +3,7 @@ use crate::keyboard::Keyboard;
 use crate::limits::{LONGEST_PRESS, MOST_KEPT, MOST_TAKEN_IN, REQUESTS_APART};
 use crate::udp::receive_from;
 use circular_buffer::HeapCircularBuffer;
-use group_node::limits::MOST_WAITING;
+use group_protocol::limits::MOST_WAITING;
 use mio::net::UdpSocket;
 use std::alloc::{AllocError, Global};
 use std::time::{Clock, Duration, Instant};

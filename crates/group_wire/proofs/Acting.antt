@@ -6,14 +6,15 @@ use Rattle.std.specs.List.{All}
 use Rattle.paxos_msg.specs.Batches.{Msg}
 use Rattle.paxos_acceptor.specs.declared.me.Me.{Me}
 use Rattle.paxos_acceptor.specs.Stores.{StoreKind}
-use Rattle.group_node.specs.declared.fault.NodeFault.{NodeFault}
-use Rattle.group_node.specs.declared.fault.NodeFault.TheVariants.{Stopped, Store}
-use Rattle.group_node.specs.Known.{Known, front}
-use Rattle.group_node.specs.Packets.{datagrams_of}
-use Rattle.group_node.specs.ProposerRows.{last_round, on_campaign}
+use Rattle.group_protocol.specs.declared.fault.NodeFault.{NodeFault}
+use Rattle.group_protocol.specs.declared.fault.NodeFault.TheVariants.{Stopped, Store}
+use Rattle.group_protocol.specs.Known.{Known, front}
+use Rattle.group_protocol.specs.Packets.{datagrams_of}
+use Rattle.group_protocol.specs.ProposerRows.{last_round, on_campaign}
 use Rattle.paxos_msg.specs.declared.limits.TheConstants.{LAST_ROUND, PLACES}
 use Rattle.group_node.specs.Output.{IsReplay, RunsOn, unreleased_of}
-use Rattle.group_node.specs.States.{NodeState, Protocol, input}
+use Rattle.group_protocol.specs.States.{Protocol}
+use Rattle.group_node.specs.States.{NodeState, input}
 use Rattle.group_wire.specs.declared.answers.Received.{Received}
 use Rattle.group_wire.specs.declared.answers.Received.TheVariants as answer
 use Rattle.group_wire.specs.declared.answers.Turned.{Turned}

@@ -1,12 +1,11 @@
 -- Traffic that grows step by step, and the datagrams of several packets.
-use Rattle.std.proofs.Common.{◌≡◌, ◌+◌, ◌-◌, ◌≤◌, ℕ, suc, List, [], ◌∷◌, ◌++◌, map, Option, refl, arith}
+use Rattle.std.proofs.Common.{◌≡◌, ◌+◌, ◌-◌, ◌≤◌, ℕ, suc, List, [], ◌∷◌, ◌++◌, map, Option, arith}
 use Rattle.std.specs.List.{range_with_len}
 use Rattle.std.proofs.lemmas.Grind.{common_steps}
 use Rattle.std.proofs.lemmas.Grind.{flat_map-append}
 use Rattle.paxos_acceptor.specs.declared.me.Me.{Me}
-use Rattle.group_node.specs.Packets.{Datagram}
 use Rattle.group_wire.specs.Doings.{Doing, transfers_in, transfers_of}
-use Rattle.group_wire.specs.Traffic.{Hands, Letter, Traffic, grown, handed, letters_of}
+use Rattle.group_wire.specs.Traffic.{Hands, Letter, Traffic, grown, handed}
 
 -- traffic that grows twice, as at once
 pub grown_twice : (from via to : Option Traffic) (xs ys all : Traffic)
@@ -16,11 +15,6 @@ grown_twice from via to xs ys all first second whole = grind (arith, common_step
 -- what passed in some deeds, and then in others
 pub passed_then : (me : Me) (xs ys : List Doing) → transfers_of me (xs ++ ys) ≡ transfers_of me xs ++ transfers_of me ys
 passed_then me xs ys = flat_map-append (transfers_in me) xs ys
-
--- the datagrams of some packets, and then of others
-pub letters_then : (size : ℕ) (xs ys : List Datagram) → letters_of size (xs ++ ys) ≡ letters_of size xs ++ letters_of size ys
-letters_then size [] ys = refl
-letters_then size (d ∷ xs) ys = let rest = letters_then size xs ys in grind (arith, common_steps)
 
 -- a datagram for node i
 abbrev pub letter : List ℕ → ℕ → Letter

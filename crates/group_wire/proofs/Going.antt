@@ -10,11 +10,11 @@ use Rattle.paxos_msg.specs.Batches.{Body, Msg}
 use Rattle.paxos_msg.specs.declared.value.Value.{Value}
 use Rattle.paxos_learner.specs.Learner.{HasLearnedMore}
 use Rattle.paxos_learner.specs.Input.{learned_input}
-use Rattle.group_node.specs.Known.{Known}
+use Rattle.group_protocol.specs.Known.{Known}
 use Rattle.group_node.specs.Output.{IsReplay, Progress}
-use Rattle.group_node.specs.Protocol.{on_message}
+use Rattle.group_protocol.specs.Protocol.{on_message}
 use Rattle.group_node.specs.States.{NodeState, input}
-use Rattle.group_node.specs.Tick.{on_tick}
+use Rattle.group_protocol.specs.Tick.{on_tick}
 use Rattle.group_wire.specs.Arrivals.{Arrival, heard_of}
 use Rattle.group_wire.specs.Doings.{after_heard, ticked_if}
 use Rattle.group_wire.specs.Turns.{released_by, released_of}

@@ -5,17 +5,18 @@ use Rattle.std.proofs.lemmas.List.Sums.{sum_by-append}
 use Rattle.std.proofs.lemmas.Grind.{common_steps}
 use Rattle.paxos_msg.specs.declared.message.Group.{Group}
 use Rattle.paxos_msg.specs.Batches.{Msg}
-use Rattle.paxos_acceptor.specs.Stores.{HasCause, IsOneOf, StoreKind}
-use Rattle.group_node.specs.declared.fault.NodeFault.{NodeFault}
-use Rattle.group_node.specs.declared.fault.NodeFault.TheVariants.{Memory, OutboxFull, Stopped, Store}
-use Rattle.group_node.specs.Protocol.{on_message}
-use Rattle.group_node.specs.Known.{Known}
-use Rattle.group_node.specs.Packets.{Datagram, datagrams_of}
-use Rattle.group_node.specs.Calls.{IsLetIn}
-use Rattle.group_node.specs.States.{NodeState, Protocol}
+use Rattle.paxos_acceptor.specs.Stores.{CountsIf, IsOneOf, StoreKind}
+use Rattle.group_protocol.specs.declared.fault.NodeFault.{NodeFault}
+use Rattle.group_protocol.specs.declared.fault.NodeFault.TheVariants.{Memory, OutboxFull, Stopped, Store}
+use Rattle.group_protocol.specs.Protocol.{on_message}
+use Rattle.group_protocol.specs.Known.{Known}
+use Rattle.group_protocol.specs.Packets.{Datagram, datagrams_of}
+use Rattle.group_protocol.specs.Calls.{RefusesUnlessLet}
+use Rattle.group_protocol.specs.States.{Protocol}
+use Rattle.group_node.specs.States.{NodeState}
 use Rattle.group_wire.specs.declared.answers.Received.{Received}
 use Rattle.group_wire.specs.declared.answers.Received.TheVariants as answer
-use Rattle.group_wire.specs.Traffic.{Gives, Traffic, grown, handed, letters_of}
+use Rattle.group_wire.specs.Traffic.{Receives, Traffic, grown, handed, letters_of}
 use Rattle.group_wire.specs.Arrivals.{Arrival, Ending, Fate, Hears, Loses, NoMessage, NoneCame, TooLong, GoesOn, Refuses, IsFateOf, Spells, heard_of, loss_of, lost_of, heard_message, received}
 use Rattle.group_wire.specs.Turns.{FailsAtEnd, HearsSome, IsHearingRefused, IsOne, IsWireTurn, TellsOfOne, answer_of}
 use Rattle.group_wire.specs.Doings.{after_fate, after_heard, hearing, last_receiving, receives, receiving, ticked_if, ticking, transfers_of}
@@ -105,7 +106,7 @@ pub hears_none : {S : Type 0} (kind : StoreKind S) {g : Group} {old new : NodeSt
     (bytes : List ℕ) (fate : Fate) (h : Received)
     → old.protocol.known.me.group ≡ g → IsFateOf g bytes fate → heard_message fate ≡ None
     → TellsOfOne (Ok h) (record { bytes = bytes; fate = fate } ∷ []) GoesOn → (old.protocol.is_stopped ≡ true → loss_of fate ≡ 0)
-    → new.protocol.known ≡ old.protocol.known → new.progress ≡ old.progress → to ≡ grown from (Gives (Some bytes) ∷ [])
+    → new.protocol.known ≡ old.protocol.known → new.progress ≡ old.progress → to ≡ grown from (Receives (Some bytes) ∷ [])
     → HearsThere kind old new from to (Ok h)
 hears_none kind from to bytes fate h group is none tells without known progress traffic =
     (record { bytes = bytes; fate = fate } ∷ [], GoesOn, grind (arith, common_steps, All-cons, All-nil), tells, λ failed. absurd cc)
@@ -117,7 +118,7 @@ pub hears_one : {S : Type 0} (kind : StoreKind S) {g : Group} {old new : NodeSta
     → new.protocol.known ≡ (on_message old.protocol.known m.sender m.body).node
     → (on_message old.protocol.known m.sender m.body).node.me ≡ old.protocol.known.me → new.progress ≡ old.progress → before ≡ []
     → waits ≡ before ++ datagrams_of old.protocol.known.me (on_message old.protocol.known m.sender m.body).sends
-    → to ≡ grown via (handed (letters_of g.size waits)) → via ≡ grown from (Gives (Some bytes) ∷ [])
+    → to ≡ grown via (handed (letters_of g.size waits)) → via ≡ grown from (Receives (Some bytes) ∷ [])
     → HearsThere kind old new from to (Ok answer.Message)
 hears_one kind from via to bytes m before waits group spelled works known me progress empty sends traffic came =
     let a : Arrival = record { bytes = bytes; fate = Hears m } in
@@ -127,7 +128,7 @@ hears_one kind from via to bytes m before waits group spelled works known me pro
 pub refuses_one : {S : Type 0} (kind : StoreKind S) {g : Group} {old new : NodeState S} (from to : Option Traffic)
     (bytes : List ℕ) (m : Msg) (fault : NodeFault) (result : Result Received NodeFault)
     → old.protocol.known.me.group ≡ g → Spells g bytes m → new.protocol.known ≡ old.protocol.known → new.progress ≡ old.progress
-    → to ≡ grown from (Gives (Some bytes) ∷ []) → result ≡ Err fault
+    → to ≡ grown from (Receives (Some bytes) ∷ []) → result ≡ Err fault
     → (kind.honest → fault ≡ Store → IsOneOf (kind.state new.protocol.store).stored old.protocol.known.kept
     (on_message old.protocol.known m.sender m.body).node.kept)
     → HearsThere kind old new from to result
@@ -137,15 +138,15 @@ refuses_one kind from to bytes m fault result group spelled known progress traff
 -- why a call of the node was refused, if memory did not run out: nothing waits to be sent
 pub refused_others : {S : Type 0} {fault : NodeFault} {old : Protocol S} {before : List Datagram} → before ≡ [] → fault ≢ Memory
     → (fault ≡ Stopped) ⊎ (fault ≡ OutboxFull) ⊎ (fault ≡ Memory) ⊎ (fault ≡ Store)
-    → IsLetIn {T = Unit {0}} old before (Err fault) → (fault ≡ Stopped) ⊎ (fault ≡ Store)
+    → RefusesUnlessLet {T = Unit {0}} old before (Err fault) → (fault ≡ Stopped) ⊎ (fault ≡ Store)
 refused_others empty not others let_in = grind (arith, common_steps)
 
 -- an answer that is a refusal where the call of the node was refused
 pub refused_as : {S : Type 0} {kind : StoreKind S} {old new : NodeState S} {before : List Datagram}
     (done : Result (Unit {0}) NodeFault) (result : Result Received NodeFault)
-    → IsLetIn old.protocol before done
+    → RefusesUnlessLet old.protocol before done
     → (new.protocol.is_stopped ≡ true) ↔ ((old.protocol.is_stopped ≡ true) ⊎ IsErrOf done Store)
-    → HasCause (IsErrOf done Store) (kind.state old.protocol.store).faults (kind.state new.protocol.store).faults
+    → CountsIf (IsErrOf done Store) (kind.state old.protocol.store).faults (kind.state new.protocol.store).faults
     → (IsErrOf done Store → IsErrOf result Store) → (IsErrOf result Store → IsErrOf done Store)
     → (IsErrOf result Stopped → IsErrOf done Stopped) → IfErr result (λ e. (e ≡ Stopped) ⊎ (e ≡ Store))
     → IsHearingRefused kind old new result

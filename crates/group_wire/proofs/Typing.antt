@@ -1,8 +1,8 @@
 -- Bytes that are typed, one after the other, as deeds.
 use Rattle.std.proofs.Common.{◌≡◌, ◌∙◌, ℕ, ◌<◌, Bool, true, if◌then◌else◌, List, [], ◌∷◌, ◌++◌, map, Result, refl, sym, ap, subst, append-nil, append_assoc}
 use Rattle.paxos_acceptor.specs.declared.me.Me.{Me}
-use Rattle.group_node.specs.declared.fault.NodeFault.{NodeFault}
-use Rattle.group_node.specs.Known.{Known, on_typed}
+use Rattle.group_protocol.specs.declared.fault.NodeFault.{NodeFault}
+use Rattle.group_protocol.specs.Known.{Known, on_typed}
 use Rattle.group_node.specs.States.{NodeState}
 use Rattle.group_node.specs.Deeds.{Press}
 use Rattle.group_wire.specs.Doings.{ActsTyping, DoesAll, Working, pressing, prompts_of, transfers_of, working}

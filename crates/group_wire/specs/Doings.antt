@@ -4,20 +4,20 @@ use Rattle.paxos_msg.specs.declared.limits.TheConstants.{LAST_ROUND, LAST_SERIAL
 use Rattle.paxos_msg.specs.declared.value.Value.{Value}
 use Rattle.paxos_msg.specs.Batches.{Msg}
 use Rattle.paxos_acceptor.specs.declared.me.Me.{Me}
-use Rattle.group_node.specs.declared.fault.NodeFault.{NodeFault}
-use Rattle.group_node.specs.declared.fault.NodeFault.TheVariants as fault
-use Rattle.group_node.specs.declared.limits.TheConstants.{MOST_WAITING}
+use Rattle.group_protocol.specs.declared.fault.NodeFault.{NodeFault}
+use Rattle.group_protocol.specs.declared.fault.NodeFault.TheVariants as fault
+use Rattle.group_protocol.specs.declared.limits.TheConstants.{MOST_WAITING}
 use Rattle.group_node.specs.declared.player.Ran.{Ran}
-use Rattle.group_node.specs.Known.{Known, Response, front, new_key, next_serial, on_typed, quiet}
+use Rattle.group_protocol.specs.Known.{Known, Response, front, new_key, next_serial, on_typed, quiet}
 use Rattle.group_node.specs.Deeds.{Deed, Idle, Start, Hear, Press, Campaign, Tick, Run, Release, Crash}
 use Rattle.group_node.specs.Output.{IsReplay, Progress, RunsOn, unreleased_of}
-use Rattle.group_node.specs.Packets.{Datagram, datagrams_of}
-use Rattle.group_node.specs.Protocol.{on_message}
-use Rattle.group_node.specs.ProposerRows.{last_round, on_campaign}
+use Rattle.group_protocol.specs.Packets.{Datagram, datagrams_of}
+use Rattle.group_protocol.specs.Protocol.{on_message}
+use Rattle.group_protocol.specs.ProposerRows.{last_round, on_campaign}
 use Rattle.group_node.specs.States.{NodeState, input}
-use Rattle.group_node.specs.Tick.{on_tick}
+use Rattle.group_protocol.specs.Tick.{on_tick}
 use Rattle.group_wire.specs.Arrivals.{Arrival, Ending, Fate, GoesOn, Hears, Loses, NoMessage, NoneCame, Refuses, Spells, TooLong}
-use Rattle.group_wire.specs.Traffic.{Gives, Traffic, grown, handed, letters_of}
+use Rattle.group_wire.specs.Traffic.{Receives, Traffic, grown, handed, letters_of}
 
 -- ---- deeds
 
@@ -31,7 +31,7 @@ pub record Doing : Type 0 where
 -- What passes over the wire of a node in a deed: it receives first, and sends then.
 -- Forbids: an answer before its message.
 abbrev pub transfers_in : Me → Doing → Traffic
-transfers_in me d = map (λ g. Gives g) d.given ++ handed (letters_of me.group.size d.sent)
+transfers_in me d = map (λ g. Receives g) d.given ++ handed (letters_of me.group.size d.sent)
 
 -- What passes over it in several deeds, in order.
 abbrev pub transfers_of : Me → List Doing → Traffic

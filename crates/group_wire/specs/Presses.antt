@@ -1,10 +1,10 @@
 -- Bytes that are typed at a node.
 use Rattle.std.specs.Prelude.{◌≡◌, ◌≢◌, ◌↔◌, ◌⊎◌, ◌+◌, ◌<◌, ℕ, true, false, List, [], ◌∷◌, ◌++◌, length, Result, IfErr, IsErrOf, OnErr, OnOk}
 use Rattle.paxos_msg.specs.declared.limits.TheConstants.{LAST_SERIAL}
-use Rattle.group_node.specs.declared.limits.TheConstants.{MOST_WAITING}
-use Rattle.group_node.specs.declared.fault.NodeFault.{NodeFault}
-use Rattle.group_node.specs.declared.fault.NodeFault.TheVariants.{SerialSpent, Stopped}
-use Rattle.group_node.specs.Known.{Known, next_serial, on_typed}
+use Rattle.group_protocol.specs.declared.limits.TheConstants.{MOST_WAITING}
+use Rattle.group_protocol.specs.declared.fault.NodeFault.{NodeFault}
+use Rattle.group_protocol.specs.declared.fault.NodeFault.TheVariants.{SerialSpent, Stopped}
+use Rattle.group_protocol.specs.Known.{Known, next_serial, on_typed}
 use Rattle.group_node.specs.States.{NodeState}
 
 -- A node after these bytes were typed at it: their keys wait, after those that waited.

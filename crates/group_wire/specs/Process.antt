@@ -6,7 +6,7 @@ use Rattle.paxos_msg.specs.Batches.{Record}
 use Rattle.paxos_acceptor.specs.declared.me.Me.{Me}
 use Rattle.paxos_acceptor.specs.declared.store.StoreFault.{StoreFault}
 use Rattle.group_node.specs.Deeds.{Deed}
-use Rattle.group_node.specs.Known.{on_start}
+use Rattle.group_protocol.specs.Known.{on_start}
 use Rattle.group_node.specs.Output.{no_progress}
 use Rattle.group_wire.specs.Doings.{DoesAll, Doing, FailsDeed, Working, prompts_of, transfers_of}
 use Rattle.group_wire.specs.Traffic.{Traffic, grown}

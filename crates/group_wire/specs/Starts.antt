@@ -4,9 +4,9 @@ use Rattle.paxos_acceptor.specs.Calls.{IsAmong}
 use Rattle.paxos_acceptor.specs.Stores.{StoreKind}
 use Rattle.paxos_acceptor.specs.declared.me.Me.{Me}
 use Rattle.pcode_file.specs.Parts.{Parts}
-use Rattle.group_node.specs.declared.fault.NodeFault.TheVariants as fault
-use Rattle.group_node.specs.declared.protocol.StartRefused.{StartRefused}
-use Rattle.group_node.specs.Starting.{IsFresh, StartsByPlan, StartsFrom, StartsOnce}
+use Rattle.group_protocol.specs.declared.fault.NodeFault.TheVariants as fault
+use Rattle.group_node.specs.declared.node.StartRefused.{StartRefused}
+use Rattle.group_node.specs.Starting.{IsFresh, StartsByPlan, StartsHonestly, StartsByLoad}
 use Rattle.group_node.specs.States.{NodeState}
 
 -- A start for which memory ran out before the load: the store is given back as it was.
@@ -17,9 +17,9 @@ LacksOutbox store result = result ≡ Err (record { fault = fault.Memory; store 
 -- outbox, nothing was loaded, and the store is as it was.
 pub record HasStarted {S : Type 0} (kind : StoreKind S) (me : Me) (program : Parts) (store : S)
     (result : Result (NodeState S) (StartRefused S)) : Type 0 where
-  pub loaded : LacksOutbox store result ⊎ StartsOnce kind me store result
+  pub loaded : LacksOutbox store result ⊎ StartsByLoad kind me store result
   pub fresh : IfOk result (IsFresh me program)
-  pub from : kind.honest → StartsFrom kind me store result
+  pub from : kind.honest → StartsHonestly kind me store result
   pub plan : StartsByPlan kind store result
   pub others : IfErr result (λ e. IsAmong (fault.Memory ∷ fault.Store ∷ fault.BadRecord
       ∷ fault.StartsSpent ∷ []) e.fault)

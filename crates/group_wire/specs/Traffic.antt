@@ -1,10 +1,10 @@
 -- What passes between a node and its wire.
 use Rattle.std.specs.Prelude.{ℕ, List, [], ◌∷◌, ◌++◌, map, Option, option_map}
 use Rattle.std.specs.List.{range_with_len}
-use Rattle.group_node.specs.declared.packet.To.{To}
-use Rattle.group_node.specs.declared.packet.To.TheVariants as whom
-use Rattle.group_node.specs.Known.{Known}
-use Rattle.group_node.specs.Packets.{Datagram, Packet, datagrams_of}
+use Rattle.group_protocol.specs.declared.packet.To.{To}
+use Rattle.group_protocol.specs.declared.packet.To.TheVariants as whom
+use Rattle.group_protocol.specs.Known.{Known}
+use Rattle.group_protocol.specs.Packets.{Datagram, Packet, datagrams_of}
 
 -- A datagram and the number of the node that it is for.
 pub record Letter : Type 0 where
@@ -15,7 +15,7 @@ pub record Letter : Type 0 where
 -- A receive gives a datagram, or nothing.
 pub data Transfer : Type 0 where
   Hands : Letter → Transfer
-  Gives : Option (List ℕ) → Transfer
+  Receives : Option (List ℕ) → Transfer
 
 -- What has passed over a wire, in one order.
 -- Forbids: an answer that went out before the message that it answers had come.

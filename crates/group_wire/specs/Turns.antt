@@ -1,11 +1,11 @@
 -- A turn of a node on its wire: the messages that it hears, a tick, and a run of its machine.
 use Rattle.std.specs.Prelude.{◌≡◌, ◌⊎◌, ◌↔◌, ◌≤◌, Bool, true, false, ⊤, List, [], ◌∷◌, ◌++◌, All, length, Option, Result, Ok, Err, IfErr, IfOk, IsErr, IsErrOf, OnErr, OnOk, ℕ, take}
 use Rattle.paxos_msg.specs.Batches.{Msg}
-use Rattle.paxos_acceptor.specs.Stores.{HasCause, IsOneOf, StoreKind}
-use Rattle.group_node.specs.declared.fault.NodeFault.{NodeFault}
-use Rattle.group_node.specs.declared.fault.NodeFault.TheVariants.{Stopped, Store}
-use Rattle.group_node.specs.Protocol.{on_message}
-use Rattle.group_node.specs.Calls.{RefusesIfStopped}
+use Rattle.paxos_acceptor.specs.Stores.{CountsIf, IsOneOf, StoreKind}
+use Rattle.group_protocol.specs.declared.fault.NodeFault.{NodeFault}
+use Rattle.group_protocol.specs.declared.fault.NodeFault.TheVariants.{Stopped, Store}
+use Rattle.group_protocol.specs.Protocol.{on_message}
+use Rattle.group_protocol.specs.Calls.{RefusesIfStopped}
 use Rattle.group_node.specs.Output.{RunsOn, Progress}
 use Rattle.group_node.specs.States.{NodeState, input}
 use Rattle.group_wire.specs.declared.answers.Received.{Received}
@@ -133,7 +133,7 @@ pub record IsHearingRefused {S T : Type 0} (kind : StoreKind S) (old new : NodeS
   pub was_open : IsErrOf result Store → old.protocol.is_stopped ≡ false
   pub stops :
       (new.protocol.is_stopped ≡ true) ↔ ((old.protocol.is_stopped ≡ true) ⊎ IsErrOf result Store)
-  pub cause : HasCause (IsErrOf result Store)
+  pub cause : CountsIf (IsErrOf result Store)
       (kind.state old.protocol.store).faults (kind.state new.protocol.store).faults
 
 -- ---- the calls
@@ -172,5 +172,5 @@ pub record HasTurned {S : Type 0} (kind : StoreKind S)
   pub others : IfErr result IsTurnFault
   pub stopped : RefusesIfStopped old.protocol result
   pub stops : (new.protocol.is_stopped ≡ true) ↔ IsErr result
-  pub cause : HasCause (IsErrOf result Store)
+  pub cause : CountsIf (IsErrOf result Store)
       (kind.state old.protocol.store).faults (kind.state new.protocol.store).faults

@@ -1,9 +1,9 @@
 //! Bytes that are typed at a node.
 ghost use Rattle.std.specs.Prelude.{◌≡◌, ◌↔◌, ◌+◌, ◌<◌, [], ◌∷◌, false, true, length, if◌then◌else◌, IfErr, IfOk, IsErrOf};
 ghost use Rattle.paxos_msg.specs.declared.limits.TheConstants.{LAST_SERIAL};
-ghost use Rattle.group_node.specs.declared.limits.TheConstants.{MOST_WAITING};
-ghost use Rattle.group_node.specs.Calls.{RefusesIfStopped};
-ghost use Rattle.group_node.specs.Known.{next_serial};
+ghost use Rattle.group_protocol.specs.declared.limits.TheConstants.{MOST_WAITING};
+ghost use Rattle.group_protocol.specs.Calls.{RefusesIfStopped};
+ghost use Rattle.group_protocol.specs.Known.{next_serial};
 ghost use Rattle.group_wire.specs.Turns.{SameReleased};
 ghost use Rattle.group_wire.specs.Doings.{ActsTyping};
 ghost use Rattle.group_wire.specs.Presses.{HasPressed, HasKeyRoom, IsPressFault, after_pressed};

@@ -7,7 +7,7 @@ ghost use Rattle.group_wire.specs.declared.limits.TheConstants.{TURN_STEPS};
 ghost use Rattle.group_wire.specs.Arrivals.{Arrival, Ending, lost_of};
 ghost use Rattle.group_wire.specs.Turns.{SameReleased, IsRefusedIfStopped, FailsAtEnd, HasHeard, HasTurned, HearsOut, HearsSome, IsHearingRefused, TellsOfOne};
 ghost use Rattle.group_wire.specs.Doings.{ActsBy, ticked_if, ticking, transfers_of};
-ghost use Rattle.group_wire.specs.Traffic.{Gives, Traffic, grown};
+ghost use Rattle.group_wire.specs.Traffic.{Receives, Traffic, grown};
 
 use crate::answers::{Received, Turned};
 use crate::host::Host;
@@ -15,8 +15,8 @@ use crate::limits::{MOST_RECEIVES, TURN_STEPS};
 use crate::sending::send_all;
 use crate::told::Told;
 use crate::wire::Wire;
-use group_node::laws::{calls_keep_what_is_learned, what_goes_out_fits};
 use group_node::{NodeFault, Ran};
+use group_protocol::laws::{calls_keep_what_is_learned, what_goes_out_fits};
 use paxos_acceptor::Store;
 use paxos_learner::laws::input_grows;
 use paxos_msg::decode;
@@ -41,7 +41,7 @@ impl<'a, S: Store> Host<'a, S> {
     /// `Err` the node has refused the message.
     fn hear_bytes<T: Wire>(&mut self, wire: &mut T, bytes: &[u8]) -> Result<Received, NodeFault>
         ensures hears { (from : Option Traffic)
-            → T.traffic wire.old ≡ grown from (Gives (Some bytes.now) ∷ [])
+            → T.traffic wire.old ≡ grown from (Receives (Some bytes.now) ∷ [])
             → (came : List Arrival) × (ending : Ending)
             × HearsSome came ending self.old self.new from
             (T.traffic wire.new)

@@ -1,6 +1,6 @@
 //! What carries datagrams between the nodes of a group.
 ghost use Rattle.std.specs.Prelude.{◌≡◌, ◌≤◌, [], ◌∷◌, length, take, None, Option, Some, IfNone, IfSome};
-ghost use Rattle.group_wire.specs.Traffic.{Gives, Hands, Traffic, grown};
+ghost use Rattle.group_wire.specs.Traffic.{Receives, Hands, Traffic, grown};
 
 use crate::told::Told;
 
@@ -27,9 +27,9 @@ pub trait Wire {
         ensures within { IfSome result (λ count. count ≤ length buffer.new) }
         ensures given { IfSome result (λ count.
             traffic self.new
-            ≡ grown (traffic self.old) (Gives (Some (take count buffer.new)) ∷ [])) }
+            ≡ grown (traffic self.old) (Receives (Some (take count buffer.new)) ∷ [])) }
         ensures idle { IfNone result
-            (traffic self.new ≡ grown (traffic self.old) (Gives None ∷ [])) };
+            (traffic self.new ≡ grown (traffic self.old) (Receives None ∷ [])) };
 
     /// Is told what the node does: that a call begins which may save, before it saves; each call
     /// once it is done, before anything is sent at it; and each datagram before it is sent. Nothing

@@ -8,14 +8,14 @@ use Rattle.paxos_msg.specs.Datagrams.{Fits}
 use Rattle.paxos_acceptor.specs.Memories.{memory_kind}
 use Rattle.paxos_acceptor.specs.Stores.{FailsAsPlanned, StoreState}
 use Rattle.paxos_proposer.specs.Proposer.{Proposer}
-use Rattle.group_node.specs.declared.fault.NodeFault.{NodeFault}
-use Rattle.group_node.specs.declared.fault.NodeFault.TheVariants as fault
-use Rattle.group_node.specs.Calls.{IsCampaignRefused, Does, IsLetIn, Saves}
-use Rattle.group_node.specs.Known.{Response, Known, front}
-use Rattle.group_node.specs.ProposerRows.{last_round, on_campaign}
-use Rattle.group_node.specs.Tick.{on_tick, ticked}
-use Rattle.group_node.specs.Packets.{Datagram}
-use Rattle.group_node.specs.Protocol.{on_message}
+use Rattle.group_protocol.specs.declared.fault.NodeFault.{NodeFault}
+use Rattle.group_protocol.specs.declared.fault.NodeFault.TheVariants as fault
+use Rattle.group_protocol.specs.Calls.{IsCampaignRefused, Does, RefusesUnlessLet, Saves}
+use Rattle.group_protocol.specs.Known.{Response, Known, front}
+use Rattle.group_protocol.specs.ProposerRows.{last_round, on_campaign}
+use Rattle.group_protocol.specs.Tick.{on_tick, ticked}
+use Rattle.group_protocol.specs.Packets.{Datagram}
+use Rattle.group_protocol.specs.Protocol.{on_message}
 use Rattle.group_node.specs.States.{NodeState}
 use Rattle.group_world.specs.declared.event.Done.{Done}
 use Rattle.group_world.specs.declared.member.Ask.{Ask}
@@ -185,7 +185,8 @@ pub record IsAnswered (plan : Option Bool) (new : UpOrDown) (console : List ℕ)
       → (member_of s console ≡ m) × (now ≡ [])
 
 -- a call of an open node with an empty outbox is not refused as `Stopped` or `OutboxFull`
-taken : {n : NodeState StoreState} {before : List Datagram} (answer : Answer) → IsOpen n → before ≡ [] → IsLetIn n.protocol before answer
+taken : {n : NodeState StoreState} {before : List Datagram} (answer : Answer) → IsOpen n → before ≡ []
+    → RefusesUnlessLet n.protocol before answer
     → (P : NodeFault → Type 0) → IfErr answer (λ f. (f ≡ fault.Stopped) ⊎ (f ≡ fault.OutboxFull) ⊎ P f) → IfErr answer P
 taken (Ok x) opens empty let_in P others = tt
 taken (Err f) opens empty let_in P (inl stopped) = absurd (both_ways _ opens.works (let_in.stopped.0 (ap Err stopped)))
@@ -247,7 +248,7 @@ module _ {plan : Option Bool} {old new : NodeState StoreState} {console : List �
     ran_out (Err f) said stays memory =
         (ap (λ x. member_of x console) (stays (λ e. absurd cc)) ∙ same_node said ∙ h.is, said.does.unsent)
 
-  module _ {answer : Answer} (let_in : IsLetIn old.protocol before answer) where
+  module _ {answer : Answer} (let_in : RefusesUnlessLet old.protocol before answer) where
     answered : (ask : Ask) (made : Response) → Said old new made now answer → IsCall (call_of_ask old.protocol.known ask) made answer
         → IsAnswered plan (member.Up new) console m ask now answer
     answered ask made said is = record {

@@ -4,9 +4,9 @@ use Rattle.std.proofs.Common.{◌≢◌, ℕ, ◌<◌, [], ◌∷◌, length, ar
 use Rattle.std.proofs.lemmas.Bool.Decides.{nat_tests}
 use Rattle.paxos_msg.specs.Batches.{Record}
 use Rattle.paxos_acceptor.specs.declared.me.Me.{Me}
-use Rattle.group_node.specs.declared.fault.NodeFault.{NodeFault}
-use Rattle.group_node.specs.Known.{Known, front, new_key, next_serial, on_start, on_typed}
-use Rattle.group_node.specs.ProposerRows.{last_round, on_campaign}
+use Rattle.group_protocol.specs.declared.fault.NodeFault.{NodeFault}
+use Rattle.group_protocol.specs.Known.{Known, front, new_key, next_serial, on_start, on_typed}
+use Rattle.group_protocol.specs.ProposerRows.{last_round, on_campaign}
 use Rattle.group_world.specs.Member.{NodeCall, Makes, Refuses, call_of_campaign, call_of_press, call_of_start}
 
 module _ (P : NodeCall → Type 0) (refused : (f : NodeFault) → P (Refuses f)) where

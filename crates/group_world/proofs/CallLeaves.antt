@@ -6,9 +6,9 @@ use Rattle.paxos_msg.specs.declared.value.Value.{Value}
 use Rattle.paxos_msg.specs.Batches.{Change, Record}
 use Rattle.paxos_acceptor.specs.declared.me.Me.{Me}
 use Rattle.group_node.specs.Deeds.{Deed}
-use Rattle.group_node.specs.Known.{Response}
+use Rattle.group_protocol.specs.Known.{Response}
 use Rattle.group_node.specs.Output.{Progress}
-use Rattle.group_node.specs.Packets.{Datagram, datagrams_of}
+use Rattle.group_protocol.specs.Packets.{Datagram, datagrams_of}
 use Rattle.group_world.specs.declared.event.Done.{Done}
 use Rattle.group_world.specs.declared.event.Done.TheVariants.{Applied}
 use Rattle.group_world.specs.Deeds.{DoesDeed, EndsCall, Left, quietly}

@@ -33,7 +33,7 @@ use Rattle.group_world.specs.Event.{StepsBy}
 use Rattle.group_world.proofs.OrderLists.{in_from_place}
 use Rattle.group_node.specs.World.{CallOrFall, ChangesOnly, LearnsOnly, MakesCall, MakesSteps, MayCause, Seat, Up, WorldState, WorldStep, after_release, fresh, with_seat}
 use Rattle.group_node.specs.WrongSteps.{ballot_by}
-use Rattle.group_node.proofs.Elements.{each_of}
+use Rattle.group_protocol.proofs.Elements.{each_of}
 use Rattle.group_world.specs.RightGroups.{LeadsInSteps, with_call, with_start}
 use Rattle.group_world.proofs.SmallPrograms.{all_go, goes_by, is_step}
 

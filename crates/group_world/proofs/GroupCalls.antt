@@ -15,7 +15,7 @@ use Rattle.paxos_acceptor.specs.declared.me.Me.{Me}
 use Rattle.group_node.specs.Deeds as deed
 use Rattle.group_node.specs.Deeds.{Deed}
 use Rattle.group_node.specs.Output.{Progress}
-use Rattle.group_node.specs.Packets.{Datagram}
+use Rattle.group_protocol.specs.Packets.{Datagram}
 use Rattle.group_world.specs.declared.event.Act.{Act}
 use Rattle.group_world.specs.declared.event.Act.TheVariants as act
 use Rattle.group_world.specs.declared.event.Done.{Done}

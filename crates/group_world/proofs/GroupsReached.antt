@@ -22,7 +22,7 @@ use Rattle.group_world.proofs.ChainedSteps.{◌▸◌, Reaches, and_then, ballot
 use Rattle.pcode_machine.specs.Configuration.{Configuration}
 use Rattle.pcode_machine.specs.Runs.{after_steps}
 use Rattle.paxos_learner.specs.Input.{learned_input, keys_in_order}
-use Rattle.group_node.proofs.Elements.{entries_one}
+use Rattle.group_protocol.proofs.Elements.{entries_one}
 use Rattle.group_world.specs.Witness.{echoes, letter_program}
 use Rattle.group_world.proofs.SmallPrograms.{WritesLetter, echoes_letter, first_byte, line, writes_letter}
 use Rattle.std.proofs.lemmas.Option.{same_Some}

@@ -7,7 +7,7 @@ use Rattle.std.proofs.lemmas.Option.{slice_get-get_or}
 use Rattle.pcode_file.specs.Parts.{Parts}
 use Rattle.paxos_msg.specs.declared.message.Group.{Group}
 use Rattle.paxos_msg.specs.Fits.{IsGroup}
-use Rattle.group_node.specs.States.{IsSize}
+use Rattle.group_protocol.specs.States.{IsSize}
 use Rattle.group_world.specs.declared.event.Act.{Act}
 use Rattle.group_world.specs.declared.event.Act.TheVariants as act
 use Rattle.group_world.specs.declared.event.Done.{Done}
@@ -31,7 +31,7 @@ use Rattle.paxos_msg.specs.Messages.{messages_of}
 use Rattle.group_node.specs.Console.{offered}
 use Rattle.group_node.specs.Deeds as deed
 use Rattle.group_node.specs.Deeds.{Deed}
-use Rattle.group_node.specs.Packets.{Datagram}
+use Rattle.group_protocol.specs.Packets.{Datagram}
 use Rattle.group_node.specs.World.{CallOrFall, ChangesOnly, Falls, MakesCall, Seat, Up, WorldState, WorldStep, after_release}
 use Rattle.group_world.specs.declared.event.Done.TheVariants.{Applied, Fell, Refused}
 

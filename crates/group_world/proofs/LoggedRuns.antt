@@ -12,12 +12,12 @@ use Rattle.paxos_msg.specs.Fits.{IsGroup, IsNode}
 use Rattle.group_node.specs.Deeds as deed
 use Rattle.group_node.specs.Deeds.{Deed}
 use Rattle.group_node.specs.declared.player.Ran.TheVariants as more
-use Rattle.group_node.specs.Known.{Known, Response}
+use Rattle.group_protocol.specs.Known.{Known, Response}
 use Rattle.group_node.specs.Output.{Progress, no_progress}
-use Rattle.group_node.specs.Packets.{Datagram, Packet, datagram_of}
-use Rattle.group_node.specs.Protocol.{on_message}
+use Rattle.group_protocol.specs.Packets.{Datagram, Packet, datagram_of}
+use Rattle.group_protocol.specs.Protocol.{on_message}
 use Rattle.group_node.specs.States.{input}
-use Rattle.group_node.specs.Tick.{on_tick}
+use Rattle.group_protocol.specs.Tick.{on_tick}
 use Rattle.group_world.specs.declared.event.Act.{Act}
 use Rattle.group_world.specs.declared.event.Act.TheVariants as act
 use Rattle.group_world.specs.declared.event.Done.TheVariants.{Applied}

@@ -7,13 +7,14 @@ use Rattle.group_world.proofs.SoundWorldsAgree.{next_of}
 use Rattle.std.proofs.Common.{◌≡◌, ◌≢◌, ◌↔◌, ◌⊎◌, ◌∙◌, ◌<◌, ◌≤◌, Bool, true, false, ℕ, List, [], ◌∷◌, ◌+◌, length, option_map, Option, None, Some, Result, Ok, Err, IfErr, IfOk, IsErrOf, MatchResult, inl, inr, refl, sym, ap, subst, arith, OnErr}
 use Rattle.paxos_msg.specs.declared.value.Value.{Value}
 use Rattle.paxos_acceptor.specs.Stores.{StoreState, FailsAsPlanned}
-use Rattle.group_node.specs.declared.fault.NodeFault.{NodeFault}
-use Rattle.group_node.specs.declared.fault.NodeFault.TheVariants as fault
+use Rattle.group_protocol.specs.declared.fault.NodeFault.{NodeFault}
+use Rattle.group_protocol.specs.declared.fault.NodeFault.TheVariants as fault
 use Rattle.group_node.specs.declared.player.Ran.{Ran}
-use Rattle.group_node.specs.Known.{on_typed, new_key, next_serial, on_start}
+use Rattle.group_protocol.specs.Known.{on_typed, new_key, next_serial, on_start}
 use Rattle.group_node.specs.Console.{offered}
 use Rattle.group_node.specs.Output.{IsReplay, RunsOn, no_progress}
-use Rattle.group_node.specs.States.{Protocol, NodeState, input}
+use Rattle.group_protocol.specs.States.{Protocol}
+use Rattle.group_node.specs.States.{NodeState, input}
 use Rattle.group_world.specs.declared.event.Done.TheVariants as done
 use Rattle.group_world.specs.declared.member.UpOrDown.{UpOrDown}
 use Rattle.group_world.specs.declared.member.UpOrDown.TheVariants as member

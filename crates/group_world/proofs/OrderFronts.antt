@@ -23,7 +23,7 @@ use Rattle.group_world.specs.Sound.{IsSound}
 use Rattle.group_world.proofs.OrderLists.{left_place, in_filter, place_of, in_from_place, in_flat_map, of_flat_map, in_range, of_range}
 use Rattle.group_world.proofs.SoundWorldsAgree.{ChoiceLaws}
 use Rattle.group_world.proofs.OrderRows.{apart_same, of_test, other_more, row_more, serial_in, serial_of, has_in}
-use Rattle.group_node.proofs.Elements.{first_in, in_cases, none_in, rest_in}
+use Rattle.group_protocol.proofs.Elements.{first_in, in_cases, none_in, rest_in}
 
 -- all keys of these values, in order
 abbrev all_keys : List Value → List Key

@@ -18,16 +18,16 @@ use Rattle.paxos_msg.specs.Bodies.{IsBody}
 use Rattle.paxos_msg.specs.Messages.{IsPromised, IsSaid, IsSent, kept_vote_at}
 use Rattle.paxos_acceptor.specs.Records.{IsVoteBacked}
 use Rattle.paxos_learner.specs.Input.{input_of}
-use Rattle.group_node.specs.Backs.{HasPromised, IsRecordBacked}
+use Rattle.group_protocol.specs.Backs.{HasPromised, IsRecordBacked}
 use Rattle.group_node.specs.Inputs.{AreChosen}
-use Rattle.group_node.specs.Packets.{datagrams_of, Packet, to_all}
-use Rattle.group_node.specs.Steps.{AllChosen, AllTyped, messages_handed_out}
+use Rattle.group_protocol.specs.Packets.{datagrams_of, Packet, to_all}
+use Rattle.group_protocol.specs.Steps.{AllChosen, AllTyped, messages_handed_out}
 use Rattle.group_world.specs.Order.{AreApart, HaveOneName}
 use Rattle.group_world.specs.Ordered.{IsDue, IsOrdered, IsRowOf}
 use Rattle.group_world.specs.Sound.{IsMemberSound, IsSound, IsSpelling}
 use Rattle.group_world.specs.Group.{me_of, member_at, World, world_state, seat_of_member, messages_in}
 use Rattle.group_world.specs.Member.{Member}
-use Rattle.group_node.specs.Ranges.{AllFit}
+use Rattle.group_protocol.specs.Ranges.{AllFit}
 use Rattle.group_world.proofs.WorldAsGroup.{nothing_shown, packets_read, ReadLaw, stopped}
 use Rattle.group_world.proofs.OrderLists.{left_place}
 use Rattle.std.proofs.lemmas.Bool.{and_parts, ltb-true}
@@ -38,7 +38,7 @@ use Rattle.paxos_msg.specs.Growth.{nothing, saves, sends}
 use Rattle.paxos_msg.specs.Records.{changed, empty_record, IsSaved}
 use Rattle.paxos_msg.specs.declared.message.Group.{Group}
 use Rattle.paxos_acceptor.specs.declared.me.Me.{Me}
-use Rattle.group_node.proofs.Elements.{each_of}
+use Rattle.group_protocol.proofs.Elements.{each_of}
 use Rattle.group_world.proofs.ChainedSteps.{chosen_by, is_other, promised as promised_here, report, safe_by, typed_by, unproposed}
 
 -- ---- the keys, and the batches

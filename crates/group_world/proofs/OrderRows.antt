@@ -15,7 +15,7 @@ use Rattle.paxos_msg.specs.Batches.{Sent}
 use Rattle.paxos_learner.specs.Input.{keys_in_order}
 use Rattle.group_node.specs.Inputs.{AreChosen}
 use Rattle.std.proofs.lemmas.List.FromFn.{length-range_with_len, get_or-range_with_len}
-use Rattle.group_node.proofs.Elements.{first_in}
+use Rattle.group_protocol.proofs.Elements.{first_in}
 
 -- ---- keys of a start of a node
 

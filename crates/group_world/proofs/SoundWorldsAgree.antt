@@ -28,7 +28,7 @@ use Rattle.std.proofs.lemmas.Bool.Decides.{nat_tests}
 use Rattle.std.proofs.lemmas.List.{length_push, take-append-le}
 use Rattle.group_world.specs.Processes.{ConsolesShowReleased}
 use Rattle.group_node.specs.Output.{unreleased_of}
-use Rattle.group_node.proofs.Elements.{none_in}
+use Rattle.group_protocol.proofs.Elements.{none_in}
 
 -- what the machine of a node has written, and the byte that the node releases next
 abbrev pub written : Running → List ℕ

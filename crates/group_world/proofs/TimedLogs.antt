@@ -6,13 +6,13 @@ use Rattle.std.proofs.Common.{◌≡◌, ◌<◌, ◌≤◌, ◌⊎◌, List, []
 use Rattle.std.specs.List.{AllByRecursion, Contains}
 use Rattle.paxos_msg.specs.declared.message.Group.{Group}
 use Rattle.paxos_msg.specs.Batches.{Msg}
-use Rattle.group_node.specs.Packets.{Datagram}
+use Rattle.group_protocol.specs.Packets.{Datagram}
 use Rattle.group_world.specs.Group.{message_of, messages_in}
 use Rattle.group_node.specs.Deeds.{Deed, Hear}
 use Rattle.group_world.specs.Processes.{IsCarried, sent_in}
 use Rattle.group_world.specs.Event.{HearsOf}
 use Rattle.group_world.specs.Timed.{AllHearEarlier, HearsEarlier, IsByTime, Timed, untimed}
-use Rattle.group_node.proofs.Elements.{each_of, in_cases, none_in}
+use Rattle.group_protocol.proofs.Elements.{each_of, in_cases, none_in}
 
 module _ (group : Group) where
   -- a message of an entry is one of all that were sent

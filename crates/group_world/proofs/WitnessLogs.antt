@@ -17,12 +17,13 @@ use Rattle.paxos_learner.specs.Entered.{keys_with}
 use Rattle.paxos_learner.specs.Input.{learned_input}
 use Rattle.paxos_learner.specs.Tallies.{Tally, begun_tally}
 use Rattle.paxos_learner.proofs.OnePlace.{get_here}
-use Rattle.group_node.specs.Known.{Known, Response}
-use Rattle.group_node.specs.Packets.{to_all, to_one, Packet}
-use Rattle.group_node.specs.Protocol.{on_message}
-use Rattle.group_node.specs.Pump.{pump}
-use Rattle.group_node.specs.States.{input, IsSize}
-use Rattle.group_node.specs.Tick.{on_tick}
+use Rattle.group_protocol.specs.Known.{Known, Response}
+use Rattle.group_protocol.specs.Packets.{to_all, to_one, Packet}
+use Rattle.group_protocol.specs.Protocol.{on_message}
+use Rattle.group_protocol.specs.Pump.{pump}
+use Rattle.group_protocol.specs.States.{IsSize}
+use Rattle.group_node.specs.States.{input}
+use Rattle.group_protocol.specs.Tick.{on_tick}
 use Rattle.group_world.specs.Event.{LeadsBy, kept_event}
 use Rattle.group_world.specs.Group.{messages_in, new_world, up_of, world_state, World}
 use Rattle.group_world.specs.Headline.{HasLearned}
@@ -38,7 +39,7 @@ use Rattle.group_world.proofs.OrderPossible.{are_bytes, ballot_fits as ballot_al
 use Rattle.group_world.proofs.ProcessEvents.{events_lead}
 use Rattle.group_world.proofs.WorldAsGroup.{ReadLaw, stopped}
 use Rattle.group_world.proofs.WrittenLogs.{asking, campaigns_so, fresh, prepares, promised}
-use Rattle.group_node.proofs.Elements.{entries_none, entries_one}
+use Rattle.group_protocol.proofs.Elements.{entries_none, entries_one}
 use Rattle.group_world.specs.declared.event.Done.TheVariants.{Fell}
 use Rattle.group_world.specs.declared.event.Outcome.TheVariants.{FailedOld}
 use Rattle.pcode_file.specs.Parts.{Parts}

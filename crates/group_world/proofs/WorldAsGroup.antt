@@ -17,12 +17,12 @@ use Rattle.paxos_msg.specs.Fits.{IsNode, IsGroup}
 use Rattle.paxos_msg.specs.Keys.{keys_of}
 use Rattle.paxos_msg.specs.Datagrams.{message_at, Msgs}
 use Rattle.paxos_acceptor.specs.declared.me.Me.{Me}
-use Rattle.group_node.specs.Packets.{Packet, datagram_of, datagrams_of}
-use Rattle.group_node.specs.Ranges.{AllFit}
-use Rattle.group_node.specs.Known.{Response}
+use Rattle.group_protocol.specs.Packets.{Packet, datagram_of, datagrams_of}
+use Rattle.group_protocol.specs.Ranges.{AllFit}
+use Rattle.group_protocol.specs.Known.{Response}
 use Rattle.group_node.specs.Output.{Progress}
 use Rattle.group_node.specs.States.{input}
-use Rattle.group_node.specs.Steps.{messages_handed_out}
+use Rattle.group_protocol.specs.Steps.{messages_handed_out}
 use Rattle.pcode_machine.specs.Runs.{after_steps, out}
 use Rattle.group_node.specs.World.{after_call, with_seat}
 use Rattle.group_world.specs.Group.{IsUp, me_of, member_at, messages_in, new_world, seat_of_member, with_member, World, world_state}

@@ -14,12 +14,12 @@ use Rattle.paxos_acceptor.specs.declared.me.Me.{Me}
 use Rattle.paxos_proposer.specs.Proposer.{new_proposer}
 use Rattle.paxos_learner.specs.Learner.{new_learner}
 use Rattle.group_node.specs.Deeds.{Campaign, Crash, Tick}
-use Rattle.group_node.specs.Known.{Known, Response, on_start}
+use Rattle.group_protocol.specs.Known.{Known, Response, on_start}
 use Rattle.group_node.specs.Output.{Progress, no_progress}
-use Rattle.group_node.specs.Packets.{Packet, datagrams_of, to_all}
-use Rattle.group_node.specs.Protocol.{on_message}
-use Rattle.group_node.specs.Steps.{messages_handed_out}
-use Rattle.group_node.specs.Tick.{on_tick}
+use Rattle.group_protocol.specs.Packets.{Packet, datagrams_of, to_all}
+use Rattle.group_protocol.specs.Protocol.{on_message}
+use Rattle.group_protocol.specs.Steps.{messages_handed_out}
+use Rattle.group_protocol.specs.Tick.{on_tick}
 use Rattle.group_world.specs.Group.{World, me_of, member_at, messages_in}
 use Rattle.group_world.specs.Member.{Makes, Member, call_of_campaign, call_of_start, member_after_call}
 use Rattle.group_world.specs.Processes.{DoesEntry, Entry, IsLog}
@@ -29,7 +29,7 @@ use Rattle.group_world.proofs.CallLeaves.{kept_call}
 use Rattle.group_world.specs.WrittenLogs.{entry_with, first_ballot, hear_entry, press_entry, quiet_entry, start_after, started_times}
 use Rattle.group_world.proofs.ProcessEvents.{log_before, log_first, moved, no_log}
 use Rattle.group_world.proofs.WorldAsGroup.{ReadLaw, packets_read, stopped}
-use Rattle.group_node.proofs.Elements.{entries_none}
+use Rattle.group_protocol.proofs.Elements.{entries_none}
 
 -- ---- a log, entry by entry
 

@@ -26,7 +26,7 @@ use Rattle.group_world.specs.Headline.{ConsolesAgree, ConsolesGrow, ConsolesHold
 use Rattle.group_world.specs.Order.{KeysOnce, SerialsInOrder}
 use Rattle.group_world.specs.Processes.{ConsolesShowReleased}
 use Rattle.group_node.specs.WrongSteps.{ballot_by, no_code, ninth_key, up_learned, up_written}
-use Rattle.group_node.proofs.Elements.{each_of, minority}
+use Rattle.group_protocol.proofs.Elements.{each_of, minority}
 use Rattle.group_world.specs.Witness.{letter_program}
 use Rattle.group_world.proofs.SmallPrograms.{writes_letter, written_by}
 use Rattle.group_world.specs.WrongGroups.{accepts_at, apart_consoles, chosen_three, five_accept, forty_and, bare, late_unchosen, late_untyped, late_values, learned_late, letters_shown, ninth_written, seventh_key, third_keys, three_of_nine, three_written}

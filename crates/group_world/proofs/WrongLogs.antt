@@ -17,11 +17,11 @@ use Rattle.paxos_msg.specs.Batches.{Msg, Record}
 use Rattle.paxos_acceptor.specs.declared.me.Me.{Me}
 use Rattle.group_node.specs.Deeds.{Idle, Crash, Press, Tick}
 use Rattle.group_node.specs.declared.player.Ran.TheVariants as ran
-use Rattle.group_node.specs.Known.{Known}
+use Rattle.group_protocol.specs.Known.{Known}
 use Rattle.group_node.specs.Output.{IsReplay, no_progress}
 use Rattle.group_node.specs.States.{input}
-use Rattle.group_node.specs.Packets.{Datagram, Packet, datagram_of, datagrams_of, to_all}
-use Rattle.group_node.specs.Tick.{on_tick}
+use Rattle.group_protocol.specs.Packets.{Datagram, Packet, datagram_of, datagrams_of, to_all}
+use Rattle.group_protocol.specs.Tick.{on_tick}
 use Rattle.group_world.specs.Group.{World, me_of, member_at, messages_in, new_world}
 use Rattle.group_world.specs.Member.{IsMemberUp, Makes, Member, Running, RunsMember, call_outcome, call_of_press, sent_by, typed_by}
 use Rattle.group_world.specs.Processes.{AreEventsOf, AreEventsOfEntry, DoesEntry, Entry, IsLog}
@@ -32,7 +32,7 @@ use Rattle.group_world.proofs.LoggedRuns.{◌▸◌, Ran, campaigns, crashes as 
 use Rattle.group_world.proofs.ProcessEvents.{log_first, moved, no_log}
 use Rattle.group_world.proofs.WorldAsGroup.{ReadLaw, changed_here, stopped}
 use Rattle.group_world.proofs.WrittenLogs.{Logs, after_start, campaign_does, campaigns_so, crash_does, fresh, logs_before, logs_none, prepares, press_does, sent_read, start_does, started, tells_so, tick_does, ticks_so, up}
-use Rattle.group_node.proofs.Elements.{first_in, in_cases, none_in}
+use Rattle.group_protocol.proofs.Elements.{first_in, in_cases, none_in}
 
 -- ---- nodes that are up and down
 

@@ -22,7 +22,7 @@ use Rattle.group_world.specs.WrongWorlds.{accepted_message, chosen, chosen_two, 
 use Rattle.std.specs.FinMap.{empty, insert}
 use Rattle.std.specs.List.{range_with_len}
 use Rattle.paxos_learner.specs.Input.{keys_in_order}
-use Rattle.group_node.proofs.Elements.{each_of, minority, none_in}
+use Rattle.group_protocol.proofs.Elements.{each_of, minority, none_in}
 
 -- ---- keys that are not in order, or not apart
 

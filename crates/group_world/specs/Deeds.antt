@@ -5,10 +5,10 @@ use Rattle.paxos_msg.specs.declared.value.Value.{Value}
 use Rattle.paxos_acceptor.specs.declared.me.Me.{Me}
 use Rattle.group_node.specs.Deeds.{Deed, Idle, Start, Hear, Press, Campaign, Tick, Run, Release, Crash}
 use Rattle.group_node.specs.Output.{Progress, no_progress, unreleased_of}
-use Rattle.group_node.specs.Packets.{Datagram}
-use Rattle.group_node.specs.Protocol.{on_message}
+use Rattle.group_protocol.specs.Packets.{Datagram}
+use Rattle.group_protocol.specs.Protocol.{on_message}
 use Rattle.group_node.specs.States.{input}
-use Rattle.group_node.specs.Tick.{on_tick}
+use Rattle.group_protocol.specs.Tick.{on_tick}
 use Rattle.group_world.specs.declared.event.Done.{Done}
 use Rattle.group_world.specs.declared.event.Done.TheVariants.{Applied}
 use Rattle.group_world.specs.Member.{CallEnds, Makes, Member, NodeCall, Running, RunsMember, call_of_campaign, call_of_press, call_of_start, call_outcome, member_after_fall, member_after_release}

@@ -4,7 +4,7 @@ use Rattle.paxos_msg.specs.declared.message.Group.{Group}
 use Rattle.paxos_msg.specs.Batches.{Msg, Record, Sent}
 use Rattle.group_node.specs.Deeds as deed
 use Rattle.group_node.specs.Deeds.{Deed}
-use Rattle.group_node.specs.Packets.{Datagram}
+use Rattle.group_protocol.specs.Packets.{Datagram}
 use Rattle.group_node.specs.World.{WorldState, WorldStep}
 use Rattle.group_world.specs.declared.event.Act.{Act}
 use Rattle.group_world.specs.declared.event.Act.TheVariants.{Press, Deliver, Campaign, Tick, Run, Release, Crash, Start}

@@ -10,8 +10,8 @@ use Rattle.paxos_msg.specs.Keys.{keys_of}
 use Rattle.paxos_msg.specs.Datagrams.{message_at}
 use Rattle.paxos_msg.specs.Records.{empty_record}
 use Rattle.paxos_acceptor.specs.declared.me.Me.{Me}
-use Rattle.group_node.specs.WaitingKeys.{waiting_keys}
-use Rattle.group_node.specs.Packets.{Datagram}
+use Rattle.group_protocol.specs.WaitingKeys.{waiting_keys}
+use Rattle.group_protocol.specs.Packets.{Datagram}
 use Rattle.group_node.specs.States.{input}
 use Rattle.group_node.specs.World.{Seat, Up, WorldState}
 use Rattle.group_world.specs.Member.{Member, Running}

@@ -11,7 +11,7 @@ use Rattle.paxos_msg.specs.Keys.{Key, keys_of}
 use Rattle.group_node.specs.declared.console.Offer.TheVariants.{Gap, Repeat}
 use Rattle.group_node.specs.Console.{offer_answer}
 use Rattle.group_node.specs.Inputs.{IsInput}
-use Rattle.group_node.specs.States.{IsSize}
+use Rattle.group_protocol.specs.States.{IsSize}
 use Rattle.group_node.specs.World.{Up, WorldState}
 use Rattle.group_world.specs.declared.event.Event.{Event}
 use Rattle.group_world.specs.Event.{LeadsBy}

@@ -9,7 +9,7 @@ use Rattle.paxos_msg.specs.Batches.{Record}
 use Rattle.paxos_msg.specs.Keys.{Key}
 use Rattle.paxos_acceptor.specs.declared.me.Me.{Me}
 use Rattle.group_node.specs.Deeds as deed
-use Rattle.group_node.specs.Packets.{to_all, to_one}
+use Rattle.group_protocol.specs.Packets.{to_all, to_one}
 use Rattle.group_world.specs.declared.event.Act.TheVariants.{Press, Deliver, Campaign, Tick, Run, Release, Start}
 use Rattle.group_world.specs.declared.event.Event.{Event}
 use Rattle.group_world.specs.Event.{kept_event}

@@ -6,20 +6,20 @@ use Rattle.paxos_msg.specs.Batches.{Change, Record}
 use Rattle.paxos_msg.specs.Datagrams.{Fits}
 use Rattle.paxos_acceptor.specs.declared.me.Me.{Me}
 use Rattle.paxos_acceptor.specs.Stores.{StoreState}
-use Rattle.group_node.specs.declared.fault.NodeFault.{NodeFault}
-use Rattle.group_node.specs.declared.fault.NodeFault.TheVariants as fault
-use Rattle.group_node.specs.declared.limits.TheConstants.{MOST_WAITING}
+use Rattle.group_protocol.specs.declared.fault.NodeFault.{NodeFault}
+use Rattle.group_protocol.specs.declared.fault.NodeFault.TheVariants as fault
+use Rattle.group_protocol.specs.declared.limits.TheConstants.{MOST_WAITING}
 use Rattle.group_node.specs.declared.player.Ran.{Ran}
 use Rattle.group_node.specs.Console.{offered}
 use Rattle.group_node.specs.Deeds as deed
 use Rattle.group_node.specs.Deeds.{Deed}
-use Rattle.group_node.specs.Known.{Response, Known, front, new_key, next_serial, on_start, on_typed}
+use Rattle.group_protocol.specs.Known.{Response, Known, front, new_key, next_serial, on_start, on_typed}
 use Rattle.group_node.specs.Output.{IsReplay, Progress, RunsOn}
-use Rattle.group_node.specs.Packets.{Datagram, datagrams_of}
-use Rattle.group_node.specs.Protocol.{on_message}
-use Rattle.group_node.specs.ProposerRows.{last_round, on_campaign}
+use Rattle.group_protocol.specs.Packets.{Datagram, datagrams_of}
+use Rattle.group_protocol.specs.Protocol.{on_message}
+use Rattle.group_protocol.specs.ProposerRows.{last_round, on_campaign}
 use Rattle.group_node.specs.States.{NodeState, input}
-use Rattle.group_node.specs.Tick.{on_tick}
+use Rattle.group_protocol.specs.Tick.{on_tick}
 use Rattle.group_world.specs.declared.event.Done.{Done}
 use Rattle.group_world.specs.declared.event.Done.TheVariants as done
 use Rattle.group_world.specs.declared.fault.WorldFault.{WorldFault}

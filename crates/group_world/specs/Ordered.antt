@@ -10,8 +10,8 @@ use Rattle.paxos_msg.specs.Keys.{Key}
 use Rattle.paxos_msg.specs.Messages.{IsSaid}
 use Rattle.paxos_learner.specs.Input.{front_values, keys_in_order}
 use Rattle.group_node.specs.Inputs.{AreChosen}
-use Rattle.group_node.specs.Known.{Known, next_serial}
-use Rattle.group_node.specs.WaitingKeys.{waiting_keys}
+use Rattle.group_protocol.specs.Known.{Known, next_serial}
+use Rattle.group_protocol.specs.WaitingKeys.{waiting_keys}
 use Rattle.group_world.specs.Order.{AreApart, is_of, serials_of}
 use Rattle.group_world.specs.Sound.{IsSound}
 use Rattle.group_world.specs.Group.{member_at, World, world_state}

@@ -8,8 +8,8 @@ use Rattle.paxos_msg.specs.declared.value.Value.{Value}
 use Rattle.paxos_msg.specs.Fits.{IsGroup}
 use Rattle.paxos_acceptor.specs.declared.me.Me.{Me}
 use Rattle.group_node.specs.Deeds.{Deed, Idle}
-use Rattle.group_node.specs.Packets.{Datagram}
-use Rattle.group_node.specs.States.{IsSize}
+use Rattle.group_protocol.specs.Packets.{Datagram}
+use Rattle.group_protocol.specs.States.{IsSize}
 use Rattle.group_node.specs.World.{Up, WorldState}
 use Rattle.group_world.specs.declared.event.Done.{Done}
 use Rattle.group_world.specs.declared.event.Event.{Event}

@@ -14,13 +14,14 @@ use Rattle.paxos_msg.specs.Datagrams.{Msgs}
 use Rattle.paxos_acceptor.specs.declared.me.Me.{Me}
 use Rattle.paxos_acceptor.specs.Records.{IsRecord}
 use Rattle.paxos_learner.specs.Input.{input_of}
-use Rattle.group_node.specs.Backs.{Backs, IsRecordBacked}
+use Rattle.group_protocol.specs.Backs.{Backs, IsRecordBacked}
 use Rattle.group_node.specs.Inputs.{AreChosen}
 use Rattle.group_node.specs.Output.{IsReplay}
-use Rattle.group_node.specs.Packets.{Datagram}
-use Rattle.group_node.specs.Ranges.{IsInRange}
-use Rattle.group_node.specs.States.{input, IsSize}
-use Rattle.group_node.specs.Steps.{AllChosen, AllTyped}
+use Rattle.group_protocol.specs.Packets.{Datagram}
+use Rattle.group_protocol.specs.Ranges.{IsInRange}
+use Rattle.group_protocol.specs.States.{IsSize}
+use Rattle.group_node.specs.States.{input}
+use Rattle.group_protocol.specs.Steps.{AllChosen, AllTyped}
 use Rattle.group_world.specs.Group.{me_of, member_at, message_of, World, world_state}
 use Rattle.group_world.specs.Member.{Member, Running}
 

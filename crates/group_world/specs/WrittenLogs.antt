@@ -7,7 +7,7 @@ use Rattle.paxos_msg.specs.declared.value.Value.{Value}
 use Rattle.paxos_msg.specs.Batches.{Body, Record}
 use Rattle.paxos_acceptor.specs.declared.me.Me.{Me}
 use Rattle.group_node.specs.Deeds.{Deed, Hear, Press, Start}
-use Rattle.group_node.specs.Packets.{Packet, datagrams_of}
+use Rattle.group_protocol.specs.Packets.{Packet, datagrams_of}
 use Rattle.group_world.specs.declared.event.Outcome.TheVariants.{Kept}
 use Rattle.group_world.specs.Group.{new_world}
 use Rattle.group_world.specs.Member.{Member}

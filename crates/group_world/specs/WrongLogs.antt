@@ -6,7 +6,7 @@ use Rattle.paxos_msg.specs.declared.message.Group.{Group}
 use Rattle.paxos_msg.specs.declared.value.Value.TheVariants.{Keys}
 use Rattle.paxos_acceptor.specs.declared.me.Me.{Me}
 use Rattle.group_node.specs.Deeds.{Campaign, Crash, Idle, Release, Run, Tick}
-use Rattle.group_node.specs.Packets.{Packet, to_all, to_one}
+use Rattle.group_protocol.specs.Packets.{Packet, to_all, to_one}
 use Rattle.group_world.specs.declared.event.Act.TheVariants as act
 use Rattle.group_world.specs.declared.event.Event.{Event}
 use Rattle.group_world.specs.declared.event.Outcome.{Outcome}

@@ -1,7 +1,7 @@
 //! The nodes of a group, what was sent and what was typed. Each kind of event is one function.
 ghost use Rattle.std.specs.Prelude.{◌≡◌, ◌+◌, ◌-◌, ◌∷◌, ◌++◌, ◌<◌, ◌≤◌, [], Option, None, Some, length, vec_len, vec_capacity, option_map, replicate, IfOk, Bool, Err, OnErr};
 ghost use Rattle.paxos_msg.specs.Records.{empty_record};
-ghost use Rattle.group_node.specs.declared.limits.TheConstants.{MOST_PACKETS};
+ghost use Rattle.group_protocol.specs.declared.limits.TheConstants.{MOST_PACKETS};
 ghost use Rattle.group_world.specs.declared.event.Done.TheVariants.{Applied};
 ghost use Rattle.group_node.specs.Deeds as deed;
 ghost use Rattle.group_world.specs.Event.{DoesAt, Performs, StartsAt};
@@ -14,8 +14,8 @@ ghost use Rattle.group_world.specs.Member as state;
 use crate::event::{Act, Done};
 use crate::fault::WorldFault;
 use crate::member::{Ask, Member};
-use group_node::limits::MOST_PACKETS;
 use group_node::{Config, Outbox, Packet};
+use group_protocol::limits::MOST_PACKETS;
 use paxos_msg::{Group, Value, decode};
 use pcode_ops::Program;
 use std::alloc::{AllocError, Global};

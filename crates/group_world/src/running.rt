@@ -1,6 +1,6 @@
 //! Lists of events.
 ghost use Rattle.std.specs.Prelude.{IfErr, IfOk};
-ghost use Rattle.group_node.specs.States.{IsSize};
+ghost use Rattle.group_protocol.specs.States.{IsSize};
 ghost use Rattle.group_world.specs.Event.{LeadsBy};
 ghost use Rattle.group_world.specs.Group.{new_world, world_state};
 ghost use Rattle.group_world.specs.Refusals.{IsRunRefused};

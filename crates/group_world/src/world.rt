@@ -1,6 +1,6 @@
 //! A group whose invariant is known: after each event the claims of the main theorem hold.
 ghost use Rattle.std.specs.Prelude.{◌≡◌, ◌↔◌, ◌⊎◌, length, option_and_then, option_map, slice_get, IfErr, IfOk, IsErrOf, OnOk};
-ghost use Rattle.group_node.specs.States.{IsSize};
+ghost use Rattle.group_protocol.specs.States.{IsSize};
 ghost use Rattle.group_world.specs.Group.{member_at, new_world, world_state};
 ghost use Rattle.group_world.specs.Member.{running};
 ghost use Rattle.group_world.specs.Refusals.{Applies};

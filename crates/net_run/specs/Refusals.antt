@@ -1,7 +1,7 @@
 -- Why a group in one process ends early.
 use Rattle.std.specs.Prelude.{◌≡◌, ◌⊎◌}
-use Rattle.group_node.specs.declared.fault.NodeFault.TheVariants.{SerialSpent, Stopped, Store}
-use Rattle.group_node.specs.declared.fault.NodeFault.TheVariants as fault
+use Rattle.group_protocol.specs.declared.fault.NodeFault.TheVariants.{SerialSpent, Stopped, Store}
+use Rattle.group_protocol.specs.declared.fault.NodeFault.TheVariants as fault
 use Rattle.group_udp.specs.declared.fault.GroupFault.{GroupFault}
 use Rattle.group_udp.specs.declared.fault.GroupFault.TheVariants as group
 use Rattle.group_udp.specs.Refusals.{IsOpenRefusal, IsRunRefusal, no_memory}

@@ -147,7 +147,7 @@ impl<'a, H: Clock + Files + AllocGlobal> ShownNode<'a, H> {
         self.wire.wait();
         let turned = self.host.turn(&mut self.wire)?;
         self.show_output()?;
-        let end = end_to_note(self.has_ended, turned.ran);
+        let end = end_to_note(self.has_ended, turned.ran.end());
         self.has_ended = self.has_ended || end.is_some();
         Ok(end)
     }

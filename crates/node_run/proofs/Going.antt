@@ -1,5 +1,5 @@
 -- Calls of a node, one after the other: their deeds, and what it was prompted to do.
-use Rattle.std.proofs.Common.{◌≡◌, ◌≢◌, ◌∙◌, ◌⊎◌, inl, inr, Bool, ℕ, ◌+◌, ◌<◌, ◌≤◌, List, [], ◌∷◌, ◌++◌, drop, length, take, OnOk, map, Option, Some, None, Result, Ok, Err, refl, sym, ap, subst, arith, append_assoc, append-nil}
+use Rattle.std.proofs.Common.{◌≡◌, ◌≢◌, ◌∙◌, ◌⊎◌, inl, inr, Bool, ℕ, ◌+◌, ◌<◌, ◌≤◌, List, [], ◌∷◌, ◌++◌, drop, length, take, map, Option, Some, None, Result, Ok, Err, refl, sym, ap, subst, arith, append_assoc, append-nil}
 use Rattle.std.proofs.Math.Seq.{take-append_seam}
 use Rattle.std.proofs.lemmas.Grind.{common_steps, flat_map-append}
 use Rattle.std.proofs.lemmas.List.{length-append, take-append-drop}
@@ -8,8 +8,8 @@ use Rattle.group_node.specs.Deeds.{Campaign, Deed, Press, Run}
 use Rattle.group_node.specs.States.{NodeState}
 use Rattle.group_wire.specs.Doings.{Fails, HasActed}
 use Rattle.group_wire.specs.Traffic.{Traffic}
-use Rattle.group_node.specs.declared.fault.NodeFault.{NodeFault}
-use Rattle.group_node.specs.declared.fault.NodeFault.TheVariants.{Store}
+use Rattle.group_protocol.specs.declared.fault.NodeFault.{NodeFault}
+use Rattle.group_protocol.specs.declared.fault.NodeFault.TheVariants.{Store}
 use Rattle.group_udp.specs.declared.fault.GroupFault.{GroupFault}
 use Rattle.group_udp.specs.declared.fault.GroupFault.TheVariants as group
 use Rattle.node_run.specs.Going.{Around, CampaignsIf, FailsAt, HasEnded, HasGone, HasGoneOn, HasReason, around, planned}
@@ -319,8 +319,3 @@ campaign_refused {old = old} {new} {t} {u} {keys} {asked} {turns} {e} (is, fails
           (λ other. absurd (other store)),
     )
     by (inr other) = ([], inr refl, 0, omega arith, ended [] (λ s. absurd (other s)) acts)
-
--- what holds in any case holds at `Ok`
-pub at_ok : {T E P : Type 0} (r : Result T E) → P → OnOk r P
-at_ok (Ok x) p = p
-at_ok (Err e) p = tt

@@ -2,8 +2,8 @@
 use Rattle.std.proofs.Common.{◌≡◌, ◌∙◌, inl, inr, ℕ, ◌+◌, ◌≤◌, false, List, [], ◌∷◌, ◌++◌, length, map, Option, Result, Ok, Err, refl, sym, ap, arith, append-nil}
 use Rattle.std.proofs.lemmas.List.{length-append}
 use Rattle.paxos_acceptor.specs.Stores.{StoreKind}
-use Rattle.group_node.specs.declared.fault.NodeFault.{NodeFault}
-use Rattle.group_node.specs.declared.fault.NodeFault.TheVariants.{SerialSpent}
+use Rattle.group_protocol.specs.declared.fault.NodeFault.{NodeFault}
+use Rattle.group_protocol.specs.declared.fault.NodeFault.TheVariants.{SerialSpent}
 use Rattle.group_node.specs.Deeds.{Campaign, Press}
 use Rattle.group_node.specs.States.{NodeState}
 use Rattle.group_wire.specs.Doings.{ActsTyping}

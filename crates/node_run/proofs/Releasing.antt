@@ -8,7 +8,8 @@ use Rattle.std.proofs.lemmas.Option.{slice_get_cases}
 use Rattle.std.specs.Io.KnownBytes.{Appends, Keeps}
 use Rattle.std.proofs.KnownBytes.{Appends-kept, Appends-nil, Appends-trans}
 use Rattle.group_node.specs.Output.{Progress, unreleased_of}
-use Rattle.group_node.specs.States.{Protocol, input}
+use Rattle.group_protocol.specs.States.{Protocol}
+use Rattle.group_node.specs.States.{input}
 use Rattle.group_wire.specs.Turns.{released_of}
 use Rattle.node_run.specs.Output.{ReleasesBytes}
 use Rattle.node_run.specs.Releases.{LosesOutput, NodeMoment, WritesAll}
@@ -89,14 +90,3 @@ module _ {S : Type 0} (seen number byte : ℕ) (first old new : NodeMoment S) (h
 pub writes_all : {S : Type 0} (seen : ℕ) (old new : NodeMoment S) → WritesSome seen old new
     → None ≡ next_of (input new.node.protocol.known) new.node.progress → WritesAll seen old new
 writes_all seen old new h none = grind (arith, common_steps, slice_get_cases)
-
--- ---- the loop that shows
-
--- one byte more is on a console that shows what was released
-pub shown_more : (x y : List ℕ) (old q new : Progress) (count : ℕ) (start before now : List ℕ) → y ≡ x → start ≡ released_of x old
-    → (gone : List ℕ) × ReleasesBytes x old q gone × (length gone ≡ count) × (before ≡ start ++ gone)
-    → (byte : ℕ) × ReleasesBytes y q new (byte ∷ []) → now ≡ released_of y new
-    → (gone : List ℕ) × ReleasesBytes x old new gone × (length gone ≡ count + 1) × (now ≡ start ++ gone)
-shown_more x y old q new count start before now same shows (gone, h, many, _) (byte, k) is =
-    let both : ReleasesBytes x old new (gone ++ byte ∷ []) = grind (arith, common_steps) in
-    (gone ++ byte ∷ [], both, grind (arith, common_steps), grind (arith, common_steps, released_on))

@@ -1,19 +1,19 @@
 -- A whole run of a node, by its answer.
-use Rattle.std.proofs.Common.{◌≡◌, ◌⊎◌, inl, inr, ℕ, List, Option, Some, None, IfErr, IsErrOf, Result, Ok, Err, refl, sym, ap, subst, arith}
+use Rattle.std.proofs.Common.{◌≡◌, ◌⊎◌, inl, inr, ℕ, List, Option, IfErr, IsErrOf, Result, Ok, Err, refl, sym, ap, subst, arith}
 use Rattle.std.specs.declared.net.socket_addr.SocketAddr.{SocketAddr}
 use Rattle.pcode_file.specs.Parts.{Parts}
 use Rattle.paxos_acceptor.specs.declared.me.Me.{Me}
 use Rattle.paxos_acceptor.specs.Stores.{StoreKind}
 use Rattle.group_node.specs.Output.{IsReplay}
-use Rattle.group_node.specs.States.{IsConfig, NodeState, input}
+use Rattle.group_protocol.specs.States.{IsConfig}
+use Rattle.group_node.specs.States.{NodeState, input}
 use Rattle.group_wire.specs.Doings.{working}
 use Rattle.group_wire.specs.Starts.{HasStarted}
 use Rattle.group_udp.specs.declared.fault.GroupFault.{GroupFault}
 use Rattle.node_run.specs.declared.node.NodePlan.{NodePlan}
-use Rattle.node_run.specs.Ends.{EndsLoaded, IsRefusedInput, IsTypedText, RefusesUnwritten, RunsOpened, RunsOverFile, keys_at_first, me_in}
+use Rattle.node_run.specs.Ends.{EndsLoaded, IsRefusedInput, IsTypedText, RefusesUnwritten, RunsOpened, RunsWith, keys_at_first, me_in}
 use Rattle.node_run.specs.Going.{Around, HasGone, planned}
 use Rattle.node_run.specs.Output.{AppendsOutput}
-use Rattle.group_udp.specs.Prompts.{Remaining}
 use Rattle.group_udp.specs.Refusals.{IsCampaignRefusal, IsWrittenRoundRefusal, write_failed}
 use Rattle.node_run.specs.Runs.{RunsNode}
 use Rattle.node_run.proofs.Going.{is_store}
@@ -79,20 +79,12 @@ module _ {S : Type 0} (kind : StoreKind S) (me : Me) (program : Parts)
 
 -- ---- over the files and sockets of the system
 
--- a text is typed
-pub opened_text : {me : Me} {program : Parts} {plan : NodePlan} (text : List ℕ) {before after : Option (List ℕ)}
-    {result : Result (Unit {0}) GroupFault} (to : Option Remaining) → plan.keys ≡ None
-    → RunsOverFile me program plan (Some (record { bytes = text; requests = 0 })) to before after result
-    → RunsOpened me program plan text before after result
-opened_text {me} {program} {plan} text {before} {after} {result} to none h =
-    inr (to, subst (λ k. RunsOverFile me program plan (keys_at_first k text) to before after result) (sym none) h)
-
--- or typed bytes come as datagrams
-pub opened_datagrams : {me : Me} {program : Parts} {plan : NodePlan} (text : List ℕ) {before after : Option (List ℕ)}
-    {result : Result (Unit {0}) GroupFault} (to : Option Remaining) (address : SocketAddr) → plan.keys ≡ Some address
-    → RunsOverFile me program plan None to before after result → RunsOpened me program plan text before after result
-opened_datagrams {me} {program} {plan} text {before} {after} {result} to address some h =
-    inr (to, subst (λ k. RunsOverFile me program plan (keys_at_first k text) to before after result) (sym some) h)
+-- it is typed at the keyboard of the plan
+pub opened : {me : Me} {program : Parts} {plan : NodePlan} (text : List ℕ) {before after : Option (List ℕ)}
+    {result : Result (Unit {0}) GroupFault} (keys : Option SocketAddr) → plan.keys ≡ keys
+    → RunsWith me program plan (keys_at_first keys text) before after result → RunsOpened me program plan text before after result
+opened {me} {program} {plan} text {before} {after} {result} keys is h =
+    subst (λ k. RunsWith me program plan (keys_at_first k text) before after result) (sym is) h
 
 -- the node of a plan that a group has
 pub loaded_runs : {config : Me} {program : Parts} {plan : NodePlan} {from to : Option (List ℕ)} (text : List ℕ)

@@ -5,8 +5,8 @@ use Rattle.paxos_msg.specs.Batches.{Record}
 use Rattle.paxos_acceptor.specs.declared.me.Me.{Me}
 use Rattle.paxos_acceptor.specs.declared.store.StoreFault.{StoreFault}
 use Rattle.paxos_acceptor.specs.Stores.{StoreKind}
-use Rattle.group_node.specs.declared.fault.NodeFault.{NodeFault}
-use Rattle.group_node.specs.declared.fault.NodeFault.TheVariants.{Stopped, Store}
+use Rattle.group_protocol.specs.declared.fault.NodeFault.{NodeFault}
+use Rattle.group_protocol.specs.declared.fault.NodeFault.TheVariants.{Stopped, Store}
 use Rattle.group_node.specs.Starting.{StartsAfter}
 use Rattle.group_node.specs.States.{NodeState}
 use Rattle.group_node.specs.Deeds.{Deed}

@@ -3,10 +3,10 @@
 use Rattle.std.specs.Prelude.{◌≡◌, ◌≢◌, ◌⊎◌, ◌<◌, ℕ, List, [], Option, Some, None, Result, Err}
 use Rattle.std.specs.declared.net.socket_addr.SocketAddr.{SocketAddr}
 use Rattle.paxos_acceptor.specs.declared.me.Me.{Me}
-use Rattle.paxos_acceptor.specs.Files.{file_kind}
+use Rattle.paxos_disk.specs.Files.{file_kind}
 use Rattle.pcode_file.specs.Parts.{Parts}
-use Rattle.group_node.specs.declared.fault.NodeFault.TheVariants.{Id, Size}
-use Rattle.group_node.specs.States.{IsConfig, IsSize}
+use Rattle.group_protocol.specs.declared.fault.NodeFault.TheVariants.{Id, Size}
+use Rattle.group_protocol.specs.States.{IsConfig, IsSize}
 use Rattle.machine_run.specs.declared.refusal.MachineRefusal.{MachineRefusal}
 use Rattle.machine_run.specs.declared.refusal.MachineRefusal.TheVariants.{Run}
 use Rattle.machine_run.specs.declared.run.RunIo.{RunIo}
@@ -35,19 +35,25 @@ RunsOverFile me program plan from to before after result =
     ⊎ RunsOrRefuses file_kind me program (record { me = me; found = None; faults = 0 }) plan
     (around None from) (around None to) before after result
 
+-- Such a run once its sockets are open, with a keyboard that has this left; or none, since a socket
+-- or memory is missing.
+abbrev pub RunsWith : Me → Parts → NodePlan → Option Remaining → Option (List ℕ)
+    → Option (List ℕ) → Result (Unit {0}) GroupFault → Type 0
+RunsWith me program plan left before after result =
+    RefusesUnwritten IsOpenRefusal before after result
+    ⊎ ((to : Option Remaining) × RunsOverFile me program plan left to before after result)
+
 -- What the keyboard of a plan has left at first: the text, or what datagrams will bring, which is
 -- unknown.
 abbrev pub keys_at_first : Option SocketAddr → List ℕ → Option Remaining
 keys_at_first None text = Some (record { bytes = text; requests = 0 })
 keys_at_first (Some address) text = None
 
--- Such a run once its sockets are open, or none, since a socket or memory is missing.
+-- Such a run with the keyboard of the plan.
 abbrev pub RunsOpened : Me → Parts → NodePlan → List ℕ → Option (List ℕ) → Option (List ℕ)
     → Result (Unit {0}) GroupFault → Type 0
 RunsOpened me program plan text before after result =
-    RefusesUnwritten IsOpenRefusal before after result
-    ⊎ ((to : Option Remaining)
-    × RunsOverFile me program plan (keys_at_first plan.keys text) to before after result)
+    RunsWith me program plan (keys_at_first plan.keys text) before after result
 
 -- ---- the refusals before it, in their order
 

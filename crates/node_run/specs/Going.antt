@@ -1,11 +1,11 @@
 -- What a node does between its start and its end: its deeds, and what it is prompted to do.
 use Rattle.std.specs.Prelude.{◌≡◌, ◌≢◌, ◌≤◌, ◌+◌, ◌⊎◌, ℕ, Bool, true, false, List, [], ◌∷◌, ◌++◌, Option, Result, Ok, Err}
-use Rattle.group_node.specs.declared.fault.NodeFault.TheVariants.{PlacesSpent, RoundsSpent, SerialSpent, Store}
+use Rattle.group_protocol.specs.declared.fault.NodeFault.TheVariants.{PlacesSpent, RoundsSpent, SerialSpent, Store}
 use Rattle.group_node.specs.declared.player.Ran.{Ran}
 use Rattle.group_node.specs.declared.player.Ran.TheVariants.{More, Full}
 use Rattle.group_node.specs.Deeds.{Campaign, Deed}
-use Rattle.group_node.specs.Known.{Known, front, next_serial}
-use Rattle.group_node.specs.ProposerRows.{last_round}
+use Rattle.group_protocol.specs.Known.{Known, front, next_serial}
+use Rattle.group_protocol.specs.ProposerRows.{last_round}
 use Rattle.group_node.specs.States.{NodeState}
 use Rattle.paxos_msg.specs.declared.limits.TheConstants.{LAST_ROUND, LAST_SERIAL, PLACES}
 use Rattle.group_wire.specs.Doings.{Fails, HasActed}

@@ -1,10 +1,10 @@
 -- What happens at a node's keyboard before a turn.
 use Rattle.std.specs.Prelude.{◌≡◌, ◌≢◌, ◌<◌, ℕ, true, All, List, [], ◌∷◌, ◌++◌, map, Option, Result, Ok, Err}
 use Rattle.paxos_acceptor.specs.Stores.{StoreKind}
-use Rattle.group_node.specs.declared.fault.NodeFault.TheVariants.{SerialSpent, Stopped, Store}
+use Rattle.group_protocol.specs.declared.fault.NodeFault.TheVariants.{SerialSpent, Stopped, Store}
 use Rattle.group_node.specs.Deeds.{Campaign, Press}
-use Rattle.group_node.specs.Known.{Known, front}
-use Rattle.group_node.specs.ProposerRows.{is_leading}
+use Rattle.group_protocol.specs.Known.{Known, front}
+use Rattle.group_protocol.specs.ProposerRows.{is_leading}
 use Rattle.group_node.specs.States.{NodeState}
 use Rattle.group_wire.specs.Campaigns.{HasCampaigned}
 use Rattle.group_wire.specs.Doings.{HasActed}

@@ -53,12 +53,12 @@ fn rest_and_turn<H: Clock, T: RestingWire, K: Keyboard, S: Store, E: Write>(
 {
     deeds_go_on::<S>();
     rest_unless_busy(host, endpoints, is_busy)?;
-    log.look(host.node());
+    log.look(host.node().protocol());
     let pressed = press(host, endpoints)?;
     note_pressed(host, &endpoints.keyboard, pressed, log);
     let ran = own_turn(host, &mut endpoints.wire)?;
-    log.look(host.node());
-    log.ran(ran);
+    log.look(host.node().protocol());
+    log.ran(ran.end());
     note_wire(&mut endpoints.wire, log);
     Ok(is_busy_after(ran))
 }

@@ -5,7 +5,7 @@ ghost use Rattle.group_udp.specs.Refusals.{IsOpenRefusal, IsSocketRefusal};
 use crate::node::NodePlan;
 use crate::press::Pressed;
 use group_log::{Log, Note};
-use group_node::limits::MOST_WAITING;
+use group_protocol::limits::MOST_WAITING;
 use group_udp::{GroupFault, Keyboard, Trace, TypedDatagrams, UdpWire, Watch, address_at, bind};
 use group_wire::Host;
 use mio::net::UdpSocket;
@@ -35,7 +35,7 @@ pub fn note_pressed<H: Clock, K: Keyboard, S: Store, E: Write>(
     if let Pressed::CampaignRefused(fault) = pressed {
         log.note(&Note::CampaignRefused(fault));
     }
-    log.look(host.node());
+    log.look(host.node().protocol());
     let waiting = host.node().waiting();
     log.full(waiting, waiting >= MOST_WAITING && keyboard.has_bytes());
 }

@@ -5,8 +5,8 @@ ghost use Rattle.node_run.specs.Going.{around};
 ghost use Rattle.node_run.specs.Pressing.{HasCampaignedAsAsked, HasPressedKeyboard, HasTypedGiven, LeadsWithoutGap};
 
 use crate::endpoints::Endpoints;
-use group_node::limits::MOST_WAITING;
 use group_node::{Node, NodeFault};
+use group_protocol::limits::MOST_WAITING;
 use group_udp::{GroupFault, Keyboard};
 use group_wire::laws::deeds_go_on;
 use group_wire::{Host, Told, Wire};

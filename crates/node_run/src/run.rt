@@ -1,6 +1,6 @@
 //! A whole run of one node: over any store, wire and keyboard, and over those of the system.
-ghost use Rattle.std.specs.Prelude.{◌≡◌, ◌⊎◌, IfErr};
-ghost use Rattle.node_run.specs.Ends.{RunsOpened, RunsOverFile};
+ghost use Rattle.std.specs.Prelude.{◌≡◌, ◌⊎◌, IfErr, None, Some};
+ghost use Rattle.node_run.specs.Ends.{RunsOpened, RunsOverFile, RunsWith};
 ghost use Rattle.node_run.specs.Going.{around};
 ghost use Rattle.group_udp.specs.Refusals.{IsOpenRefusal, IsRunRefusal};
 ghost use Rattle.node_run.specs.Runs.{RunsOrRefuses};
@@ -14,11 +14,12 @@ use group_node::{Config, NodeFault};
 use group_udp::{GroupFault, Keyboard, RestingWire, UdpWire, Watch};
 use group_wire::{Host, Told, Wire};
 use machine_run::ByteWriter;
-use paxos_acceptor::{FileStore, Store};
+use paxos_acceptor::Store;
+use paxos_disk::FileStore;
 use pcode_ops::Program;
 use std::alloc::Global;
 use std::io::Write;
-use std::net::Net;
+use std::net::{Net, SocketAddr};
 use std::rt::Files;
 use std::time::Clock;
 
@@ -67,7 +68,7 @@ pub fn run_node<H: Clock, T: RestingWire, K: Keyboard, S: Store + Drop, W: ByteW
         Err(refused) => return tell_end(&mut endpoints.wire, Err(GroupFault::from(refused))),
     };
     endpoints.wire.tell(&Told::Started);
-    log.started(host.node(), plan.group);
+    log.started(host.node().protocol(), plan.group);
     let played = campaign_and_play(&mut host, plan, endpoints, writer, log);
     // The machine is where a replay from the start is.
     host.unreleased();
@@ -107,6 +108,50 @@ fn run_over_file<
     )
 }
 
+/// Opens the socket of the node, and runs it. It types `text`.
+fn run_over_text<H: Files + Net + Clock + AllocGlobal + Copy + Drop, W: ByteWriter, E: Write>(
+    rt: &H,
+    program: &Program,
+    config: Config,
+    plan: &NodePlan<'_>,
+    text: &[u8],
+    writer: &mut W,
+    log: &mut Log<'_, H, E>,
+) -> Result<(), GroupFault>
+    ensures ends { RunsWith config program.now plan.now
+        (Some (record { bytes = text.now; requests = 0 }))
+        (W.contents writer.old) (W.contents writer.new) result }
+    ensures others { IfErr result (λ e. IsOpenRefusal e ⊎ IsRunRefusal e) }
+{
+    let watch = Watch::new(rt)?;
+    let wire = open_wire(rt, plan, watch, log)?;
+    let keyboard = Text { rest: text };
+    let mut endpoints = Endpoints { wire, keyboard };
+    run_over_file(rt, program, config, plan, &mut endpoints, writer, log)
+}
+
+/// Opens the sockets of the node and of its keyboard, and runs it. It types the bytes that come to
+/// `address` as datagrams.
+fn run_over_datagrams<H: Files + Net + Clock + AllocGlobal + Copy + Drop, W: ByteWriter, E: Write>(
+    rt: &H,
+    program: &Program,
+    config: Config,
+    plan: &NodePlan<'_>,
+    address: SocketAddr,
+    writer: &mut W,
+    log: &mut Log<'_, H, E>,
+) -> Result<(), GroupFault>
+    ensures ends { RunsWith config program.now plan.now None (W.contents writer.old)
+        (W.contents writer.new) result }
+    ensures others { IfErr result (λ e. IsOpenRefusal e ⊎ IsRunRefusal e) }
+{
+    let watch = Watch::new(rt)?;
+    let keyboard = open_keyboard(rt, address, &watch, log)?;
+    let wire = open_wire(rt, plan, watch, log)?;
+    let mut endpoints = Endpoints { wire, keyboard };
+    run_over_file(rt, program, config, plan, &mut endpoints, writer, log)
+}
+
 /// Opens the sockets that the plan names, and runs the node. It types `text`, unless typed bytes
 /// come as datagrams.
 pub fn run_opened<H: Files + Net + Clock + AllocGlobal + Copy + Drop, W: ByteWriter, E: Write>(
@@ -122,15 +167,8 @@ pub fn run_opened<H: Files + Net + Clock + AllocGlobal + Copy + Drop, W: ByteWri
         (W.contents writer.old) (W.contents writer.new) result }
     ensures others { IfErr result (λ e. IsOpenRefusal e ⊎ IsRunRefusal e) }
 {
-    let watch = Watch::new(rt)?;
-    let Some(address) = plan.keys else {
-        let wire = open_wire(rt, plan, watch, log)?;
-        let keyboard = Text { rest: text };
-        let mut endpoints = Endpoints { wire, keyboard };
-        return run_over_file(rt, program, config, plan, &mut endpoints, writer, log);
-    };
-    let keyboard = open_keyboard(rt, address, &watch, log)?;
-    let wire = open_wire(rt, plan, watch, log)?;
-    let mut endpoints = Endpoints { wire, keyboard };
-    run_over_file(rt, program, config, plan, &mut endpoints, writer, log)
+    match plan.keys {
+        None => run_over_text(rt, program, config, plan, text, writer, log),
+        Some(address) => run_over_datagrams(rt, program, config, plan, address, writer, log),
+    }
 }

@@ -1,5 +1,5 @@
 //! A text that is typed at a node.
-use group_node::limits::MOST_WAITING;
+use group_protocol::limits::MOST_WAITING;
 use group_udp::Keyboard;
 
 /// A text that is typed at a node, as there is room for it.

@@ -12,8 +12,7 @@ use Rattle.paxos_msg.specs.Keys.{Key}
 use Rattle.paxos_msg.specs.Messages.{IsAscending, IsSaid, kept_vote_at}
 use Rattle.paxos_msg.specs.Records.{changed, MaySave, with_vote}
 use Rattle.paxos_acceptor.specs.Answers.{accept_of, after, Answer, prepare_of}
-use Rattle.paxos_acceptor.specs.Records.{HasBackedVotes, IsVoteBacked}
-use Rattle.paxos_acceptor.specs.Entries.{IsNext}
+use Rattle.paxos_acceptor.specs.Records.{HasBackedVotes, IsNext, IsVoteBacked}
 use Rattle.paxos_acceptor.proofs.ByCases.{accept_cases, not_greater, not_promised, prepare_cases}
 use Rattle.paxos_acceptor.proofs.Reports.{reports}
 

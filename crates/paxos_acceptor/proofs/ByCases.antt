@@ -10,7 +10,7 @@ use Rattle.paxos_msg.specs.Ballots.{IsAtMost, IsBelow}
 use Rattle.paxos_msg.specs.Messages.{kept_vote_at}
 use Rattle.paxos_msg.specs.Tests.{ballot_lt, same_ballot}
 use Rattle.paxos_acceptor.specs.Answers.{Answer, accept_of, accepted, part_of, prepare_of, prepared, voted, greater_promise, is_promised, value_under}
-use Rattle.paxos_acceptor.specs.Entries.{IsNext}
+use Rattle.paxos_acceptor.specs.Records.{IsNext}
 
 same_is : (a b : Ballot) → same_ballot a b ≡ true → a ≡ b
 same_is a b h =

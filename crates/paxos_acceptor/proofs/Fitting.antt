@@ -15,8 +15,7 @@ use Rattle.paxos_msg.specs.Messages.{kept_vote_at}
 use Rattle.paxos_msg.specs.Records.{changed}
 use Rattle.paxos_msg.specs.Places.{votes_from}
 use Rattle.paxos_acceptor.specs.Answers.{Answer, accept_of, after, place_after, part_of, prepare_of, upto_of}
-use Rattle.paxos_acceptor.specs.Entries.{IsNext}
-use Rattle.paxos_acceptor.specs.Records.{IsRecord}
+use Rattle.paxos_acceptor.specs.Records.{IsNext, IsRecord}
 use Rattle.paxos_acceptor.proofs.ByCases.{accept_cases, prepare_cases}
 use Rattle.paxos_acceptor.proofs.Ranges.{at_most_itself, promise_in_ranges, raised, vote_in_ranges}
 use Rattle.paxos_acceptor.proofs.Reports.{after_next}

@@ -5,7 +5,7 @@ use Rattle.paxos_msg.specs.declared.limits.TheConstants.{LAST_START}
 use Rattle.paxos_msg.specs.declared.record.Change.TheVariants.{Start}
 use Rattle.paxos_acceptor.specs.Answers.{Answer, after}
 use Rattle.paxos_acceptor.specs.Calls.{Mut}
-use Rattle.paxos_acceptor.specs.Stores.{StoreKind, FailsAsPlanned, HasCause, IsOneOf}
+use Rattle.paxos_acceptor.specs.Stores.{StoreKind, FailsAsPlanned, CountsIf, IsOneOf}
 use Rattle.paxos_acceptor.specs.declared.fault.AcceptorFault.{AcceptorFault}
 use Rattle.paxos_acceptor.specs.declared.fault.AcceptorFault.TheVariants.{Store, Closed, StartsSpent}
 use Rattle.paxos_acceptor.specs.declared.me.Me.{Me}
@@ -59,7 +59,7 @@ pub record Follows {S T : Type 0} (kind : StoreKind S) (change : Option Change)
       → FailsAsPlanned (kind.state old.store).plan old.kept (after old.kept change)
       (kind.state new.store).stored
   -- `Store` counts one more fault, and no other answer counts one.
-  pub cause : HasCause (IsErrOf result Store) (kind.state old.store).faults
+  pub cause : CountsIf (IsErrOf result Store) (kind.state old.store).faults
       (kind.state new.store).faults
 
 -- The acceptor after a call that gives this answer: `Ok` says it, after its change is saved.

@@ -2,7 +2,7 @@
 use Rattle.std.specs.Prelude.{◌≡◌, ◌+◌, min, if◌then◌else◌, None, IsSomeAnd, Result, IfErr, IfOk, OnOk, IsErrOf}
 use Rattle.paxos_msg.specs.Batches.{Change, Record}
 use Rattle.paxos_msg.specs.Records.{changed}
-use Rattle.paxos_acceptor.specs.Stores.{HasCause, StoreKind, StoreState}
+use Rattle.paxos_acceptor.specs.Stores.{CountsIf, StoreKind, StoreState}
 use Rattle.paxos_acceptor.specs.declared.store.StoreFault.{StoreFault}
 use Rattle.paxos_acceptor.specs.declared.store.StoreFault.TheVariants as fault
 
@@ -38,4 +38,4 @@ pub record SavesByPlan {T : Type 0} (old new : StoreState) (change : Change)
         plan = None;
         faults = min (old.faults + 1) 18446744073709551615;
       })
-  pub cause : HasCause (IsErrOf result fault.Device) old.faults new.faults
+  pub cause : CountsIf (IsErrOf result fault.Device) old.faults new.faults

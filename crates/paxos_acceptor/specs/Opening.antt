@@ -9,7 +9,7 @@ use Rattle.paxos_acceptor.specs.declared.store.StoreFault.{StoreFault}
 use Rattle.paxos_acceptor.specs.declared.store.StoreFault.TheVariants as store
 use Rattle.paxos_acceptor.specs.Records.{IsRecord}
 use Rattle.paxos_acceptor.specs.Follows.{AcceptorState}
-use Rattle.paxos_acceptor.specs.Stores.{HasCause, StoreKind}
+use Rattle.paxos_acceptor.specs.Stores.{CountsIf, StoreKind}
 
 -- The acceptor's fault for the fault of a load.
 abbrev pub fault_of_load : StoreFault → AcceptorFault
@@ -66,5 +66,5 @@ pub record OpensByPlan {S : Type 0} (kind : StoreKind S) (store : S)
       (λ e. (kind.state e.store).plan ≡ (kind.state store).plan)
   pub sure : kind.fails_at_will → IfErr result (λ e. e.fault ≢ acceptor.Store)
   pub quiet : IfOk result (λ a. (kind.state a.store).faults ≡ (kind.state store).faults)
-  pub cause : IfErr result (λ e. HasCause (e.fault ≡ acceptor.Store) (kind.state store).faults
+  pub cause : IfErr result (λ e. CountsIf (e.fault ≡ acceptor.Store) (kind.state store).faults
       (kind.state e.store).faults)

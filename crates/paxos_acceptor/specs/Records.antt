@@ -1,15 +1,13 @@
--- A record: its ranges, the messages that back it, and its spelling as bytes. Numbers have their
--- high byte first.
-use Rattle.std.specs.Prelude.{◌≡◌, ℕ, ◌^◌, ◌<◌, List, [], ◌∷◌, ◌++◌, length, Option, Some, None, IfSome, IsSomeAnd}
+-- A record: its ranges, the changes that can be made to it, and the messages that back it.
+use Rattle.std.specs.Prelude.{◌≡◌, ℕ, ◌^◌, ◌<◌, List, [], Option, Some, None, IfSome, IsSomeAnd}
 use Rattle.paxos_msg.specs.declared.ballot.Ballot.{Ballot}
-use Rattle.paxos_msg.specs.Batches.{Record, Sent, Vote}
+use Rattle.paxos_msg.specs.Batches.{Change, Record, Sent, Vote}
 use Rattle.paxos_msg.specs.declared.message.Body.TheVariants.{Accept}
+use Rattle.paxos_msg.specs.declared.record.Change.TheVariants.{Start, Promise, Ballotted}
 use Rattle.paxos_msg.specs.Ballots.{IsAtMost}
 use Rattle.paxos_msg.specs.Fits.{IsBallot, AreVotes}
 use Rattle.paxos_msg.specs.Messages.{IsSaid, IsAscending, kept_vote_at}
-use Rattle.paxos_msg.specs.Spelling.{number_bytes, ballot_bytes, votes_bytes}
-use Rattle.paxos_acceptor.specs.declared.me.Me.{Me}
-use Rattle.paxos_msg.specs.declared.limits.TheConstants.{PLACES}
+use Rattle.paxos_msg.specs.declared.limits.TheConstants.{LAST_START, PLACES}
 
 -- Votes beside a promised ballot: without one none, else in ascending order of place, none above
 -- it.
@@ -24,6 +22,17 @@ pub record IsRecord (size : ℕ) (r : Record) : Type 0 where
   pub starts : r.starts < 2 ^ 32
   pub kept : AreKept size r.promised r.votes
 
+-- A change that can be made to a record with so many starts and this promised ballot: there is a
+-- start to spare, and no ballot is below the promised one.
+abbrev pub MayFollow : ℕ → Option Ballot → Change → Type 0
+MayFollow starts promised Start = starts < LAST_START
+MayFollow starts promised (Promise b) = IfSome promised (λ p. IsAtMost p b)
+MayFollow starts promised (Ballotted s b v) = IfSome promised (λ p. IsAtMost p b)
+
+-- A change that can be made to the record.
+abbrev pub IsNext : Record → Change → Type 0
+IsNext r c = MayFollow r.starts r.promised c
+
 -- A vote at place `s` for a proposed value, under no greater ballot than the promised one.
 pub record IsVoteBacked (sent : Sent) (r : Record) (s : ℕ) (vote : Vote) : Type 0 where
   pub proposed : IsSaid sent (Accept vote.ballot s vote.value)
@@ -37,28 +46,3 @@ pub record IsVoteBacked (sent : Sent) (r : Record) (s : ℕ) (vote : Vote) : Typ
 pub record HasBackedVotes (sent : Sent) (r : Record) : Type 0 where
   pub votes : (s : ℕ) → IfSome (kept_vote_at r.votes s) (IsVoteBacked sent r s)
   pub in_order : IsAscending r.votes
-
--- The bytes of a ballot, or zeros for none.
-abbrev pub promised_bytes : Option Ballot → List ℕ
-promised_bytes None = 0 ∷ 0 ∷ 0 ∷ 0 ∷ 0 ∷ []
-promised_bytes (Some b) = ballot_bytes b
-
--- The header of a record: `PR`, the version, the node, and the group's size and session.
-abbrev pub record_header : ℕ → Me → List ℕ
-record_header version me =
-    80 ∷ 82 ∷ version ∷ me.node ∷ me.group.size ∷ number_bytes me.group.session
-
--- The bytes of a record in a version, which spells votes in its own way.
-abbrev pub record_spelling : ℕ → (List Vote → List ℕ) → Me → Record → List ℕ
-record_spelling version spelled me r =
-    record_header version me ++ number_bytes r.starts ++ promised_bytes r.promised
-    ++ number_bytes (length r.votes) ++ spelled r.votes
-
--- The bytes of a record in version 2.
-abbrev pub record_bytes : Me → Record → List ℕ
-record_bytes = record_spelling 2 votes_bytes
-
--- Bytes that are the spelling of a record in its ranges, in version 2.
-pub record Rec (me : Me) (bytes : List ℕ) (r : Record) : Type 0 where
-  pub ranges : IsRecord me.group.size r
-  pub spelled : bytes ≡ record_bytes me r

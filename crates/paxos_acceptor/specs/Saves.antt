@@ -3,7 +3,7 @@ use Rattle.std.specs.Prelude.{◌≡◌, ◌↔◌, ◌⊎◌, Bool, true, None,
 use Rattle.paxos_msg.specs.Batches.{Change, Record}
 use Rattle.paxos_msg.specs.Records.{changed}
 use Rattle.paxos_acceptor.specs.Calls.{Mut}
-use Rattle.paxos_acceptor.specs.Stores.{StoreKind, StoreState, FailsAsPlanned, HasCause, IsOneOf, new_state, old_state}
+use Rattle.paxos_acceptor.specs.Stores.{StoreKind, StoreState, FailsAsPlanned, CountsIf, IsOneOf, new_state, old_state}
 use Rattle.paxos_acceptor.specs.declared.fault.AcceptorFault.{AcceptorFault}
 use Rattle.paxos_acceptor.specs.declared.fault.AcceptorFault.TheVariants.{Memory, Store}
 
@@ -20,7 +20,7 @@ pub record SavesRecord {S T : Type 0} (kind : StoreKind S) (next : Record) (old 
   pub unplanned : OnOk result (old.plan ≡ None)
   pub used_up : IsErrOf result Store → new.plan ≡ None
   pub plan : ¬ IsErrOf result Store → new.plan ≡ old.plan
-  pub cause : HasCause (IsErrOf result Store) old.faults new.faults
+  pub cause : CountsIf (IsErrOf result Store) old.faults new.faults
   pub closed : (is_closed ≡ true) ↔ IsErrOf result Store
   pub others : OnErr result ((result ≡ Err Memory) ⊎ (result ≡ Err Store))
 

@@ -8,8 +8,8 @@ ghost use Rattle.paxos_acceptor.specs.Opening.{IsOpened, OpensByPlan, OpensFrom,
 ghost use Rattle.paxos_acceptor.specs.Records.{IsRecord};
 
 use crate::answers::{accepted, greater_promise, is_promised, part_from, value_under};
-use crate::codec::record_fits;
 use crate::fault::AcceptorFault;
+use crate::fits::record_fits;
 use crate::me::Me;
 use crate::saving::{save_to, save_vote};
 use crate::store::{Store, StoreFault};

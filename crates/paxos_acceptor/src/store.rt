@@ -2,11 +2,10 @@
 ghost use Rattle.std.specs.Prelude.{◌≡◌, ◌<◌};
 ghost use Rattle.paxos_msg.specs.declared.record.Change.TheVariants.{Start};
 ghost use Rattle.paxos_msg.specs.Messages.{IsAscending};
-ghost use Rattle.paxos_acceptor.specs.declared.store.StoreFault.TheVariants.{Memory, Device};
+ghost use Rattle.paxos_acceptor.specs.declared.store.StoreFault.TheVariants.{Memory};
 ghost use Rattle.paxos_acceptor.specs.Stores.{Loaded, Saved};
 ghost use Rattle.paxos_msg.specs.declared.limits.TheConstants.{LAST_START};
 
-use crate::disk::DiskFault;
 use paxos_msg::{Change, Record};
 use std::alloc::AllocError;
 
@@ -27,14 +26,6 @@ impl From<AllocError> for StoreFault {
 
     fn from(_: AllocError) -> Self {
         StoreFault::Memory
-    }
-}
-
-impl From<DiskFault> for StoreFault {
-    ghost from_gives = { λ _ e. e ≡ Device };
-
-    fn from(_: DiskFault) -> Self {
-        StoreFault::Device
     }
 }
 

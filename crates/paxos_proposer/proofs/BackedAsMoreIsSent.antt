@@ -6,7 +6,7 @@ use Rattle.std.proofs.lemmas.Bool.Decides.{nat_tests}
 use Rattle.paxos_msg.specs.declared.ballot.Ballot.{Ballot}
 use Rattle.paxos_msg.specs.Batches.{Body, Msg, Sent, Vote}
 use Rattle.paxos_msg.specs.declared.message.Body.TheVariants.{Accept}
-use Rattle.paxos_msg.specs.Messages.{IsSent, IsPromised, kept_vote_at}
+use Rattle.paxos_msg.specs.Messages.{IsSent, kept_vote_at}
 use Rattle.paxos_proposer.specs.Proposer.{Proposer, is_covered_by}
 use Rattle.paxos_proposer.specs.Backed.{HasPromises, IsProposerBacked, IsQuietUnder}
 
@@ -19,9 +19,6 @@ pub stays_with : (sent : Sent) (m : Msg) → Stays sent (sent ++ m ∷ [])
 stays_with sent m = record { stays = λ i body h. Contains-append_left sent (m ∷ []) (record { sender = i; body = body }) h }
 
 module _ (sent next : Sent) (later : Stays sent next) where
-  promised_stays : (i : ℕ) (b : Ballot) (s : ℕ) (reported : Option Vote) → IsPromised sent i b s reported → IsPromised next i b s reported
-  promised_stays i b s reported h = grind (arith, nat_tests)
-
   pub heard_stays : (b : Ballot) (s : ℕ) (members : ℕ → Bool) (kept : Option Vote) → HasPromises sent b s members kept
       → HasPromises next b s members kept
   heard_stays b s members kept h = grind (arith, nat_tests)

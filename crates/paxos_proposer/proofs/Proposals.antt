@@ -1,17 +1,17 @@
 -- What a proposer proposes may be sent, and the proposer is backed again.
-use Rattle.std.proofs.Common.{◌≡◌, ◌≢◌, ℕ, zero, suc, ◌+◌, ◌-◌, ◌∙◌, Bool, true, false, ◌⊎◌, inl, inr, List, [], ◌∷◌, ◌++◌, length, slice_get, Option, Some, None, IfSome, MatchOption, if◌then◌else◌, sym, ap, refl, arith}
+use Rattle.std.proofs.Common.{◌≡◌, ◌≢◌, ℕ, zero, suc, ◌+◌, ◌-◌, ◌∙◌, Bool, true, false, ◌⊎◌, inl, inr, List, [], ◌∷◌, ◌++◌, length, slice_get, Option, Some, None, IfSome, if◌then◌else◌, sym, ap, refl, arith}
 use Rattle.std.proofs.lemmas.Bool.{le-ltb, lt-ltb, cases_eq, cases_lt}
 use Rattle.std.proofs.lemmas.List.{length_push}
 use Rattle.std.proofs.lemmas.List.Elements.{Contains-push, Contains-push_cases}
 use Rattle.std.proofs.lemmas.Option.{slice_get_past}
 use Rattle.std.proofs.lemmas.Bool.Decides.{nat_tests}
 use Rattle.paxos_msg.specs.declared.message.Body.TheVariants.{Accept}
-use Rattle.paxos_msg.specs.Batches.{IsFree, IsSafe, MaySend, Msg, Record, Sent, Vote}
+use Rattle.paxos_msg.specs.Batches.{IsFree, IsSafe, MaySend, Msg, Record, Sent}
 use Rattle.paxos_msg.specs.declared.value.Value.{Value}
 use Rattle.paxos_msg.specs.Keys.{Key}
 use Rattle.paxos_msg.specs.Messages.{IsSent, IsSaid, kept_vote_at}
 use Rattle.paxos_msg.specs.Sending.{IsUnproposed}
-use Rattle.paxos_proposer.specs.Proposer.{Proposer, is_covered_by, value_or, next_of, next_value, proposed_at, proposing}
+use Rattle.paxos_proposer.specs.Proposer.{Proposer, is_covered_by, next_of, next_value, proposed_at, proposing}
 use Rattle.paxos_proposer.specs.Backed.{IsProposerBacked}
 use Rattle.paxos_proposer.proofs.BackedAsMoreIsSent.{stays_with, heard_stays}
 use Rattle.paxos_proposer.proofs.Passing.{left_at}
@@ -47,11 +47,6 @@ none_next p = grind (arith, nat_tests, le-ltb, slice_get_past)
 pub if_some : {X : Type 0} (t : Bool) (x : Option X) (v : X) → (if t then x else None) ≡ Some v → (t ≡ true) × (x ≡ Some v)
 if_some true x v e = (refl, e)
 if_some false x v e = cc
-
-by_kept : (sent : Sent) (kept : Option Vote) (other : Option Value) (v : Value) → value_or kept other ≡ Some v
-    → IfSome other (IsFree sent) → MatchOption kept (IsFree sent v) (λ vote. v ≡ vote.value)
-by_kept sent None other v e free = rw e at free
-by_kept sent (Some vote) other v e free = cc
 
 module _ (sent : Sent) (me : ℕ) (p : Proposer) (h : IsProposerBacked sent me p) (v : Value) where
   value_safe : (offered : Option Value) → IfSome offered (IsFree sent) → next_value p offered ≡ Some v

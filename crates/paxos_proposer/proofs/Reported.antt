@@ -1,14 +1,12 @@
 -- What is kept at a place after votes were reported.
 use Rattle.std.proofs.Common.{◌≡◌, ◌≢◌, ◌∙◌, ℕ, ◌+◌, ◌<◌, ◌≤◌, List, [], ◌∷◌, Option, Some, None, refl, arith}
-use Rattle.std.proofs.lemmas.Bool.{eq-eqb, ne_eqb}
+use Rattle.std.proofs.lemmas.Bool.{ne_eqb}
 use Rattle.std.proofs.lemmas.Bool.Decides.{nat_tests}
-use Rattle.base.proofs.Branches.{either}
 use Rattle.paxos_msg.specs.declared.ballot.Ballot.{Ballot}
 use Rattle.paxos_msg.specs.Batches.{Vote}
 use Rattle.paxos_msg.specs.Fits.{AreVotes}
 use Rattle.paxos_msg.specs.Messages.{AreAbove, IsAscending, kept_vote_at}
 use Rattle.paxos_msg.specs.Records.{with_vote}
-use Rattle.paxos_msg.specs.Tests.{ballot_lt}
 use Rattle.paxos_proposer.specs.Proposer.{greater, heard, heard_one}
 
 -- Votes by place: a vote that is put at its place is found there, and changes nothing elsewhere.
@@ -48,21 +46,12 @@ none_upto size b low upto s [] le h = refl
 none_upto size b low upto s (x ∷ xs) le h =
     grind (arith, nat_tests, none_upto size b (x.place + 1) upto s xs le h.1)
 
-pub found_first : (x : Vote) (xs : List Vote) (s : ℕ) → x.place ≡ s → kept_vote_at (x ∷ xs) s ≡ Some x
-found_first x xs s e = rw (eq-eqb x.place s e)
-
 pub found_later : (x : Vote) (xs : List Vote) (s : ℕ) → x.place ≢ s → kept_vote_at (x ∷ xs) s ≡ kept_vote_at xs s
 found_later x xs s ne = rw (ne_eqb x.place s ne)
 
 -- ---- what is kept
 
 module _ (by_place : AreByPlace) where
-  -- of a kept vote at a place and another one there, the greater is there
-  greater_place : (kept : Option Vote) (vote : Vote) → ((k : Vote) → kept ≡ Some k → k.place ≡ vote.place)
-      → (greater kept vote).place ≡ vote.place
-  greater_place None vote h = refl
-  greater_place (Some k) vote h = either (λ (v : Vote). v.place ≡ vote.place) (ballot_lt k.ballot vote.ballot) refl (h k refl)
-
   -- a report counts at its place, if that is not below low
   one_here : (low s : ℕ) (kept : List Vote) (vote : Vote) → low ≤ s → vote.place ≡ s
       → kept_vote_at (heard_one low kept vote) s ≡ Some (greater (kept_vote_at kept s) vote)

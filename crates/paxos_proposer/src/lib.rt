@@ -4,7 +4,7 @@
 //! node)?` gives the ballot, and `Proposer::begin(alloc, ballot, from, size)` a proposer for the
 //! places from `from` on. Send a Prepare. Then `on_promise(sender, &view)?` hears each part of a
 //! promise, and returns the place from which to ask that acceptor for more. `next_accept(offered)?`
-//! returns the next proposal, once a majority's promises cover its place. `on_refused(ballot)` says
+//! returns the next proposal, once a majority's promises cover its place. `is_under(ballot)` says
 //! if a Refused ends the proposer.
 //!
 //! `laws` has empty functions: the contract of each is a law.

@@ -240,7 +240,7 @@ impl Proposer {
 
     /// Returns true exactly if `ballot` is the proposer's own, so that a Refused for it ends the
     /// proposer.
-    pub fn on_refused(&self, ballot: Ballot) -> bool
+    pub fn is_under(&self, ballot: Ballot) -> bool
         ensures { IsTrue result ↔ (self.now.known.ballot ≡ ballot) }
     {
         ballot == self.ballot

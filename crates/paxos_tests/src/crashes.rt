@@ -3,9 +3,8 @@
 ghost use Rattle.std.specs.Prelude.{[], None};
 
 use super::acceptor::{FIRST, ME, SECOND};
-use paxos_acceptor::{
-    Disk, DiskFault, FaultPlan, LogStore, MemoryDisk, Store, StoreFault, log_decode,
-};
+use paxos_acceptor::{Store, StoreFault};
+use paxos_disk::{Disk, DiskFault, FaultPlan, LogStore, MemoryDisk, log_decode};
 use paxos_msg::{Change, Characters, Record, Value};
 use std::alloc::{AllocError, Global};
 use std::marker::Model;

@@ -1,6 +1,7 @@
 //! A record in a file.
 use super::acceptor::{FIRST, ME, vote_for_none};
-use paxos_acceptor::{FileStore, Store, StoreFault};
+use paxos_acceptor::{Store, StoreFault};
+use paxos_disk::FileStore;
 use paxos_msg::{Change, Record, Value};
 use std::fs;
 use std::marker::Model;

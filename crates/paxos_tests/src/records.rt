@@ -2,7 +2,8 @@
 ghost use Rattle.paxos_acceptor.specs.Records.{IsRecord};
 
 use super::acceptor::{FIRST, ME};
-use paxos_acceptor::{StoreFault, log_decode, record_decode, record_encode, record_migrate};
+use paxos_acceptor::StoreFault;
+use paxos_disk::{log_decode, record_decode, record_encode, record_migrate};
 use paxos_msg::{Characters, Record, Value, Vote};
 use std::alloc::Global;
 use std::process::Abort;

@@ -1,34 +1,25 @@
-//! The calls of a node as deeds in its group, and a witness that the law of a node is not empty.
-ghost use Rattle.std.specs.Prelude.{◌≡◌, ◌≢◌, ◌<◌, [], ℕ, IsSome, IsSomeAnd, IsTrue, length, List, None};
-ghost use Rattle.std.specs.FinMap.{get};
+//! The calls of a node as deeds in its group.
+ghost use Rattle.std.specs.Prelude.{◌≡◌, ◌≢◌, [], ℕ, List, None};
 ghost use Rattle.pcode_machine.specs.Configuration.{Configuration};
 ghost use Rattle.pcode_machine.specs.Runs.{begin};
 ghost use Rattle.paxos_msg.specs.declared.record.Change.TheVariants.{Start};
-ghost use Rattle.paxos_msg.specs.Batches.{Body, Record, Sent};
-ghost use Rattle.paxos_msg.specs.Keys.{Key, keys_of};
+ghost use Rattle.paxos_msg.specs.Batches.{Body, Record};
+ghost use Rattle.paxos_msg.specs.Keys.{keys_of};
 ghost use Rattle.paxos_msg.specs.Messages.{IsSent};
 ghost use Rattle.paxos_msg.specs.Records.{changed};
 ghost use Rattle.paxos_acceptor.specs.declared.me.Me.{Me};
 ghost use Rattle.paxos_acceptor.specs.Stores.{IsOneOf};
-ghost use Rattle.paxos_proposer.specs.Proposer.{is_covered, next_of};
-ghost use Rattle.group_node.specs.Backs.{Backs};
-ghost use Rattle.group_node.specs.Protocol.{on_message};
+ghost use Rattle.group_protocol.specs.Backs.{Backs};
+ghost use Rattle.group_protocol.specs.Protocol.{on_message};
 ghost use Rattle.group_node.specs.Deeds as deed;
-ghost use Rattle.group_node.specs.Known.{on_typed, new_key, Known, on_start};
-ghost use Rattle.group_node.specs.ProposerRows.{on_campaign};
-ghost use Rattle.group_node.specs.Tick.{on_tick};
-ghost use Rattle.group_node.specs.Ranges.{IsHeardFit, IsInRange};
+ghost use Rattle.group_protocol.specs.Known.{on_typed, new_key, Known, on_start};
+ghost use Rattle.group_protocol.specs.ProposerRows.{on_campaign};
+ghost use Rattle.group_protocol.specs.Tick.{on_tick};
+ghost use Rattle.group_protocol.specs.Ranges.{IsHeardFit, IsInRange};
 ghost use Rattle.group_node.specs.World.{after_call, Sits, with_seat, WorldState, WorldStep};
 
-use crate::laws::lawful::calls_are_lawful;
-use paxos_learner::laws::{
-    key_tests_are_exact, learned_stays, stays_backed as learner_stays_backed, values_fit,
-    window_holds,
-};
-use paxos_proposer::laws::{
-    begins_backed, parts_keep_it_backed, proposals_may_be_sent,
-    stays_backed as proposer_stays_backed, what_goes_out_fits as proposals_fit,
-};
+use group_protocol::laws::{calls_are_lawful, waiting_keys_are_a_row};
+use paxos_learner::laws::learned_stays;
 
 /// Each call of a node that is in its ranges and backed is a deed that its group allows, by
 /// `WorldStep`: a typed character, a sent message that is heard, a campaign, a tick, a start. So is
@@ -75,22 +66,5 @@ pub fn calls_are_deeds()
 {
     calls_are_lawful();
     learned_stays();
-    key_tests_are_exact();
-}
-
-/// The laws are not empty: there is a node in its ranges that is backed and leads. It keeps a
-/// reported vote, has offered a key and tallies a place, and a key waits at it.
-pub fn possible()
-    ensures { (n : Known) × (sent : Sent) × (typed : List Key) × IsInRange n × Backs sent typed n
-        × IsSomeAnd n.proposer (λ p. IsTrue (is_covered p (next_of p)) × (0 < length p.kept))
-        × IsSome (get n.learner.tallies 0) × (0 < length n.offered) × (0 < length n.waiting) }
-{
-    begins_backed();
-    parts_keep_it_backed();
-    proposals_may_be_sent();
-    proposer_stays_backed();
-    proposals_fit();
-    learner_stays_backed();
-    values_fit();
-    window_holds();
+    waiting_keys_are_a_row();
 }

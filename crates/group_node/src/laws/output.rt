@@ -5,32 +5,17 @@ ghost use Rattle.std.specs.Ordering.{nat_cmp};
 ghost use Rattle.pcode_file.specs.Parts.{Parts};
 ghost use Rattle.pcode_machine.specs.Runs.{after_steps, LeadsIn};
 ghost use Rattle.paxos_msg.specs.declared.value.Value.{Value};
-ghost use Rattle.paxos_msg.specs.Batches.{Body};
 ghost use Rattle.paxos_learner.specs.Learner.{HasLearnedMore};
 ghost use Rattle.paxos_learner.specs.Input.{learned_input};
 ghost use Rattle.group_node.specs.declared.player.Ran.{Ran};
 ghost use Rattle.group_node.specs.Console.{offered};
 ghost use Rattle.group_node.specs.Deeds as deed;
-ghost use Rattle.group_node.specs.Known.{Known};
-ghost use Rattle.group_node.specs.ProposerRows.{on_campaign};
-ghost use Rattle.group_node.specs.Protocol.{on_message};
-ghost use Rattle.group_node.specs.Tick.{on_tick};
+ghost use Rattle.group_protocol.specs.Known.{Known};
 ghost use Rattle.group_node.specs.Output.{IsReplay, no_progress, Progress, RunsOn, unreleased_of};
 ghost use Rattle.group_node.specs.World.{seat_of, Sits, with_seat, WorldState, WorldStep};
 
-use paxos_learner::laws::{input_grows, learned_stays};
+use paxos_learner::laws::input_grows;
 use pcode_machine::laws::{run_is_after, same_run_on_longer_input, step_is_transition};
-
-/// What is learned stays learned, at a message, a campaign and a tick.
-pub fn calls_keep_what_is_learned()
-    ensures message { (n : Known) (j : ℕ) (body : Body)
-        → HasLearnedMore n.learner.learned (on_message n j body).node.learner.learned }
-    ensures campaign { (n : Known)
-        → HasLearnedMore n.learner.learned (on_campaign n).node.learner.learned }
-    ensures tick { (n : Known) → HasLearnedMore n.learner.learned (on_tick n).node.learner.learned }
-{
-    learned_stays();
-}
 
 /// When more is learned, the same steps were made, the machine is in the same configuration, and
 /// the same bytes wait. A node that has just started has made its steps on any input.

@@ -2,7 +2,7 @@
 ghost use Rattle.std.specs.Prelude.{ℕ, [], ◌∷◌, ◌≡◌, ◌<◌, ◌≤◌, List, length, map};
 ghost use Rattle.pcode_file.specs.Parts.{Parts};
 ghost use Rattle.paxos_msg.specs.declared.message.Body.TheVariants.{Ask};
-ghost use Rattle.group_node.specs.Packets.{to_all};
+ghost use Rattle.group_protocol.specs.Packets.{to_all};
 ghost use Rattle.group_world.specs.declared.event.Outcome.TheVariants.{FailedOld, Kept};
 ghost use Rattle.group_world.specs.Event.{LeadsBy};
 ghost use Rattle.group_world.specs.Group.{new_world, world_state};

@@ -15,7 +15,7 @@ ghost use Rattle.group_world.specs.Order.{AreApart, AreInOrder, KeysOnce, Serial
 ghost use Rattle.group_world.specs.Ordered.{IsOrdered};
 ghost use Rattle.group_world.specs.Sound.{IsSound};
 
-use group_node::laws::{packets_fit, waiting_keys_are_a_row};
+use group_protocol::laws::{packets_fit, waiting_keys_are_a_row};
 use paxos_learner::laws::{
     input_grows, key_tests_are_exact, keys_are_read_once, learned_stays, values_are_learned,
 };

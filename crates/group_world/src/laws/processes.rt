@@ -3,7 +3,7 @@ ghost use Rattle.std.specs.Prelude.{◌≡◌, ◌++◌, List};
 ghost use Rattle.pcode_file.specs.Parts.{Parts};
 ghost use Rattle.paxos_msg.specs.declared.message.Group.{Group};
 ghost use Rattle.paxos_acceptor.specs.declared.me.Me.{Me};
-ghost use Rattle.group_node.specs.Packets.{Datagram};
+ghost use Rattle.group_protocol.specs.Packets.{Datagram};
 ghost use Rattle.group_world.specs.declared.event.Event.{Event};
 ghost use Rattle.group_world.specs.Event.{LeadsBy};
 ghost use Rattle.group_world.specs.Group.{World};

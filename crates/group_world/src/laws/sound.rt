@@ -4,7 +4,7 @@ ghost use Rattle.pcode_file.specs.Parts.{Parts};
 ghost use Rattle.paxos_msg.specs.declared.message.Group.{Group};
 ghost use Rattle.paxos_msg.specs.Fits.{IsGroup};
 ghost use Rattle.group_node.specs.Deeds.{Deed};
-ghost use Rattle.group_node.specs.States.{IsSize};
+ghost use Rattle.group_protocol.specs.States.{IsSize};
 ghost use Rattle.group_world.specs.declared.event.Done.{Done};
 ghost use Rattle.group_world.specs.Event.{DoesAt, HearsOf, IsStepAt};
 ghost use Rattle.group_world.specs.Group.{new_world, World, world_state};
@@ -12,8 +12,10 @@ ghost use Rattle.group_world.specs.Headline.{ConsolesAgree, ConsolesHoldOutput, 
 ghost use Rattle.group_world.specs.Sound.{IsSound};
 
 use group_node::laws::{
-    calls_are_deeds, calls_are_lawful, input_is_chosen, lawful_calls_go_on,
-    learning_keeps_the_output, others_keep_it_backed, output_is_a_deed, what_goes_out_fits,
+    calls_are_deeds, input_is_chosen, learning_keeps_the_output, output_is_a_deed,
+};
+use group_protocol::laws::{
+    calls_are_lawful, lawful_calls_go_on, others_keep_it_backed, what_goes_out_fits,
 };
 use paxos_acceptor::laws::backing;
 use paxos_learner::laws::{one_front, values_are_learned};

@@ -11,18 +11,17 @@ use Rattle.paxos_msg.specs.Messages.{IsSent}
 use Rattle.paxos_msg.specs.Records.{changed, MaySave}
 use Rattle.paxos_acceptor.specs.Answers.{after}
 use Rattle.paxos_acceptor.specs.Stores.{IsOneOf}
-use Rattle.group_node.specs.Backs.{Backs}
-use Rattle.group_node.specs.Known.{Known, Response, new_key, next_serial, on_typed}
-use Rattle.group_node.specs.WaitingKeys.{waiting_keys}
-use Rattle.group_node.specs.Packets.{bodies_of}
-use Rattle.group_node.specs.Protocol.{on_message, row}
-use Rattle.group_node.specs.ProposerRows.{on_campaign, next_ballot}
-use Rattle.group_node.specs.Ranges.{IsHeardFit, IsInRange}
-use Rattle.group_node.specs.Steps.{IsLawfulCall, IsSavedBy}
-use Rattle.group_node.specs.Tick.{on_tick}
+use Rattle.group_protocol.specs.Backs.{Backs}
+use Rattle.group_protocol.specs.Known.{Known, Response, new_key, next_serial, on_typed}
+use Rattle.group_protocol.specs.WaitingKeys.{waiting_keys}
+use Rattle.group_protocol.specs.Packets.{bodies_of}
+use Rattle.group_protocol.specs.Protocol.{on_message, row}
+use Rattle.group_protocol.specs.ProposerRows.{on_campaign, next_ballot}
+use Rattle.group_protocol.specs.Ranges.{IsHeardFit, IsInRange}
+use Rattle.group_protocol.specs.Steps.{IsLawfulCall, IsSavedBy}
+use Rattle.group_protocol.specs.Tick.{on_tick}
 use Rattle.group_node.specs.World.{after_call, AreParted, CallOrFall, Falls, MakesCall, MayCause, Seat, seat_of, Sits, Up, with_seat, WorldState}
 use Rattle.group_node.proofs.Seats.{seat_alone, seat_elsewhere, seat_here}
-use Rattle.group_node.proofs.WaitingKeys.{keys_from-append, message_parted}
 use Rattle.group_node.proofs.laws.deeds.calls_are_deeds.Goals as goal
 
 -- keys that all stay
@@ -132,7 +131,14 @@ tick_waiting n = grind (arith, nat_tests)
 tick_saves : (n : Known) → (on_tick n).saves ≡ None
 tick_saves n = grind (arith, nat_tests)
 
-module _ (c : goal.After-key_tests_are_exact) where
+module _ (c : goal.After-waiting_keys_are_a_row) where
+  -- after a message those keys have left that are below the front
+  message_parted : (n : Known) (j : ℕ) (body : Body)
+      → AreParted (on_message n j body).node.learner.learned (waiting_keys n) (waiting_keys (on_message n j body).node)
+  message_parted n j body =
+      let gone = c.waiting_keys_are_a_row.ensures.gone (row n j body).node in
+      record { gone = gone.0; parts = sym (row_waiting n j body) ∙ gone.1; below = gone.2 }
+
   -- a message leaves the group's size
   row_size : (n : Known) (j : ℕ) (body : Body) → (row n j body).node.learner.size ≡ n.learner.size
   row_size n j body = grind (arith, nat_tests, c.learned_stays.ensures)
@@ -152,7 +158,7 @@ returns-clause-press c w n byte k configuration console sits ranges h = record {
   call =
       call_made sits (on_typed n byte) (keys_of (new_key n byte)) ranges
       (c.calls_are_lawful.ensures.typed w.sent w.typed n byte ranges h) refl refl
-      (all_stay (keys_from-append n.me.node n.kept.starts n.first n.waiting (byte ∷ [])));
+      (all_stay (c.waiting_keys_are_a_row.ensures.typed n byte));
 }
 
 pub returns-clause-hear : goal.returns-clause-hear
@@ -164,7 +170,7 @@ returns-clause-hear c w n j k body configuration console sits ranges h fits sent
       call_or_fall (on_message n j body).saves
       (call_alone sits (on_message n j body) ranges (message_lawful c w n j body ranges h fits sent)
       (grind (arith, nat_tests)) (row_size c n j body)
-      (message_parted (record { has = c.key_tests_are_exact.ensures.has }) n (row n j body).node (row_waiting n j body)));
+      (message_parted c n j body));
 }
 
 pub returns-clause-campaign : goal.returns-clause-campaign

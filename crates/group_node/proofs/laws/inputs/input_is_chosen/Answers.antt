@@ -18,7 +18,7 @@ use Rattle.paxos_msg.specs.Tests.{same_ballot, same_value}
 use Rattle.paxos_learner.specs.Input.{input_of}
 use Rattle.group_node.specs.Inputs.{IsInput, AreChosen}
 use Rattle.pcode_machine.specs.Runs.{IsPrefix}
-use Rattle.group_node.proofs.Elements.{count_grows, in_cases, none_in}
+use Rattle.group_protocol.proofs.Elements.{count_grows, in_cases, none_in}
 use Rattle.group_node.proofs.laws.inputs.input_is_chosen.Goals as goal
 
 -- the laws of the crates below

@@ -8,8 +8,8 @@ use Rattle.pcode_machine.specs.Runs.{after_steps, out, LeadsIn}
 use Rattle.pcode_machine.specs.Step.{Step}
 use Rattle.paxos_learner.specs.Input.{learned_input}
 use Rattle.group_node.specs.Console.{offered}
-use Rattle.group_node.specs.Known.{Known}
-use Rattle.group_node.specs.WaitingKeys.{waiting_keys}
+use Rattle.group_protocol.specs.Known.{Known}
+use Rattle.group_protocol.specs.WaitingKeys.{waiting_keys}
 use Rattle.group_node.specs.World.{after_release, Seat, seat_of, Up, MakesSteps}
 use Rattle.group_node.proofs.Exact.{There}
 use Rattle.group_node.proofs.Seats.{seat_alone, seat_here}

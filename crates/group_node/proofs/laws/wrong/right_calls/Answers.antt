@@ -14,7 +14,7 @@ use Rattle.paxos_learner.proofs.OnePlace.{get_here}
 use Rattle.paxos_learner.specs.Input.{front_values, keys_in_order}
 use Rattle.group_node.specs.World.{MakesCall, Up}
 use Rattle.group_node.specs.WrongSteps.{ballot_by, fortieth, kept_third, nine, ninth_key, seat_up, up_as, up_learned, up_waiting}
-use Rattle.group_node.proofs.Elements.{entries_one}
+use Rattle.group_protocol.proofs.Elements.{entries_one}
 use Rattle.group_node.proofs.laws.wrong.right_calls.Goals as goal
 
 -- the key is read from what is learned

@@ -14,7 +14,7 @@ use Rattle.paxos_learner.proofs.OnePlace.{get_here}
 use Rattle.paxos_learner.specs.Input.{front_values, keys_in_order}
 use Rattle.group_node.specs.World.{LearnsOnly, MakesCall, Seat, Up, WorldState}
 use Rattle.group_node.specs.WrongSteps.{fortieth, four_accepted, kept_third, nine, nine_up, seat_up, up_as, up_learned}
-use Rattle.group_node.proofs.Elements.{entries_none, entries_one, minority, none_in}
+use Rattle.group_protocol.proofs.Elements.{entries_none, entries_one, minority, none_in}
 use Rattle.group_node.proofs.laws.wrong.wrong_learning.Goals as goal
 
 -- a node learns only what it may

@@ -10,7 +10,7 @@ use Rattle.paxos_learner.proofs.OnePlace.{get_here}
 use Rattle.paxos_learner.specs.Input.{learned_input}
 use Rattle.group_node.specs.World.{MakesSteps}
 use Rattle.group_node.specs.WrongSteps.{fortieth, main_frame, no_code, reads_on, up_reading}
-use Rattle.group_node.proofs.Elements.{entries_one}
+use Rattle.group_protocol.proofs.Elements.{entries_one}
 use Rattle.group_node.proofs.RunSteps.{run_moves, stuck}
 use Rattle.group_node.proofs.laws.wrong.wrong_reads.Goals as goal
 

@@ -1,7 +1,7 @@
 use Rattle.std.proofs.Common.{◌∙◌, ap, refl}
 use Rattle.std.proofs.lemmas.Result.{IfOk-weaker}
 use Rattle.group_node.specs.Deeds as deed
-use Rattle.group_node.specs.Packets.{Datagram}
+use Rattle.group_protocol.specs.Packets.{Datagram}
 use Rattle.group_world.specs.declared.member.Ask.TheVariants.{Hear}
 use Rattle.group_world.proofs.GroupCalls.{above, asks_so, delivered, lent_up, unchanged_on_err}
 use Rattle.group_world.proofs.WorldAsGroup.{running}

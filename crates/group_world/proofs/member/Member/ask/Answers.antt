@@ -1,5 +1,4 @@
 use Rattle.std.proofs.lemmas.Result.{IfOk-weaker, on_err_weaker}
-use Rattle.group_node.specs.Calls.{IsLet}
 use Rattle.group_world.proofs.AskEnds.{IsAnswered, asked_fits, campaign_answered, heard, ready, tick_answered}
 use Rattle.group_world.proofs.MemberCalls.{up_not_down}
 use Rattle.group_world.proofs.member.Member.ask.Goals as goal
@@ -35,18 +34,9 @@ answered c =
       | in-Campaign w ↦
           let h = w.campaign-answer.ensures in
           let s = h.responds.sends in
-          let r = h.refuses in
           rw (w.self-inside-is, w.outbox-is, w.answer-is, w.in-Campaign.is)
           (campaign_answered is_ready c.requires.empty s.progress s.let_in s.does h.responds.saves
-          (λ opens.
-          let free : IsLet c.fail_next.new.self.protocol c.args.outbox.now.packets =
-          record { is_open = opens.works; is_free = c.requires.empty } in
-          record {
-            rounds = ((λ e. (r.rounds.0 e).1), (λ e. r.rounds.1 (free, e)));
-            places = ((λ e. ((r.places.0 e).1, (r.places.0 e).2)), (λ e. r.places.1 (free, e.0, e.1)));
-            spare = r.spare;
-            spare_saved = r.spare_saved;
-          }) h.others)
+          (λ opens. h.refuses (record { is_open = opens.works; is_free = c.requires.empty })) h.others)
       | in-Tick w ↦
           let h = w.tick-answer.ensures in
           let s = h.sends in

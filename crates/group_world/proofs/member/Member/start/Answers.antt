@@ -1,6 +1,6 @@
 use Rattle.std.proofs.Common.{◌≡◌, ◌∙◌, None, ap, subst, sym}
 use Rattle.paxos_acceptor.specs.Records.{IsRecord}
-use Rattle.group_node.specs.Known.{Known}
+use Rattle.group_protocol.specs.Known.{Known}
 use Rattle.group_world.specs.Member.{running_of, store_of}
 use Rattle.group_world.proofs.MemberCalls.{down_kept, FailsToStart, start_changes_nothing, start_fails, start_happens}
 use Rattle.group_world.proofs.member.Member.start.Goals as goal

@@ -18,10 +18,10 @@ use Rattle.paxos_msg.specs.Messages.{IsSaid}
 use Rattle.paxos_acceptor.specs.declared.me.Me.{Me}
 use Rattle.paxos_learner.specs.Input.{front_values, keys_in_order}
 use Rattle.group_node.specs.Inputs.{AreChosen}
-use Rattle.group_node.specs.Known.{Response, on_typed, new_key, next_serial, own_batch, on_start}
-use Rattle.group_node.specs.WaitingKeys.{batch_of, waiting_keys}
+use Rattle.group_protocol.specs.Known.{Response, on_typed, new_key, next_serial, own_batch, on_start}
+use Rattle.group_protocol.specs.WaitingKeys.{batch_of, waiting_keys}
 use Rattle.group_node.specs.Output.{Progress, no_progress}
-use Rattle.group_node.specs.Packets.{Datagram, Packet, datagrams_of}
+use Rattle.group_protocol.specs.Packets.{Datagram, Packet, datagrams_of}
 use Rattle.group_world.specs.Group.{IsUp, me_of, member_at, message_of, messages_in, with_member, World, world_state, new_world}
 use Rattle.group_world.specs.Member.{Member, member_after_call, Running, at_progress, failing, Makes, Refuses, call_of_start, member_after_release, save_outcome, NodeCall}
 use Rattle.group_world.specs.Ordered.{IsDue, IsOrdered, AreTypedKeys, IsRowOf, AreTypedInOrder}
@@ -37,16 +37,16 @@ use Rattle.group_world.specs.Deeds.{DoesDeed, EndsCall, Left}
 use Rattle.group_world.specs.Event.{DoesAt, world_after}
 use Rattle.group_world.proofs.CallLeaves.{Leaves, LeavesBy, idle_leads, leaves_so, quiet_leads, world_after_call, world_after_fall}
 use Rattle.group_node.specs.Deeds as deed
-use Rattle.group_node.specs.Protocol.{on_message}
-use Rattle.group_node.specs.Tick.{on_tick}
+use Rattle.group_protocol.specs.Protocol.{on_message}
+use Rattle.group_protocol.specs.Tick.{on_tick}
 use Rattle.group_node.specs.Deeds.{Deed}
 use Rattle.group_world.proofs.CallCases.{campaign_cases, press_cases, start_cases}
-use Rattle.group_node.specs.declared.fault.NodeFault.{NodeFault}
+use Rattle.group_protocol.specs.declared.fault.NodeFault.{NodeFault}
 use Rattle.std.proofs.lemmas.List.Quantifiers.{all_pairs_push}
 use Rattle.std.proofs.lemmas.Option.{IfSome_then}
 use Rattle.group_world.specs.Order.{HaveOneName}
 use Rattle.group_world.proofs.OrderFronts.{chosen_typed, OrderLaws}
-use Rattle.group_node.proofs.Elements.{none_in}
+use Rattle.group_protocol.proofs.Elements.{none_in}
 
 -- ---- the facts of typed keys, after one node has changed
 

@@ -4,15 +4,15 @@ use Rattle.std.proofs.Common.{◌&&◌, not, All, IfSome, option_map, nat_lt, is
 use Rattle.std.proofs.lemmas.Bool.Decides.{nat_tests}
 use Rattle.paxos_msg.specs.Tests.{same_ballot}
 use Rattle.paxos_proposer.specs.Proposer.{next_of, coverage_of, is_covered, proposed_at, proposer_after_part, asks_on, Proposer}
-use Rattle.group_node.specs.ProposerRows.{is_known, offer_after, offering, prepare_from, proposing_on, submitted, taking_part, on_campaign}
+use Rattle.group_protocol.specs.ProposerRows.{is_known, offer_after, offering, prepare_from, proposing_on, submitted, taking_part, on_campaign}
 use Rattle.std.proofs.lemmas.List.Elements.{All-take, All-contains, All-append, All-cons, All-nil}
 use Rattle.std.specs.FinMap.{FinMap, get}
 use Rattle.std.specs.Ordering.{nat_cmp}
 use Rattle.std.specs.List.{range_with_len, Contains, cons_option, filter_map}
-use Rattle.group_node.specs.Known.{front, Response, next_serial, Known, quiet}
-use Rattle.group_node.specs.LearnerRows.{tell_packet}
-use Rattle.group_node.specs.Tick.{accepts_again, asks_again, prepares_again, submits, asks, on_tick, ticked}
-use Rattle.group_node.specs.Packets.{to_all, to_one, Datagram, Packet, datagram_of, datagrams_of}
+use Rattle.group_protocol.specs.Known.{front, Response, next_serial, Known, quiet}
+use Rattle.group_protocol.specs.LearnerRows.{tell_packet}
+use Rattle.group_protocol.specs.Tick.{accepts_again, asks_again, prepares_again, submits, asks, on_tick, ticked}
+use Rattle.group_protocol.specs.Packets.{to_all, to_one, Datagram, Packet, datagram_of, datagrams_of}
 use Rattle.std.proofs.lemmas.Option.{same_Some}
 use Rattle.std.proofs.lemmas.List.{length-drop}
 use Rattle.paxos_msg.specs.declared.ballot.Ballot.{Ballot}
@@ -23,11 +23,11 @@ use Rattle.paxos_msg.specs.Keys.{Key, keys_from}
 use Rattle.paxos_acceptor.specs.Answers.{accepted, after, Answer, prepared, voted}
 use Rattle.paxos_learner.specs.Learner.{HasLearnedMore, Learner}
 use Rattle.paxos_learner.specs.Input.{front_values, keys_in_order}
-use Rattle.group_node.specs.declared.packet.To.{To}
-use Rattle.group_node.specs.Protocol.{on_message, row}
-use Rattle.group_node.specs.AcceptorRows.{answering}
-use Rattle.group_node.specs.WaitingKeys.{batch_of, count_gone, count_read, waiting_keys, without_read}
-use Rattle.group_node.specs.Pump.{pump, accepts_of}
+use Rattle.group_protocol.specs.declared.packet.To.{To}
+use Rattle.group_protocol.specs.Protocol.{on_message, row}
+use Rattle.group_protocol.specs.AcceptorRows.{answering}
+use Rattle.group_protocol.specs.WaitingKeys.{batch_of, count_gone, count_read, waiting_keys, without_read}
+use Rattle.group_protocol.specs.Pump.{pump, accepts_of}
 use Rattle.group_world.specs.Ordered.{IsFirstUnread}
 use Rattle.group_world.proofs.OrderRows.{IsParted}
 use Rattle.paxos_msg.specs.declared.message.Group.{Group}
@@ -40,7 +40,7 @@ use Rattle.group_world.specs.Sound.{IsSpelling}
 use Rattle.group_world.specs.Group.{message_of, messages_in}
 use Rattle.group_world.proofs.OrderLists.{of_map}
 use Rattle.group_world.proofs.laws.order.deeds_keep_order.Goals as goal
-use Rattle.group_node.proofs.Elements.{first_in, in_cases, none_in, rest_in}
+use Rattle.group_protocol.proofs.Elements.{first_in, in_cases, none_in, rest_in}
 
 -- The laws of the crates below that the law cites.
 abbrev pub Laws : Type 0

@@ -6,7 +6,7 @@ use Rattle.std.proofs.lemmas.List.Elements.{Contains-push, All-append, Contains-
 use Rattle.paxos_msg.specs.declared.value.Value.{Value}
 use Rattle.paxos_msg.specs.Batches.{Change, Grew, Sent, Body, MaySend, MaySendAll, Msg, Record}
 use Rattle.paxos_msg.specs.Records.{MaySave, Stored}
-use Rattle.group_node.specs.Known.{Response}
+use Rattle.group_protocol.specs.Known.{Response}
 use Rattle.group_node.specs.Output.{Progress, IsReplay}
 use Rattle.group_world.specs.Group.{member_at, with_member, World, world_state, IsUp, me_of}
 use Rattle.group_world.proofs.CallLeaves.{world_after_call, world_after_fall}
@@ -22,14 +22,14 @@ use Rattle.std.proofs.lemmas.Grind.{flat_map-append}
 use Rattle.std.specs.FinMap.{FinMap}
 use Rattle.std.specs.Ordering.{nat_cmp}
 use Rattle.paxos_msg.specs.Keys.{Key, keys_of}
-use Rattle.group_node.specs.Ranges.{AllFit, IsInRange}
-use Rattle.group_node.specs.Steps.{messages_handed_out, IsLawful}
+use Rattle.group_protocol.specs.Ranges.{AllFit, IsInRange}
+use Rattle.group_protocol.specs.Steps.{messages_handed_out, IsLawful}
 use Rattle.pcode_file.specs.Parts.{Parts}
 use Rattle.paxos_msg.specs.Messages.{messages_of}
 use Rattle.paxos_acceptor.specs.declared.me.Me.{Me}
-use Rattle.group_node.specs.Backs.{Backs}
+use Rattle.group_protocol.specs.Backs.{Backs}
 use Rattle.group_world.proofs.laws.sound.deeds_keep_it_sound.Goals as goal
-use Rattle.group_node.proofs.Elements.{only_in}
+use Rattle.group_protocol.proofs.Elements.{only_in}
 
 abbrev pub Laws : Type 0
 Laws = goal.After-prefixes_are_ordered

@@ -1,8 +1,8 @@
 -- Each deed keeps a world sound, and is that deed in its group. The world before all events is sound.
 use Rattle.std.proofs.Common.{Contains, length, ◌≡◌, ◌∙◌, ℕ, All, ◌<◌, ◌++◌, List, [], ◌∷◌, flat_map, slice_get, Some, refl, sym, ap, subst, append-nil, arith, ◌≢◌, Bool, true, false, if◌then◌else◌, Option, None, inl, inr, ◌+◌, ◌-◌, ◌≤◌}
-use Rattle.group_node.specs.ProposerRows.{last_round, on_campaign}
-use Rattle.group_node.specs.Known.{front, next_serial, Response, on_typed, new_key, on_start}
-use Rattle.group_node.specs.WaitingKeys.{waiting_keys}
+use Rattle.group_protocol.specs.ProposerRows.{last_round, on_campaign}
+use Rattle.group_protocol.specs.Known.{front, next_serial, Response, on_typed, new_key, on_start}
+use Rattle.group_protocol.specs.WaitingKeys.{waiting_keys}
 use Rattle.group_world.proofs.CallCases.{campaign_cases, press_cases, start_cases}
 use Rattle.group_world.proofs.AskEnds.{tick_rests}
 use Rattle.std.proofs.lemmas.List.Elements.{All-cons, All-contains, All-nil, All-head, All-tail}
@@ -13,12 +13,12 @@ use Rattle.paxos_msg.specs.Batches.{Msg, Record, Change, Body}
 use Rattle.paxos_msg.specs.Datagrams.{Fits}
 use Rattle.paxos_msg.specs.Fits.{IsGroup}
 use Rattle.paxos_msg.specs.Keys.{Key, keys_of}
-use Rattle.group_node.specs.Protocol.{on_message}
-use Rattle.group_node.specs.Tick.{on_tick}
+use Rattle.group_protocol.specs.Protocol.{on_message}
+use Rattle.group_protocol.specs.Tick.{on_tick}
 use Rattle.group_node.specs.Output.{no_progress, Progress, IsReplay, RunsOn}
-use Rattle.group_node.specs.Packets.{Datagram}
-use Rattle.group_node.specs.Ranges.{IsFit, IsHeardFit, IsMember}
-use Rattle.group_node.specs.Steps.{IsLawful, IsLawfulCall}
+use Rattle.group_protocol.specs.Packets.{Datagram}
+use Rattle.group_protocol.specs.Ranges.{IsFit, IsHeardFit, IsMember}
+use Rattle.group_protocol.specs.Steps.{IsLawful, IsLawfulCall}
 use Rattle.group_world.specs.Group.{IsDown, IsUp, me_of, messages_in, World, world_state, seat_of_member, up_of, with_member, member_at, new_world}
 use Rattle.group_world.specs.Member.{Member, Running, NodeCall, Makes, Refuses, call_of_campaign, call_of_press, call_of_start, failing, save_outcome, at_progress, member_after_release}
 use Rattle.group_world.specs.Sound.{IsSound, IsSpelling}
@@ -29,7 +29,8 @@ use Rattle.pcode_machine.specs.Configuration.{Configuration}
 use Rattle.pcode_machine.specs.Runs.{after_steps, begin, out}
 use Rattle.paxos_acceptor.specs.declared.me.Me.{Me}
 use Rattle.paxos_acceptor.specs.Stores.{IsOneOf}
-use Rattle.group_node.specs.States.{input, IsSize}
+use Rattle.group_protocol.specs.States.{IsSize}
+use Rattle.group_node.specs.States.{input}
 use Rattle.group_node.specs.Deeds as deed
 use Rattle.group_node.specs.Deeds.{Deed}
 use Rattle.group_node.specs.World as group

@@ -1,0 +1,11 @@
+pub mod Elements
+mod PacketsFit
+mod ByCases
+mod Sending
+mod Campaigning
+mod Leaving
+mod Places
+mod Pumping
+mod NodeBackedAsMoreIsSent
+mod Saving
+mod WaitingKeys

@@ -1,0 +1,15 @@
+pub mod Packets
+pub mod Known
+pub mod AcceptorRows
+pub mod LearnerRows
+pub mod WaitingKeys
+pub mod Pump
+pub mod ProposerRows
+pub mod Tick
+pub mod Protocol
+pub mod Backs
+pub mod Ranges
+pub mod Steps
+pub mod States
+pub mod Calls
+pub mod Fault

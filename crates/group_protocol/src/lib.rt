@@ -1,0 +1,35 @@
+//! A node's part in the protocol, for those who replicate a machine of their own.
+//!
+//! - `Config::new(node, size, session)?` is a node's place in its group. Open an `Acceptor` over
+//! its store and count the start (`new_start`). `Protocol::new(alloc, &config, acceptor,
+//! Waiting::new(alloc)?)` is the node after that start.
+//! - `typed(byte)?`, `on_message(&view, &mut outbox)?`, `campaign(&mut outbox)?` and
+//! `tick(&mut outbox)?` are its events. Each saves first, at most once. Then it puts the packets
+//! that are to be sent into the outbox, from which `outbox.pop()` takes them.
+//! - `learner()` has the values that are learned, and the input that their keys make.
+//!
+//! A refusal is a `NodeFault`: after `Memory` nothing has changed, and after `Store` the node is
+//! stopped. The module `laws` has what holds of each such call. A `Node` of the crate `group_node`
+//! is such a part with the machine of a p-code program.
+#![tactic(auto)]
+
+mod acceptor_rows;
+mod config;
+mod fault;
+pub mod laws;
+mod learner_rows;
+pub mod limits;
+mod outbox;
+mod packet;
+mod proposer_rows;
+mod protocol;
+mod pump;
+mod tick;
+mod waiting_keys;
+
+pub use config::Config;
+pub use fault::{NodeFault, node_fault};
+pub use outbox::Outbox;
+pub use packet::{Packet, To};
+pub use protocol::Protocol;
+pub use waiting_keys::Waiting;

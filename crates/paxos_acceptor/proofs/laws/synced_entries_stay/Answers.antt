@@ -1,5 +1,0 @@
-use Rattle.paxos_acceptor.proofs.SyncedEntries.{entries_stay}
-use Rattle.paxos_acceptor.proofs.laws.synced_entries_stay.Goals as goal
-
-pub returns : goal.returns
-returns c = entries_stay c.entry_is_spelling.ensures

@@ -1,0 +1,91 @@
+-- Entries of a log: what is read was written, and what is written is read.
+use Rattle.std.proofs.Common.{◌≡◌, ◌↔◌, ℕ, suc, eqb, Bool, true, false, nat_lt, if◌then◌else◌, List, [], ◌∷◌, ◌++◌, Ok, Err, refl, arith}
+use Rattle.std.proofs.lemmas.Bool.{eqb-true, le-ltb, ltb-false}
+use Rattle.base.proofs.Steps.{last_ok, ok_is}
+use Rattle.paxos_msg.specs.declared.ballot.Ballot.{Ballot}
+use Rattle.paxos_msg.specs.Batches.{Change}
+use Rattle.paxos_msg.specs.declared.record.Change.TheVariants.{Start, Promise, Ballotted}
+use Rattle.paxos_msg.specs.declared.fault.WireFault.TheVariants as fault
+use Rattle.paxos_msg.specs.Fits.{IsPlace, IsValue, AreBytes}
+use Rattle.paxos_msg.specs.Reading.{place_at, value_at}
+use Rattle.paxos_msg.specs.Spelling.{ballot_bytes, number_bytes, value_bytes}
+use Rattle.paxos_disk.specs.declared.version.Version.{Version}
+use Rattle.paxos_disk.specs.declared.version.Version.TheVariants.{One, Two}
+use Rattle.paxos_disk.specs.Entries.{BeginsEntry, IsFor, IsInRanges, entry_bytes, value_spelling}
+use Rattle.paxos_disk.specs.LogReading.{entry_at, log_promise_at, log_vote_at, value_in}
+use Rattle.paxos_disk.proofs.Fields.{Exact, Fields, others, step}
+
+module _ (F : Fields) (V : (size : ℕ) → Exact (value_at size) (IsValue size) value_bytes) (version : Version) (size : ℕ) where
+  -- a place is read as it is spelled
+  place_law : Exact (place_at 65535) IsPlace number_bytes
+  unfolding place_at
+  place_law = record {
+    found = λ bytes p are e. step F.numbers bytes _ p are e (λ s rest small parts are e.
+        let t = last_ok fault.Place (nat_lt 65535 s) _ p e in
+        rw (← t.1) (ltb-false 65535 s t.0, parts));
+    again = λ s rest are h. rw (F.numbers.again s rest are (omega arith), le-ltb 65535 s h) refl;
+  }
+
+  -- the value of a vote that the version can spell
+  value_law : (version : Version) (s : ℕ) (b : Ballot)
+      → Exact (value_in version size) (λ v. IsValue size v × IsFor version (Ballotted s b v)) (value_spelling version)
+  value_law One s b = F.values_v1 size
+  value_law Two s b = record {
+    found = λ bytes p are e. (let h = (V size).found bytes p are e in ((h.0, tt), h.1));
+    again = λ v rest are h. (V size).again v rest are h.0;
+  }
+
+  -- each version can spell a start and a promise
+  for_other : (version : Version) → IsFor version Start × ((b : Ballot) → IsFor version (Promise b))
+  for_other One = (tt, λ b. tt)
+  for_other Two = (tt, λ b. tt)
+
+  vote_found : (bytes : List ℕ) (p : Change × List ℕ) → AreBytes bytes → log_vote_at version size bytes ≡ Ok p
+      → BeginsEntry version size (3 ∷ bytes) p.0 p.1
+  unfolding log_vote_at
+  vote_found bytes p are e =
+      step place_law bytes _ p are e (λ place _ there from_place are e.
+      step (F.ballots size) _ _ p are e (λ ballot _ good from_ballot are e.
+      step (value_law version place ballot) _ _ p are e (λ value rest fits from_value are e.
+      rw (← ok_is _ p e)
+      (record { in_ranges = (there, good, fits.0); is_for = fits.1; spelled = rw (from_place, from_ballot, from_value) refl }))))
+
+  entry_found : (bytes : List ℕ) (p : Change × List ℕ) → AreBytes bytes → entry_at version size bytes ≡ Ok p
+      → BeginsEntry version size bytes p.0 p.1
+  unfolding entry_at
+  entry_found [] p are e = absurd cc
+  entry_found (tag ∷ bytes) p are e = by (λ i. are (suc i)) (eqb tag 1) (eqb tag 2) (eqb tag 3) refl refl refl e where
+    by : AreBytes bytes → (t u w : Bool) → eqb tag 1 ≡ t → eqb tag 2 ≡ u → eqb tag 3 ≡ w
+        → (if t then Ok (Start, bytes)
+        else (if u then log_promise_at size bytes
+        else (if w then log_vote_at version size bytes else Err fault.Kind))) ≡ Ok p
+        → BeginsEntry version size (tag ∷ bytes) p.0 p.1
+    by are true u w i j k h =
+        rw (eqb-true tag 1 i, ← ok_is (Start, bytes) p h) (record { in_ranges = tt; is_for = (for_other version).0; spelled = refl })
+    by are false true w i j k h =
+        step (F.ballots size) bytes _ p are h (λ b rest good parts are e.
+        rw (eqb-true tag 2 j, ← ok_is _ p e) (record { in_ranges = good; is_for = (for_other version).1 b; spelled = rw parts refl }))
+    by are false false true i j k h = rw (eqb-true tag 3 k) (vote_found bytes p are h)
+    by are false false false i j k h = absurd cc
+
+  entry_again : (c : Change) (rest : List ℕ) → AreBytes (entry_bytes version c ++ rest) → IsInRanges size c → IsFor version c
+      → entry_at version size (entry_bytes version c ++ rest) ≡ Ok (c, rest)
+  unfolding entry_at log_vote_at
+  entry_again Start rest are fits is_for = refl
+  entry_again (Promise b) rest are fits is_for = rw ((F.ballots size).again b rest (λ i. are (suc i)) fits) refl
+  entry_again (Ballotted s b v) rest are fits is_for =
+      let after_place = ballot_bytes b ++ (value_spelling version v ++ rest) in
+      let are_place : AreBytes (number_bytes s ++ after_place) = λ i. are (suc i) in
+      let are_ballot = others (number_bytes s) after_place are_place in
+      rw (
+        place_law.again s after_place are_place fits.0,
+        (F.ballots size).again b _ are_ballot fits.1,
+        (value_law version s b).again v rest (others (ballot_bytes b) _ are_ballot) (fits.2, is_for),
+      ) refl
+
+  pub entry_law : (bytes : List ℕ) (c : Change) (rest : List ℕ) → AreBytes bytes
+      → (entry_at version size bytes ≡ Ok (c, rest)) ↔ BeginsEntry version size bytes c rest
+  entry_law bytes c rest are = (
+    entry_found bytes (c, rest) are,
+    λ h. rw h.spelled (entry_again c rest (rw h.spelled at are) h.in_ranges h.is_for),
+  )

@@ -1,0 +1,11 @@
+use Rattle.paxos_disk.proofs.Fields.{by_law, by_law_of_two}
+use Rattle.paxos_disk.proofs.LogEntries.{entry_law}
+use Rattle.paxos_disk.proofs.log_reading.entry_is_spelling.Goals as goal
+
+pub returns : goal.returns
+returns c = λ version size. entry_law (record {
+  numbers = by_law c.number_is_spelling.ensures.read;
+  ballots = λ size. by_law (c.ballot_is_spelling.ensures.read size);
+  values_v1 = λ size. by_law_of_two (c.value_v1_is_spelling.ensures.read size);
+  votes = λ size n b. by_law_of_two (c.votes_are_spelling.ensures.read size n b);
+}) (λ size. by_law (c.value_is_spelling.ensures.read size)) version size

@@ -1,0 +1,15 @@
+pub mod Records
+pub mod Version1
+pub mod RecordReading
+pub mod Slots
+pub mod Sectors
+pub mod Entries
+pub mod Padding
+pub mod Ending
+pub mod Log
+pub mod Files
+pub mod LogReading
+pub mod Disks
+pub mod Reads
+pub mod Puts
+pub mod MemoryDisks
