@@ -1,5 +1,5 @@
 -- The forms of a file, and what a save makes of them.
-use Rattle.std.proofs.Common.{◌≡◌, ℕ, ◌+◌, ◌<◌, ◌^◌, min, List, ◌∷◌, ◌++◌, length, slice_index, Option, Some, None, inl, inr, refl, sym, ap, ◌∙◌, append_assoc, arith}
+use Rattle.std.proofs.Common.{◌≡◌, ◌⊎◌, ℕ, ◌+◌, ◌<◌, ◌^◌, min, List, ◌++◌, length, slice_index, Option, Some, None, inl, inr, refl, sym, ap, ◌∙◌, append_assoc, arith}
 use Rattle.std.proofs.lemmas.List.{length-append}
 use Rattle.paxos_msg.specs.Batches.{Change, Record}
 use Rattle.paxos_msg.specs.Records.{changed, empty_record}
@@ -13,7 +13,7 @@ use Rattle.paxos_disk.specs.declared.form.Form.{Form}
 use Rattle.paxos_disk.specs.declared.form.Form.TheVariants.{Missing, Loaded, Log, Whole}
 use Rattle.paxos_disk.specs.declared.form.Patch.{Patch}
 use Rattle.paxos_disk.specs.Entries.{IsEntry, entries_bytes, entry_bytes}
-use Rattle.paxos_disk.specs.Files.{IsAnew, IsFiledAs, IsFormAfter, IsFormIn, IsLogPatch, IsPatch, IsWholeForm, IsWritten, Replaces, log_of_starts, patched}
+use Rattle.paxos_disk.specs.Files.{IsAnew, IsFiledAs, IsFormAfter, IsFormIn, IsLogPatch, IsPatch, IsWholeForm, IsWritten, log_of_starts, patched}
 use Rattle.paxos_disk.specs.Log.{IsUncut, LogBy, LogFound, LogIn, log_header}
 use Rattle.paxos_disk.specs.Padding.{IsAppended, again}
 use Rattle.paxos_acceptor.specs.Records.{IsRecord}
@@ -24,25 +24,22 @@ use Rattle.paxos_disk.proofs.LogGrowth.{grown_again, grown_log, kept_log, new_lo
 
 -- ---- the first bytes of a file determine its form
 
--- the byte of the version
+-- the byte of the version differs
 pub records : (me : Me) (bytes : List ℕ) (r old : Record) → Rec me bytes r → ¬ Rec1 me bytes old
 records me bytes r old h k = cc (sym h.spelled ∙ k.spelled)
 
-pub logs : (ending other : Ending) (me : Me) (bytes : List ℕ) (r s : Record) (m n : ℕ)
+logs : (ending other : Ending) (me : Me) (bytes : List ℕ) (r s : Record) (m n : ℕ)
     → LogBy ending Two me bytes r m → ¬ LogBy other One me bytes s n
 logs ending other me bytes r s m n h k = cc (sym h.2 ∙ k.2)
 
--- the second letter
-letter : (bytes xs ys : List ℕ) → bytes ≡ 80 ∷ (76 ∷ xs) → ¬ (bytes ≡ 80 ∷ (82 ∷ ys))
-letter bytes xs ys e f = let same : 76 ≡ 82 = ap (λ (zs : List ℕ). slice_index zs 1) (sym e ∙ f) in omega (arith, same)
-
+-- the second letter differs
 pub log_or_record : (me : Me) (ending : Ending) (version : Version) (bytes : List ℕ) (r s : Record) (n : ℕ)
     → LogBy ending version me bytes r n → ¬ Rec me bytes s
-log_or_record me ending version bytes r s n h k = letter bytes _ _ h.2 k.spelled
+log_or_record me ending version bytes r s n h k = omega (arith, ap (λ (l : List ℕ). slice_index l 1) (sym h.2 ∙ k.spelled))
 
 pub log_or_old_record : (me : Me) (ending : Ending) (version : Version) (bytes : List ℕ) (r s : Record) (n : ℕ)
     → LogBy ending version me bytes r n → ¬ Rec1 me bytes s
-log_or_old_record me ending version bytes r s n h k = letter bytes _ _ h.2 k.spelled
+log_or_old_record me ending version bytes r s n h k = omega (arith, ap (λ (l : List ℕ). slice_index l 1) (sym h.2 ∙ k.spelled))
 
 -- ---- a record by the forms that a file can have
 
@@ -69,26 +66,13 @@ not_whole me bytes found taken log r (inr (inr h)) = logs (Torn (length bytes)) 
 
 -- ---- what a save leaves
 
-pub first : (me : Me) (c : Change) (patch : Patch) (after : Form) → IsEntry me.group.size empty_record c
-    → IsPatch me empty_record c Missing patch → IsFormAfter Missing patch after
-    → IsFormIn me patch.bytes.items (changed empty_record c) after
-first me c patch after entry h is =
-    rw (is, h.0, h.1) (grown_log me (log_header Two me) empty_record c (new_log me) entry, refl)
-
 -- a log that is written anew has the same record
-pub anew_log : (me : Me) (log : List ℕ) (r : Record) (bytes : List ℕ) → IsUncut me log r → IsAnew me log r bytes → IsUncut me bytes r
+anew_log : (me : Me) (log : List ℕ) (r : Record) (bytes : List ℕ) → IsUncut me log r → IsAnew me log r bytes → IsUncut me bytes r
 anew_log me log r bytes uncut (inl same) = rw same uncut
 anew_log me log r bytes uncut (inr shorter) = shorter.0
 
--- the log of starts alone with one entry more
-pub next_start : (me : Me) (r : Record) (c : Change) (n : ℕ) (after : Form) (patch : Patch) → IsRecord me.group.size r
-    → r.promised ≡ None → IsEntry me.group.size r c → Replaces patch (log_of_starts me r.starts ++ entry_bytes Two c)
-    → IsFormAfter (Log n) patch after → IsFormIn me patch.bytes.items (changed r c) after
-next_start me r c n after patch fits none entry h is =
-    rw (is, h.0, h.1) (grown_log me (log_of_starts me r.starts) r c (started_log me r fits none) entry, refl)
-
 -- a log that was appended to
-pub next_append : (me : Me) (bytes : List ℕ) (r : Record) (b : Ballot) (c : Change) (added : List ℕ) → IsRecord me.group.size r
+next_append : (me : Me) (bytes : List ℕ) (r : Record) (b : Ballot) (c : Change) (added : List ℕ) → IsRecord me.group.size r
     → IsUncut me bytes r → r.promised ≡ Some b → IsEntry me.group.size r c → IsAppended b (length bytes) c added
     → IsUncut me (bytes ++ added) (changed r c)
 next_append me bytes r b c added fits uncut p entry h =
@@ -96,31 +80,54 @@ next_append me bytes r b c added fits uncut p entry h =
     let padded = grown_again me r fits b p h.times bytes uncut in
     rw (h.spelled, ← append_assoc bytes again_bytes (entry_bytes Two c)) (grown_log me (bytes ++ again_bytes) r c padded entry)
 
+-- bytes that replace a file, which is then in this form
+abbrev pub IsReplaced : Me → Record → Patch → Form → Type 0
+IsReplaced me next patch after = (patch.at ≡ None) × IsFormIn me patch.bytes.items next after
+
+-- the first save
+pub first : (me : Me) (r : Record) (c : Change) (patch : Patch) (after : Form) → r ≡ empty_record → IsEntry me.group.size r c
+    → IsPatch me r c Missing patch → IsFormAfter Missing patch after → IsReplaced me (changed r c) patch after
+first me r c patch after e entry h is =
+    (h.0, rw (is, h.0, h.1) (grown_log me (log_header Two me) r c (rw e (new_log me)) entry, refl))
+
+-- promises and an entry that are appended to a log, which is then in this form
+pub record IsAdded (me : Me) (all : List ℕ) (r : Record) (c : Change) (patch : Patch) (after : Form) : Type 0 where
+  pub ballot : Ballot
+  pub promised : r.promised ≡ Some ballot
+  pub at : patch.at ≡ Some (length all)
+  pub added : IsAppended ballot (length all) c patch.bytes.items
+  pub uncut : IsUncut me all r
+  pub in_form : length (all ++ patch.bytes.items) < 2 ^ 64 → IsFormIn me (all ++ patch.bytes.items) (changed r c) after
+
+-- a save replaces the file or appends to it
+pub saved_as : (me : Me) (all : List ℕ) (r : Record) (c : Change) (form after : Form) (patch : Patch) → IsRecord me.group.size r
+    → IsFormIn me all r form → IsEntry me.group.size r c → IsRecord me.group.size (changed r c) → IsPatch me r c form patch
+    → IsFormAfter form patch after → IsReplaced me (changed r c) patch after ⊎ IsAdded me all r c patch after
+saved_as me all r c Missing after patch fits known entry next h is = absurd known
+saved_as me all r c (Loaded kept m) after patch fits known entry next h is =
+    let uncut : IsUncut me kept.items r = rw known.2 (kept_log (Torn (length all)) me all r known.0 known.1) in
+    inl (h.2.0, rw (is, h.2.0, h.2.1) (grown_log me h.0 r c (anew_log me kept.items r h.0 uncut h.1) entry, refl))
+saved_as me all r c (Log n) after patch fits known entry next h is = by r.promised refl h where
+  by : (promised : Option Ballot) → r.promised ≡ promised → IsLogPatch me promised r c n patch
+      → IsReplaced me (changed r c) patch after ⊎ IsAdded me all r c patch after
+  by None p h =
+      inl (h.0, rw (is, h.0, h.1) (grown_log me (log_of_starts me r.starts) r c (started_log me r fits p) entry, refl))
+  by (Some b) p h = inr (record {
+    ballot = b;
+    promised = p;
+    at = rw known.1 at h.0;
+    added = rw known.1 at h.1;
+    uncut = known.0;
+    in_form = λ short.
+        let long : min (n + length patch.bytes.items) 18446744073709551615 ≡ length (all ++ patch.bytes.items) =
+        omega (arith, length-append all patch.bytes.items, known.1, short) in
+        rw (is, h.0, long) (next_append me all r b c patch.bytes.items fits known.0 p entry (rw known.1 at h.1), refl);
+  })
+saved_as me all r c (Whole n) after patch fits known entry next h is =
+    inl (h.0, rw (is, h.0) (inl (record { ranges = next; spelled = h.1 }), refl))
+
 -- where each change that can be made keeps a record in its ranges
 module _ (stays : EntriesStay) where
-  pub next : (me : Me) (bytes : List ℕ) (r : Record) (c : Change) (form after : Form) (patch : Patch)
-      → IsFormIn me bytes r form → IsEntry me.group.size r c → IsRecord me.group.size (changed r c)
-      → IsPatch me r c form patch → IsFormAfter form patch after → length (patched bytes patch) < 2 ^ 64
-      → IsFormIn me (patched bytes patch) (changed r c) after
-  next me bytes r c Missing after patch known entry fits h is short = absurd known
-  next me bytes r c (Loaded kept m) after patch known entry fits h is short =
-      let uncut : IsUncut me kept.items r = rw known.2 (kept_log (Torn (length bytes)) me bytes r known.0 known.1) in
-      rw (is, h.2.0, h.2.1) (grown_log me h.0 r c (anew_log me kept.items r h.0 uncut h.1) entry, refl)
-  next me bytes r c (Log n) after patch known entry fits h is short = by r.promised refl h where
-    in_ranges : IsRecord me.group.size r
-    in_ranges = log_in_ranges stays Cut Two me bytes r (length bytes) known.0
-
-    by : (promised : Option Ballot) → r.promised ≡ promised → IsLogPatch me promised r c n patch
-        → IsFormIn me (patched bytes patch) (changed r c) after
-    by None p h = rw h.0 (next_start me r c n after patch in_ranges p entry h is)
-    by (Some b) p h =
-        let long : length (bytes ++ patch.bytes.items) < 2 ^ 64 = rw h.0 at short in
-        let all : min (n + length patch.bytes.items) 18446744073709551615 ≡ length (bytes ++ patch.bytes.items) =
-        omega (arith, length-append bytes patch.bytes.items, known.1) in
-        rw (is, h.0, all) (next_append me bytes r b c patch.bytes.items in_ranges known.0 p entry (rw known.1 at h.1), refl)
-  next me bytes r c (Whole n) after patch known entry fits h is short =
-      rw (is, h.0) (inl (record { ranges = fits; spelled = h.1 }), refl)
-
   whole_in_ranges : (me : Me) (bytes : List ℕ) (r : Record) → IsWholeForm me bytes r → IsRecord me.group.size r
   whole_in_ranges me bytes r (inl h) = h.ranges
   whole_in_ranges me bytes r (inr (inl h)) = h.ranges
@@ -134,3 +141,13 @@ module _ (stays : EntriesStay) where
   )
   form_fits me bytes r (Log n) h = (log_in_ranges stays Cut Two me bytes r (length bytes) h.0, tt)
   form_fits me bytes r (Whole n) h = (whole_in_ranges me bytes r h.0, tt)
+
+  pub next : (me : Me) (bytes : List ℕ) (r : Record) (c : Change) (form after : Form) (patch : Patch)
+      → IsFormIn me bytes r form → IsEntry me.group.size r c → IsRecord me.group.size (changed r c)
+      → IsPatch me r c form patch → IsFormAfter form patch after → length (patched bytes patch) < 2 ^ 64
+      → IsFormIn me (patched bytes patch) (changed r c) after
+  next me bytes r c form after patch known entry fits h is short =
+      elim (saved_as me bytes r c form after patch (form_fits me bytes r form known).0 known entry fits h is) [
+        | inl new ↦ rw new.0 new.1
+        | inr more ↦ rw more.at (more.in_form (rw more.at at short))
+      ]

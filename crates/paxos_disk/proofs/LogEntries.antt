@@ -1,6 +1,6 @@
 -- Entries of a log: what is read was written, and what is written is read.
-use Rattle.std.proofs.Common.{◌≡◌, ◌↔◌, ℕ, suc, eqb, Bool, true, false, nat_lt, if◌then◌else◌, List, [], ◌∷◌, ◌++◌, Ok, Err, refl, arith}
-use Rattle.std.proofs.lemmas.Bool.{eqb-true, le-ltb, ltb-false}
+use Rattle.std.proofs.Common.{◌≡◌, ◌↔◌, ℕ, suc, nat_lt, List, [], ◌∷◌, ◌++◌, Ok, inl, inr, refl, arith}
+use Rattle.std.proofs.lemmas.Bool.{cases_eq, le-ltb, ltb-false, ne_eqb}
 use Rattle.base.proofs.Steps.{last_ok, ok_is}
 use Rattle.paxos_msg.specs.declared.ballot.Ballot.{Ballot}
 use Rattle.paxos_msg.specs.Batches.{Change}
@@ -12,7 +12,7 @@ use Rattle.paxos_msg.specs.Spelling.{ballot_bytes, number_bytes, value_bytes}
 use Rattle.paxos_disk.specs.declared.version.Version.{Version}
 use Rattle.paxos_disk.specs.declared.version.Version.TheVariants.{One, Two}
 use Rattle.paxos_disk.specs.Entries.{BeginsEntry, IsFor, IsInRanges, entry_bytes, value_spelling}
-use Rattle.paxos_disk.specs.LogReading.{entry_at, log_promise_at, log_vote_at, value_in}
+use Rattle.paxos_disk.specs.LogReading.{entry_at, log_vote_at, value_in}
 use Rattle.paxos_disk.proofs.Fields.{Exact, Fields, others, step}
 
 module _ (F : Fields) (V : (size : ℕ) → Exact (value_at size) (IsValue size) value_bytes) (version : Version) (size : ℕ) where
@@ -54,19 +54,18 @@ module _ (F : Fields) (V : (size : ℕ) → Exact (value_at size) (IsValue size)
       → BeginsEntry version size bytes p.0 p.1
   unfolding entry_at
   entry_found [] p are e = absurd cc
-  entry_found (tag ∷ bytes) p are e = by (λ i. are (suc i)) (eqb tag 1) (eqb tag 2) (eqb tag 3) refl refl refl e where
-    by : AreBytes bytes → (t u w : Bool) → eqb tag 1 ≡ t → eqb tag 2 ≡ u → eqb tag 3 ≡ w
-        → (if t then Ok (Start, bytes)
-        else (if u then log_promise_at size bytes
-        else (if w then log_vote_at version size bytes else Err fault.Kind))) ≡ Ok p
-        → BeginsEntry version size (tag ∷ bytes) p.0 p.1
-    by are true u w i j k h =
-        rw (eqb-true tag 1 i, ← ok_is (Start, bytes) p h) (record { in_ranges = tt; is_for = (for_other version).0; spelled = refl })
-    by are false true w i j k h =
-        step (F.ballots size) bytes _ p are h (λ b rest good parts are e.
-        rw (eqb-true tag 2 j, ← ok_is _ p e) (record { in_ranges = good; is_for = (for_other version).1 b; spelled = rw parts refl }))
-    by are false false true i j k h = rw (eqb-true tag 3 k) (vote_found bytes p are h)
-    by are false false false i j k h = absurd cc
+  entry_found (tag ∷ bytes) p are e = elim (cases_eq tag 1) [
+    | inl start ↦
+        rw (start, ← ok_is (Start, bytes) p (rw start at e)) (record { in_ranges = tt; is_for = (for_other version).0; spelled = refl })
+    | inr not_start ↦ elim (cases_eq tag 2) [
+      | inl promise ↦ step (F.ballots size) bytes _ p (λ i. are (suc i)) (rw promise at e) (λ b rest good parts are e.
+          rw (promise, ← ok_is _ p e) (record { in_ranges = good; is_for = (for_other version).1 b; spelled = rw parts refl }))
+      | inr not_promise ↦ elim (cases_eq tag 3) [
+        | inl vote ↦ rw vote (vote_found bytes p (λ i. are (suc i)) (rw vote at e))
+        | inr not_vote ↦ absurd (cc (rw (ne_eqb tag 1 not_start, ne_eqb tag 2 not_promise, ne_eqb tag 3 not_vote) at e))
+      ]
+    ]
+  ]
 
   entry_again : (c : Change) (rest : List ℕ) → AreBytes (entry_bytes version c ++ rest) → IsInRanges size c → IsFor version c
       → entry_at version size (entry_bytes version c ++ rest) ≡ Ok (c, rest)

@@ -12,7 +12,7 @@ use Rattle.paxos_disk.specs.declared.ending.Ending.{Ending}
 use Rattle.paxos_disk.specs.declared.ending.Ending.TheVariants.{Cut, Torn}
 use Rattle.paxos_disk.specs.Ending.{IsEnd, IsLogEnd}
 use Rattle.paxos_acceptor.specs.Records.{IsNext}
-use Rattle.paxos_disk.specs.Entries.{BeginsEntry, IsInRanges, entries_bytes, entry_bytes}
+use Rattle.paxos_disk.specs.Entries.{BeginsEntry, IsEntry, IsFor, IsInRanges, entries_bytes, entry_bytes}
 use Rattle.paxos_disk.specs.Log.{Folds, IsFold, LogBy, log_header}
 use Rattle.paxos_disk.specs.LogReading.{SameFolds}
 
@@ -35,7 +35,7 @@ whole (Torn total) version size bytes c rest b (inl h) = uncut version size c re
 whole (Torn total) version size bytes c rest b (inr h) = h.none c rest b
 
 -- nothing is over
-pub none_left : (ending : Ending) (version : Version) (size : ℕ) → IsLogEnd ending version size []
+none_left : (ending : Ending) (version : Version) (size : ℕ) → IsLogEnd ending version size []
 none_left Cut version size = tt
 none_left (Torn total) version size = inl tt
 
@@ -78,6 +78,12 @@ module _ (ending : Ending) (version : Version) (size : ℕ) where
     },
   )
 
+  -- one entry alone
+  pub lone : (r : Record) (c : Change) → IsEntry size r c → IsFor version c
+      → Folds ending version size r (entry_bytes version c) (changed r c) []
+  lone r c entry is_for =
+      (c ∷ [], record { entries = (entry, is_for, tt); spelled = simp append-nil; ends = none_left ending version size; all = refl })
+
   -- whole entries, and what comes after them
   pub joined : {other : Ending} (r : Record) (xs : List ℕ) (cs : List Change) (s : Record) (ys : List ℕ) (made : Record) (end : List ℕ)
       → IsFold other version size r xs cs s [] → Folds ending version size s ys made end → Folds ending version size r (xs ++ ys) made end
@@ -91,14 +97,8 @@ module _ (ending : Ending) (version : Version) (size : ℕ) where
         entries = h.entries.2;
         spelled = sym (append-nil (entries_bytes version cs));
         ends = none_left ending version size;
-        all =
-            h.all;
+        all = h.all;
       }) k)
-
-  pub none_first : (r : Record) (bytes : List ℕ)
-      → ((c : Change) (rest : List ℕ) → ¬ BeginsEntry version size bytes c rest) → ¬ IsLogEnd ending version size bytes
-      → (made : Record) (end : List ℕ) → ¬ Folds ending version size r bytes made end
-  none_first r bytes none more made end h = first r bytes made end more h (λ c rest begins _ _. none c rest begins)
 
   module _ (r : Record) (bytes : List ℕ) (c : Change) (rest : List ℕ) (b : BeginsEntry version size bytes c rest)
       (only : (d : Change) (xs : List ℕ) → BeginsEntry version size bytes d xs → (c ≡ d) × (rest ≡ xs))

@@ -1,35 +1,35 @@
 -- A log grows by an entry; the rest of one that was cut is ignored.
-use Rattle.std.proofs.Common.{◌≡◌, ◌⊎◌, ◌∙◌, ℕ, zero, suc, ◌+◌, ◌*◌, ◌<◌, ◌≤◌, List, [], ◌∷◌, ◌++◌, length, replicate, take, drop, slice_index, Option, Some, None, inl, inr, refl, ap, subst, sym, append-nil, append_assoc, arith}
+use Rattle.std.proofs.Common.{◌≡◌, ◌⊎◌, ◌∙◌, ℕ, zero, suc, ◌+◌, ◌*◌, ◌<◌, ◌≤◌, List, [], ◌∷◌, ◌++◌, length, take, drop, slice_index, Some, None, inl, inr, refl, ap, subst, sym, add-one, append-nil, append_assoc, arith}
 use Rattle.std.proofs.lemmas.Bool.{cases_lt}
-use Rattle.std.proofs.lemmas.List.{drop-append-le, get_or_append_left, length-append, nil_from_length, take_at}
+use Rattle.std.proofs.lemmas.List.{drop-append-le, get_or_append_left, length-append, nil_from_length, replicate_more, take_at}
 use Rattle.paxos_msg.specs.Batches.{Change, Record}
 use Rattle.paxos_msg.specs.declared.ballot.Ballot.{Ballot}
 use Rattle.paxos_msg.specs.declared.record.Change.TheVariants.{Start, Promise, Ballotted}
 use Rattle.paxos_msg.specs.declared.value.Value.{Value}
 use Rattle.paxos_msg.specs.declared.value.Value.TheVariants.{Noop, Keys}
-use Rattle.paxos_msg.specs.Fits.{IsBallot, IsBatch, IsValue}
+use Rattle.paxos_msg.specs.Fits.{IsBatch, IsValue}
 use Rattle.paxos_msg.specs.Records.{changed, empty_record}
 use Rattle.paxos_msg.specs.Spelling.{ballot_bytes, number_bytes, value_bytes}
 use Rattle.paxos_disk.specs.declared.ending.Ending.{Ending}
 use Rattle.paxos_disk.specs.declared.ending.Ending.TheVariants.{Cut}
 use Rattle.paxos_acceptor.specs.declared.me.Me.{Me}
 use Rattle.paxos_disk.specs.Ending.{IsCutBatch, IsCutVote, IsEnd}
-use Rattle.paxos_disk.specs.Entries.{BeginsEntry, IsEntry, IsInRanges, entries_bytes, entry_bytes}
+use Rattle.paxos_disk.specs.Entries.{IsEntry, IsInRanges, entries_bytes, entry_bytes}
 use Rattle.paxos_disk.specs.Files.{log_of_starts}
-use Rattle.paxos_disk.specs.Log.{AreEntries, IsFold, IsUncut, LogBy, LogIn, folded, log_header}
+use Rattle.paxos_disk.specs.Log.{Folds, IsFold, IsUncut, LogBy, LogIn, log_header}
 use Rattle.paxos_disk.specs.Padding.{again}
 use Rattle.paxos_acceptor.specs.Records.{AreKept, IsRecord}
 use Rattle.paxos_disk.specs.declared.version.Version.TheVariants.{Two}
-use Rattle.paxos_disk.proofs.LogFolds.{joined, no_more, with_first}
+use Rattle.paxos_disk.proofs.LogFolds.{joined, lone, no_more}
 
 -- ---- what a cut leaves of an entry
 
 -- the bytes before a cut are fewer, and each is the same
 module _ {text : List ℕ} (xs ys : List ℕ) (e : text ≡ xs ++ ys) where
-  total : length text ≡ length xs + length ys
+  pub total : length text ≡ length xs + length ys
   total = ap (λ (zs : List ℕ). length zs) e ∙ length-append xs ys
 
-  same_at : (n : ℕ) → n < length xs → slice_index xs n ≡ slice_index text n
+  pub same_at : (n : ℕ) → n < length xs → slice_index xs n ≡ slice_index text n
   same_at n lt = sym (ap (λ (zs : List ℕ). slice_index zs n) e ∙ get_or_append_left xs ys 0 n lt)
 
 cut_batch : (node start first : ℕ) (bytes xs ys : List ℕ) → IsBatch first bytes
@@ -74,33 +74,27 @@ short_entry size (Ballotted s b (Keys node start first bytes)) fits = omega (ari
 pub uncut : (me : Me) (bytes : List ℕ) (r : Record) (h : IsUncut me bytes r) → IsFold Cut Two me.group.size empty_record h.0 h.3.0 r []
 uncut me bytes r h = let none = nil_from_length h.1 (omega (arith, h.4)) in rw none at h.3.1
 
+-- a log without a cut entry, and what leads on from its record
+pub more_log : {ending : Ending} (me : Me) (bytes t : List ℕ) (r s : Record) (end : List ℕ) → IsUncut me bytes r
+    → Folds ending Two me.group.size r t s end → (n : ℕ) → n + length end ≡ length (bytes ++ t) → LogBy ending Two me (bytes ++ t) s n
+more_log {ending} me bytes t r s end h fold n long =
+    let folds = joined ending Two me.group.size {other = Cut} empty_record h.0 h.3.0 r t s end (uncut me bytes r h) fold in
+    (h.0 ++ t, end, rw h.2 refl, folds, long)
+
 pub new_log : (me : Me) → IsUncut me (log_header Two me) empty_record
 new_log me = ([], [], refl, no_more Cut Two me.group.size empty_record [] tt, omega arith)
 
 pub grown_log : (me : Me) (bytes : List ℕ) (r : Record) (c : Change) → IsUncut me bytes r → IsEntry me.group.size r c
     → IsUncut me (bytes ++ entry_bytes Two c) (changed r c)
 grown_log me bytes r c h entry =
-    let begins : BeginsEntry Two me.group.size (entry_bytes Two c) c [] =
-    record { in_ranges = entry.in_ranges; is_for = tt; spelled = sym (append-nil (entry_bytes Two c)) } in
-    let one = with_first Cut _ _ r _ _ _ _ _ begins entry.next (no_more Cut Two me.group.size (changed r c) [] tt) in (
-      h.0 ++ entry_bytes Two c,
-      [],
-      rw h.2 refl,
-      joined Cut Two me.group.size _ _ _ _ _ _ _ (uncut me bytes r h) one,
-      omega arith,
-    )
+    more_log me bytes (entry_bytes Two c) r (changed r c) [] h (lone Cut Two me.group.size r c entry tt) _ (omega arith)
 
 pub cut_log : (me : Me) (bytes : List ℕ) (r : Record) (c : Change) (xs ys : List ℕ) → IsUncut me bytes r
     → IsEntry me.group.size r c → entry_bytes Two c ≡ xs ++ ys → 0 < length ys
     → LogIn Two me (bytes ++ xs) r (length bytes)
-cut_log me bytes r c xs ys h entry e more = (
-  h.0 ++ xs,
-  xs,
-  rw h.2 refl,
-  joined Cut Two me.group.size _ _ _ _ _ _ _ (uncut me bytes r h)
-      (no_more Cut _ _ _ _ (cut_entry me.group.size c xs ys entry.in_ranges e more)),
-  sym (length-append bytes xs),
-)
+cut_log me bytes r c xs ys h entry e more =
+    let over = cut_entry me.group.size c xs ys entry.in_ranges e more in
+    more_log me bytes xs r r xs h (no_more Cut _ _ _ _ over) _ (sym (length-append bytes xs))
 
 pub kept_log : (ending : Ending) (me : Me) (bytes : List ℕ) (r : Record) (n : ℕ) → LogBy ending Two me bytes r n
     → IsUncut me (take n bytes) r
@@ -110,13 +104,10 @@ kept_log ending me bytes r n h =
     let front = log_header Two me ++ entries in
     let parts : bytes ≡ front ++ h.1 = rw (h.2, fold.spelled) refl in
     let there : take n bytes ≡ front =
-    ap (λ (xs : List ℕ). take n xs) parts ∙ take_at front h.1 n (omega (arith, total front h.1 parts, h.4)) in (
-      entries,
-      [],
-      there,
-      (h.3.0, record { entries = fold.entries; spelled = sym (append-nil entries); ends = tt; all = fold.all }),
-      omega arith,
-    )
+    ap (λ (xs : List ℕ). take n xs) parts ∙ take_at front h.1 n (omega (arith, total front h.1 parts, h.4)) in
+    let whole : IsFold Cut Two me.group.size empty_record entries h.3.0 r [] =
+    record { entries = fold.entries; spelled = sym (append-nil entries); ends = tt; all = fold.all } in
+    (entries, [], there, (h.3.0, whole), omega arith)
 
 -- ---- a promise that is made again
 
@@ -124,18 +115,13 @@ pub promised_again : (r : Record) (b : Ballot) → r.promised ≡ Some b → cha
 promised_again r b e = λ i. record { starts = r.starts; promised = sym e i; votes = r.votes }
 
 pub may_promise_again : (size : ℕ) (r : Record) (b : Ballot) → IsRecord size r → r.promised ≡ Some b → IsEntry size r (Promise b)
-may_promise_again size r b h e = record {
-  in_ranges = ballot r.promised e h.kept;
-  next = rw e (grind arith);
-}
-  where
-    ballot : (promised : Option Ballot) → promised ≡ Some b → AreKept size promised r.votes → IsBallot size b
-    ballot None e kept = absurd cc
-    ballot (Some p) e kept = let same : p ≡ b = cc in subst (IsBallot size) same kept.0
+may_promise_again size r b h e =
+    let kept : AreKept size (Some b) r.votes = rw e at h.kept in
+    record { in_ranges = kept.0; next = rw e (grind arith) }
 
 module _ (me : Me) (r : Record) (h : IsRecord me.group.size r) where
   -- one more promise of the promised ballot leaves a log of the same record
-  pub once_more : (b : Ballot) → r.promised ≡ Some b → (bytes : List ℕ) → IsUncut me bytes r
+  once_more : (b : Ballot) → r.promised ≡ Some b → (bytes : List ℕ) → IsUncut me bytes r
       → IsUncut me (bytes ++ entry_bytes Two (Promise b)) r
   once_more b e bytes uncut =
       subst (IsUncut me (bytes ++ entry_bytes Two (Promise b))) (promised_again r b e)
@@ -174,19 +160,14 @@ again_more b (suc n) =
     ∙ sym (append_assoc (entry_bytes Two (Promise b)) (entries_bytes Two (again b n)) (entry_bytes Two (Promise b)))
 
 module _ (me : Me) (r : Record) (c : Change) (h : IsRecord me.group.size r) (entry : IsEntry me.group.size r c) where
-  -- an entry that was appended, or a beginning of it
-  cut_one : (bytes xs ys : List ℕ) → IsUncut me bytes r → entry_bytes Two c ≡ xs ++ ys
-      → ((n : ℕ) × LogIn Two me (bytes ++ xs) r n) ⊎ IsUncut me (bytes ++ xs) (changed r c)
-  cut_one bytes xs [] uncut e =
-      let whole : xs ≡ entry_bytes Two c = sym (e ∙ append-nil xs) in
-      inr (rw whole (grown_log me bytes r c uncut entry))
-  cut_one bytes xs (y ∷ ys) uncut e = inl (length bytes, cut_log me bytes r c xs (y ∷ ys) uncut entry e (omega arith))
-
   -- promises made again and the entry, or a beginning of them
   pub cut_again : (b : Ballot) → r.promised ≡ Some b → (n : ℕ) (bytes xs ys : List ℕ) → IsUncut me bytes r
       → entries_bytes Two (again b n) ++ entry_bytes Two c ≡ xs ++ ys
       → ((n : ℕ) × LogIn Two me (bytes ++ xs) r n) ⊎ IsUncut me (bytes ++ xs) (changed r c)
-  cut_again b p zero bytes xs ys uncut e = cut_one bytes xs ys uncut e
+  cut_again b p zero bytes xs [] uncut e =
+      let whole : xs ≡ entry_bytes Two c = sym (e ∙ append-nil xs) in
+      inr (rw whole (grown_log me bytes r c uncut entry))
+  cut_again b p zero bytes xs (y ∷ ys) uncut e = inl (length bytes, cut_log me bytes r c xs (y ∷ ys) uncut entry e (omega arith))
   cut_again b p (suc n) bytes xs ys uncut e =
       let first = entry_bytes Two (Promise b) in
       let rest = entries_bytes Two (again b n) in
@@ -198,46 +179,19 @@ module _ (me : Me) (r : Record) (c : Change) (h : IsRecord me.group.size r) (ent
 
 -- ---- a log of starts alone
 
--- the bytes of so many starts
-abbrev starts : ℕ → List Change
-starts n = replicate n Start
-
-starts_bytes : (n : ℕ) → entries_bytes Two (starts n) ≡ replicate n 1
-starts_bytes zero = refl
-starts_bytes (suc n) = ap (λ (l : List ℕ). 1 ∷ l) (starts_bytes n)
-
 -- a record that has counted so many starts, and nothing else
 abbrev started : ℕ → Record
 started n = record { starts = n; promised = None; votes = [] }
 
-starts_folded : (n k : ℕ) → folded (started k) (starts n) ≡ started (k + n)
-starts_folded zero k = ap started (omega arith)
-starts_folded (suc n) k = starts_folded n (k + 1) ∙ ap started (omega arith)
-
-starts_are_entries : (size n k : ℕ) → k + n ≤ 4294967295 → AreEntries Two size (started k) (starts n)
-starts_are_entries size zero k le = tt
-starts_are_entries size (suc n) k le = (record { in_ranges = tt; next = omega arith }, tt, starts_are_entries size n (k + 1) (omega arith))
+starts_log : (me : Me) (n : ℕ) → n ≤ 4294967295 → IsUncut me (log_of_starts me n) (started n)
+starts_log me zero le = new_log me
+starts_log me (suc n) le =
+    rw (replicate_more {X = ℕ} n 1, add-one n) at (grown_log me (log_of_starts me n) (started n) Start (starts_log me n (omega arith))
+    (record { in_ranges = tt; next = omega arith }))
 
 -- before a ballot is promised there are starts alone
-only_starts : (size : ℕ) (r : Record) → IsRecord size r → r.promised ≡ None → r ≡ started r.starts
-only_starts size r h none = by r.promised none h.kept where
-  by : (promised : Option Ballot) → promised ≡ None → AreKept size promised r.votes → r ≡ started r.starts
-  by None e kept = λ i. record { starts = r.starts; promised = none i; votes = kept i }
-  by (Some b) e kept = absurd cc
-
 pub started_log : (me : Me) (r : Record) → IsRecord me.group.size r → r.promised ≡ None → IsUncut me (log_of_starts me r.starts) r
-started_log me r h none = (
-  replicate r.starts 1,
-  [],
-  refl,
-  (
-    starts r.starts,
-    record {
-      entries = starts_are_entries me.group.size r.starts 0 (omega (arith, h.starts));
-      spelled = sym (append-nil (entries_bytes Two (starts r.starts)) ∙ starts_bytes r.starts);
-      ends = tt;
-      all = only_starts me.group.size r h none ∙ ap started (omega arith) ∙ sym (starts_folded r.starts 0);
-    },
-  ),
-  omega arith,
-)
+started_log me r h none =
+    let no_votes : r.votes ≡ [] = rw none at h.kept in
+    let same : started r.starts ≡ r = λ i. record { starts = r.starts; promised = sym none i; votes = sym no_votes i } in
+    subst (IsUncut me (log_of_starts me r.starts)) same (starts_log me r.starts (omega (arith, h.starts)))

@@ -1,16 +1,14 @@
 -- A record in its ranges has few votes, and stays in them as the changes of a log are made.
-use Rattle.std.proofs.Common.{◌≡◌, ℕ, ◌+◌, ◌*◌, ◌<◌, ◌≤◌, List, [], ◌∷◌, length, Option, Some, None, Result, Ok, Err, IfOk, refl, arith}
+use Rattle.std.proofs.Common.{ℕ, ◌+◌, ◌≤◌, List, [], ◌∷◌, length, Some, None, Result, Ok, Err, IfOk, refl, arith}
 use Rattle.std.proofs.lemmas.Bool.Decides.{nat_tests}
 use Rattle.paxos_msg.specs.declared.ballot.Ballot.{Ballot}
 use Rattle.paxos_msg.specs.declared.record.Change.TheVariants.{Start, Promise, Ballotted}
-use Rattle.paxos_msg.specs.declared.value.Value.{Value}
 use Rattle.paxos_msg.specs.Batches.{Change, Record, Vote}
-use Rattle.paxos_msg.specs.Fits.{IsBallot, IsPlace, IsValue, AreVotes}
+use Rattle.paxos_msg.specs.Fits.{AreVotes}
 use Rattle.paxos_msg.specs.Records.{changed, empty_record, with_vote}
-use Rattle.paxos_msg.specs.Spelling.{votes_bytes}
 use Rattle.paxos_acceptor.specs.declared.me.Me.{Me}
 use Rattle.paxos_acceptor.specs.declared.store.StoreFault.{StoreFault}
-use Rattle.paxos_acceptor.specs.Records.{AreKept, IsNext, IsRecord}
+use Rattle.paxos_acceptor.specs.Records.{AreKept, IsRecord}
 use Rattle.paxos_disk.specs.declared.ending.Ending.{Ending}
 use Rattle.paxos_disk.specs.declared.version.Version.{Version}
 use Rattle.paxos_disk.specs.Entries.{IsEntry}
@@ -24,21 +22,11 @@ few size b low upto [] le h = omega arith
 few size b low upto (v ∷ votes) le h =
     omega (arith, h.0.from_low, few size b (v.place + 1) upto votes (omega (arith, h.0.below_upto)) h.1)
 
-few_kept : (size : ℕ) (promised : Option Ballot) (votes : List Vote) → AreKept size promised votes → length votes ≤ 65536
-few_kept size None votes h = rw h (omega arith)
-few_kept size (Some b) votes h = omega (arith, few size b 0 65536 votes (omega arith) h.1)
-
 pub few_votes : (size : ℕ) (r : Record) → IsRecord size r → length r.votes ≤ 65536
-few_votes size r h = few_kept size r.promised r.votes h.kept
-
--- votes that are kept are spelled shortly, where all votes in their ranges are
-pub short_votes : ((size low upto : ℕ) (b : Ballot) (votes : List Vote) → AreVotes size b low upto votes
-    → length (votes_bytes votes) ≤ 52 * length votes)
-    → (size : ℕ) (r : Record) → IsRecord size r → length (votes_bytes r.votes) ≤ 52 * length r.votes
-short_votes law size r h = by r.promised r.votes h.kept where
-  by : (promised : Option Ballot) (votes : List Vote) → AreKept size promised votes → length (votes_bytes votes) ≤ 52 * length votes
-  by None votes h = rw h (omega arith)
-  by (Some b) votes h = law size 0 65536 b votes h.1
+few_votes size r h = (elim r.promised as (λ promised. AreKept size promised r.votes → length r.votes ≤ 65536) [
+  | None ↦ λ none. rw none (omega arith)
+  | Some b ↦ λ kept. omega (arith, few size b 0 65536 r.votes (omega arith) kept.1)
+]) h.kept
 
 -- a change puts one more vote at most
 with_one_more : (votes : List Vote) (vote : Vote) → length (with_vote votes vote) ≤ length votes + 1
@@ -52,24 +40,9 @@ one_vote_more r (Ballotted s b v) = with_one_more r.votes (record { place = s; b
 
 -- ---- what a change leaves
 
--- a start that can be counted is one to spare
-pub start_to_spare : (size : ℕ) (r : Record) (c : Change) → IsEntry size r c → c ≡ Start → r.starts < 4294967295
-start_to_spare size r c entry e = rw e at entry.next
-
 -- each change that can be made keeps a record in its ranges
 abbrev pub EntriesStay : Type 0
 EntriesStay = (size : ℕ) (r : Record) (c : Change) → IsRecord size r → IsEntry size r c → IsRecord size (changed r c)
-
--- so it is where a promise and a vote that can be made do
-pub entry_in_ranges : ((size : ℕ) (r : Record) (b : Ballot) → IsRecord size r → IsNext r (Promise b) → IsBallot size b
-    → IsRecord size (changed r (Promise b)))
-    → ((size s : ℕ) (r : Record) (b : Ballot) (v : Value) → IsRecord size r → IsNext r (Ballotted s b v) → IsBallot size b → IsPlace s
-    → IsValue size v → IsRecord size (changed r (Ballotted s b v)))
-    → EntriesStay
-entry_in_ranges promise vote size r Start h entry = record { starts = omega (arith, entry.next); kept = h.kept }
-entry_in_ranges promise vote size r (Promise b) h entry = promise size r b h entry.next entry.in_ranges
-entry_in_ranges promise vote size r (Ballotted s b v) h entry =
-    vote size s r b v h entry.next entry.in_ranges.1 entry.in_ranges.0 entry.in_ranges.2
 
 module _ (stays : EntriesStay) where
   -- so do all entries of a log

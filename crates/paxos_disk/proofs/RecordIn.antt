@@ -1,8 +1,7 @@
 -- The record of a file's bytes is the one that a load reads.
-use Rattle.std.proofs.Common.{◌≡◌, ◌↔◌, ℕ, zero, suc, ◌<◌, ◌≤◌, ◌^◌, List, [], ◌∷◌, ◌++◌, append_assoc, drop, length, Option, Some, None, Result, Ok, Err, inl, inr, refl, sym, ap, subst, ◌∙◌, arith, length-append}
+use Rattle.std.proofs.Common.{◌≡◌, ◌↔◌, ℕ, zero, suc, ◌<◌, ◌≤◌, ◌^◌, List, [], ◌∷◌, ◌++◌, append_assoc, drop, length, Option, Some, None, Ok, Err, inl, inr, refl, sym, ap, subst, ◌∙◌, arith, length-append}
 use Rattle.paxos_msg.specs.Batches.{Change, Record}
 use Rattle.paxos_msg.specs.declared.record.Change.TheVariants.{Start, Promise, Ballotted}
-use Rattle.paxos_msg.specs.declared.fault.WireFault.{WireFault}
 use Rattle.paxos_msg.specs.Fits.{AreBytes}
 use Rattle.paxos_msg.specs.Records.{changed, empty_record}
 use Rattle.paxos_acceptor.specs.declared.me.Me.{Me}
@@ -38,12 +37,11 @@ module _ (F : Readings) (ending : Ending) (version : Version) (size : ℕ) where
   -- no entry is read at the end
   nothing_at_end : (next : Record → List ℕ → Record) (r : Record) (bytes : List ℕ) → AreBytes bytes → IsLogEnd ending version size bytes
       → enter_next next r (entry_at version size bytes) ≡ r
-  nothing_at_end next r bytes are ends = by (entry_at version size bytes) refl where
-    by : (read : Result (Change × List ℕ) WireFault) → entry_at version size bytes ≡ read → enter_next next r read ≡ r
-    by (Err e) is = refl
-    by (Ok x) is =
-        let begins = (F.entries version size bytes x.0 x.1 are).0 is in
-        absurd (whole ending version size bytes x.0 x.1 begins ends)
+  nothing_at_end next r bytes are ends =
+      (elim (entry_at version size bytes) as (λ read. entry_at version size bytes ≡ read → enter_next next r read ≡ r) [
+        | Err e ↦ λ is. refl
+        | Ok x ↦ λ is. absurd (whole ending version size bytes x.0 x.1 ((F.entries version size bytes x.0 x.1 are).0 is) ends)
+      ]) refl
 
   -- each entry has a byte
   one_byte : (c : Change) → 0 < length (entry_bytes version c)
@@ -51,17 +49,9 @@ module _ (F : Readings) (ending : Ending) (version : Version) (size : ℕ) where
   one_byte (Promise b) = omega arith
   one_byte (Ballotted s b v) = omega arith
 
-  few : (cs : List Change) (end : List ℕ) → length cs ≤ length (entries_bytes version cs ++ end)
-  few [] end = omega arith
-  few (c ∷ cs) end =
-      omega (
-        arith,
-        one_byte c,
-        few cs end,
-        length-append (entry_bytes version c ++ entries_bytes version cs) end,
-        length-append (entry_bytes version c) (entries_bytes version cs),
-        length-append (entries_bytes version cs) end,
-      )
+  few : (cs : List Change) → length cs ≤ length (entries_bytes version cs)
+  few [] = omega arith
+  few (c ∷ cs) = omega (arith, one_byte c, few cs, length-append (entry_bytes version c) (entries_bytes version cs))
 
   -- the record after the whole entries is the one that they fold to
   entered_folds : (n : ℕ) (r : Record) (cs : List Change) (end : List ℕ) → length cs ≤ n → AreBytes (entries_bytes version cs ++ end)
@@ -84,10 +74,11 @@ module _ (F : Readings) (me : Me) (session : me.group.session < 2 ^ 32) (bytes :
   -- where no record is read, the other counts
   not_read : (version : Version) (other : Record) → ((s : Record) → ¬ (record_at version me bytes ≡ Ok s))
       → read_or (record_at version me bytes) other ≡ other
-  not_read version other none = by (record_at version me bytes) refl where
-    by : (read : Result Record WireFault) → record_at version me bytes ≡ read → read_or read other ≡ other
-    by (Err e) is = refl
-    by (Ok s) is = absurd (none s is)
+  not_read version other none =
+      (elim (record_at version me bytes) as (λ read. record_at version me bytes ≡ read → read_or read other ≡ other) [
+        | Err e ↦ λ is. refl
+        | Ok s ↦ λ is. absurd (none s is)
+      ]) refl
 
   no_record : (ending : Ending) (version : Version) (r : Record) (n : ℕ) → LogBy ending version me bytes r n
       → record_in me (Some bytes) ≡ log_record me bytes
@@ -97,30 +88,22 @@ module _ (F : Readings) (me : Me) (session : me.group.session < 2 ^ 32) (bytes :
       ∙ not_read One (log_record me bytes) (λ s is. log_or_old_record me ending version bytes r s n h ((F.one me bytes s session are).0 is))
 
   -- the record after the entries of a log
-  logged : (ending : Ending) (version : Version) (cs : List Change) (end : List ℕ)
-      → bytes ≡ log_header version me ++ (entries_bytes version cs ++ end)
-      → AreEntries version me.group.size empty_record cs → IsLogEnd ending version me.group.size end
-      → entered version me.group.size (length bytes) empty_record (drop 9 bytes) ≡ folded empty_record cs
-  logged ending version cs end e entries ends =
-      let rest = entries_bytes version cs ++ end in
-      let behind : drop 9 bytes ≡ rest = ap (λ (l : List ℕ). drop 9 l) e in
-      let long = ap (λ (l : List ℕ). length l) e in
-      rw behind
-      (entered_folds F ending version me.group.size (length bytes) empty_record cs end
-      (omega (arith, few F ending version me.group.size cs end, long))
-      (others_of bytes (log_header version me) rest are e) entries ends)
-
   record_of_log : (ending : Ending) (version : Version) (r : Record) (n : ℕ) → LogBy ending version me bytes r n → log_record me bytes ≡ r
   record_of_log ending version r n h =
       let fold = h.3.1 in
-      let e : bytes ≡ log_header version me ++ (entries_bytes version h.3.0 ++ h.1) = rw (h.2, fold.spelled) refl in
-      rw (version_is version h.0 h.2) (logged ending version h.3.0 h.1 e fold.entries fold.ends) ∙ sym fold.all
+      let entries = entries_bytes version h.3.0 in
+      let e : bytes ≡ log_header version me ++ (entries ++ h.1) = rw (h.2, fold.spelled) refl in
+      let long = ap (λ (l : List ℕ). length l) e in
+      rw (version_is version h.0 h.2, ap (λ (l : List ℕ). drop 9 l) e)
+      (entered_folds F ending version me.group.size (length bytes) empty_record h.3.0 h.1
+      (omega (arith, few F ending version me.group.size h.3.0, length-append entries h.1, long))
+      (others_of bytes (log_header version me) (entries ++ h.1) are e) fold.entries fold.ends) ∙ sym fold.all
     where
       version_is : (version : Version) (entries : List ℕ) → bytes ≡ log_header version me ++ entries → version_in bytes ≡ version
       version_is One entries e = ap version_in e
       version_is Two entries e = ap version_in e
 
-  pub record_is : (r : Record) → IsWritten me bytes r → record_in me (Some bytes) ≡ r
+  record_is : (r : Record) → IsWritten me bytes r → record_in me (Some bytes) ≡ r
   record_is r (inl (inl h)) = rw ((F.two me bytes r session are).1 h) refl
   record_is r (inl (inr (inl h))) =
       not_read Two (read_or (record_at One me bytes) (log_record me bytes))

@@ -1,6 +1,6 @@
 -- The law: bytes are read as a record in a version just where they are its spelling in it.
-use Rattle.std.proofs.Common.{if◌then◌else◌, ◌≡◌, ◌↔◌, ℕ, ◌<◌, ◌≤◌, ◌^◌, eqb, true, false, not, ◌&&◌, List, [], ◌∷◌, ◌++◌, length, Option, Some, None, IfSome, Result, Ok, refl, ◌∙◌, sym, append_assoc, arith}
-use Rattle.std.proofs.lemmas.Bool.{and_parts, eq-eqb, eqb-true, ne_eqb, not-false}
+use Rattle.std.proofs.Common.{◌≡◌, ◌↔◌, ℕ, ◌<◌, ◌≤◌, ◌^◌, eqb, not, ◌&&◌, List, [], ◌∷◌, ◌++◌, length, Option, Some, None, IfSome, Result, Ok, inl, inr, refl, ◌∙◌, sym, append_assoc, arith}
+use Rattle.std.proofs.lemmas.Bool.{and_parts, cases_eq, eq-eqb, eqb-true, ne_eqb, not-false}
 use Rattle.std.proofs.lemmas.List.{append-nil, nil_from_length}
 use Rattle.base.specs.Steps.{◌>>=◌}
 use Rattle.base.proofs.Steps.{last_ok, ok_is, pass_ok}
@@ -15,7 +15,7 @@ use Rattle.paxos_disk.specs.declared.version.Version.{Version}
 use Rattle.paxos_disk.specs.declared.version.Version.TheVariants.{One, Two}
 use Rattle.paxos_acceptor.specs.Records.{AreKept, IsRecord}
 use Rattle.paxos_disk.specs.Records.{Rec, record_header, promised_bytes}
-use Rattle.paxos_disk.specs.RecordReading.{after_byte, version_byte, record_header_at, zero_at, some_ballot_at, promised_at, votes_in, votes_of, head_at, record_at}
+use Rattle.paxos_disk.specs.RecordReading.{after_byte, version_byte, record_header_at, promised_at, votes_in, votes_of, head_at, record_at}
 use Rattle.paxos_disk.specs.Version1.{AreSingle, Rec1, votes_bytes_v1}
 use Rattle.paxos_disk.proofs.Fields.{Exact, Fields, both_ok, others, others_of, step}
 use Rattle.paxos_disk.proofs.Ranges.{few_votes}
@@ -99,13 +99,12 @@ module _ (F : Fields) where
   unfolding promised_at
   promised_law size = record {
     found = λ bytes p are e. step F.numbers bytes _ p are e (λ round later small parts later_are e.
-        elim (eqb round 0) as
-        (λ t. eqb round 0 ≡ t → (if t then zero_at later else some_ballot_at size bytes) ≡ Ok p
-        → IfSome p.0 (IsBallot size) × (bytes ≡ promised_bytes p.0 ++ p.1)) [
-          | true ↦ λ z h. byte_step 0 later _ p later_are h (λ rest zero _ e.
-              rw (← ok_is (None, rest) p e) (tt, rw (parts, eqb-true round 0 z, zero) refl))
-          | false ↦ λ z h. step (F.ballots size) bytes _ p are h (λ b rest good parts are e. rw (← ok_is _ p e) (good, parts))
-        ] refl e);
+        elim (cases_eq round 0) [
+          | inl none ↦ byte_step 0 later _ p later_are (rw none at e) (λ rest zero _ e.
+              rw (← ok_is (None, rest) p e) (tt, rw (parts, none, zero) refl))
+          | inr some ↦ step (F.ballots size) bytes _ p are (rw (ne_eqb round 0 some) at e) (λ b rest good parts are e.
+              rw (← ok_is _ p e) (good, parts))
+        ]);
     again = promised_again size;
   }
 

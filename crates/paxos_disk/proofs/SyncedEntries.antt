@@ -1,5 +1,5 @@
 -- What was synced is never passed over: whole entries are read, whatever is behind them.
-use Rattle.std.proofs.Common.{◌≡◌, ◌↔◌, ℕ, ◌≤◌, List, [], ◌∷◌, ◌++◌, length, Ok, refl, sym, ap, subst, ◌∙◌, append_assoc, append-nil, arith, length-append}
+use Rattle.std.proofs.Common.{◌≡◌, ◌↔◌, ℕ, ◌≤◌, List, [], ◌∷◌, ◌++◌, length, Ok, refl, sym, subst, ◌∙◌, append_assoc, append-nil, arith, length-append}
 use Rattle.base.proofs.Steps.{ok_is}
 use Rattle.paxos_msg.specs.Batches.{Change, Record}
 use Rattle.paxos_msg.specs.Fits.{AreBytes}
@@ -14,8 +14,7 @@ use Rattle.paxos_disk.specs.Log.{AreEntries, Folds, IsUncut, LogFound, folded, l
 use Rattle.paxos_disk.specs.LogReading.{entry_at}
 use Rattle.paxos_disk.proofs.Fields.{others, others_of}
 use Rattle.paxos_disk.proofs.LogFolds.{entries_of_log, first, whole}
-use Rattle.paxos_disk.proofs.LogGrowth.{uncut}
-use Rattle.paxos_disk.proofs.TornAppends.{total}
+use Rattle.paxos_disk.proofs.LogGrowth.{total, uncut}
 
 -- an entry is read where the bytes begin with it
 abbrev EntriesAreRead : Type 0
@@ -39,12 +38,10 @@ module _ (F : EntriesAreRead) (ending : Ending) (size : ℕ) where
       let read = (F Two size (entry_bytes Two c ++ rest) c rest now).1 begins in
       first ending Two size r (entry_bytes Two c ++ rest) made end (whole ending Two size (entry_bytes Two c ++ rest) c rest begins)
       (subst (λ l. Folds ending Two size r l made end) parts h)
-      (λ d others_of_it b next f.
-      let same : Ok (c, rest) ≡ Ok (d, others_of_it) = sym read ∙ (F Two size (entry_bytes Two c ++ rest) d others_of_it now).1 b in
-      let pair = ok_is (c, rest) (d, others_of_it) same in
-      let change_is : d ≡ c = sym (ap (λ (p : Change × List ℕ). p.0) pair) in
-      let rest_is : others_of_it ≡ rest = sym (ap (λ (p : Change × List ℕ). p.1) pair) in
-      behind_entries cs (changed r c) tail made end (others (entry_bytes Two c) rest now) entries.2 (rw (← change_is, ← rest_is) f))
+      (λ d xs b next f.
+      let same = ok_is (c, rest) (d, xs) (sym read ∙ (F Two size (entry_bytes Two c ++ rest) d xs now).1 b) in
+      behind_entries cs (changed r c) tail made end (others (entry_bytes Two c) rest now) entries.2
+      (subst (λ (p : Change × List ℕ). Folds ending Two size (changed r p.0) p.1 made end) (sym same) f))
 
 -- whatever is behind a log with whole entries alone, none of them is passed over
 pub entries_stay : EntriesAreRead → (me : Me) (r s : Record) (bytes tail : List ℕ) (n : ℕ) → AreBytes (bytes ++ tail) → IsUncut me bytes r
@@ -59,4 +56,4 @@ entries_stay F me r s bytes tail n are h log =
     behind_entries F ending me.group.size h.3.0 empty_record tail s found.0
     (others_of (bytes ++ tail) (log_header Two me) _ are parts) fold.entries
     found.1 in
-    omega (arith, total tail (entries_bytes Two behind.0) found.0 behind.1.spelled, found.2, length-append bytes tail)
+    omega (arith, total (entries_bytes Two behind.0) found.0 behind.1.spelled, found.2, length-append bytes tail)

@@ -107,22 +107,12 @@ module _ (F : Fields) (size : ℕ) (b : Ballot) where
 -- ---- one vote after the other
 
 -- these votes, followed by what is read
-abbrev pub after_votes : List Vote → Result (List Vote × List ℕ) WireFault → Result (List Vote × List ℕ) WireFault
+abbrev after_votes : List Vote → Result (List Vote × List ℕ) WireFault → Result (List Vote × List ℕ) WireFault
 after_votes votes read = read >>= λ x. Ok (votes ++ x.0, x.1)
 
 -- what is still to be read leads to the answer of the whole
 pub record LeadsTo (size : ℕ) (b : Ballot) (count : ℕ) (bytes : List ℕ) (votes : List Vote) (low left : ℕ) (rest : List ℕ) : Type 0 where
   pub same : votes_at_v1 size b 0 count bytes ≡ after_votes votes (votes_at_v1 size b low left rest)
-
--- after no votes it is what is read
-after_none : (read : Result (List Vote × List ℕ) WireFault) → read ≡ after_votes [] read
-after_none (Ok x) = refl
-after_none (Err e) = refl
-
--- the loop begins with the whole
-pub at_start : {size : ℕ} {b : Ballot} {count left : ℕ} {bytes : List ℕ} {votes : List Vote} → votes ≡ [] → left ≡ count
-    → LeadsTo size b count bytes votes 0 left bytes
-at_start {size} {b} {count} {bytes = bytes} none e = record { same = rw (none, e) (after_none (votes_at_v1 size b 0 count bytes)) }
 
 -- the first vote that is read joins them
 joins : (votes : List Vote) (v : Vote) (read : Result (List Vote × List ℕ) WireFault)

@@ -1,9 +1,10 @@
-use Rattle.paxos_disk.proofs.LogFolds.{none_first, not_next, same_folds}
+use Rattle.paxos_disk.proofs.LogFolds.{first, not_next, same_folds}
 use Rattle.std.proofs.Common.{refl, rules}
 use Rattle.paxos_disk.proofs.log.enter_first.Goals as goal
 
 pub returns-in_default-clause-bad : goal.returns-in_default-clause-bad
-returns-in_default-clause-bad c = λ _. none_first _ _ _ _ _ (c.in_default.ensures.none refl) c.requires.more
+returns-in_default-clause-bad c =
+    λ _ made end folds. first _ _ _ _ _ made end c.requires.more folds (λ d rest begins _ _. c.in_default.ensures.none refl d rest begins)
 
 pub returns-then-not-is_next-clause-bad : goal.returns-then-not-is_next-clause-bad
 returns-then-not-is_next-clause-bad c =

@@ -1,98 +1,60 @@
 use Rattle.std.proofs.Common.{rules, inr}
-use Rattle.paxos_disk.proofs.Restarts.{begun_from, done_from}
+use Rattle.paxos_disk.proofs.Restarts.{IsBegunOn, IsDoneOn, begun_from, done_from}
+use Rattle.paxos_disk.proofs.log_store.LogStoreStore.save.Given as given
+use Rattle.paxos_disk.proofs.log_store.LogStoreStore.save.Goals.{After-form_after, After-put_synced}
 use Rattle.paxos_disk.proofs.log_store.LogStoreStore.save.Goals as goal
+
+-- what is found after a save that failed
+begun : (g : given.Over) (c : After-put_synced g) → g.D.Disk.honest
+    → IsBegunOn c.self.inside.me (g.D.Disk.folder c.self.inside.disk) (g.D.Disk.folder c.put_synced.new.disk) c.args.change.now
+begun g c h =
+    begun_from c.self.inside.me _ c.in-Some.found c.args.change.now c.self.inside.form c.in_ok-patch.patch
+    (rw c.in-Some.is at (c.self.invariant.known h)) (c.self.invariant.good h) (search rules) (search rules) (search rules)
+    c.in_ok-patch.ensures.patch c.put_synced.ensures.bytes c.records_are_read.ensures (g.D.Disk.folder c.is_as_left.new.disk) _
+    (c.is_as_left.ensures.same h) (c.put_synced.ensures.left h) (c.put_synced.ensures.seen h)
+
+-- what is found after one that is done
+done : (g : given.Over) (c : After-form_after g) → g.D.Disk.honest
+    → IsDoneOn c.self.inside.me (g.D.Disk.folder c.self.inside.disk) (g.D.Disk.folder c.put_synced.new.disk) c.in-Some.found
+    c.args.change.now c.form_after.result
+done g c h =
+    done_from c.self.inside.me _ c.in-Some.found c.args.change.now c.self.inside.form c.in_ok-patch.patch
+    (rw c.in-Some.is at (c.self.invariant.known h)) (c.self.invariant.good h) (search rules) (search rules) (search rules)
+    c.in_ok-patch.ensures.patch c.put_synced.ensures.bytes c.records_are_read.ensures (g.D.Disk.folder c.is_as_left.new.disk) _
+    (c.is_as_left.ensures.same h) c.form_after.result c.form_after.ensures.after (search rules)
 
 pub invariant_of-self-then-is_err : goal.invariant_of-self-then-is_err
 invariant_of-self-then-is_err g c = rw c.give_up-then-is_err.ensures.lost (record {
   filed = tt;
-  good = λ h.
-      let folder = g.D.Disk.folder in
-      let begun = begun_from c.self.inside.me (folder c.self.inside.disk) c.in-Some.found c.args.change.now c.self.inside.form
-      c.in_ok-patch.patch
-      (rw c.in-Some.is at (c.self.invariant.known h)) (c.self.invariant.good h) (search rules) (search rules)
-      (search rules) c.in_ok-patch.ensures.patch c.put_synced.ensures.bytes
-      c.records_are_read.ensures (folder c.is_as_left.new.disk) (folder c.put_synced.new.disk) (c.is_as_left.ensures.same h)
-      (c.put_synced.ensures.left h) (c.put_synced.ensures.seen h) in
-      begun.good_now;
+  good = λ h. (begun g (goal.at.invariant_of-self-then-is_err g c).After-put_synced h).good_now;
   known = λ h. tt;
 })
 
 pub returns-then-is_err-clause-device : goal.returns-then-is_err-clause-device
-returns-then-is_err-clause-device g c = rw (← c.self.view_is) (λ h.
-    let folder = g.D.Disk.folder in
-    let begun = begun_from c.self.inside.me (folder c.self.inside.disk) c.in-Some.found c.args.change.now c.self.inside.form
-    c.in_ok-patch.patch
-    (rw c.in-Some.is at (c.self.invariant.known h)) (c.self.invariant.good h) (search rules) (search rules)
-    (search rules) c.in_ok-patch.ensures.patch c.put_synced.ensures.bytes
-    c.records_are_read.ensures (folder c.is_as_left.new.disk) (folder c.put_synced.new.disk) (c.is_as_left.ensures.same h)
-    (c.put_synced.ensures.left h) (c.put_synced.ensures.seen h) in
-    begun.one_of)
+returns-then-is_err-clause-device g c =
+    rw (← c.self.view_is) (λ h. (begun g (goal.at.returns-then-is_err-clause-device g c).After-put_synced h).one_of)
 
 pub returns-then-is_err-clause-restarts : goal.returns-then-is_err-clause-restarts
-returns-then-is_err-clause-restarts g c = rw (← c.self.view_is) (λ h.
-    let folder = g.D.Disk.folder in
-    let begun = begun_from c.self.inside.me (folder c.self.inside.disk) c.in-Some.found c.args.change.now c.self.inside.form
-    c.in_ok-patch.patch
-    (rw c.in-Some.is at (c.self.invariant.known h)) (c.self.invariant.good h) (search rules) (search rules)
-    (search rules) c.in_ok-patch.ensures.patch c.put_synced.ensures.bytes
-    c.records_are_read.ensures (folder c.is_as_left.new.disk) (folder c.put_synced.new.disk) (c.is_as_left.ensures.same h)
-    (c.put_synced.ensures.left h) (c.put_synced.ensures.seen h) in
-    record { saved = tt; left = begun.left })
+returns-then-is_err-clause-restarts g c =
+    rw (← c.self.view_is)
+    (λ h. record { saved = tt; left = (begun g (goal.at.returns-then-is_err-clause-restarts g c).After-put_synced h).left })
 
 pub invariant_of-self-2 : goal.invariant_of-self-2
 invariant_of-self-2 g c =
-    let folder = g.D.Disk.folder in
+    let is = done g (goal.at.invariant_of-self-2 g c).After-form_after in
     record {
       filed = (c.in_ok-patch.ensures.makes.ranges, c.form_after.ensures.fits c.self.inside.me c.patch_of.new.kept);
-      good = λ h.
-          let is = done_from c.self.inside.me (folder c.self.inside.disk) c.in-Some.found c.args.change.now c.self.inside.form
-          c.in_ok-patch.patch
-          (rw c.in-Some.is at (c.self.invariant.known h)) (c.self.invariant.good h) (search rules) (search rules)
-          (search rules) c.in_ok-patch.ensures.patch c.put_synced.ensures.bytes
-          c.records_are_read.ensures (folder c.is_as_left.new.disk) (folder c.put_synced.new.disk) c.form_after.result
-          (c.is_as_left.ensures.same h)
-          c.form_after.ensures.after (search rules) in
-          is.good_now;
-      known = λ h.
-          let is = done_from c.self.inside.me (folder c.self.inside.disk) c.in-Some.found c.args.change.now c.self.inside.form
-          c.in_ok-patch.patch
-          (rw c.in-Some.is at (c.self.invariant.known h)) (c.self.invariant.good h) (search rules) (search rules)
-          (search rules) c.in_ok-patch.ensures.patch c.put_synced.ensures.bytes
-          c.records_are_read.ensures (folder c.is_as_left.new.disk) (folder c.put_synced.new.disk) c.form_after.result
-          (c.is_as_left.ensures.same h)
-          c.form_after.ensures.after (search rules) in
-          rw c.in_ok-patch.ensures.makes.ok is.knows;
+      good = λ h. (is h).good_now;
+      known = λ h. rw c.in_ok-patch.ensures.makes.ok (is h).knows;
     }
 
 pub returns-clause-saved : goal.returns-clause-saved
-returns-clause-saved g c = rw (← c.self.view_is) (λ h.
-    let folder = g.D.Disk.folder in
-    let is = done_from c.self.inside.me (folder c.self.inside.disk) c.in-Some.found c.args.change.now c.self.inside.form c.in_ok-patch.patch
-    (rw c.in-Some.is at (c.self.invariant.known h)) (c.self.invariant.good h) (search rules) (search rules)
-    (search rules) c.in_ok-patch.ensures.patch c.put_synced.ensures.bytes
-    c.records_are_read.ensures (folder c.is_as_left.new.disk) (folder c.put_synced.new.disk) c.form_after.result
-    (c.is_as_left.ensures.same h)
-    c.form_after.ensures.after (search rules) in
-    is.saved)
+returns-clause-saved g c = rw (← c.self.view_is) (λ h. (done g (goal.at.returns-clause-saved g c).After-form_after h).saved)
 
 pub returns-clause-device : goal.returns-clause-device
-returns-clause-device g c = rw (← c.self.view_is) (λ h.
-    let folder = g.D.Disk.folder in
-    let is = done_from c.self.inside.me (folder c.self.inside.disk) c.in-Some.found c.args.change.now c.self.inside.form c.in_ok-patch.patch
-    (rw c.in-Some.is at (c.self.invariant.known h)) (c.self.invariant.good h) (search rules) (search rules)
-    (search rules) c.in_ok-patch.ensures.patch c.put_synced.ensures.bytes
-    c.records_are_read.ensures (folder c.is_as_left.new.disk) (folder c.put_synced.new.disk) c.form_after.result
-    (c.is_as_left.ensures.same h)
-    c.form_after.ensures.after (search rules) in
-    inr is.saved)
+returns-clause-device g c = rw (← c.self.view_is) (λ h. inr (done g (goal.at.returns-clause-device g c).After-form_after h).saved)
 
 pub returns-clause-restarts : goal.returns-clause-restarts
 returns-clause-restarts g c = rw (← c.self.view_is) (λ h.
-    let folder = g.D.Disk.folder in
-    let is = done_from c.self.inside.me (folder c.self.inside.disk) c.in-Some.found c.args.change.now c.self.inside.form c.in_ok-patch.patch
-    (rw c.in-Some.is at (c.self.invariant.known h)) (c.self.invariant.good h) (search rules) (search rules)
-    (search rules) c.in_ok-patch.ensures.patch c.put_synced.ensures.bytes
-    c.records_are_read.ensures (folder c.is_as_left.new.disk) (folder c.put_synced.new.disk) c.form_after.result
-    (c.is_as_left.ensures.same h)
-    c.form_after.ensures.after (search rules) in
+    let is = done g (goal.at.returns-clause-restarts g c).After-form_after h in
     record { saved = is.reads; left = λ left may. inr (inr (is.reads left may)) })
